@@ -1,0 +1,8 @@
+use Rattle.std.proofs.Common.{◌∙◌, ap}
+use Rattle.i80_devs.specs.Past.{DeviceState, panel_next, Switches}
+use Rattle.i80_devs.proofs.PastLemmas.{next_after}
+use Rattle.i80_devs.proofs.devices.Devices.set_switches.Goals as goal
+
+pub returns-clause-past : goal.returns-clause-past
+returns-clause-past c past stands =
+    next_after (Switches c.args.byte) c.args.self.now.panel c.set_switches.new.self past (c.set_switches.ensures ∙ ap (λ (d : DeviceState). panel_next d.panel (Switches c.args.byte)) c.self.view_is) stands

@@ -1,0 +1,8 @@
+use Rattle.std.proofs.Common.{◌∙◌, ap}
+use Rattle.i80_devs.specs.Past.{DeviceState, panel_next, Taken}
+use Rattle.i80_devs.proofs.PastLemmas.{next_after}
+use Rattle.i80_devs.proofs.devices.Devices.take_request.Goals as goal
+
+pub returns-clause-past : goal.returns-clause-past
+returns-clause-past c past stands =
+    next_after Taken c.args.self.now.panel c.set_latched.new.self past (c.set_latched.ensures ∙ ap (λ (d : DeviceState). panel_next d.panel Taken) c.self.view_is) stands

@@ -1,0 +1,114 @@
+-- The devices, told by the list of all operations on them.
+use Rattle.std.specs.Prelude.{◌≡◌, ℕ, ◌+◌, List, [], ◌∷◌, ◌++◌, Option, Some, None, drop, ◌==◌, if◌then◌else◌}
+use Rattle.std.specs.List.{fold, filter_map}
+use Rattle.i80_exec.specs.declared.ports.PortOperation.{PortOperation}
+use Rattle.i80_exec.specs.declared.ports.PortOperation.TheVariants.{In, Out}
+
+-- by the program, at the console, at the panel, or by the board that accepts a request
+pub data Operation : Type 0 where
+  Port : PortOperation → Operation
+  Typed : List ℕ → Operation
+  Switches : ℕ → Operation
+  Press : ℕ → Operation
+  Taken : Operation
+
+-- the last of a list, or d where it is empty
+abbrev pub last_or : {A : Type 0} → A → List A → A
+last_or d [] = d
+last_or d (x ∷ xs) = last_or x xs
+
+-- typed bytes wait behind those that wait already, and each IN 1 takes the first if there is one
+abbrev pub waiting_after : List ℕ → Operation → List ℕ
+waiting_after waiting (Typed bytes) = waiting ++ bytes
+waiting_after waiting (Port (In port byte)) = if port == 1 then (drop 1 waiting) else waiting
+waiting_after waiting (Port (Out port byte)) = waiting
+waiting_after waiting (Switches byte) = waiting
+waiting_after waiting (Press n) = waiting
+waiting_after waiting Taken = waiting
+
+-- what an operation sets the switches to
+abbrev pub switches_of : Operation → Option ℕ
+switches_of (Switches byte) = Some byte
+switches_of (Port o) = None
+switches_of (Typed bytes) = None
+switches_of (Press n) = None
+switches_of Taken = None
+
+-- OUT 2 sets the lamps
+abbrev pub lamps_of : Operation → Option ℕ
+lamps_of (Port (Out port byte)) = if port == 2 then (Some byte) else None
+lamps_of (Port (In port byte)) = None
+lamps_of (Typed bytes) = None
+lamps_of (Switches byte) = None
+lamps_of (Press n) = None
+lamps_of Taken = None
+
+-- a press latches a request, and its taking leaves none
+abbrev pub latched_of : Operation → Option (Option ℕ)
+latched_of (Press n) = Some (Some n)
+latched_of Taken = Some None
+latched_of (Port o) = None
+latched_of (Typed bytes) = None
+latched_of (Switches byte) = None
+
+-- what the answers of the devices rest on
+pub record PanelState : Type 0 where
+  pub waiting : List ℕ
+  pub switches : ℕ
+  pub lamps : ℕ
+  pub latched : Option ℕ
+
+-- after all these operations; switches, lamps and request are what they were last set to
+abbrev pub panel_after : List Operation → PanelState
+panel_after past = record {
+  waiting = fold waiting_after [] past;
+  switches = last_or 0 (filter_map switches_of past);
+  lamps = last_or 0 (filter_map lamps_of past);
+  latched = last_or None (filter_map latched_of past);
+}
+
+abbrev pub one_if_any : List ℕ → ℕ
+one_if_any [] = 0
+one_if_any (byte ∷ bytes) = 1
+
+abbrev pub first_or_zero : List ℕ → ℕ
+first_or_zero [] = 0
+first_or_zero (byte ∷ bytes) = byte
+
+-- IN 0 tells whether a byte waits, with bit 1 set; IN 1 gives it; IN 2 gives the switches; others FFh
+abbrev pub answer : PanelState → ℕ → ℕ
+answer p port =
+    if port == 0 then (2 + one_if_any p.waiting) else
+    (if port == 1 then (first_or_zero p.waiting) else
+    (if port == 2 then p.switches else 255))
+
+abbrev pub after : PanelState → PortOperation → PanelState
+after p (In port byte) = if port == 1 then (record p { waiting = drop 1 p.waiting }) else p
+after p (Out port byte) = if port == 2 then (record p { lamps = byte }) else p
+
+-- what one more operation makes of the panel
+abbrev pub panel_next : PanelState → Operation → PanelState
+panel_next p (Port o) = after p o
+panel_next p (Typed bytes) = record p { waiting = p.waiting ++ bytes }
+panel_next p (Switches byte) = record p { switches = byte }
+panel_next p (Press n) = record p { latched = Some n }
+panel_next p Taken = record p { latched = None }
+
+-- the panel, the port operations since the last take, and how many more have room
+pub record DeviceState : Type 0 where
+  pub panel : PanelState
+  pub operations : List PortOperation
+  pub spare : ℕ
+
+-- the devices are what this past makes of them
+abbrev pub StandsFor : DeviceState → List Operation → Type 0
+StandsFor d past = d.panel ≡ panel_after past
+
+-- whatever the past was, this operation comes behind it
+abbrev pub Appends : Operation → DeviceState → DeviceState → Type 0
+Appends operation old new = (past : List Operation) → StandsFor old past → StandsFor new (past ++ operation ∷ [])
+
+-- port operations and room stay
+pub record SamePorts (old new : DeviceState) : Type 0 where
+  pub operations : new.operations ≡ old.operations
+  pub spare : new.spare ≡ old.spare

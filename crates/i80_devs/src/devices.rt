@@ -1,0 +1,210 @@
+//! The devices: a console (ports 0, 1 and 3), switches and lamps (port 2), and a request button.
+ghost use Rattle.std.specs.Prelude.{◌≡◌, ◌+◌, ◌≤◌, ◌<◌, ◌++◌, ◌∷◌, ◌↔◌, [], List, length, OnOk, OnErr, IfSome, IsSome, Err};
+
+use crate::panel::Panel;
+use crate::traffic::Traffic;
+use i80_exec::ports::{PortOperation, Ports};
+use std::alloc::{AllocError, Global};
+use std::marker::Model;
+use std::mem;
+use thiserror::Error;
+
+/// Why a press of the request button is refused.
+#[derive(Clone, Copy, PartialEq, Eq, Debug, Error)]
+pub enum Press {
+    #[error("a request is latched already")]
+    Latched,
+    #[error("there are the buttons 0 to 7")]
+    Vector,
+}
+
+/// The devices, the port operations since the last take, and room for more of these.
+#[derive(Drop)]
+pub struct Devices {
+    panel: Panel,
+    operations: Vec<PortOperation>,
+    alloc: Global,
+}
+
+impl Model for Devices {
+    ghost use Rattle.std.specs.Prelude.{◌-◌, vec_len, vec_capacity};
+    ghost use Rattle.i80_devs.specs.Past.{DeviceState};
+
+    ghost Value = { DeviceState };
+
+    ghost view = { λ d. record {
+      panel = d.panel;
+      operations = d.operations.items;
+      spare = vec_capacity d.operations - vec_len d.operations;
+    } };
+}
+
+impl Ports for Devices {
+    ghost use Rattle.i80_devs.specs.Past.{answer, after};
+
+    type State = Panel;
+
+    ghost operations = { λ d. d.operations };
+
+    ghost state = { λ d. d.panel };
+
+    ghost spare = { λ d. d.spare };
+
+    ghost answer = { answer };
+
+    ghost after = { after };
+
+    fn input(&mut self, port: u8) -> u8 {
+        let byte = match port {
+            0 => self.panel.status(),
+            1 => self.panel.take_input(),
+            2 => self.panel.switches(),
+            _ => 0xff,
+        };
+        self.append(PortOperation::In { port, byte });
+        byte
+    }
+
+    fn output(&mut self, port: u8, byte: u8) {
+        if port == 2 {
+            self.panel.set_lamps(byte);
+        }
+        self.append(PortOperation::Out { port, byte });
+    }
+}
+
+impl Devices {
+    ghost use Rattle.i80_devs.specs.Past.{
+      panel_after,
+      Operation,
+      Typed,
+      Switches,
+      Press as Pressed,
+      Taken,
+      StandsFor,
+      Appends,
+      SamePorts,
+    };
+
+    /// Devices to which nothing was done: no input, switches and lamps 0, no request.
+    pub fn new(alloc: Global) -> Devices
+        ensures past { StandsFor result [] }
+        ensures operations { result.operations ≡ [] }
+        ensures spare { result.spare ≡ 0 }
+    {
+        Devices {
+            panel: Panel::new(alloc),
+            operations: Vec::new(alloc),
+            alloc,
+        }
+    }
+
+    /// Types bytes at the console: they wait as input.
+    pub fn type_bytes(&mut self, bytes: &[u8]) -> Result<(), AllocError>
+        ensures ok { OnOk result (Appends (Typed bytes.now) self.old self.new) }
+        ensures ports { SamePorts self.old self.new }
+        ensures err { OnErr result (self.new ≡ self.old) }
+    {
+        self.panel.type_bytes(bytes)?;
+        Ok(())
+    }
+
+    /// How many typed bytes wait.
+    pub fn waiting(&self) -> usize
+        ensures { (past : List Operation) → StandsFor self.now past
+            → result ≡ length (panel_after past).waiting }
+    {
+        self.panel.waiting()
+    }
+
+    /// Sets the eight switches.
+    pub fn set_switches(&mut self, byte: u8)
+        ensures past { Appends (Switches byte) self.old self.new }
+        ensures ports { SamePorts self.old self.new }
+    {
+        self.panel.set_switches(byte);
+    }
+
+    /// The switches, one bit each.
+    pub fn switches(&self) -> u8
+        ensures { (past : List Operation) → StandsFor self.now past
+            → result ≡ (panel_after past).switches }
+    {
+        self.panel.switches()
+    }
+
+    /// The lamps, one bit each.
+    pub fn lamps(&self) -> u8
+        ensures { (past : List Operation) → StandsFor self.now past
+            → result ≡ (panel_after past).lamps }
+    {
+        self.panel.lamps()
+    }
+
+    /// Presses button n, which latches a request for RST n where none is latched.
+    pub fn press(&mut self, n: u8) -> Result<(), Press>
+        ensures ok { OnOk result (Appends (Pressed n) self.old self.new) }
+        ensures ports { SamePorts self.old self.new }
+        // The number is looked at first.
+        ensures vector { (result ≡ Err Press.Vector) ↔ (8 ≤ n) }
+        ensures latched { (past : List Operation) → StandsFor self.old past
+            → (result ≡ Err Press.Latched) ↔ ((n < 8) × IsSome (panel_after past).latched) }
+        ensures err { OnErr result (self.new ≡ self.old) }
+    {
+        if n > 7 {
+            return Err(Press::Vector);
+        }
+        if self.panel.latched().is_some() {
+            return Err(Press::Latched);
+        }
+        self.panel.set_latched(Some(n));
+        Ok(())
+    }
+
+    /// The request that is latched: n of 0 to 7, for RST n.
+    pub fn request(&self) -> Option<u8>
+        ensures value { (past : List Operation) → StandsFor self.now past
+            → result ≡ (panel_after past).latched }
+        ensures vector { IfSome result (λ n. n ≤ 7) }
+    {
+        self.panel.latched()
+    }
+
+    /// Takes the latched request away, as its acceptance does. Where there is none, nothing changes.
+    pub fn take_request(&mut self)
+        ensures past { Appends Taken self.old self.new }
+        ensures ports { SamePorts self.old self.new }
+    {
+        self.panel.set_latched(None);
+    }
+
+    /// Makes room for n more port operations.
+    pub fn reserve_out(&mut self, n: usize) -> Result<(), AllocError>
+        ensures panel { self.new.panel ≡ self.old.panel }
+        ensures operations { self.new.operations ≡ self.old.operations }
+        ensures ok { OnOk result (n ≤ self.new.spare) }
+        ensures err { OnErr result (self.new ≡ self.old) }
+    {
+        self.operations.reserve(n)
+    }
+
+    /// Takes the port operations since the last take. No room is left for more.
+    pub fn take_out(&mut self) -> Traffic
+        ensures taken { result ≡ self.old.operations }
+        ensures rest { self.new ≡ record { panel = self.old.panel; operations = []; spare = 0 } }
+    {
+        Traffic::from(mem::replace(&mut self.operations, Vec::new(self.alloc)))
+    }
+
+    fn append(&mut self, operation: PortOperation)
+        requires { 1 ≤ self.old.spare }
+        ensures appended { self.new ≡ record {
+          panel = self.old.panel;
+          operations = self.old.operations ++ operation ∷ [];
+          spare = self.new.spare;
+        } }
+        ensures spare { self.new.spare + 1 ≡ self.old.spare }
+    {
+        self.operations.push_reserved(operation);
+    }
+}

@@ -1,0 +1,12 @@
+// The devices of the board behind the processor's ports: console, switches, lamps, request button.
+// Every answer is a function of the list of all operations so far, by the program, at the console
+// and at the panel; the code keeps only what that function needs.
+// `take_out` gives the port operations since the last time, each IN and OUT once and in order.
+// Room for them is made before by `reserve_out`, so that no IN or OUT can fail.
+#![tactic(auto)]
+
+pub mod devices;
+mod panel;
+#[cfg(test)]
+mod tests;
+pub mod traffic;

@@ -1,0 +1,69 @@
+-- One step: the instruction at PC, or an accepted interrupt request.
+use Rattle.std.specs.Prelude.{◌≡◌, ℕ, ◌+◌, ◌*◌, List, [], ◌∷◌, ◌++◌, length, Option, Some, None}
+use Rattle.i80_rows.specs.declared.instruction.Instr.{Instr}
+use Rattle.i80_rows.specs.declared.instruction.Instr.TheVariants.{Di, Ei}
+use Rattle.i80_rows.specs.Rows.{Row, Undefined, Alone, Byte, Word, row}
+use Rattle.i80_exec.specs.declared.registers.Stepped.{Stepped}
+use Rattle.i80_exec.specs.declared.registers.Stepped.TheVariants as stepped
+use Rattle.i80_exec.specs.declared.registers.Interrupts.{Interrupts}
+use Rattle.i80_exec.specs.declared.registers.Interrupts.TheVariants.{Off, Arming, On}
+use Rattle.i80_exec.specs.declared.ports.PortOperation.{PortOperation}
+use Rattle.i80_exec.specs.State.{MachineState, wrapped, byte_at, word_at, with_pc, with_interrupts}
+use Rattle.i80_exec.specs.Effect.{Outcome, effect, called}
+
+-- the interrupt state after an instruction that began in one: EI leaves arming, DI leaves off,
+-- and any other instruction that began in arming ends in on
+abbrev pub interrupts_after : Instr → Interrupts → Interrupts
+interrupts_after Ei began = Arming
+interrupts_after Di began = Off
+interrupts_after i Off = Off
+interrupts_after i Arming = On
+interrupts_after i On = On
+
+abbrev pub with_interrupts_after : Instr → Interrupts → Outcome → Outcome
+with_interrupts_after i began o = record o { after = with_interrupts o.after (interrupts_after i began) }
+
+-- an instruction of this length: PC is set past it, its effect comes, then the interrupt state
+abbrev pub executed : Instr → ℕ → (ℕ → ℕ) → MachineState → Outcome
+executed i size input m =
+    with_interrupts_after i m.regs.interrupts (effect i input (with_pc m (wrapped (m.regs.pc + size))))
+
+-- the row of the opcode at PC, with its operand from the addresses behind; an undefined one changes nothing
+abbrev pub by_row : Row → (ℕ → ℕ) → MachineState → Outcome
+by_row Undefined input m = record { after = m; operation = None; answer = stepped.Undefined (byte_at m m.regs.pc) }
+by_row (Alone i) input m = executed i 1 input m
+by_row (Byte f) input m = executed (f (byte_at m (m.regs.pc + 1))) 2 input m
+by_row (Word f) input m = executed (f (word_at m (m.regs.pc + 1))) 3 input m
+
+-- the instruction at PC, where an IN from a port is answered so
+abbrev pub instruction : (ℕ → ℕ) → MachineState → Outcome
+instruction input m = by_row (row (byte_at m m.regs.pc)) input m
+
+-- An interrupt request for RST n is accepted only where interrupts are on: PC is pushed as it stands,
+-- PC is 8n, and interrupts are off.
+abbrev pub accepted_in : Interrupts → ℕ → MachineState → Option Outcome
+accepted_in On n m = Some (called (with_interrupts m Off) (8 * n))
+accepted_in Arming n m = None
+accepted_in Off n m = None
+
+abbrev pub acceptance : ℕ → MachineState → Option Outcome
+acceptance n m = accepted_in m.regs.interrupts n m
+
+-- what is left and what was answered are the outcome's
+pub record IsOutcome (o : Outcome) (after : MachineState) (answer : Stepped) : Type 0 where
+  pub after_is : after ≡ o.after
+  pub answer_is : answer ≡ o.answer
+
+abbrev pub operation_list : Option PortOperation → List PortOperation
+operation_list None = []
+operation_list (Some p) = p ∷ []
+
+abbrev pub state_after : {S : Type 0} → (S → PortOperation → S) → S → Option PortOperation → S
+state_after next s None = s
+state_after next s (Some p) = next s p
+
+-- the devices did this operation, or none, and nothing else
+pub record Performs {S : Type 0} (operation : Option PortOperation) (next : S → PortOperation → S) (operations operations' : List PortOperation) (state state' : S) (spare spare' : ℕ) : Type 0 where
+  pub appended : operations' ≡ operations ++ operation_list operation
+  pub state_is : state' ≡ state_after next state operation
+  pub spare_is : spare' + length (operation_list operation) ≡ spare

@@ -1,0 +1,553 @@
+//! The processor and its memory: one step at a time, by the instruction that `decode` reads.
+ghost use Rattle.std.specs.Prelude.{◌≡◌, ◌+◌, ◌*◌, ◌≤◌, ◌++◌, List, ℕ, length, replicate, IfOk, IfSome, IfNone, Some, None};
+ghost use Rattle.i80_rows.specs.declared.arithmetic.AluResult.{AluResult};
+ghost use Rattle.i80_exec.specs.State.{
+  byte_at,
+  stored,
+  word_at,
+  stored_word,
+  get,
+  put,
+  get_pair,
+  put_pair,
+  get_index,
+  get_stack_pair,
+  put_stack_pair,
+  with_regs,
+  with_pc,
+  with_a,
+  with_flags,
+  with_interrupts,
+  power_on,
+};
+ghost use Rattle.i80_exec.specs.Effect.{
+  effect,
+  to_a,
+  to_reg,
+  operated,
+  holds,
+  added_to_hl,
+  pushed,
+  popped,
+  called,
+  returned,
+  exchanged,
+};
+ghost use Rattle.i80_exec.specs.Step.{
+  instruction,
+  executed,
+  acceptance,
+  interrupts_after,
+  operation_list,
+  state_after,
+  IsOutcome,
+  Performs,
+};
+
+use crate::ports::Ports;
+use crate::registers::{Interrupts, Registers, Stepped};
+use i80_rows::arithmetic::{
+    AluResult, alu_add, alu_and, alu_or, alu_sub, alu_xor, daa, dcr, inr, rotate,
+};
+use i80_rows::decoding::decode;
+use i80_rows::flags::Flags;
+use i80_rows::instruction::{Cond, IndexPair, Instr, Operation, Pair, Reg, StackPair};
+use std::alloc::{AllocError, Global};
+use std::marker::Model;
+
+/// How many bytes of memory there are, at the addresses from 0 on.
+const MEMORY_SIZE: usize = 65536;
+
+/// A processor with its memory.
+#[derive(Drop)]
+pub struct Machine {
+    regs: Registers,
+    memory: Vec<u8>,
+}
+
+impl Model for Machine {
+    ghost use Rattle.std.specs.Prelude.{◌≡◌, length};
+    ghost use Rattle.i80_exec.specs.State.{MachineState};
+
+    ghost Value = { MachineState };
+
+    ghost view = { λ m. record { regs = m.regs; memory = m.memory.items } };
+
+    ghost invariant = { λ m. length m.memory.items ≡ 65536 };
+}
+
+impl Machine {
+    /// A machine after power-on: registers and memory 0, flags clear, interrupts off.
+    /// Its memory is the one thing that is allocated here.
+    pub fn new(alloc: Global) -> Result<Machine, AllocError>
+        ensures { IfOk result (λ m. m ≡ power_on) }
+    {
+        let memory = zeroed(alloc, MEMORY_SIZE)?;
+        let regs = Registers {
+            a: 0,
+            b: 0,
+            c: 0,
+            d: 0,
+            e: 0,
+            h: 0,
+            l: 0,
+            flags: Flags::new(false, false, false, false, false),
+            sp: 0,
+            pc: 0,
+            interrupts: Interrupts::Off,
+        };
+        Ok(Machine { regs, memory })
+    }
+
+    /// The byte at an address.
+    pub fn peek(&self, address: u16) -> u8
+        ensures { result ≡ byte_at self.now address }
+    {
+        self.memory[address as usize]
+    }
+
+    /// Sets the byte at an address.
+    pub fn poke(&mut self, address: u16, byte: u8)
+        ensures { self.new ≡ stored self.old address byte }
+    {
+        self.memory[address as usize] = byte;
+    }
+
+    /// All but the memory.
+    pub fn regs(&self) -> Registers
+        ensures { result ≡ self.now.regs }
+    {
+        self.regs
+    }
+
+    /// Sets all but the memory.
+    pub fn set_regs(&mut self, regs: Registers)
+        ensures { self.new ≡ with_regs self.old regs }
+    {
+        self.regs = regs;
+    }
+
+    /// Sets the address of the next instruction.
+    pub fn set_pc(&mut self, address: u16)
+        ensures { self.new ≡ with_pc self.old address }
+    {
+        self.regs.pc = address;
+    }
+
+    /// Does the instruction at PC, by the table of 256 rows. An undefined opcode changes nothing.
+    pub fn step<P: Ports>(&mut self, ports: &mut P) -> Stepped
+        requires { 1 ≤ P.spare ports.old }
+        ensures { let outcome = instruction (P.answer (P.state ports.old)) self.old in
+            IsOutcome outcome self.new result
+            × Performs outcome.operation P.after (P.operations ports.old) (P.operations ports.new)
+            (P.state ports.old) (P.state ports.new) (P.spare ports.old) (P.spare ports.new) }
+    {
+        self.step_by_table(ports)
+    }
+
+    /// Accepts an interrupt request for RST `vector`, where interrupts are on: PC is pushed as it
+    /// stands, and interrupts are off afterwards. Else nothing changes.
+    pub fn accept(&mut self, vector: u8) -> Option<Stepped>
+        requires { vector ≤ 7 }
+        ensures on { IfSome result (λ answer. acceptance vector self.old
+            ≡ Some (record { after = self.new; operation = None; answer = answer })) }
+        ensures off { IfNone result ((acceptance vector self.old ≡ None) × (self.new ≡ self.old)) }
+    {
+        match self.regs.interrupts {
+            Interrupts::On => {
+                self.regs.interrupts = Interrupts::Off;
+                Some(self.call(8 * vector as u16))
+            }
+            _ => None,
+        }
+    }
+
+    fn step_by_table<P: Ports>(&mut self, ports: &mut P) -> Stepped
+        requires { 1 ≤ P.spare ports.old }
+        ensures after { self.new ≡ (instruction (P.answer (P.state ports.old)) self.old).after }
+        ensures answer { result ≡ (instruction (P.answer (P.state ports.old)) self.old).answer }
+        ensures operations { P.operations ports.new ≡ P.operations ports.old
+            ++ operation_list (instruction (P.answer (P.state ports.old)) self.old).operation }
+        ensures state { P.state ports.new ≡ state_after P.after (P.state ports.old)
+            (instruction (P.answer (P.state ports.old)) self.old).operation }
+        ensures spare { P.spare ports.new
+            + length (operation_list (instruction (P.answer (P.state ports.old)) self.old).operation)
+            ≡ P.spare ports.old }
+    {
+        let pc = self.regs.pc;
+        let window = [
+            self.peek(pc),
+            self.peek(pc.wrapping_add(1)),
+            self.peek(pc.wrapping_add(2)),
+        ];
+        match decode(&window) {
+            Ok((instr, size)) => self.execute(instr, size, ports),
+            Err(_) => Stepped::Undefined { opcode: window[0] },
+        }
+    }
+
+    fn execute<P: Ports>(&mut self, instr: Instr, size: u8, ports: &mut P) -> Stepped
+        requires { 1 ≤ P.spare ports.old }
+        ensures after { self.new ≡ (executed instr size (P.answer (P.state ports.old)) self.old).after }
+        ensures answer { result ≡ (executed instr size (P.answer (P.state ports.old)) self.old).answer }
+        ensures operations { P.operations ports.new ≡ P.operations ports.old
+            ++ operation_list (executed instr size (P.answer (P.state ports.old)) self.old).operation }
+        ensures state { P.state ports.new ≡ state_after P.after (P.state ports.old)
+            (executed instr size (P.answer (P.state ports.old)) self.old).operation }
+        ensures spare { P.spare ports.new
+            + length (operation_list (executed instr size (P.answer (P.state ports.old)) self.old).operation)
+            ≡ P.spare ports.old }
+    {
+        let began = self.regs.interrupts;
+        self.jump(self.regs.pc.wrapping_add(size as u16));
+        let stepped = self.carry_out(instr, ports);
+        self.settle_interrupts(instr, began);
+        stepped
+    }
+
+    fn carry_out<P: Ports>(&mut self, instr: Instr, ports: &mut P) -> Stepped
+        requires { 1 ≤ P.spare ports.old }
+        ensures after { self.new ≡ (effect instr (P.answer (P.state ports.old)) self.old).after }
+        ensures answer { result ≡ (effect instr (P.answer (P.state ports.old)) self.old).answer }
+        ensures operations { P.operations ports.new ≡ P.operations ports.old
+            ++ operation_list (effect instr (P.answer (P.state ports.old)) self.old).operation }
+        ensures state { P.state ports.new ≡ state_after P.after (P.state ports.old)
+            (effect instr (P.answer (P.state ports.old)) self.old).operation }
+        ensures spare { P.spare ports.new
+            + length (operation_list (effect instr (P.answer (P.state ports.old)) self.old).operation)
+            ≡ P.spare ports.old }
+    {
+        match instr {
+            Instr::Nop | Instr::Di | Instr::Ei => {}
+            Instr::Lxi(pair, word) => self.put_pair(pair, word),
+            Instr::Stax(pair) => self.poke(self.get_index(pair), self.regs.a),
+            Instr::Ldax(pair) => self.regs.a = self.peek(self.get_index(pair)),
+            Instr::Shld(address) => self.store_word(address, self.get_pair(Pair::H)),
+            Instr::Lhld(address) => self.put_pair(Pair::H, self.word_at(address)),
+            Instr::Sta(address) => self.poke(address, self.regs.a),
+            Instr::Lda(address) => self.regs.a = self.peek(address),
+            Instr::Inx(pair) => self.put_pair(pair, self.get_pair(pair).wrapping_add(1)),
+            Instr::Dcx(pair) => self.put_pair(pair, self.get_pair(pair).wrapping_sub(1)),
+            Instr::Dad(pair) => self.add_to_hl(self.get_pair(pair)),
+            Instr::Inr(reg) => self.set_reg(reg, inr(self.get(reg), self.regs.flags.carry())),
+            Instr::Dcr(reg) => self.set_reg(reg, dcr(self.get(reg), self.regs.flags.carry())),
+            Instr::Mvi(reg, byte) => self.put(reg, byte),
+            Instr::Rotate(rotation) => self.set_a(rotate(rotation, self.regs.a, self.regs.flags)),
+            Instr::Daa => self.set_a(daa(self.regs.a, self.regs.flags)),
+            Instr::Cma => self.regs.a = !self.regs.a,
+            Instr::Stc => self.regs.flags = self.regs.flags.with_carry(true),
+            Instr::Cmc => self.regs.flags = self.regs.flags.with_carry(!self.regs.flags.carry()),
+            Instr::Mov(to, from) => self.put(to.into(), self.get(from.into())),
+            Instr::MovFromM(to) => self.put(to.into(), self.get(Reg::M)),
+            Instr::MovToM(from) => self.put(Reg::M, self.get(from.into())),
+            Instr::Hlt => return Stepped::Halted,
+            Instr::Alu(operation, reg) => self.operate(operation, self.get(reg)),
+            Instr::AluImmediate(operation, byte) => self.operate(operation, byte),
+            Instr::Jmp(address) => self.jump(address),
+            Instr::JumpIf(cond, address) => self.jump_if(cond, address),
+            Instr::Call(address) => return self.call(address),
+            Instr::CallIf(cond, address) => return self.call_if(cond, address),
+            Instr::Ret => return self.ret(),
+            Instr::RetIf(cond) => return self.ret_if(cond),
+            Instr::Rst(vector) => return self.call(8 * vector.number() as u16),
+            Instr::Push(pair) => self.push_word(self.get_stack_pair(pair)),
+            Instr::Pop(pair) => self.pop(pair),
+            Instr::Xthl => self.exchange_with_stack(),
+            Instr::Xchg => self.exchange_with_de(),
+            Instr::Pchl => self.jump(self.get_pair(Pair::H)),
+            Instr::Sphl => self.regs.sp = self.get_pair(Pair::H),
+            Instr::Out(port) => ports.output(port, self.regs.a),
+            Instr::In(port) => self.regs.a = ports.input(port),
+        }
+        Stepped::Done
+    }
+
+    fn settle_interrupts(&mut self, instr: Instr, began: Interrupts)
+        ensures { self.new ≡ with_interrupts self.old (interrupts_after instr began) }
+    {
+        self.regs.interrupts = match (instr, began) {
+            (Instr::Ei, _) => Interrupts::Arming,
+            (Instr::Di, _) | (_, Interrupts::Off) => Interrupts::Off,
+            _ => Interrupts::On,
+        };
+    }
+
+    fn get(&self, reg: Reg) -> u8
+        ensures { result ≡ get self.now reg }
+    {
+        match reg {
+            Reg::B => self.regs.b,
+            Reg::C => self.regs.c,
+            Reg::D => self.regs.d,
+            Reg::E => self.regs.e,
+            Reg::H => self.regs.h,
+            Reg::L => self.regs.l,
+            Reg::M => self.peek(self.get_pair(Pair::H)),
+            Reg::A => self.regs.a,
+        }
+    }
+
+    fn put(&mut self, reg: Reg, byte: u8)
+        ensures { self.new ≡ put self.old reg byte }
+    {
+        match reg {
+            Reg::B => self.regs.b = byte,
+            Reg::C => self.regs.c = byte,
+            Reg::D => self.regs.d = byte,
+            Reg::E => self.regs.e = byte,
+            Reg::H => self.regs.h = byte,
+            Reg::L => self.regs.l = byte,
+            Reg::M => {
+                let address = self.get_pair(Pair::H);
+                self.poke(address, byte);
+            }
+            Reg::A => self.regs.a = byte,
+        }
+    }
+
+    fn get_pair(&self, pair: Pair) -> u16
+        ensures { result ≡ get_pair self.now pair }
+    {
+        match pair {
+            Pair::B => u16::from_be_bytes([self.regs.b, self.regs.c]),
+            Pair::D => u16::from_be_bytes([self.regs.d, self.regs.e]),
+            Pair::H => u16::from_be_bytes([self.regs.h, self.regs.l]),
+            Pair::Sp => self.regs.sp,
+        }
+    }
+
+    fn put_pair(&mut self, pair: Pair, word: u16)
+        ensures { self.new ≡ put_pair self.old pair word }
+    {
+        let [high, low] = word.to_be_bytes();
+        match pair {
+            Pair::B => {
+                self.regs.b = high;
+                self.regs.c = low;
+            }
+            Pair::D => {
+                self.regs.d = high;
+                self.regs.e = low;
+            }
+            Pair::H => {
+                self.regs.h = high;
+                self.regs.l = low;
+            }
+            Pair::Sp => self.regs.sp = word,
+        }
+    }
+
+    fn get_index(&self, pair: IndexPair) -> u16
+        ensures { result ≡ get_index self.now pair }
+    {
+        match pair {
+            IndexPair::B => self.get_pair(Pair::B),
+            IndexPair::D => self.get_pair(Pair::D),
+        }
+    }
+
+    fn get_stack_pair(&self, pair: StackPair) -> u16
+        ensures { result ≡ get_stack_pair self.now pair }
+    {
+        match pair {
+            StackPair::B => self.get_pair(Pair::B),
+            StackPair::D => self.get_pair(Pair::D),
+            StackPair::H => self.get_pair(Pair::H),
+            StackPair::Psw => u16::from_be_bytes([self.regs.a, self.regs.flags.to_byte()]),
+        }
+    }
+
+    fn put_stack_pair(&mut self, pair: StackPair, word: u16)
+        ensures { self.new ≡ put_stack_pair self.old pair word }
+    {
+        match pair {
+            StackPair::B => self.put_pair(Pair::B, word),
+            StackPair::D => self.put_pair(Pair::D, word),
+            StackPair::H => self.put_pair(Pair::H, word),
+            StackPair::Psw => {
+                let [high, low] = word.to_be_bytes();
+                self.regs.a = high;
+                self.regs.flags = Flags::from_byte(low);
+            }
+        }
+    }
+
+    fn word_at(&self, address: u16) -> u16
+        ensures { result ≡ word_at self.now address }
+    {
+        u16::from_le_bytes([self.peek(address), self.peek(address.wrapping_add(1))])
+    }
+
+    fn store_word(&mut self, address: u16, word: u16)
+        ensures { self.new ≡ stored_word self.old address word }
+    {
+        let [low, high] = word.to_le_bytes();
+        self.poke(address, low);
+        self.poke(address.wrapping_add(1), high);
+    }
+
+    fn set_a(&mut self, computed: AluResult)
+        ensures { self.new ≡ to_a self.old computed }
+    {
+        self.regs.a = computed.value;
+        self.regs.flags = computed.flags;
+    }
+
+    fn set_reg(&mut self, reg: Reg, computed: AluResult)
+        ensures { self.new ≡ to_reg self.old reg computed }
+    {
+        self.put(reg, computed.value);
+        self.regs.flags = computed.flags;
+    }
+
+    fn operate(&mut self, operation: Operation, byte: u8)
+        ensures { self.new ≡ operated operation self.old byte }
+    {
+        let a = self.regs.a;
+        let carry = self.regs.flags.carry();
+        match operation {
+            Operation::Add => self.set_a(alu_add(a, byte, false)),
+            Operation::Adc => self.set_a(alu_add(a, byte, carry)),
+            Operation::Sub => self.set_a(alu_sub(a, byte, false)),
+            Operation::Sbb => self.set_a(alu_sub(a, byte, carry)),
+            Operation::Ana => self.set_a(alu_and(a, byte)),
+            Operation::Xra => self.set_a(alu_xor(a, byte)),
+            Operation::Ora => self.set_a(alu_or(a, byte)),
+            Operation::Cmp => self.regs.flags = alu_sub(a, byte, false).flags,
+        }
+    }
+
+    fn add_to_hl(&mut self, word: u16)
+        ensures { self.new ≡ added_to_hl self.old word }
+    {
+        let (total, carry) = self.get_pair(Pair::H).overflowing_add(word);
+        self.put_pair(Pair::H, total);
+        self.regs.flags = self.regs.flags.with_carry(carry);
+    }
+
+    fn holds(&self, cond: Cond) -> bool
+        ensures { result ≡ holds cond self.now.regs.flags }
+    {
+        let flags = self.regs.flags;
+        match cond {
+            Cond::NotZero => !flags.zero(),
+            Cond::Zero => flags.zero(),
+            Cond::NoCarry => !flags.carry(),
+            Cond::Carry => flags.carry(),
+            Cond::ParityOdd => !flags.parity(),
+            Cond::ParityEven => flags.parity(),
+            Cond::Plus => !flags.sign(),
+            Cond::Minus => flags.sign(),
+        }
+    }
+
+    fn jump(&mut self, address: u16)
+        ensures { self.new ≡ with_pc self.old address }
+    {
+        self.regs.pc = address;
+    }
+
+    fn jump_if(&mut self, cond: Cond, address: u16)
+        ensures { self.new ≡ (effect (Instr.JumpIf cond address) (λ _. 0) self.old).after }
+    {
+        if self.holds(cond) {
+            self.jump(address);
+        }
+    }
+
+    fn push_word(&mut self, word: u16)
+        ensures { self.new ≡ pushed self.old word }
+    {
+        let [high, low] = word.to_be_bytes();
+        let top = self.regs.sp;
+        self.poke(top.wrapping_sub(1), high);
+        self.poke(top.wrapping_sub(2), low);
+        self.regs.sp = top.wrapping_sub(2);
+    }
+
+    fn pop_word(&mut self) -> u16
+        ensures after { self.new ≡ popped self.old }
+        ensures word { result ≡ word_at self.old self.old.regs.sp }
+    {
+        let word = self.word_at(self.regs.sp);
+        self.regs.sp = self.regs.sp.wrapping_add(2);
+        word
+    }
+
+    fn pop(&mut self, pair: StackPair)
+        ensures { self.new ≡ (effect (Instr.Pop pair) (λ _. 0) self.old).after }
+    {
+        let word = self.pop_word();
+        self.put_stack_pair(pair, word);
+    }
+
+    fn call(&mut self, target: u16) -> Stepped
+        ensures after { self.new ≡ (called self.old target).after }
+        ensures answer { result ≡ (called self.old target).answer }
+    {
+        self.push_word(self.regs.pc);
+        self.jump(target);
+        Stepped::Called {
+            slot: self.regs.sp,
+            target,
+        }
+    }
+
+    fn call_if(&mut self, cond: Cond, target: u16) -> Stepped
+        ensures after { self.new ≡ (effect (Instr.CallIf cond target) (λ _. 0) self.old).after }
+        ensures answer { result ≡ (effect (Instr.CallIf cond target) (λ _. 0) self.old).answer }
+    {
+        if self.holds(cond) {
+            self.call(target)
+        } else {
+            Stepped::Done
+        }
+    }
+
+    fn ret(&mut self) -> Stepped
+        ensures after { self.new ≡ (returned self.old).after }
+        ensures answer { result ≡ (returned self.old).answer }
+    {
+        let slot = self.regs.sp;
+        let target = self.pop_word();
+        self.jump(target);
+        Stepped::Returned { slot }
+    }
+
+    fn ret_if(&mut self, cond: Cond) -> Stepped
+        ensures after { self.new ≡ (effect (Instr.RetIf cond) (λ _. 0) self.old).after }
+        ensures answer { result ≡ (effect (Instr.RetIf cond) (λ _. 0) self.old).answer }
+    {
+        if self.holds(cond) {
+            self.ret()
+        } else {
+            Stepped::Done
+        }
+    }
+
+    fn exchange_with_stack(&mut self)
+        ensures { self.new ≡ (effect Instr.Xthl (λ _. 0) self.old).after }
+    {
+        let word = self.word_at(self.regs.sp);
+        let held = self.get_pair(Pair::H);
+        self.store_word(self.regs.sp, held);
+        self.put_pair(Pair::H, word);
+    }
+
+    fn exchange_with_de(&mut self)
+        ensures { self.new ≡ exchanged self.old }
+    {
+        let h = self.regs.h;
+        let l = self.regs.l;
+        self.regs.h = self.regs.d;
+        self.regs.l = self.regs.e;
+        self.regs.d = h;
+        self.regs.e = l;
+    }
+}
+
+fn zeroed(alloc: Global, count: usize) -> Result<Vec<u8>, AllocError>
+    ensures { IfOk result (λ v. v.items ≡ replicate count 0) }
+{
+    vec![in alloc; 0; count]
+}

@@ -1,0 +1,45 @@
+//! The ports of the processor, and what every device behind them keeps to.
+ghost use Rattle.std.specs.Prelude.{◌≡◌, ◌+◌, ◌≤◌, ◌++◌, ◌∷◌, [], List, ℕ};
+ghost use Rattle.i80_exec.specs.declared.ports.PortOperation.{PortOperation};
+ghost use Rattle.i80_exec.specs.declared.ports.PortOperation.TheVariants.{In, Out};
+
+/// One IN or OUT, with the byte that went through the port.
+#[derive(Clone, Copy, PartialEq, Eq, Debug)]
+pub enum PortOperation {
+    In { port: u8, byte: u8 },
+    Out { port: u8, byte: u8 },
+}
+
+/// The devices behind the ports. A contract sees them as the list of operations since the last
+/// time that they were taken, a state, and how many more operations there is room for.
+pub trait Ports {
+    /// What the answers of the devices rest on.
+    type State;
+
+    ghost operations: { Self → List PortOperation };
+
+    ghost state: { Self → Self.State };
+
+    ghost spare: { Self → ℕ };
+
+    // what an IN from a port answers in a state
+    ghost answer: { Self.State → ℕ → ℕ };
+
+    // the state after an operation
+    ghost after: { Self.State → PortOperation → Self.State };
+
+    /// IN: the byte that the port answers.
+    fn input(&mut self, port: u8) -> u8
+        requires { 1 ≤ spare self.old }
+        ensures value { result ≡ answer (state self.old) port }
+        ensures operations { operations self.new ≡ operations self.old ++ In port result ∷ [] }
+        ensures state { state self.new ≡ after (state self.old) (In port result) }
+        ensures spare { spare self.new + 1 ≡ spare self.old };
+
+    /// OUT: gives the port a byte.
+    fn output(&mut self, port: u8, byte: u8)
+        requires { 1 ≤ spare self.old }
+        ensures operations { operations self.new ≡ operations self.old ++ Out port byte ∷ [] }
+        ensures state { state self.new ≡ after (state self.old) (Out port byte) }
+        ensures spare { spare self.new + 1 ≡ spare self.old };
+}

@@ -1,0 +1,42 @@
+//! What the processor holds beside its memory, and what one step of it tells.
+use i80_rows::flags::Flags;
+
+/// Whether interrupt requests are accepted. EI leaves `Arming`, so that the instruction behind it
+/// is done before a request is accepted.
+#[derive(Clone, Copy, PartialEq, Eq, Debug)]
+pub enum Interrupts {
+    Off,
+    Arming,
+    On,
+}
+
+/// The registers, the flags and the interrupt state.
+#[derive(Clone, Copy, PartialEq, Eq, Debug)]
+pub struct Registers {
+    pub a: u8,
+    pub b: u8,
+    pub c: u8,
+    pub d: u8,
+    pub e: u8,
+    pub h: u8,
+    pub l: u8,
+    pub flags: Flags,
+    pub sp: u16,
+    pub pc: u16,
+    pub interrupts: Interrupts,
+}
+
+/// What a step did. A slot is the address of a return address on the stack.
+#[derive(Clone, Copy, PartialEq, Eq, Debug)]
+pub enum Stepped {
+    /// None of the following.
+    Done,
+    /// CALL, a taken conditional call, RST or an accepted request: SP after its push is the slot.
+    Called { slot: u16, target: u16 },
+    /// RET or a taken conditional return: SP before its pop is the slot.
+    Returned { slot: u16 },
+    /// HLT.
+    Halted,
+    /// One of the twelve undefined opcodes stands at PC; nothing was done.
+    Undefined { opcode: u8 },
+}

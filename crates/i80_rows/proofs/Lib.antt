@@ -1,0 +1,5 @@
+pub mod Tables
+pub mod FlagLemmas
+pub mod ArithmeticLemmas
+pub mod EncodeLemmas
+pub mod DecodeLemmas

@@ -1,0 +1,11 @@
+use Rattle.std.proofs.Common.{◌≡◌, ap, subst, sym, ◌∙◌, take, IfOk}
+use Rattle.i80_rows.specs.Rows.{read}
+use Rattle.i80_rows.specs.Encoding.{Encodes}
+use Rattle.i80_rows.proofs.DecodeLemmas.{read_found, encoded_read}
+use Rattle.i80_rows.proofs.decoding.decode.Goals as goal
+
+pub returns-clause-found : goal.returns-clause-found
+returns-clause-found c = rw c.read_instruction.ensures (read_found c.args.bytes.now)
+
+pub returns-clause-only : goal.returns-clause-only
+returns-clause-only c i code rest encodes split = c.read_instruction.ensures ∙ ap read split ∙ encoded_read i code rest encodes

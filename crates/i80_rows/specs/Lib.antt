@@ -1,0 +1,5 @@
+pub mod FlagValues
+pub mod Arithmetic
+pub mod Codes
+pub mod Rows
+pub mod Encoding

@@ -1,0 +1,135 @@
+//! The arithmetic and logic of the accumulator, with the flags that each operation sets
+//! (8080 User's Manual, chapter 4, "Arithmetic Group" and "Logical Group").
+ghost use Rattle.std.specs.Prelude.{◌≡◌};
+ghost use Rattle.i80_rows.specs.Arithmetic.{
+  is_even,
+  with_flags,
+  sum,
+  difference,
+  increment,
+  decrement,
+  adjusted,
+  conjunction,
+  exclusive,
+  inclusive,
+  rotated,
+  turned,
+};
+
+use crate::flags::Flags;
+use crate::instruction::Rotation;
+
+/// What an operation gives: a byte, and all five flags as they are afterwards.
+#[derive(Clone, Copy, PartialEq, Eq, Debug)]
+pub struct AluResult {
+    pub value: u8,
+    pub flags: Flags,
+}
+
+fn is_even_count(value: u8) -> bool
+    ensures { result ≡ is_even value }
+{
+    value.count_ones() & 1 == 0
+}
+
+fn with_result(value: u8, auxiliary_carry: bool, carry: bool) -> AluResult
+    ensures { result ≡ with_flags value auxiliary_carry carry }
+{
+    let sign = value & 0x80 != 0;
+    let parity = is_even_count(value);
+    AluResult {
+        value,
+        flags: Flags::new(sign, value == 0, auxiliary_carry, parity, carry),
+    }
+}
+
+/// The sum of two bytes and a carry: ADD, ADC, ADI, ACI.
+pub fn alu_add(x: u8, y: u8, carry: bool) -> AluResult
+    ensures { result ≡ sum x y carry }
+{
+    let total = x as u16 + y as u16 + carry as u16;
+    let value = (total & 0xff) as u8;
+    let auxiliary_carry = (x ^ y ^ value) & 0x10 != 0;
+    with_result(value, auxiliary_carry, total & 0x100 != 0)
+}
+
+/// The difference of two bytes and a borrow: SUB, SBB, SUI, SBI, CMP, CPI. The complement of `y`
+/// and of the borrow is added, so AC is the carry out of bit 3 of that sum and CY tells a borrow.
+pub fn alu_sub(x: u8, y: u8, borrow: bool) -> AluResult
+    ensures { result ≡ difference x y borrow }
+{
+    let sum = alu_add(x, !y, !borrow);
+    AluResult {
+        value: sum.value,
+        flags: sum.flags.with_carry(!sum.flags.carry()),
+    }
+}
+
+/// The bitwise AND: ANA, ANI. CY is cleared, AC is the OR of bit 3 of the operands.
+pub fn alu_and(x: u8, y: u8) -> AluResult
+    ensures { result ≡ conjunction x y }
+{
+    with_result(x & y, (x | y) & 8 != 0, false)
+}
+
+/// The bitwise exclusive OR: XRA, XRI. CY and AC are cleared.
+pub fn alu_xor(x: u8, y: u8) -> AluResult
+    ensures { result ≡ exclusive x y }
+{
+    with_result(x ^ y, false, false)
+}
+
+/// The bitwise OR: ORA, ORI. CY and AC are cleared.
+pub fn alu_or(x: u8, y: u8) -> AluResult
+    ensures { result ≡ inclusive x y }
+{
+    with_result(x | y, false, false)
+}
+
+/// One more, modulo 256: INR. CY stays as it is given.
+pub fn inr(x: u8, carry: bool) -> AluResult
+    ensures { result ≡ increment x carry }
+{
+    let value = x.wrapping_add(1);
+    with_result(value, value & 0x0f == 0, carry)
+}
+
+/// One less, modulo 256: DCR. CY stays as it is given.
+pub fn dcr(x: u8, carry: bool) -> AluResult
+    ensures { result ≡ decrement x carry }
+{
+    let value = x.wrapping_sub(1);
+    with_result(value, value & 0x0f != 0x0f, carry)
+}
+
+/// A as two decimal digits again, after a sum of two such bytes: DAA.
+pub fn daa(a: u8, flags: Flags) -> AluResult
+    ensures { result ≡ adjusted a flags }
+{
+    let low = 6 * ((a & 0x0f > 9) | flags.auxiliary_carry()) as u8;
+    let carry = flags.carry() | (a > 0x99);
+    let high = 0x60 * carry as u8;
+    let value = a.wrapping_add(low + high);
+    with_result(value, (a ^ value) & 0x10 != 0, carry)
+}
+
+/// A rotated by one bit; of the flags CY alone changes.
+pub fn rotate(rotation: Rotation, a: u8, flags: Flags) -> AluResult
+    ensures { result ≡ rotated rotation a flags }
+{
+    match rotation {
+        Rotation::Rlc => with_turned(a << 1 | a >> 7, a & 0x80 != 0, flags),
+        Rotation::Rrc => with_turned(a >> 1 | a << 7, a & 1 != 0, flags),
+        Rotation::Ral => with_turned(a << 1 | flags.carry() as u8, a & 0x80 != 0, flags),
+        Rotation::Rar => with_turned(a >> 1 | (flags.carry() as u8) << 7, a & 1 != 0, flags),
+    }
+}
+
+fn with_turned(value: u8, carry: bool, flags: Flags) -> AluResult
+    ensures { result ≡ turned value carry flags }
+{
+    AluResult {
+        value,
+        flags: flags.with_carry(carry),
+    }
+}

@@ -1,0 +1,180 @@
+//! What an instruction of the 8080 is made of (8080 User's Manual, chapter 4).
+ghost use Rattle.std.specs.Prelude.{◌≡◌};
+
+/// What a three-bit register code names: a register, or `M`, the byte in memory at HL.
+#[derive(Clone, Copy, PartialEq, Eq, Debug)]
+pub enum Reg {
+    B,
+    C,
+    D,
+    E,
+    H,
+    L,
+    M,
+    A,
+}
+
+/// One of the seven registers, where `M` can't stand.
+#[derive(Clone, Copy, PartialEq, Eq, Debug)]
+pub enum Register {
+    B,
+    C,
+    D,
+    E,
+    H,
+    L,
+    A,
+}
+
+impl From<Register> for Reg {
+    ghost use Rattle.i80_rows.specs.Codes.{reg_of};
+
+    ghost from_gives = { λ register reg. reg ≡ reg_of register };
+
+    fn from(register: Register) -> Reg {
+        match register {
+            Register::B => Reg::B,
+            Register::C => Reg::C,
+            Register::D => Reg::D,
+            Register::E => Reg::E,
+            Register::H => Reg::H,
+            Register::L => Reg::L,
+            Register::A => Reg::A,
+        }
+    }
+}
+
+/// A register pair, named by its first register, or the stack pointer.
+#[derive(Clone, Copy, PartialEq, Eq, Debug)]
+pub enum Pair {
+    B,
+    D,
+    H,
+    Sp,
+}
+
+/// What PUSH and POP move: a register pair, or A and the flag byte.
+#[derive(Clone, Copy, PartialEq, Eq, Debug)]
+pub enum StackPair {
+    B,
+    D,
+    H,
+    Psw,
+}
+
+/// A pair that holds the address for STAX and LDAX.
+#[derive(Clone, Copy, PartialEq, Eq, Debug)]
+pub enum IndexPair {
+    B,
+    D,
+}
+
+/// A condition of a jump, call or return.
+#[derive(Clone, Copy, PartialEq, Eq, Debug)]
+pub enum Cond {
+    NotZero,
+    Zero,
+    NoCarry,
+    Carry,
+    ParityOdd,
+    ParityEven,
+    Plus,
+    Minus,
+}
+
+/// An operation of the accumulator with a byte.
+#[derive(Clone, Copy, PartialEq, Eq, Debug)]
+pub enum Operation {
+    Add,
+    Adc,
+    Sub,
+    Sbb,
+    Ana,
+    Xra,
+    Ora,
+    Cmp,
+}
+
+/// A rotation of the accumulator by one bit.
+#[derive(Clone, Copy, PartialEq, Eq, Debug)]
+pub enum Rotation {
+    Rlc,
+    Rrc,
+    Ral,
+    Rar,
+}
+
+/// The number of a restart: RST n goes to address 8n.
+#[derive(Clone, Copy, PartialEq, Eq, Debug)]
+pub enum Vector {
+    V0,
+    V1,
+    V2,
+    V3,
+    V4,
+    V5,
+    V6,
+    V7,
+}
+
+/// An instruction with its operand. What has no encoding can't be written: MOV is three
+/// instructions, as in the manual, so that there is no `MOV M,M`.
+#[derive(Clone, Copy, PartialEq, Eq, Debug)]
+pub enum Instr {
+    Nop,
+    Lxi(Pair, u16),
+    Stax(IndexPair),
+    Ldax(IndexPair),
+    Shld(u16),
+    Lhld(u16),
+    Sta(u16),
+    Lda(u16),
+    Inx(Pair),
+    Dcx(Pair),
+    Dad(Pair),
+    Inr(Reg),
+    Dcr(Reg),
+    Mvi(Reg, u8),
+    Rotate(Rotation),
+    Daa,
+    Cma,
+    Stc,
+    Cmc,
+    /// `MOV r1,r2`: to the first register from the second.
+    Mov(Register, Register),
+    /// `MOV r,M`.
+    MovFromM(Register),
+    /// `MOV M,r`.
+    MovToM(Register),
+    Hlt,
+    /// ADD to CMP with a register or M.
+    Alu(Operation, Reg),
+    /// ADI to CPI with the byte behind the opcode.
+    AluImmediate(Operation, u8),
+    Jmp(u16),
+    JumpIf(Cond, u16),
+    Call(u16),
+    CallIf(Cond, u16),
+    Ret,
+    RetIf(Cond),
+    Rst(Vector),
+    Push(StackPair),
+    Pop(StackPair),
+    Xthl,
+    Xchg,
+    Pchl,
+    Sphl,
+    Out(u8),
+    In(u8),
+    Di,
+    Ei,
+}
+
+/// Why no instruction was read.
+#[derive(Clone, Copy, PartialEq, Eq, Debug)]
+pub enum Decode {
+    /// The first byte is one of the twelve undefined opcodes.
+    Undefined,
+    /// The bytes end before the instruction does, which needs this many.
+    Short { needed: u8 },
+}

@@ -1,0 +1,6 @@
+pub mod HexLemmas
+pub mod LoadLemmas
+pub mod PrintedLemmas
+pub mod RunLemmas
+pub mod RunnerLemmas
+pub mod StreamLemmas

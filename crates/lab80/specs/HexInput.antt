@@ -1,0 +1,38 @@
+-- What hexadecimal text on standard input means.
+use Rattle.std.specs.Prelude.{ℕ, ◌+◌, ◌-◌, ◌*◌, ◌/◌, ◌%◌, List, [], ◌∷◌, Bool, not, ◌&&◌, ◌||◌, nat_lt, nat_le, ◌==◌, filter, map, length, if◌then◌else◌}
+use Rattle.std.specs.List.{list_all}
+
+-- space, tab, line feed and carriage return, which are ignored wherever they stand
+abbrev pub is_blank : ℕ → Bool
+is_blank c = c == 32 || c == 9 || c == 10 || c == 13
+
+-- `0` to `9`, `A` to `F`, `a` to `f`
+abbrev pub is_hex_digit : ℕ → Bool
+is_hex_digit c = (nat_le 48 c && nat_le c 57) || (nat_le 65 c && nat_le c 70) || (nat_le 97 c && nat_le c 102)
+
+abbrev pub digit_value : ℕ → ℕ
+digit_value c = if (nat_le c 57) then (c - 48) else (if (nat_le c 70) then (c - 55) else (c - 87))
+
+-- the characters that aren't ignored
+abbrev pub characters : List ℕ → List ℕ
+characters text = filter (λ c. not (is_blank c)) text
+
+-- two digits make a byte, the high one first
+abbrev pub paired : List ℕ → List ℕ
+paired [] = []
+paired (high ∷ []) = []
+paired (high ∷ (low ∷ rest)) = (16 * high + low) ∷ paired rest
+
+-- refused for a wrong character or an odd number of digits, refused for more bytes than memory has, or bytes
+pub data Input : Type 0 where
+  BadHex : Input
+  PastEnd : Input
+  Bytes : List ℕ → Input
+
+abbrev pub input_of : List ℕ → Input
+input_of text =
+    let digits = characters text in
+    if (not (list_all is_hex_digit digits)) then BadHex else
+    (if (length digits % 2 == 1) then BadHex else
+    (if (nat_lt 65536 (length digits / 2)) then PastEnd else
+    (Bytes (paired (map digit_value digits)))))

@@ -1,0 +1,9 @@
+pub mod Printed
+pub mod HexInput
+pub mod HexState
+pub mod Board
+pub mod Runner
+pub mod StepText
+pub mod Engine
+pub mod Report
+pub mod Streams

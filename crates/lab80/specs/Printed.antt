@@ -1,0 +1,29 @@
+-- Numbers and registers as they are printed: upper-case hexadecimal digits of fixed width.
+use Rattle.std.specs.Prelude.{ℕ, ◌+◌, ◌/◌, ◌%◌, List, [], ◌∷◌, ◌++◌, nat_lt, codes, if◌then◌else◌}
+use Rattle.i80_rows.specs.FlagValues.{flag_byte}
+use Rattle.i80_exec.specs.declared.registers.Registers.{Registers}
+
+-- `0` to `9`, `A` to `F`
+abbrev pub hex_digit : ℕ → ℕ
+hex_digit n = if (nat_lt n 10) then (48 + n) else (55 + n)
+
+abbrev pub hex_byte : ℕ → List ℕ
+hex_byte n = hex_digit (n / 16) ∷ (hex_digit (n % 16) ∷ [])
+
+abbrev pub hex_word : ℕ → List ℕ
+hex_word n = hex_byte (n / 256) ++ hex_byte (n % 256)
+
+abbrev pub line : List ℕ → List ℕ
+line text = text ++ 10 ∷ []
+
+-- a name and a byte
+abbrev pub field : List ℕ → ℕ → List ℕ
+field name byte = name ++ hex_byte byte
+
+-- program counter, accumulator and flag byte, the other registers, stack pointer
+unfoldable pub register_line : Registers → List ℕ
+register_line r = line (
+    codes "PC=" ++ hex_word r.pc ++ field (codes " A=") r.a ++ field (codes " F=") (flag_byte r.flags)
+    ++ field (codes " B=") r.b ++ field (codes " C=") r.c ++ field (codes " D=") r.d
+    ++ field (codes " E=") r.e ++ field (codes " H=") r.h ++ field (codes " L=") r.l
+    ++ codes " SP=" ++ hex_word r.sp)

@@ -1,0 +1,21 @@
+-- What a runner stands for.
+use Rattle.std.specs.Prelude.{◌≡◌}
+use Rattle.i80_exec.specs.declared.registers.Stepped.{Stepped}
+use Rattle.i80_exec.specs.State.{MachineState}
+use Rattle.i80_devs.specs.Past as devices
+use Rattle.lab80.specs.Board.{Board, next}
+
+pub record RunnerState : Type 0 where
+  pub machine : MachineState
+  pub devices : devices.DeviceState
+  pub last : Stepped
+
+-- the runner has the board's machine and last answer, and devices that the board's past made
+pub record StandsFor (r : RunnerState) (b : Board) : Type 0 where
+  pub machine : r.machine ≡ b.machine
+  pub devices : devices.StandsFor r.devices b.past
+  pub last : r.last ≡ b.last
+
+-- whatever board the old one stands for, the new one stands for the board after one instruction
+abbrev pub Steps : RunnerState → RunnerState → Type 0
+Steps old new = (b : Board) → StandsFor old b → StandsFor new (next b)
