@@ -1,11 +1,10 @@
 -- What one more operation makes of the panel.
-use Rattle.std.proofs.Common.{◌≡◌, ℕ, List, [], ◌∷◌, ◌++◌, Bool, true, false, Option, Some, None, unwrap_or, cond, ◌==◌, drop, refl, ap, sym, ◌∙◌, append-nil}
-use Rattle.std.specs.List.{fold, filter_map, cons_option}
+use Rattle.std.proofs.Common.{◌≡◌, List, [], ◌∷◌, ◌++◌, Bool, true, false, Option, Some, None, unwrap_or, cond, ◌==◌, drop, refl, ap, sym, ◌∙◌, append-nil}
+use Rattle.std.specs.List.{filter_map, cons_option}
 use Rattle.std.proofs.lemmas.List.Elements.{filter_map-append}
 use Rattle.std.proofs.lemmas.Grind.{fold-append}
-use Rattle.i80_exec.specs.declared.ports.PortOperation.{PortOperation}
 use Rattle.i80_exec.specs.declared.ports.PortOperation.TheVariants.{In, Out}
-use Rattle.i80_devs.specs.Past.{Operation, Port, Typed, Switches, Press, Taken, PanelState, last_or, waiting_after, switches_of, lamps_of, latched_of, panel_after, panel_next, after}
+use Rattle.i80_devs.specs.Past.{Operation, Port, Typed, Switches, Press, Taken, PanelState, last_or, waiting_after, switches_of, lamps_of, latched_of, panel_after, panel_next}
 
 last_or-append : {A : Type 0} (d x : A) (xs : List A) → last_or d (xs ++ x ∷ []) ≡ x
 last_or-append d x [] = refl

@@ -1,7 +1,6 @@
 -- What the table reads off the front of bytes is what encodes an instruction there.
-use Rattle.std.proofs.Common.{◌≡◌, ℕ, suc, ◌+◌, ◌*◌, List, [], ◌∷◌, ◌++◌, length, take, Ok, Err, Result, IfOk, refl, ap, sym, subst, ◌∙◌}
+use Rattle.std.proofs.Common.{◌≡◌, ℕ, suc, ◌+◌, ◌*◌, List, [], ◌∷◌, ◌++◌, length, take, Ok, IfOk, refl, ap, sym, subst}
 use Rattle.i80_rows.specs.declared.instruction.Instr.{Instr}
-use Rattle.i80_rows.specs.declared.instruction.Decode.{Decode}
 use Rattle.i80_rows.specs.Rows.{Row, Undefined, Alone, Byte, Word, read, read_row, row}
 use Rattle.i80_rows.specs.Encoding.{Encodes, IsOperand}
 

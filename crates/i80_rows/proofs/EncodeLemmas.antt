@@ -1,5 +1,5 @@
 -- The row of each opcode that encode puts together of the codes of its registers, conditions and so on.
-use Rattle.std.proofs.Common.{◌≡◌, ℕ, ◌+◌, ◌*◌, ◌/◌, ◌%◌, [], ◌∷◌, List, refl, sym, ap, subst, ◌∙◌, bit_or, arith}
+use Rattle.std.proofs.Common.{◌≡◌, ℕ, ◌+◌, ◌*◌, ◌/◌, ◌%◌, [], ◌∷◌, refl, sym, ap, subst, bit_or, arith}
 use Rattle.i80_rows.specs.declared.instruction.Instr.{Instr}
 use Rattle.i80_rows.specs.declared.instruction.Instr.TheVariants.{Mov, MovFromM, Alu, AluImmediate, JumpIf, CallIf, RetIf, Rst, Push, Pop}
 use Rattle.i80_rows.specs.Rows.{Row, Alone, Byte, Word, row}

@@ -1,12 +1,12 @@
 -- What a further digit makes of what is kept, and what all of it means.
-use Rattle.std.proofs.Common.{◌≡◌, ℕ, zero, suc, ◌+◌, ◌*◌, ◌/◌, ◌%◌, ◌<◌, ◌≤◌, List, [], ◌∷◌, ◌++◌, Bool, true, false, not, ◌&&◌, cond, ◌==◌, nat_lt, map, filter, length, take, min, refl, ap, sym, ◌∙◌, subst, arith, append-nil, append_assoc, length-append, get_or, drop, drop-cons, take-append-drop}
+use Rattle.std.proofs.Common.{◌≡◌, ℕ, zero, suc, ◌+◌, ◌/◌, ◌%◌, ◌<◌, ◌≤◌, List, [], ◌∷◌, ◌++◌, Bool, true, false, not, ◌&&◌, cond, ◌==◌, nat_lt, map, length, take, min, refl, ap, sym, ◌∙◌, subst, arith, append-nil, append_assoc, length-append, get_or, drop, drop-cons, take-append-drop}
 use Rattle.std.specs.List.{list_all}
 use Rattle.std.proofs.lemmas.Bool.Decides.{nat_tests}
 use Rattle.std.proofs.Math.Seq.{take-nil}
 use Rattle.std.proofs.lemmas.List.Elements.{filter-append}
 use Rattle.std.proofs.lemmas.List.Folds.{list_all-append}
 use Rattle.std.proofs.lemmas.List.{map-append, length-map, length-take, take_all}
-use Rattle.lab80.specs.HexInput.{characters, is_blank, is_hex_digit, digit_value, paired, Input, BadHex, PastEnd, Bytes, input_of}
+use Rattle.lab80.specs.HexInput.{characters, is_blank, is_hex_digit, digit_value, paired, BadHex, PastEnd, Bytes, input_of}
 use Rattle.lab80.specs.HexState.{HexState, most_digits, state_of, kept_more, StandsFor, Reads, IsBad}
 
 take_kept : (n : ℕ) (xs : List ℕ) (x : ℕ) → take n (xs ++ x ∷ []) ≡ cond (nat_lt (length (take n xs)) n) (take n xs ++ x ∷ []) (take n xs)

@@ -1,5 +1,5 @@
 -- Pairs of digits stored one after another are the bytes stored from address 0 on.
-use Rattle.std.proofs.Common.{◌≡◌, ℕ, suc, ◌+◌, ◌*◌, ◌%◌, ◌<◌, ◌≤◌, List, [], ◌∷◌, length, take, drop, All, get_or, refl, ap, sym, ◌∙◌, subst, arith, add_assoc}
+use Rattle.std.proofs.Common.{◌≡◌, ℕ, suc, ◌+◌, ◌*◌, ◌%◌, ◌<◌, ◌≤◌, List, [], ◌∷◌, length, take, drop, All, get_or, refl, ap, ◌∙◌, arith}
 use Rattle.i80_exec.specs.State.{MachineState, stored}
 use Rattle.lab80.specs.Board.{stored_from}
 use Rattle.lab80.specs.HexInput.{paired}

@@ -1,5 +1,5 @@
 -- A text to which a line's parts are added one by one has the line at its end.
-use Rattle.std.proofs.Common.{◌≡◌, ℕ, List, ◌∷◌, [], ◌++◌, refl, append_assoc, codes}
+use Rattle.std.proofs.Common.{◌≡◌, ℕ, List, ◌∷◌, [], ◌++◌, append_assoc, codes}
 use Rattle.i80_rows.specs.FlagValues.{flag_byte}
 use Rattle.i80_exec.specs.declared.registers.Registers.{Registers}
 use Rattle.lab80.specs.Printed.{hex_word, field, register_line}

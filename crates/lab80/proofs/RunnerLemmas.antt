@@ -1,13 +1,12 @@
 -- A runner after one instruction stands for the board after one instruction.
-use Rattle.std.proofs.Common.{◌≡◌, ℕ, List, [], ◌∷◌, ◌++◌, map, Option, Some, None, refl, ap, sym, ◌∙◌, subst, append-nil}
+use Rattle.std.proofs.Common.{◌≡◌, List, ◌++◌, map, Option, Some, None, ap, sym, ◌∙◌, append-nil}
 use Rattle.i80_exec.specs.declared.ports.PortOperation.{PortOperation}
 use Rattle.i80_exec.specs.State.{MachineState}
 use Rattle.i80_exec.specs.Effect.{Outcome}
 use Rattle.i80_exec.specs.Step.{instruction, operation_list, state_after}
 use Rattle.i80_devs.specs.Past.{Operation, Port, PanelState, panel_after, answer, after as panel_then}
 use Rattle.i80_devs.proofs.PastLemmas.{panel_more}
-use Rattle.lab80.specs.Board.{Board, next}
-use Rattle.lab80.specs.Runner.{RunnerState, StandsFor, Steps}
+use Rattle.lab80.specs.Runner.{RunnerState, Steps}
 
 -- the panel after an operation of a port, or none
 panel_performed : (past : List Operation) (o : Option PortOperation)

@@ -1,9 +1,9 @@
 -- How far reading and writing have come, read by read and write by write.
-use Rattle.std.proofs.Common.{◌≡◌, ℕ, zero, suc, ◌≤◌, List, [], ◌∷◌, ◌++◌, length, take, drop, Option, Some, None, IfSome, refl, ap, sym, ◌∙◌, subst, append-nil, append_assoc, take-append-drop}
+use Rattle.std.proofs.Common.{◌≡◌, ℕ, List, [], ◌∷◌, ◌++◌, length, take, drop, Option, Some, None, IfSome, refl, ap, sym, ◌∙◌, subst, append-nil, append_assoc, take-append-drop}
 use Rattle.std.specs.Io.KnownBytes.{Appends, Consumes, Keeps, IsAtEnd}
 use Rattle.std.proofs.KnownBytes.{Consumes-nil, Consumes-trans, Consumes-kept, Appends-nil, Appends-trans}
 use Rattle.lab80.specs.Engine.{WritesFront}
-use Rattle.lab80.specs.HexInput.{Input, input_of, BadHex}
+use Rattle.lab80.specs.HexInput.{input_of, BadHex}
 use Rattle.lab80.specs.HexState.{HexState, StandsFor, Reads, IsBad}
 use Rattle.lab80.proofs.HexLemmas.{bad_among, bad_input}
 

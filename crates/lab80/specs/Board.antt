@@ -1,5 +1,5 @@
 -- A machine with the past of its devices, and the run of a program from its load to its end.
-use Rattle.std.specs.Prelude.{◌≡◌, ℕ, suc, zero, ◌+◌, List, [], ◌∷◌, ◌++◌, map, Bool, true, false, Option, Some, None, is_some, ◌==◌, if◌then◌else◌}
+use Rattle.std.specs.Prelude.{ℕ, suc, zero, ◌+◌, List, [], ◌∷◌, ◌++◌, map, Bool, true, false, Option, Some, None, is_some, ◌==◌, if◌then◌else◌}
 use Rattle.i80_rows.specs.Rows.{Row, Undefined, Alone, Byte, Word, row}
 use Rattle.i80_exec.specs.declared.registers.Stepped.{Stepped}
 use Rattle.i80_exec.specs.declared.registers.Stepped.TheVariants as stepped

@@ -1,6 +1,5 @@
 -- How far reading and writing have come.
-use Rattle.std.specs.Prelude.{◌≡◌, ℕ, List, ◌++◌, Option, Result, Ok, Err}
-use Rattle.std.specs.Io.KnownBytes.{Appends, Consumes}
+use Rattle.std.specs.Prelude.{◌≡◌, ℕ, List, Result, Ok, Err}
 use Rattle.lab80.specs.HexInput.{input_of, BadHex}
 use Rattle.lab80.specs.HexState.{HexState, StandsFor}
 use Rattle.lab80.specs.declared.streams.ReadFault.{ReadFault}

@@ -1,6 +1,5 @@
-use Rattle.std.proofs.Common.{◌≡◌, ap, subst, sym, ◌∙◌, take, IfOk}
+use Rattle.std.proofs.Common.{ap, ◌∙◌}
 use Rattle.i80_rows.specs.Rows.{read}
-use Rattle.i80_rows.specs.Encoding.{Encodes}
 use Rattle.i80_rows.proofs.DecodeLemmas.{read_found, encoded_read}
 use Rattle.i80_rows.proofs.decoding.decode.Goals as goal
 

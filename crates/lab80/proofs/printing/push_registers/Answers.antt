@@ -1,4 +1,4 @@
-use Rattle.std.proofs.Common.{◌∙◌, string_bytes}
+use Rattle.std.proofs.Common.{string_bytes}
 use Rattle.lab80.proofs.PrintedLemmas.{register_line_added}
 use Rattle.lab80.proofs.printing.push_registers.Goals as goal
 

@@ -1,4 +1,3 @@
-use Rattle.lab80.specs.HexState.{Reads}
 use Rattle.lab80.proofs.StreamLemmas.{read_piece}
 use Rattle.lab80.proofs.streams.read_hex.Goals as goal
 

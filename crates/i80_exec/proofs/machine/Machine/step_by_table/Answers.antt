@@ -1,5 +1,5 @@
 -- Each clause says of the instruction that was executed what it says of the one at PC.
-use Rattle.std.proofs.Common.{◌≡◌, ℕ, ◌+◌, ◌++◌, List, length, sym, ap, ◌∙◌, rules}
+use Rattle.std.proofs.Common.{◌≡◌, ◌+◌, ◌++◌, length, sym, ap, ◌∙◌, rules}
 use Rattle.i80_exec.specs.Effect.{Outcome}
 use Rattle.i80_exec.specs.Step.{operation_list, state_after, executed, instruction}
 use Rattle.i80_exec.proofs.StepLemmas.{executed_read}

@@ -1,7 +1,7 @@
 use Rattle.std.proofs.Common.{List, ℕ, ap, sym, ◌∙◌}
 use Rattle.lab80.specs.HexInput.{Bytes, paired}
 use Rattle.lab80.specs.HexState.{HexState}
-use Rattle.lab80.proofs.HexLemmas.{found_odd, found_long, found_bytes}
+use Rattle.lab80.proofs.HexLemmas.{found_long, found_bytes}
 use Rattle.lab80.proofs.hex_input.HexInput.digits.Goals as goal
 
 pub returns-then-self-2-clause-found : goal.returns-then-self-2-clause-found

@@ -1,4 +1,4 @@
-use Rattle.std.proofs.Common.{◌≡◌, ◌++◌, arith, ap, sym, ◌∙◌, string_bytes}
+use Rattle.std.proofs.Common.{◌++◌, arith, ap, sym, ◌∙◌, string_bytes}
 use Rattle.lab80.specs.Printed.{register_line}
 use Rattle.lab80.proofs.RunLemmas.{at_start, at_next, at_end, at_limit}
 use Rattle.lab80.proofs.runner.Runner.print_run.Goals as goal

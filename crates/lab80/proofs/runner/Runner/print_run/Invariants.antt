@@ -1,4 +1,4 @@
-use Rattle.std.proofs.Common.{List, ℕ, string_bytes}
+use Rattle.std.proofs.Common.{string_bytes}
 use Rattle.lab80.specs.Board.{Board}
 use Rattle.lab80.specs.Runner.{StandsFor}
 use Rattle.lab80.proofs.RunLemmas.{IsAt}

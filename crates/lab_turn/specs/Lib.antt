@@ -1,0 +1,4 @@
+pub mod History
+pub mod Tickets
+pub mod Seen
+pub mod Turns

@@ -1,0 +1,215 @@
+//! The turnstile: opened over a value, used by its passes, and closed with all of them.
+ghost use Rattle.std.specs.Prelude.{◌≡◌, ◌≢◌, ◌<◌, ◌≤◌, ◌+◌, ◌↔◌, [], All, length, vec_capacity, IfOk, IfErr, IsErr, OnOk, OnErr, true};
+ghost use Rattle.lab_turn.specs.History.{TurnstileState, FreshFrom, Turned, IsHistoryOf};
+ghost use Rattle.lab_turn.specs.Turns.{Gathered, IsIdle, maker_at};
+
+use crate::fault::{CloseFault, OpenFault, TurnFault};
+use crate::journaled::Journaled;
+use crate::pass::Pass;
+use crate::queue::take_turn;
+use crate::rule::{OnePass, Opening, Token, TurnTable, Turns, VALUE};
+use crate::view::View;
+use atomic_table::{Refused, Table};
+use std::alloc::Global;
+use std::fmt;
+use std::marker::Model;
+use std::snapshot::Snapshot;
+use std::sync::Wait;
+
+/// A journaled value that the holders of its passes take turns on, from any thread.
+///
+/// Contracts see which turnstile it is, its number of seats, and the limit of its value's journal.
+#[derive(Drop)]
+pub struct Turnstile<J: Journaled> {
+    table: Table<Option<J>, View<J::Call>, Opening<J>, Turns<J>, Global>,
+    seats: u32,
+}
+
+impl<J: Journaled> Model for Turnstile<J> {
+    ghost use Rattle.std.specs.Prelude.{◌≡◌, ◌<◌};
+    ghost use Rattle.lab_turn.specs.History.{TurnstileState};
+
+    ghost Value = { TurnstileState };
+
+    ghost view = { λ t. record {
+      table = t.table.shared.table_id;
+      seats = t.seats;
+      limit = J.limit t.table.shared.key.over.value;
+    } };
+
+    ghost invariant = { λ t. (t.table.shared.table_id.words ≡ 2)
+        × (t.table.shared.table_id.slots ≡ 1)
+        × (t.seats ≡ t.table.shared.key.seats)
+        × (0 < t.seats) };
+}
+
+impl<J: Journaled> fmt::Debug for Turnstile<J> {
+    fn fmt<W: fmt::Write>(&self, f: &mut fmt::Formatter<W>) -> fmt::Result {
+        f.debug_struct("Turnstile")
+            .field("seats", &self.seats)
+            .finish()
+    }
+}
+
+type Made<J> = (
+    Table<Option<J>, View<<J as Journaled>::Call>, Opening<J>, Turns<J>, Global>,
+    Token<J>,
+);
+
+// The table over the value, and the token of its first seat.
+fn table_over<J: Journaled>(alloc: Global, value: J, seats: u32) -> Result<Made<J>, J>
+    requires seats { 0 < seats }
+    requires fresh { J.entries value ≡ [] }
+    ensures shape { IfOk result (λ t.
+        (t.0.shared.table_id.words ≡ 2) × (t.0.shared.table_id.slots ≡ 1)) }
+    ensures key { IfOk result (λ t.
+        (t.0.shared.key.seats ≡ seats) × (t.0.shared.key.over.value ≡ value)) }
+    ensures table { IfOk result (λ t. t.1.table_id ≡ t.0.shared.table_id) }
+    ensures token { IfOk result (λ t. t.1.me ≡ (maker_at seats (J.limit value) 1, [])) }
+    ensures err { IfErr result (λ v. v ≡ value) }
+{
+    let key = Opening {
+        over: Snapshot::of(&value),
+        seats,
+    };
+    let Ok(mut slots) = Vec::with_capacity(alloc, 1) else {
+        return Err(value);
+    };
+    let pushed = slots.push(Some(value));
+    let Ok(()) = pushed else { unreachable!() };
+    match Table::new(alloc, &[0, 0], slots, &key) {
+        Ok(made) => Ok(made),
+        Err(Refused { mut slots }) => {
+            let Some(first) = slots.pop() else {
+                unreachable!()
+            };
+            slots.destroy_empty();
+            let Some(value) = first else { unreachable!() };
+            Err(value)
+        }
+    }
+}
+
+// Makes the passes from seat 1 on.
+fn deal<J: Journaled>(
+    table: &TurnTable<J>,
+    token: &mut Token<J>,
+    seats: u32,
+    passes: &mut Vec<Pass<J>>,
+)
+    requires table { (token.old.table_id ≡ table.now.table_id) × (table.now.table_id.words ≡ 2) }
+    requires seats { (0 < seats) × (seats ≡ table.now.key.seats) }
+    requires maker { token.old.me ≡ (maker_at seats (J.limit table.now.key.over.value) 1, []) }
+    requires room { (passes.old.items ≡ []) × (seats ≤ vec_capacity passes.old) }
+    ensures same { token.new.table_id ≡ token.old.table_id }
+    ensures token { token.new.me ≡ (maker_at seats (J.limit table.now.key.over.value) seats, []) }
+    ensures passes { let turnstile : TurnstileState = record {
+      table = table.now.table_id;
+      seats = seats;
+      limit = J.limit table.now.key.over.value;
+    } in
+        FreshFrom 1 turnstile passes.new.items }
+    ensures count { (length passes.new.items + 1 ≡ seats) × (seats ≤ vec_capacity passes.new) }
+{
+    for seat in 1..seats {
+        let other = table.split_seat::<OnePass>(token);
+        let Ok(()) = passes.push(Pass { seat, token: other }) else {
+            unreachable!()
+        };
+    }
+}
+
+// One token takes in the passes.
+fn gather<J: Journaled>(table: &TurnTable<J>, token: &mut Token<J>, mut passes: Vec<Pass<J>>)
+    requires table { (token.old.table_id ≡ table.now.table_id) × (table.now.table_id.words ≡ 2) }
+    requires idle { IsIdle token.old.me }
+    requires passes { All (λ p. p.turnstile.table ≡ table.now.table_id) passes.items }
+    ensures token { (token.new.table_id ≡ token.old.table_id) × (token.new.me.1 ≡ []) }
+    ensures all { Gathered passes.items [] token.old.me.0 token.new.me.0 }
+{
+    while let Some(pass) = passes.pop() {
+        table.join_seat::<OnePass>(token, pass.into_token());
+    }
+    passes.destroy_empty();
+}
+
+impl<J: Journaled> Turnstile<J> {
+    /// Opens a turnstile over a value with no entries, with 1 to 1,024 seats. The pass at index k
+    /// has seat k, has seen the empty history, and has no call in it.
+    pub fn open(
+        alloc: Global,
+        value: J,
+        seats: u32,
+    ) -> Result<(Turnstile<J>, Vec<Pass<J>>), OpenFault<J>>
+        requires seats { (0 < seats) × (seats ≤ 1024) }
+        requires fresh { J.entries value ≡ [] }
+        ensures turnstile { IfOk result (λ t. (t.0.seats ≡ seats) × (t.0.limit ≡ J.limit value)) }
+        ensures count { IfOk result (λ t. length t.1.items ≡ seats) }
+        ensures passes { IfOk result (λ t. FreshFrom 0 t.0 t.1.items) }
+        ensures own { IfOk result (λ t. All (λ p. p.turnstile ≡ t.0) t.1.items) }
+        // There was no memory.
+        ensures err { IfErr result (λ fault. fault ≡ OpenFault.OutOfMemory value) }
+    {
+        let Ok(mut passes) = Vec::with_capacity(alloc, seats as usize) else {
+            return Err(OpenFault::OutOfMemory(value));
+        };
+        match table_over(alloc, value, seats) {
+            Ok((table, mut token)) => {
+                deal(&table.shared, &mut token, seats, &mut passes);
+                let Ok(()) = passes.insert(0, Pass { seat: 0, token }) else {
+                    unreachable!()
+                };
+                Ok((Turnstile { table, seats }, passes))
+            }
+            Err(value) => Err(OpenFault::OutOfMemory(value)),
+        }
+    }
+
+    /// Waits for its turn, and makes one call on the value.
+    ///
+    /// The reply is the value's own: a refusal by the value, as for want of memory, is an `Ok` too,
+    /// and leaves no entry. `Worn` comes only once 2^64 - 1 tickets were drawn, and makes no call.
+    pub fn turn<R: Wait>(
+        &self,
+        rt: &R,
+        pass: &mut Pass<J>,
+        call: J::Call,
+    ) -> Result<J::Reply, TurnFault>
+        requires { pass.old.turnstile ≡ self.now }
+        ensures same { (pass.new.turnstile ≡ self.now) × (pass.new.seat ≡ pass.old.seat) }
+        ensures ok { IfOk result (λ reply.
+            Turned J.answer J.is_entry J.is_full pass.old call reply pass.new) }
+        ensures worn { OnErr result (pass.new ≡ record pass.old { worn = true }) }
+    {
+        take_turn(rt, &self.table.shared, pass.seat, &mut pass.token, call)
+    }
+
+    /// Closes the turnstile with all its passes, in any order, and gives the value back. It needs
+    /// no memory. Where a pass is missing, the turnstile stays open and comes back with the passes.
+    pub fn close(self, mut passes: Vec<Pass<J>>) -> Result<J, CloseFault<J>>
+        requires { All (λ p. p.turnstile ≡ self) passes.items }
+        ensures history { IfOk result (λ value. IsHistoryOf self passes.items (J.entries value)) }
+        ensures limit { IfOk result (λ value. J.limit value ≡ self.limit) }
+        ensures all { OnOk result (length passes.items ≡ self.seats) }
+        ensures missing { IsErr result ↔ (length passes.items ≢ self.seats) }
+        ensures err { IfErr result (λ fault. fault ≡ CloseFault.MissingPass self passes) }
+    {
+        if passes.len() != self.seats as usize {
+            return Err(CloseFault::MissingPass {
+                turnstile: self,
+                passes,
+            });
+        }
+        let Some(last) = passes.pop() else {
+            unreachable!()
+        };
+        let mut token = last.into_token();
+        let Turnstile { table, seats: _ } = self;
+        gather(&table.shared, &mut token, passes);
+        let mut closed = table.close_with(token);
+        let taken = closed.take(VALUE);
+        closed.free();
+        let Some(value) = taken else { unreachable!() };
+        Ok(value)
+    }
+}
