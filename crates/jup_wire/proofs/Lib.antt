@@ -1,0 +1,5 @@
+pub mod SignatureLemmas
+pub mod JsonLemmas
+pub mod WireLemmas
+pub mod VerdictLemmas
+pub mod SealLemmas

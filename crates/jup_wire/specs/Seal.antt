@@ -1,0 +1,39 @@
+-- What a message is sealed from, and the frames that are sent for it.
+use Rattle.std.specs.Prelude.{◌≡◌, ◌≤◌, ℕ, List, [], ◌∷◌, ◌++◌, IsSome}
+use Rattle.serde_json.specs.Data.{depth}
+use Rattle.serde_json.specs.View.{view}
+use Rattle.jup_wire.specs.declared.message.Parts.{Parts}
+use Rattle.jup_wire.specs.declared.message.Header.{Header}
+use Rattle.jup_wire.specs.declared.sealing.Draft.{Draft}
+use Rattle.jup_wire.specs.Signature.{signature}
+use Rattle.jup_wire.specs.Json.{json_of, IsHeader, IsTextOf}
+use Rattle.jup_wire.specs.Wire.{delimiter, json_frames, NoDelimiter}
+
+-- with an empty key an empty signature is sent
+abbrev pub signature_frame : List ℕ → Parts → List ℕ
+signature_frame [] p = []
+signature_frame (byte ∷ bytes) p = signature (byte ∷ bytes) (json_frames p)
+
+-- no buffers are sent
+abbrev pub frames_of : Parts → List ℕ → List (List ℕ)
+frames_of p digits = p.identities ++ delimiter ∷ digits ∷ json_frames p
+
+-- these frames are sent for the draft
+pub record IsSealed (key : List ℕ) (d : Draft) (frames : List (List ℕ)) : Type 0 where
+  pub parts : Parts
+  pub whole : frames ≡ frames_of parts (signature_frame key parts)
+  pub identities : parts.identities ≡ d.identities
+  pub header : IsTextOf parts.header (view d.header)
+  pub parent_header : parts.parent_header ≡ d.parent_header
+  pub metadata : IsTextOf parts.metadata (view d.metadata)
+  pub content : IsTextOf parts.content (view d.content)
+
+-- what can be opened again: no identity is the delimiter, the header has its texts, the parent header is
+-- JSON, and nothing nests deeper than 127
+pub record IsOpenable (d : Draft) (h : Header) : Type 0 where
+  pub identities : NoDelimiter d.identities
+  pub header : IsHeader (view d.header) h
+  pub header_depth : depth (view d.header) ≤ 127
+  pub parent_header : IsSome (json_of d.parent_header)
+  pub metadata_depth : depth (view d.metadata) ≤ 127
+  pub content_depth : depth (view d.content) ≤ 127

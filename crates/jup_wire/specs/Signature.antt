@@ -1,0 +1,25 @@
+-- The signature of a message: HMAC (RFC 2104, section 2) with SHA-256, in lower-case hexadecimal.
+use Rattle.std.specs.Prelude.{ℕ, ◌-◌, List, ◌++◌, length, map, replicate, bit_xor, nat_lt, if◌then◌else◌}
+use Rattle.std.specs.List.{concat}
+use Rattle.sha2.specs.Sha256.{sha256}
+use Rattle.hex.specs.Hex.{encode_lower}
+
+-- zeros behind a key, up to the 64 bytes of a block of SHA-256
+abbrev pub zero_filled : List ℕ → List ℕ
+zero_filled key = key ++ replicate (64 - length key) 0
+
+-- the key as a block; a key that is longer than a block is hashed first
+abbrev pub block_of : List ℕ → List ℕ
+block_of key = zero_filled (if nat_lt 64 (length key) then sha256 key else key)
+
+-- a block XOR a byte that is repeated
+abbrev pub padded : ℕ → List ℕ → List ℕ
+padded pad block = map (λ byte. bit_xor byte pad) block
+
+-- H(K XOR opad, H(K XOR ipad, text))
+abbrev pub hmac : List ℕ → List ℕ → List ℕ
+hmac key text = sha256 (padded 0x5c (block_of key) ++ sha256 (padded 0x36 (block_of key) ++ text))
+
+-- over the frames, one behind the other
+unfoldable pub signature : List ℕ → List (List ℕ) → List ℕ
+signature key frames = encode_lower (hmac key (concat frames))

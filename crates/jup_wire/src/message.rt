@@ -1,0 +1,51 @@
+//! A message, and why frames are none.
+use crate::frames::{Bytes, Frames, Text};
+use serde_json::Value;
+use thiserror::Error;
+
+/// The frame between the identities and the signature.
+pub const DELIMITER: &[u8] = b"<IDS|MSG>";
+
+/// Why frames are refused, in the order in which it is found out.
+#[derive(Clone, Copy, PartialEq, Eq, Debug, Error)]
+pub enum WireFault {
+    #[error("out of memory")]
+    OutOfMemory,
+    #[error("no frame is the delimiter")]
+    Delimiter,
+    #[error("fewer than five frames follow the delimiter")]
+    Count,
+    #[error("the signature is wrong")]
+    Signature,
+    #[error("a frame is no JSON")]
+    Json,
+    #[error("the header lacks a text")]
+    Header,
+}
+
+/// The frames of a message as they came: the identities, and the four frames that are signed.
+#[derive(Debug, Drop)]
+pub struct Parts {
+    pub identities: Frames,
+    pub header: Bytes,
+    pub parent_header: Bytes,
+    pub metadata: Bytes,
+    pub content: Bytes,
+}
+
+/// The texts that each header has. What else stands in it isn't looked at.
+#[derive(Debug, Drop)]
+pub struct Header {
+    pub msg_id: Text,
+    pub msg_type: Text,
+    pub session: Text,
+}
+
+/// A message that was opened.
+#[derive(Debug, Drop)]
+pub struct Message {
+    pub parts: Parts,
+    pub header: Header,
+    /// The value of the content frame.
+    pub content: Value,
+}

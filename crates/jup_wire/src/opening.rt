@@ -1,0 +1,190 @@
+//! Opening: from frames to a message.
+ghost use Rattle.std.specs.Prelude.{◌≡◌, ◌≢◌, ◌<◌, ◌≤◌, ◌+◌, ◌↔◌, ◌++◌, ◌∷◌, ◌⊎◌, [], List, ℕ, Some, None, length, vec_len, IsTrue, IfOk, IfErr, IfSome, IfNone, IsErrAnd, MatchResult};
+ghost use Rattle.serde_json.specs.Data.{Data};
+ghost use Rattle.serde_json.specs.View.{view};
+ghost use Rattle.jup_wire.specs.Json.{json_of, text_at, IsHeader};
+ghost use Rattle.jup_wire.specs.Wire.{delimiter, json_frames, NoDelimiter, HasParts, IsSigned, AreJson, IsMessage, IsRefused};
+ghost use Rattle.jup_wire.specs.Fault.{JsonFault, HeaderFault, FirstDelimiter};
+ghost use Rattle.jup_wire.specs.Signature.{signature};
+ghost use Rattle.jup_wire.specs.declared.message.Header.{Header};
+ghost use Rattle.jup_wire.specs.declared.message.Parts.{Parts};
+ghost use Rattle.jup_wire.specs.declared.message.WireFault.{WireFault};
+
+use crate::frames::{Bytes, Frames, Text};
+use crate::message::{DELIMITER, Header, Message, Parts, WireFault};
+use crate::signature::is_signed;
+use serde_json::Value;
+use std::alloc::Global;
+
+fn is_delimiter(frame: &Bytes) -> bool
+    ensures { IsTrue result ↔ (frame.now ≡ delimiter) }
+{
+    frame.as_slice() == DELIMITER
+}
+
+#[tactic(auto, using(crate::proofs::WireLemmas::found, crate::proofs::WireLemmas::passed))]
+fn delimiter_at(frames: &[Bytes]) -> Option<usize>
+    ensures none { IfNone result (NoDelimiter frames.now) }
+    ensures found { IfSome result (FirstDelimiter frames.now) }
+    ensures inside { IfSome result (λ at. at < length frames.now) }
+{
+    for (at, frame) in frames.iter().enumerate() {
+        if is_delimiter(frame) {
+            return Some(at);
+        }
+    }
+    None
+}
+
+fn take_last(frames: &mut Vec<Bytes>) -> Bytes
+    requires { 0 < vec_len frames.old }
+    ensures items { frames.old.items ≡ frames.new.items ++ result ∷ [] }
+    ensures len { vec_len frames.new + 1 ≡ vec_len frames.old }
+{
+    frames.pop().unwrap()
+}
+
+fn take_apart(mut frames: Vec<Bytes>, at: usize) -> (Bytes, Parts)
+    requires delimiter { FirstDelimiter frames.items at }
+    requires enough { at + 6 ≤ vec_len frames }
+    ensures { HasParts frames.items result.0 result.1 }
+{
+    frames.truncate(at + 6);
+    let content = take_last(&mut frames);
+    let metadata = take_last(&mut frames);
+    let parent_header = take_last(&mut frames);
+    let header = take_last(&mut frames);
+    let digits = take_last(&mut frames);
+    frames.truncate(at);
+    let identities = Frames::from(frames);
+    let parts = Parts {
+        identities,
+        header,
+        parent_header,
+        metadata,
+        content,
+    };
+    (digits, parts)
+}
+
+fn split(frames: Frames) -> Result<(Bytes, Parts), WireFault>
+    ensures parts { IfOk result (λ split. HasParts frames split.0 split.1) }
+    ensures refused { IfErr result (λ e. (key : List ℕ) → IsRefused key frames e) }
+{
+    let frames = frames.into_vec();
+    let Some(at) = delimiter_at(frames.as_slice()) else {
+        return Err(WireFault::Delimiter);
+    };
+    if frames.len() - at < 6 {
+        return Err(WireFault::Count);
+    }
+    Ok(take_apart(frames, at))
+}
+
+fn is_accepted(key: &[u8], digits: &Bytes, parts: &Parts) -> bool
+    ensures { IsTrue result ↔ IsSigned key.now digits.now parts.now }
+{
+    key.is_empty() || is_signed(key, digits.as_slice(), parts)
+}
+
+fn read_json(alloc: Global, frame: &Bytes) -> Result<Value, WireFault>
+    ensures value { IfOk result (λ v. json_of frame.now ≡ Some (view v)) }
+    ensures fault { IfErr result (λ e. JsonFault e (json_of frame.now ≡ None)) }
+{
+    match Value::from_slice(alloc, frame.as_slice()) {
+        Ok(value) => Ok(value),
+        Err(e) if e.is_memory() => Err(WireFault::OutOfMemory),
+        Err(_) => Err(WireFault::Json),
+    }
+}
+
+// The values of the header and of the content; the other two frames are only checked.
+fn read_values(alloc: Global, parts: &Parts) -> Result<(Value, Value), WireFault>
+    ensures json { IfOk result (λ _. AreJson parts.now) }
+    ensures header { IfOk result (λ values. json_of parts.now.header ≡ Some (view values.0)) }
+    ensures content { IfOk result (λ values. json_of parts.now.content ≡ Some (view values.1)) }
+    ensures fault { IfErr result (λ e. JsonFault e (¬ AreJson parts.now)) }
+{
+    let header = read_json(alloc, &parts.header)?;
+    read_json(alloc, &parts.parent_header)?;
+    read_json(alloc, &parts.metadata)?;
+    let content = read_json(alloc, &parts.content)?;
+    Ok((header, content))
+}
+
+fn text_of<'a>(value: &'a Value, key: &str) -> Result<&'a str, WireFault>
+    ensures text { IfOk result (λ text. text_at key.now (view value.now) ≡ Some text.now) }
+    ensures fault { IfErr result (λ e. (e ≡ WireFault.Header) × (text_at key.now (view value.now) ≡ None)) }
+{
+    value
+        .get(key)
+        .and_then(Value::as_str)
+        .ok_or(WireFault::Header)
+}
+
+fn copy_of(alloc: Global, text: &str) -> Result<Text, WireFault>
+    ensures text { IfOk result (λ copy. copy ≡ text.now) }
+    ensures fault { IfErr result (λ e. e ≡ WireFault.OutOfMemory) }
+{
+    match String::from_str(alloc, text) {
+        Ok(copy) => Ok(Text::from(copy)),
+        Err(_) => Err(WireFault::OutOfMemory),
+    }
+}
+
+fn read_header(alloc: Global, value: &Value) -> Result<Header, WireFault>
+    ensures header { IfOk result (IsHeader (view value.now)) }
+    ensures fault { IfErr result
+        (λ e. HeaderFault e ((header : Header) → ¬ IsHeader (view value.now) header)) }
+{
+    let msg_id = text_of(value, "msg_id")?;
+    let msg_type = text_of(value, "msg_type")?;
+    let session = text_of(value, "session")?;
+    Ok(Header {
+        msg_id: copy_of(alloc, msg_id)?,
+        msg_type: copy_of(alloc, msg_type)?,
+        session: copy_of(alloc, session)?,
+    })
+}
+
+fn open(alloc: Global, frames: Frames, key: &[u8]) -> Result<Message, WireFault>
+    ensures message { IfOk result
+        (λ m. IsMessage key.now frames m.parts m.header (view m.content)) }
+    ensures refused { IfErr result (IsRefused key.now frames) }
+{
+    let (digits, parts) = split(frames)?;
+    if !is_accepted(key, &digits, &parts) {
+        return Err(WireFault::Signature);
+    }
+    let (header, content) = read_values(alloc, &parts)?;
+    let header = read_header(alloc, &header)?;
+    Ok(Message {
+        parts,
+        header,
+        content,
+    })
+}
+
+/// Opens a message under a key. With an empty key no signature is checked. The frames are moved
+/// into the message; buffers behind the content are accepted and dropped. Each fault comes where it
+/// stands and none before it in the list of `WireFault` does; memory can be wanting only for what
+/// passes the checks of delimiter, count and signature, and then in place of the later two.
+pub fn open_message(alloc: Global, frames: Frames, key: &[u8]) -> Result<Message, WireFault>
+    ensures message { IfOk result
+        (λ m. IsMessage key.now frames m.parts m.header (view m.content)) }
+    ensures refused { IfErr result (IsRefused key.now frames) }
+
+    // What is a message is opened, as this message.
+    ensures only { (parts : Parts) (header : Header) (content : Data)
+        → IsMessage key.now frames parts header content
+        → MatchResult result
+        (λ m. (m.parts ≡ parts) × (m.header ≡ header) × (view m.content ≡ content))
+        (λ e. e ≡ WireFault.OutOfMemory) }
+
+    // Where a fault stands it is the answer.
+    ensures first { (fault : WireFault) → IsRefused key.now frames fault
+        → fault ≢ WireFault.OutOfMemory
+        → IsErrAnd result (λ e. (e ≡ fault) ⊎ (e ≡ WireFault.OutOfMemory)) }
+{
+    open(alloc, frames, key)
+}
