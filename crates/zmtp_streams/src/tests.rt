@@ -1,0 +1,64 @@
+//! Short reads and writes, and failures at each call.
+
+use crate::memory::{Sink, Source};
+use crate::ports::{Failed, Inlet, Outlet};
+use crate::std_io::{StdInlet, StdOutlet};
+use crate::writing::write_all;
+use std::alloc::Global;
+use std::test::Fail;
+
+// Reads to the end or a failure.
+fn read_all<I: Inlet>(alloc: Global, from: &mut I) -> Result<(Vec<u8>, Option<Failed>), Fail> {
+    let mut held = Vec::new(alloc);
+    let mut buffer = [0u8; 4];
+    for _ in 0..100 {
+        match from.read(&mut buffer) {
+            Ok(0) => return Ok((held, None)),
+            Ok(count) => held.extend_from_slice(&buffer[..count])?,
+            Err(failed) => return Ok((held, Some(failed))),
+        }
+    }
+    Err(Fail::from("no end"))
+}
+
+#[test]
+fn sinks(rt: HostRuntime) -> Result<(), Fail> {
+    for most in [1, 3, 100] {
+        for calls in [0, 1, 2, 100] {
+            let mut sink = Sink::new(rt.alloc(), most, calls);
+            let want = (most as u64).saturating_mul(calls).min(5) as usize;
+            let wrote = write_all(&mut sink, b"hello");
+            assert_eq!(rt; wrote, if want == 5 { Ok(()) } else { Err(Failed) });
+            assert!(rt; want <= 5);
+            assert_eq!(rt; sink.as_slice(), &b"hello"[..want]);
+        }
+    }
+    Ok(())
+}
+
+#[test]
+fn sources(rt: HostRuntime) -> Result<(), Fail> {
+    for most in [1, 3, 100] {
+        for calls in [0, 1, 2, 100] {
+            let mut source = Source::new(b"hello".to_vec(rt.alloc())?, most, calls);
+            let want = (most.min(4) as u64).saturating_mul(calls).min(5) as usize;
+            let (held, failed) = read_all(rt.alloc(), &mut source)?;
+            assert!(rt; want <= 5);
+            assert_eq!(rt; held.as_slice(), &b"hello"[..want]);
+            assert_eq!(rt; failed.is_some(), calls < 100);
+        }
+    }
+    Ok(())
+}
+
+#[test]
+fn std_ports(rt: HostRuntime) -> Result<(), Fail> {
+    let mut inlet = StdInlet::new(b"hello".as_slice());
+    let (held, failed) = read_all(rt.alloc(), &mut inlet)?;
+    assert_eq!(rt; held.as_slice(), b"hello".as_slice());
+    assert_eq!(rt; failed, None);
+    let mut outlet = StdOutlet::new(Vec::new(rt.alloc()));
+    assert_eq!(rt; write_all(&mut outlet, b"hello"), Ok(()));
+    assert_eq!(rt; outlet.into_inner().as_slice(), b"hello".as_slice());
+    Ok(())
+}

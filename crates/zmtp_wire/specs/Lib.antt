@@ -1,0 +1,9 @@
+pub mod Commands
+pub mod Feeding
+pub mod Framing
+pub mod Greeting
+pub mod Head
+pub mod Progress
+pub mod Roles
+pub mod Stream
+pub mod Writing

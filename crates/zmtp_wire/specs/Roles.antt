@@ -1,0 +1,24 @@
+-- Socket types, and which may talk to which (RFC 28; own choice of roles).
+use Rattle.std.specs.Prelude.{ℕ, Bool, List, [], ◌∷◌, codes}
+use Rattle.std.specs.List.{list_any}
+use Rattle.std.specs.Str.{bytes_eq}
+use Rattle.zmtp_wire.specs.declared.role.Role.{Role}
+use Rattle.zmtp_wire.specs.declared.role.Role.TheVariants.{Router, Pub, Rep, Dealer, Sub}
+
+abbrev pub socket_name : Role → List ℕ
+socket_name Router = codes "ROUTER"
+socket_name Pub = codes "PUB"
+socket_name Rep = codes "REP"
+socket_name Dealer = codes "DEALER"
+socket_name Sub = codes "SUB"
+
+-- the socket types of the peers that a role may have
+abbrev pub peers : Role → List (List ℕ)
+peers Router = codes "DEALER" ∷ codes "REQ" ∷ codes "ROUTER" ∷ []
+peers Pub = codes "SUB" ∷ codes "XSUB" ∷ []
+peers Rep = codes "REQ" ∷ codes "DEALER" ∷ []
+peers Dealer = codes "ROUTER" ∷ []
+peers Sub = codes "PUB" ∷ []
+
+abbrev pub accepts : Role → List ℕ → Bool
+accepts role name = list_any (bytes_eq name) (peers role)

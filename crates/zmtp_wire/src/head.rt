@@ -1,0 +1,170 @@
+//! What the first bytes of an item say.
+ghost use Rattle.std.specs.Prelude.{◌≡◌, ◌≤◌, length};
+ghost use Rattle.zmtp_wire.specs.Greeting.{broken_by, first_broken};
+ghost use Rattle.zmtp_wire.specs.Framing.{kind_of, is_long, refusal};
+ghost use Rattle.zmtp_wire.specs.Head.{head_of, frame_head, long_size, room_at};
+
+use crate::cause::Cause;
+
+/// What a stream has come to: its greeting, the handshake, then traffic.
+#[derive(Clone, Copy, PartialEq, Eq, Debug)]
+pub enum Stage {
+    Greeting,
+    Handshake,
+    Traffic,
+}
+
+/// A frame is a command, or one of a message, with more frames of that message behind it or not.
+#[derive(Clone, Copy)]
+pub enum Kind {
+    Command,
+    Message(bool),
+}
+
+/// What the first bytes of an item say.
+#[derive(Clone, Copy)]
+pub enum Head {
+    /// More bytes are wanted.
+    Wants,
+    /// No item may begin so.
+    Bad(Cause),
+    /// A whole greeting stands here.
+    Greets,
+    /// A frame of this kind, whose body begins at this place and has this size.
+    Sized(Kind, usize, usize),
+}
+
+/// The bytes of a greeting.
+pub const GREETING_SIZE: usize = 64;
+
+// The byte of the mechanism NULL at this place of the greeting.
+#[tactic(auto, unfolding(crate::specs::Greeting::broken_by))]
+fn broken_at(place: usize, byte: u8) -> Option<Cause>
+    ensures { result ≡ broken_by place byte }
+{
+    let (good, cause) = match place {
+        0 => (byte == 0xff, Cause::Signature),
+        9 => (byte == 0x7f, Cause::Signature),
+        10 => (byte >= 3, Cause::Version),
+        12 => (byte == b'N', Cause::Mechanism),
+        13 => (byte == b'U', Cause::Mechanism),
+        14 | 15 => (byte == b'L', Cause::Mechanism),
+        16..32 => (byte == 0, Cause::Mechanism),
+        _ => (true, Cause::Signature),
+    };
+    if good { None } else { Some(cause) }
+}
+
+// What the first wrong byte of a greeting breaks; the bytes begin at this place of it.
+fn first_broken_from(place: usize, bytes: &[u8]) -> Option<Cause>
+    ensures { result ≡ first_broken place bytes.now }
+{
+    if place >= 32 {
+        return None;
+    }
+    let (byte, others) = bytes.split_first()?;
+    match broken_at(place, *byte) {
+        Some(cause) => Some(cause),
+        None => first_broken_from(place + 1, others),
+    }
+}
+
+fn kind_of_flag(flag: u8) -> Option<Kind>
+    ensures { result ≡ kind_of flag }
+{
+    match flag {
+        0 | 2 => Some(Kind::Message(false)),
+        1 | 3 => Some(Kind::Message(true)),
+        4 | 6 => Some(Kind::Command),
+        _ => None,
+    }
+}
+
+// Why a frame may not come here, behind this many frames of its message.
+fn refusal_of(stage: Stage, count: usize, kind: Kind) -> Option<Cause>
+    ensures { result ≡ refusal stage count kind }
+{
+    match (stage, kind) {
+        (Stage::Greeting, _) => Some(Cause::Flags),
+        (Stage::Handshake, Kind::Message(_)) => Some(Cause::Command),
+        (Stage::Handshake, Kind::Command) => None,
+        (Stage::Traffic, Kind::Message(false)) => None,
+        (Stage::Traffic, Kind::Message(true)) if count >= 63 => Some(Cause::FrameCount),
+        (Stage::Traffic, Kind::Message(true)) => None,
+        (Stage::Traffic, Kind::Command) if count == 0 => None,
+        (Stage::Traffic, Kind::Command) => Some(Cause::Command),
+    }
+}
+
+// The largest that a size may say with this many of its bytes to come.
+fn room_with(left: usize) -> u64
+    ensures { result ≡ room_at left }
+{
+    match left {
+        0 => 1_048_576,
+        1 => 4096,
+        2 => 16,
+        _ => 0,
+    }
+}
+
+// What a long size says, with this many of its bytes to come.
+fn long_size_from(kind: Kind, left: usize, size: u64, bytes: &[u8]) -> Head
+    requires left { left ≤ 8 }
+    requires size { size ≤ 1048576 }
+    ensures { result ≡ long_size kind left size bytes.now }
+{
+    if left == 0 {
+        return Head::Sized(kind, 9, size as usize);
+    }
+    let Some((byte, others)) = bytes.split_first() else {
+        return Head::Wants;
+    };
+    let size = size * 256 + u64::from(*byte);
+    if size > room_with(left - 1) {
+        return Head::Bad(Cause::FrameSize);
+    }
+    long_size_from(kind, left - 1, size, others)
+}
+
+fn read_frame_head(stage: Stage, count: usize, bytes: &[u8]) -> Head
+    ensures { result ≡ frame_head stage count bytes.now }
+{
+    let Some((flag, others)) = bytes.split_first() else {
+        return Head::Wants;
+    };
+    let flag = *flag;
+    let Some(kind) = kind_of_flag(flag) else {
+        return Head::Bad(Cause::Flags);
+    };
+    if let Some(cause) = refusal_of(stage, count, kind) {
+        return Head::Bad(cause);
+    }
+    if flag == 2 || flag == 3 || flag == 6 {
+        return long_size_from(kind, 8, 0, others);
+    }
+    match others.first() {
+        None => Head::Wants,
+        Some(size) => Head::Sized(kind, 2, *size as usize),
+    }
+}
+
+/// What the bytes of an item say, where this many frames of its message came before it.
+pub fn read_head(stage: Stage, count: usize, bytes: &[u8]) -> Head
+    ensures { result ≡ head_of stage count bytes.now }
+{
+    match stage {
+        Stage::Greeting => {
+            if let Some(cause) = first_broken_from(0, bytes) {
+                return Head::Bad(cause);
+            }
+            if bytes.len() >= GREETING_SIZE {
+                Head::Greets
+            } else {
+                Head::Wants
+            }
+        }
+        Stage::Handshake => read_frame_head(Stage::Handshake, count, bytes),
+        Stage::Traffic => read_frame_head(Stage::Traffic, count, bytes),
+    }
+}

@@ -1,0 +1,195 @@
+//! A feed on its way through the bytes that it has: item by item, until none is whole.
+ghost use Rattle.std.specs.Prelude.{◌≡◌, ◌≤◌, [], length, drop, Option, List, ℕ, OnOk, OnErr, IfOk, option_copied};
+ghost use Rattle.zmtp_wire.specs.Stream.{Reads, Step, with_frame};
+ghost use Rattle.zmtp_wire.specs.Progress.{got_in, Takes, TakesCommand, TakesBody, EndsAt, SameMessages, KeepsFirst, FirstFrames};
+
+use crate::bytes::{Bytes, Frames};
+use crate::cause::Cause;
+use crate::command::{is_skipped, read_ready};
+use crate::head::{GREETING_SIZE, Head, Kind, Stage, read_head};
+use crate::role::Role;
+use std::alloc::{AllocError, Global};
+use std::mem;
+
+/// The peer's READY, which was accepted.
+#[derive(Drop)]
+pub struct Ready {
+    pub identity: Option<Bytes>,
+}
+
+/// What a feed has come to.
+#[derive(Drop)]
+pub struct Progress {
+    pub stage: Stage,
+    /// The READY that came in this feed.
+    pub accepted: Option<Ready>,
+    /// The frames of the message that has begun.
+    pub frames: Frames,
+    /// The messages that this feed has completed.
+    pub messages: Vec<Frames>,
+}
+
+/// What stands at the front of bytes.
+#[derive(Drop)]
+pub enum Taken {
+    /// An item of this many bytes.
+    Item(usize),
+    /// None that is whole.
+    Partial,
+    /// One that breaks the stream.
+    Broken(Cause),
+}
+
+// Puts a whole frame of a message behind the others.
+fn add_frame(
+    alloc: Global,
+    progress: &mut Progress,
+    more: bool,
+    body: &[u8],
+) -> Result<(), AllocError>
+    ensures ok { OnOk result ((before : Option (List ℕ)) → got_in progress.new before ≡ with_frame (got_in progress.old before) more body.now) }
+    ensures err { OnErr result (SameMessages progress.old progress.new) }
+{
+    let frame = Bytes::copy_of(alloc, body)?;
+    if more {
+        progress.frames.push(frame)?;
+        return Ok(());
+    }
+    progress.messages.reserve(1)?;
+    progress.frames.push(frame)?;
+    let whole = mem::replace(&mut progress.frames, Frames::new(alloc));
+    progress.messages.push_reserved(whole);
+    Ok(())
+}
+
+fn copy_identity(alloc: Global, identity: Option<&[u8]>) -> Result<Option<Bytes>, AllocError>
+    ensures { IfOk result (λ copied. copied ≡ option_copied identity.entry) }
+{
+    match identity {
+        Some(identity) => {
+            let copied = Bytes::copy_of(alloc, identity)?;
+            Ok(Some(copied))
+        }
+        None => Ok(None),
+    }
+}
+
+// Takes in a command's content, or tells why it is refused.
+fn take_command(
+    alloc: Global,
+    role: Role,
+    progress: &mut Progress,
+    body: &[u8],
+) -> Result<Option<Cause>, AllocError>
+    requires { progress.old.stage ≡ Stage.Greeting → ⊥ }
+    ensures ok { IfOk result (λ cause. TakesCommand role body.now cause progress.old progress.new) }
+    ensures err { OnErr result (progress.new ≡ progress.old) }
+{
+    match progress.stage {
+        Stage::Handshake => match read_ready(role, body) {
+            Ok(identity) => {
+                let identity = copy_identity(alloc, identity)?;
+                progress.accepted = Some(Ready { identity });
+                progress.stage = Stage::Traffic;
+                Ok(None)
+            }
+            Err(cause) => Ok(Some(cause)),
+        },
+        _ if is_skipped(body) => Ok(None),
+        _ => Ok(Some(Cause::Command)),
+    }
+}
+
+// Takes in a frame's body.
+fn take_body(
+    alloc: Global,
+    role: Role,
+    progress: &mut Progress,
+    kind: Kind,
+    body: &[u8],
+) -> Result<Option<Cause>, AllocError>
+    requires { progress.old.stage ≡ Stage.Greeting → ⊥ }
+    ensures ok { IfOk result (λ cause. TakesBody role kind body.now cause progress.old progress.new) }
+    ensures err { OnErr result (SameMessages progress.old progress.new) }
+{
+    match kind {
+        Kind::Command => take_command(alloc, role, progress, body),
+        Kind::Message(more) => {
+            add_frame(alloc, progress, more, body)?;
+            Ok(None)
+        }
+    }
+}
+
+// Takes in what stands at the front of the bytes.
+fn take_item(
+    alloc: Global,
+    role: Role,
+    progress: &mut Progress,
+    bytes: &[u8],
+) -> Result<Taken, AllocError>
+    ensures ok { IfOk result (λ taken. Takes role bytes.now taken progress.old progress.new) }
+    ensures err { OnErr result (SameMessages progress.old progress.new) }
+{
+    match read_head(progress.stage, progress.frames.len(), bytes) {
+        Head::Wants => Ok(Taken::Partial),
+        Head::Bad(cause) => Ok(Taken::Broken(cause)),
+        Head::Greets => {
+            progress.stage = Stage::Handshake;
+            Ok(Taken::Item(GREETING_SIZE))
+        }
+        Head::Sized(kind, from, size) => {
+            if from > bytes.len() || size > bytes.len() - from {
+                return Ok(Taken::Partial);
+            }
+            let body = &bytes[from..from + size];
+            match take_body(alloc, role, progress, kind, body)? {
+                None => Ok(Taken::Item(from + size)),
+                Some(cause) => Ok(Taken::Broken(cause)),
+            }
+        }
+    }
+}
+
+/// Takes in the whole items at the front of the bytes, and tells how many bytes these had and which
+/// fault comes behind them.
+pub fn take_items(
+    alloc: Global,
+    role: Role,
+    progress: &mut Progress,
+    bytes: &[u8],
+) -> Result<(usize, Option<Cause>), AllocError>
+    ensures count { IfOk result (λ r. r.0 ≤ length bytes.now) }
+    ensures reads { IfOk result (λ r. (before : Option (List ℕ)) → Reads role (got_in progress.old before) bytes.now (got_in progress.new before) (drop r.0 bytes.now)) }
+    ensures ends { IfOk result (λ r. EndsAt role (drop r.0 bytes.now) r.1 progress.new) }
+    ensures err { OnErr result (progress.old.messages.items ≡ [] → KeepsFirst progress.old.frames progress.new.messages.items progress.new.frames) }
+{
+    let mut place = 0usize;
+    while place <= bytes.len() {
+        match take_item(alloc, role, progress, &bytes[place..])? {
+            Taken::Item(size) => place += size,
+            Taken::Partial => return Ok((place, None)),
+            Taken::Broken(cause) => return Ok((place, Some(cause))),
+        }
+    }
+    unreachable!()
+}
+
+/// The frames that had come of a message before this feed, which were so many.
+pub fn first_frames(progress: Progress, count: usize) -> Frames
+    ensures { FirstFrames progress.messages.items progress.frames result count }
+{
+    let Progress {
+        stage: _,
+        accepted: _,
+        mut frames,
+        mut messages,
+    } = progress;
+    if messages.is_empty() {
+        frames.truncate(count);
+        return frames;
+    }
+    let mut first = messages.swap_remove(0);
+    first.truncate(count);
+    first
+}
