@@ -1,16 +1,14 @@
-//! The processor and its memory: one step at a time, by the instruction that `decode` reads.
+//! The processor and its memory, what its instructions are made of, and one step at a time.
 ghost use Rattle.std.specs.Prelude.{◌≡◌, ◌+◌, ◌*◌, ◌≤◌, ◌++◌, List, ℕ, length, replicate, IfOk, IfSome, IfNone, Some, None};
 ghost use Rattle.i80_rows.specs.declared.arithmetic.AluResult.{AluResult};
+ghost use Rattle.i80_rows.specs.declared.instruction.Instr.TheVariants.{Xthl};
 ghost use Rattle.i80_exec.specs.State.{
   byte_at,
   stored,
   word_at,
   stored_word,
-  get,
-  put,
   get_pair,
   put_pair,
-  get_index,
   get_stack_pair,
   put_stack_pair,
   with_regs,
@@ -23,7 +21,6 @@ ghost use Rattle.i80_exec.specs.State.{
 ghost use Rattle.i80_exec.specs.Effect.{
   effect,
   to_a,
-  to_reg,
   operated,
   holds,
   added_to_hl,
@@ -35,23 +32,22 @@ ghost use Rattle.i80_exec.specs.Effect.{
 };
 ghost use Rattle.i80_exec.specs.Step.{
   instruction,
-  executed,
   acceptance,
-  interrupts_after,
   operation_list,
   state_after,
   IsOutcome,
   Performs,
 };
 
+mod opcodes;
+#[cfg(test)]
+mod plain;
+
 use crate::ports::Ports;
 use crate::registers::{Interrupts, Registers, Stepped};
-use i80_rows::arithmetic::{
-    AluResult, alu_add, alu_and, alu_or, alu_sub, alu_xor, daa, dcr, inr, rotate,
-};
-use i80_rows::decoding::decode;
+use i80_rows::arithmetic::{AluResult, alu_add, alu_and, alu_or, alu_sub, alu_xor};
 use i80_rows::flags::Flags;
-use i80_rows::instruction::{Cond, IndexPair, Instr, Operation, Pair, Reg, StackPair};
+use i80_rows::instruction::{Cond, Operation, Pair, StackPair};
 use std::alloc::{AllocError, Global};
 use std::marker::Model;
 
@@ -100,6 +96,7 @@ impl Machine {
     }
 
     /// The byte at an address.
+    #[inline]
     pub fn peek(&self, address: u16) -> u8
         ensures { result ≡ byte_at self.now address }
     {
@@ -107,6 +104,7 @@ impl Machine {
     }
 
     /// Sets the byte at an address.
+    #[inline]
     pub fn poke(&mut self, address: u16, byte: u8)
         ensures { self.new ≡ stored self.old address byte }
     {
@@ -114,6 +112,7 @@ impl Machine {
     }
 
     /// All but the memory.
+    #[inline]
     pub fn regs(&self) -> Registers
         ensures { result ≡ self.now.regs }
     {
@@ -134,6 +133,7 @@ impl Machine {
         self.regs.pc = address;
     }
 
+    #[inline(always)]
     /// Does the instruction at PC, by the table of 256 rows. An undefined opcode changes nothing.
     pub fn step<P: Ports>(&mut self, ports: &mut P) -> Stepped
         requires { 1 ≤ P.spare ports.old }
@@ -142,7 +142,7 @@ impl Machine {
             × Performs outcome.operation P.after (P.operations ports.old) (P.operations ports.new)
             (P.state ports.old) (P.state ports.new) (P.spare ports.old) (P.spare ports.new) }
     {
-        self.step_by_table(ports)
+        self.step_at_pc(ports)
     }
 
     /// Accepts an interrupt request for RST `vector`, where interrupts are on: PC is pushed as it
@@ -162,7 +162,8 @@ impl Machine {
         }
     }
 
-    fn step_by_table<P: Ports>(&mut self, ports: &mut P) -> Stepped
+    #[inline(always)]
+    fn step_at_pc<P: Ports>(&mut self, ports: &mut P) -> Stepped
         requires { 1 ≤ P.spare ports.old }
         ensures after { self.new ≡ (instruction (P.answer (P.state ports.old)) self.old).after }
         ensures answer { result ≡ (instruction (P.answer (P.state ports.old)) self.old).answer }
@@ -174,137 +175,11 @@ impl Machine {
             + length (operation_list (instruction (P.answer (P.state ports.old)) self.old).operation)
             ≡ P.spare ports.old }
     {
-        let pc = self.regs.pc;
-        let window = [
-            self.peek(pc),
-            self.peek(pc.wrapping_add(1)),
-            self.peek(pc.wrapping_add(2)),
-        ];
-        match decode(&window) {
-            Ok((instr, size)) => self.execute(instr, size, ports),
-            Err(_) => Stepped::Undefined { opcode: window[0] },
-        }
+        let opcode = self.peek(self.regs.pc);
+        self.step_opcode(opcode, ports)
     }
 
-    fn execute<P: Ports>(&mut self, instr: Instr, size: u8, ports: &mut P) -> Stepped
-        requires { 1 ≤ P.spare ports.old }
-        ensures after { self.new ≡ (executed instr size (P.answer (P.state ports.old)) self.old).after }
-        ensures answer { result ≡ (executed instr size (P.answer (P.state ports.old)) self.old).answer }
-        ensures operations { P.operations ports.new ≡ P.operations ports.old
-            ++ operation_list (executed instr size (P.answer (P.state ports.old)) self.old).operation }
-        ensures state { P.state ports.new ≡ state_after P.after (P.state ports.old)
-            (executed instr size (P.answer (P.state ports.old)) self.old).operation }
-        ensures spare { P.spare ports.new
-            + length (operation_list (executed instr size (P.answer (P.state ports.old)) self.old).operation)
-            ≡ P.spare ports.old }
-    {
-        let began = self.regs.interrupts;
-        self.jump(self.regs.pc.wrapping_add(size as u16));
-        let stepped = self.carry_out(instr, ports);
-        self.settle_interrupts(instr, began);
-        stepped
-    }
-
-    fn carry_out<P: Ports>(&mut self, instr: Instr, ports: &mut P) -> Stepped
-        requires { 1 ≤ P.spare ports.old }
-        ensures after { self.new ≡ (effect instr (P.answer (P.state ports.old)) self.old).after }
-        ensures answer { result ≡ (effect instr (P.answer (P.state ports.old)) self.old).answer }
-        ensures operations { P.operations ports.new ≡ P.operations ports.old
-            ++ operation_list (effect instr (P.answer (P.state ports.old)) self.old).operation }
-        ensures state { P.state ports.new ≡ state_after P.after (P.state ports.old)
-            (effect instr (P.answer (P.state ports.old)) self.old).operation }
-        ensures spare { P.spare ports.new
-            + length (operation_list (effect instr (P.answer (P.state ports.old)) self.old).operation)
-            ≡ P.spare ports.old }
-    {
-        match instr {
-            Instr::Nop | Instr::Di | Instr::Ei => {}
-            Instr::Lxi(pair, word) => self.put_pair(pair, word),
-            Instr::Stax(pair) => self.poke(self.get_index(pair), self.regs.a),
-            Instr::Ldax(pair) => self.regs.a = self.peek(self.get_index(pair)),
-            Instr::Shld(address) => self.store_word(address, self.get_pair(Pair::H)),
-            Instr::Lhld(address) => self.put_pair(Pair::H, self.word_at(address)),
-            Instr::Sta(address) => self.poke(address, self.regs.a),
-            Instr::Lda(address) => self.regs.a = self.peek(address),
-            Instr::Inx(pair) => self.put_pair(pair, self.get_pair(pair).wrapping_add(1)),
-            Instr::Dcx(pair) => self.put_pair(pair, self.get_pair(pair).wrapping_sub(1)),
-            Instr::Dad(pair) => self.add_to_hl(self.get_pair(pair)),
-            Instr::Inr(reg) => self.set_reg(reg, inr(self.get(reg), self.regs.flags.carry())),
-            Instr::Dcr(reg) => self.set_reg(reg, dcr(self.get(reg), self.regs.flags.carry())),
-            Instr::Mvi(reg, byte) => self.put(reg, byte),
-            Instr::Rotate(rotation) => self.set_a(rotate(rotation, self.regs.a, self.regs.flags)),
-            Instr::Daa => self.set_a(daa(self.regs.a, self.regs.flags)),
-            Instr::Cma => self.regs.a = !self.regs.a,
-            Instr::Stc => self.regs.flags = self.regs.flags.with_carry(true),
-            Instr::Cmc => self.regs.flags = self.regs.flags.with_carry(!self.regs.flags.carry()),
-            Instr::Mov(to, from) => self.put(to.into(), self.get(from.into())),
-            Instr::MovFromM(to) => self.put(to.into(), self.get(Reg::M)),
-            Instr::MovToM(from) => self.put(Reg::M, self.get(from.into())),
-            Instr::Hlt => return Stepped::Halted,
-            Instr::Alu(operation, reg) => self.operate(operation, self.get(reg)),
-            Instr::AluImmediate(operation, byte) => self.operate(operation, byte),
-            Instr::Jmp(address) => self.jump(address),
-            Instr::JumpIf(cond, address) => self.jump_if(cond, address),
-            Instr::Call(address) => return self.call(address),
-            Instr::CallIf(cond, address) => return self.call_if(cond, address),
-            Instr::Ret => return self.ret(),
-            Instr::RetIf(cond) => return self.ret_if(cond),
-            Instr::Rst(vector) => return self.call(8 * vector.number() as u16),
-            Instr::Push(pair) => self.push_word(self.get_stack_pair(pair)),
-            Instr::Pop(pair) => self.pop(pair),
-            Instr::Xthl => self.exchange_with_stack(),
-            Instr::Xchg => self.exchange_with_de(),
-            Instr::Pchl => self.jump(self.get_pair(Pair::H)),
-            Instr::Sphl => self.regs.sp = self.get_pair(Pair::H),
-            Instr::Out(port) => ports.output(port, self.regs.a),
-            Instr::In(port) => self.regs.a = ports.input(port),
-        }
-        Stepped::Done
-    }
-
-    fn settle_interrupts(&mut self, instr: Instr, began: Interrupts)
-        ensures { self.new ≡ with_interrupts self.old (interrupts_after instr began) }
-    {
-        self.regs.interrupts = match (instr, began) {
-            (Instr::Ei, _) => Interrupts::Arming,
-            (Instr::Di, _) | (_, Interrupts::Off) => Interrupts::Off,
-            _ => Interrupts::On,
-        };
-    }
-
-    fn get(&self, reg: Reg) -> u8
-        ensures { result ≡ get self.now reg }
-    {
-        match reg {
-            Reg::B => self.regs.b,
-            Reg::C => self.regs.c,
-            Reg::D => self.regs.d,
-            Reg::E => self.regs.e,
-            Reg::H => self.regs.h,
-            Reg::L => self.regs.l,
-            Reg::M => self.peek(self.get_pair(Pair::H)),
-            Reg::A => self.regs.a,
-        }
-    }
-
-    fn put(&mut self, reg: Reg, byte: u8)
-        ensures { self.new ≡ put self.old reg byte }
-    {
-        match reg {
-            Reg::B => self.regs.b = byte,
-            Reg::C => self.regs.c = byte,
-            Reg::D => self.regs.d = byte,
-            Reg::E => self.regs.e = byte,
-            Reg::H => self.regs.h = byte,
-            Reg::L => self.regs.l = byte,
-            Reg::M => {
-                let address = self.get_pair(Pair::H);
-                self.poke(address, byte);
-            }
-            Reg::A => self.regs.a = byte,
-        }
-    }
-
+    #[inline(always)]
     fn get_pair(&self, pair: Pair) -> u16
         ensures { result ≡ get_pair self.now pair }
     {
@@ -316,6 +191,7 @@ impl Machine {
         }
     }
 
+    #[inline]
     fn put_pair(&mut self, pair: Pair, word: u16)
         ensures { self.new ≡ put_pair self.old pair word }
     {
@@ -337,15 +213,7 @@ impl Machine {
         }
     }
 
-    fn get_index(&self, pair: IndexPair) -> u16
-        ensures { result ≡ get_index self.now pair }
-    {
-        match pair {
-            IndexPair::B => self.get_pair(Pair::B),
-            IndexPair::D => self.get_pair(Pair::D),
-        }
-    }
-
+    #[inline]
     fn get_stack_pair(&self, pair: StackPair) -> u16
         ensures { result ≡ get_stack_pair self.now pair }
     {
@@ -357,6 +225,7 @@ impl Machine {
         }
     }
 
+    #[inline]
     fn put_stack_pair(&mut self, pair: StackPair, word: u16)
         ensures { self.new ≡ put_stack_pair self.old pair word }
     {
@@ -372,12 +241,14 @@ impl Machine {
         }
     }
 
+    #[inline]
     fn word_at(&self, address: u16) -> u16
         ensures { result ≡ word_at self.now address }
     {
         u16::from_le_bytes([self.peek(address), self.peek(address.wrapping_add(1))])
     }
 
+    #[inline]
     fn store_word(&mut self, address: u16, word: u16)
         ensures { self.new ≡ stored_word self.old address word }
     {
@@ -386,6 +257,7 @@ impl Machine {
         self.poke(address.wrapping_add(1), high);
     }
 
+    #[inline]
     fn set_a(&mut self, computed: AluResult)
         ensures { self.new ≡ to_a self.old computed }
     {
@@ -393,13 +265,7 @@ impl Machine {
         self.regs.flags = computed.flags;
     }
 
-    fn set_reg(&mut self, reg: Reg, computed: AluResult)
-        ensures { self.new ≡ to_reg self.old reg computed }
-    {
-        self.put(reg, computed.value);
-        self.regs.flags = computed.flags;
-    }
-
+    #[inline]
     fn operate(&mut self, operation: Operation, byte: u8)
         ensures { self.new ≡ operated operation self.old byte }
     {
@@ -417,6 +283,7 @@ impl Machine {
         }
     }
 
+    #[inline]
     fn add_to_hl(&mut self, word: u16)
         ensures { self.new ≡ added_to_hl self.old word }
     {
@@ -425,6 +292,7 @@ impl Machine {
         self.regs.flags = self.regs.flags.with_carry(carry);
     }
 
+    #[inline]
     fn holds(&self, cond: Cond) -> bool
         ensures { result ≡ holds cond self.now.regs.flags }
     {
@@ -441,20 +309,14 @@ impl Machine {
         }
     }
 
+    #[inline]
     fn jump(&mut self, address: u16)
         ensures { self.new ≡ with_pc self.old address }
     {
         self.regs.pc = address;
     }
 
-    fn jump_if(&mut self, cond: Cond, address: u16)
-        ensures { self.new ≡ (effect (Instr.JumpIf cond address) (λ _. 0) self.old).after }
-    {
-        if self.holds(cond) {
-            self.jump(address);
-        }
-    }
-
+    #[inline]
     fn push_word(&mut self, word: u16)
         ensures { self.new ≡ pushed self.old word }
     {
@@ -465,6 +327,7 @@ impl Machine {
         self.regs.sp = top.wrapping_sub(2);
     }
 
+    #[inline]
     fn pop_word(&mut self) -> u16
         ensures after { self.new ≡ popped self.old }
         ensures word { result ≡ word_at self.old self.old.regs.sp }
@@ -474,13 +337,7 @@ impl Machine {
         word
     }
 
-    fn pop(&mut self, pair: StackPair)
-        ensures { self.new ≡ (effect (Instr.Pop pair) (λ _. 0) self.old).after }
-    {
-        let word = self.pop_word();
-        self.put_stack_pair(pair, word);
-    }
-
+    #[inline]
     fn call(&mut self, target: u16) -> Stepped
         ensures after { self.new ≡ (called self.old target).after }
         ensures answer { result ≡ (called self.old target).answer }
@@ -493,17 +350,7 @@ impl Machine {
         }
     }
 
-    fn call_if(&mut self, cond: Cond, target: u16) -> Stepped
-        ensures after { self.new ≡ (effect (Instr.CallIf cond target) (λ _. 0) self.old).after }
-        ensures answer { result ≡ (effect (Instr.CallIf cond target) (λ _. 0) self.old).answer }
-    {
-        if self.holds(cond) {
-            self.call(target)
-        } else {
-            Stepped::Done
-        }
-    }
-
+    #[inline]
     fn ret(&mut self) -> Stepped
         ensures after { self.new ≡ (returned self.old).after }
         ensures answer { result ≡ (returned self.old).answer }
@@ -514,19 +361,9 @@ impl Machine {
         Stepped::Returned { slot }
     }
 
-    fn ret_if(&mut self, cond: Cond) -> Stepped
-        ensures after { self.new ≡ (effect (Instr.RetIf cond) (λ _. 0) self.old).after }
-        ensures answer { result ≡ (effect (Instr.RetIf cond) (λ _. 0) self.old).answer }
-    {
-        if self.holds(cond) {
-            self.ret()
-        } else {
-            Stepped::Done
-        }
-    }
-
+    #[inline]
     fn exchange_with_stack(&mut self)
-        ensures { self.new ≡ (effect Instr.Xthl (λ _. 0) self.old).after }
+        ensures { self.new ≡ (effect Xthl (λ _. 0) self.old).after }
     {
         let word = self.word_at(self.regs.sp);
         let held = self.get_pair(Pair::H);
@@ -534,6 +371,7 @@ impl Machine {
         self.put_pair(Pair::H, word);
     }
 
+    #[inline]
     fn exchange_with_de(&mut self)
         ensures { self.new ≡ exchanged self.old }
     {

@@ -240,3 +240,61 @@ fn in_and_out_are_the_ports_operations(rt: HostRuntime) -> Result<(), Fail> {
     assert_eq!(rt; machine.regs().pc, 5);
     Ok(())
 }
+
+/// The flags with the bits of a number below 32, in the order of the flag byte.
+fn flags_numbered(number: u8) -> Flags {
+    Flags::new(
+        number & 16 != 0,
+        number & 8 != 0,
+        number & 4 != 0,
+        number & 2 != 0,
+        number & 1 != 0,
+    )
+}
+
+#[test]
+fn the_plain_body_agrees_on_every_opcode_and_flag(rt: HostRuntime) -> Result<(), Fail> {
+    for opcode in 0..=255u8 {
+        let mut fast = machine_at(rt.alloc(), 0x0100, &[opcode, 0x0f, 0x9a])?;
+        let mut plain = machine_at(rt.alloc(), 0x0100, &[opcode, 0x0f, 0x9a])?;
+        for number in 0..32u8 {
+            let before = Registers {
+                b: 0x20,
+                c: number.wrapping_mul(41),
+                d: 0x30,
+                e: 0xfe,
+                flags: flags_numbered(number),
+                pc: 0x0100,
+                interrupts: match number % 3 {
+                    0 => Interrupts::Off,
+                    1 => Interrupts::Arming,
+                    _ => Interrupts::On,
+                },
+                ..registers(number.wrapping_mul(29), 0, 0x4fff, 0x6001)
+            };
+            fast.set_regs(before);
+            plain.set_regs(before);
+            let mut fast_ports = Recorder::new(rt.alloc(), 0x5a)?;
+            let mut plain_ports = Recorder::new(rt.alloc(), 0x5a)?;
+            let stepped = fast.step(&mut fast_ports);
+            assert_eq!(rt;
+                stepped,
+                plain.plain_step(&mut plain_ports),
+                "{opcode:x} {number}"
+            );
+            assert_eq!(rt; fast.regs(), plain.regs(), "{opcode:x} {number}");
+            assert_eq!(rt;
+                fast_ports.operations.as_slice(),
+                plain_ports.operations.as_slice()
+            );
+        }
+        for address in 0..=0xffffu16 {
+            assert_eq!(rt;
+                fast.peek(address),
+                plain.peek(address),
+                "{opcode:x} {address:x}"
+            );
+        }
+    }
+    Ok(())
+}

@@ -1,22 +1,14 @@
 -- The bit operations of the code are the sums and digits of the definitions.
-use Rattle.std.proofs.Common.{◌≡◌, ℕ, ◌+◌, ◌-◌, ◌*◌, ◌/◌, ◌%◌, ◌<◌, ◌≤◌, Bool, true, false, not, ◌||◌, ◌==◌, nat_eq, nat_lt, nat_le, refl, ap, ◌∙◌, bit_and, bit_or, bit_xor, arith, max}
+use Rattle.std.proofs.Common.{◌≡◌, ℕ, ◌+◌, ◌-◌, ◌*◌, ◌/◌, ◌%◌, ◌^◌, ◌<◌, ◌≤◌, Bool, true, false, not, ◌||◌, ◌==◌, nat_eq, nat_lt, nat_le, refl, sym, ap, ◌∙◌, bit_and, bit_or, bit_xor, arith, List, max}
 use Rattle.std.proofs.lemmas.Nat.{and_mask}
 use Rattle.std.proofs.lemmas.Nat.Bits.{and_pow, bit_at_xor, bit_at_or, bit_at-lt}
 use Rattle.std.specs.Int.{bit_at, from_bool}
 use Rattle.std.proofs.lemmas.Bool.Decides.{nat_tests}
-use lib.Count.{ones}
 use Rattle.i80_rows.specs.declared.instruction.Rotation.TheVariants.{Rlc, Rrc, Ral, Rar}
 use Rattle.i80_rows.specs.declared.arithmetic.AluResult.{AluResult}
-use Rattle.i80_rows.specs.FlagValues.{FlagValues, is_set}
-use Rattle.i80_rows.specs.Arithmetic.{is_even, by_digits, with_flags, sum, increment, decrement, adjusted, rotated, turned}
+use Rattle.i80_rows.specs.FlagValues.{FlagValues, digit, is_set}
+use Rattle.i80_rows.specs.Arithmetic.{is_even, by_digits, with_flags, sum, increment, decrement, exclusive, conjunction, adjusted, rotated, turned}
 use Rattle.i80_rows.proofs.Tables.{agree, table}
-
-pub even_by_ones : (x : ℕ) → x < 256 → nat_eq (bit_and (ones x) 1) 0 ≡ is_even x
-unfolding ones
-even_by_ones = agree (λ x. nat_eq (bit_and (ones x) 1) 0) is_even 256 refl
-
-pub sign_by_mask : (x : ℕ) → x < 256 → not (nat_eq (bit_and x 128) 0) ≡ nat_le 128 x
-sign_by_mask = agree (λ x. not (nat_eq (bit_and x 128) 0)) (λ x. nat_le 128 x) 256 refl
 
 pub carry_by_mask : (x : ℕ) → x < 512 → not (nat_eq (bit_and x 256) 0) ≡ nat_lt 255 x
 carry_by_mask = agree (λ x. not (nat_eq (bit_and x 256) 0)) (λ x. nat_lt 255 x) 512 refl

@@ -3,3 +3,4 @@ pub mod FlagLemmas
 pub mod ArithmeticLemmas
 pub mod EncodeLemmas
 pub mod DecodeLemmas
+pub mod TableLemmas

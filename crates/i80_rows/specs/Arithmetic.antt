@@ -10,12 +10,12 @@ use Rattle.i80_rows.specs.FlagValues.{FlagValues, digit, is_set}
 abbrev pub is_even : ℕ → Bool
 is_even x = (digit x 0 + digit x 1 + digit x 2 + digit x 3 + digit x 4 + digit x 5 + digit x 6 + digit x 7) % 2 == 0
 
--- a result with the sign, zero and parity that it shows, and these carries
+-- the sign, zero and parity that a result shows, and these carries
+abbrev pub shown_by : ℕ → Bool → Bool → FlagValues
+shown_by value ac cy = record { s = nat_le 128 value; z = value == 0; ac = ac; p = is_even value; cy = cy }
+
 abbrev pub with_flags : ℕ → Bool → Bool → AluResult
-with_flags value ac cy = record {
-  value = value;
-  flags = record { s = nat_le 128 value; z = value == 0; ac = ac; p = is_even value; cy = cy };
-}
+with_flags value ac cy = record { value = value; flags = shown_by value ac cy }
 
 -- the same result with this carry
 abbrev pub with_carry : Bool → AluResult → AluResult

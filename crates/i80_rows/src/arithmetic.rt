@@ -2,7 +2,6 @@
 //! (8080 User's Manual, chapter 4, "Arithmetic Group" and "Logical Group").
 ghost use Rattle.std.specs.Prelude.{◌≡◌};
 ghost use Rattle.i80_rows.specs.Arithmetic.{
-  is_even,
   with_flags,
   sum,
   difference,
@@ -26,24 +25,18 @@ pub struct AluResult {
     pub flags: Flags,
 }
 
-fn is_even_count(value: u8) -> bool
-    ensures { result ≡ is_even value }
-{
-    value.count_ones() & 1 == 0
-}
-
+#[inline]
 fn with_result(value: u8, auxiliary_carry: bool, carry: bool) -> AluResult
     ensures { result ≡ with_flags value auxiliary_carry carry }
 {
-    let sign = value & 0x80 != 0;
-    let parity = is_even_count(value);
     AluResult {
         value,
-        flags: Flags::new(sign, value == 0, auxiliary_carry, parity, carry),
+        flags: Flags::of_result(value, auxiliary_carry, carry),
     }
 }
 
 /// The sum of two bytes and a carry: ADD, ADC, ADI, ACI.
+#[inline]
 pub fn alu_add(x: u8, y: u8, carry: bool) -> AluResult
     ensures { result ≡ sum x y carry }
 {
@@ -55,6 +48,7 @@ pub fn alu_add(x: u8, y: u8, carry: bool) -> AluResult
 
 /// The difference of two bytes and a borrow: SUB, SBB, SUI, SBI, CMP, CPI. The complement of `y`
 /// and of the borrow is added, so AC is the carry out of bit 3 of that sum and CY tells a borrow.
+#[inline]
 pub fn alu_sub(x: u8, y: u8, borrow: bool) -> AluResult
     ensures { result ≡ difference x y borrow }
 {
@@ -66,6 +60,7 @@ pub fn alu_sub(x: u8, y: u8, borrow: bool) -> AluResult
 }
 
 /// The bitwise AND: ANA, ANI. CY is cleared, AC is the OR of bit 3 of the operands.
+#[inline]
 pub fn alu_and(x: u8, y: u8) -> AluResult
     ensures { result ≡ conjunction x y }
 {
@@ -73,6 +68,7 @@ pub fn alu_and(x: u8, y: u8) -> AluResult
 }
 
 /// The bitwise exclusive OR: XRA, XRI. CY and AC are cleared.
+#[inline]
 pub fn alu_xor(x: u8, y: u8) -> AluResult
     ensures { result ≡ exclusive x y }
 {
@@ -80,6 +76,7 @@ pub fn alu_xor(x: u8, y: u8) -> AluResult
 }
 
 /// The bitwise OR: ORA, ORI. CY and AC are cleared.
+#[inline]
 pub fn alu_or(x: u8, y: u8) -> AluResult
     ensures { result ≡ inclusive x y }
 {
@@ -87,6 +84,7 @@ pub fn alu_or(x: u8, y: u8) -> AluResult
 }
 
 /// One more, modulo 256: INR. CY stays as it is given.
+#[inline]
 pub fn inr(x: u8, carry: bool) -> AluResult
     ensures { result ≡ increment x carry }
 {
@@ -95,6 +93,7 @@ pub fn inr(x: u8, carry: bool) -> AluResult
 }
 
 /// One less, modulo 256: DCR. CY stays as it is given.
+#[inline]
 pub fn dcr(x: u8, carry: bool) -> AluResult
     ensures { result ≡ decrement x carry }
 {
@@ -103,6 +102,7 @@ pub fn dcr(x: u8, carry: bool) -> AluResult
 }
 
 /// A as two decimal digits again, after a sum of two such bytes: DAA.
+#[inline]
 pub fn daa(a: u8, flags: Flags) -> AluResult
     ensures { result ≡ adjusted a flags }
 {
@@ -114,6 +114,7 @@ pub fn daa(a: u8, flags: Flags) -> AluResult
 }
 
 /// A rotated by one bit; of the flags CY alone changes.
+#[inline]
 pub fn rotate(rotation: Rotation, a: u8, flags: Flags) -> AluResult
     ensures { result ≡ rotated rotation a flags }
 {
@@ -125,6 +126,7 @@ pub fn rotate(rotation: Rotation, a: u8, flags: Flags) -> AluResult
     }
 }
 
+#[inline]
 fn with_turned(value: u8, carry: bool, flags: Flags) -> AluResult
     ensures { result ≡ turned value carry flags }
 {

@@ -1,113 +1,141 @@
 //! The five condition flags (8080 User's Manual, "Condition Bits").
 ghost use Rattle.std.specs.Prelude.{◌≡◌};
 ghost use Rattle.i80_rows.specs.FlagValues.{flag_byte, flags_of};
+ghost use Rattle.i80_rows.specs.Arithmetic.{shown_by};
 
 use std::marker::Model;
 
-/// The five flags: sign, zero, auxiliary carry, parity, carry.
+/// The five flags, as the byte that PUSH PSW stores: bit 1 is set, bits 3 and 5 are clear.
 #[derive(Clone, Copy, PartialEq, Eq, Debug)]
 pub struct Flags {
-    sign: bool,
-    zero: bool,
-    auxiliary_carry: bool,
-    parity: bool,
-    carry: bool,
+    byte: u8,
 }
 
 impl Model for Flags {
-    ghost use Rattle.i80_rows.specs.FlagValues.{FlagValues};
+    ghost use Rattle.std.specs.Prelude.{◌≡◌};
+    ghost use Rattle.std.proofs.Common.{ap};
+    ghost use Rattle.i80_rows.specs.FlagValues.{FlagValues, flag_byte, flags_of};
 
     ghost Value = { FlagValues };
 
-    ghost view = { λ f. record { s = f.sign; z = f.zero; ac = f.auxiliary_carry; p = f.parity; cy = f.carry } };
+    ghost view = { λ f. flags_of f.byte };
 
-    ghost inverse = { λ f. record { sign = f.s; zero = f.z; auxiliary_carry = f.ac; parity = f.p; carry = f.cy } };
+    ghost invariant = { λ f. flag_byte (flags_of f.byte) ≡ f.byte };
+
+    ghost inverse = { λ f. record { byte = flag_byte f } };
+
+    ghost inverse_ok = { λ f same. ap (λ byte. record { byte = byte }) same };
 }
+
+/// The flag byte of each result, but for AC and CY: S, Z and P as the result shows them, and bit 1.
+static SHOWN: [u8; 256] = [
+    0x46, 0x02, 0x02, 0x06, 0x02, 0x06, 0x06, 0x02, 0x02, 0x06, 0x06, 0x02, 0x06, 0x02, 0x02, 0x06,
+    0x02, 0x06, 0x06, 0x02, 0x06, 0x02, 0x02, 0x06, 0x06, 0x02, 0x02, 0x06, 0x02, 0x06, 0x06, 0x02,
+    0x02, 0x06, 0x06, 0x02, 0x06, 0x02, 0x02, 0x06, 0x06, 0x02, 0x02, 0x06, 0x02, 0x06, 0x06, 0x02,
+    0x06, 0x02, 0x02, 0x06, 0x02, 0x06, 0x06, 0x02, 0x02, 0x06, 0x06, 0x02, 0x06, 0x02, 0x02, 0x06,
+    0x02, 0x06, 0x06, 0x02, 0x06, 0x02, 0x02, 0x06, 0x06, 0x02, 0x02, 0x06, 0x02, 0x06, 0x06, 0x02,
+    0x06, 0x02, 0x02, 0x06, 0x02, 0x06, 0x06, 0x02, 0x02, 0x06, 0x06, 0x02, 0x06, 0x02, 0x02, 0x06,
+    0x06, 0x02, 0x02, 0x06, 0x02, 0x06, 0x06, 0x02, 0x02, 0x06, 0x06, 0x02, 0x06, 0x02, 0x02, 0x06,
+    0x02, 0x06, 0x06, 0x02, 0x06, 0x02, 0x02, 0x06, 0x06, 0x02, 0x02, 0x06, 0x02, 0x06, 0x06, 0x02,
+    0x82, 0x86, 0x86, 0x82, 0x86, 0x82, 0x82, 0x86, 0x86, 0x82, 0x82, 0x86, 0x82, 0x86, 0x86, 0x82,
+    0x86, 0x82, 0x82, 0x86, 0x82, 0x86, 0x86, 0x82, 0x82, 0x86, 0x86, 0x82, 0x86, 0x82, 0x82, 0x86,
+    0x86, 0x82, 0x82, 0x86, 0x82, 0x86, 0x86, 0x82, 0x82, 0x86, 0x86, 0x82, 0x86, 0x82, 0x82, 0x86,
+    0x82, 0x86, 0x86, 0x82, 0x86, 0x82, 0x82, 0x86, 0x86, 0x82, 0x82, 0x86, 0x82, 0x86, 0x86, 0x82,
+    0x86, 0x82, 0x82, 0x86, 0x82, 0x86, 0x86, 0x82, 0x82, 0x86, 0x86, 0x82, 0x86, 0x82, 0x82, 0x86,
+    0x82, 0x86, 0x86, 0x82, 0x86, 0x82, 0x82, 0x86, 0x86, 0x82, 0x82, 0x86, 0x82, 0x86, 0x86, 0x82,
+    0x82, 0x86, 0x86, 0x82, 0x86, 0x82, 0x82, 0x86, 0x86, 0x82, 0x82, 0x86, 0x82, 0x86, 0x86, 0x82,
+    0x86, 0x82, 0x82, 0x86, 0x82, 0x86, 0x86, 0x82, 0x82, 0x86, 0x86, 0x82, 0x86, 0x82, 0x82, 0x86,
+];
 
 impl Flags {
     /// The flags with these values, in the order of the flag byte.
     pub fn new(sign: bool, zero: bool, auxiliary_carry: bool, parity: bool, carry: bool) -> Flags
         ensures { result ≡ record { s = sign; z = zero; ac = auxiliary_carry; p = parity; cy = carry } }
     {
+        let byte = (sign as u8) << 7
+            | (zero as u8) << 6
+            | (auxiliary_carry as u8) << 4
+            | (parity as u8) << 2
+            | 2
+            | carry as u8;
+        Flags { byte }
+    }
+
+    /// The flags of a result: its sign, zero and parity, looked up, with these carries.
+    #[inline]
+    pub(crate) fn of_result(value: u8, auxiliary_carry: bool, carry: bool) -> Flags
+        ensures { result ≡ shown_by value auxiliary_carry carry }
+    {
         Flags {
-            sign,
-            zero,
-            auxiliary_carry,
-            parity,
-            carry,
+            byte: SHOWN[value as usize] | (auxiliary_carry as u8) << 4 | carry as u8,
         }
     }
 
     /// The byte that PUSH PSW stores below A: S 7, Z 6, 0 at 5, AC 4, 0 at 3, P 2, 1 at 1, CY 0.
+    #[inline]
     pub fn to_byte(self) -> u8
         ensures { result ≡ flag_byte self }
     {
-        (self.sign as u8) << 7
-            | (self.zero as u8) << 6
-            | (self.auxiliary_carry as u8) << 4
-            | (self.parity as u8) << 2
-            | 2
-            | self.carry as u8
+        self.byte
     }
 
     /// The flags that POP PSW takes from a byte; its bits 5, 3 and 1 are ignored.
+    #[inline]
     pub fn from_byte(byte: u8) -> Flags
         ensures { result ≡ flags_of byte }
     {
         Flags {
-            sign: byte & 0x80 != 0,
-            zero: byte & 0x40 != 0,
-            auxiliary_carry: byte & 0x10 != 0,
-            parity: byte & 4 != 0,
-            carry: byte & 1 != 0,
+            byte: byte & 0xd7 | 2,
         }
     }
 
     /// S: bit 7 of the last result.
+    #[inline]
     pub fn sign(self) -> bool
         ensures { result ≡ self.s }
     {
-        self.sign
+        self.byte & 0x80 != 0
     }
 
     /// Z: the last result was zero.
+    #[inline]
     pub fn zero(self) -> bool
         ensures { result ≡ self.z }
     {
-        self.zero
+        self.byte & 0x40 != 0
     }
 
     /// AC: a carry out of bit 3.
+    #[inline]
     pub fn auxiliary_carry(self) -> bool
         ensures { result ≡ self.ac }
     {
-        self.auxiliary_carry
+        self.byte & 0x10 != 0
     }
 
     /// P: the last result had an even count of one bits.
+    #[inline]
     pub fn parity(self) -> bool
         ensures { result ≡ self.p }
     {
-        self.parity
+        self.byte & 4 != 0
     }
 
     /// CY: a carry out of bit 7, or a borrow.
+    #[inline]
     pub fn carry(self) -> bool
         ensures { result ≡ self.cy }
     {
-        self.carry
+        self.byte & 1 != 0
     }
 
     /// The same flags but for CY.
+    #[inline]
     pub fn with_carry(self, carry: bool) -> Flags
         ensures { result ≡ record self { cy = carry } }
     {
         Flags {
-            sign: self.sign,
-            zero: self.zero,
-            auxiliary_carry: self.auxiliary_carry,
-            parity: self.parity,
-            carry,
+            byte: self.byte & 0xfe | carry as u8,
         }
     }
 }

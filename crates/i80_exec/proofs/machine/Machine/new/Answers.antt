@@ -1,5 +1,5 @@
 use Rattle.std.proofs.Common.{◌∙◌, refl, ap, length}
-use Rattle.i80_exec.proofs.StepLemmas.{zeros_are, length-zeros}
+use Rattle.i80_exec.proofs.MemoryLemmas.{zeros_are, length-zeros}
 use Rattle.i80_exec.proofs.machine.Machine.new.Goals as goal
 
 pub invariant_of-result : goal.invariant_of-result

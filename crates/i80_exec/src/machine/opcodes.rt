@@ -1,0 +1,596 @@
+//! The 256 opcodes: one arm each, with its registers written into it.
+ghost use Rattle.std.specs.Prelude.{◌≡◌, ◌+◌, ◌*◌, ◌<◌, ◌≤◌, ◌++◌, length};
+ghost use Rattle.i80_rows.specs.Rows.{row};
+ghost use Rattle.i80_rows.specs.declared.instruction.Instr.TheVariants.{Nop};
+ghost use Rattle.i80_exec.specs.State.{wrapped, byte_at, word_at, stored, get_pair, with_pc, with_interrupts};
+ghost use Rattle.i80_exec.specs.Step.{by_row, interrupts_after, operation_list, state_after};
+
+use crate::machine::Machine;
+use crate::ports::Ports;
+use crate::registers::{Interrupts, Stepped};
+use i80_rows::arithmetic::{daa, dcr, inr, rotate};
+use i80_rows::instruction::{Cond, Operation, Pair, Rotation, StackPair};
+
+macro_rules! arm {
+    (nop $m:ident $ports:ident $opcode:ident) => {{ $m.advance(1); Stepped::Done }};
+    (hlt $m:ident $ports:ident $opcode:ident) => {{ $m.advance(1); Stepped::Halted }};
+    (undefined $m:ident $ports:ident $opcode:ident) => {{ Stepped::Undefined { opcode: $opcode } }};
+    (mov $m:ident $ports:ident $opcode:ident, $to:ident, $from:ident) => {{ $m.advance(1); $m.regs.$to = $m.regs.$from; Stepped::Done }};
+    (load $m:ident $ports:ident $opcode:ident, $to:ident) => {{ $m.advance(1); $m.regs.$to = $m.byte_at_hl(); Stepped::Done }};
+    (store $m:ident $ports:ident $opcode:ident, $from:ident) => {{ $m.advance(1); $m.store_at_hl($m.regs.$from); Stepped::Done }};
+    (alu $m:ident $ports:ident $opcode:ident, $operation:ident, $from:ident) => {{ $m.advance(1); $m.operate(Operation::$operation, $m.regs.$from); Stepped::Done }};
+    (alu_memory $m:ident $ports:ident $opcode:ident, $operation:ident) => {{ $m.advance(1); $m.operate(Operation::$operation, $m.byte_at_hl()); Stepped::Done }};
+    (immediate $m:ident $ports:ident $opcode:ident, $operation:ident) => {{ let byte = $m.operand(); $m.advance(2); $m.operate(Operation::$operation, byte); Stepped::Done }};
+    (mvi $m:ident $ports:ident $opcode:ident, $to:ident) => {{ let byte = $m.operand(); $m.advance(2); $m.regs.$to = byte; Stepped::Done }};
+    (mvi_memory $m:ident $ports:ident $opcode:ident) => {{ let byte = $m.operand(); $m.advance(2); $m.store_at_hl(byte); Stepped::Done }};
+    (inr $m:ident $ports:ident $opcode:ident, $to:ident) => {{ $m.advance(1); let next = inr($m.regs.$to, $m.regs.flags.carry()); $m.regs.$to = next.value; $m.regs.flags = next.flags; Stepped::Done }};
+    (dcr $m:ident $ports:ident $opcode:ident, $to:ident) => {{ $m.advance(1); let next = dcr($m.regs.$to, $m.regs.flags.carry()); $m.regs.$to = next.value; $m.regs.flags = next.flags; Stepped::Done }};
+    (inr_memory $m:ident $ports:ident $opcode:ident) => {{ $m.advance(1); let next = inr($m.byte_at_hl(), $m.regs.flags.carry()); $m.store_at_hl(next.value); $m.regs.flags = next.flags; Stepped::Done }};
+    (dcr_memory $m:ident $ports:ident $opcode:ident) => {{ $m.advance(1); let next = dcr($m.byte_at_hl(), $m.regs.flags.carry()); $m.store_at_hl(next.value); $m.regs.flags = next.flags; Stepped::Done }};
+    (lxi $m:ident $ports:ident $opcode:ident, $pair:ident) => {{ let word = $m.operand_word(); $m.advance(3); $m.put_pair(Pair::$pair, word); Stepped::Done }};
+    (inx $m:ident $ports:ident $opcode:ident, $pair:ident) => {{ $m.advance(1); $m.put_pair(Pair::$pair, $m.get_pair(Pair::$pair).wrapping_add(1)); Stepped::Done }};
+    (dcx $m:ident $ports:ident $opcode:ident, $pair:ident) => {{ $m.advance(1); $m.put_pair(Pair::$pair, $m.get_pair(Pair::$pair).wrapping_sub(1)); Stepped::Done }};
+    (dad $m:ident $ports:ident $opcode:ident, $pair:ident) => {{ $m.advance(1); $m.add_to_hl($m.get_pair(Pair::$pair)); Stepped::Done }};
+    (stax $m:ident $ports:ident $opcode:ident, $pair:ident) => {{ $m.advance(1); $m.poke($m.get_pair(Pair::$pair), $m.regs.a); Stepped::Done }};
+    (ldax $m:ident $ports:ident $opcode:ident, $pair:ident) => {{ $m.advance(1); $m.regs.a = $m.peek($m.get_pair(Pair::$pair)); Stepped::Done }};
+    (shld $m:ident $ports:ident $opcode:ident) => {{ let address = $m.operand_word(); $m.advance(3); $m.store_word(address, $m.get_pair(Pair::H)); Stepped::Done }};
+    (lhld $m:ident $ports:ident $opcode:ident) => {{ let address = $m.operand_word(); $m.advance(3); $m.put_pair(Pair::H, $m.word_at(address)); Stepped::Done }};
+    (sta $m:ident $ports:ident $opcode:ident) => {{ let address = $m.operand_word(); $m.advance(3); $m.poke(address, $m.regs.a); Stepped::Done }};
+    (lda $m:ident $ports:ident $opcode:ident) => {{ let address = $m.operand_word(); $m.advance(3); $m.regs.a = $m.peek(address); Stepped::Done }};
+    (rotate $m:ident $ports:ident $opcode:ident, $rotation:ident) => {{ $m.advance(1); $m.set_a(rotate(Rotation::$rotation, $m.regs.a, $m.regs.flags)); Stepped::Done }};
+    (daa $m:ident $ports:ident $opcode:ident) => {{ $m.advance(1); $m.set_a(daa($m.regs.a, $m.regs.flags)); Stepped::Done }};
+    (cma $m:ident $ports:ident $opcode:ident) => {{ $m.advance(1); $m.regs.a = !$m.regs.a; Stepped::Done }};
+    (stc $m:ident $ports:ident $opcode:ident) => {{ $m.advance(1); $m.regs.flags = $m.regs.flags.with_carry(true); Stepped::Done }};
+    (cmc $m:ident $ports:ident $opcode:ident) => {{ $m.advance(1); $m.regs.flags = $m.regs.flags.with_carry(!$m.regs.flags.carry()); Stepped::Done }};
+    (jmp $m:ident $ports:ident $opcode:ident) => {{ let target = $m.operand_word(); $m.advance(3); $m.jump(target); Stepped::Done }};
+    (jump_if $m:ident $ports:ident $opcode:ident, $cond:ident) => {{ let target = $m.operand_word(); $m.advance(3); if $m.holds(Cond::$cond) { $m.jump(target); } Stepped::Done }};
+    (call $m:ident $ports:ident $opcode:ident) => {{ let target = $m.operand_word(); $m.advance(3); $m.call(target) }};
+    (call_if $m:ident $ports:ident $opcode:ident, $cond:ident) => {{ let target = $m.operand_word(); $m.advance(3); if $m.holds(Cond::$cond) { $m.call(target) } else { Stepped::Done } }};
+    (ret $m:ident $ports:ident $opcode:ident) => {{ $m.advance(1); $m.ret() }};
+    (ret_if $m:ident $ports:ident $opcode:ident, $cond:ident) => {{ $m.advance(1); if $m.holds(Cond::$cond) { $m.ret() } else { Stepped::Done } }};
+    (rst $m:ident $ports:ident $opcode:ident, $target:literal) => {{ $m.advance(1); $m.call($target) }};
+    (push $m:ident $ports:ident $opcode:ident, $pair:ident) => {{ $m.advance(1); $m.push_word($m.get_stack_pair(StackPair::$pair)); Stepped::Done }};
+    (pop $m:ident $ports:ident $opcode:ident, $pair:ident) => {{ $m.advance(1); let word = $m.pop_word(); $m.put_stack_pair(StackPair::$pair, word); Stepped::Done }};
+    (xthl $m:ident $ports:ident $opcode:ident) => {{ $m.advance(1); $m.exchange_with_stack(); Stepped::Done }};
+    (xchg $m:ident $ports:ident $opcode:ident) => {{ $m.advance(1); $m.exchange_with_de(); Stepped::Done }};
+    (pchl $m:ident $ports:ident $opcode:ident) => {{ $m.advance(1); $m.jump($m.get_pair(Pair::H)); Stepped::Done }};
+    (sphl $m:ident $ports:ident $opcode:ident) => {{ $m.advance(1); $m.regs.sp = $m.get_pair(Pair::H); Stepped::Done }};
+    (output $m:ident $ports:ident $opcode:ident) => {{ let port = $m.operand(); $m.advance(2); $ports.output(port, $m.regs.a); Stepped::Done }};
+    (input $m:ident $ports:ident $opcode:ident) => {{ let port = $m.operand(); $m.advance(2); $m.regs.a = $ports.input(port); Stepped::Done }};
+    (di $m:ident $ports:ident $opcode:ident) => {{ $m.advance(1); $m.regs.interrupts = Interrupts::Off; Stepped::Done }};
+    (ei $m:ident $ports:ident $opcode:ident) => {{ $m.advance(1); $m.regs.interrupts = Interrupts::Arming; Stepped::Done }};
+}
+
+macro_rules! opcodes {
+    ($m:ident $ports:ident $opcode:ident; $($code:literal => $kind:ident($($operand:tt)*);)*) => {
+        match $opcode {
+            $($code => opcodes!(@ $kind $m $ports $opcode; $($operand)*),)*
+            _ => unreachable!(),
+        }
+    };
+    (@ $kind:ident $m:ident $ports:ident $opcode:ident;) => { arm!($kind $m $ports $opcode) };
+    (@ $kind:ident $m:ident $ports:ident $opcode:ident; $($operand:tt)+) => { arm!($kind $m $ports $opcode, $($operand)+) };
+}
+
+macro_rules! groups {
+    ($m:ident $ports:ident $opcode:ident; $($($code:literal)* => $group:ident;)* _ => $last:ident;) => {
+        match $opcode {
+            $($($code => $m.$group($opcode, $ports),)*)*
+            _ => $m.$last($opcode, $ports),
+        }
+    };
+}
+
+impl Machine {
+    /// Does the instruction of this opcode, which is the one at PC.
+    // One match of all opcodes makes one jump table; each arm is then the one of its group.
+    #[inline(always)]
+    pub(super) fn step_opcode<P: Ports>(&mut self, opcode: u8, ports: &mut P) -> Stepped
+        requires opcode { opcode ≡ byte_at self.old self.old.regs.pc }
+        requires spare { 1 ≤ P.spare ports.old }
+        ensures after { self.new ≡ (by_row (row opcode) (P.answer (P.state ports.old)) self.old).after }
+        ensures answer { result ≡ (by_row (row opcode) (P.answer (P.state ports.old)) self.old).answer }
+        ensures operations { P.operations ports.new ≡ P.operations ports.old
+            ++ operation_list (by_row (row opcode) (P.answer (P.state ports.old)) self.old).operation }
+        ensures state { P.state ports.new ≡ state_after P.after (P.state ports.old)
+            (by_row (row opcode) (P.answer (P.state ports.old)) self.old).operation }
+        ensures spare { P.spare ports.new
+            + length (operation_list (by_row (row opcode) (P.answer (P.state ports.old)) self.old).operation)
+            ≡ P.spare ports.old }
+    {
+        groups! { self ports opcode;
+            0x00 0x01 0x02 0x03 0x04 0x05 0x06 0x07 0x08 0x09 0x0a 0x0b 0x0c 0x0d 0x0e 0x0f => step_00;
+            0x10 0x11 0x12 0x13 0x14 0x15 0x16 0x17 0x18 0x19 0x1a 0x1b 0x1c 0x1d 0x1e 0x1f => step_00;
+            0x20 0x21 0x22 0x23 0x24 0x25 0x26 0x27 0x28 0x29 0x2a 0x2b 0x2c 0x2d 0x2e 0x2f => step_20;
+            0x30 0x31 0x32 0x33 0x34 0x35 0x36 0x37 0x38 0x39 0x3a 0x3b 0x3c 0x3d 0x3e 0x3f => step_20;
+            0x40 0x41 0x42 0x43 0x44 0x45 0x46 0x47 0x48 0x49 0x4a 0x4b 0x4c 0x4d 0x4e 0x4f => step_40;
+            0x50 0x51 0x52 0x53 0x54 0x55 0x56 0x57 0x58 0x59 0x5a 0x5b 0x5c 0x5d 0x5e 0x5f => step_40;
+            0x60 0x61 0x62 0x63 0x64 0x65 0x66 0x67 0x68 0x69 0x6a 0x6b 0x6c 0x6d 0x6e 0x6f => step_60;
+            0x70 0x71 0x72 0x73 0x74 0x75 0x76 0x77 0x78 0x79 0x7a 0x7b 0x7c 0x7d 0x7e 0x7f => step_60;
+            0x80 0x81 0x82 0x83 0x84 0x85 0x86 0x87 0x88 0x89 0x8a 0x8b 0x8c 0x8d 0x8e 0x8f => step_80;
+            0x90 0x91 0x92 0x93 0x94 0x95 0x96 0x97 0x98 0x99 0x9a 0x9b 0x9c 0x9d 0x9e 0x9f => step_80;
+            0xa0 0xa1 0xa2 0xa3 0xa4 0xa5 0xa6 0xa7 0xa8 0xa9 0xaa 0xab 0xac 0xad 0xae 0xaf => step_a0;
+            0xb0 0xb1 0xb2 0xb3 0xb4 0xb5 0xb6 0xb7 0xb8 0xb9 0xba 0xbb 0xbc 0xbd 0xbe 0xbf => step_a0;
+            0xc0 0xc1 0xc2 0xc3 0xc4 0xc5 0xc6 0xc7 0xc8 0xc9 0xca 0xcb 0xcc 0xcd 0xce 0xcf => step_c0;
+            0xd0 0xd1 0xd2 0xd3 0xd4 0xd5 0xd6 0xd7 0xd8 0xd9 0xda 0xdb 0xdc 0xdd 0xde 0xdf => step_c0;
+            0xe0 0xe1 0xe2 0xe3 0xe4 0xe5 0xe6 0xe7 0xe8 0xe9 0xea 0xeb 0xec 0xed 0xee 0xef => step_e0;
+            0xf0 0xf1 0xf2 0xf3 0xf4 0xf5 0xf6 0xf7 0xf8 0xf9 0xfa 0xfb 0xfc 0xfd 0xfe => step_e0;
+            _ => step_e0;
+        }
+    }
+
+    /// The byte behind the opcode.
+    #[inline(always)]
+    fn operand(&self) -> u8
+        ensures { result ≡ byte_at self.now (self.now.regs.pc + 1) }
+    {
+        self.peek(self.regs.pc.wrapping_add(1))
+    }
+
+    /// The word behind the opcode.
+    #[inline(always)]
+    fn operand_word(&self) -> u16
+        ensures { result ≡ word_at self.now (self.now.regs.pc + 1) }
+    {
+        self.word_at(self.regs.pc.wrapping_add(1))
+    }
+
+    /// Sets PC past an instruction of this size, and ends arming.
+    #[inline(always)]
+    fn advance(&mut self, size: u8)
+        ensures { self.new ≡ with_interrupts (with_pc self.old (wrapped (self.old.regs.pc + size)))
+            (interrupts_after Nop self.old.regs.interrupts) }
+    {
+        self.regs.pc = self.regs.pc.wrapping_add(size as u16);
+        self.regs.interrupts = match self.regs.interrupts {
+            Interrupts::Off => Interrupts::Off,
+            _ => Interrupts::On,
+        };
+    }
+
+    #[inline(always)]
+    fn byte_at_hl(&self) -> u8
+        ensures { result ≡ byte_at self.now (get_pair self.now Pair.H) }
+    {
+        self.peek(self.get_pair(Pair::H))
+    }
+
+    #[inline(always)]
+    fn store_at_hl(&mut self, byte: u8)
+        ensures { self.new ≡ stored self.old (get_pair self.old Pair.H) byte }
+    {
+        let address = self.get_pair(Pair::H);
+        self.poke(address, byte);
+    }
+
+    #[inline]
+    #[tactic(auto, unfolding(i80_rows::specs::Rows::row))]
+    fn step_00<P: Ports>(&mut self, opcode: u8, ports: &mut P) -> Stepped
+        requires opcode { opcode ≡ byte_at self.old self.old.regs.pc }
+        requires high { opcode < 32 }
+        requires spare { 1 ≤ P.spare ports.old }
+        ensures after { self.new ≡ (by_row (row opcode) (P.answer (P.state ports.old)) self.old).after }
+        ensures answer { result ≡ (by_row (row opcode) (P.answer (P.state ports.old)) self.old).answer }
+        ensures operations { P.operations ports.new ≡ P.operations ports.old
+            ++ operation_list (by_row (row opcode) (P.answer (P.state ports.old)) self.old).operation }
+        ensures state { P.state ports.new ≡ state_after P.after (P.state ports.old)
+            (by_row (row opcode) (P.answer (P.state ports.old)) self.old).operation }
+        ensures spare { P.spare ports.new
+            + length (operation_list (by_row (row opcode) (P.answer (P.state ports.old)) self.old).operation)
+            ≡ P.spare ports.old }
+    {
+        let m = self;
+        opcodes! { m ports opcode;
+            0x00 => nop();
+            0x01 => lxi(B);
+            0x02 => stax(B);
+            0x03 => inx(B);
+            0x04 => inr(b);
+            0x05 => dcr(b);
+            0x06 => mvi(b);
+            0x07 => rotate(Rlc);
+            0x08 => undefined();
+            0x09 => dad(B);
+            0x0a => ldax(B);
+            0x0b => dcx(B);
+            0x0c => inr(c);
+            0x0d => dcr(c);
+            0x0e => mvi(c);
+            0x0f => rotate(Rrc);
+            0x10 => undefined();
+            0x11 => lxi(D);
+            0x12 => stax(D);
+            0x13 => inx(D);
+            0x14 => inr(d);
+            0x15 => dcr(d);
+            0x16 => mvi(d);
+            0x17 => rotate(Ral);
+            0x18 => undefined();
+            0x19 => dad(D);
+            0x1a => ldax(D);
+            0x1b => dcx(D);
+            0x1c => inr(e);
+            0x1d => dcr(e);
+            0x1e => mvi(e);
+            0x1f => rotate(Rar);
+        }
+    }
+
+    #[inline]
+    #[tactic(auto, unfolding(i80_rows::specs::Rows::row))]
+    fn step_20<P: Ports>(&mut self, opcode: u8, ports: &mut P) -> Stepped
+        requires opcode { opcode ≡ byte_at self.old self.old.regs.pc }
+        requires low { 32 ≤ opcode }
+        requires high { opcode < 64 }
+        requires spare { 1 ≤ P.spare ports.old }
+        ensures after { self.new ≡ (by_row (row opcode) (P.answer (P.state ports.old)) self.old).after }
+        ensures answer { result ≡ (by_row (row opcode) (P.answer (P.state ports.old)) self.old).answer }
+        ensures operations { P.operations ports.new ≡ P.operations ports.old
+            ++ operation_list (by_row (row opcode) (P.answer (P.state ports.old)) self.old).operation }
+        ensures state { P.state ports.new ≡ state_after P.after (P.state ports.old)
+            (by_row (row opcode) (P.answer (P.state ports.old)) self.old).operation }
+        ensures spare { P.spare ports.new
+            + length (operation_list (by_row (row opcode) (P.answer (P.state ports.old)) self.old).operation)
+            ≡ P.spare ports.old }
+    {
+        let m = self;
+        opcodes! { m ports opcode;
+            0x20 => undefined();
+            0x21 => lxi(H);
+            0x22 => shld();
+            0x23 => inx(H);
+            0x24 => inr(h);
+            0x25 => dcr(h);
+            0x26 => mvi(h);
+            0x27 => daa();
+            0x28 => undefined();
+            0x29 => dad(H);
+            0x2a => lhld();
+            0x2b => dcx(H);
+            0x2c => inr(l);
+            0x2d => dcr(l);
+            0x2e => mvi(l);
+            0x2f => cma();
+            0x30 => undefined();
+            0x31 => lxi(Sp);
+            0x32 => sta();
+            0x33 => inx(Sp);
+            0x34 => inr_memory();
+            0x35 => dcr_memory();
+            0x36 => mvi_memory();
+            0x37 => stc();
+            0x38 => undefined();
+            0x39 => dad(Sp);
+            0x3a => lda();
+            0x3b => dcx(Sp);
+            0x3c => inr(a);
+            0x3d => dcr(a);
+            0x3e => mvi(a);
+            0x3f => cmc();
+        }
+    }
+
+    #[inline]
+    #[tactic(auto, unfolding(i80_rows::specs::Rows::row))]
+    fn step_40<P: Ports>(&mut self, opcode: u8, ports: &mut P) -> Stepped
+        requires opcode { opcode ≡ byte_at self.old self.old.regs.pc }
+        requires low { 64 ≤ opcode }
+        requires high { opcode < 96 }
+        requires spare { 1 ≤ P.spare ports.old }
+        ensures after { self.new ≡ (by_row (row opcode) (P.answer (P.state ports.old)) self.old).after }
+        ensures answer { result ≡ (by_row (row opcode) (P.answer (P.state ports.old)) self.old).answer }
+        ensures operations { P.operations ports.new ≡ P.operations ports.old
+            ++ operation_list (by_row (row opcode) (P.answer (P.state ports.old)) self.old).operation }
+        ensures state { P.state ports.new ≡ state_after P.after (P.state ports.old)
+            (by_row (row opcode) (P.answer (P.state ports.old)) self.old).operation }
+        ensures spare { P.spare ports.new
+            + length (operation_list (by_row (row opcode) (P.answer (P.state ports.old)) self.old).operation)
+            ≡ P.spare ports.old }
+    {
+        let m = self;
+        opcodes! { m ports opcode;
+            0x40 => mov(b, b);
+            0x41 => mov(b, c);
+            0x42 => mov(b, d);
+            0x43 => mov(b, e);
+            0x44 => mov(b, h);
+            0x45 => mov(b, l);
+            0x46 => load(b);
+            0x47 => mov(b, a);
+            0x48 => mov(c, b);
+            0x49 => mov(c, c);
+            0x4a => mov(c, d);
+            0x4b => mov(c, e);
+            0x4c => mov(c, h);
+            0x4d => mov(c, l);
+            0x4e => load(c);
+            0x4f => mov(c, a);
+            0x50 => mov(d, b);
+            0x51 => mov(d, c);
+            0x52 => mov(d, d);
+            0x53 => mov(d, e);
+            0x54 => mov(d, h);
+            0x55 => mov(d, l);
+            0x56 => load(d);
+            0x57 => mov(d, a);
+            0x58 => mov(e, b);
+            0x59 => mov(e, c);
+            0x5a => mov(e, d);
+            0x5b => mov(e, e);
+            0x5c => mov(e, h);
+            0x5d => mov(e, l);
+            0x5e => load(e);
+            0x5f => mov(e, a);
+        }
+    }
+
+    #[inline]
+    #[tactic(auto, unfolding(i80_rows::specs::Rows::row))]
+    fn step_60<P: Ports>(&mut self, opcode: u8, ports: &mut P) -> Stepped
+        requires opcode { opcode ≡ byte_at self.old self.old.regs.pc }
+        requires low { 96 ≤ opcode }
+        requires high { opcode < 128 }
+        requires spare { 1 ≤ P.spare ports.old }
+        ensures after { self.new ≡ (by_row (row opcode) (P.answer (P.state ports.old)) self.old).after }
+        ensures answer { result ≡ (by_row (row opcode) (P.answer (P.state ports.old)) self.old).answer }
+        ensures operations { P.operations ports.new ≡ P.operations ports.old
+            ++ operation_list (by_row (row opcode) (P.answer (P.state ports.old)) self.old).operation }
+        ensures state { P.state ports.new ≡ state_after P.after (P.state ports.old)
+            (by_row (row opcode) (P.answer (P.state ports.old)) self.old).operation }
+        ensures spare { P.spare ports.new
+            + length (operation_list (by_row (row opcode) (P.answer (P.state ports.old)) self.old).operation)
+            ≡ P.spare ports.old }
+    {
+        let m = self;
+        opcodes! { m ports opcode;
+            0x60 => mov(h, b);
+            0x61 => mov(h, c);
+            0x62 => mov(h, d);
+            0x63 => mov(h, e);
+            0x64 => mov(h, h);
+            0x65 => mov(h, l);
+            0x66 => load(h);
+            0x67 => mov(h, a);
+            0x68 => mov(l, b);
+            0x69 => mov(l, c);
+            0x6a => mov(l, d);
+            0x6b => mov(l, e);
+            0x6c => mov(l, h);
+            0x6d => mov(l, l);
+            0x6e => load(l);
+            0x6f => mov(l, a);
+            0x70 => store(b);
+            0x71 => store(c);
+            0x72 => store(d);
+            0x73 => store(e);
+            0x74 => store(h);
+            0x75 => store(l);
+            0x76 => hlt();
+            0x77 => store(a);
+            0x78 => mov(a, b);
+            0x79 => mov(a, c);
+            0x7a => mov(a, d);
+            0x7b => mov(a, e);
+            0x7c => mov(a, h);
+            0x7d => mov(a, l);
+            0x7e => load(a);
+            0x7f => mov(a, a);
+        }
+    }
+
+    #[inline]
+    #[tactic(auto, unfolding(i80_rows::specs::Rows::row))]
+    fn step_80<P: Ports>(&mut self, opcode: u8, ports: &mut P) -> Stepped
+        requires opcode { opcode ≡ byte_at self.old self.old.regs.pc }
+        requires low { 128 ≤ opcode }
+        requires high { opcode < 160 }
+        requires spare { 1 ≤ P.spare ports.old }
+        ensures after { self.new ≡ (by_row (row opcode) (P.answer (P.state ports.old)) self.old).after }
+        ensures answer { result ≡ (by_row (row opcode) (P.answer (P.state ports.old)) self.old).answer }
+        ensures operations { P.operations ports.new ≡ P.operations ports.old
+            ++ operation_list (by_row (row opcode) (P.answer (P.state ports.old)) self.old).operation }
+        ensures state { P.state ports.new ≡ state_after P.after (P.state ports.old)
+            (by_row (row opcode) (P.answer (P.state ports.old)) self.old).operation }
+        ensures spare { P.spare ports.new
+            + length (operation_list (by_row (row opcode) (P.answer (P.state ports.old)) self.old).operation)
+            ≡ P.spare ports.old }
+    {
+        let m = self;
+        opcodes! { m ports opcode;
+            0x80 => alu(Add, b);
+            0x81 => alu(Add, c);
+            0x82 => alu(Add, d);
+            0x83 => alu(Add, e);
+            0x84 => alu(Add, h);
+            0x85 => alu(Add, l);
+            0x86 => alu_memory(Add);
+            0x87 => alu(Add, a);
+            0x88 => alu(Adc, b);
+            0x89 => alu(Adc, c);
+            0x8a => alu(Adc, d);
+            0x8b => alu(Adc, e);
+            0x8c => alu(Adc, h);
+            0x8d => alu(Adc, l);
+            0x8e => alu_memory(Adc);
+            0x8f => alu(Adc, a);
+            0x90 => alu(Sub, b);
+            0x91 => alu(Sub, c);
+            0x92 => alu(Sub, d);
+            0x93 => alu(Sub, e);
+            0x94 => alu(Sub, h);
+            0x95 => alu(Sub, l);
+            0x96 => alu_memory(Sub);
+            0x97 => alu(Sub, a);
+            0x98 => alu(Sbb, b);
+            0x99 => alu(Sbb, c);
+            0x9a => alu(Sbb, d);
+            0x9b => alu(Sbb, e);
+            0x9c => alu(Sbb, h);
+            0x9d => alu(Sbb, l);
+            0x9e => alu_memory(Sbb);
+            0x9f => alu(Sbb, a);
+        }
+    }
+
+    #[inline]
+    #[tactic(auto, unfolding(i80_rows::specs::Rows::row))]
+    fn step_a0<P: Ports>(&mut self, opcode: u8, ports: &mut P) -> Stepped
+        requires opcode { opcode ≡ byte_at self.old self.old.regs.pc }
+        requires low { 160 ≤ opcode }
+        requires high { opcode < 192 }
+        requires spare { 1 ≤ P.spare ports.old }
+        ensures after { self.new ≡ (by_row (row opcode) (P.answer (P.state ports.old)) self.old).after }
+        ensures answer { result ≡ (by_row (row opcode) (P.answer (P.state ports.old)) self.old).answer }
+        ensures operations { P.operations ports.new ≡ P.operations ports.old
+            ++ operation_list (by_row (row opcode) (P.answer (P.state ports.old)) self.old).operation }
+        ensures state { P.state ports.new ≡ state_after P.after (P.state ports.old)
+            (by_row (row opcode) (P.answer (P.state ports.old)) self.old).operation }
+        ensures spare { P.spare ports.new
+            + length (operation_list (by_row (row opcode) (P.answer (P.state ports.old)) self.old).operation)
+            ≡ P.spare ports.old }
+    {
+        let m = self;
+        opcodes! { m ports opcode;
+            0xa0 => alu(Ana, b);
+            0xa1 => alu(Ana, c);
+            0xa2 => alu(Ana, d);
+            0xa3 => alu(Ana, e);
+            0xa4 => alu(Ana, h);
+            0xa5 => alu(Ana, l);
+            0xa6 => alu_memory(Ana);
+            0xa7 => alu(Ana, a);
+            0xa8 => alu(Xra, b);
+            0xa9 => alu(Xra, c);
+            0xaa => alu(Xra, d);
+            0xab => alu(Xra, e);
+            0xac => alu(Xra, h);
+            0xad => alu(Xra, l);
+            0xae => alu_memory(Xra);
+            0xaf => alu(Xra, a);
+            0xb0 => alu(Ora, b);
+            0xb1 => alu(Ora, c);
+            0xb2 => alu(Ora, d);
+            0xb3 => alu(Ora, e);
+            0xb4 => alu(Ora, h);
+            0xb5 => alu(Ora, l);
+            0xb6 => alu_memory(Ora);
+            0xb7 => alu(Ora, a);
+            0xb8 => alu(Cmp, b);
+            0xb9 => alu(Cmp, c);
+            0xba => alu(Cmp, d);
+            0xbb => alu(Cmp, e);
+            0xbc => alu(Cmp, h);
+            0xbd => alu(Cmp, l);
+            0xbe => alu_memory(Cmp);
+            0xbf => alu(Cmp, a);
+        }
+    }
+
+    #[inline]
+    #[tactic(auto, unfolding(i80_rows::specs::Rows::row))]
+    fn step_c0<P: Ports>(&mut self, opcode: u8, ports: &mut P) -> Stepped
+        requires opcode { opcode ≡ byte_at self.old self.old.regs.pc }
+        requires low { 192 ≤ opcode }
+        requires high { opcode < 224 }
+        requires spare { 1 ≤ P.spare ports.old }
+        ensures after { self.new ≡ (by_row (row opcode) (P.answer (P.state ports.old)) self.old).after }
+        ensures answer { result ≡ (by_row (row opcode) (P.answer (P.state ports.old)) self.old).answer }
+        ensures operations { P.operations ports.new ≡ P.operations ports.old
+            ++ operation_list (by_row (row opcode) (P.answer (P.state ports.old)) self.old).operation }
+        ensures state { P.state ports.new ≡ state_after P.after (P.state ports.old)
+            (by_row (row opcode) (P.answer (P.state ports.old)) self.old).operation }
+        ensures spare { P.spare ports.new
+            + length (operation_list (by_row (row opcode) (P.answer (P.state ports.old)) self.old).operation)
+            ≡ P.spare ports.old }
+    {
+        let m = self;
+        opcodes! { m ports opcode;
+            0xc0 => ret_if(NotZero);
+            0xc1 => pop(B);
+            0xc2 => jump_if(NotZero);
+            0xc3 => jmp();
+            0xc4 => call_if(NotZero);
+            0xc5 => push(B);
+            0xc6 => immediate(Add);
+            0xc7 => rst(0x00);
+            0xc8 => ret_if(Zero);
+            0xc9 => ret();
+            0xca => jump_if(Zero);
+            0xcb => undefined();
+            0xcc => call_if(Zero);
+            0xcd => call();
+            0xce => immediate(Adc);
+            0xcf => rst(0x08);
+            0xd0 => ret_if(NoCarry);
+            0xd1 => pop(D);
+            0xd2 => jump_if(NoCarry);
+            0xd3 => output();
+            0xd4 => call_if(NoCarry);
+            0xd5 => push(D);
+            0xd6 => immediate(Sub);
+            0xd7 => rst(0x10);
+            0xd8 => ret_if(Carry);
+            0xd9 => undefined();
+            0xda => jump_if(Carry);
+            0xdb => input();
+            0xdc => call_if(Carry);
+            0xdd => undefined();
+            0xde => immediate(Sbb);
+            0xdf => rst(0x18);
+        }
+    }
+
+    #[inline]
+    #[tactic(auto, unfolding(i80_rows::specs::Rows::row))]
+    fn step_e0<P: Ports>(&mut self, opcode: u8, ports: &mut P) -> Stepped
+        requires opcode { opcode ≡ byte_at self.old self.old.regs.pc }
+        requires low { 224 ≤ opcode }
+        requires high { opcode < 256 }
+        requires spare { 1 ≤ P.spare ports.old }
+        ensures after { self.new ≡ (by_row (row opcode) (P.answer (P.state ports.old)) self.old).after }
+        ensures answer { result ≡ (by_row (row opcode) (P.answer (P.state ports.old)) self.old).answer }
+        ensures operations { P.operations ports.new ≡ P.operations ports.old
+            ++ operation_list (by_row (row opcode) (P.answer (P.state ports.old)) self.old).operation }
+        ensures state { P.state ports.new ≡ state_after P.after (P.state ports.old)
+            (by_row (row opcode) (P.answer (P.state ports.old)) self.old).operation }
+        ensures spare { P.spare ports.new
+            + length (operation_list (by_row (row opcode) (P.answer (P.state ports.old)) self.old).operation)
+            ≡ P.spare ports.old }
+    {
+        let m = self;
+        opcodes! { m ports opcode;
+            0xe0 => ret_if(ParityOdd);
+            0xe1 => pop(H);
+            0xe2 => jump_if(ParityOdd);
+            0xe3 => xthl();
+            0xe4 => call_if(ParityOdd);
+            0xe5 => push(H);
+            0xe6 => immediate(Ana);
+            0xe7 => rst(0x20);
+            0xe8 => ret_if(ParityEven);
+            0xe9 => pchl();
+            0xea => jump_if(ParityEven);
+            0xeb => xchg();
+            0xec => call_if(ParityEven);
+            0xed => undefined();
+            0xee => immediate(Xra);
+            0xef => rst(0x28);
+            0xf0 => ret_if(Plus);
+            0xf1 => pop(Psw);
+            0xf2 => jump_if(Plus);
+            0xf3 => di();
+            0xf4 => call_if(Plus);
+            0xf5 => push(Psw);
+            0xf6 => immediate(Ora);
+            0xf7 => rst(0x30);
+            0xf8 => ret_if(Minus);
+            0xf9 => sphl();
+            0xfa => jump_if(Minus);
+            0xfb => ei();
+            0xfc => call_if(Minus);
+            0xfd => undefined();
+            0xfe => immediate(Cmp);
+            0xff => rst(0x38);
+        }
+    }
+}
