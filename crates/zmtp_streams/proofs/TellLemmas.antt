@@ -1,6 +1,6 @@
 use Rattle.std.proofs.Common.{◌≡◌, ℕ, ◌+◌, ◌≤◌, List, [], ◌∷◌, ◌++◌, length, take, drop, Option, Some, None, arith, sym, ◌∙◌, ap, append_assoc, subst, zero, suc, zero-add}
 use Rattle.std.proofs.lemmas.Grind.{common_steps}
-use Rattle.std.proofs.lemmas.List.{take-append-drop, append-nil, length-take-le}
+use Rattle.std.proofs.lemmas.List.{take-append-drop, append-nil, length-take-le, drop-drop}
 use Rattle.std.proofs.Math.Seq.{take-append_seam}
 use Rattle.zmtp_streams.specs.Told.{Told, ToldFront}
 
@@ -25,9 +25,20 @@ front_same a b c x i p q =
     let P : List ℕ → Type 0 = λ l. Told a c l in
     front_at a c x i (subst P (append-nil (take i x)) (told_on a b c (take i x) [] p q))
 
+-- what a copy put at the front of a buffer
+copied_front : (n : ℕ) (left copied others : List ℕ) → n ≤ length left → copied ≡ take n left → take n (copied ++ others) ≡ take n left
+copied_front n left copied others fits e =
+    let k : length copied ≡ n = ap length e ∙ length-take-le n left fits in
+    ap (λ x. take x (copied ++ others)) (sym k) ∙ take-append_seam copied others ∙ e
+
 -- the bytes that a reader gave are those that it has passed
 pub given_more : (place n : ℕ) (held before copied others : List ℕ) → before ≡ take place held → n ≤ length (drop place held) → copied ≡ take n (drop place held) → Some (take (place + n) held) ≡ Some (before ++ take n (copied ++ others))
 given_more place n held before copied others b fits e =
-    let k : length copied ≡ n = ap length e ∙ length-take-le n (drop place held) fits in
-    let m : take n (copied ++ others) ≡ copied = ap (λ x. take x (copied ++ others)) (sym k) ∙ take-append_seam copied others in
-    ap Some (take-add place n held ∙ (ap (λ l. take place held ++ l) (sym (m ∙ e)) ∙ ap (λ l. l ++ take n (copied ++ others)) (sym b)))
+    let front = copied_front n (drop place held) copied others fits e in
+    ap Some (take-add place n held ∙ ap (λ l. take place held ++ l) (sym front) ∙ ap (λ l. l ++ take n (copied ++ others)) (sym b))
+
+-- the bytes that it has left were those, and then what is left now
+pub left_less : (place n : ℕ) (held before copied others : List ℕ) → before ≡ drop place held → n ≤ length (drop place held) → copied ≡ take n (drop place held) → before ≡ take n (copied ++ others) ++ drop (place + n) held
+left_less place n held before copied others b fits e =
+    let front = copied_front n (drop place held) copied others fits e in
+    b ∙ sym (take-append-drop n (drop place held)) ∙ ap (λ l. l ++ drop n (drop place held)) (sym front) ∙ ap (λ l. take n (copied ++ others) ++ l) (drop-drop n place held)

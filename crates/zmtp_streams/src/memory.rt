@@ -24,7 +24,8 @@ impl Model for Sink {
 }
 
 impl Sink {
-    /// A writer that takes at most so many bytes a call, and fails after so many calls.
+    /// A writer that takes at most so many bytes a call, and fails after so many calls. One that may
+    /// take none fails at once.
     pub fn new(alloc: Global, most: usize, calls: u64) -> Sink
         ensures { result ≡ record { taken = []; most = most; calls = calls; failed = false } }
     {
@@ -92,6 +93,7 @@ impl Model for Source {
 
 impl Source {
     /// A reader of these bytes that gives at most so many a call, and fails after so many calls.
+    /// One that may give none fails at once: a read of no bytes would be the end.
     pub fn new(bytes: Vec<u8>, most: usize, calls: u64) -> Source
         ensures { result ≡ record { given = []; left = bytes.items; most = most; calls = calls; failed = false; ended = false } }
     {
@@ -109,12 +111,14 @@ impl Source {
 impl Inlet for Source {
     ghost given = { λ s. Some s.given };
 
+    ghost left = { λ s. Some s.left };
+
     ghost failed = { λ s. s.failed };
 
     ghost ended = { λ s. s.ended };
 
     fn read(&mut self, buffer: &mut [u8]) -> Result<usize, Failed> {
-        if self.calls == 0 {
+        if self.calls == 0 || self.most == 0 {
             self.failed = true;
             return Err(Failed);
         }

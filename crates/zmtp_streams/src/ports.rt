@@ -1,5 +1,6 @@
 //! What gives bytes and what takes them.
 ghost use Rattle.std.specs.Prelude.{◌≡◌, ℕ, ◌<◌, ◌≤◌, List, [], Option, Bool, true, length, take, IfOk, MatchResult};
+ghost use Rattle.std.specs.Io.KnownBytes.{ReadConsumes};
 ghost use Rattle.zmtp_streams.specs.Told.{Told};
 
 use thiserror::Error;
@@ -13,6 +14,8 @@ pub struct Failed;
 pub trait Inlet {
     /// The bytes that it has given, where it tells them.
     ghost given: { Self → Option (List ℕ) };
+    /// The bytes that it has still to give, where it tells them.
+    ghost left: { Self → Option (List ℕ) };
     /// Whether a read has failed.
     ghost failed: { Self → Bool };
     /// Whether a read has come to the end.
@@ -26,6 +29,9 @@ pub trait Inlet {
         ensures given { MatchResult result
             (λ n. Told (given self.old) (given self.new) (take n buffer.new))
             (λ _. Told (given self.old) (given self.new) []) }
+
+        // What is read is the front of what was left, and at the end nothing is left.
+        ensures left { ReadConsumes (left self.old) (left self.new) result buffer.new }
 
         // Only an error is a failure, and only a read of no bytes is the end.
         ensures failed { MatchResult result

@@ -5,7 +5,8 @@ use crate::ports::{Failed, Inlet, Outlet};
 use std::io::{Read, Write};
 use std::marker::Model;
 
-/// A reader of std, which doesn't tell the bytes that it has given.
+/// A reader of std. It tells the bytes that are left where the reader does, as a slice or a cursor
+/// over memory; a file or a socket doesn't. It keeps no byte that it has given.
 #[derive(Drop)]
 pub struct StdInlet<R: Read + Drop> {
     reader: R,
@@ -38,6 +39,8 @@ impl<R: Read + Drop> StdInlet<R> {
 impl<R: Read + Drop> Inlet for StdInlet<R> {
     ghost given = { λ _. None };
 
+    ghost left = { λ s. R.remaining s.0 };
+
     ghost failed = { λ s. s.1 };
 
     ghost ended = { λ s. s.2 };
@@ -57,7 +60,8 @@ impl<R: Read + Drop> Inlet for StdInlet<R> {
     }
 }
 
-/// A writer of std. It tells the bytes that it has taken where the writer tells those that it holds.
+/// A writer of std. It tells the bytes that it has taken where the writer tells those that it
+/// holds, as a vector does.
 #[derive(Drop)]
 pub struct StdOutlet<W: Write + Drop> {
     writer: W,

@@ -1,4 +1,5 @@
 //! Short reads and writes, and failures at each call.
+ghost use Rattle.std.specs.Prelude.{◌≡◌, ◌<◌, ◌++◌, length, take, IfOk, OnOk};
 
 use crate::memory::{Sink, Source};
 use crate::ports::{Failed, Inlet, Outlet};
@@ -48,6 +49,44 @@ fn sources(rt: HostRuntime) -> Result<(), Fail> {
             assert_eq!(rt; failed.is_some(), calls < 100);
         }
     }
+    Ok(())
+}
+
+// A read of no bytes is the end, so what may give none fails.
+#[test]
+fn sources_of_none(rt: HostRuntime) -> Result<(), Fail> {
+    let mut source = Source::new(b"hello".to_vec(rt.alloc())?, 0, 100);
+    let (held, failed) = read_all(rt.alloc(), &mut source)?;
+    assert_eq!(rt; held.len(), 0);
+    assert_eq!(rt; failed, Some(Failed));
+    Ok(())
+}
+
+// Over a slice the clauses of a read name the slice's bytes.
+fn read_slice(from: &mut StdInlet<&[u8]>, buffer: &mut [u8]) -> Result<usize, Failed>
+    requires { 0 < length buffer.old }
+    ensures { IfOk result (λ n. from.old.0.now ≡ take n buffer.new ++ from.new.0.now) }
+{
+    from.read(buffer)
+}
+
+// Over a vector the clauses of a write name the vector's bytes.
+fn write_vec(to: &mut StdOutlet<Vec<u8>>, bytes: &[u8]) -> Result<(), Failed>
+    ensures { OnOk result (to.new.0.items ≡ to.old.0.items ++ bytes.now) }
+{
+    write_all(to, bytes)
+}
+
+#[test]
+fn told_bytes(rt: HostRuntime) -> Result<(), Fail> {
+    let mut inlet = StdInlet::new(b"hello".as_slice());
+    let mut buffer = [0u8; 4];
+    assert_eq!(rt; read_slice(&mut inlet, &mut buffer), Ok(4));
+    assert_eq!(rt; &buffer, b"hell");
+    let mut outlet = StdOutlet::new(Vec::new(rt.alloc()));
+    assert_eq!(rt; write_vec(&mut outlet, b"hell"), Ok(()));
+    assert_eq!(rt; write_vec(&mut outlet, b"o"), Ok(()));
+    assert_eq!(rt; outlet.into_inner().as_slice(), b"hello".as_slice());
     Ok(())
 }
 

@@ -348,3 +348,84 @@ fn conversions(rt: HostRuntime) -> Result<(), Fail> {
     assert_eq!(rt; frames.len(), 0);
     Ok(())
 }
+
+// A greeting, a DEALER's READY with the identity `me`, three messages, and a flag byte of no frame.
+const CONVERSATION: &[u8] =
+    b"\xFF\0\0\0\0\0\0\0\x01\x7F\x03\0NULL\0\0\0\0\0\0\0\0\0\0\0\0\0\0\0\0\0\
+    \0\0\0\0\0\0\0\0\0\0\0\0\0\0\0\0\0\0\0\0\0\0\0\0\0\0\0\0\0\0\0\
+    \x04\x2B\x05READY\x0BSocket-Type\0\0\0\x06DEALER\x08Identity\0\0\0\x02me\
+    \x01\x01a\0\x02hi\0\0\x01\0\x01\x05hello\0\x01!\x08";
+
+// Whether these are the frames, in this order.
+fn has_frames(message: &Frames, frames: &[&[u8]]) -> bool {
+    message
+        .as_slice()
+        .iter()
+        .map(Bytes::as_slice)
+        .eq(frames.iter().copied())
+}
+
+// The identity that the peer gave.
+fn identity_of(side: &Side) -> Option<&[u8]> {
+    side.identity().map(Bytes::as_slice)
+}
+
+// Feeds the conversation in pieces of this size. Where memory is wanting for a piece the side has
+// to be as before, and the same piece is fed again. Nothing else here takes memory.
+fn converse(rt: &impl Abort, alloc: Global, size: usize) -> Result<(), Fail> {
+    let want: [&[&[u8]]; 3] = [&[b"a", b"hi"], &[b""], &[b"", b"hello", b"!"]];
+    let mut next = 0usize;
+    let mut side = Side::new(alloc, Role::Router);
+    if size == 0 {
+        return Ok(());
+    }
+    let mut broken = None;
+    for piece in CONVERSATION.chunks(size) {
+        let was_ready = side.is_ready();
+        let was_named = side.identity().is_some();
+        let mut answer = side.feed(alloc, piece);
+        if let Err(FeedFault::NoMemory) = answer {
+            assert_eq!(rt; side.is_ready(), was_ready);
+            assert_eq!(rt; side.identity().is_some(), was_named);
+            answer = side.feed(alloc, piece);
+        }
+        let messages = match answer {
+            Ok(messages) => messages,
+            Err(FeedFault::Broken { before, cause }) => {
+                broken = Some(cause);
+                before
+            }
+            Err(FeedFault::NoMemory) => return Err(Fail::from(AllocError)),
+        };
+        for message in messages.as_slice() {
+            assert!(rt; next < want.len());
+            assert!(rt; has_frames(message, want[next]));
+            next += 1;
+        }
+    }
+    assert_eq!(rt; next, want.len());
+    assert_eq!(rt; broken, Some(Cause::Flags));
+    assert_eq!(rt; identity_of(&side), Some(b"me".as_slice()));
+    Ok(())
+}
+
+// With an allocation refused, each of these still gives the ample answer.
+#[test]
+fn fed_again_whole(rt: HostRuntime) -> Result<(), Fail> {
+    converse(&rt, rt.alloc(), 1000)
+}
+
+#[test]
+fn fed_again_in_two(rt: HostRuntime) -> Result<(), Fail> {
+    converse(&rt, rt.alloc(), 113)
+}
+
+#[test]
+fn fed_again_in_sixteens(rt: HostRuntime) -> Result<(), Fail> {
+    converse(&rt, rt.alloc(), 16)
+}
+
+#[test]
+fn fed_again_byte_by_byte(rt: HostRuntime) -> Result<(), Fail> {
+    converse(&rt, rt.alloc(), 1)
+}
