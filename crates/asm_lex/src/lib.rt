@@ -1,0 +1,15 @@
+// The tokens of a line of 8080 assembly language, with their columns.
+// `tokens` reads words, numbers, strings and signs up to the line's end or its comment.
+// Its answer is exact: the tokens that the line spells, or its first fault at its column.
+// Each line spells one list of tokens, or spells tokens up to one fault: `laws` says so both ways.
+// Tokens borrow the line, and a line of n bytes takes time in proportion to n.
+#![tactic(auto)]
+
+mod class;
+pub mod laws;
+pub mod lexer;
+mod number;
+mod quote;
+#[cfg(test)]
+mod tests;
+pub mod text;

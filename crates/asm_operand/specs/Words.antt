@@ -1,0 +1,42 @@
+-- Words that can't stand where they do.
+use Rattle.std.specs.Prelude.{ℕ, List, [], ◌∷◌, Bool, true, false, Option, Some, None, if◌then◌else◌, ◌==◌, ◌&&◌, ◌||◌, not}
+use Rattle.asm_syntax.specs.declared.keyword.Keyword as keywords
+use Rattle.asm_syntax.specs.declared.keyword.Keyword.TheVariants as keyword
+use Rattle.asm_syntax.specs.Lexemes.{Lexeme, Keyword, Overlong, Sign, Piece}
+use Rattle.asm_operand.specs.Commas.{is_comma}
+
+-- behind a comma, an opening parenthesis or an operator an atom of an expression begins
+abbrev pub leads : Lexeme → Bool
+leads (Sign s) = s == 44 || (s == 40 || (s == 43 || (s == 45 || (s == 42 || s == 47))))
+leads (Keyword (keyword.Prefix op)) = true
+leads (Keyword (keyword.Infix op)) = true
+leads _ = false
+
+abbrev pub ends_operand : List Piece → Bool
+ends_operand [] = true
+ends_operand (p ∷ ps) = is_comma p.1
+
+-- where an atom begins, HIGH, LOW and NOT may stand, and a register that is a whole operand
+abbrev pub keyword_misplaced : Bool → keywords.Keyword → List Piece → Bool
+keyword_misplaced begins_operand (keyword.Prefix op) behind = false
+keyword_misplaced begins_operand (keyword.Register r) behind =
+    not (begins_operand && ends_operand behind)
+keyword_misplaced begins_operand _ behind = true
+
+-- whether a lexeme is a word that can't stand before these pieces, where an operand begins or
+-- doesn't, and where an atom begins or doesn't
+abbrev pub is_misplaced : Bool → Bool → Lexeme → List Piece → Bool
+is_misplaced begins_operand begins_atom Overlong behind = true
+is_misplaced begins_operand begins_atom (Keyword k) behind =
+    begins_atom && keyword_misplaced begins_operand k behind
+is_misplaced begins_operand begins_atom _ behind = false
+
+-- the column of the first word that can't stand where it does
+unfoldable pub misplaced_from : Bool → Bool → List Piece → Option ℕ
+misplaced_from begins_operand begins_atom [] = None
+misplaced_from begins_operand begins_atom (p ∷ ps) =
+    if is_misplaced begins_operand begins_atom p.1 ps then Some p.0
+    else misplaced_from (is_comma p.1) (leads p.1) ps
+
+abbrev pub misplaced_word : List Piece → Option ℕ
+misplaced_word ps = misplaced_from true true ps

@@ -1,0 +1,4 @@
+pub mod Instructions
+pub mod Lexemes
+pub mod Outcome
+pub mod Words

@@ -1,0 +1,120 @@
+//! What can be wrong with a cell.
+ghost use Rattle.std.specs.Prelude.{◌≡◌};
+
+use std::alloc::{AllocError, AllocFailed};
+use thiserror::Error;
+
+/// What is wrong at a place of a cell.
+#[derive(Clone, Copy, Debug, PartialEq, Eq, Error)]
+pub enum FaultKind {
+    /// A character that can't stand outside of comments.
+    #[error("Character")]
+    Character,
+    /// A number above 65,535, or with a digit that its base doesn't have.
+    #[error("Number")]
+    Number,
+    /// A string that isn't closed, is empty or too long, or has a character that none may have.
+    #[error("Text")]
+    Text,
+    /// A word that stands where a name must, and can't be one.
+    #[error("Name")]
+    Name,
+    /// No mnemonic or directive where one must stand.
+    #[error("Mnemonic")]
+    Mnemonic,
+    /// Operands that the operation doesn't have.
+    #[error("Operands")]
+    Operands,
+    /// IF, ELSE and ENDIF that don't match: at the end of the text, or at a word.
+    #[error("Conditional")]
+    Conditional { is_missing_endif: bool },
+    /// A cell of more than 1,048,576 bytes or 65,537 lines.
+    #[error("TooLong")]
+    TooLong,
+    /// A name without a value.
+    #[error("Undefined")]
+    Undefined,
+    /// A division by zero.
+    #[error("Divisor")]
+    Divisor,
+    /// An expression deeper than 64.
+    #[error("Nesting")]
+    Nesting,
+    /// A second definition of a name.
+    #[error("Twice")]
+    Twice,
+    /// A value that is needed before it is there, or a definition that comes too late.
+    #[error("Early")]
+    Early,
+    /// A value that doesn't fit its byte, or no number of a restart.
+    #[error("ByteRange")]
+    ByteRange,
+    /// A byte at an address that has one.
+    #[error("Overlap")]
+    Overlap,
+    /// A byte behind the last address, 65,535.
+    #[error("PastEnd")]
+    PastEnd,
+}
+
+/// Why a line isn't read: memory ran out, or what is wrong at a column from 1.
+#[derive(Clone, Copy, Debug, PartialEq, Eq, Error)]
+pub enum LineFault {
+    #[error("NoMemory")]
+    NoMemory,
+    #[error("{column} {kind}")]
+    At { column: usize, kind: FaultKind },
+}
+
+impl From<AllocError> for LineFault {
+    ghost use Rattle.asm_syntax.specs.declared.fault.LineFault.TheVariants.{NoMemory};
+
+    ghost from_gives = { λ _ fault. fault ≡ NoMemory };
+
+    fn from(_: AllocError) -> LineFault {
+        LineFault::NoMemory
+    }
+}
+
+impl<T: Drop> From<AllocFailed<T>> for LineFault {
+    ghost use Rattle.asm_syntax.specs.declared.fault.LineFault.TheVariants.{NoMemory};
+
+    ghost from_gives = { λ _ fault. fault ≡ NoMemory };
+
+    fn from(_: AllocFailed<T>) -> LineFault {
+        LineFault::NoMemory
+    }
+}
+
+/// Why a cell isn't assembled: memory ran out, or what is wrong at a line and a column from 1.
+#[derive(Clone, Copy, Debug, PartialEq, Eq, Error)]
+pub enum AsmFault {
+    #[error("NoMemory")]
+    NoMemory,
+    #[error("{line}:{column} {kind}")]
+    At {
+        line: usize,
+        column: usize,
+        kind: FaultKind,
+    },
+}
+
+impl From<AllocError> for AsmFault {
+    ghost use Rattle.asm_syntax.specs.declared.fault.AsmFault.TheVariants as asm;
+
+    ghost from_gives = { λ _ fault. fault ≡ asm.NoMemory };
+
+    fn from(_: AllocError) -> AsmFault {
+        AsmFault::NoMemory
+    }
+}
+
+impl<T: Drop> From<AllocFailed<T>> for AsmFault {
+    ghost use Rattle.asm_syntax.specs.declared.fault.AsmFault.TheVariants as asm;
+
+    ghost from_gives = { λ _ fault. fault ≡ asm.NoMemory };
+
+    fn from(_: AllocFailed<T>) -> AsmFault {
+        AsmFault::NoMemory
+    }
+}

@@ -1,0 +1,189 @@
+//! What a line says.
+ghost use Rattle.std.specs.Prelude.{◌≡◌, ◌≤◌, ◌<◌, ◌++◌, ◌∷◌, [], length, OnOk, OnErr};
+ghost use Rattle.asm_syntax.specs.Instructions.{byte_instruction, word_instruction};
+
+use crate::sequence::Sequence;
+use asm_expr::expression::Expr;
+use asm_expr::name::Name;
+use i80_rows::instruction::{Cond, Instr, Operation as AluOperation, Pair, Reg};
+use std::alloc::{AllocError, Global};
+use std::marker::Model;
+
+/// The most lines that a cell has.
+pub const MOST_LINES: usize = 65_537;
+
+/// An expression and the column, from 1, of its first character.
+#[derive(Drop)]
+pub struct Operand {
+    pub column: usize,
+    pub expr: Expr,
+}
+
+/// A name that a statement defines, and the column at which it stands.
+#[derive(Drop)]
+pub struct Label {
+    pub column: usize,
+    pub name: Name,
+}
+
+/// An instruction that lacks the byte behind its opcode.
+#[derive(Clone, Copy, Debug, PartialEq, Eq)]
+pub enum ByteOperation {
+    Mvi(Reg),
+    AluImmediate(AluOperation),
+    Out,
+    In,
+}
+
+impl ByteOperation {
+    /// The instruction with this byte.
+    pub fn instruction(self, byte: u8) -> Instr
+        ensures { result ≡ byte_instruction self byte }
+    {
+        match self {
+            ByteOperation::Mvi(reg) => Instr::Mvi(reg, byte),
+            ByteOperation::AluImmediate(operation) => Instr::AluImmediate(operation, byte),
+            ByteOperation::Out => Instr::Out(byte),
+            ByteOperation::In => Instr::In(byte),
+        }
+    }
+}
+
+/// An instruction that lacks the word behind its opcode.
+#[derive(Clone, Copy, Debug, PartialEq, Eq)]
+pub enum WordOperation {
+    Lxi(Pair),
+    Shld,
+    Lhld,
+    Sta,
+    Lda,
+    Jmp,
+    JumpIf(Cond),
+    Call,
+    CallIf(Cond),
+}
+
+impl WordOperation {
+    /// The instruction with this word.
+    pub fn instruction(self, word: u16) -> Instr
+        ensures { result ≡ word_instruction self word }
+    {
+        match self {
+            WordOperation::Lxi(pair) => Instr::Lxi(pair, word),
+            WordOperation::Shld => Instr::Shld(word),
+            WordOperation::Lhld => Instr::Lhld(word),
+            WordOperation::Sta => Instr::Sta(word),
+            WordOperation::Lda => Instr::Lda(word),
+            WordOperation::Jmp => Instr::Jmp(word),
+            WordOperation::JumpIf(cond) => Instr::JumpIf(cond, word),
+            WordOperation::Call => Instr::Call(word),
+            WordOperation::CallIf(cond) => Instr::CallIf(cond, word),
+        }
+    }
+}
+
+/// An instruction, with the expression that its operand is.
+#[derive(Drop)]
+pub enum Instruction {
+    /// One byte long, with no expression.
+    Alone(Instr),
+    Byte(ByteOperation, Operand),
+    Word(WordOperation, Operand),
+    /// RST.
+    Restart(Operand),
+}
+
+/// An operand of DB.
+#[derive(Drop)]
+pub enum Data {
+    /// The bytes of a string that stands alone, from 1 to 128.
+    Text(Sequence<u8>),
+    Byte(Operand),
+}
+
+/// What a statement does.
+#[derive(Drop)]
+pub enum Action {
+    Instruction(Instruction),
+    /// DB.
+    Bytes(Sequence<Data>),
+    /// DW.
+    Words(Sequence<Operand>),
+    /// DS.
+    Space(Operand),
+    /// ORG.
+    Origin(Operand),
+    /// EQU.
+    Equate(Label, Operand),
+    /// SET.
+    Set(Label, Operand),
+    If(Operand),
+    Else,
+    EndIf,
+    End(Option<Operand>),
+}
+
+/// An action and the column of its word.
+#[derive(Drop)]
+pub struct Operation {
+    pub column: usize,
+    pub action: Action,
+}
+
+/// What a line says.
+#[derive(Drop)]
+pub struct Statement {
+    pub label: Option<Label>,
+    pub operation: Option<Operation>,
+}
+
+/// The statements of a cell, one for each line up to the one with END.
+#[derive(Drop)]
+pub struct Statements {
+    lines: Vec<Statement>,
+}
+
+impl Model for Statements {
+    ghost use Rattle.std.specs.Prelude.{List, length, ◌≤◌};
+    ghost use Rattle.asm_syntax.specs.declared.statement.Statement.{Statement};
+    ghost use Rattle.asm_syntax.specs.declared.statement.TheConstants.{MOST_LINES};
+    ghost use Rattle.std.specs.Coded.{codes};
+    ghost use Rattle.asm_expr.specs.contracts.expression.Expr as expr;
+
+    ghost Value = { List Statement };
+
+    ghost coded = { Prim.hlevel (codes, expr.the_row.coded) };
+
+    ghost view = { λ s. s.lines.items };
+
+    ghost invariant = { λ s. length s.lines.items ≤ MOST_LINES };
+}
+
+impl Statements {
+    /// No statements.
+    pub fn new(alloc: Global) -> Statements
+        ensures { result ≡ [] }
+    {
+        Statements {
+            lines: Vec::new(alloc),
+        }
+    }
+
+    /// Adds the statement of the next line.
+    pub fn push(&mut self, statement: Statement) -> Result<(), AllocError>
+        requires { length self.old < MOST_LINES }
+        ensures ok { OnOk result (self.new ≡ self.old ++ statement ∷ []) }
+        ensures err { OnErr result (self.new ≡ self.old) }
+    {
+        self.lines.push(statement)?;
+        Ok(())
+    }
+
+    /// The statements.
+    pub fn as_slice(&self) -> &[Statement]
+        ensures items { result.now ≡ self.now }
+        ensures within { length result.now ≤ MOST_LINES }
+    {
+        self.lines.as_slice()
+    }
+}

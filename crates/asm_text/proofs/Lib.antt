@@ -1,0 +1,3 @@
+pub mod Conditionals
+pub mod Operands
+pub mod Texts

@@ -1,0 +1,44 @@
+//! How many operands stand behind an operation.
+ghost use Rattle.std.specs.Prelude.{◌≡◌};
+ghost use Rattle.asm_syntax.specs.Lexemes.{pieces_of};
+ghost use Rattle.asm_syntax.specs.Outcome.{LineGives};
+ghost use Rattle.asm_text.specs.Forms.{no_operand, one_operand, two_operands};
+
+use crate::registers::fitting;
+use asm_operand::commas::{pair, single};
+use asm_syntax::fault::{FaultKind, LineFault};
+use asm_syntax::token::Placed;
+
+/// A value, where no operand stands behind the operation.
+pub fn no_operand<T: Drop>(column: usize, value: T, tokens: &[Placed]) -> Result<T, LineFault>
+    ensures { LineGives (λ x. x) result (no_operand column value (pieces_of tokens.now)) }
+{
+    if tokens.is_empty() {
+        Ok(value)
+    } else {
+        Err(LineFault::At {
+            column,
+            kind: FaultKind::Operands,
+        })
+    }
+}
+
+/// The operand, where one stands behind the operation.
+pub fn one_operand<'a>(
+    column: usize,
+    tokens: &'a [Placed<'a>],
+) -> Result<&'a [Placed<'a>], LineFault>
+    ensures { LineGives (λ x. pieces_of x.now) result (one_operand column (pieces_of tokens.now)) }
+{
+    fitting(column, single(tokens))
+}
+
+/// The operands, where two stand behind the operation.
+pub fn two_operands<'a>(
+    column: usize,
+    tokens: &'a [Placed<'a>],
+) -> Result<(&'a [Placed<'a>], &'a [Placed<'a>]), LineFault>
+    ensures { LineGives (λ x. (pieces_of x.0.now, pieces_of x.1.now)) result (two_operands column (pieces_of tokens.now)) }
+{
+    fitting(column, pair(tokens))
+}

@@ -1,0 +1,135 @@
+//! Instructions: a mnemonic with the operands of its form.
+ghost use Rattle.std.specs.Prelude.{◌≡◌};
+ghost use Rattle.asm_syntax.specs.Lexemes.{pieces_of};
+ghost use Rattle.asm_syntax.specs.Outcome.{LineGives};
+ghost use Rattle.asm_text.specs.Forms.{move_of, move_between, one_operand, two_operands, no_operand, register_instruction, pair_instruction, index_instruction, stack_instruction, instruction_of};
+
+use crate::forms::{no_operand, one_operand, two_operands};
+use crate::registers::{
+    fitting, index_operand, pair_operand, register_of, register_operand, stack_operand,
+};
+use asm_operand::expression::expression;
+use asm_syntax::fault::LineFault;
+use asm_syntax::keyword::{
+    IndexOperation, Mnemonic, PairOperation, RegisterOperation, StackOperation,
+};
+use asm_syntax::statement::{ByteOperation, Instruction, WordOperation};
+use asm_syntax::token::Placed;
+use i80_rows::instruction::{IndexPair, Instr, Pair, Reg, Register, StackPair};
+use std::alloc::Global;
+
+fn register_instruction(operation: RegisterOperation, reg: Reg) -> Instr
+    ensures { result ≡ register_instruction operation reg }
+{
+    match operation {
+        RegisterOperation::Increment => Instr::Inr(reg),
+        RegisterOperation::Decrement => Instr::Dcr(reg),
+        RegisterOperation::Alu(alu) => Instr::Alu(alu, reg),
+    }
+}
+
+fn pair_instruction(operation: PairOperation, pair: Pair) -> Instr
+    ensures { result ≡ pair_instruction operation pair }
+{
+    match operation {
+        PairOperation::Increment => Instr::Inx(pair),
+        PairOperation::Decrement => Instr::Dcx(pair),
+        PairOperation::Add => Instr::Dad(pair),
+    }
+}
+
+fn index_instruction(operation: IndexOperation, pair: IndexPair) -> Instr
+    ensures { result ≡ index_instruction operation pair }
+{
+    match operation {
+        IndexOperation::Store => Instr::Stax(pair),
+        IndexOperation::Load => Instr::Ldax(pair),
+    }
+}
+
+fn stack_instruction(operation: StackOperation, pair: StackPair) -> Instr
+    ensures { result ≡ stack_instruction operation pair }
+{
+    match operation {
+        StackOperation::Push => Instr::Push(pair),
+        StackOperation::Pop => Instr::Pop(pair),
+    }
+}
+
+fn move_between(to: Option<Register>, from: Option<Register>) -> Option<Instr>
+    ensures { result ≡ move_between to from }
+{
+    match (to, from) {
+        (Some(to), Some(from)) => Some(Instr::Mov(to, from)),
+        (Some(to), None) => Some(Instr::MovFromM(to)),
+        (None, Some(from)) => Some(Instr::MovToM(from)),
+        (None, None) => None,
+    }
+}
+
+fn move_of(column: usize, to: &[Placed], from: &[Placed]) -> Result<Instr, LineFault>
+    ensures { LineGives (λ x. x) result (move_of column (pieces_of to.now, pieces_of from.now)) }
+{
+    let to = register_operand(column, to)?;
+    let from = register_operand(column, from)?;
+    fitting(column, move_between(register_of(to), register_of(from)))
+}
+
+/// The instruction that a mnemonic in this column names with the operands behind it.
+#[tactic(auto, unfolding(crate::specs::Forms::instruction_of))]
+pub fn instruction(
+    alloc: Global,
+    column: usize,
+    mnemonic: Mnemonic,
+    tokens: &[Placed],
+) -> Result<Instruction, LineFault>
+    ensures { LineGives (λ x. x) result (instruction_of column mnemonic (pieces_of tokens.now)) }
+{
+    match mnemonic {
+        Mnemonic::Alone(instr) => no_operand(column, Instruction::Alone(instr), tokens),
+        Mnemonic::Register(operation) => {
+            let reg = register_operand(column, one_operand(column, tokens)?)?;
+            Ok(Instruction::Alone(register_instruction(operation, reg)))
+        }
+        Mnemonic::Move => {
+            let (to, from) = two_operands(column, tokens)?;
+            Ok(Instruction::Alone(move_of(column, to, from)?))
+        }
+        Mnemonic::MoveImmediate => {
+            let (to, byte) = two_operands(column, tokens)?;
+            let reg = register_operand(column, to)?;
+            let byte = expression(alloc, column, byte)?;
+            Ok(Instruction::Byte(ByteOperation::Mvi(reg), byte))
+        }
+        Mnemonic::LoadPair => {
+            let (to, word) = two_operands(column, tokens)?;
+            let pair = pair_operand(column, to)?;
+            let word = expression(alloc, column, word)?;
+            Ok(Instruction::Word(WordOperation::Lxi(pair), word))
+        }
+        Mnemonic::Pair(operation) => {
+            let pair = pair_operand(column, one_operand(column, tokens)?)?;
+            Ok(Instruction::Alone(pair_instruction(operation, pair)))
+        }
+        Mnemonic::Index(operation) => {
+            let pair = index_operand(column, one_operand(column, tokens)?)?;
+            Ok(Instruction::Alone(index_instruction(operation, pair)))
+        }
+        Mnemonic::Stack(operation) => {
+            let pair = stack_operand(column, one_operand(column, tokens)?)?;
+            Ok(Instruction::Alone(stack_instruction(operation, pair)))
+        }
+        Mnemonic::Byte(operation) => {
+            let byte = expression(alloc, column, one_operand(column, tokens)?)?;
+            Ok(Instruction::Byte(operation, byte))
+        }
+        Mnemonic::Word(operation) => {
+            let word = expression(alloc, column, one_operand(column, tokens)?)?;
+            Ok(Instruction::Word(operation, word))
+        }
+        Mnemonic::Restart => {
+            let number = expression(alloc, column, one_operand(column, tokens)?)?;
+            Ok(Instruction::Restart(number))
+        }
+    }
+}
