@@ -1,12 +1,12 @@
 -- One step along a chain of operators.
-use Rattle.std.proofs.Common.{◌≡◌, ℕ, zero, suc, ◌+◌, ◌-◌, ◌<◌, ◌≤◌, ◌≢◌, List, [], ◌∷◌, Option, Some, None, Result, Ok, Err, refl, sym, ap, ◌∙◌, arith}
+use Rattle.std.proofs.Common.{◌≡◌, ℕ, zero, suc, ◌+◌, ◌-◌, ◌≢◌, List, Some, None, Result, Ok, Err, refl, arith}
 use Rattle.asm_expr.specs.Tree.{Tree, Infix}
 use Rattle.asm_expr.specs.declared.expression.Binary.{Binary}
 use Rattle.asm_syntax.specs.declared.fault.FaultKind.TheVariants as kind
 use Rattle.asm_syntax.specs.Lexemes.{Lexeme}
 use Rattle.asm_syntax.specs.declared.fault.LineFault.{LineFault}
 use Rattle.asm_syntax.specs.declared.fault.LineFault.TheVariants as line
-use Rattle.asm_syntax.specs.Outcome.{Fault, ◌>>=◌, LineFails}
+use Rattle.asm_syntax.specs.Outcome.{Fault, LineFails}
 use Rattle.asm_operand.specs.Operators.{infix_strength}
 use Rattle.asm_operand.specs.Climb.{Found, made, infix_at, operand_at, chain, expr_at}
 

@@ -1,16 +1,16 @@
 -- The laws of the definition of expressions.
-use Rattle.std.proofs.Common.{◌≡◌, ℕ, List, [], ◌∷◌, ◌++◌, ◌↔◌, IsTrue, Bool, true, false, Some, Ok, Err, refl, sym, ap, ◌∙◌, arith, append-nil, inl, inr, ◌⊎◌, ◌≤◌, ◌<◌, ◌+◌}
+use Rattle.std.proofs.Common.{◌≡◌, ℕ, List, [], ◌↔◌, IsTrue, Bool, true, false, Some, Err, refl, sym, ap, ◌∙◌, arith, append-nil, inl, inr, ◌≤◌, ◌<◌}
 use Rattle.std.specs.Prelude.{nat_le}
 use Rattle.std.proofs.lemmas.Bool.Decides.{nat_tests}
 use Rattle.asm_expr.specs.Tree.{Tree, depth_of}
 use Rattle.asm_syntax.specs.declared.fault.FaultKind.TheVariants as kind
 use Rattle.asm_syntax.specs.Outcome.{◌>>=◌}
 use Rattle.asm_syntax.specs.Lexemes.{Lexeme, Piece}
-use Rattle.asm_operand.specs.declared.shape.Place.TheVariants.{BeforeOperand, BehindOperand}
+use Rattle.asm_operand.specs.declared.shape.Place.TheVariants.{BeforeOperand}
 use Rattle.asm_operand.specs.Operators.{symbols}
 use Rattle.asm_operand.specs.Shape.{shape, is_expression}
 use Rattle.asm_operand.specs.Climb.{expr_at, expression, first_column, whole}
-use Rattle.asm_operand.specs.Reading.{Spells, IsProper, Reads, within_depth}
+use Rattle.asm_operand.specs.Reading.{Spells, Reads, within_depth}
 use Rattle.asm_operand.proofs.Shapes.{shape-spelled}
 use Rattle.asm_operand.proofs.Trees.{Found_whole, found_whole}
 use Rattle.asm_operand.proofs.Readings.{reading_of}

@@ -1,9 +1,9 @@
 -- Operands between commas, one token after the other.
-use Rattle.std.proofs.Common.{◌≡◌, ℕ, suc, ◌+◌, ◌<◌, ◌≤◌, List, [], ◌∷◌, ◌++◌, Bool, true, false, length, get_or, take, drop, map, drop-cons, Option, Some, None, refl, sym, ap, ◌∙◌, arith, add-one, append_assoc, append-nil}
+use Rattle.std.proofs.Common.{◌≡◌, ℕ, suc, ◌+◌, ◌<◌, ◌≤◌, List, [], ◌∷◌, ◌++◌, Bool, true, false, length, get_or, take, drop, drop-cons, Option, Some, None, refl, sym, ap, ◌∙◌, add-one, append_assoc, append-nil}
 use Rattle.std.proofs.lemmas.List.{take_more, map_push, drop_all, take_all}
 use Rattle.asm_syntax.specs.declared.token.Placed.{Placed}
 use Rattle.asm_syntax.specs.Lexemes.{Piece, piece_of, pieces_of, lexeme_of}
-use Rattle.asm_operand.specs.Commas.{is_comma, operands_of, operands_behind, split_commas, next_operand, onto_front, onto_first, single, pair}
+use Rattle.asm_operand.specs.Commas.{is_comma, operands_of, operands_behind, split_commas, next_operand, single, pair}
 
 pub operands_step : (ps : List Piece) → operands_of ps ≡ (next_operand ps).0 ∷ operands_behind (next_operand ps).1
 unfolding operands_of next_operand

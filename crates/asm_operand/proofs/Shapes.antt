@@ -1,5 +1,5 @@
 -- What spells a tree has the shape of an expression.
-use Rattle.std.proofs.Common.{◌≡◌, ℕ, suc, List, [], ◌∷◌, ◌++◌, Option, Some, refl, ap, append_assoc, ◌∙◌}
+use Rattle.std.proofs.Common.{◌≡◌, ℕ, suc, List, ◌∷◌, ◌++◌, Option, Some, refl, ap, append_assoc, ◌∙◌}
 use Rattle.asm_expr.specs.Tree as tree
 use Rattle.asm_expr.specs.declared.expression.Unary.{Unary}
 use Rattle.asm_expr.specs.declared.expression.Binary.{Binary}

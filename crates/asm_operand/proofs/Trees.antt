@@ -1,5 +1,5 @@
 -- The climb finds the tree that lexemes spell, if it is at most 64 deep.
-use Rattle.std.proofs.Common.{◌≡◌, ℕ, zero, suc, ◌+◌, ◌-◌, ◌<◌, ◌≤◌, ◌≢◌, ◌⊎◌, inl, inr, List, [], ◌∷◌, ◌++◌, Bool, true, false, Option, Some, None, Result, Ok, Err, max, min, refl, sym, ap, ◌∙◌, arith, append_assoc, append-nil}
+use Rattle.std.proofs.Common.{◌≡◌, ℕ, zero, suc, ◌+◌, ◌-◌, ◌<◌, ◌≤◌, ◌⊎◌, inl, inr, List, [], ◌∷◌, ◌++◌, true, false, Option, Some, None, Ok, Err, max, refl, ◌∙◌, arith, append_assoc, append-nil}
 use Rattle.std.specs.Prelude.{nat_lt, nat_le}
 use Rattle.std.proofs.lemmas.Bool.Decides.{nat_tests}
 use Rattle.asm_expr.specs.Tree as tree
@@ -8,10 +8,9 @@ use Rattle.asm_expr.specs.declared.expression.Unary.{Unary}
 use Rattle.asm_expr.specs.declared.expression.Binary.{Binary}
 use Rattle.asm_syntax.specs.declared.fault.FaultKind.TheVariants as kind
 use Rattle.asm_syntax.specs.Lexemes.{Lexeme, Sign}
-use Rattle.asm_syntax.specs.Outcome.{Fault, ◌>>=◌}
-use Rattle.asm_operand.specs.Operators.{prefix_strength, infix_strength, is_sign, prefix_of, infix_of, atom_in}
+use Rattle.asm_operand.specs.Operators.{prefix_strength, infix_strength, prefix_of, infix_of}
 use Rattle.asm_operand.specs.Reading.{Spells, weakest_left, weakest_right, IsProper}
-use Rattle.asm_operand.specs.Climb.{Found, made, closed, infix_at, strong, operand_at, chain, expr_at}
+use Rattle.asm_operand.specs.Climb.{made, closed, infix_at, operand_at, chain, expr_at}
 use Rattle.asm_operand.proofs.Climbs.{chain_stops, chain_right_faults, chain_made_faults, chain_goes_on}
 
 -- the strength of the operator between operands at the front, 0 if there is none

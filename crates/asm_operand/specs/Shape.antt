@@ -1,5 +1,5 @@
 -- The shape of an expression: operands with operators before and between them, and parentheses.
-use Rattle.std.specs.Prelude.{ℕ, zero, suc, ◌+◌, List, [], ◌∷◌, Bool, true, false, Option, Some, None, if◌then◌else◌, is_some}
+use Rattle.std.specs.Prelude.{ℕ, zero, suc, List, [], ◌∷◌, Bool, true, false, Option, Some, None, if◌then◌else◌, is_some}
 use Rattle.asm_syntax.specs.Lexemes.{Lexeme, Piece}
 use Rattle.asm_operand.specs.Operators.{is_sign, prefix_of, infix_of, atom_in, symbols}
 use Rattle.asm_operand.specs.declared.shape.Place.{Place}

@@ -1,4 +1,4 @@
-use Rattle.std.proofs.Common.{arith, sym, ap, ◌∙◌, rules}
+use Rattle.std.proofs.Common.{arith, sym, ◌∙◌}
 use Rattle.asm_syntax.specs.Lexemes.{pieces_of}
 use Rattle.asm_operand.proofs.Operands.{goes_on, stops, ended, operands_are}
 use Rattle.asm_operand.proofs.commas.next_operand.Goals as goal

@@ -1,9 +1,8 @@
-use Rattle.std.proofs.Common.{arith, rules, sym, ◌∙◌, ◌≡◌, ◌+◌, ◌-◌}
+use Rattle.std.proofs.Common.{arith, sym, ◌∙◌, ◌≡◌, ◌+◌, ◌-◌}
 use Rattle.std.proofs.lemmas.Result.{err_from_is_err_and}
-use Rattle.asm_expr.specs.Tree.{Infix}
 use Rattle.asm_syntax.specs.Lexemes.{pieces_of}
-use Rattle.asm_operand.specs.Operators.{symbols, infix_strength}
-use Rattle.asm_operand.specs.Climb.{expr_at, made}
+use Rattle.asm_operand.specs.Operators.{symbols}
+use Rattle.asm_operand.specs.Climb.{expr_at}
 use Rattle.asm_operand.proofs.Climbs.{chain_stops, chain_right_faults, chain_made_faults, chain_goes_on, chain_ends, fails_along}
 use Rattle.asm_operand.proofs.expression.+climb.Goals as goal
 

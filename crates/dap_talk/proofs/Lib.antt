@@ -1,0 +1,5 @@
+pub mod LineLemmas
+pub mod ReadingLemmas
+pub mod MurmurLemmas
+pub mod SpacedLemmas
+pub mod AskedLemmas

@@ -1,0 +1,128 @@
+-- The kinds of arguments, and what is found for one in a request.
+use Rattle.std.specs.Prelude.{ℕ, ◌+◌, ◌-◌, ◌*◌, ◌==◌, ◌&&◌, nat_le, if◌then◌else◌, List, [], ◌∷◌, Option, Some, None, option_map, option_and_then, is_none, Bool, codes}
+use Rattle.std.specs.Str.{bytes_eq}
+use Rattle.serde_json.specs.Data.{Data, Items, no_items, item}
+use Rattle.serde_json.specs.Events.{items_len}
+use Rattle.serde_json.specs.Find.{get, get_member, as_number, as_u64, as_str, as_array, as_object}
+use Rattle.dap_talk.specs.declared.command.Granularity.{Granularity}
+use Rattle.dap_talk.specs.declared.command.Granularity.TheVariants.{Line, Instruction}
+
+-- what an argument must be
+pub data Kind : Type 0 where
+  -- a whole number, from the first to the second
+  number : ℕ → ℕ → Kind
+  text : Kind
+  -- an object with a text `path`
+  source : Kind
+  -- at most 256 objects with a whole number `line`, and nothing that a plain breakpoint hasn't
+  breakpoints : Kind
+  -- `instruction`, or any other text
+  granularity : Kind
+  -- `0x` and four hexadecimal digits
+  address : Kind
+
+-- what was found for one
+pub data Found : Type 0 where
+  found_number : ℕ → Found
+  found_text : List ℕ → Found
+  found_lines : List ℕ → Found
+  found_granularity : Granularity → Found
+
+-- ---- the kinds
+
+-- JSON's whole numbers are those written without fraction, exponent and minus sign
+abbrev pub whole : Data → Option ℕ
+whole d = option_and_then as_u64 (as_number d)
+
+abbrev pub when_between : ℕ → ℕ → ℕ → Option ℕ
+when_between low high n = if nat_le low n && nat_le n high then Some n else None
+
+abbrev pub whole_between : ℕ → ℕ → Data → Option ℕ
+whole_between low high d = option_and_then (when_between low high) (whole d)
+
+abbrev pub text_at : List ℕ → Data → Option (List ℕ)
+text_at key d = option_and_then as_str (get key d)
+
+-- conditions, hit counts and log messages aren't supported, whatever their values are
+abbrev pub is_plain : Data → Bool
+is_plain d =
+    (is_none (get (codes "condition") d) && is_none (get (codes "hitCondition") d))
+    && is_none (get (codes "logMessage") d)
+
+abbrev pub line_of : Data → Option ℕ
+line_of d =
+    if is_plain d then option_and_then (whole_between 0 4294967295) (get (codes "line") d) else None
+
+abbrev pub lines_of : Items → Option (List ℕ)
+lines_of no_items = Some []
+lines_of (item d ds) =
+    option_and_then (λ line. option_map (λ lines. line ∷ lines) (lines_of ds)) (line_of d)
+
+abbrev pub at_most_256 : Items → Option Items
+at_most_256 ds = if nat_le (items_len ds) 256 then Some ds else None
+
+abbrev pub granularity_of : List ℕ → Granularity
+granularity_of name = if bytes_eq name (codes "instruction") then Instruction else Line
+
+abbrev pub digit_of : ℕ → Option ℕ
+digit_of c =
+    if nat_le 48 c && nat_le c 57 then Some (c - 48) else
+    (if nat_le 65 c && nat_le c 70 then Some (c - 55) else
+    (if nat_le 97 c && nat_le c 102 then Some (c - 87) else None))
+
+-- the number that hexadecimal digits write, behind the number so far
+abbrev pub number_from : ℕ → List ℕ → Option ℕ
+number_from n [] = Some n
+number_from n (c ∷ cs) = option_and_then (λ digit. number_from (n * 16 + digit) cs) (digit_of c)
+
+abbrev pub address_of : List ℕ → Option ℕ
+address_of (first ∷ second ∷ a ∷ b ∷ c ∷ d ∷ []) =
+    if (first == 48) && (second == 120) then number_from 0 (a ∷ b ∷ c ∷ d ∷ []) else None
+address_of other = None
+
+-- what a value is as an argument of a kind, if it is one
+abbrev pub found_in : Kind → Data → Option Found
+found_in (number low high) d = option_map found_number (whole_between low high d)
+found_in text d = option_map found_text (as_str d)
+found_in source d = option_map found_text (text_at (codes "path") d)
+found_in breakpoints d =
+    option_map found_lines (option_and_then lines_of (option_and_then at_most_256 (as_array d)))
+found_in granularity d = option_map (λ name. found_granularity (granularity_of name)) (as_str d)
+found_in address d = option_map found_number (option_and_then address_of (as_str d))
+
+-- ---- the arguments of a command
+
+-- an argument, and what stands for it where it is absent, if it may be
+pub record Argument : Type 0 where
+  pub key : List ℕ
+  pub kind : Kind
+  pub absent : Option Found
+
+abbrev pub required : List ℕ → Kind → Argument
+required key kind = record { key = key; kind = kind; absent = None }
+
+abbrev pub optional : List ℕ → Kind → Found → Argument
+optional key kind absent = record { key = key; kind = kind; absent = Some absent }
+
+-- what stands at a key of the arguments, where these are an object; absent ones are an empty one
+abbrev pub member_of : List ℕ → Option Data → Option (Option Data)
+member_of key None = Some None
+member_of key (Some arguments) = option_map (get_member key) (as_object arguments)
+
+abbrev pub argument_at : List ℕ → Data → Option (Option Data)
+argument_at key request = member_of key (get (codes "arguments") request)
+
+abbrev pub found_or : Argument → Option Data → Option Found
+found_or argument None = argument.absent
+found_or argument (Some d) = found_in argument.kind d
+
+abbrev pub found : Argument → Data → Option Found
+found argument request = option_and_then (found_or argument) (argument_at argument.key request)
+
+-- what is found for each, where each is as it must be
+abbrev pub all_found : List Argument → Data → Option (List Found)
+all_found [] request = Some []
+all_found (argument ∷ arguments) request =
+    option_and_then
+    (λ first. option_map (λ others. first ∷ others) (all_found arguments request))
+    (found argument request)

@@ -1,0 +1,210 @@
+-- The debug commands (Debug Adapter Protocol, "Requests"; Jupyter messaging, "Debug request"): how
+-- each is spelled, and its arguments.
+use Rattle.std.specs.Prelude.{◌≤◌, length, ℕ, zero, suc, List, [], ◌∷◌, Option, option_map, find, codes}
+use Rattle.std.specs.Str.{bytes_eq}
+use Rattle.serde_json.specs.Data.{Data}
+use Rattle.dap_talk.specs.declared.command.Granularity.{Granularity}
+use Rattle.dap_talk.specs.declared.command.Granularity.TheVariants.{Line}
+use Rattle.dap_talk.specs.declared.command.StepKind.{StepKind}
+use Rattle.dap_talk.specs.declared.command.StepKind.TheVariants.{Over, In, Out}
+use Rattle.dap_talk.specs.declared.command.CommandName.{CommandName}
+use Rattle.dap_talk.specs.declared.command.CommandName.TheVariants as name
+use Rattle.dap_talk.specs.declared.command.DapCommand.{DapCommand}
+use Rattle.dap_talk.specs.declared.command.DapCommand.TheVariants as command
+use Rattle.dap_talk.specs.Argument.{Kind, number, text, source, breakpoints, granularity, address, Found, found_number, found_text, found_lines, found_granularity, Argument, required, optional, all_found}
+
+abbrev pub spelled : CommandName → List ℕ
+spelled name.Initialize = codes "initialize"
+spelled name.Attach = codes "attach"
+spelled name.Disconnect = codes "disconnect"
+spelled name.ConfigurationDone = codes "configurationDone"
+spelled name.SetBreakpoints = codes "setBreakpoints"
+spelled name.Threads = codes "threads"
+spelled name.StackTrace = codes "stackTrace"
+spelled name.Scopes = codes "scopes"
+spelled name.Variables = codes "variables"
+spelled name.Continue = codes "continue"
+spelled name.Next = codes "next"
+spelled name.StepIn = codes "stepIn"
+spelled name.StepOut = codes "stepOut"
+spelled name.Pause = codes "pause"
+spelled name.Disassemble = codes "disassemble"
+spelled name.Source = codes "source"
+spelled name.DumpCell = codes "dumpCell"
+spelled name.DebugInfo = codes "debugInfo"
+spelled name.InspectVariables = codes "inspectVariables"
+spelled name.BoardSwitches = codes "boardSwitches"
+spelled name.BoardPress = codes "boardPress"
+spelled name.BoardType = codes "boardType"
+spelled name.BoardReset = codes "boardReset"
+
+-- a whole number of 32 bits
+abbrev pub any_number : Kind
+any_number = number 0 4294967295
+
+abbrev pub byte : Kind
+byte = number 0 255
+
+abbrev pub count_to_256 : Kind
+count_to_256 = number 1 256
+
+abbrev pub number_or_0 : List ℕ → Argument
+number_or_0 key = optional key any_number (found_number 0)
+
+abbrev pub breakpoints_or_none : List ℕ → Argument
+breakpoints_or_none key = optional key breakpoints (found_lines [])
+
+abbrev pub granularity_or_line : List ℕ → Argument
+granularity_or_line key = optional key granularity (found_granularity Line)
+
+-- the arguments of a command; of those that have none, nothing is read
+abbrev pub arguments_of : CommandName → List Argument
+arguments_of name.Initialize = []
+arguments_of name.Attach = []
+arguments_of name.Disconnect = []
+arguments_of name.ConfigurationDone = []
+arguments_of name.SetBreakpoints =
+    required (codes "source") source ∷ breakpoints_or_none (codes "breakpoints") ∷ []
+arguments_of name.Threads = []
+arguments_of name.StackTrace = number_or_0 (codes "startFrame") ∷ number_or_0 (codes "levels") ∷ []
+arguments_of name.Scopes = required (codes "frameId") any_number ∷ []
+arguments_of name.Variables =
+    required (codes "variablesReference") any_number ∷
+    number_or_0 (codes "start") ∷
+    number_or_0 (codes "count") ∷ []
+arguments_of name.Continue = []
+arguments_of name.Next = granularity_or_line (codes "granularity") ∷ []
+arguments_of name.StepIn = granularity_or_line (codes "granularity") ∷ []
+arguments_of name.StepOut = granularity_or_line (codes "granularity") ∷ []
+arguments_of name.Pause = []
+arguments_of name.Disassemble =
+    required (codes "memoryReference") address ∷
+    number_or_0 (codes "offset") ∷
+    number_or_0 (codes "instructionOffset") ∷
+    required (codes "instructionCount") count_to_256 ∷ []
+arguments_of name.Source = required (codes "source") source ∷ []
+arguments_of name.DumpCell = required (codes "code") text ∷ []
+arguments_of name.DebugInfo = []
+arguments_of name.InspectVariables = []
+arguments_of name.BoardSwitches = required (codes "value") byte ∷ []
+arguments_of name.BoardPress = required (codes "vector") byte ∷ []
+arguments_of name.BoardType = required (codes "text") text ∷ []
+arguments_of name.BoardReset = []
+
+-- ---- the typed command
+
+-- What was found at a place, from 0; the table says of which kind it is.
+abbrev pub nth : ℕ → List Found → Found
+nth n [] = found_number 0
+nth zero (value ∷ values) = value
+nth (suc n) (value ∷ values) = nth n values
+
+abbrev pub number_in : Found → ℕ
+number_in (found_number n) = n
+number_in (found_text t) = 0
+number_in (found_lines ls) = 0
+number_in (found_granularity g) = 0
+
+abbrev pub text_in : Found → List ℕ
+text_in (found_number n) = []
+text_in (found_text t) = t
+text_in (found_lines ls) = []
+text_in (found_granularity g) = []
+
+abbrev pub lines_in : Found → List ℕ
+lines_in (found_number n) = []
+lines_in (found_text t) = []
+lines_in (found_lines ls) = ls
+lines_in (found_granularity g) = []
+
+abbrev pub granularity_in : Found → Granularity
+granularity_in (found_number n) = Line
+granularity_in (found_text t) = Line
+granularity_in (found_lines ls) = Line
+granularity_in (found_granularity g) = g
+
+-- the command with the values that were found for its arguments
+abbrev pub command_of : CommandName → List Found → DapCommand
+command_of name.Initialize vs = command.Initialize
+command_of name.Attach vs = command.Attach
+command_of name.Disconnect vs = command.Disconnect
+command_of name.ConfigurationDone vs = command.ConfigurationDone
+command_of name.SetBreakpoints vs =
+    command.SetBreakpoints (text_in (nth 0 vs)) (lines_in (nth 1 vs))
+command_of name.Threads vs = command.Threads
+command_of name.StackTrace vs = command.StackTrace (number_in (nth 0 vs)) (number_in (nth 1 vs))
+command_of name.Scopes vs = command.Scopes (number_in (nth 0 vs))
+command_of name.Variables vs =
+    command.Variables (number_in (nth 0 vs)) (number_in (nth 1 vs)) (number_in (nth 2 vs))
+command_of name.Continue vs = command.Continue
+command_of name.Next vs = command.Step Over (granularity_in (nth 0 vs))
+command_of name.StepIn vs = command.Step In (granularity_in (nth 0 vs))
+command_of name.StepOut vs = command.Step Out (granularity_in (nth 0 vs))
+command_of name.Pause vs = command.Pause
+command_of name.Disassemble vs =
+    command.Disassemble (number_in (nth 0 vs)) (number_in (nth 1 vs))
+    (number_in (nth 2 vs)) (number_in (nth 3 vs))
+command_of name.Source vs = command.Source (text_in (nth 0 vs))
+command_of name.DumpCell vs = command.DumpCell (text_in (nth 0 vs))
+command_of name.DebugInfo vs = command.DebugInfo
+command_of name.InspectVariables vs = command.InspectVariables
+command_of name.BoardSwitches vs = command.BoardSwitches (number_in (nth 0 vs))
+command_of name.BoardPress vs = command.BoardPress (number_in (nth 0 vs))
+command_of name.BoardType vs = command.BoardType (text_in (nth 0 vs))
+command_of name.BoardReset vs = command.BoardReset
+
+abbrev pub step_name : StepKind → CommandName
+step_name Over = name.Next
+step_name In = name.StepIn
+step_name Out = name.StepOut
+
+abbrev pub name_of : DapCommand → CommandName
+name_of command.Initialize = name.Initialize
+name_of command.Attach = name.Attach
+name_of command.Disconnect = name.Disconnect
+name_of command.ConfigurationDone = name.ConfigurationDone
+name_of (command.SetBreakpoints path lines) = name.SetBreakpoints
+name_of command.Threads = name.Threads
+name_of (command.StackTrace start levels) = name.StackTrace
+name_of (command.Scopes frame) = name.Scopes
+name_of (command.Variables reference start count) = name.Variables
+name_of command.Continue = name.Continue
+name_of (command.Step kind g) = step_name kind
+name_of command.Pause = name.Pause
+name_of (command.Disassemble from offset instruction_offset count) = name.Disassemble
+name_of (command.Source path) = name.Source
+name_of (command.DumpCell code) = name.DumpCell
+name_of command.DebugInfo = name.DebugInfo
+name_of command.InspectVariables = name.InspectVariables
+name_of (command.BoardSwitches value) = name.BoardSwitches
+name_of (command.BoardPress vector) = name.BoardPress
+name_of (command.BoardType t) = name.BoardType
+name_of command.BoardReset = name.BoardReset
+
+-- what every command that was read keeps to
+abbrev pub IsBounded : DapCommand → Type 0
+IsBounded (command.SetBreakpoints path lines) = length lines ≤ 256
+IsBounded (command.Disassemble from offset instruction_offset count) = (1 ≤ count) × (count ≤ 256)
+IsBounded other = Unit {0}
+
+-- what a request asks for by this command, if its arguments are as they must be
+abbrev pub asked : CommandName → Data → Option DapCommand
+asked name request = option_map (command_of name) (all_found (arguments_of name) request)
+
+-- ---- the names
+
+abbrev pub every_name : List CommandName
+every_name =
+    name.Initialize ∷ name.Attach ∷ name.Disconnect ∷ name.ConfigurationDone ∷
+    name.SetBreakpoints ∷ name.Threads ∷ name.StackTrace ∷ name.Scopes ∷ name.Variables ∷
+    name.Continue ∷ name.Next ∷ name.StepIn ∷ name.StepOut ∷ name.Pause ∷ name.Disassemble ∷
+    name.Source ∷ name.DumpCell ∷ name.DebugInfo ∷ name.InspectVariables ∷
+    name.BoardSwitches ∷ name.BoardPress ∷ name.BoardType ∷ name.BoardReset ∷ []
+
+-- the first of these that is spelled so
+abbrev pub first_named : List CommandName → List ℕ → Option CommandName
+first_named names t = find (λ name. bytes_eq (spelled name) t) names
+
+-- the command that is spelled so, if there is one
+abbrev pub named : List ℕ → Option CommandName
+named t = first_named every_name t

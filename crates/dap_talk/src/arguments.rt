@@ -1,0 +1,224 @@
+//! What stands in the arguments of a request.
+ghost use Rattle.std.specs.Prelude.{◌≡◌, ℕ, ◌<◌, IfOk, IfSome, IsSome, is_some, option_map, option_and_then};
+ghost use Rattle.serde_json.specs.Find.{as_array};
+ghost use Rattle.serde_json.specs.View.{view, items_view};
+ghost use Rattle.dap_talk.specs.declared.arguments.Refusal.TheVariants.{OutOfMemory};
+ghost use Rattle.dap_talk.specs.Argument.{Kind, number, text, source, address, found_number, found_text, found_lines, found_granularity, whole_between, is_plain, line_of, lines_of, at_most_256, digit_of, address_of, argument_at, found, required};
+ghost use Rattle.dap_talk.specs.Table.{byte, count_to_256, number_or_0, breakpoints_or_none, granularity_or_line};
+
+use crate::command::Granularity;
+use crate::text::Sequence;
+use serde_json::Value;
+use std::alloc::{AllocError, Global};
+
+/// Why a command isn't read.
+#[derive(Clone, Copy, PartialEq, Eq, Debug)]
+pub enum Refusal {
+    OutOfMemory,
+    Arguments,
+}
+
+impl From<AllocError> for Refusal {
+    ghost from_gives = { λ _ refusal. refusal ≡ OutOfMemory };
+
+    fn from(_e: AllocError) -> Refusal {
+        Refusal::OutOfMemory
+    }
+}
+
+/// A whole number in these bounds.
+pub fn whole_between(value: &Value, low: u32, high: u32) -> Option<u32>
+    ensures { result ≡ whole_between low high (view value.now) }
+{
+    let n = value.as_u64()?;
+    if n < u64::from(low) || n > u64::from(high) {
+        return None;
+    }
+    Some(n as u32)
+}
+
+/// What stands at a key, `Some(None)` where nothing does; None where the arguments are no object.
+fn argument_at<'a>(request: &'a Value, key: &str) -> Option<Option<&'a Value>>
+    ensures { option_map (option_map (λ v. view v.now)) result
+        ≡ argument_at key.now (view request.now) }
+{
+    let Some(arguments) = request.get("arguments") else {
+        return Some(None);
+    };
+    if !arguments.is_object() {
+        return None;
+    }
+    Some(arguments.get(key))
+}
+
+/// A whole number in these bounds, which is required.
+pub fn number_at(request: &Value, key: &str, low: u32, high: u32) -> Option<u32>
+    ensures { option_map found_number result
+        ≡ found (required key.now (number low high)) (view request.now) }
+{
+    whole_between(argument_at(request, key)??, low, high)
+}
+
+/// A whole number, 0 where it is absent.
+pub fn number_or_0(request: &Value, key: &str) -> Option<u32>
+    ensures { option_map found_number result ≡ found (number_or_0 key.now) (view request.now) }
+{
+    match argument_at(request, key)? {
+        None => Some(0),
+        Some(value) => whole_between(value, 0, u32::MAX),
+    }
+}
+
+/// A number of at most 255, which is required.
+pub fn byte_at(request: &Value, key: &str) -> Option<u8>
+    ensures { option_map found_number result ≡ found (required key.now byte) (view request.now) }
+{
+    let n = number_at(request, key, 0, 255)?;
+    u8::try_from(n).ok()
+}
+
+/// A number from 1 to 256, which is required.
+pub fn count_at(request: &Value, key: &str) -> Option<u16>
+    ensures { option_map found_number result
+        ≡ found (required key.now count_to_256) (view request.now) }
+{
+    let n = number_at(request, key, 1, 256)?;
+    u16::try_from(n).ok()
+}
+
+/// A text, which is required.
+pub fn text_at<'a>(request: &'a Value, key: &str) -> Option<&'a str>
+    ensures { option_map (λ t. found_text t.now) result
+        ≡ found (required key.now text) (view request.now) }
+{
+    argument_at(request, key)??.as_str()
+}
+
+/// The path of a source, which is required.
+pub fn source_at<'a>(request: &'a Value, key: &str) -> Option<&'a str>
+    ensures { option_map (λ t. found_text t.now) result
+        ≡ found (required key.now source) (view request.now) }
+{
+    argument_at(request, key)??.get("path")?.as_str()
+}
+
+/// A granularity, by line where it is absent.
+pub fn granularity_or_line(request: &Value, key: &str) -> Option<Granularity>
+    ensures { option_map found_granularity result
+        ≡ found (granularity_or_line key.now) (view request.now) }
+{
+    let Some(value) = argument_at(request, key)? else {
+        return Some(Granularity::Line);
+    };
+    if value.as_str()? == "instruction" {
+        Some(Granularity::Instruction)
+    } else {
+        Some(Granularity::Line)
+    }
+}
+
+fn digit_of(c: u8) -> Option<u16>
+    ensures digit { result ≡ digit_of c }
+    ensures small { IfSome result (λ digit. digit < 16) }
+{
+    match c {
+        b'0'..=b'9' => Some(u16::from(c - b'0')),
+        b'A'..=b'F' => Some(u16::from(c - b'A') + 10),
+        b'a'..=b'f' => Some(u16::from(c - b'a') + 10),
+        _ => None,
+    }
+}
+
+fn address_of(text: &str) -> Option<u16>
+    ensures { result ≡ address_of text.now }
+{
+    let [first, second, a, b, c, d] = text.as_bytes() else {
+        return None;
+    };
+    if *first != b'0' || *second != b'x' {
+        return None;
+    }
+    let a = digit_of(*a)?;
+    let b = digit_of(*b)?;
+    let c = digit_of(*c)?;
+    let d = digit_of(*d)?;
+    Some(((a * 16 + b) * 16 + c) * 16 + d)
+}
+
+/// An address, `0x` and four hexadecimal digits, which is required.
+pub fn address_at(request: &Value, key: &str) -> Option<u16>
+    ensures { option_map found_number result ≡ found (required key.now address) (view request.now) }
+{
+    address_of(argument_at(request, key)??.as_str()?)
+}
+
+fn is_plain(breakpoint: &Value) -> bool
+    ensures { result ≡ is_plain (view breakpoint.now) }
+{
+    breakpoint.get("condition").is_none()
+        && breakpoint.get("hitCondition").is_none()
+        && breakpoint.get("logMessage").is_none()
+}
+
+fn line_of(breakpoint: &Value) -> Option<u32>
+    ensures { result ≡ line_of (view breakpoint.now) }
+{
+    if !is_plain(breakpoint) {
+        return None;
+    }
+    whole_between(breakpoint.get("line")?, 0, u32::MAX)
+}
+
+fn have_lines(breakpoints: &[Value]) -> bool
+    ensures { result ≡ is_some (lines_of (items_view breakpoints.now)) }
+{
+    for breakpoint in breakpoints {
+        if line_of(breakpoint).is_none() {
+            return false;
+        }
+    }
+    true
+}
+
+#[tactic(auto, using(crate::proofs::LineLemmas::few_items))]
+fn breakpoints_in(value: &Value) -> Option<&[Value]>
+    ensures found { option_and_then (λ bs. lines_of (items_view bs.now)) result
+        ≡ option_and_then lines_of (option_and_then at_most_256 (as_array (view value.now))) }
+    ensures lines { IfSome result (λ bs. IsSome (lines_of (items_view bs.now))) }
+{
+    let breakpoints = value.as_array()?.as_slice();
+    if breakpoints.len() > 256 {
+        return None;
+    }
+    if !have_lines(breakpoints) {
+        return None;
+    }
+    Some(breakpoints)
+}
+
+/// Breakpoints that are as they must be, none where they are absent.
+pub fn breakpoints_or_none<'a>(request: &'a Value, key: &str) -> Option<&'a [Value]>
+    ensures found { option_map found_lines
+        (option_and_then (λ bs. lines_of (items_view bs.now)) result)
+        ≡ found (breakpoints_or_none key.now) (view request.now) }
+    ensures lines { IfSome result (λ bs. IsSome (lines_of (items_view bs.now))) }
+{
+    match argument_at(request, key)? {
+        None => Some(&[]),
+        Some(value) => breakpoints_in(value),
+    }
+}
+
+/// The lines of breakpoints, where each has one.
+pub fn lines_of(alloc: Global, breakpoints: &[Value]) -> Result<Option<Sequence<u32>>, AllocError>
+    ensures { IfOk result (λ found. found ≡ lines_of (items_view breakpoints.now)) }
+{
+    let mut lines = Vec::new(alloc);
+    for breakpoint in breakpoints {
+        let Some(line) = line_of(breakpoint) else {
+            return Ok(None);
+        };
+        lines.push(line)?;
+    }
+    Ok(Some(Sequence::from(lines)))
+}

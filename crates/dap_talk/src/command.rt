@@ -1,0 +1,242 @@
+//! Typed requests.
+ghost use Rattle.std.specs.Prelude.{◌≡◌, IfSome};
+ghost use Rattle.dap_talk.specs.Table.{spelled, first_named};
+
+use crate::text::{Sequence, Text};
+
+/// The commands of debug requests.
+#[derive(Clone, Copy, PartialEq, Eq, Debug)]
+pub enum CommandName {
+    Initialize,
+    Attach,
+    Disconnect,
+    ConfigurationDone,
+    SetBreakpoints,
+    Threads,
+    StackTrace,
+    Scopes,
+    Variables,
+    Continue,
+    Next,
+    StepIn,
+    StepOut,
+    Pause,
+    Disassemble,
+    Source,
+    DumpCell,
+    DebugInfo,
+    InspectVariables,
+    BoardSwitches,
+    BoardPress,
+    BoardType,
+    BoardReset,
+}
+
+/// What one step is: a line of a cell, or an instruction.
+#[derive(Clone, Copy, PartialEq, Eq, Debug)]
+pub enum Granularity {
+    Line,
+    Instruction,
+}
+
+/// How far a step goes.
+#[derive(Clone, Copy, PartialEq, Eq, Debug)]
+pub enum StepKind {
+    Over,
+    In,
+    Out,
+}
+
+impl StepKind {
+    ghost use Rattle.dap_talk.specs.Table.{step_name};
+
+    /// The name of the command that steps so far.
+    pub fn name(self) -> CommandName
+        ensures { result ≡ step_name self }
+    {
+        match self {
+            StepKind::Over => CommandName::Next,
+            StepKind::In => CommandName::StepIn,
+            StepKind::Out => CommandName::StepOut,
+        }
+    }
+}
+
+/// A command with its arguments.
+#[derive(Clone, Debug, Drop)]
+pub enum DapCommand {
+    Initialize,
+    Attach,
+    Disconnect,
+    ConfigurationDone,
+    /// The lines of a source that are to have breakpoints, at most 256, as they came.
+    SetBreakpoints {
+        path: Text,
+        lines: Sequence<u32>,
+    },
+    Threads,
+    StackTrace {
+        start_frame: u32,
+        levels: u32,
+    },
+    Scopes {
+        frame_id: u32,
+    },
+    Variables {
+        reference: u32,
+        start: u32,
+        count: u32,
+    },
+    Continue,
+    Step {
+        kind: StepKind,
+        granularity: Granularity,
+    },
+    Pause,
+    /// So many instructions, 1 to 256. `offset` counts bytes and `instruction_offset` instructions.
+    Disassemble {
+        address: u16,
+        offset: u32,
+        instruction_offset: u32,
+        instruction_count: u16,
+    },
+    Source {
+        path: Text,
+    },
+    DumpCell {
+        code: Text,
+    },
+    DebugInfo,
+    InspectVariables,
+    BoardSwitches {
+        value: u8,
+    },
+    BoardPress {
+        vector: u8,
+    },
+    BoardType {
+        text: Text,
+    },
+    BoardReset,
+}
+
+/// A request: its number, to which the response refers, and its command.
+#[derive(Clone, Debug, Drop)]
+pub struct DapRequest {
+    pub seq: u32,
+    pub command: DapCommand,
+}
+
+impl DapCommand {
+    ghost use Rattle.dap_talk.specs.Table.{name_of};
+
+    /// The name of the command.
+    pub fn name(&self) -> CommandName
+        ensures { result ≡ name_of self.now }
+    {
+        match self {
+            DapCommand::Initialize => CommandName::Initialize,
+            DapCommand::Attach => CommandName::Attach,
+            DapCommand::Disconnect => CommandName::Disconnect,
+            DapCommand::ConfigurationDone => CommandName::ConfigurationDone,
+            DapCommand::SetBreakpoints { .. } => CommandName::SetBreakpoints,
+            DapCommand::Threads => CommandName::Threads,
+            DapCommand::StackTrace { .. } => CommandName::StackTrace,
+            DapCommand::Scopes { .. } => CommandName::Scopes,
+            DapCommand::Variables { .. } => CommandName::Variables,
+            DapCommand::Continue => CommandName::Continue,
+            DapCommand::Step { kind, .. } => kind.name(),
+            DapCommand::Pause => CommandName::Pause,
+            DapCommand::Disassemble { .. } => CommandName::Disassemble,
+            DapCommand::Source { .. } => CommandName::Source,
+            DapCommand::DumpCell { .. } => CommandName::DumpCell,
+            DapCommand::DebugInfo => CommandName::DebugInfo,
+            DapCommand::InspectVariables => CommandName::InspectVariables,
+            DapCommand::BoardSwitches { .. } => CommandName::BoardSwitches,
+            DapCommand::BoardPress { .. } => CommandName::BoardPress,
+            DapCommand::BoardType { .. } => CommandName::BoardType,
+            DapCommand::BoardReset => CommandName::BoardReset,
+        }
+    }
+}
+
+const EVERY_NAME: [CommandName; 23] = [
+    CommandName::Initialize,
+    CommandName::Attach,
+    CommandName::Disconnect,
+    CommandName::ConfigurationDone,
+    CommandName::SetBreakpoints,
+    CommandName::Threads,
+    CommandName::StackTrace,
+    CommandName::Scopes,
+    CommandName::Variables,
+    CommandName::Continue,
+    CommandName::Next,
+    CommandName::StepIn,
+    CommandName::StepOut,
+    CommandName::Pause,
+    CommandName::Disassemble,
+    CommandName::Source,
+    CommandName::DumpCell,
+    CommandName::DebugInfo,
+    CommandName::InspectVariables,
+    CommandName::BoardSwitches,
+    CommandName::BoardPress,
+    CommandName::BoardType,
+    CommandName::BoardReset,
+];
+
+impl CommandName {
+    ghost use Rattle.dap_talk.specs.Table.{named};
+
+    /// The text of `command` in requests and responses.
+    pub fn as_str(self) -> &'static str
+        ensures { result.now ≡ spelled self }
+    {
+        match self {
+            CommandName::Initialize => "initialize",
+            CommandName::Attach => "attach",
+            CommandName::Disconnect => "disconnect",
+            CommandName::ConfigurationDone => "configurationDone",
+            CommandName::SetBreakpoints => "setBreakpoints",
+            CommandName::Threads => "threads",
+            CommandName::StackTrace => "stackTrace",
+            CommandName::Scopes => "scopes",
+            CommandName::Variables => "variables",
+            CommandName::Continue => "continue",
+            CommandName::Next => "next",
+            CommandName::StepIn => "stepIn",
+            CommandName::StepOut => "stepOut",
+            CommandName::Pause => "pause",
+            CommandName::Disassemble => "disassemble",
+            CommandName::Source => "source",
+            CommandName::DumpCell => "dumpCell",
+            CommandName::DebugInfo => "debugInfo",
+            CommandName::InspectVariables => "inspectVariables",
+            CommandName::BoardSwitches => "boardSwitches",
+            CommandName::BoardPress => "boardPress",
+            CommandName::BoardType => "boardType",
+            CommandName::BoardReset => "boardReset",
+        }
+    }
+
+    /// The command of this text, if it is one.
+    pub fn named(text: &str) -> Option<CommandName>
+        ensures first { result ≡ named text.now }
+        ensures spelled { IfSome result (λ name. spelled name ≡ text.now) }
+    {
+        first_named(&EVERY_NAME, text)
+    }
+}
+
+fn first_named(names: &[CommandName], text: &str) -> Option<CommandName>
+    ensures first { result ≡ first_named names.now text.now }
+    ensures spelled { IfSome result (λ name. spelled name ≡ text.now) }
+{
+    for name in names {
+        if name.as_str() == text {
+            return Some(*name);
+        }
+    }
+    None
+}
