@@ -1,4 +1,5 @@
 pub mod HexLemmas
+pub mod ImageLemmas
 pub mod LoadLemmas
 pub mod PrintedLemmas
 pub mod RunLemmas

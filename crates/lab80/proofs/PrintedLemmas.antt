@@ -2,7 +2,7 @@
 use Rattle.std.proofs.Common.{◌≡◌, ℕ, List, ◌∷◌, [], ◌++◌, append_assoc, codes}
 use Rattle.i80_rows.specs.FlagValues.{flag_byte}
 use Rattle.i80_exec.specs.declared.registers.Registers.{Registers}
-use Rattle.lab80.specs.Printed.{hex_word, field, register_line}
+use Rattle.lab80.specs.Printed.{line, hex_word, field, register_line}
 
 pub register_line_added : (text : List ℕ) (r : Registers) →
     text ++ codes "PC=" ++ hex_word r.pc ++ field (codes " A=") r.a ++ field (codes " F=") (flag_byte r.flags)
@@ -12,3 +12,10 @@ pub register_line_added : (text : List ℕ) (r : Registers) →
     ≡ text ++ register_line r
 unfolding register_line
 register_line_added text r = simp append_assoc
+
+pub start_added : (text : List ℕ) (address : ℕ) (run : List ℕ) →
+    text ++ codes "start " ++ hex_word address ++ 10 ∷ [] ++ run ≡ text ++ (line (codes "start " ++ hex_word address) ++ run)
+start_added text address run = joined text (codes "start ") (hex_word address) (10 ∷ []) run
+  where
+    joined : (t a b c d : List ℕ) → t ++ a ++ b ++ c ++ d ≡ t ++ (a ++ b ++ c ++ d)
+    joined t a b c d = simp append_assoc

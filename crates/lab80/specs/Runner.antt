@@ -1,9 +1,10 @@
 -- What a runner stands for.
-use Rattle.std.specs.Prelude.{◌≡◌}
+use Rattle.std.specs.Prelude.{◌≡◌, ℕ, Option}
 use Rattle.i80_exec.specs.declared.registers.Stepped.{Stepped}
 use Rattle.i80_exec.specs.State.{MachineState}
 use Rattle.i80_devs.specs.Past as devices
-use Rattle.lab80.specs.Board.{Board, next}
+use Rattle.lab80.specs.declared.ending.Ending.{Ending}
+use Rattle.lab80.specs.Board.{Board, next, after, end_at, run_length}
 
 pub record RunnerState : Type 0 where
   pub machine : MachineState
@@ -19,3 +20,8 @@ pub record StandsFor (r : RunnerState) (b : Board) : Type 0 where
 -- whatever board the old one stands for, the new one stands for the board after one instruction
 abbrev pub Steps : RunnerState → RunnerState → Type 0
 Steps old new = (b : Board) → StandsFor old b → StandsFor new (next b)
+
+-- the runner has done a run of at most limit steps from this board, which ended so
+pub record HasRun (limit : ℕ) (start : Board) (r : RunnerState) (ending : Option Ending) : Type 0 where
+  pub stands : StandsFor r (after (run_length limit start) start)
+  pub ending_is : ending ≡ end_at limit start (run_length limit start)

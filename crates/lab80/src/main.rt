@@ -5,8 +5,14 @@
 // answer to exit statuses.
 #![tactic(auto)]
 
+mod asm;
+#[cfg(test)]
+mod asm_tests;
 mod ending;
+#[cfg(test)]
+mod fakes;
 mod hex_input;
+mod image;
 mod printing;
 mod report;
 mod runner;
@@ -16,6 +22,7 @@ mod streams;
 #[cfg(test)]
 mod tests;
 
+use crate::asm::run_asm;
 use crate::status::Status;
 use crate::step::run_step;
 use std::process::ExitCode;
@@ -38,6 +45,9 @@ fn run(rt: &(impl Env + Input + Print + Eprint + AllocGlobal)) -> Status {
     match words.as_slice() {
         [word] if word.as_str() == "step" => {
             run_step(rt.alloc(), &mut rt.reader(), &mut io::writer(rt))
+        }
+        [word] if word.as_str() == "asm" => {
+            run_asm(rt.alloc(), &mut rt.reader(), &mut io::writer(rt))
         }
         _ => usage(rt),
     }

@@ -15,7 +15,8 @@ fn push_byte(text: &mut String, byte: u8) -> Result<(), AllocError>
     Ok(())
 }
 
-fn push_word(text: &mut String, word: u16) -> Result<(), AllocError>
+/// Adds a word as four digits.
+pub fn push_word(text: &mut String, word: u16) -> Result<(), AllocError>
     ensures { OnOk result (string_bytes text.new ≡ string_bytes text.old ++ hex_word word) }
 {
     let [high, low] = word.to_be_bytes();
@@ -24,7 +25,8 @@ fn push_word(text: &mut String, word: u16) -> Result<(), AllocError>
     Ok(())
 }
 
-fn push_field(text: &mut String, name: &str, byte: u8) -> Result<(), AllocError>
+/// Adds a name and a byte as two digits.
+pub fn push_field(text: &mut String, name: &str, byte: u8) -> Result<(), AllocError>
     ensures { OnOk result (string_bytes text.new ≡ string_bytes text.old ++ field name.now byte) }
 {
     text.push_str(name)?;

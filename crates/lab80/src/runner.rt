@@ -4,6 +4,7 @@ ghost use Rattle.lab80.specs.Board.{end_of, stored_from};
 ghost use Rattle.lab80.specs.Board.{Board, fresh, loaded};
 ghost use Rattle.lab80.specs.HexInput.{paired};
 ghost use Rattle.lab80.specs.StepText.{run_text};
+ghost use Rattle.lab80.specs.AsmText.{run_end_text};
 ghost use Rattle.i80_exec.specs.State.{power_on};
 
 use crate::ending::Ending;
@@ -33,7 +34,7 @@ impl Model for Runner {
 }
 
 impl Runner {
-    ghost use Rattle.lab80.specs.Runner.{StandsFor, Steps};
+    ghost use Rattle.lab80.specs.Runner.{StandsFor, Steps, HasRun};
 
     /// A runner of this machine, with devices to which nothing was done.
     pub fn new(alloc: Global, machine: Machine) -> Runner
@@ -67,6 +68,33 @@ impl Runner {
             push_ending(text, ending)?;
         }
         Ok(())
+    }
+
+    /// Adds to the text the registers where a run of at most `limit` steps ends, and how it ended.
+    pub fn print_end(&mut self, limit: u64, text: &mut String) -> Result<(), AllocError>
+        ensures { OnOk result ((start : Board) → StandsFor self.old start
+            → string_bytes text.new ≡ string_bytes text.old ++ run_end_text limit start) }
+    {
+        let ending = self.run(limit)?;
+        push_registers(text, &self.regs())?;
+        if let Some(ending) = ending {
+            push_ending(text, ending)?;
+        }
+        Ok(())
+    }
+
+    /// Does at most `limit` steps, up to the end of the run.
+    fn run(&mut self, limit: u64) -> Result<Option<Ending>, AllocError>
+        ensures { IfOk result (λ ending. (start : Board) → StandsFor self.old start
+            → HasRun limit start self.new ending) }
+    {
+        for _done in 0..limit {
+            match self.ending(false) {
+                Some(ending) => return Ok(Some(ending)),
+                None => self.step()?,
+            }
+        }
+        Ok(self.ending(true))
     }
 
     /// How the run ends here, if it does; `is_last` where it has had as many steps as it may have.

@@ -1,10 +1,11 @@
 //! Reading hexadecimal text from any reader, and writing a text to any writer.
-ghost use Rattle.std.specs.Prelude.{◌≡◌, ◌<◌, IfSome, IfOk, OnOk, OnErr, length, vec_len};
+ghost use Rattle.std.specs.Prelude.{◌≡◌, ◌<◌, IfSome, IfOk, IfErr, OnOk, OnErr, length, vec_len};
 ghost use Rattle.std.specs.Io.KnownBytes.{Appends};
-ghost use Rattle.lab80.specs.Engine.{WritesFront};
+ghost use Rattle.lab80.specs.Engine.{WritesFront, IsFailure};
 ghost use Rattle.lab80.specs.Streams.{IsReading};
 
 use crate::hex_input::{HexInput, PieceFault};
+use crate::status::Status;
 use std::alloc::{AllocError, Global};
 use std::io::{ErrorKind, Read, Write};
 
@@ -62,6 +63,39 @@ pub fn read_hex<R: Read>(
         }
     }
     Err(ReadFault::Failed)
+}
+
+/// Reads all that the reader has, piece by piece. A read that was interrupted is tried again.
+/// An `Err` tells that memory is wanting, that a read failed, or that 4,294,967,295 reads didn't
+/// come to the end.
+pub fn read_all<R: Read>(
+    alloc: Global,
+    reader: &mut R,
+    buffer: &mut [u8],
+) -> Result<Vec<u8>, Status>
+    requires { 0 < length buffer.old }
+    ensures all { IfSome (R.remaining reader.old) (λ input.
+        IfOk result (λ bytes. bytes.items ≡ input)) }
+    ensures failure { IfErr result IsFailure }
+{
+    let mut bytes = Vec::new(alloc);
+    for _ in 0..u32::MAX {
+        match reader.read(buffer) {
+            Ok(0) => return Ok(bytes),
+            Ok(count) => {
+                let (piece, _) = buffer.split_at(count);
+                if bytes.extend_from_slice(piece).is_err() {
+                    return Err(Status::Memory);
+                }
+            }
+            Err(error) => {
+                if error.kind() != ErrorKind::Interrupted {
+                    return Err(Status::Failed);
+                }
+            }
+        }
+    }
+    Err(Status::Failed)
 }
 
 /// Writes all of a text. A write that was interrupted is tried again; after an `Err` a front of

@@ -1,0 +1,9 @@
+pub mod NameLemmas
+pub mod ListLemmas
+pub mod UseLemmas
+pub mod LayoutLemmas
+pub mod BytesLemmas
+pub mod EncodingLemmas
+pub mod ImageLemmas
+pub mod ValueLemmas
+pub mod ReadingLemmas

@@ -1,0 +1,123 @@
+-- The layout round: where each statement stands, or the first fault on the way.
+use Rattle.std.specs.Prelude.{ℕ, ◌+◌, ◌%◌, List, [], ◌∷◌, length, Bool, true, false, ◌&&◌, ◌||◌, Option, Some, None, is_some, Result, Ok, Err, if◌then◌else◌, nat_lt}
+use Rattle.std.specs.Str.{bytes_eq}
+use Rattle.std.specs.List.{list_any}
+use Rattle.asm_expr.specs.Value.{value_of}
+use Rattle.asm_expr.specs.declared.evaluation.ExprFault.{ExprFault}
+use Rattle.asm_expr.specs.declared.evaluation.ExprFault.TheVariants as expr
+use Rattle.asm_syntax.specs.declared.fault.FaultKind.TheVariants as fault
+use Rattle.asm_syntax.specs.declared.statement.Label.{Label}
+use Rattle.asm_syntax.specs.declared.statement.Operand.{Operand}
+use Rattle.asm_syntax.specs.declared.statement.Operation.{Operation}
+use Rattle.asm_syntax.specs.declared.statement.Statement.{Statement}
+use Rattle.asm_syntax.specs.Outcome.{Fault, CellFault, ◌>>=◌, at_line}
+use Rattle.asm_build.specs.declared.symbols.SymbolKind.{SymbolKind}
+use Rattle.asm_build.specs.declared.symbols.Symbol.{Symbol}
+use Rattle.asm_build.specs.declared.laid.Laid.{Laid}
+use Rattle.asm_build.specs.Statements.{on_action, definition_of, is_set, early_in, late_in, names_in, names_in_early, length_of}
+use Rattle.asm_build.specs.Reading.{Entries, Lines, symbol_at, or_else, value_in, last_definition, place_after, parts_after, has_ended, is_selected}
+
+abbrev pub is_among : List ℕ → List (List ℕ) → Bool
+is_among x names = list_any (bytes_eq x) names
+
+-- what can be said of a name behind some lines
+pub record Past : Type 0 where
+  -- what was kept from before the cell
+  pub kept : List ℕ → Option Symbol
+  -- its latest definition in the cell
+  pub defined : List ℕ → Option Symbol
+  -- an assembled ORG, DS, EQU, SET or IF names it
+  pub needed : List ℕ → Bool
+  -- an assembled operand of any other kind names it
+  pub used : List ℕ → Bool
+
+abbrev pub needs : Statement × Laid → List ℕ → Bool
+needs p x = p.1.is_assembled && is_among x (names_in_early (on_action early_in None p.0))
+
+abbrev pub uses : Statement × Laid → List ℕ → Bool
+uses p x = p.1.is_assembled && is_among x (names_in (on_action late_in [] p.0))
+
+abbrev pub past : Entries → Lines → Past
+past kept earlier = record {
+  kept = symbol_at kept;
+  defined = last_definition earlier;
+  needed = λ x. list_any (λ p. needs p x) earlier;
+  used = λ x. list_any (λ p. uses p x) earlier;
+}
+
+-- ---- definitions
+
+-- the first definition of a name is late where a value that was kept was taken for it, by this
+-- statement itself or an earlier one; that of a SET also where an earlier statement names it
+abbrev pub is_late : Past → List ℕ → SymbolKind → Bool → Bool
+is_late before x k itself =
+    (is_some (before.kept x) && (before.needed x || itself))
+    || (is_set k && (before.needed x || before.used x))
+
+-- a second definition is Twice, except SET after SET
+abbrev pub check_again : Label × SymbolKind → Symbol → Result (Unit {0}) Fault
+check_again d was =
+    if is_set was.kind && is_set d.1 then Ok tt else Err (d.0.column, fault.Twice)
+
+abbrev pub check_first : Past → Option Operand → Label × SymbolKind → Result (Unit {0}) Fault
+check_first before o d =
+    if is_late before d.0.name d.1 (is_among d.0.name (names_in_early o))
+    then Err (d.0.column, fault.Early) else Ok tt
+
+abbrev pub check_defined : Past → Option Operand → Label × SymbolKind → Option Symbol
+    → Result (Unit {0}) Fault
+check_defined before o d None = check_first before o d
+check_defined before o d (Some was) = check_again d was
+
+abbrev pub check_definition : Past → Option Operand → Option (Label × SymbolKind)
+    → Result (Unit {0}) Fault
+check_definition before o None = Ok tt
+check_definition before o (Some d) = check_defined before o d (before.defined d.0.name)
+
+-- ---- values that the layout needs
+
+abbrev pub or_early : ℕ → Result ℕ ExprFault → Result ℕ Fault
+or_early column (Ok v) = Ok v
+or_early column (Err expr.Undefined) = Err (column, fault.Early)
+or_early column (Err expr.Divisor) = Err (column, fault.Divisor)
+
+abbrev pub early : Past → ℕ → Option Operand → Result ℕ Fault
+early before here None = Ok 0
+early before here (Some o) =
+    or_early o.column
+    (value_of (λ x. value_in (or_else (before.defined x) (before.kept x))) here o.expr)
+
+-- ---- places: no statement passes over a byte behind the last address
+
+abbrev pub within : ℕ → ℕ → Option Operation → Result (Unit {0}) Fault
+within place value None = Ok tt
+within place value (Some o) =
+    if nat_lt 65536 (place + length_of o.action value) then Err (o.column, fault.PastEnd) else Ok tt
+
+-- ---- the round
+
+-- how an assembled statement is laid out
+abbrev pub assembled : Past → ℕ → Statement → Result Laid Fault
+assembled before place s = do
+  checked ← check_definition before (on_action early_in None s) (definition_of s)
+  v ← early before (place % 65536) (on_action early_in None s)
+  fits ← within place v s.operation
+  Ok (record { place = place; is_assembled = true; value = v })
+
+abbrev pub laid_out : Past → ℕ → Bool → Statement → Result Laid Fault
+laid_out before place selected s =
+    if selected then assembled before place s
+    else Ok (record { place = place; is_assembled = false; value = 0 })
+
+-- how a statement is laid out behind these lines
+abbrev pub laid_behind : Entries → Lines → Statement → Result Laid Fault
+laid_behind kept earlier s =
+    laid_out (past kept earlier) (place_after earlier)
+    (is_selected (has_ended earlier) (parts_after earlier) s) s
+
+-- the lines that statements give behind these, or the first fault
+unfoldable pub layout : Entries → Lines → List Statement → Result Lines CellFault
+layout kept earlier [] = Ok earlier
+layout kept earlier (s ∷ ss) = do
+  r ← at_line (length earlier + 1) (laid_behind kept earlier s)
+  layout kept ((s, r) ∷ earlier) ss

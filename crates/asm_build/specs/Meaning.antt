@@ -1,0 +1,210 @@
+-- The value round: what a reading of a cell gives, or the first fault on the way.
+use Rattle.std.specs.Prelude.{◌≡◌, ℕ, ◌+◌, ◌/◌, ◌%◌, List, [], ◌∷◌, ◌++◌, length, Bool, ◌||◌, ◌==◌, Option, Some, None, Result, Ok, Err, if◌then◌else◌, nat_lt, nat_le, fold}
+use Rattle.std.specs.Str.{bytes_eq}
+use Rattle.std.specs.List.{list_any}
+use Rattle.indexmap.specs.IndexMap.{insert_entry}
+use Rattle.asm_expr.specs.Value.{value_of}
+use Rattle.asm_expr.specs.declared.evaluation.ExprFault.{ExprFault}
+use Rattle.asm_expr.specs.declared.evaluation.ExprFault.TheVariants as expr
+use Rattle.i80_rows.specs.declared.instruction.Instr.TheVariants.{Rst}
+use Rattle.i80_rows.specs.declared.instruction.Vector.{Vector}
+use Rattle.i80_rows.specs.declared.instruction.Vector.TheVariants.{V0, V1, V2, V3, V4, V5, V6, V7}
+use Rattle.asm_syntax.specs.declared.fault.FaultKind.TheVariants as fault
+use Rattle.asm_syntax.specs.declared.statement.Label.{Label}
+use Rattle.asm_syntax.specs.declared.statement.Operand.{Operand}
+use Rattle.asm_syntax.specs.declared.statement.Instruction.{Instruction}
+use Rattle.asm_syntax.specs.declared.statement.Instruction.TheVariants as instruction
+use Rattle.asm_syntax.specs.declared.statement.Data.{Data}
+use Rattle.asm_syntax.specs.declared.statement.Data.TheVariants as datum
+use Rattle.asm_syntax.specs.declared.statement.Action.{Action}
+use Rattle.asm_syntax.specs.declared.statement.Action.TheVariants as action
+use Rattle.asm_syntax.specs.declared.statement.Operation.{Operation}
+use Rattle.asm_syntax.specs.declared.statement.Statement.{Statement}
+use Rattle.asm_syntax.specs.Outcome.{Fault, CellFault, ◌>>=◌, at_line}
+use Rattle.asm_syntax.specs.Instructions.{byte_instruction, word_instruction}
+use Rattle.asm_build.specs.declared.symbols.SymbolKind.{SymbolKind}
+use Rattle.asm_build.specs.declared.symbols.Symbol.{Symbol}
+use Rattle.asm_build.specs.declared.laid.Laid.{Laid}
+use Rattle.asm_build.specs.declared.built.Row.{Row}
+use Rattle.asm_build.specs.declared.built.Built.{Built}
+use Rattle.asm_build.specs.Encodings.{encoding_of}
+use Rattle.asm_build.specs.Images.{has}
+use Rattle.asm_build.specs.Statements.{definition_of}
+use Rattle.asm_build.specs.Reading.{Entries, Lines, IsReading, given_as, late_value}
+use Rattle.asm_build.specs.Layout.{layout}
+
+-- ---- the bytes of an action, where names have these values and `$` is here
+
+abbrev pub or_fault : ℕ → Result ℕ ExprFault → Result ℕ Fault
+or_fault column (Ok v) = Ok v
+or_fault column (Err expr.Undefined) = Err (column, fault.Undefined)
+or_fault column (Err expr.Divisor) = Err (column, fault.Divisor)
+
+-- a byte operand: its low byte, in 0 to FFh or FF00h to FFFFh
+abbrev pub as_byte : ℕ → ℕ → Result ℕ Fault
+as_byte column v =
+    if nat_lt v 256 || nat_le 65280 v then Ok (v % 256) else Err (column, fault.ByteRange)
+
+abbrev pub vector : ℕ → Option Vector
+vector v =
+    if v == 0 then Some V0 else
+    if v == 1 then Some V1 else
+    if v == 2 then Some V2 else
+    if v == 3 then Some V3 else
+    if v == 4 then Some V4 else
+    if v == 5 then Some V5 else
+    if v == 6 then Some V6 else
+    if v == 7 then Some V7 else None
+
+abbrev pub as_vector : ℕ → Option Vector → Result Vector Fault
+as_vector column None = Err (column, fault.ByteRange)
+as_vector column (Some n) = Ok n
+
+-- the bytes of each in turn, up to the first fault
+abbrev pub all_bytes : {A : Type 0} → (A → Result (List ℕ) Fault) → List A → Result (List ℕ) Fault
+all_bytes f [] = Ok []
+all_bytes f (x ∷ xs) = f x >>= λ bs. all_bytes f xs >>= λ more. Ok (bs ++ more)
+
+module _ (names : List ℕ → Option ℕ) (here : ℕ) where
+  abbrev pub number : Operand → Result ℕ Fault
+  number o = or_fault o.column (value_of names here o.expr)
+
+  abbrev pub byte : Operand → Result ℕ Fault
+  byte o = number o >>= λ v. as_byte o.column v
+
+  abbrev pub restart : Operand → Result Vector Fault
+  restart o = number o >>= λ v. as_vector o.column (vector v)
+
+  abbrev pub instruction_bytes : Instruction → Result (List ℕ) Fault
+  instruction_bytes (instruction.Alone i) = Ok (encoding_of i)
+  instruction_bytes (instruction.Byte op o) =
+      byte o >>= λ b. Ok (encoding_of (byte_instruction op b))
+  instruction_bytes (instruction.Word op o) =
+      number o >>= λ w. Ok (encoding_of (word_instruction op w))
+  instruction_bytes (instruction.Restart o) = restart o >>= λ n. Ok (encoding_of (Rst n))
+
+  abbrev pub datum_bytes : Data → Result (List ℕ) Fault
+  datum_bytes (datum.Text t) = Ok t
+  datum_bytes (datum.Byte o) = byte o >>= λ b. Ok (b ∷ [])
+
+  abbrev pub word_bytes : Operand → Result (List ℕ) Fault
+  word_bytes o = number o >>= λ w. Ok (w % 256 ∷ (w / 256 ∷ []))
+
+  abbrev pub bytes_of : Action → Result (List ℕ) Fault
+  bytes_of (action.Instruction i) = instruction_bytes i
+  bytes_of (action.Bytes ds) = all_bytes datum_bytes ds
+  bytes_of (action.Words os) = all_bytes word_bytes os
+  bytes_of _ = Ok []
+
+  -- END's operand is where to start
+  abbrev pub start_of : Option ℕ → Action → Result (Option ℕ) Fault
+  start_of before (action.End (Some o)) = number o >>= λ v. Ok (Some v)
+  start_of before _ = Ok before
+
+-- ---- what lines give together
+
+-- the bytes with their addresses, the lines that give bytes, and where to start
+pub record Output : Type 0 where
+  pub image : List (ℕ × ℕ)
+  pub rows : List Row
+  pub start : Option ℕ
+
+-- bytes at the addresses from one on
+abbrev pub at_address : ℕ → List ℕ → List (ℕ × ℕ)
+at_address address [] = []
+at_address address (b ∷ bs) = (address, b) ∷ at_address ((address + 1) % 65536) bs
+
+-- one of the addresses has a byte already
+abbrev pub overlaps : List (ℕ × ℕ) → List (ℕ × ℕ) → Bool
+overlaps image more = list_any (λ p. has image p.0) more
+
+abbrev pub rows_of : ℕ → ℕ → List ℕ → List Row
+rows_of line address [] = []
+rows_of line address (b ∷ bs) =
+    record { address = address; length = length (b ∷ bs); line = line } ∷ []
+
+abbrev pub with_bytes : Output → ℕ → ℕ → List ℕ → Option ℕ → Output
+with_bytes out line address bytes start = record {
+  image = out.image ++ at_address address bytes;
+  rows = out.rows ++ rows_of line address bytes;
+  start = start;
+}
+
+abbrev pub put : ℕ → Output → ℕ → ℕ → List ℕ → Option ℕ → Result Output Fault
+put column out line address bytes start =
+    if overlaps out.image (at_address address bytes)
+    then Err (column, fault.Overlap) else Ok (with_bytes out line address bytes start)
+
+-- what there is with an assembled operation of this line
+abbrev pub with_operation : (List ℕ → Option ℕ) → Output → ℕ → ℕ → Option Operation
+    → Result Output Fault
+with_operation names out line here None = Ok out
+with_operation names out line here (Some o) = do
+  bytes ← bytes_of names here o.action
+  start ← start_of names here out.start o.action
+  put o.column out line here bytes start
+
+abbrev pub with_line : (List ℕ → Option ℕ) → Output → ℕ → Statement × Laid → Result Output Fault
+with_line names out line p =
+    if p.1.is_assembled
+    then with_operation names out line (p.1.place % 65536) p.0.operation else Ok out
+
+-- what lines, the latest first, give, where all are all of the cell's
+unfoldable pub output_of : Entries → Lines → Lines → Result Output CellFault
+output_of kept all [] = Ok (record { image = []; rows = []; start = None })
+output_of kept all (p ∷ ps) = do
+  out ← output_of kept all ps
+  at_line (length ps + 1) (with_line (late_value kept all ps) out (length ps + 1) p)
+
+-- ---- symbols
+
+-- names with what they stand for: one that is there keeps its place, a new one goes last
+abbrev pub with_symbol : Entries → List ℕ → Symbol → Entries
+with_symbol es x d = insert_entry bytes_eq es x d
+
+abbrev pub with_definition : Option (Label × SymbolKind) → Laid → Entries → Entries
+with_definition None r es = es
+with_definition (Some d) r es = with_symbol es d.0.name (given_as d.1 r)
+
+-- the cell's own symbols, in order of definition
+abbrev pub definitions : Lines → Entries
+definitions [] = []
+definitions (p ∷ ps) =
+    if p.1.is_assembled then with_definition (definition_of p.0) p.1 (definitions ps)
+    else definitions ps
+
+-- those that are kept afterwards
+abbrev pub symbols_after : Entries → Lines → Entries
+symbols_after kept all = fold (λ es e. with_symbol es e.0 e.1) kept (definitions all)
+
+-- ---- both rounds
+
+pub record Meaning : Type 0 where
+  pub output : Output
+  pub symbols : Entries
+
+-- what a reading gives
+abbrev pub meaning_of : Entries → Lines → Result Meaning CellFault
+meaning_of kept all = do
+  out ← output_of kept all all
+  Ok (record { output = out; symbols = symbols_after kept all })
+
+-- what a cell gives: the layout round, and where it finds no fault the value round
+abbrev pub built_of : Entries → List Statement → Result Meaning CellFault
+built_of kept ss = layout kept [] ss >>= λ all. meaning_of kept all
+
+abbrev pub meaning_in : Built → Meaning
+meaning_in b = record {
+  output = record { image = b.image.items; rows = b.rows.items; start = b.start };
+  symbols = b.symbols;
+}
+
+-- the cell has a consistent reading, which gives this
+abbrev pub IsMeaning : Entries → List Statement → Built → Type 0
+IsMeaning kept ss b =
+    (all : Lines) × (IsReading kept ss all × (meaning_of kept all ≡ Ok (meaning_in b)))
+
+-- each consistent reading of the cell gives this
+abbrev pub IsOnlyMeaning : Entries → List Statement → Built → Type 0
+IsOnlyMeaning kept ss b =
+    (all : Lines) → IsReading kept ss all → meaning_of kept all ≡ Ok (meaning_in b)

@@ -1,0 +1,213 @@
+//! The bytes of actions.
+ghost use Rattle.std.specs.Prelude.{◌≡◌, IfOk};
+ghost use Rattle.i80_rows.specs.Encoding.{Encodes};
+ghost use Rattle.asm_syntax.specs.Outcome.{LineGives};
+ghost use Rattle.asm_build.specs.Encodings.{encoding_of};
+ghost use Rattle.asm_build.specs.Meaning.{as_byte, vector, number, byte, restart};
+ghost use Rattle.asm_build.specs.Meaning.{instruction_bytes, datum_bytes, word_bytes, all_bytes};
+ghost use Rattle.asm_build.specs.Meaning.{bytes_of, start_of};
+ghost use Rattle.asm_build.specs.State.{behind};
+
+use crate::layout::at;
+use asm_expr::env::Env;
+use asm_expr::evaluation::{ExprFault, value};
+use asm_syntax::fault::{FaultKind, LineFault};
+use asm_syntax::statement::{Action, Data, Instruction, Operand};
+use i80_rows::encoding::encode;
+use i80_rows::instruction::{Instr, Vector};
+use std::alloc::{AllocError, Global};
+
+fn number<E: Env>(names: &E, here: u16, operand: &Operand) -> Result<u16, LineFault>
+    ensures { LineGives (λ v. v) result (number (E.values names.now) here operand.now) }
+{
+    match value(&operand.expr, names, here) {
+        Ok(v) => Ok(v),
+        Err(ExprFault::Undefined) => Err(at(operand.column, FaultKind::Undefined)),
+        Err(ExprFault::Divisor) => Err(at(operand.column, FaultKind::Divisor)),
+    }
+}
+
+fn as_byte(column: usize, value: u16) -> Result<u8, LineFault>
+    ensures { LineGives (λ b. b) result (as_byte column value) }
+{
+    if value < 256 || value >= 65_280 {
+        Ok((value % 256) as u8)
+    } else {
+        Err(at(column, FaultKind::ByteRange))
+    }
+}
+
+fn byte<E: Env>(names: &E, here: u16, operand: &Operand) -> Result<u8, LineFault>
+    ensures { LineGives (λ b. b) result (byte (E.values names.now) here operand.now) }
+{
+    let v = number(names, here, operand)?;
+    as_byte(operand.column, v)
+}
+
+fn vector(value: u16) -> Option<Vector>
+    ensures { result ≡ vector value }
+{
+    match value {
+        0 => Some(Vector::V0),
+        1 => Some(Vector::V1),
+        2 => Some(Vector::V2),
+        3 => Some(Vector::V3),
+        4 => Some(Vector::V4),
+        5 => Some(Vector::V5),
+        6 => Some(Vector::V6),
+        7 => Some(Vector::V7),
+        _ => None,
+    }
+}
+
+fn restart<E: Env>(names: &E, here: u16, operand: &Operand) -> Result<Vector, LineFault>
+    ensures { LineGives (λ n. n) result (restart (E.values names.now) here operand.now) }
+{
+    let v = number(names, here, operand)?;
+    match vector(v) {
+        Some(n) => Ok(n),
+        None => Err(at(operand.column, FaultKind::ByteRange)),
+    }
+}
+
+// The bytes that encode an instruction, in a `Vec`.
+fn encoded(alloc: Global, instr: Instr, bytes: &[u8]) -> Result<Vec<u8>, AllocError>
+    requires { Encodes instr bytes.now }
+    ensures { IfOk result (λ v. v.items ≡ encoding_of instr) }
+{
+    Vec::from_slice(alloc, bytes)
+}
+
+fn encoding(alloc: Global, instr: Instr) -> Result<Vec<u8>, AllocError>
+    ensures { IfOk result (λ v. v.items ≡ encoding_of instr) }
+{
+    encoded(alloc, instr, encode(instr).as_slice())
+}
+
+fn instruction_bytes<E: Env>(
+    alloc: Global,
+    names: &E,
+    here: u16,
+    instruction: &Instruction,
+) -> Result<Vec<u8>, LineFault>
+    ensures { LineGives (λ bytes. bytes.items) result
+        (instruction_bytes (E.values names.now) here instruction.now) }
+{
+    let instr = match instruction {
+        Instruction::Alone(instr) => *instr,
+        Instruction::Byte(operation, operand) => operation.instruction(byte(names, here, operand)?),
+        Instruction::Word(operation, operand) => {
+            operation.instruction(number(names, here, operand)?)
+        }
+        Instruction::Restart(operand) => Instr::Rst(restart(names, here, operand)?),
+    };
+    Ok(encoding(alloc, instr)?)
+}
+
+// Puts the bytes of an operand of DB behind those that are there.
+fn put_datum<E: Env>(
+    names: &E,
+    here: u16,
+    datum: &Data,
+    bytes: &mut Vec<u8>,
+) -> Result<(), LineFault>
+    ensures { LineGives (λ _. bytes.new.items) result
+        (behind bytes.old.items (datum_bytes (E.values names.now) here datum.now)) }
+{
+    match datum {
+        Data::Text(text) => {
+            bytes.extend_from_slice(text.as_slice())?;
+            Ok(())
+        }
+        Data::Byte(operand) => {
+            let b = byte(names, here, operand)?;
+            bytes.push(b)?;
+            Ok(())
+        }
+    }
+}
+
+fn data_bytes<E: Env>(
+    alloc: Global,
+    names: &E,
+    here: u16,
+    items: &[Data],
+) -> Result<Vec<u8>, LineFault>
+    ensures { LineGives (λ bytes. bytes.items) result
+        (all_bytes (datum_bytes (E.values names.now) here) items.now) }
+{
+    let mut bytes = Vec::new(alloc);
+    for datum in items {
+        put_datum(names, here, datum, &mut bytes)?;
+    }
+    Ok(bytes)
+}
+
+// Puts the bytes of an operand of DW behind those that are there.
+fn put_word<E: Env>(
+    names: &E,
+    here: u16,
+    operand: &Operand,
+    bytes: &mut Vec<u8>,
+) -> Result<(), LineFault>
+    ensures { LineGives (λ _. bytes.new.items) result
+        (behind bytes.old.items (word_bytes (E.values names.now) here operand.now)) }
+{
+    let word = number(names, here, operand)?;
+    bytes.push((word % 256) as u8)?;
+    bytes.push((word / 256) as u8)?;
+    Ok(())
+}
+
+fn words_bytes<E: Env>(
+    alloc: Global,
+    names: &E,
+    here: u16,
+    operands: &[Operand],
+) -> Result<Vec<u8>, LineFault>
+    ensures { LineGives (λ bytes. bytes.items) result
+        (all_bytes (word_bytes (E.values names.now) here) operands.now) }
+{
+    let mut bytes = Vec::new(alloc);
+    for operand in operands {
+        put_word(names, here, operand, &mut bytes)?;
+    }
+    Ok(bytes)
+}
+
+/// The bytes of an action at a place.
+pub(crate) fn bytes_of<E: Env>(
+    alloc: Global,
+    names: &E,
+    here: u16,
+    action: &Action,
+) -> Result<Vec<u8>, LineFault>
+    ensures { LineGives (λ bytes. bytes.items) result
+        (bytes_of (E.values names.now) here action.now) }
+{
+    match action {
+        Action::Instruction(instruction) => instruction_bytes(alloc, names, here, instruction),
+        Action::Bytes(items) => data_bytes(alloc, names, here, items.as_slice()),
+        Action::Words(operands) => words_bytes(alloc, names, here, operands.as_slice()),
+        _ => Ok(Vec::new(alloc)),
+    }
+}
+
+/// The start behind an action, where it was so before.
+pub(crate) fn start_of<E: Env>(
+    names: &E,
+    here: u16,
+    before: Option<u16>,
+    action: &Action,
+) -> Result<Option<u16>, LineFault>
+    ensures { LineGives (λ start. start) result
+        (start_of (E.values names.now) here before action.now) }
+{
+    match action {
+        Action::End(Some(operand)) => {
+            let v = number(names, here, operand)?;
+            Ok(Some(v))
+        }
+        _ => Ok(before),
+    }
+}

@@ -1,0 +1,46 @@
+//! Assembling a cell.
+ghost use Rattle.std.specs.Prelude.{◌≡◌, ◌≤◌, length, IfOk};
+ghost use Rattle.asm_syntax.specs.Outcome.{Gives};
+ghost use Rattle.asm_build.specs.Meaning.{built_of, meaning_in, IsMeaning, IsOnlyMeaning};
+
+use crate::built::Built;
+use crate::layout::lay_out;
+use crate::symbols::Symbols;
+use crate::values::{Values, evaluate};
+use asm_syntax::fault::AsmFault;
+use asm_syntax::statement::{MOST_LINES, Statement, Statements};
+use std::alloc::Global;
+
+// The layout round, and behind it the value round.
+fn both_rounds(alloc: Global, statements: &[Statement], kept: &Symbols) -> Result<Built, AsmFault>
+    requires { length statements.now ≤ MOST_LINES }
+    ensures { Gives meaning_in result (built_of kept.now statements.now) }
+{
+    let layout = lay_out(alloc, kept, statements)?;
+    let Values { image, rows, start } = evaluate(alloc, kept, &layout, statements)?;
+    let mut symbols = kept.copy()?;
+    symbols.define_all(alloc, &layout.own)?;
+    Ok(Built {
+        image: image.into_vec(),
+        rows,
+        start,
+        symbols,
+    })
+}
+
+/// Assembles the statements of a cell over the symbols that were kept, which stay as they are.
+///
+/// The location counter begins at 0. The first fault is that of the layout, statement by
+/// statement: `Twice` and `Early` at a name that is defined, `Early` and `Divisor` at an operand
+/// of ORG, DS, EQU, SET or IF, `PastEnd` at the operation. Only a cell that can be laid out has
+/// faults of values: `Undefined`, `Divisor` and `ByteRange` at an operand, `Overlap` at the
+/// operation. Want of memory may be answered in place of a fault that is found later.
+///
+/// 8080/8085 Assembly Language Programming Manual, chapters 2 and 4.
+pub fn build(alloc: Global, statements: &Statements, kept: &Symbols) -> Result<Built, AsmFault>
+    ensures exact { Gives meaning_in result (built_of kept.now statements.now) }
+    ensures found { IfOk result (λ b. IsMeaning kept.now statements.now b) }
+    ensures only { IfOk result (λ b. IsOnlyMeaning kept.now statements.now b) }
+{
+    both_rounds(alloc, statements.as_slice(), kept)
+}

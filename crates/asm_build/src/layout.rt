@@ -1,0 +1,495 @@
+//! The layout round: the place of each statement, and the names that the cell defines.
+ghost use Rattle.std.specs.Prelude.{◌≡◌, ◌≤◌, ◌<◌, ◌+◌, ◌++◌, ◌∷◌, ℕ, List, [], false, None};
+ghost use Rattle.std.specs.Prelude.{option_copied, length, IfOk, OnOk, ◌||◌};
+ghost use Rattle.std.specs.Option.{option_map_or};
+ghost use Rattle.asm_expr.specs.Tree.{names_of};
+ghost use Rattle.asm_syntax.specs.Outcome.{Gives, LineGives, at_line};
+ghost use Rattle.asm_build.specs.Statements.{on_action, is_end, definition_of, early_in, late_in};
+ghost use Rattle.asm_build.specs.Statements.{names_in, names_in_early, operands_in_data};
+ghost use Rattle.asm_build.specs.Statements.{operands_in_instruction, length_of};
+ghost use Rattle.asm_build.specs.Reading.{given_as, next_place, parts_around, parts_behind};
+ghost use Rattle.asm_build.specs.Reading.{is_selected, symbol_at};
+ghost use Rattle.asm_build.specs.Meaning.{definitions};
+ghost use Rattle.asm_build.specs.Layout.{is_among, needs, uses, check_first, check_defined};
+ghost use Rattle.asm_build.specs.Layout.{check_definition, early, within, assembled, laid_out};
+ghost use Rattle.asm_build.specs.Layout.{layout};
+ghost use Rattle.asm_build.specs.State.{placed, past_in, past_of, lines_of, with_line_definition};
+ghost use Rattle.asm_build.specs.State.{Advances};
+
+use crate::laid::Laid;
+use crate::look_up::EarlyNames;
+use crate::name_set::NameSet;
+use crate::parts::Parts;
+use crate::statements::{definition_of, early_operand, length_of};
+use crate::symbols::{Symbol, SymbolKind, Symbols};
+use asm_expr::evaluation::{ExprFault, value};
+use asm_syntax::fault::{AsmFault, FaultKind, LineFault};
+use asm_syntax::statement::{
+    Action, Data, Instruction, Label, MOST_LINES, Operand, Operation, Statement,
+};
+use std::alloc::{AllocError, Global};
+
+/// What is known behind some lines.
+#[derive(Drop)]
+pub(crate) struct Layout<'a> {
+    /// The cell's own symbols.
+    pub(crate) own: Symbols,
+    /// How each line is laid out.
+    pub(crate) rows: Vec<Laid>,
+    /// Names in operands that decided the layout.
+    pub(crate) needed: NameSet<'a>,
+    /// Names in other operands.
+    pub(crate) used: NameSet<'a>,
+    pub(crate) parts: Parts,
+    pub(crate) place: u32,
+    pub(crate) has_ended: bool,
+}
+
+// A fault on its line.
+pub(crate) fn on_line(line: usize, fault: LineFault) -> AsmFault
+    ensures { result ≡ placed line fault }
+{
+    match fault {
+        LineFault::NoMemory => AsmFault::NoMemory,
+        LineFault::At { column, kind } => AsmFault::At { line, column, kind },
+    }
+}
+
+pub(crate) fn at(column: usize, kind: FaultKind) -> LineFault
+    ensures { result ≡ LineFault.At column kind }
+{
+    LineFault::At { column, kind }
+}
+
+// Whether an operand names it.
+fn is_in(alloc: Global, name: &str, operand: Option<&Operand>) -> Result<bool, AllocError>
+    ensures { IfOk result
+        (λ b. b ≡ is_among name.now (names_in_early (option_copied operand.entry))) }
+{
+    let Some(operand) = operand else {
+        return Ok(false);
+    };
+    let mut names = NameSet::new(alloc);
+    names.insert_all(alloc, &operand.expr)?;
+    Ok(names.contains(name))
+}
+
+// The value of an operand that decides the layout.
+fn early(names: EarlyNames<'_>, here: u16, operand: Option<&Operand>) -> Result<u16, LineFault>
+    ensures { LineGives (λ v. v) result
+        (early (past_in names.entry.kept.now names.entry.own.now [] []) here
+        (option_copied operand.entry)) }
+{
+    let Some(operand) = operand else {
+        return Ok(0);
+    };
+    match value(&operand.expr, &names, here) {
+        Ok(v) => Ok(v),
+        Err(ExprFault::Undefined) => Err(at(operand.column, FaultKind::Early)),
+        Err(ExprFault::Divisor) => Err(at(operand.column, FaultKind::Divisor)),
+    }
+}
+
+// That no byte lies behind the last address.
+fn within(place: u32, value: u16, operation: &Option<Operation>) -> Result<(), LineFault>
+    requires { place ≤ 65536 }
+    ensures exact { LineGives (λ _. tt) result (within place value operation.now) }
+    ensures small { OnOk result
+        (option_map_or (λ o. place + length_of o.action value) operation.now place ≤ 65536) }
+{
+    match operation {
+        None => Ok(()),
+        Some(operation) => {
+            let room = 65_536 - place as usize;
+            if length_of(&operation.action, value) > room {
+                return Err(at(operation.column, FaultKind::PastEnd));
+            }
+            Ok(())
+        }
+    }
+}
+
+// What a name is defined as by a statement that is laid out so.
+pub(crate) fn given_as(kind: SymbolKind, row: Laid) -> Symbol
+    ensures { result ≡ given_as kind row }
+{
+    let value = match kind {
+        SymbolKind::Label => (row.place % 65_536) as u16,
+        SymbolKind::Equ => row.value,
+        SymbolKind::Set => row.value,
+    };
+    Symbol { value, kind }
+}
+
+// Makes the definition of a statement, where it is assembled.
+fn define(
+    alloc: Global,
+    own: &mut Symbols,
+    statement: &Statement,
+    row: Laid,
+) -> Result<(), AllocError>
+    ensures { OnOk result (own.new ≡ with_line_definition own.old statement.now row) }
+{
+    if !row.is_assembled {
+        return Ok(());
+    }
+    let Some((label, kind)) = definition_of(statement) else {
+        return Ok(());
+    };
+    own.define(alloc, label.name.as_str(), given_as(kind, row))
+}
+
+// Notes the names in operands that the bytes need.
+fn note_operands<'a>(
+    alloc: Global,
+    used: &mut NameSet<'a>,
+    operands: &'a [Operand],
+) -> Result<(), AllocError>
+    ensures { OnOk result ((x : List ℕ) → is_among x used.new
+        ≡ (is_among x (names_in operands.now) || is_among x used.old)) }
+{
+    for operand in operands {
+        used.insert_all(alloc, &operand.expr)?;
+    }
+    Ok(())
+}
+
+fn note_operand<'a>(
+    alloc: Global,
+    used: &mut NameSet<'a>,
+    operand: &'a Operand,
+) -> Result<(), AllocError>
+    ensures { OnOk result ((x : List ℕ) → is_among x used.new
+        ≡ (is_among x (names_in (operand.now ∷ [])) || is_among x used.old)) }
+{
+    used.insert_all(alloc, &operand.expr)
+}
+
+fn note_datum<'a>(alloc: Global, used: &mut NameSet<'a>, datum: &'a Data) -> Result<(), AllocError>
+    ensures { OnOk result ((x : List ℕ) → is_among x used.new
+        ≡ (is_among x (names_in (operands_in_data (datum.now ∷ []))) || is_among x used.old)) }
+{
+    match datum {
+        Data::Text(_) => Ok(()),
+        Data::Byte(operand) => note_operand(alloc, used, operand),
+    }
+}
+
+fn note_data<'a>(alloc: Global, used: &mut NameSet<'a>, items: &'a [Data]) -> Result<(), AllocError>
+    ensures { OnOk result ((x : List ℕ) → is_among x used.new
+        ≡ (is_among x (names_in (operands_in_data items.now)) || is_among x used.old)) }
+{
+    for datum in items {
+        note_datum(alloc, used, datum)?;
+    }
+    Ok(())
+}
+
+fn note_instruction<'a>(
+    alloc: Global,
+    used: &mut NameSet<'a>,
+    instruction: &'a Instruction,
+) -> Result<(), AllocError>
+    ensures { OnOk result ((x : List ℕ) → is_among x used.new
+        ≡ (is_among x (names_in (operands_in_instruction instruction.now))
+        || is_among x used.old)) }
+{
+    match instruction {
+        Instruction::Alone(_) => Ok(()),
+        Instruction::Byte(_, operand) => note_operand(alloc, used, operand),
+        Instruction::Word(_, operand) => note_operand(alloc, used, operand),
+        Instruction::Restart(operand) => note_operand(alloc, used, operand),
+    }
+}
+
+fn note_late<'a>(
+    alloc: Global,
+    used: &mut NameSet<'a>,
+    action: &'a Action,
+) -> Result<(), AllocError>
+    ensures { OnOk result ((x : List ℕ) → is_among x used.new
+        ≡ (is_among x (names_in (late_in action.now)) || is_among x used.old)) }
+{
+    match action {
+        Action::Instruction(instruction) => note_instruction(alloc, used, instruction),
+        Action::Bytes(items) => note_data(alloc, used, items.as_slice()),
+        Action::Words(operands) => note_operands(alloc, used, operands.as_slice()),
+        Action::End(Some(operand)) => note_operand(alloc, used, operand),
+        _ => Ok(()),
+    }
+}
+
+// Notes the names in a statement, where it is assembled.
+fn note_names<'a>(
+    alloc: Global,
+    needed: &mut NameSet<'a>,
+    used: &mut NameSet<'a>,
+    statement: &'a Statement,
+    row: Laid,
+) -> Result<(), AllocError>
+    ensures needed { OnOk result ((x : List ℕ) → is_among x needed.new
+        ≡ (needs (statement.now, row) x || is_among x needed.old)) }
+    ensures used { OnOk result ((x : List ℕ) → is_among x used.new
+        ≡ (uses (statement.now, row) x || is_among x used.old)) }
+{
+    if !row.is_assembled {
+        return Ok(());
+    }
+    if let Some(operand) = early_operand(statement) {
+        return needed.insert_all(alloc, &operand.expr);
+    }
+    match &statement.operation {
+        None => Ok(()),
+        Some(operation) => note_late(alloc, used, &operation.action),
+    }
+}
+
+// Opens, turns or closes an IF.
+fn turn_parts(parts: &mut Parts, statement: &Statement, value: u16) -> Result<(), AllocError>
+    ensures { OnOk result
+        (parts.new ≡ on_action (parts_behind parts.old value) parts.old statement.now) }
+{
+    let Some(operation) = &statement.operation else {
+        return Ok(());
+    };
+    match &operation.action {
+        Action::If(_) => parts.open(value != 0),
+        Action::Else => {
+            parts.turn();
+            Ok(())
+        }
+        Action::EndIf => {
+            parts.close();
+            Ok(())
+        }
+        _ => Ok(()),
+    }
+}
+
+fn is_end(statement: &Statement) -> bool
+    ensures { result ≡ on_action is_end false statement.now }
+{
+    match &statement.operation {
+        None => false,
+        Some(operation) => match &operation.action {
+            Action::End(_) => true,
+            _ => false,
+        },
+    }
+}
+
+// The place behind a statement.
+fn next_place(statement: &Statement, row: Laid) -> u32
+    requires { next_place (statement.now, row) ≤ 65536 }
+    ensures { result ≡ next_place (statement.now, row) }
+{
+    if !row.is_assembled {
+        return row.place;
+    }
+    match &statement.operation {
+        None => row.place,
+        Some(operation) => match &operation.action {
+            Action::Origin(_) => u32::from(row.value),
+            action => row.place + length_of(action, row.value) as u32,
+        },
+    }
+}
+
+impl<'a> Layout<'a> {
+    fn new(alloc: Global) -> Self
+        ensures own { result.own ≡ [] }
+        ensures rows { result.rows.items ≡ [] }
+        ensures needed { result.needed ≡ [] }
+        ensures used { result.used ≡ [] }
+        ensures parts { result.parts ≡ [] }
+        ensures place { result.place ≡ 0 }
+        ensures ended { result.has_ended ≡ false }
+    {
+        Layout {
+            own: Symbols::new(alloc),
+            rows: Vec::new(alloc),
+            needed: NameSet::new(alloc),
+            used: NameSet::new(alloc),
+            parts: Parts::new(alloc),
+            place: 0,
+            has_ended: false,
+        }
+    }
+
+    // Whether the IFs around a statement select it, and the cell hasn't ended.
+    fn is_selected(&self, statement: &Statement) -> bool
+        ensures { result ≡ is_selected self.now.has_ended self.now.parts statement.now }
+    {
+        if self.has_ended {
+            return false;
+        }
+        match &statement.operation {
+            None => self.parts.all(),
+            Some(operation) => match &operation.action {
+                Action::Else => self.parts.all_outer(),
+                Action::EndIf => self.parts.all_outer(),
+                _ => self.parts.all(),
+            },
+        }
+    }
+
+    // A name's first definition in the cell.
+    fn check_first(
+        &self,
+        alloc: Global,
+        kept: &Symbols,
+        operand: Option<&Operand>,
+        label: &Label,
+        kind: SymbolKind,
+    ) -> Result<(), LineFault>
+        ensures { LineGives (λ _. tt) result
+            (check_first (past_of kept.now self.now) (option_copied operand.entry)
+            (label.now, kind)) }
+    {
+        let name = label.name.as_str();
+        let itself = is_in(alloc, name, operand)?;
+        let is_needed = self.needed.contains(name);
+        if kept.get(name).is_some() && (is_needed || itself) {
+            return Err(at(label.column, FaultKind::Early));
+        }
+        if kind.is_set() && (is_needed || self.used.contains(name)) {
+            return Err(at(label.column, FaultKind::Early));
+        }
+        Ok(())
+    }
+
+    fn check_definition(
+        &self,
+        alloc: Global,
+        kept: &Symbols,
+        operand: Option<&Operand>,
+        statement: &Statement,
+    ) -> Result<(), LineFault>
+        ensures { LineGives (λ _. tt) result
+            (check_definition (past_of kept.now self.now) (option_copied operand.entry)
+            (definition_of statement.now)) }
+    {
+        let Some((label, kind)) = definition_of(statement) else {
+            return Ok(());
+        };
+        let Some(was) = self.own.get(label.name.as_str()) else {
+            return self.check_first(alloc, kept, operand, label, kind);
+        };
+        if was.kind.is_set() && kind.is_set() {
+            return Ok(());
+        }
+        Err(at(label.column, FaultKind::Twice))
+    }
+
+    // How the next statement is laid out where it is assembled.
+    fn assembled(
+        &self,
+        alloc: Global,
+        kept: &Symbols,
+        statement: &Statement,
+    ) -> Result<Laid, LineFault>
+        requires { self.now.place ≤ 65536 }
+        ensures exact { LineGives (λ r. r) result
+            (assembled (past_of kept.now self.now) self.now.place statement.now) }
+        ensures small { IfOk result (λ r. next_place (statement.now, r) ≤ 65536) }
+    {
+        let operand = early_operand(statement);
+        self.check_definition(alloc, kept, operand, statement)?;
+        let names = EarlyNames {
+            own: &self.own,
+            kept,
+        };
+        let value = early(names, (self.place % 65_536) as u16, operand)?;
+        within(self.place, value, &statement.operation)?;
+        Ok(Laid {
+            place: self.place,
+            is_assembled: true,
+            value,
+        })
+    }
+
+    // How the next statement is laid out.
+    fn laid_out(
+        &self,
+        alloc: Global,
+        kept: &Symbols,
+        statement: &Statement,
+    ) -> Result<Laid, LineFault>
+        requires { self.now.place ≤ 65536 }
+        ensures small { IfOk result (λ r. next_place (statement.now, r) ≤ 65536) }
+        ensures exact { LineGives (λ r. r) result
+            (laid_out (past_of kept.now self.now) self.now.place
+            (is_selected self.now.has_ended self.now.parts statement.now) statement.now) }
+    {
+        if self.is_selected(statement) {
+            return self.assembled(alloc, kept, statement);
+        }
+        Ok(Laid {
+            place: self.place,
+            is_assembled: false,
+            value: 0,
+        })
+    }
+
+    // Goes past the next statement, which is laid out so.
+    fn advance(
+        &mut self,
+        alloc: Global,
+        statement: &'a Statement,
+        row: Laid,
+    ) -> Result<(), AllocError>
+        requires { next_place (statement.now, row) ≤ 65536 }
+        ensures { OnOk result (Advances self.old self.new statement.now row) }
+    {
+        define(alloc, &mut self.own, statement, row)?;
+        note_names(alloc, &mut self.needed, &mut self.used, statement, row)?;
+        turn_parts(&mut self.parts, statement, row.value)?;
+        self.rows.push(row)?;
+        self.has_ended = is_end(statement) || self.has_ended;
+        self.place = next_place(statement, row);
+        Ok(())
+    }
+
+    // Lays the next statement out, on this line.
+    fn lay(
+        &mut self,
+        alloc: Global,
+        kept: &Symbols,
+        line: usize,
+        statement: &'a Statement,
+    ) -> Result<Laid, AsmFault>
+        requires { self.old.place ≤ 65536 }
+        ensures exact { Gives (λ r. r) result (at_line line
+            (laid_out (past_of kept.now self.old) self.old.place
+            (is_selected self.old.has_ended self.old.parts statement.now) statement.now)) }
+        ensures advances { IfOk result (λ r. Advances self.old self.new statement.now r) }
+        ensures small { OnOk result (self.new.place ≤ 65536) }
+    {
+        match self.laid_out(alloc, kept, statement) {
+            Ok(row) => {
+                self.advance(alloc, statement, row)?;
+                Ok(row)
+            }
+            Err(fault) => Err(on_line(line, fault)),
+        }
+    }
+}
+
+/// Lays the statements of a cell out, or tells the first fault on the way.
+pub(crate) fn lay_out<'a>(
+    alloc: Global,
+    kept: &Symbols,
+    statements: &'a [Statement],
+) -> Result<Layout<'a>, AsmFault>
+    requires { length statements.now ≤ MOST_LINES }
+    ensures exact { Gives (λ l. lines_of [] statements.now l.rows.items) result
+        (layout kept.now [] statements.now) }
+    ensures own { IfOk result (λ l. l.own ≡ definitions (lines_of [] statements.now l.rows.items)) }
+    ensures rows { IfOk result (λ l. length l.rows.items ≡ length statements.now) }
+{
+    let mut state = Layout::new(alloc);
+    for (i, statement) in statements.iter().enumerate() {
+        let _ = state.lay(alloc, kept, i + 1, statement)?;
+    }
+    Ok(state)
+}

@@ -1,0 +1,61 @@
+//! Sets of names.
+ghost use Rattle.std.specs.Prelude.{◌≡◌, [], ℕ, List, ◌||◌, OnOk, IfOk};
+ghost use Rattle.std.specs.Str.{bytes_eq};
+
+use asm_expr::expression::Expr;
+use indexmap::IndexSet;
+use std::alloc::{AllocError, Global};
+use std::marker::Model;
+
+/// Names that statements hold.
+#[derive(Drop)]
+pub(crate) struct NameSet<'a> {
+    names: IndexSet<&'a str>,
+}
+
+impl<'a> Model for NameSet<'a> {
+    ghost use Rattle.std.specs.Prelude.{List, ℕ, map};
+
+    ghost Value = { List (List ℕ) };
+
+    ghost view = { λ s. map (λ n. n.now) s.names.keys };
+}
+
+impl<'a> NameSet<'a> {
+    ghost use Rattle.asm_expr.specs.Tree.{names_of};
+    ghost use Rattle.asm_build.specs.Layout.{is_among};
+
+    pub(crate) fn new(alloc: Global) -> Self
+        ensures { result ≡ [] }
+    {
+        NameSet {
+            names: IndexSet::new(alloc),
+        }
+    }
+
+    pub(crate) fn contains(&self, name: &str) -> bool
+        ensures { result ≡ is_among name.now self.now }
+    {
+        self.names.contains(name)
+    }
+
+    pub(crate) fn insert(&mut self, name: &'a str) -> Result<(), AllocError>
+        ensures { OnOk result ((x : List ℕ) → is_among x self.new
+            ≡ (bytes_eq x name.now || is_among x self.old)) }
+    {
+        self.names.insert(name)?;
+        Ok(())
+    }
+
+    // Adds the names of an expression.
+    pub(crate) fn insert_all(&mut self, alloc: Global, expr: &'a Expr) -> Result<(), AllocError>
+        ensures { OnOk result ((x : List ℕ) → is_among x self.new
+            ≡ (is_among x (names_of expr.now) || is_among x self.old)) }
+    {
+        let names = expr.names(alloc)?;
+        for name in &names {
+            self.insert(name.as_str())?;
+        }
+        Ok(())
+    }
+}

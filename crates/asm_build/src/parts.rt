@@ -1,0 +1,80 @@
+//! The open IFs around a statement.
+ghost use Rattle.std.specs.Prelude.{◌≡◌, [], ◌∷◌, OnOk};
+ghost use Rattle.std.specs.List.{list_all};
+ghost use Rattle.asm_build.specs.Reading.{turned, outer};
+
+use std::alloc::{AllocError, Global};
+use std::marker::Model;
+
+/// For each open IF whether its selected part stands here, the innermost first.
+#[derive(Drop)]
+pub(crate) struct Parts {
+    selected: Vec<bool>,
+}
+
+impl Model for Parts {
+    ghost use Rattle.std.specs.Prelude.{List, Bool, reverse};
+
+    ghost Value = { List Bool };
+
+    ghost view = { λ p. reverse p.selected.items };
+}
+
+impl Parts {
+    pub(crate) fn new(alloc: Global) -> Parts
+        ensures { result ≡ [] }
+    {
+        Parts {
+            selected: Vec::new(alloc),
+        }
+    }
+
+    // An IF.
+    pub(crate) fn open(&mut self, is_selected: bool) -> Result<(), AllocError>
+        ensures { OnOk result (self.new ≡ is_selected ∷ self.old) }
+    {
+        self.selected.push(is_selected)?;
+        Ok(())
+    }
+
+    // An ELSE.
+    pub(crate) fn turn(&mut self)
+        ensures { self.new ≡ turned self.old }
+    {
+        let open = self.selected.len();
+        if open > 0 {
+            self.selected[open - 1] = !self.selected[open - 1];
+        }
+    }
+
+    // An ENDIF.
+    pub(crate) fn close(&mut self)
+        ensures { self.new ≡ outer self.old }
+    {
+        let _ = self.selected.pop();
+    }
+
+    // Whether each IF selects the part that stands here.
+    pub(crate) fn all(&self) -> bool
+        ensures { result ≡ list_all (λ b. b) self.now }
+    {
+        are_true(&self.selected)
+    }
+
+    // The same without the innermost.
+    pub(crate) fn all_outer(&self) -> bool
+        ensures { result ≡ list_all (λ b. b) (outer self.now) }
+    {
+        let open = self.selected.len();
+        if open == 0 {
+            return true;
+        }
+        are_true(self.selected.as_slice().split_at(open - 1).0)
+    }
+}
+
+fn are_true(parts: &[bool]) -> bool
+    ensures { result ≡ list_all (λ b. b) parts.now }
+{
+    parts.iter().all(|b| *b)
+}
