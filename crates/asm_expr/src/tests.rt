@@ -105,12 +105,7 @@ fn atoms_and_names(rt: HostRuntime) -> Result<(), Fail> {
     assert!(rt; one == Ok(1));
     let two = value(&Expr::parens(alloc, named(alloc, b'X')?)?, &OneName, 0);
     assert!(rt; two == Err(ExprFault::Undefined));
-    let sum = Expr::infix(
-        alloc,
-        Binary::Add,
-        named(alloc, b'I')?,
-        named(alloc, b'X')?,
-    )?;
+    let sum = Expr::infix(alloc, Binary::Add, named(alloc, b'I')?, named(alloc, b'X')?)?;
     let names = sum.names(alloc)?;
     assert_eq!(rt; names.len(), 2);
     assert_eq!(rt; names[0].as_str(), "I");

@@ -12,17 +12,20 @@ use std::env;
 use std::rt::Clock;
 use std::time::Instant;
 
-#[cfg(test)]
-mod cell_tests;
-
 /// How many lines are assembled for each length of the program, in all.
 const LINES_IN_ALL: u64 = 650_000;
 
 // Ten lines: a comment, an EQU with an expression, a label, an IF with two parts, a jump back.
 fn push_block(text: &mut String, number: u64) -> Result<(), AllocError> {
-    write!(text, "; block {number}\nV{number} EQU {number}*2+1 AND 0FFH\n")?;
+    write!(
+        text,
+        "; block {number}\nV{number} EQU {number}*2+1 AND 0FFH\n"
+    )?;
     write!(text, "L{number}: MOV A,B\n MVI C,V{number} AND 7FH\n")?;
-    write!(text, " IF V{number} GT 100\n INR A\n ELSE\n DCR A\n ENDIF\n")?;
+    write!(
+        text,
+        " IF V{number} GT 100\n INR A\n ELSE\n DCR A\n ENDIF\n"
+    )?;
     write!(text, " JMP L{number}\n")?;
     Ok(())
 }
@@ -80,3 +83,6 @@ fn main(rt: HostRuntime) -> Result<()> {
     }
     Ok(())
 }
+
+#[cfg(test)]
+mod cell_tests;
