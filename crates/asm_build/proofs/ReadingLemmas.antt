@@ -77,7 +77,7 @@ layout_reads (s ∷ ss) kept earlier all e =
     let a = bind_ok (at_line _ (laid_behind kept earlier s)) (λ r. layout kept ((s, r) ∷ earlier) ss) all e in
     (a.0, fits kept earlier s a.0 (line_ok _ (laid_behind kept earlier s) a.0 a.1), layout_reads ss kept ((s, a.0) ∷ earlier) all a.2)
 
-found : (kept : Entries) (ss : List Statement) (m : Meaning) → built_of kept ss ≡ Ok m
+pub found : (kept : Entries) (ss : List Statement) (m : Meaning) → built_of kept ss ≡ Ok m
     → (all : Lines) × (IsReading kept ss all × (meaning_of kept all ≡ Ok m))
 found kept ss m e =
     let a = bind_ok (layout kept [] ss) (λ all. meaning_of kept all) m e in
@@ -112,7 +112,7 @@ one_reading (s ∷ ss) kept earlier l m a b =
     let same : a.0 ≡ b.0 = one_row kept earlier s a.0 b.0 a.1 b.1 in
     one_reading ss kept ((s, b.0) ∷ earlier) l m (subst (λ (r : Laid). Reads kept ((s, r) ∷ earlier) ss l) same a.2) b.2
 
-only : (kept : Entries) (ss : List Statement) (m : Meaning) → built_of kept ss ≡ Ok m
+pub only : (kept : Entries) (ss : List Statement) (m : Meaning) → built_of kept ss ≡ Ok m
     → (all : Lines) → IsReading kept ss all → meaning_of kept all ≡ Ok m
 only kept ss m e all h =
     let f = found kept ss m e in

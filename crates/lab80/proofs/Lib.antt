@@ -1,7 +1,6 @@
-pub mod HexLemmas
 pub mod ImageLemmas
 pub mod LoadLemmas
+pub mod OriginLemmas
 pub mod PrintedLemmas
 pub mod RunLemmas
 pub mod RunnerLemmas
-pub mod StreamLemmas

@@ -1,8 +1,8 @@
 -- Pairs of digits stored one after another are the bytes stored from address 0 on.
 use Rattle.std.proofs.Common.{◌≡◌, ℕ, suc, ◌+◌, ◌*◌, ◌%◌, ◌<◌, ◌≤◌, List, [], ◌∷◌, length, take, drop, All, get_or, refl, ap, ◌∙◌, arith}
 use Rattle.i80_exec.specs.State.{MachineState, stored}
+use Rattle.lab_io.specs.HexInput.{paired}
 use Rattle.lab80.specs.Board.{stored_from}
-use Rattle.lab80.specs.HexInput.{paired}
 
 -- the pairs before the rest are stored, and the next address is that of the rest's first
 pub record IsStored (digits : List ℕ) (start : MachineState) (rest : List ℕ) (address : ℕ) (m : MachineState) : Type 0 where

@@ -8,9 +8,9 @@ use Rattle.asm_syntax.specs.declared.fault.FaultKind.{FaultKind}
 use Rattle.asm_syntax.specs.declared.fault.FaultKind.TheVariants as fault
 use Rattle.asm_text.specs.Statements.{statements_of}
 use Rattle.asm_build.specs.Meaning.{Meaning, built_of}
+use Rattle.lab_io.specs.declared.status.Status.{Status}
+use Rattle.lab_io.specs.declared.status.Status.TheVariants.{Success, Refused}
 use Rattle.lab80.specs.declared.asm.TheConstants.{RUN_LIMIT}
-use Rattle.lab80.specs.declared.status.Status.{Status}
-use Rattle.lab80.specs.declared.status.Status.TheVariants.{Success, Refused}
 use Rattle.lab80.specs.Printed.{line, hex_word, register_line}
 use Rattle.lab80.specs.Board.{Board, fresh, after, end_at, run_length}
 use Rattle.lab80.specs.StepText.{end_line}

@@ -1,11 +1,7 @@
 pub mod Printed
-pub mod HexInput
-pub mod HexState
 pub mod Board
 pub mod Image
 pub mod Runner
 pub mod StepText
 pub mod AsmText
-pub mod Engine
-pub mod Report
-pub mod Streams
+pub mod DisText

@@ -1,14 +1,8 @@
 -- Numbers and registers as they are printed: upper-case hexadecimal digits of fixed width.
-use Rattle.std.specs.Prelude.{ℕ, ◌+◌, ◌/◌, ◌%◌, List, [], ◌∷◌, ◌++◌, nat_lt, codes, if◌then◌else◌}
+use Rattle.std.specs.Prelude.{ℕ, ◌/◌, ◌%◌, List, [], ◌∷◌, ◌++◌, codes}
+use Rattle.i80_dis.specs.Text.{hex_byte}
 use Rattle.i80_rows.specs.FlagValues.{flag_byte}
 use Rattle.i80_exec.specs.declared.registers.Registers.{Registers}
-
--- `0` to `9`, `A` to `F`
-abbrev pub hex_digit : ℕ → ℕ
-hex_digit n = if (nat_lt n 10) then (48 + n) else (55 + n)
-
-abbrev pub hex_byte : ℕ → List ℕ
-hex_byte n = hex_digit (n / 16) ∷ (hex_digit (n % 16) ∷ [])
 
 abbrev pub hex_word : ℕ → List ℕ
 hex_word n = hex_byte (n / 256) ++ hex_byte (n % 256)

@@ -1,12 +1,13 @@
 -- The text and the status with which the word `step` answers its input.
 use Rattle.std.specs.Prelude.{ℕ, suc, zero, List, [], ◌++◌, Option, Some, None, codes}
+use Rattle.i80_dis.specs.Text.{hex_byte}
+use Rattle.lab_io.specs.declared.status.Status.{Status}
+use Rattle.lab_io.specs.declared.status.Status.TheVariants.{Success, Refused}
+use Rattle.lab_io.specs.HexInput.{Input, BadHex, PastEnd, Bytes}
 use Rattle.lab80.specs.declared.ending.Ending.{Ending}
 use Rattle.lab80.specs.declared.ending.Ending.TheVariants.{Halted, Waiting, Undefined, Limit}
-use Rattle.lab80.specs.declared.status.Status.{Status}
-use Rattle.lab80.specs.declared.status.Status.TheVariants.{Success, Refused}
 use Rattle.lab80.specs.declared.step.TheConstants.{STEP_LIMIT}
-use Rattle.lab80.specs.Printed.{line, hex_byte, register_line}
-use Rattle.lab80.specs.HexInput.{Input, BadHex, PastEnd, Bytes}
+use Rattle.lab80.specs.Printed.{line, register_line}
 use Rattle.lab80.specs.Board.{Board, loaded, after, end_at, run_length}
 
 -- the registers after each of the first k steps

@@ -3,6 +3,8 @@ ghost use Rattle.std.specs.Prelude.{◌≡◌, ◌++◌, List, ℕ, OnOk, IfOk, 
 ghost use Rattle.std.specs.Str.{is_utf8};
 ghost use Rattle.asm_syntax.specs.Outcome.{Gives};
 ghost use Rattle.asm_build.specs.Meaning.{meaning_in};
+ghost use Rattle.lab_io.specs.Engine.{Answers, IsFailure};
+ghost use Rattle.lab_io.specs.Report.{IsReport};
 ghost use Rattle.lab80.specs.AsmText.{
   start_text,
   built_text,
@@ -15,22 +17,20 @@ ghost use Rattle.lab80.specs.AsmText.{
   asm_text,
   asm_status,
 };
-ghost use Rattle.lab80.specs.Engine.{Answers, IsFailure};
 ghost use Rattle.lab80.specs.Runner.{StandsFor};
-ghost use Rattle.lab80.specs.Report.{IsReport};
 
 use crate::image::{push_image, store_image};
 use crate::printing::push_word;
-use crate::report::{Report, deliver, refusal};
 use crate::runner::Runner;
-use crate::status::Status;
-use crate::streams::{new_buffer, read_all};
 use asm_build::built::Built;
 use asm_build::cell::build;
 use asm_build::symbols::Symbols;
 use asm_syntax::fault::{AsmFault, FaultKind};
 use asm_text::statements::statements;
 use i80_exec::machine::Machine;
+use lab_io::report::{Report, deliver, refusal};
+use lab_io::status::Status;
+use lab_io::streams::{new_buffer, read_all};
 use std::alloc::{AllocError, Global};
 use std::io::{Read, Write};
 use std::str;

@@ -1,8 +1,8 @@
 //! The engine of the word `asm`: texts and faults, and readers and writers of every kind.
 use crate::asm::{name_of, run_asm};
-use crate::fakes::{Narrow, Slow};
-use crate::status::Status;
 use asm_syntax::fault::FaultKind;
+use lab_io::fakes::{Narrow, Slow};
+use lab_io::status::Status;
 use std::alloc::Global;
 use std::process::Abort;
 use std::test::Fail;

@@ -16,7 +16,7 @@ use i80_exec::machine::Machine;
 use std::alloc::{AllocError, Global};
 
 /// How many addresses there are.
-const ADDRESSES: usize = 65536;
+pub const ADDRESSES: usize = 65536;
 
 /// The most bytes that stand on one line.
 const LINE_BYTES: usize = 16;

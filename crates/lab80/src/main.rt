@@ -1,5 +1,5 @@
 // lab80, an Intel 8080 laboratory: `lab80 step` runs a program's bytes and prints what each
-// instruction did.
+// instruction did, `lab80 asm` assembles and runs a cell, `lab80 dis` lists bytes as assembler text.
 // The engine of a word is a function over any reader and writer, whose contract says that what it
 // writes is the stated text of what it reads. This file only maps words to engines, and what they
 // answer to exit statuses.
@@ -8,23 +8,21 @@
 mod asm;
 #[cfg(test)]
 mod asm_tests;
-mod ending;
+mod dis;
 #[cfg(test)]
-mod fakes;
-mod hex_input;
+mod dis_tests;
+mod ending;
 mod image;
 mod printing;
-mod report;
 mod runner;
-mod status;
 mod step;
-mod streams;
 #[cfg(test)]
 mod tests;
 
 use crate::asm::run_asm;
-use crate::status::Status;
+use crate::dis::{origin_of, run_dis};
 use crate::step::run_step;
+use lab_io::status::Status;
 use std::process::ExitCode;
 use std::rt::Env;
 use std::{env, io};
@@ -49,6 +47,10 @@ fn run(rt: &(impl Env + Input + Print + Eprint + AllocGlobal)) -> Status {
         [word] if word.as_str() == "asm" => {
             run_asm(rt.alloc(), &mut rt.reader(), &mut io::writer(rt))
         }
+        [word, origin] if word.as_str() == "dis" => match origin_of(origin.as_str()) {
+            Some(origin) => run_dis(rt.alloc(), origin, &mut rt.reader(), &mut io::writer(rt)),
+            None => usage(rt),
+        },
         _ => usage(rt),
     }
 }

@@ -1,7 +1,8 @@
 //! Registers and endings as text: hexadecimal digits are upper case and of fixed width.
 ghost use Rattle.std.specs.Prelude.{◌≡◌, ◌++◌, OnOk, string_bytes, codes};
 ghost use Rattle.i80_rows.specs.FlagValues.{flag_byte};
-ghost use Rattle.lab80.specs.Printed.{hex_byte, hex_word, field, register_line, line};
+ghost use Rattle.i80_dis.specs.Text.{hex_byte};
+ghost use Rattle.lab80.specs.Printed.{hex_word, field, register_line, line};
 ghost use Rattle.lab80.specs.StepText.{word_of};
 
 use crate::ending::Ending;

@@ -1,8 +1,8 @@
 //! A machine with its devices, stepped until its program ends.
 ghost use Rattle.std.specs.Prelude.{◌≡◌, ◌<◌, ◌++◌, List, ℕ, OnOk, IfOk, All, string_bytes};
+ghost use Rattle.lab_io.specs.HexInput.{paired};
 ghost use Rattle.lab80.specs.Board.{end_of, stored_from};
 ghost use Rattle.lab80.specs.Board.{Board, fresh, loaded};
-ghost use Rattle.lab80.specs.HexInput.{paired};
 ghost use Rattle.lab80.specs.StepText.{run_text};
 ghost use Rattle.lab80.specs.AsmText.{run_end_text};
 ghost use Rattle.i80_exec.specs.State.{power_on};

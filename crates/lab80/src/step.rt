@@ -1,16 +1,16 @@
 //! The word `step`: what each instruction of a program did.
 ghost use Rattle.std.specs.Prelude.{◌≡◌, ◌<◌, List, ℕ, IfOk, IfErr, IfSome, All};
-ghost use Rattle.lab80.specs.HexInput.{paired, Bytes, PastEnd, BadHex, input_of};
-ghost use Rattle.lab80.specs.HexState.{StandsFor};
+ghost use Rattle.lab_io.specs.HexInput.{paired, Bytes, PastEnd, BadHex, input_of};
+ghost use Rattle.lab_io.specs.HexState.{StandsFor};
+ghost use Rattle.lab_io.specs.Engine.{Answers, IsFailure};
+ghost use Rattle.lab_io.specs.Report.{IsReport};
 ghost use Rattle.lab80.specs.StepText.{text_of, status_of};
-ghost use Rattle.lab80.specs.Engine.{Answers, IsFailure};
-ghost use Rattle.lab80.specs.Report.{IsReport};
 
-use crate::hex_input::{HexInput, InputFault};
-use crate::report::{Report, deliver, refusal};
 use crate::runner::{Runner, load};
-use crate::status::Status;
-use crate::streams::{ReadFault, new_buffer, read_hex};
+use lab_io::hex_input::{HexInput, InputFault};
+use lab_io::report::{Report, deliver, refusal};
+use lab_io::status::Status;
+use lab_io::streams::{ReadFault, new_buffer, read_hex};
 use std::alloc::{AllocError, Global};
 use std::io::{Read, Write};
 

@@ -1,7 +1,7 @@
 //! The engine over readers and writers that give and take little at a time, and that fail.
-use crate::fakes::{Narrow, Slow};
-use crate::status::Status;
 use crate::step::run_step;
+use lab_io::fakes::{Narrow, Slow};
+use lab_io::status::Status;
 use std::alloc::Global;
 use std::process::Abort;
 use std::test::Fail;

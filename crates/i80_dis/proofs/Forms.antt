@@ -1,0 +1,135 @@
+-- What a printed line says, by the form of its operands.
+use Rattle.std.proofs.Common.{◌≡◌, ℕ, List, [], ◌∷◌, Some, None, Ok, refl}
+use Rattle.asm_expr.specs.Tree as tree
+use Rattle.i80_rows.specs.declared.instruction.Instr.{Instr}
+use Rattle.i80_rows.specs.declared.instruction.Reg.{Reg}
+use Rattle.i80_rows.specs.declared.instruction.Pair.{Pair}
+use Rattle.i80_rows.specs.declared.instruction.IndexPair.{IndexPair}
+use Rattle.i80_rows.specs.declared.instruction.StackPair.{StackPair}
+use Rattle.asm_syntax.specs.declared.keyword.Keyword.TheVariants as keyword
+use Rattle.asm_syntax.specs.declared.keyword.Mnemonic.{Mnemonic}
+use Rattle.asm_syntax.specs.declared.keyword.Mnemonic.TheVariants as mnemonic
+use Rattle.asm_syntax.specs.declared.keyword.Directive.TheVariants as directive
+use Rattle.asm_syntax.specs.declared.keyword.RegisterWord.{RegisterWord}
+use Rattle.asm_syntax.specs.declared.keyword.RegisterOperation.{RegisterOperation}
+use Rattle.asm_syntax.specs.declared.keyword.PairOperation.{PairOperation}
+use Rattle.asm_syntax.specs.declared.keyword.IndexOperation.{IndexOperation}
+use Rattle.asm_syntax.specs.declared.keyword.StackOperation.{StackOperation}
+use Rattle.asm_syntax.specs.declared.statement.ByteOperation.{ByteOperation}
+use Rattle.asm_syntax.specs.declared.statement.ByteOperation.TheVariants.{Mvi}
+use Rattle.asm_syntax.specs.declared.statement.WordOperation.{WordOperation}
+use Rattle.asm_syntax.specs.declared.statement.WordOperation.TheVariants.{Lxi}
+use Rattle.asm_syntax.specs.declared.statement.Operand.{Operand}
+use Rattle.asm_syntax.specs.declared.statement.Data.TheVariants as datum
+use Rattle.asm_syntax.specs.declared.statement.Instruction.TheVariants as instruction
+use Rattle.asm_syntax.specs.declared.statement.Action.{Action}
+use Rattle.asm_syntax.specs.declared.statement.Action.TheVariants as action
+use Rattle.asm_syntax.specs.declared.statement.Statement.{Statement}
+use Rattle.asm_syntax.specs.Lexemes.{Keyword, Number, Sign, Piece}
+use Rattle.asm_lex.specs.Tokens.{tokens_of}
+use Rattle.asm_operand.specs.Climb.{made, operand_at, chain, expr_at, expression}
+use Rattle.asm_operand.specs.Commas.{operands_of}
+use Rattle.asm_operand.specs.Shape.{shape}
+use Rattle.asm_operand.specs.Words.{misplaced_from}
+use Rattle.asm_text.specs.Forms.{register_instruction, pair_instruction, index_instruction, stack_instruction, move_between, instruction_of, each_of, directive_of}
+use Rattle.asm_text.specs.Lines.{label_at, action_of, operation_at, line_of}
+use Rattle.asm_text.specs.Registers as word
+
+-- ---- statements
+
+-- a number in this column
+abbrev pub number_at : ℕ → ℕ → Operand
+number_at column n = record { column = column; expr = tree.Number n }
+
+-- a line that does this alone
+abbrev pub does : Action → Statement
+does a = record { label = None; operation = Some (record { column = 1; action = a }) }
+
+abbrev pub means : Mnemonic → Piece
+means m = (1, Keyword (keyword.Mnemonic m))
+
+abbrev pub names : ℕ → RegisterWord → Piece
+names column r = (column, Keyword (keyword.Register r))
+
+abbrev pub Says : List ℕ → Action → Type 0
+Says line a = line_of line ≡ Ok (does a)
+
+abbrev pub Spelled : List ℕ → List Piece → Type 0
+Spelled line ps = tokens_of line ≡ Ok ps
+
+-- ---- a number is an operand
+
+number_read : (column c n : ℕ) → expression column ((c, Number n) ∷ []) ≡ Ok (number_at c n)
+unfolding expression expr_at operand_at chain made shape
+number_read column c n = refl
+
+-- ---- mnemonics
+
+pub alone_says : (line : List ℕ) (i : Instr) → Spelled line (means (mnemonic.Alone i) ∷ []) → Says line (action.Instruction (instruction.Alone i))
+unfolding line_of label_at operation_at action_of misplaced_from instruction_of
+alone_says line i e = rw e refl
+
+pub register_says : (line : List ℕ) (op : RegisterOperation) (c : ℕ) (w : RegisterWord) (r : Reg) → word.reg_of w ≡ Some r
+    → Spelled line (means (mnemonic.Register op) ∷ names c w ∷ []) → Says line (action.Instruction (instruction.Alone (register_instruction op r)))
+unfolding line_of label_at operation_at action_of misplaced_from instruction_of operands_of
+register_says line op c w r is e = rw (e, is) refl
+
+pub pair_says : (line : List ℕ) (op : PairOperation) (c : ℕ) (w : RegisterWord) (p : Pair) → word.pair_of w ≡ Some p
+    → Spelled line (means (mnemonic.Pair op) ∷ names c w ∷ []) → Says line (action.Instruction (instruction.Alone (pair_instruction op p)))
+unfolding line_of label_at operation_at action_of misplaced_from instruction_of operands_of
+pair_says line op c w p is e = rw (e, is) refl
+
+pub index_says : (line : List ℕ) (op : IndexOperation) (c : ℕ) (w : RegisterWord) (p : IndexPair) → word.index_of w ≡ Some p
+    → Spelled line (means (mnemonic.Index op) ∷ names c w ∷ []) → Says line (action.Instruction (instruction.Alone (index_instruction op p)))
+unfolding line_of label_at operation_at action_of misplaced_from instruction_of operands_of
+index_says line op c w p is e = rw (e, is) refl
+
+pub stack_says : (line : List ℕ) (op : StackOperation) (c : ℕ) (w : RegisterWord) (p : StackPair) → word.stack_of w ≡ Some p
+    → Spelled line (means (mnemonic.Stack op) ∷ names c w ∷ []) → Says line (action.Instruction (instruction.Alone (stack_instruction op p)))
+unfolding line_of label_at operation_at action_of misplaced_from instruction_of operands_of
+stack_says line op c w p is e = rw (e, is) refl
+
+pub byte_says : (line : List ℕ) (op : ByteOperation) (c n : ℕ) → Spelled line (means (mnemonic.Byte op) ∷ (c, Number n) ∷ [])
+    → Says line (action.Instruction (instruction.Byte op (number_at c n)))
+unfolding line_of label_at operation_at action_of misplaced_from instruction_of operands_of
+byte_says line op c n e = rw (e, number_read 1 c n) refl
+
+pub word_says : (line : List ℕ) (op : WordOperation) (c n : ℕ) → Spelled line (means (mnemonic.Word op) ∷ (c, Number n) ∷ [])
+    → Says line (action.Instruction (instruction.Word op (number_at c n)))
+unfolding line_of label_at operation_at action_of misplaced_from instruction_of operands_of
+word_says line op c n e = rw (e, number_read 1 c n) refl
+
+pub restart_says : (line : List ℕ) (c n : ℕ) → Spelled line (means mnemonic.Restart ∷ (c, Number n) ∷ [])
+    → Says line (action.Instruction (instruction.Restart (number_at c n)))
+unfolding line_of label_at operation_at action_of misplaced_from instruction_of operands_of
+restart_says line c n e = rw (e, number_read 1 c n) refl
+
+pub move_says : (line : List ℕ) (b c d : ℕ) (v w : RegisterWord) (r s : Reg) (i : Instr) → word.reg_of v ≡ Some r → word.reg_of w ≡ Some s
+    → move_between (word.register_of r) (word.register_of s) ≡ Some i
+    → Spelled line (means mnemonic.Move ∷ names b v ∷ (c, Sign 44) ∷ names d w ∷ []) → Says line (action.Instruction (instruction.Alone i))
+unfolding line_of label_at operation_at action_of misplaced_from instruction_of operands_of
+move_says line b c d v w r s i to from is e = rw (e, to, from, is) refl
+
+pub immediate_says : (line : List ℕ) (b c d n : ℕ) (w : RegisterWord) (r : Reg) → word.reg_of w ≡ Some r
+    → Spelled line (means mnemonic.MoveImmediate ∷ names b w ∷ (c, Sign 44) ∷ (d, Number n) ∷ [])
+    → Says line (action.Instruction (instruction.Byte (Mvi r) (number_at d n)))
+unfolding line_of label_at operation_at action_of misplaced_from instruction_of operands_of
+immediate_says line b c d n w r to e = rw (e, to, number_read 1 d n) refl
+
+pub load_says : (line : List ℕ) (b c d n : ℕ) (w : RegisterWord) (p : Pair) → word.pair_of w ≡ Some p
+    → Spelled line (means mnemonic.LoadPair ∷ names b w ∷ (c, Sign 44) ∷ (d, Number n) ∷ [])
+    → Says line (action.Instruction (instruction.Word (Lxi p) (number_at d n)))
+unfolding line_of label_at operation_at action_of misplaced_from instruction_of operands_of
+load_says line b c d n w p to e = rw (e, to, number_read 1 d n) refl
+
+-- ---- directives
+
+pub datum_says : (line : List ℕ) (c n : ℕ) → Spelled line ((1, Keyword (keyword.Directive directive.Bytes)) ∷ (c, Number n) ∷ [])
+    → Says line (action.Bytes (datum.Byte (number_at c n) ∷ []))
+unfolding line_of label_at operation_at action_of misplaced_from directive_of operands_of shape each_of
+datum_says line c n e = rw (e, number_read 1 c n) refl
+
+pub origin_says : (line : List ℕ) (c n : ℕ) → Spelled line ((1, Keyword (keyword.Directive directive.Origin)) ∷ (c, Number n) ∷ [])
+    → Says line (action.Origin (number_at c n))
+unfolding line_of label_at operation_at action_of misplaced_from directive_of operands_of
+origin_says line c n e = rw (e, number_read 1 c n) refl

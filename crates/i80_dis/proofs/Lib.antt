@@ -1,0 +1,10 @@
+pub mod Lines
+pub mod Relation
+pub mod Numerals
+pub mod Words
+pub mod Printed
+pub mod Forms
+pub mod Instructions
+pub mod Cells
+pub mod Statements
+pub mod Layouts

@@ -1,0 +1,90 @@
+-- Printed numbers are read as the numbers that they show.
+use Rattle.std.proofs.Common.{◌≡◌, ℕ, zero, suc, ◌/◌, ◌%◌, ◌<◌, inl, inr, List, [], ◌∷◌, Bool, true, false, cond, Some, None, refl, ap, ◌∙◌, arith, eqb}
+use Rattle.std.specs.Prelude.{◌&&◌, nat_lt}
+use Rattle.std.specs.List.{list_all}
+use Rattle.std.proofs.lemmas.Bool.{and_parts, eqb-true, cases_lt, lt-ltb}
+use Rattle.asm_lex.specs.Characters.{is_digit, is_alphanumeric}
+use Rattle.asm_lex.specs.Numbers.{digit_value, spelled, number_of}
+use Rattle.asm_lex.specs.Spelling.{Begins}
+use Rattle.i80_rows.specs.declared.instruction.Vector.{Vector}
+use Rattle.i80_rows.specs.declared.instruction.Vector.TheVariants as vector
+use Rattle.i80_rows.specs.Codes.{vector_code}
+use Rattle.i80_dis.specs.Text.{hex_digit, byte_text, word_text, vector_word}
+
+-- ---- a test of every number below n
+
+abbrev pub all_below : (ℕ → Bool) → ℕ → Bool
+all_below p zero = true
+all_below p (suc n) = p n && all_below p n
+
+pub at_below : (p : ℕ → Bool) (n d : ℕ) → all_below p n ≡ true → d < n → p d ≡ true
+at_below p zero d all lt = absurd (omega (arith, lt))
+at_below p (suc n) d all lt =
+    let h = and_parts (p n) (all_below p n) all in
+    elim (cases_lt d n) [ inl less ↦ at_below p n d h.1 less | inr le ↦ (let e : d ≡ n = omega arith in ap p e ∙ h.0) ]
+
+-- ---- one digit
+
+hex_value : (d : ℕ) → d < 16 → digit_value (hex_digit d) ≡ d
+hex_value d lt = eqb-true _ _ (at_below (λ k. eqb (digit_value (hex_digit k)) k) 16 d refl lt)
+
+hex_part : (d : ℕ) → d < 16 → is_alphanumeric (hex_digit d) ≡ true
+hex_part d lt = at_below (λ k. is_alphanumeric (hex_digit k)) 16 d refl lt
+
+hex_small : (d : ℕ) → d < 16 → nat_lt (digit_value (hex_digit d)) 16 ≡ true
+hex_small d lt = at_below (λ k. nat_lt (digit_value (hex_digit k)) 16) 16 d refl lt
+
+-- ---- numbers
+
+-- a text is read as a number
+pub record IsNumeral (n : ℕ) (text : List ℕ) : Type 0 where
+  pub begins : Begins is_digit text
+  pub all : list_all is_alphanumeric text ≡ true
+  pub value : number_of text ≡ Some n
+
+some_if : (a b : Bool) (n m : ℕ) → a ≡ true → b ≡ true → n ≡ m → cond (a && b) (Some n) None ≡ Some m
+some_if true true n m p q e = ap (λ (k : ℕ). Some k) e
+some_if true false n m p q e = absurd cc
+some_if false b n m p q e = absurd cc
+
+pub byte_numeral : (n : ℕ) → n < 256 → IsNumeral n (byte_text n)
+byte_numeral n lt =
+    let hi : n / 16 < 16 = omega (arith, lt) in
+    let lo : n % 16 < 16 = omega arith in
+    let digits = 48 ∷ hex_digit (n / 16) ∷ hex_digit (n % 16) ∷ [] in
+    let value : spelled 16 0 digits ≡ n = rw (hex_value (n / 16) hi, hex_value (n % 16) lo) (omega arith) in
+    record {
+      begins = refl;
+      all = rw (hex_part (n / 16) hi, hex_part (n % 16) lo) refl;
+      value = some_if (list_all (λ d. nat_lt (digit_value d) 16) digits) (nat_lt (spelled 16 0 digits) 65536) (spelled 16 0 digits) n
+          (rw (hex_small (n / 16) hi, hex_small (n % 16) lo) refl)
+          (rw value (lt-ltb n 65536 (omega (arith, lt))))
+          value;
+    }
+
+pub word_numeral : (n : ℕ) → n < 65536 → IsNumeral n (word_text n)
+word_numeral n lt =
+    let h3 : n / 256 / 16 < 16 = omega (arith, lt) in
+    let h2 : n / 256 % 16 < 16 = omega arith in
+    let h1 : n % 256 / 16 < 16 = omega arith in
+    let h0 : n % 256 % 16 < 16 = omega arith in
+    let digits = 48 ∷ hex_digit (n / 256 / 16) ∷ hex_digit (n / 256 % 16) ∷ hex_digit (n % 256 / 16) ∷ hex_digit (n % 256 % 16) ∷ [] in
+    let value : spelled 16 0 digits ≡ n = rw (hex_value (n / 256 / 16) h3, hex_value (n / 256 % 16) h2, hex_value (n % 256 / 16) h1, hex_value (n % 256 % 16) h0) (omega arith) in
+    record {
+      begins = refl;
+      all = rw (hex_part (n / 256 / 16) h3, hex_part (n / 256 % 16) h2, hex_part (n % 256 / 16) h1, hex_part (n % 256 % 16) h0) refl;
+      value = some_if (list_all (λ d. nat_lt (digit_value d) 16) digits) (nat_lt (spelled 16 0 digits) 65536) (spelled 16 0 digits) n
+          (rw (hex_small (n / 256 / 16) h3, hex_small (n / 256 % 16) h2, hex_small (n % 256 / 16) h1, hex_small (n % 256 % 16) h0) refl)
+          (rw value (lt-ltb n 65536 lt))
+          value;
+    }
+
+pub vector_numeral : (n : Vector) → IsNumeral (vector_code n) (vector_word n)
+vector_numeral vector.V0 = record { begins = refl; all = refl; value = refl }
+vector_numeral vector.V1 = record { begins = refl; all = refl; value = refl }
+vector_numeral vector.V2 = record { begins = refl; all = refl; value = refl }
+vector_numeral vector.V3 = record { begins = refl; all = refl; value = refl }
+vector_numeral vector.V4 = record { begins = refl; all = refl; value = refl }
+vector_numeral vector.V5 = record { begins = refl; all = refl; value = refl }
+vector_numeral vector.V6 = record { begins = refl; all = refl; value = refl }
+vector_numeral vector.V7 = record { begins = refl; all = refl; value = refl }

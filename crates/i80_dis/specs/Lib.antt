@@ -1,0 +1,4 @@
+pub mod Law
+pub mod Shown
+pub mod State
+pub mod Text

@@ -1,0 +1,63 @@
+-- What the lines of a listing show: each an instruction, or a byte that begins none.
+use Rattle.std.specs.Prelude.{◌≡◌, ◌<◌, ◌⊎◌, ℕ, zero, suc, ◌-◌, List, [], ◌∷◌, ◌++◌, length, map, Bool, true, false, Option, Some, None, Result, Ok, Err, if◌then◌else◌}
+use Rattle.i80_rows.specs.declared.instruction.Instr.{Instr}
+use Rattle.i80_rows.specs.declared.instruction.Decode.{Decode}
+use Rattle.i80_rows.specs.declared.instruction.Decode.TheVariants as fault
+use Rattle.i80_rows.specs.Rows.{Row, Undefined, Alone, Byte, Word, row, read}
+use Rattle.i80_rows.specs.Encoding.{Encodes}
+use Rattle.i80_dis.specs.declared.line.Shown.{Shown}
+use Rattle.i80_dis.specs.declared.line.Shown.TheVariants.{Instruction, Datum}
+
+-- ---- which lines are those of bytes
+
+-- how many bytes an instruction of a row has
+abbrev pub length_in : Row → ℕ
+length_in Undefined = 1
+length_in (Alone i) = 1
+length_in (Byte f) = 2
+length_in (Word f) = 3
+
+-- the bytes end before the instruction does that they begin
+abbrev pub IsCutOff : List ℕ → Type 0
+IsCutOff [] = ⊥
+IsCutOff (opcode ∷ rest) = length (opcode ∷ rest) < length_in (row opcode)
+
+-- The lines' bytes, one behind the other, are these. An undefined opcode is a line by itself; where
+-- an instruction is cut off, each byte that is left is one.
+abbrev pub Lists : List ℕ → List Shown → Type 0
+Lists bytes [] = bytes ≡ []
+Lists bytes (Instruction i ∷ lines) =
+    (code : List ℕ) × (rest : List ℕ) × (bytes ≡ code ++ rest) × Encodes i code × Lists rest lines
+Lists bytes (Datum b ∷ lines) =
+    (rest : List ℕ) × (bytes ≡ b ∷ rest)
+    × (((row b ≡ Undefined) × Lists rest lines) ⊎ (IsCutOff bytes × (lines ≡ map Datum rest)))
+
+-- ---- the same, read off the table
+
+abbrev pub is_cut_off : Result (Instr × ℕ) Decode → Bool
+is_cut_off (Err (fault.Short needed)) = true
+is_cut_off _ = false
+
+-- what the first line shows of bytes of which this is the first, and how many of them
+abbrev pub shown_by : ℕ → Result (Instr × ℕ) Decode → Shown × ℕ
+shown_by opcode (Ok (i, n)) = (Instruction i, n)
+shown_by opcode (Err f) = (Datum opcode, 1)
+
+abbrev pub first_shown : List ℕ → Shown × ℕ
+first_shown [] = (Datum 0, 1)
+first_shown (opcode ∷ rest) = shown_by opcode (read (opcode ∷ rest))
+
+-- the same, but nothing where they are cut off
+abbrev pub next_shown : List ℕ → Option (Shown × ℕ)
+next_shown bytes = if is_cut_off (read bytes) then None else Some (first_shown bytes)
+
+-- the lines, where the first bytes belong to a line before
+unfoldable pub lines_from : ℕ → List ℕ → List Shown
+lines_from skip [] = []
+lines_from (suc skip) (b ∷ rest) = lines_from skip rest
+lines_from zero (b ∷ rest) =
+    if is_cut_off (read (b ∷ rest)) then map Datum (b ∷ rest)
+    else (first_shown (b ∷ rest)).0 ∷ lines_from ((first_shown (b ∷ rest)).1 - 1) rest
+
+abbrev pub lines_of : List ℕ → List Shown
+lines_of bytes = lines_from 0 bytes

@@ -1,0 +1,5 @@
+pub mod HexInput
+pub mod HexState
+pub mod Engine
+pub mod Report
+pub mod Streams
