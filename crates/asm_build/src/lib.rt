@@ -16,6 +16,4 @@ mod name_set;
 mod parts;
 mod statements;
 pub mod symbols;
-#[cfg(test)]
-mod tests;
 mod values;

@@ -10,6 +10,4 @@ pub mod laws;
 pub mod lexer;
 mod number;
 mod quote;
-#[cfg(test)]
-mod tests;
 pub mod text;

@@ -11,6 +11,4 @@ pub mod laws;
 mod operators;
 pub mod shape;
 pub mod strings;
-#[cfg(test)]
-mod tests;
 pub mod words;

@@ -13,5 +13,3 @@ mod lines;
 pub mod open_if;
 mod registers;
 pub mod statements;
-#[cfg(test)]
-mod tests;

@@ -8,5 +8,3 @@
 pub mod machine;
 pub mod ports;
 pub mod registers;
-#[cfg(test)]
-mod tests;

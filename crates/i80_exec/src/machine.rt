@@ -40,8 +40,6 @@ ghost use Rattle.i80_exec.specs.Step.{
 };
 
 mod opcodes;
-#[cfg(test)]
-mod plain;
 
 use crate::ports::Ports;
 use crate::registers::{Interrupts, Registers, Stepped};

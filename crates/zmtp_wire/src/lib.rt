@@ -14,6 +14,4 @@ mod progress;
 pub mod role;
 pub mod side;
 mod stream;
-#[cfg(test)]
-mod tests;
 pub mod writing;

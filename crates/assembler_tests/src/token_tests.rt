@@ -1,8 +1,8 @@
 //! Lines whose tokens and faults were worked out by hand from the manual.
 
-use crate::laws::{fault_ends_tokens, tokens_are_spelled};
-use crate::lexer::tokens;
-use crate::text::{characters, string_value};
+use asm_lex::laws::{fault_ends_tokens, tokens_are_spelled};
+use asm_lex::lexer::tokens;
+use asm_lex::text::{characters, string_value};
 use asm_syntax::fault::LineFault;
 use asm_syntax::token::Token;
 use std::alloc::{AllocError, Global};

@@ -1,8 +1,8 @@
 //! The language held against what its manual and its users expect.
 
-use crate::statements::{MOST_BYTES, statements};
 use asm_syntax::fault::{AsmFault, FaultKind};
 use asm_syntax::statement::{Action, Data, Instruction, MOST_LINES, Statements};
+use asm_text::statements::{MOST_BYTES, statements};
 use i80_rows::instruction::{Instr, Register};
 use std::alloc::Global;
 use std::process::Abort;

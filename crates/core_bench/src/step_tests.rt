@@ -1,9 +1,10 @@
 //! Instructions whose effect the 8080 User's Manual tells, some at the edges of the address space.
 ghost use Rattle.std.specs.Prelude.{◌≤◌, ◌-◌, IfOk, vec_len, vec_capacity};
 
-use crate::machine::Machine;
-use crate::ports::{PortOperation, Ports};
-use crate::registers::{Interrupts, Registers, Stepped};
+use crate::plain::Plain;
+use i80_exec::machine::Machine;
+use i80_exec::ports::{PortOperation, Ports};
+use i80_exec::registers::{Interrupts, Registers, Stepped};
 use i80_rows::flags::Flags;
 use std::alloc::{AllocError, Global};
 use std::test::Fail;
@@ -256,7 +257,7 @@ fn flags_numbered(number: u8) -> Flags {
 fn the_plain_body_agrees_on_every_opcode_and_flag(rt: HostRuntime) -> Result<(), Fail> {
     for opcode in 0..=255u8 {
         let mut fast = machine_at(rt.alloc(), 0x0100, &[opcode, 0x0f, 0x9a])?;
-        let mut plain = machine_at(rt.alloc(), 0x0100, &[opcode, 0x0f, 0x9a])?;
+        let mut plain = Plain::new(machine_at(rt.alloc(), 0x0100, &[opcode, 0x0f, 0x9a])?);
         for number in 0..32u8 {
             let before = Registers {
                 b: 0x20,
@@ -273,16 +274,16 @@ fn the_plain_body_agrees_on_every_opcode_and_flag(rt: HostRuntime) -> Result<(),
                 ..registers(number.wrapping_mul(29), 0, 0x4fff, 0x6001)
             };
             fast.set_regs(before);
-            plain.set_regs(before);
+            plain.regs = before;
             let mut fast_ports = Recorder::new(rt.alloc(), 0x5a)?;
             let mut plain_ports = Recorder::new(rt.alloc(), 0x5a)?;
             let stepped = fast.step(&mut fast_ports);
             assert_eq!(rt;
                 stepped,
-                plain.plain_step(&mut plain_ports),
+                plain.step(&mut plain_ports),
                 "{opcode:x} {number}"
             );
-            assert_eq!(rt; fast.regs(), plain.regs(), "{opcode:x} {number}");
+            assert_eq!(rt; fast.regs(), plain.regs, "{opcode:x} {number}");
             assert_eq!(rt;
                 fast_ports.operations.as_slice(),
                 plain_ports.operations.as_slice()

@@ -1,13 +1,13 @@
 //! Streams worked out by hand from RFC 23, cut in many ways.
 
-use crate::bytes::{Bytes, Frames, Incomings};
-use crate::cause::{Cause, FeedFault};
-use crate::role::Role;
-use crate::side::Side;
-use crate::writing::{greeting, put_message, ready};
 use std::alloc::{AllocError, Global};
 use std::process::Abort;
 use std::test::Fail;
+use zmtp_wire::bytes::{Bytes, Frames, Incomings};
+use zmtp_wire::cause::{Cause, FeedFault};
+use zmtp_wire::role::Role;
+use zmtp_wire::side::Side;
+use zmtp_wire::writing::{greeting, put_message, ready};
 
 // A greeting with all that is free filled in, and a DEALER's READY.
 const GREETING: &str = "FF00000000000000017F03014E554C4C00000000000000000000000000000000\

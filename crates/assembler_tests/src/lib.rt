@@ -1,0 +1,15 @@
+// The tests of the assembler's crates, from the tokens of a line to cells over earlier cells' symbols.
+// They stand here, above the crates that they test, so that each of those is proved once: a crate is
+// proved again with each test that stands in it. Everything is tested through public functions.
+#![tactic(auto)]
+
+#[cfg(test)]
+mod cell_tests;
+#[cfg(test)]
+mod operand_tests;
+#[cfg(test)]
+mod session_tests;
+#[cfg(test)]
+mod text_tests;
+#[cfg(test)]
+mod token_tests;
