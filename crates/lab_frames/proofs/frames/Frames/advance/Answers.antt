@@ -1,0 +1,46 @@
+use Rattle.std.proofs.Common.{◌≡◌, ◌+◌, ◌<◌, ◌++◌, length, length-append, ◌∙◌, refl, arith, rules, vec_len}
+use Rattle.lab_frames.specs.Live.{made_by}
+use Rattle.lab_frames.proofs.FrameLemmas.{advanced}
+use Rattle.lab_frames.proofs.frames.Frames.advance.Goals as goal
+
+pub push_made-requires : goal.push_made-requires
+push_made-requires c =
+    let sp : c.args.sp < 65536 = omega arith in
+    let popped = c.pop_ended.new.frames.items in
+    let made = made_by c.args.answer c.args.site in
+    let after = advanced c.args.answer c.args.site c.args.sp c.args.self.now _ popped (popped ++ made) c.self.view_is sp c.requires.returns c.requires.calls c.self.invariant.0 c.pop_ended.ensures.popped refl in
+    let few = after.few in
+    let both : length (popped ++ made) ≡ length popped + length made = length-append popped made in
+    let left : vec_len c.pop_ended.new.frames ≡ length popped = search rules in
+    omega arith
+
+pub invariant_of-self : goal.invariant_of-self
+invariant_of-self c =
+    let sp : c.args.sp < 65536 = omega arith in
+    let after = advanced c.args.answer c.args.site c.args.sp c.args.self.now _ _ _ c.self.view_is sp c.requires.returns c.requires.calls c.self.invariant.0 c.pop_ended.ensures.popped c.push_made.ensures.pushed in
+    (after.falls, omega arith)
+
+pub returns-clause-live : goal.returns-clause-live
+returns-clause-live c =
+    let sp : c.args.sp < 65536 = omega arith in
+    let after = advanced c.args.answer c.args.site c.args.sp c.args.self.now _ _ _ c.self.view_is sp c.requires.returns c.requires.calls c.self.invariant.0 c.pop_ended.ensures.popped c.push_made.ensures.pushed in
+    after.live
+
+pub returns-clause-oldest : goal.returns-clause-oldest
+returns-clause-oldest c =
+    let sp : c.args.sp < 65536 = omega arith in
+    let after = advanced c.args.answer c.args.site c.args.sp c.args.self.now _ _ _ c.self.view_is sp c.requires.returns c.requires.calls c.self.invariant.0 c.pop_ended.ensures.popped c.push_made.ensures.pushed in
+    let left : c.len-left.result ≡ length c.pop_ended.new.frames.items = c.len-left.ensures ∙ search rules in
+    λ older newer split. rw left (after.oldest older newer split)
+
+pub returns-clause-falls : goal.returns-clause-falls
+returns-clause-falls c =
+    let sp : c.args.sp < 65536 = omega arith in
+    let after = advanced c.args.answer c.args.site c.args.sp c.args.self.now _ _ _ c.self.view_is sp c.requires.returns c.requires.calls c.self.invariant.0 c.pop_ended.ensures.popped c.push_made.ensures.pushed in
+    after.falls
+
+pub returns-clause-above : goal.returns-clause-above
+returns-clause-above c =
+    let sp : c.args.sp < 65536 = omega arith in
+    let after = advanced c.args.answer c.args.site c.args.sp c.args.self.now _ _ _ c.self.view_is sp c.requires.returns c.requires.calls c.self.invariant.0 c.pop_ended.ensures.popped c.push_made.ensures.pushed in
+    after.above

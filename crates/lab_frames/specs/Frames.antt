@@ -1,0 +1,67 @@
+-- What one more step makes of the live frames, and how their slots lie on the stack.
+use Rattle.std.specs.Prelude.{◌≡◌, ℕ, ◌<◌, ◌≤◌, List, [], ◌∷◌, ◌++◌, length, min, not}
+use Rattle.std.specs.List.{filter}
+use Rattle.i80_exec.specs.declared.registers.Stepped.{Stepped}
+use Rattle.i80_exec.specs.declared.registers.Stepped.TheVariants.{Done, Called, Returned, Halted, Undefined}
+use Rattle.lab_frames.specs.declared.frame.Frame.{Frame}
+use Rattle.lab_frames.specs.Live.{BoardStep, ended_by, live}
+
+-- those of the frames that a step leaves, which answered so and left SP there
+abbrev pub survivors : Stepped → ℕ → List Frame → List Frame
+survivors answer sp frames = filter (λ f. not (ended_by answer sp f.slot)) frames
+
+-- the step answered so, at this PC, and left SP there
+pub record IsStep (step : BoardStep) (answer : Stepped) (site sp : ℕ) : Type 0 where
+  pub answer_is : step.answer ≡ answer
+  pub site_is : step.before.regs.pc ≡ site
+  pub sp_is : step.after.regs.sp ≡ sp
+
+-- Whatever the steps were whose live frames are the old ones: with one such step more,
+-- the live frames are the new ones.
+abbrev pub Advances : Stepped → ℕ → ℕ → List Frame → List Frame → Type 0
+Advances answer site sp old new =
+    (trace : List BoardStep) (step : BoardStep) → IsStep step answer site sp → old ≡ live trace → new ≡ live (trace ++ step ∷ [])
+
+-- however the old frames are cut in two, so many of the older ones are left where this many are of all
+abbrev pub LeavesOldest : Stepped → ℕ → List Frame → ℕ → Type 0
+LeavesOldest answer sp old left =
+    (older newer : List Frame) → old ≡ older ++ newer → length (survivors answer sp older) ≡ min (length older) left
+
+-- the slots fall strictly, from below a bound
+abbrev pub Falls : ℕ → List Frame → Type 0
+Falls bound [] = Unit {0}
+Falls bound (f ∷ fs) = (f.slot < bound) × Falls f.slot fs
+
+-- no slot is below this
+abbrev pub AtLeast : ℕ → List Frame → Type 0
+AtLeast low [] = Unit {0}
+AtLeast low (f ∷ fs) = (low ≤ f.slot) × AtLeast low fs
+
+-- a return is from a slot at or below those of the frames
+abbrev pub ReturnsBelow : Stepped → List Frame → Type 0
+ReturnsBelow (Returned from) frames = AtLeast from frames
+ReturnsBelow (Called called target) frames = Unit {0}
+ReturnsBelow Done frames = Unit {0}
+ReturnsBelow Halted frames = Unit {0}
+ReturnsBelow (Undefined opcode) frames = Unit {0}
+
+-- a call leaves SP at its slot
+abbrev pub CallsAt : Stepped → ℕ → Type 0
+CallsAt (Called called target) sp = called ≡ sp
+CallsAt (Returned from) sp = Unit {0}
+CallsAt Done sp = Unit {0}
+CallsAt Halted sp = Unit {0}
+CallsAt (Undefined opcode) sp = Unit {0}
+
+-- a return is from this SP, the one before the step
+abbrev pub ReturnsFrom : Stepped → ℕ → Type 0
+ReturnsFrom (Returned from) sp = from ≡ sp
+ReturnsFrom (Called called target) sp = Unit {0}
+ReturnsFrom Done sp = Unit {0}
+ReturnsFrom Halted sp = Unit {0}
+ReturnsFrom (Undefined opcode) sp = Unit {0}
+
+-- SP before a step and after it, as its answer tells them
+pub record TellsSp (answer : Stepped) (before after : ℕ) : Type 0 where
+  pub returns : ReturnsFrom answer before
+  pub calls : CallsAt answer after

@@ -1,0 +1,53 @@
+-- The live frames of a run: which of its calls have not ended.
+use Rattle.std.specs.Prelude.{ℕ, List, [], ◌∷◌, ◌++◌, Option, Bool, true, false, not, ◌||◌, ◌&&◌, ◌==◌, nat_lt, nat_le}
+use Rattle.std.specs.List.{filter}
+use Rattle.i80_exec.specs.declared.registers.Stepped.{Stepped}
+use Rattle.i80_exec.specs.declared.registers.Stepped.TheVariants.{Done, Called, Returned, Halted, Undefined}
+use Rattle.i80_exec.specs.declared.ports.PortOperation.{PortOperation}
+use Rattle.i80_exec.specs.State.{MachineState}
+use Rattle.lab_frames.specs.declared.frame.Frame.{Frame}
+
+-- one instruction or one acceptance of a request: the machine before it, what it answered,
+-- its port operation, and the machine after it
+pub record BoardStep : Type 0 where
+  pub before : MachineState
+  pub answer : Stepped
+  pub operation : Option PortOperation
+  pub after : MachineState
+
+-- the frame of a call that was made at this site; no other answer makes one
+abbrev pub made_by : Stepped → ℕ → List Frame
+made_by (Called slot target) site = record { slot = slot; target = target; site = site } ∷ []
+made_by (Returned from) site = []
+made_by Done site = []
+made_by Halted site = []
+made_by (Undefined opcode) site = []
+
+-- PC before the step is the site: the call instruction's address, or the PC that an acceptance pushes
+abbrev pub made : BoardStep → List Frame
+made step = made_by step.answer step.before.regs.pc
+
+-- by a taken return from the slot, or by a call with a slot at or above it
+abbrev pub returned_or_covered : Stepped → ℕ → Bool
+returned_or_covered (Called called target) slot = nat_le slot called
+returned_or_covered (Returned from) slot = slot == from
+returned_or_covered Done slot = false
+returned_or_covered Halted slot = false
+returned_or_covered (Undefined opcode) slot = false
+
+-- or where SP is left above the slot
+abbrev pub ended_by : Stepped → ℕ → ℕ → Bool
+ended_by answer sp slot = nat_lt slot sp || returned_or_covered answer slot
+
+abbrev pub ends : BoardStep → Frame → Bool
+ends step frame = ended_by step.answer step.after.regs.sp frame.slot
+
+-- none of the later steps ends it
+abbrev pub stays : List BoardStep → Frame → Bool
+stays [] frame = true
+stays (step ∷ later) frame = not (ends step frame) && stays later frame
+
+-- the frames that these steps make and that no later one of them ends, oldest first
+abbrev pub live : List BoardStep → List Frame
+live [] = []
+live (step ∷ later) = filter (stays later) (made step) ++ live later

@@ -1,0 +1,143 @@
+//! The live frames, kept as a stack that each step pops and pushes.
+ghost use Rattle.std.specs.Prelude.{◌≡◌, ◌+◌, ◌≤◌, ◌++◌, [], length, reverse, IfOk, slice_get, vec_len, vec_capacity};
+ghost use Rattle.lab_frames.specs.Live.{made_by, ended_by};
+ghost use Rattle.lab_frames.specs.Frames.{
+  survivors,
+  Advances,
+  LeavesOldest,
+  Falls,
+  AtLeast,
+  ReturnsBelow,
+  CallsAt,
+};
+
+use crate::frame::Frame;
+use i80_exec::registers::Stepped;
+use std::alloc::{AllocError, Global};
+use std::marker::Model;
+
+/// How many frames are live at most: one for each slot.
+const ROOM: usize = 65536;
+
+/// The live frames of a run. A contract sees them as a list, oldest first.
+#[derive(Drop)]
+pub struct Frames {
+    frames: Vec<Frame>,
+}
+
+impl Model for Frames {
+    ghost use Rattle.std.specs.Prelude.{◌≤◌, List, vec_capacity};
+    ghost use Rattle.lab_frames.specs.declared.frame.Frame.{Frame};
+    ghost use Rattle.lab_frames.specs.Frames.{Falls};
+
+    ghost Value = { List Frame };
+
+    ghost view = { λ f. f.frames.items };
+
+    // Each slot is below the older ones, and there is room for a frame at every slot.
+    ghost invariant = { λ f. Falls 65536 f.frames.items × (65536 ≤ vec_capacity f.frames) };
+}
+
+impl Frames {
+    /// No frame, as before the first step of a run, with room for all that can be live together.
+    pub fn new(alloc: Global) -> Result<Frames, AllocError>
+        ensures { IfOk result (λ frames. frames ≡ []) }
+    {
+        let frames = Vec::with_capacity(alloc, ROOM)?;
+        Ok(Frames { frames })
+    }
+
+    /// One more step, which answered so, with PC at `site` before it and SP at `sp` after it:
+    /// the frames that it ends go, and the one that it makes comes.
+    /// Answers how many of the frames before it are left.
+    pub fn advance(&mut self, answer: Stepped, site: u16, sp: u16) -> usize
+        // Both hold of each instruction and each accepted request where no live slot is below SP
+        // before it (proofs/StepLemmas.antt), and `above` is that fact for the next step.
+        requires returns { ReturnsBelow answer self.old }
+        requires calls { CallsAt answer sp }
+        ensures live { Advances answer site sp self.old self.new }
+        ensures frames { self.new ≡ survivors answer sp self.old ++ made_by answer site }
+
+        ensures left { result ≡ length (survivors answer sp self.old) }
+        ensures oldest { LeavesOldest answer sp self.old result }
+
+        ensures falls { Falls 65536 self.new }
+        ensures above { AtLeast sp self.new }
+    {
+        pop_ended(&mut self.frames, answer, sp);
+        let left = self.frames.len();
+        push_made(&mut self.frames, answer, site);
+        left
+    }
+
+    /// Drops every frame, as a new run does.
+    pub fn clear(&mut self)
+        ensures { self.new ≡ [] }
+    {
+        self.frames.clear();
+    }
+
+    /// How many frames are live.
+    pub fn len(&self) -> usize
+        ensures len { result ≡ length self.now }
+        ensures few { result ≤ 65536 }
+    {
+        self.frames.len()
+    }
+
+    /// The innermost frame.
+    pub fn newest(&self) -> Option<Frame>
+        ensures { result ≡ slice_get (reverse self.now) 0 }
+    {
+        self.frames.last().copied()
+    }
+
+    /// A frame by its age: 0 is the innermost. There is none from `len` on.
+    pub fn get(&self, age: usize) -> Option<Frame>
+        ensures { result ≡ slice_get (reverse self.now) age }
+    {
+        if age >= self.frames.len() {
+            return None;
+        }
+        Some(self.frames[self.frames.len() - 1 - age])
+    }
+}
+
+/// Whether a step that answered so and left SP at `sp` ends a frame of this slot: it is a return
+/// from the slot, it is a call with a slot at or above it, or it leaves SP above it.
+pub fn is_ended(answer: Stepped, sp: u16, slot: u16) -> bool
+    ensures { result ≡ ended_by answer sp slot }
+{
+    let returned_or_covered = match answer {
+        Stepped::Called { slot: called, .. } => slot <= called,
+        Stepped::Returned { slot: from } => slot == from,
+        _ => false,
+    };
+    slot < sp || returned_or_covered
+}
+
+/// Since slots fall, the frames that a step ends are the newest ones.
+fn pop_ended(frames: &mut Vec<Frame>, answer: Stepped, sp: u16)
+    requires falls { Falls 65536 frames.old.items }
+    requires returns { ReturnsBelow answer frames.old.items }
+    ensures popped { frames.new.items ≡ survivors answer sp frames.old.items }
+    ensures room { vec_capacity frames.new ≡ vec_capacity frames.old }
+{
+    while let Some(newest) = frames.last() {
+        if !is_ended(answer, sp, newest.slot) {
+            break;
+        }
+        let _ = frames.pop();
+    }
+}
+
+fn push_made(frames: &mut Vec<Frame>, answer: Stepped, site: u16)
+    requires { vec_len frames.old + length (made_by answer site) ≤ vec_capacity frames.old }
+    ensures pushed { frames.new.items ≡ frames.old.items ++ made_by answer site }
+    ensures room { vec_capacity frames.new ≡ vec_capacity frames.old }
+{
+    match answer {
+        Stepped::Called { slot, target } => frames.push_reserved(Frame { slot, target, site }),
+        _ => {}
+    }
+}
