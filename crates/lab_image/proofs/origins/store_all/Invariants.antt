@@ -1,0 +1,7 @@
+use Rattle.std.proofs.Common.{◌≡◌, take}
+use Rattle.lab_image.specs.Loads.{loaded}
+use Rattle.lab_image.proofs.origins.store_all.Given as goal
+
+-- the bytes so far are put
+abbrev pub invariant-loop-address : goal.invariant-loop-address
+invariant-loop-address l = l.machine ≡ loaded l.initial.machine (take l.address-index l.image)

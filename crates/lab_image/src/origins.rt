@@ -1,0 +1,91 @@
+//! Loads into the machine, and the origins that they leave.
+ghost use Rattle.std.specs.Prelude.{◌≡◌, [], List, OnOk, OnErr};
+ghost use Rattle.lab_image.specs.Loads.{loaded};
+
+use crate::origin::Origin;
+use crate::runs::{self, Run};
+use asm_build::built::Built;
+use i80_exec::machine::Machine;
+use std::alloc::{AllocError, Global};
+use std::marker::Model;
+
+/// The origin of each address that has one.
+#[derive(Drop)]
+pub struct Origins {
+    runs: Vec<Run>,
+    alloc: Global,
+}
+
+impl Model for Origins {
+    ghost use Rattle.std.specs.Prelude.{List};
+    ghost use Rattle.lab_image.specs.declared.runs.Run.{Run};
+    ghost use Rattle.lab_image.specs.Runs.{AreRuns};
+
+    ghost Value = { List Run };
+
+    ghost view = { λ o. o.runs.items };
+
+    ghost invariant = { λ o. AreRuns 0 o.runs.items 65536 };
+}
+
+impl Origins {
+    ghost use Rattle.lab_image.specs.Loads.{Load, load_of, origin_of, StandsFor, Appends};
+
+    /// Before any load: no address has an origin.
+    pub fn new(alloc: Global) -> Origins
+        ensures { StandsFor result [] }
+    {
+        Origins {
+            runs: Vec::new(alloc),
+            alloc,
+        }
+    }
+
+    /// Writes the bytes that a cell gives to the machine, in order, and takes its rows as origins.
+    ///
+    /// The caller numbers the sources. A row covers its address and those behind it, as many as it
+    /// has bytes, up to FFFFH. An address that no row covers keeps the origin that it had.
+    pub fn load(
+        &mut self,
+        machine: &mut Machine,
+        source: u32,
+        built: &Built,
+    ) -> Result<(), AllocError>
+        ensures machine { OnOk result (machine.new ≡ loaded machine.old built.now.image.items) }
+        ensures past { OnOk result (Appends (load_of source built.now) self.old self.new) }
+        ensures machine_err { OnErr result (machine.new ≡ machine.old) }
+        ensures err { OnErr result (self.new ≡ self.old) }
+    {
+        let mut own = Vec::new(self.alloc);
+        runs::put_rows(self.alloc, &mut own, source, &built.rows)?;
+        let runs = runs::overlaid(self.alloc, &self.runs, &own)?;
+        store_all(machine, &built.image);
+        self.runs = runs;
+        Ok(())
+    }
+
+    /// The origin of an address: what the last row that covers it tells, among those of all loads
+    /// since the last `clear`, or since `new`.
+    pub fn at(&self, address: u16) -> Option<Origin>
+        ensures { (loads : List Load) → StandsFor self.now loads
+            → result ≡ origin_of loads address }
+    {
+        runs::origin_in(&self.runs, address)
+    }
+
+    /// Forgets all loads. The bytes in the machine stay.
+    pub fn clear(&mut self)
+        ensures { StandsFor self.new [] }
+    {
+        self.runs.clear();
+    }
+}
+
+// Puts each byte at its address, in order.
+fn store_all(machine: &mut Machine, image: &[(u16, u8)])
+    ensures { machine.new ≡ loaded machine.old image.now }
+{
+    for (address, byte) in image {
+        machine.poke(*address, *byte);
+    }
+}
