@@ -196,6 +196,17 @@ impl Devices {
         Traffic::from(mem::replace(&mut self.operations, Vec::new(self.alloc)))
     }
 
+    /// Makes the devices those to which nothing was done, as at power-on. Takes no memory; no room is
+    /// left for port operations.
+    pub fn clear(&mut self)
+        ensures past { StandsFor self.new [] }
+        ensures operations { self.new.operations ≡ [] }
+        ensures spare { self.new.spare ≡ 0 }
+    {
+        self.panel = Panel::new(self.alloc);
+        self.operations = Vec::new(self.alloc);
+    }
+
     fn append(&mut self, operation: PortOperation)
         requires { 1 ≤ self.old.spare }
         ensures appended { self.new ≡ record {

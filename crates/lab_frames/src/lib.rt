@@ -6,5 +6,3 @@
 
 pub mod frame;
 pub mod frames;
-#[cfg(test)]
-mod tests;

@@ -8,5 +8,3 @@
 pub mod origin;
 pub mod origins;
 mod runs;
-#[cfg(test)]
-mod tests;

@@ -1,9 +1,9 @@
 //! Live frames over a few steps.
 ghost use Rattle.lab_frames.specs.Frames.{AtLeast};
 
-use crate::frame::Frame;
-use crate::frames::{Frames, is_ended};
 use i80_exec::registers::Stepped;
+use lab_frames::frame::Frame;
+use lab_frames::frames::{Frames, is_ended};
 use std::process::Abort;
 use std::test::Fail;
 

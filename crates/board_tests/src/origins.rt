@@ -1,9 +1,9 @@
 //! Loads of a few rows, and the origins that they leave.
-use crate::origin::Origin;
-use crate::origins::Origins;
 use asm_build::built::{Built, Row};
 use asm_build::symbols::Symbols;
 use i80_exec::machine::Machine;
+use lab_image::origin::Origin;
+use lab_image::origins::Origins;
 use std::alloc::{AllocError, Global};
 use std::process::Abort;
 use std::test::Fail;

@@ -1,0 +1,51 @@
+-- What an event gives where it isn't refused.
+use Rattle.std.proofs.Common.{◌≡◌, ℕ, ◌<◌, List, [], ◌∷◌, Option, Some, None, Ok, Err, cond, false, refl, sym, arith, ◌++◌, Result}
+use Rattle.std.specs.Option.{is_some, IsSome}
+use Rattle.std.specs.Prelude.{nat_lt}
+use Rattle.std.proofs.lemmas.Bool.Decides.{nat_tests}
+use Rattle.i80_exec.specs.State.{MachineState, stored}
+use Rattle.i80_devs.specs.Past.{Press, panel_after}
+use Rattle.lab_image.specs.Loads.{loaded}
+use Rattle.lab_core.specs.declared.run_state.RunState.TheVariants.{NoRun, Running}
+use Rattle.lab_core.specs.declared.answer.Answer.{Answer}
+use Rattle.lab_core.specs.declared.answer.Answer.TheVariants.{Accepted}
+use Rattle.lab_core.specs.declared.event.Event.{Event}
+use Rattle.lab_core.specs.declared.refused.Refused.{Refused}
+use Rattle.lab_core.specs.declared.refused.Refused.TheVariants.{Latched}
+use Rattle.lab_core.specs.Board.{Board}
+use Rattle.lab_core.specs.Events.{Given, Gives, Applies, Runs, without_run, with_run, pressed, with_operation}
+
+pub gives_without : (b new : Board) (a : Answer) → b.run ≡ NoRun → Gives b (without_run b.run (Ok (a, new))) (Ok a) new
+gives_without b new a none = rw none (refl, refl)
+
+pub gives_with : (b new : Board) (a : Answer) → b.run ≡ Running → Gives b (with_run b.run (Ok (a, new))) (Ok a) new
+gives_with b new a running = rw running (refl, refl)
+
+by_request : (latched : Option ℕ) (given : Given) → (IsSome latched → ⊥)
+    → cond (is_some latched) (Err Latched) given ≡ given
+by_request None given free = refl
+by_request (Some n) given free = absurd (free refl)
+
+-- a button from 0 to 7 latches its request where none is
+pub pressed_is : (n : ℕ) (b : Board) → n < 8 → (IsSome (panel_after b.past).latched → ⊥)
+    → pressed n b ≡ Ok (Accepted, with_operation (Press n) b)
+pressed_is n b few free =
+    let is_few : nat_lt 7 n ≡ false = grind (arith, nat_tests) in
+    rw is_few (by_request (panel_after b.past).latched (Ok (Accepted, with_operation (Press n) b)) free)
+
+pub gives : (b new : Board) (given : Given) (a : Answer) → given ≡ Ok (a, new) → Gives b given (Ok a) new
+gives b new given a is = rw is (refl, refl)
+
+-- a load writes to the memory alone
+pub loaded-regs : (m : MachineState) (image : List (ℕ × ℕ)) → (loaded m image).regs ≡ m.regs
+loaded-regs m [] = refl
+loaded-regs m (p ∷ image) = loaded-regs (stored m p.0 p.1) image
+
+-- one event more
+pub Runs-append : (b mid new : Board) (events : List Event) (replies : List (Result Answer Refused)) (event : Event) (reply : Result Answer Refused)
+    → Runs b events replies mid → Applies mid event reply new → Runs b (events ++ event ∷ []) (replies ++ reply ∷ []) new
+Runs-append b mid new [] [] event reply runs applies = (new, rw (sym runs) applies, refl)
+Runs-append b mid new (e ∷ events) (r ∷ replies) event reply runs applies =
+    (runs.0, runs.1, Runs-append runs.0 mid new events replies event reply runs.2 applies)
+Runs-append b mid new [] (r ∷ replies) event reply runs applies = absurd runs
+Runs-append b mid new (e ∷ events) [] event reply runs applies = absurd runs

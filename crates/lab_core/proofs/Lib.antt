@@ -1,0 +1,4 @@
+pub mod StepLemmas
+pub mod EventLemmas
+pub mod SourceLemmas
+pub mod LawLemmas

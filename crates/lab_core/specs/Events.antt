@@ -1,0 +1,133 @@
+-- What each event answers, and what it makes of a board.
+use Rattle.std.specs.Prelude.{◌≡◌, ℕ, ◌≤◌, List, [], ◌∷◌, ◌++◌, Option, Result, Ok, Err, is_some, nat_lt, if◌then◌else◌}
+use Rattle.i80_exec.specs.State.{with_pc, power_on}
+use Rattle.i80_devs.specs.Past.{Operation, Typed, Switches, Press, panel_after}
+use Rattle.asm_syntax.specs.declared.fault.AsmFault.TheVariants.{At}
+use Rattle.asm_syntax.specs.Outcome.{CellFault, ◌>>=◌}
+use Rattle.asm_text.specs.Statements.{statements_of}
+use Rattle.asm_build.specs.Reading.{Entries}
+use Rattle.asm_build.specs.Meaning.{Meaning, built_of}
+use Rattle.lab_image.specs.Loads.{loaded as with_image}
+use Rattle.lab_core.specs.declared.run_state.RunState.{RunState}
+use Rattle.lab_core.specs.declared.run_state.RunState.TheVariants.{NoRun, Running}
+use Rattle.lab_core.specs.declared.sources.Source.{Source}
+use Rattle.lab_core.specs.declared.event.Event.{Event}
+use Rattle.lab_core.specs.declared.event.Event.TheVariants as event
+use Rattle.lab_core.specs.declared.refused.Refused.{Refused}
+use Rattle.lab_core.specs.declared.refused.Refused.TheVariants.{NotRunning, Busy, Latched, Vector, Assembly}
+use Rattle.lab_core.specs.declared.answer.SliceOutcome.{SliceOutcome}
+use Rattle.lab_core.specs.declared.answer.Answer.{Answer}
+use Rattle.lab_core.specs.declared.answer.Answer.TheVariants as answer
+use Rattle.lab_core.specs.Board.{Board}
+use Rattle.lab_core.specs.Slices.{IsSlice, after_steps, traffic_of, left_by}
+use Rattle.lab_core.specs.Sources.{place_of, number_at, kept_at}
+
+-- what an event gives: its answer and the board after it, or why it is refused
+abbrev pub Given : Type 0
+Given = Result (Answer × Board) Refused
+
+-- ---- with or without a run
+
+abbrev pub without_run : RunState → Given → Given
+without_run NoRun given = given
+without_run Running given = Err Busy
+
+abbrev pub with_run : RunState → Given → Given
+with_run NoRun given = Err NotRunning
+with_run Running given = given
+
+-- ---- the events
+
+abbrev pub or_assembly : {A : Type 0} → Result A CellFault → Result A Refused
+or_assembly (Ok x) = Ok x
+or_assembly (Err (line, column, kind)) = Err (Assembly (At line column kind))
+
+-- what a cell gives is loaded as the source of this number,
+abbrev pub with_built : ℕ → Meaning → Board → Board
+with_built number m b = record b {
+  machine = with_image b.machine m.output.image;
+  loads = b.loads ++ record { source = number; rows = m.output.rows } ∷ [];
+  symbols = m.symbols;
+}
+
+-- and its text is kept in its place
+abbrev pub with_cell : Source → Option ℕ → Meaning → Board → Board
+with_cell s place m b =
+    let loaded = with_built (number_at place b.sources) m b in
+    record loaded { sources = kept_at place s b.sources }
+
+-- what a cell gives over the symbols that are kept
+abbrev pub assembled : Entries → List ℕ → Result Meaning CellFault
+assembled kept text = do
+  statements ← statements_of text
+  built_of kept statements
+
+-- a cell whose text may be kept under its path, and that has no fault
+abbrev pub loaded : Source → Board → Given
+loaded s b = do
+  place ← place_of s b.sources
+  meaning ← or_assembly (assembled b.symbols s.text)
+  Ok (answer.Loaded meaning.output.start, with_cell s place meaning b)
+
+-- a run from an address, with no live frame
+abbrev pub started : ℕ → Board → Board
+started address b = record b { machine = with_pc b.machine address; run = Running; trace = [] }
+
+abbrev pub ended : Board → Board
+ended b = record b { run = NoRun }
+
+-- power-on; the symbols and the texts stay
+abbrev pub reset : Board → Board
+reset b = record b { machine = power_on; past = []; loads = []; run = NoRun; trace = [] }
+
+abbrev pub with_operation : Operation → Board → Board
+with_operation o b = record b { past = b.past ++ o ∷ [] }
+
+-- there are the buttons 0 to 7, and one request is latched at most
+abbrev pub pressed : ℕ → Board → Given
+pressed n b =
+    if nat_lt 7 n then Err Vector else
+    if is_some (panel_after b.past).latched then Err Latched else
+    Ok (answer.Accepted, with_operation (Press n) b)
+
+-- ---- what is answered
+
+-- a refusal leaves the board as it was
+abbrev pub Gives : Board → Given → Result Answer Refused → Board → Type 0
+Gives b (Ok (a, b')) reply new = (reply ≡ Ok a) × (new ≡ b')
+Gives b (Err r) reply new = (reply ≡ Err r) × (new ≡ b)
+
+-- a slice of n steps, which ended after k
+pub record GivesSlice (n : ℕ) (b : Board) (reply : Result Answer Refused) (new : Board) : Type 0 where
+  pub k : ℕ
+  pub ending : SliceOutcome
+  pub slice : IsSlice n b k ending
+  pub reply_is : reply ≡ Ok (answer.Sliced k (traffic_of k b) ending)
+  pub board_is : new ≡ left_by ending (after_steps k b)
+
+abbrev pub SlicesRun : RunState → ℕ → Board → Result Answer Refused → Board → Type 0
+SlicesRun NoRun n b reply new = Gives b (Err NotRunning) reply new
+SlicesRun Running n b reply new = GivesSlice n b reply new
+
+-- On this board the event is answered so, and makes it that board.
+abbrev pub Applies : Board → Event → Result Answer Refused → Board → Type 0
+Applies b (event.Load path text) reply new = Gives b (without_run b.run (loaded (record { path = path; text = text }) b)) reply new
+Applies b (event.Start address) reply new = Gives b (without_run b.run (Ok (answer.Started, started address b))) reply new
+Applies b (event.Slice n) reply new = SlicesRun b.run n b reply new
+Applies b event.Interrupt reply new = Gives b (with_run b.run (Ok (answer.Interrupted, ended b))) reply new
+Applies b event.Reset reply new = Gives b (Ok (answer.Reset, reset b)) reply new
+Applies b (event.Typed bytes) reply new = Gives b (Ok (answer.Accepted, with_operation (Typed bytes) b)) reply new
+Applies b (event.Switches byte) reply new = Gives b (Ok (answer.Accepted, with_operation (Switches byte) b)) reply new
+Applies b (event.Press n) reply new = Gives b (pressed n b) reply new
+
+-- the events are answered so, one after the other
+abbrev pub Runs : Board → List Event → List (Result Answer Refused) → Board → Type 0
+Runs b [] [] new = new ≡ b
+Runs b (event ∷ events) (reply ∷ replies) new = (mid : Board) × Applies b event reply mid × Runs mid events replies new
+Runs b [] (reply ∷ replies) new = ⊥
+Runs b (event ∷ events) [] new = ⊥
+
+-- a slice makes from 1 to 4,096 steps
+abbrev pub Fits : Event → Type 0
+Fits (event.Slice n) = (1 ≤ n) × (n ≤ 4096)
+Fits _ = Unit {0}

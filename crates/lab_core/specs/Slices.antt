@@ -1,0 +1,96 @@
+-- Slices: how many steps a run makes at a time, and why it makes no more.
+use Rattle.std.specs.Prelude.{◌≡◌, ℕ, zero, suc, ◌<◌, ◌≤◌, List, [], ◌++◌, Bool, true, false, ◌&&◌, Option, Some, None, is_none, unwrap_or, if◌then◌else◌}
+use Rattle.std.specs.List.{fold}
+use Rattle.std.specs.Option.{option_or}
+use Rattle.i80_rows.specs.Rows.{Row, Undefined, Alone, Byte, Word, row}
+use Rattle.i80_exec.specs.declared.registers.Stepped.{Stepped}
+use Rattle.i80_exec.specs.declared.registers.Stepped.TheVariants as stepped
+use Rattle.i80_exec.specs.declared.registers.Interrupts.{Interrupts}
+use Rattle.i80_exec.specs.declared.registers.Interrupts.TheVariants.{Off, Arming, On}
+use Rattle.i80_exec.specs.declared.ports.PortOperation.{PortOperation}
+use Rattle.i80_exec.specs.State.{byte_at}
+use Rattle.i80_exec.specs.Step.{operation_list}
+use Rattle.i80_devs.specs.Past.{panel_after}
+use Rattle.lab_frames.specs.Live.{BoardStep}
+use Rattle.lab_core.specs.declared.answer.SliceOutcome.{SliceOutcome}
+use Rattle.lab_core.specs.declared.answer.SliceOutcome.TheVariants as outcome
+use Rattle.lab_core.specs.declared.answer.End.TheVariants as end
+use Rattle.lab_core.specs.declared.run_state.RunState.TheVariants.{NoRun}
+use Rattle.lab_core.specs.Board.{Board, accepted, next_step, stepped}
+
+-- ---- the reasons, and whether each stands
+
+abbrev pub is_halt : Stepped → Bool
+is_halt stepped.Halted = true
+is_halt stepped.Done = false
+is_halt (stepped.Called slot target) = false
+is_halt (stepped.Returned slot) = false
+is_halt (stepped.Undefined opcode) = false
+
+-- the last step was HLT
+abbrev pub ends_in_halt : List BoardStep → Bool
+ends_in_halt trace = fold (λ before step. is_halt step.answer) false trace
+
+abbrev pub is_off : Interrupts → Bool
+is_off Off = true
+is_off Arming = false
+is_off On = false
+
+abbrev pub is_on : Interrupts → Bool
+is_on Off = false
+is_on Arming = false
+is_on On = true
+
+abbrev pub is_undefined : Row → Bool
+is_undefined Undefined = true
+is_undefined (Alone i) = false
+is_undefined (Byte f) = false
+is_undefined (Word f) = false
+
+-- the run's last step was HLT with interrupts off after it, which ends the run
+abbrev pub halted : Board → Option SliceOutcome
+halted b =
+    if ends_in_halt b.trace && is_off b.machine.regs.interrupts
+    then Some (outcome.End end.Halted) else None
+
+-- it was HLT with interrupts on, and no request is latched yet
+abbrev pub waiting : Board → Option SliceOutcome
+waiting b =
+    if ends_in_halt b.trace && (is_on b.machine.regs.interrupts && is_none (panel_after b.past).latched)
+    then Some outcome.Waiting else None
+
+-- an undefined opcode stands at PC, and no request is accepted before it, which ends the run
+abbrev pub undefined : Board → Option SliceOutcome
+undefined b =
+    let opcode = byte_at b.machine b.machine.regs.pc in
+    if is_undefined (row opcode) && is_none (accepted b.machine b.past)
+    then Some (outcome.End (end.Undefined opcode b.machine.regs.pc)) else None
+
+-- the first reason to make no further step
+abbrev pub reason : Board → Option SliceOutcome
+reason b = option_or (halted b) (option_or (waiting b) (undefined b))
+
+-- ---- the slice
+
+abbrev pub after_steps : ℕ → Board → Board
+after_steps zero b = b
+after_steps (suc k) b = stepped (after_steps k b)
+
+-- the port operations of the first k steps
+abbrev pub traffic_of : ℕ → Board → List PortOperation
+traffic_of zero b = []
+traffic_of (suc k) b = traffic_of k b ++ operation_list (next_step (after_steps k b)).operation
+
+-- A slice of n steps ends after k: at no count before it a reason stands, and there is the first that
+-- does; or all n are made, where the only reason that is tried still is a run that halted.
+pub record IsSlice (n : ℕ) (b : Board) (k : ℕ) (ending : SliceOutcome) : Type 0 where
+  pub within : k ≤ n
+  pub none_before : (j : ℕ) → j < k → reason (after_steps j b) ≡ None
+  pub early : k < n → reason (after_steps k b) ≡ Some ending
+  pub last : k ≡ n → ending ≡ unwrap_or (halted (after_steps n b)) outcome.More
+
+-- a run that ended is there no more
+abbrev pub left_by : SliceOutcome → Board → Board
+left_by outcome.More b = b
+left_by outcome.Waiting b = b
+left_by (outcome.End e) b = record b { run = NoRun }

@@ -1,0 +1,39 @@
+//! One step of the board.
+ghost use Rattle.std.specs.Prelude.{◌≡◌, ◌+◌, ◌≤◌, List, IfSome, IfNone, None};
+ghost use Rattle.i80_devs.specs.Past.{Operation, StandsFor};
+ghost use Rattle.lab_frames.specs.Frames.{TellsSp};
+ghost use Rattle.lab_core.specs.Board.{accepted};
+ghost use Rattle.lab_core.specs.Steps.{IsBoardStep};
+
+use i80_devs::devices::Devices;
+use i80_exec::machine::Machine;
+use i80_exec::registers::Stepped;
+
+/// The acceptance of the latched request, or else the instruction at PC.
+pub fn board_step(machine: &mut Machine, devices: &mut Devices) -> Stepped
+    requires { 1 ≤ devices.old.spare }
+    ensures step { (past : List Operation) → StandsFor devices.old past
+        → IsBoardStep past machine.old devices.old machine.new devices.new result }
+    ensures sp { TellsSp result machine.old.regs.sp machine.new.regs.sp }
+    ensures spare { devices.old.spare ≤ devices.new.spare + 1 }
+{
+    match accept(machine, devices) {
+        Some(answer) => answer,
+        None => machine.step(devices),
+    }
+}
+
+/// Accepts the latched request, if there is one and interrupts are on.
+fn accept(machine: &mut Machine, devices: &mut Devices) -> Option<Stepped>
+    ensures taken { IfSome result (λ answer. (past : List Operation) → StandsFor devices.old past
+        → IsBoardStep past machine.old devices.old machine.new devices.new answer) }
+    ensures sp { IfSome result (λ answer. TellsSp answer machine.old.regs.sp machine.new.regs.sp) }
+    ensures none { IfNone result ((past : List Operation) → StandsFor devices.old past → accepted machine.old past ≡ None) }
+    ensures unchanged { IfNone result ((machine.new ≡ machine.old) × (devices.new ≡ devices.old)) }
+    ensures spare { devices.new.spare ≡ devices.old.spare }
+{
+    let vector = devices.request()?;
+    let answer = machine.accept(vector)?;
+    devices.take_request();
+    Some(answer)
+}

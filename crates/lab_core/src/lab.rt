@@ -1,0 +1,132 @@
+//! The laboratory.
+ghost use Rattle.std.specs.Prelude.{◌≡◌, [], IfOk};
+
+mod events;
+mod load;
+mod slice;
+
+use crate::run_state::RunState;
+use crate::sources::Sources;
+use asm_build::symbols::Symbols;
+use i80_devs::devices::Devices;
+use i80_exec::machine::Machine;
+use i80_exec::registers::Registers;
+use lab_frames::frames::Frames;
+use lab_image::origin::Origin;
+use lab_image::origins::Origins;
+use std::alloc::{AllocError, Global};
+use std::marker::Model;
+
+/// A board: machine, devices, what was loaded and kept, and the run with its live frames.
+#[derive(Drop)]
+pub struct Lab {
+    machine: Machine,
+    devices: Devices,
+    frames: Frames,
+    origins: Origins,
+    symbols: Symbols,
+    sources: Sources,
+    run_state: RunState,
+    is_halted: bool,
+    alloc: Global,
+}
+
+impl Model for Lab {
+    ghost use Rattle.lab_frames.specs.Frames.{AtLeast};
+    ghost use Rattle.lab_core.specs.Labs.{LabState};
+
+    ghost Value = { LabState };
+
+    ghost view = { λ l. record {
+      machine = l.machine;
+      devices = l.devices;
+      frames = l.frames;
+      origins = l.origins;
+      symbols = l.symbols;
+      sources = l.sources;
+      run = l.run_state;
+      is_halted = l.is_halted;
+    } };
+
+    // No live slot is below SP: a step that leaves SP above a slot ends its frame.
+    ghost invariant = { λ l. AtLeast l.machine.regs.sp l.frames };
+}
+
+impl Lab {
+    ghost use Rattle.i80_exec.specs.State.{byte_at};
+    ghost use Rattle.lab_frames.specs.Live.{live};
+    ghost use Rattle.i80_devs.specs.Past as devices;
+    ghost use Rattle.lab_image.specs.Loads.{origin_of};
+    ghost use Rattle.lab_core.specs.Board.{Board, opening};
+    ghost use Rattle.lab_core.specs.Labs.{StandsFor};
+
+    /// A board after power-on, with nothing loaded or kept.
+    /// All room that its memory, its live frames and its list of texts need is made here.
+    pub fn new(alloc: Global) -> Result<Lab, AllocError>
+        ensures { IfOk result (λ lab. StandsFor lab opening) }
+    {
+        let machine = Machine::new(alloc)?;
+        let frames = Frames::new(alloc)?;
+        let sources = Sources::new(alloc)?;
+        Ok(Lab {
+            machine,
+            devices: Devices::new(alloc),
+            frames,
+            origins: Origins::new(alloc),
+            symbols: Symbols::new(alloc),
+            sources,
+            run_state: RunState::NoRun,
+            is_halted: false,
+            alloc,
+        })
+    }
+
+    /// The registers, the flags and the interrupt state.
+    pub fn regs(&self) -> Registers
+        ensures { (b : Board) → StandsFor self.now b → result ≡ b.machine.regs }
+    {
+        self.machine.regs()
+    }
+
+    /// The byte at an address.
+    pub fn peek(&self, address: u16) -> u8
+        ensures { (b : Board) → StandsFor self.now b → result ≡ byte_at b.machine address }
+    {
+        self.machine.peek(address)
+    }
+
+    /// Whether there is a run.
+    pub fn run_state(&self) -> RunState
+        ensures { (b : Board) → StandsFor self.now b → result ≡ b.run }
+    {
+        self.run_state
+    }
+
+    /// The live frames since the last start.
+    pub fn frames(&self) -> &Frames
+        ensures { (b : Board) → StandsFor self.now b → result.now ≡ live b.trace }
+    {
+        &self.frames
+    }
+
+    /// The console and the front panel.
+    pub fn devices(&self) -> &Devices
+        ensures { (b : Board) → StandsFor self.now b → devices.StandsFor result.now b.past }
+    {
+        &self.devices
+    }
+
+    /// The symbols that are kept.
+    pub fn symbols(&self) -> &Symbols
+        ensures { (b : Board) → StandsFor self.now b → result.now ≡ b.symbols }
+    {
+        &self.symbols
+    }
+
+    /// The line that the byte at an address was loaded from.
+    pub fn origin_at(&self, address: u16) -> Option<Origin>
+        ensures { (b : Board) → StandsFor self.now b → result ≡ origin_of b.loads address }
+    {
+        self.origins.at(address)
+    }
+}

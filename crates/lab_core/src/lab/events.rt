@@ -1,0 +1,137 @@
+//! The events of a board, one by one and in turn.
+ghost use Rattle.std.specs.Prelude.{◌≡◌, ◌<◌, List, All, length, take, OnErr, IfOk, IfErr, IsTrue, ◌↔◌, Err};
+ghost use Rattle.lab_core.specs.Board.{Board};
+ghost use Rattle.lab_core.specs.Events.{Runs, Fits};
+ghost use Rattle.lab_core.specs.Labs.{StandsFor, AppliesTo, RunsOn};
+
+use crate::answer::{Answer, Answers, Stopped};
+use crate::event::Event;
+use crate::lab::Lab;
+use crate::refused::Refused;
+use crate::run_state::RunState;
+use i80_exec::machine::Machine;
+
+fn is_want_of_memory(answer: &Result<Answer, Refused>) -> bool
+    ensures { IsTrue result ↔ (answer.now ≡ Err Refused.NoMemory) }
+{
+    matches!(answer, Err(Refused::NoMemory))
+}
+
+impl Lab {
+    /// One event: its answer, or why it is refused.
+    ///
+    /// Where several refusals stand, `Busy` comes first, then `SourceNameTaken` and `SourcesFull`,
+    /// then the fault of the cell; and `Vector` before `Latched`. Those come before want of memory,
+    /// but memory can be wanting on the way to a cell's fault.
+    pub fn apply(&mut self, event: &Event) -> Result<Answer, Refused>
+        requires { Fits event.now }
+        ensures applied { AppliesTo self.old event.now result self.new }
+        ensures err { OnErr result (self.new ≡ self.old) }
+    {
+        match event {
+            Event::Load { path, text } => self.load(path.as_str(), text.as_str()),
+            Event::Start(address) => self.start(*address),
+            Event::Slice(n) => self.slice(*n),
+            Event::Interrupt => self.interrupt(),
+            Event::Reset => self.reset(),
+            Event::Typed(bytes) => self.type_bytes(bytes.as_slice()),
+            Event::Switches(byte) => self.set_switches(*byte),
+            Event::Press(n) => self.press(*n),
+        }
+    }
+
+    /// Events in turn, whose answers hold the refusals too. It ends at the first want of memory with
+    /// the answers so far; the events behind are not done. Room for an answer is made before its event.
+    pub fn run(&mut self, events: &[Event]) -> Result<Answers, Stopped>
+        requires { All Fits events.now }
+        ensures ok { IfOk result (λ answers. RunsOn self.old events.now answers self.new) }
+        ensures stopped { IfErr result (λ stopped.
+            RunsOn self.old (take (length stopped.answers) events.now) stopped.answers self.new) }
+        ensures fewer { IfErr result (λ stopped. length stopped.answers < length events.now) }
+    {
+        let mut answers = Vec::new(self.alloc);
+        for event in events {
+            if answers.reserve(1).is_err() {
+                return Err(Stopped {
+                    answers: Answers::from(answers),
+                });
+            }
+            let answer = self.apply(event);
+            if is_want_of_memory(&answer) {
+                return Err(Stopped {
+                    answers: Answers::from(answers),
+                });
+            }
+            answers.push_reserved(answer);
+        }
+        Ok(Answers::from(answers))
+    }
+
+    fn start(&mut self, address: u16) -> Result<Answer, Refused>
+        ensures applied { AppliesTo self.old (Event.Start address) result self.new }
+        ensures err { OnErr result (self.new ≡ self.old) }
+    {
+        match self.run_state {
+            RunState::Running => Err(Refused::Busy),
+            RunState::NoRun => {
+                self.machine.set_pc(address);
+                self.frames.clear();
+                self.run_state = RunState::Running;
+                self.is_halted = false;
+                Ok(Answer::Started)
+            }
+        }
+    }
+
+    fn interrupt(&mut self) -> Result<Answer, Refused>
+        ensures applied { AppliesTo self.old Event.Interrupt result self.new }
+        ensures err { OnErr result (self.new ≡ self.old) }
+    {
+        match self.run_state {
+            RunState::NoRun => Err(Refused::NotRunning),
+            RunState::Running => {
+                self.run_state = RunState::NoRun;
+                Ok(Answer::Interrupted)
+            }
+        }
+    }
+
+    fn reset(&mut self) -> Result<Answer, Refused>
+        ensures applied { AppliesTo self.old Event.Reset result self.new }
+        ensures err { OnErr result (self.new ≡ self.old) }
+    {
+        // The new machine is made before anything changes.
+        let machine = Machine::new(self.alloc)?;
+        self.machine = machine;
+        self.devices.clear();
+        self.frames.clear();
+        self.origins.clear();
+        self.run_state = RunState::NoRun;
+        self.is_halted = false;
+        Ok(Answer::Reset)
+    }
+
+    fn type_bytes(&mut self, bytes: &[u8]) -> Result<Answer, Refused>
+        ensures applied { AppliesTo self.old (Event.Typed bytes.now) result self.new }
+        ensures err { OnErr result (self.new ≡ self.old) }
+    {
+        self.devices.type_bytes(bytes)?;
+        Ok(Answer::Accepted)
+    }
+
+    fn set_switches(&mut self, byte: u8) -> Result<Answer, Refused>
+        ensures applied { AppliesTo self.old (Event.Switches byte) result self.new }
+        ensures err { OnErr result (self.new ≡ self.old) }
+    {
+        self.devices.set_switches(byte);
+        Ok(Answer::Accepted)
+    }
+
+    fn press(&mut self, n: u8) -> Result<Answer, Refused>
+        ensures applied { AppliesTo self.old (Event.Press n) result self.new }
+        ensures err { OnErr result (self.new ≡ self.old) }
+    {
+        self.devices.press(n)?;
+        Ok(Answer::Accepted)
+    }
+}

@@ -1,0 +1,83 @@
+//! Loading a cell.
+ghost use Rattle.std.specs.Prelude.{◌≡◌, ◌<◌, OnOk, OnErr};
+ghost use Rattle.asm_syntax.specs.Outcome.{Gives};
+ghost use Rattle.asm_build.specs.Meaning.{meaning_in};
+ghost use Rattle.lab_core.specs.Board.{Board};
+ghost use Rattle.lab_core.specs.Sources.{number_at};
+ghost use Rattle.lab_core.specs.Events.{assembled, with_built, with_cell};
+ghost use Rattle.lab_core.specs.Labs.{StandsFor, AppliesTo};
+
+use crate::answer::Answer;
+use crate::event::Event;
+use crate::lab::Lab;
+use crate::refused::Refused;
+use crate::run_state::RunState;
+use crate::sources::Source;
+use asm_build::built::Built;
+use asm_build::cell::build;
+use asm_syntax::fault::AsmFault;
+use asm_text::statements::statements;
+use std::alloc::AllocError;
+
+impl Lab {
+    pub(super) fn load(&mut self, path: &str, text: &str) -> Result<Answer, Refused>
+        ensures applied { AppliesTo self.old (Event.Load path.now text.now) result self.new }
+        ensures err { OnErr result (self.new ≡ self.old) }
+    {
+        match self.run_state {
+            RunState::Running => Err(Refused::Busy),
+            RunState::NoRun => {
+                let place = self.sources.place(path, text)?;
+                let built = self.assemble(text)?;
+                let start = built.start;
+                self.keep(place, path, text, built)?;
+                Ok(Answer::Loaded { start })
+            }
+        }
+    }
+
+    fn assemble(&self, text: &str) -> Result<Built, AsmFault>
+        ensures { Gives meaning_in result (assembled self.now.symbols text.now) }
+    {
+        let statements = statements(self.alloc, text)?;
+        build(self.alloc, &statements, &self.symbols)
+    }
+
+    /// Loads what a cell gave, and keeps its text, which is new where it has no place yet.
+    fn keep(
+        &mut self,
+        place: Option<usize>,
+        path: &str,
+        text: &str,
+        built: Built,
+    ) -> Result<(), AllocError>
+        requires { number_at place self.old.sources < 1024 }
+        ensures ok { OnOk result ((b : Board) → StandsFor self.old b → StandsFor self.new
+            (with_cell (record { path = path.now; text = text.now }) place (meaning_in built) b)) }
+        ensures err { OnErr result (self.new ≡ self.old) }
+    {
+        match place {
+            Some(number) => self.put(number as u32, built),
+            None => {
+                let source = Source::copy_of(self.alloc, path, text)?;
+                let number = self.sources.len() as u32;
+                self.put(number, built)?;
+                self.sources.add(source);
+                Ok(())
+            }
+        }
+    }
+
+    /// Writes what a cell gave to the memory, as the source of this number, and keeps its symbols.
+    fn put(&mut self, number: u32, built: Built) -> Result<(), AllocError>
+        ensures ok { OnOk result ((b : Board) → StandsFor self.old b
+            → StandsFor self.new (with_built number (meaning_in built) b)) }
+        ensures sources { self.new.sources ≡ self.old.sources }
+        ensures err { OnErr result (self.new ≡ self.old) }
+    {
+        self.origins.load(&mut self.machine, number, &built)?;
+        let Built { symbols, .. } = built;
+        self.symbols = symbols;
+        Ok(())
+    }
+}

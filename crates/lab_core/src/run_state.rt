@@ -1,0 +1,8 @@
+//! Whether a program runs.
+
+/// Whether there is a run: from Start until the program ends or is interrupted.
+#[derive(Clone, Copy, PartialEq, Eq, Debug)]
+pub enum RunState {
+    NoRun,
+    Running,
+}
