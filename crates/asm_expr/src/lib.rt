@@ -9,5 +9,3 @@ pub mod env;
 pub mod evaluation;
 pub mod expression;
 pub mod name;
-#[cfg(test)]
-mod tests;

@@ -9,7 +9,5 @@ pub mod fault;
 pub mod keyword;
 pub mod sequence;
 pub mod statement;
-#[cfg(test)]
-mod tests;
 pub mod token;
 pub mod word;

@@ -215,27 +215,35 @@ fn images(rt: HostRuntime) -> Result<(), Fail> {
     Ok(())
 }
 
+fn expect_values(rt: &impl Abort, symbols: &Symbols, values: &[(&str, u16)]) {
+    for (name, value) in values {
+        assert_eq!(rt; value_of(symbols, name), Some(*value), "{name}");
+    }
+}
+
+// The symbols have these names first, in this order.
+fn expect_names(rt: &impl Abort, symbols: &Symbols, names: &[&str]) {
+    for (index, name) in names.iter().enumerate() {
+        match symbols.at(index) {
+            Some((found, _)) => assert!(rt; found == *name, "{name}"),
+            None => panic!(rt; "no {name}"),
+        }
+    }
+}
+
 #[test]
 fn symbols_are_kept(rt: HostRuntime) -> Result<(), Fail> {
     let alloc = rt.alloc();
     let first = kept_behind(&rt, alloc, "X: NOP\nY EQU 7")?;
     let second = good(&rt, alloc, "JMP X\nNOP\nX: HLT\nZ SET 9", &first)?;
-    assert_eq!(rt; value_of(&second.symbols, "X"), Some(4));
-    assert_eq!(rt; value_of(&second.symbols, "Y"), Some(7));
-    assert_eq!(rt; value_of(&second.symbols, "Z"), Some(9));
+    expect_values(&rt, &second.symbols, &[("X", 4), ("Y", 7), ("Z", 9)]);
     // The first cell's symbols are as they were, and a cell may be built over its own.
-    assert_eq!(rt; value_of(&first, "X"), Some(0));
+    expect_values(&rt, &first, &[("X", 0)]);
     let again = good(&rt, alloc, "JMP X\nNOP\nX: HLT\nZ SET 9", &second.symbols)?;
-    assert_eq!(rt; value_of(&again.symbols, "X"), Some(4));
+    expect_values(&rt, &again.symbols, &[("X", 4)]);
     assert!(rt; has_image(&again, 0, &[0xc3, 4, 0, 0, 0x76]));
     // Kept names stay in their places, new ones come last.
-    let names = ["X", "Y", "Z"];
-    for (index, name) in names.iter().enumerate() {
-        match again.symbols.at(index) {
-            Some((found, _)) => assert!(rt; found == *name, "{name}"),
-            None => panic!(rt; "no {name}"),
-        }
-    }
+    expect_names(&rt, &again.symbols, &["X", "Y", "Z"]);
     let x = again.symbols.get("X").map(|symbol| symbol.kind);
     assert!(rt; x == Some(SymbolKind::Label));
     Ok(())

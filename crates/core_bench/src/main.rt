@@ -3,11 +3,7 @@
 // `bench/core` times it beside a plain switch interpreter in C.
 #![tactic(auto)]
 
-#[cfg(test)]
-mod plain;
 mod slot;
-#[cfg(test)]
-mod step_tests;
 
 ghost use Rattle.std.specs.Prelude.{◌≤◌};
 

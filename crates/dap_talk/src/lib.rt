@@ -14,6 +14,4 @@ pub mod fault;
 mod json;
 pub mod reading;
 pub mod sending;
-#[cfg(test)]
-mod tests;
 pub mod text;

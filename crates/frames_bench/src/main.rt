@@ -83,6 +83,3 @@ fn main(rt: HostRuntime) -> Result<()> {
     }
     Ok(())
 }
-
-#[cfg(test)]
-mod stream_tests;

@@ -7,6 +7,4 @@
 
 pub mod devices;
 mod panel;
-#[cfg(test)]
-mod tests;
 pub mod traffic;

@@ -9,8 +9,4 @@ pub mod laws;
 pub mod line;
 pub mod listing;
 mod mnemonic;
-#[cfg(test)]
-mod opcode_lines;
 mod operand;
-#[cfg(test)]
-mod tests;

@@ -10,5 +10,3 @@ pub mod decoding;
 pub mod encoding;
 pub mod flags;
 pub mod instruction;
-#[cfg(test)]
-mod tests;

@@ -10,5 +10,3 @@ pub mod message;
 pub mod opening;
 pub mod sealing;
 pub mod signature;
-#[cfg(test)]
-mod tests;

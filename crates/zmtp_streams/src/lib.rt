@@ -8,6 +8,4 @@
 pub mod memory;
 pub mod ports;
 pub mod std_io;
-#[cfg(test)]
-mod tests;
 pub mod writing;

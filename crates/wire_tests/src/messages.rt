@@ -1,9 +1,9 @@
 //! RFC 4231's vectors, and frames as Jupyter messaging 5.4 lays them out.
-use crate::frames::{Bytes, Frames};
-use crate::message::{Message, WireFault};
-use crate::opening::open_message;
-use crate::sealing::{Draft, seal_message};
-use crate::signature::sign;
+use jup_wire::frames::{Bytes, Frames};
+use jup_wire::message::{Message, WireFault};
+use jup_wire::opening::open_message;
+use jup_wire::sealing::{Draft, seal_message};
+use jup_wire::signature::sign;
 use serde_json::Value;
 use std::alloc::{AllocError, Global};
 use std::process::Abort;

@@ -1,14 +1,14 @@
 //! Requests and answers as frontends write and read them. The hashes are another program's.
-use crate::answer::{
+use dap_talk::answer::{
     Body, Breakpoint, DebugState, Event, Instruction, Outcome, Response, SourceBreakpoints,
     StackFrame, StopReason, Variable,
 };
-use crate::cell::cell_path;
-use crate::command::CommandName;
-use crate::fault::DapFault;
-use crate::reading::read_request;
-use crate::sending::{event, response};
-use crate::text::{Sequence, Text};
+use dap_talk::cell::cell_path;
+use dap_talk::command::CommandName;
+use dap_talk::fault::DapFault;
+use dap_talk::reading::read_request;
+use dap_talk::sending::{event, response};
+use dap_talk::text::{Sequence, Text};
 use serde_json::Value;
 use std::alloc::{AllocError, Global};
 use std::process::Abort;

@@ -1,11 +1,11 @@
 //! Values that the 8080 User's Manual and real processors give.
-use crate::arithmetic::{
+use i80_rows::arithmetic::{
     AluResult, alu_add, alu_and, alu_or, alu_sub, alu_xor, daa, dcr, inr, rotate,
 };
-use crate::decoding::decode;
-use crate::encoding::encode;
-use crate::flags::Flags;
-use crate::instruction::{Cond, Decode, Instr, Operation, Reg, Register, Rotation, Vector};
+use i80_rows::decoding::decode;
+use i80_rows::encoding::encode;
+use i80_rows::flags::Flags;
+use i80_rows::instruction::{Cond, Decode, Instr, Operation, Reg, Register, Rotation, Vector};
 use std::process::Abort;
 
 const NO_FLAGS: u8 = 0x02;

@@ -1,7 +1,9 @@
-use crate::fault::{AsmFault, FaultKind, LineFault};
-use crate::keyword::{Directive, KEYWORDS, Keyword, Mnemonic, keyword_of};
-use crate::sequence::Sequence;
-use crate::statement::{ByteOperation, MOST_LINES, Statement, Statements, WordOperation};
+//! The words of the language, and how its faults are printed.
+
+use asm_syntax::fault::{AsmFault, FaultKind, LineFault};
+use asm_syntax::keyword::{Directive, KEYWORDS, Keyword, Mnemonic, keyword_of};
+use asm_syntax::sequence::Sequence;
+use asm_syntax::statement::{ByteOperation, MOST_LINES, Statement, Statements, WordOperation};
 use i80_rows::instruction::{Cond, Instr, Pair, Reg};
 use std::test::Fail;
 

@@ -1,5 +1,5 @@
 //! The devices over a short past.
-use crate::devices::{Devices, Press};
+use i80_devs::devices::{Devices, Press};
 use i80_exec::ports::{PortOperation, Ports};
 use std::process::Abort;
 use std::test::Fail;
@@ -82,4 +82,19 @@ fn one_request_is_latched_at_most(rt: HostRuntime) {
     devices.take_request();
     assert_eq!(rt; devices.press(0), Ok(()));
     assert_eq!(rt; devices.request(), Some(0));
+}
+
+#[test]
+fn cleared_devices_are_new_ones(rt: HostRuntime) -> Result<(), Fail> {
+    let mut devices = Devices::new(rt.alloc());
+    devices.type_bytes(b"ab")?;
+    devices.set_switches(0x5a);
+    assert_eq!(rt; devices.press(7), Ok(()));
+    devices.reserve_out(1)?;
+    devices.output(2, 0x0f);
+    devices.clear();
+    assert_eq!(rt; (devices.switches(), devices.lamps()), (0, 0));
+    assert_eq!(rt; (devices.waiting(), devices.request()), (0, None));
+    assert!(rt; devices.take_out().into_vec().is_empty());
+    inputs(&rt, &mut devices, &[(0, 2), (1, 0)])
 }

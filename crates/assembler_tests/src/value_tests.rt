@@ -1,9 +1,10 @@
+//! Trees of expressions, and what they are worth.
 ghost use Rattle.std.specs.Prelude.{◌<◌};
 
-use crate::env::Env;
-use crate::evaluation::{ExprFault, value};
-use crate::expression::{Atom, Binary, Expr, TreeFault, Unary};
-use crate::name::Name;
+use asm_expr::env::Env;
+use asm_expr::evaluation::{ExprFault, value};
+use asm_expr::expression::{Atom, Binary, Expr, TreeFault, Unary};
+use asm_expr::name::Name;
 use std::alloc::Global;
 use std::test::Fail;
 

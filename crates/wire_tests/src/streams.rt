@@ -1,12 +1,12 @@
 //! Short reads and writes, and failures at each call.
 ghost use Rattle.std.specs.Prelude.{◌≡◌, ◌<◌, ◌++◌, length, take, IfOk, OnOk};
 
-use crate::memory::{Sink, Source};
-use crate::ports::{Failed, Inlet, Outlet};
-use crate::std_io::{StdInlet, StdOutlet};
-use crate::writing::write_all;
 use std::alloc::Global;
 use std::test::Fail;
+use zmtp_streams::memory::{Sink, Source};
+use zmtp_streams::ports::{Failed, Inlet, Outlet};
+use zmtp_streams::std_io::{StdInlet, StdOutlet};
+use zmtp_streams::writing::write_all;
 
 // Reads to the end or a failure.
 fn read_all<I: Inlet>(alloc: Global, from: &mut I) -> Result<(Vec<u8>, Option<Failed>), Fail> {

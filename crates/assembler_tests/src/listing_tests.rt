@@ -1,14 +1,14 @@
 //! Worked examples, and that there is an answer where there is memory.
 
-use crate::laws::{lines_are, listing_assembles};
-use crate::line::line_at;
-use crate::listing::listing;
 use crate::opcode_lines::OPCODE_LINES;
 use asm_build::built::Built;
 use asm_build::cell::build;
 use asm_build::symbols::Symbols;
 use asm_syntax::fault::AsmFault;
 use asm_text::statements::statements;
+use i80_dis::laws::{lines_are, listing_assembles};
+use i80_dis::line::line_at;
+use i80_dis::listing::listing;
 use std::alloc::{AllocError, Global};
 use std::process::Abort;
 use std::rt::HostRuntime;
