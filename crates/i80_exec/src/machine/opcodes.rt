@@ -3,7 +3,7 @@ ghost use Rattle.std.specs.Prelude.{◌≡◌, ◌+◌, ◌*◌, ◌<◌, ◌≤
 ghost use Rattle.i80_rows.specs.Rows.{row};
 ghost use Rattle.i80_rows.specs.declared.instruction.Instr.TheVariants.{Nop};
 ghost use Rattle.i80_exec.specs.State.{wrapped, byte_at, word_at, stored, get_pair, with_pc, with_interrupts};
-ghost use Rattle.i80_exec.specs.Step.{by_row, interrupts_after, operation_list, state_after};
+ghost use Rattle.i80_exec.specs.Step.{by_row, interrupts_after, operation_list, state_after, IsOutcome, Performs};
 
 use crate::machine::Machine;
 use crate::ports::Ports;
@@ -88,15 +88,10 @@ impl Machine {
     pub(super) fn step_opcode<P: Ports>(&mut self, opcode: u8, ports: &mut P) -> Stepped
         requires opcode { opcode ≡ byte_at self.old self.old.regs.pc }
         requires spare { 1 ≤ P.spare ports.old }
-        ensures after { self.new ≡ (by_row (row opcode) (P.answer (P.state ports.old)) self.old).after }
-        ensures answer { result ≡ (by_row (row opcode) (P.answer (P.state ports.old)) self.old).answer }
-        ensures operations { P.operations ports.new ≡ P.operations ports.old
-            ++ operation_list (by_row (row opcode) (P.answer (P.state ports.old)) self.old).operation }
-        ensures state { P.state ports.new ≡ state_after P.after (P.state ports.old)
-            (by_row (row opcode) (P.answer (P.state ports.old)) self.old).operation }
-        ensures spare { P.spare ports.new
-            + length (operation_list (by_row (row opcode) (P.answer (P.state ports.old)) self.old).operation)
-            ≡ P.spare ports.old }
+        ensures { let outcome = by_row (row opcode) (P.answer (P.state ports.old)) self.old in
+            IsOutcome outcome self.new result
+            × Performs outcome.operation P.after (P.operations ports.old) (P.operations ports.new)
+            (P.state ports.old) (P.state ports.new) (P.spare ports.old) (P.spare ports.new) }
     {
         groups! { self ports opcode;
             0x00 0x01 0x02 0x03 0x04 0x05 0x06 0x07 0x08 0x09 0x0a 0x0b 0x0c 0x0d 0x0e 0x0f => step_00;
