@@ -251,31 +251,52 @@ fn a_call_is_live_until_its_return(rt: HostRuntime) -> Result<(), Fail> {
 }
 
 #[test]
+fn one_request_is_latched(rt: HostRuntime) -> Result<(), Fail> {
+    let alloc = rt.alloc();
+    let mut lab = Lab::new(alloc)?;
+    let steps = [
+        Step::Press(8),
+        Step::Press(7),
+        Step::Press(3),
+        Step::Press(8),
+    ];
+    let wanted = "\
+refused: there are the buttons 0 to 7
+Accepted
+refused: a request is latched already
+refused: there are the buttons 0 to 7
+";
+    play(&rt, alloc, &mut lab, &steps, wanted)?;
+    Ok(())
+}
+
+/// Makes one step and compares the interrupt state, PC and SP with these.
+fn step_to(
+    rt: &impl Abort,
+    alloc: Global,
+    lab: &mut Lab,
+    wanted: (Interrupts, u16, u16),
+) -> Result<(), AllocError> {
+    one_step(alloc, lab)?;
+    let regs = lab.regs();
+    assert_eq!(rt; (regs.interrupts, regs.pc, regs.sp), wanted);
+    Ok(())
+}
+
+#[test]
 fn a_request_waits_for_the_instruction_behind_ei(rt: HostRuntime) -> Result<(), Fail> {
     let alloc = rt.alloc();
     let mut lab = Lab::new(alloc)?;
     let steps = [
         Step::Load("a", "EI\nNOP\nNOP"),
-        Step::Press(8),
         Step::Press(7),
-        Step::Press(3),
         Step::Start(0),
     ];
-    let wanted = "\
-Loaded { start: None }
-refused: there are the buttons 0 to 7
-Accepted
-refused: a request is latched already
-Started
-";
+    let wanted = "Loaded { start: None }\nAccepted\nStarted\n";
     play(&rt, alloc, &mut lab, &steps, wanted)?;
-    one_step(alloc, &mut lab)?;
-    assert_eq!(rt; lab.regs().interrupts, Interrupts::Arming);
-    one_step(alloc, &mut lab)?;
-    assert_eq!(rt; (lab.regs().interrupts, lab.regs().pc), (Interrupts::On, 2));
-    one_step(alloc, &mut lab)?;
-    assert_eq!(rt; lab.regs().interrupts, Interrupts::Off);
-    assert_eq!(rt; (lab.regs().pc, lab.regs().sp), (0x0038, 0xfffe));
+    step_to(&rt, alloc, &mut lab, (Interrupts::Arming, 1, 0))?;
+    step_to(&rt, alloc, &mut lab, (Interrupts::On, 2, 0))?;
+    step_to(&rt, alloc, &mut lab, (Interrupts::Off, 0x0038, 0xfffe))?;
     assert_eq!(rt; (lab.peek(0xffff), lab.peek(0xfffe)), (0x00, 0x02));
     Ok(())
 }
@@ -321,21 +342,18 @@ refused: the path has another text
 fn events_are_answered_in_turn(rt: HostRuntime) -> Result<(), Fail> {
     let alloc = rt.alloc();
     let mut lab = Lab::new(alloc)?;
-    let events = [
-        Event::Slice(1),
-        Event::Start(0xfffe),
-        Event::Slice(3),
-        Event::Press(8),
-        Event::Interrupt,
-    ];
-    let answers = match lab.run(&events) {
-        Ok(answers) => answers,
-        Err(_) => return Err(AllocError)?,
+    let mut events = Vec::with_capacity(alloc, 4)?;
+    events.push_reserved(Event::Slice(1));
+    events.push_reserved(Event::Start(0xfffe));
+    events.push_reserved(Event::Slice(3));
+    events.push_reserved(Event::Interrupt);
+    let Ok(answers) = lab.run(&events) else {
+        return Err(AllocError)?;
     };
     let told = format!(in alloc; "{:?}", answers.as_slice())?;
     assert_eq!(rt;
         told.as_str(),
-        "[Err(NotRunning), Ok(Started), Ok(Sliced { executed: 3, traffic: Traffic { operations: [] }, outcome: More }), Err(Vector), Ok(Interrupted)]"
+        "[Err(NotRunning), Ok(Started), Ok(Sliced { executed: 3, traffic: Traffic { operations: [] }, outcome: More }), Ok(Interrupted)]"
     );
     assert_eq!(rt; lab.regs().pc, 1);
     Ok(())

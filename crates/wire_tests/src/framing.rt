@@ -207,6 +207,18 @@ fn frame_counts(rt: HostRuntime) -> Result<(), Fail> {
     Ok(())
 }
 
+// A ROUTER that has read a greeting and this READY knows its peer by this identity.
+fn expect_identity(
+    rt: &(impl Abort + AllocGlobal),
+    ready: &str,
+    wanted: &[u8],
+) -> Result<(), Fail> {
+    let side = router_after(rt.alloc(), GREETING, ready)?;
+    let identity = side.identity().ok_or("no identity")?;
+    assert_eq!(rt; identity.as_slice(), wanted);
+    Ok(())
+}
+
 #[test]
 fn identities(rt: HostRuntime) -> Result<(), Fail> {
     let side = router_after(rt.alloc(), GREETING, "")?;
@@ -216,16 +228,11 @@ fn identities(rt: HostRuntime) -> Result<(), Fail> {
     assert!(rt; side.identity().is_none());
     let empty =
         "04290552454144590B536F636B65742D54797065000000064445414C4552084964656E7469747900000000";
-    let side = router_after(rt.alloc(), GREETING, empty)?;
-    let identity = side.identity().ok_or("no identity")?;
-    assert_eq!(rt; identity.as_slice(), b"".as_slice());
+    expect_identity(&rt, empty, b"")?;
     let two =
         "0438055245414459084964656E7469747900000001610B536F636B65742D5479706500000006524F5554455208\
         4944454E544954590000000162";
-    let side = router_after(rt.alloc(), GREETING, two)?;
-    let identity = side.identity().ok_or("no identity")?;
-    assert_eq!(rt; identity.as_slice(), b"a".as_slice());
-    Ok(())
+    expect_identity(&rt, two, b"a")
 }
 
 #[test]
