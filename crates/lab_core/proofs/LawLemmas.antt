@@ -1,5 +1,5 @@
 -- What events answer and leave is determined by the board.
-use Rattle.std.proofs.Common.{◌≡◌, ℕ, ◌<◌, ◌≤◌, List, [], ◌∷◌, Result, Ok, Err, refl, sym, ◌∙◌, arith, inl, inr, subst}
+use Rattle.std.proofs.Common.{◌≡◌, ℕ, ◌<◌, List, [], ◌∷◌, Result, Ok, Err, refl, sym, ◌∙◌, arith, inl, inr, subst}
 use Rattle.std.proofs.lemmas.Bool.{cases_lt}
 use Rattle.lab_core.specs.declared.run_state.RunState.{RunState}
 use Rattle.lab_core.specs.declared.run_state.RunState.TheVariants.{NoRun, Running}
@@ -9,7 +9,7 @@ use Rattle.lab_core.specs.declared.answer.SliceOutcome.{SliceOutcome}
 use Rattle.lab_core.specs.declared.answer.Answer.{Answer}
 use Rattle.lab_core.specs.declared.refused.Refused.{Refused}
 use Rattle.lab_core.specs.Board.{Board}
-use Rattle.lab_core.specs.Slices.{IsSlice, after_steps, reason, traffic_of, left_by}
+use Rattle.lab_core.specs.Slices.{IsSlice}
 use Rattle.lab_core.specs.Events.{Given, Gives, GivesSlice, SlicesRun, Applies, Runs}
 
 -- no slice of n steps goes on where another one ended

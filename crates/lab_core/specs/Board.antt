@@ -11,16 +11,18 @@ use Rattle.lab_core.specs.declared.run_state.RunState.{RunState}
 use Rattle.lab_core.specs.declared.run_state.RunState.TheVariants.{NoRun}
 use Rattle.lab_core.specs.declared.sources.Source.{Source}
 
--- The machine; all operations on the devices and all loads, each since power-on or the last Reset;
--- the symbols that are kept; the texts that are kept, of which the place is the number; whether there
--- is a run; and the steps since the last Start.
 pub record Board : Type 0 where
   pub machine : MachineState
+  -- all operations on the devices since power-on or the last reset
   pub past : List Operation
+  -- all loads since then
   pub loads : List Load
+  -- the symbols that are kept
   pub symbols : Entries
+  -- the texts that are kept, each at the place of its number
   pub sources : List Source
   pub run : RunState
+  -- the steps since the last start, also where the run has ended
   pub trace : List BoardStep
 
 -- after power-on

@@ -27,6 +27,7 @@ pub struct Lab {
     symbols: Symbols,
     sources: Sources,
     run_state: RunState,
+    /// The run's last step was HLT.
     is_halted: bool,
     alloc: Global,
 }
