@@ -1,8 +1,11 @@
 -- The bytes of an instruction are those that the table of 256 rows gives it.
-use Rattle.std.proofs.Common.{◌≡◌, ℕ, zero, suc, ◌+◌, ◌*◌, ◌/◌, ◌%◌, ◌<◌, List, [], ◌∷◌, ◌++◌, get_or, refl, sym, ap, subst, ◌∙◌, arith, zero-add}
+use Rattle.std.proofs.Common.{◌≡◌, ℕ, zero, suc, ◌+◌, ◌*◌, ◌/◌, ◌%◌, ◌<◌, List, [], ◌∷◌, ◌++◌, get_or, refl}
+use Rattle.std.proofs.Common.{sym, ap, subst, ◌∙◌, arith, zero-add}
 use Rattle.std.specs.Prelude.{slice_index_or}
 use Rattle.i80_rows.specs.declared.instruction.Instr.{Instr}
-use Rattle.i80_rows.specs.Rows.{Row, Undefined, Alone, Byte, Word, row, rows, row_0, row_1, row_2, row_3, row_4, row_5, row_6, row_7, row_8, row_9, row_a, row_b, row_c, row_d, row_e, row_f}
+use Rattle.i80_rows.specs.Rows.{Row, Undefined, Alone, Byte, Word, row, rows, row_0, row_1, row_2, row_3}
+use Rattle.i80_rows.specs.Rows.{row_4, row_5, row_6, row_7, row_8, row_9, row_a, row_b, row_c, row_d, row_e}
+use Rattle.i80_rows.specs.Rows.{row_f}
 use Rattle.i80_rows.specs.Encoding.{Encodes, IsOperand}
 use Rattle.asm_build.specs.Encodings.{with_word, encoding_of}
 
@@ -17,633 +20,106 @@ abbrev AllFit : ℕ → List Row → Type 0
 AllFit opcode [] = Unit {0}
 AllFit opcode (r ∷ rs) = Fits opcode r × AllFit (suc opcode) rs
 
+-- a pair, with no brackets round a list of them
+infixr 5 ◌⊳◌
+◌⊳◌ : {A B : Type 0} → A → B → A × B
+a ⊳ b = (a, b)
+
 fits_0 : (rest : List Row) → AllFit 16 rest → AllFit 0 (row_0 ++ rest)
 unfolding encoding_of
-fits_0 rest more = (
-  refl,
-  (
-    λ w. refl,
-    (
-      refl,
-      (
-        refl,
-        (
-          refl,
-          (
-            refl,
-            (
-              λ b. refl,
-              (
-                refl,
-                (
-                  tt,
-                  (
-                    refl,
-                    (
-                      refl,
-                      (
-                        refl,
-                        (refl, (refl, (λ b. refl, (refl, more)))),
-                      ),
-                    ),
-                  ),
-                ),
-              ),
-            ),
-          ),
-        ),
-      ),
-    ),
-  ),
-)
+fits_0 rest more =
+    refl ⊳ (λ w. refl) ⊳ refl ⊳ refl ⊳ refl ⊳ refl ⊳ (λ b. refl) ⊳ refl ⊳
+    tt ⊳ refl ⊳ refl ⊳ refl ⊳ refl ⊳ refl ⊳ (λ b. refl) ⊳ refl ⊳ more
 
 fits_1 : (rest : List Row) → AllFit 32 rest → AllFit 16 (row_1 ++ rest)
 unfolding encoding_of
-fits_1 rest more = (
-  tt,
-  (
-    λ w. refl,
-    (
-      refl,
-      (
-        refl,
-        (
-          refl,
-          (
-            refl,
-            (
-              λ b. refl,
-              (
-                refl,
-                (
-                  tt,
-                  (
-                    refl,
-                    (
-                      refl,
-                      (
-                        refl,
-                        (refl, (refl, (λ b. refl, (refl, more)))),
-                      ),
-                    ),
-                  ),
-                ),
-              ),
-            ),
-          ),
-        ),
-      ),
-    ),
-  ),
-)
+fits_1 rest more =
+    tt ⊳ (λ w. refl) ⊳ refl ⊳ refl ⊳ refl ⊳ refl ⊳ (λ b. refl) ⊳ refl ⊳
+    tt ⊳ refl ⊳ refl ⊳ refl ⊳ refl ⊳ refl ⊳ (λ b. refl) ⊳ refl ⊳ more
 
 fits_2 : (rest : List Row) → AllFit 48 rest → AllFit 32 (row_2 ++ rest)
 unfolding encoding_of
-fits_2 rest more = (
-  tt,
-  (
-    λ w. refl,
-    (
-      λ w. refl,
-      (
-        refl,
-        (
-          refl,
-          (
-            refl,
-            (
-              λ b. refl,
-              (
-                refl,
-                (
-                  tt,
-                  (
-                    refl,
-                    (λ w. refl, (refl, (refl, (refl, (λ b. refl, (refl, more)))))),
-                  ),
-                ),
-              ),
-            ),
-          ),
-        ),
-      ),
-    ),
-  ),
-)
+fits_2 rest more =
+    tt ⊳ (λ w. refl) ⊳ (λ w. refl) ⊳ refl ⊳ refl ⊳ refl ⊳ (λ b. refl) ⊳ refl ⊳
+    tt ⊳ refl ⊳ (λ w. refl) ⊳ refl ⊳ refl ⊳ refl ⊳ (λ b. refl) ⊳ refl ⊳ more
 
 fits_3 : (rest : List Row) → AllFit 64 rest → AllFit 48 (row_3 ++ rest)
 unfolding encoding_of
-fits_3 rest more = (
-  tt,
-  (
-    λ w. refl,
-    (
-      λ w. refl,
-      (
-        refl,
-        (
-          refl,
-          (
-            refl,
-            (
-              λ b. refl,
-              (
-                refl,
-                (
-                  tt,
-                  (
-                    refl,
-                    (λ w. refl, (refl, (refl, (refl, (λ b. refl, (refl, more)))))),
-                  ),
-                ),
-              ),
-            ),
-          ),
-        ),
-      ),
-    ),
-  ),
-)
+fits_3 rest more =
+    tt ⊳ (λ w. refl) ⊳ (λ w. refl) ⊳ refl ⊳ refl ⊳ refl ⊳ (λ b. refl) ⊳ refl ⊳
+    tt ⊳ refl ⊳ (λ w. refl) ⊳ refl ⊳ refl ⊳ refl ⊳ (λ b. refl) ⊳ refl ⊳ more
 
 fits_4 : (rest : List Row) → AllFit 80 rest → AllFit 64 (row_4 ++ rest)
 unfolding encoding_of
-fits_4 rest more = (
-  refl,
-  (
-    refl,
-    (
-      refl,
-      (
-        refl,
-        (
-          refl,
-          (
-            refl,
-            (
-              refl,
-              (
-                refl,
-                (
-                  refl,
-                  (
-                    refl,
-                    (
-                      refl,
-                      (
-                        refl,
-                        (
-                          refl,
-                          (refl, (refl, (refl, more))),
-                        ),
-                      ),
-                    ),
-                  ),
-                ),
-              ),
-            ),
-          ),
-        ),
-      ),
-    ),
-  ),
-)
+fits_4 rest more =
+    refl ⊳ refl ⊳ refl ⊳ refl ⊳ refl ⊳ refl ⊳ refl ⊳ refl ⊳
+    refl ⊳ refl ⊳ refl ⊳ refl ⊳ refl ⊳ refl ⊳ refl ⊳ refl ⊳ more
 
 fits_5 : (rest : List Row) → AllFit 96 rest → AllFit 80 (row_5 ++ rest)
 unfolding encoding_of
-fits_5 rest more = (
-  refl,
-  (
-    refl,
-    (
-      refl,
-      (
-        refl,
-        (
-          refl,
-          (
-            refl,
-            (
-              refl,
-              (
-                refl,
-                (
-                  refl,
-                  (
-                    refl,
-                    (
-                      refl,
-                      (
-                        refl,
-                        (
-                          refl,
-                          (refl, (refl, (refl, more))),
-                        ),
-                      ),
-                    ),
-                  ),
-                ),
-              ),
-            ),
-          ),
-        ),
-      ),
-    ),
-  ),
-)
+fits_5 rest more =
+    refl ⊳ refl ⊳ refl ⊳ refl ⊳ refl ⊳ refl ⊳ refl ⊳ refl ⊳
+    refl ⊳ refl ⊳ refl ⊳ refl ⊳ refl ⊳ refl ⊳ refl ⊳ refl ⊳ more
 
 fits_6 : (rest : List Row) → AllFit 112 rest → AllFit 96 (row_6 ++ rest)
 unfolding encoding_of
-fits_6 rest more = (
-  refl,
-  (
-    refl,
-    (
-      refl,
-      (
-        refl,
-        (
-          refl,
-          (
-            refl,
-            (
-              refl,
-              (
-                refl,
-                (
-                  refl,
-                  (
-                    refl,
-                    (
-                      refl,
-                      (
-                        refl,
-                        (
-                          refl,
-                          (refl, (refl, (refl, more))),
-                        ),
-                      ),
-                    ),
-                  ),
-                ),
-              ),
-            ),
-          ),
-        ),
-      ),
-    ),
-  ),
-)
+fits_6 rest more =
+    refl ⊳ refl ⊳ refl ⊳ refl ⊳ refl ⊳ refl ⊳ refl ⊳ refl ⊳
+    refl ⊳ refl ⊳ refl ⊳ refl ⊳ refl ⊳ refl ⊳ refl ⊳ refl ⊳ more
 
 fits_7 : (rest : List Row) → AllFit 128 rest → AllFit 112 (row_7 ++ rest)
 unfolding encoding_of
-fits_7 rest more = (
-  refl,
-  (
-    refl,
-    (
-      refl,
-      (
-        refl,
-        (
-          refl,
-          (
-            refl,
-            (
-              refl,
-              (
-                refl,
-                (
-                  refl,
-                  (
-                    refl,
-                    (
-                      refl,
-                      (
-                        refl,
-                        (
-                          refl,
-                          (refl, (refl, (refl, more))),
-                        ),
-                      ),
-                    ),
-                  ),
-                ),
-              ),
-            ),
-          ),
-        ),
-      ),
-    ),
-  ),
-)
+fits_7 rest more =
+    refl ⊳ refl ⊳ refl ⊳ refl ⊳ refl ⊳ refl ⊳ refl ⊳ refl ⊳
+    refl ⊳ refl ⊳ refl ⊳ refl ⊳ refl ⊳ refl ⊳ refl ⊳ refl ⊳ more
 
 fits_8 : (rest : List Row) → AllFit 144 rest → AllFit 128 (row_8 ++ rest)
 unfolding encoding_of
-fits_8 rest more = (
-  refl,
-  (
-    refl,
-    (
-      refl,
-      (
-        refl,
-        (
-          refl,
-          (
-            refl,
-            (
-              refl,
-              (
-                refl,
-                (
-                  refl,
-                  (
-                    refl,
-                    (
-                      refl,
-                      (
-                        refl,
-                        (
-                          refl,
-                          (refl, (refl, (refl, more))),
-                        ),
-                      ),
-                    ),
-                  ),
-                ),
-              ),
-            ),
-          ),
-        ),
-      ),
-    ),
-  ),
-)
+fits_8 rest more =
+    refl ⊳ refl ⊳ refl ⊳ refl ⊳ refl ⊳ refl ⊳ refl ⊳ refl ⊳
+    refl ⊳ refl ⊳ refl ⊳ refl ⊳ refl ⊳ refl ⊳ refl ⊳ refl ⊳ more
 
 fits_9 : (rest : List Row) → AllFit 160 rest → AllFit 144 (row_9 ++ rest)
 unfolding encoding_of
-fits_9 rest more = (
-  refl,
-  (
-    refl,
-    (
-      refl,
-      (
-        refl,
-        (
-          refl,
-          (
-            refl,
-            (
-              refl,
-              (
-                refl,
-                (
-                  refl,
-                  (
-                    refl,
-                    (
-                      refl,
-                      (
-                        refl,
-                        (
-                          refl,
-                          (refl, (refl, (refl, more))),
-                        ),
-                      ),
-                    ),
-                  ),
-                ),
-              ),
-            ),
-          ),
-        ),
-      ),
-    ),
-  ),
-)
+fits_9 rest more =
+    refl ⊳ refl ⊳ refl ⊳ refl ⊳ refl ⊳ refl ⊳ refl ⊳ refl ⊳
+    refl ⊳ refl ⊳ refl ⊳ refl ⊳ refl ⊳ refl ⊳ refl ⊳ refl ⊳ more
 
 fits_a : (rest : List Row) → AllFit 176 rest → AllFit 160 (row_a ++ rest)
 unfolding encoding_of
-fits_a rest more = (
-  refl,
-  (
-    refl,
-    (
-      refl,
-      (
-        refl,
-        (
-          refl,
-          (
-            refl,
-            (
-              refl,
-              (
-                refl,
-                (
-                  refl,
-                  (
-                    refl,
-                    (
-                      refl,
-                      (
-                        refl,
-                        (
-                          refl,
-                          (refl, (refl, (refl, more))),
-                        ),
-                      ),
-                    ),
-                  ),
-                ),
-              ),
-            ),
-          ),
-        ),
-      ),
-    ),
-  ),
-)
+fits_a rest more =
+    refl ⊳ refl ⊳ refl ⊳ refl ⊳ refl ⊳ refl ⊳ refl ⊳ refl ⊳
+    refl ⊳ refl ⊳ refl ⊳ refl ⊳ refl ⊳ refl ⊳ refl ⊳ refl ⊳ more
 
 fits_b : (rest : List Row) → AllFit 192 rest → AllFit 176 (row_b ++ rest)
 unfolding encoding_of
-fits_b rest more = (
-  refl,
-  (
-    refl,
-    (
-      refl,
-      (
-        refl,
-        (
-          refl,
-          (
-            refl,
-            (
-              refl,
-              (
-                refl,
-                (
-                  refl,
-                  (
-                    refl,
-                    (
-                      refl,
-                      (
-                        refl,
-                        (
-                          refl,
-                          (refl, (refl, (refl, more))),
-                        ),
-                      ),
-                    ),
-                  ),
-                ),
-              ),
-            ),
-          ),
-        ),
-      ),
-    ),
-  ),
-)
+fits_b rest more =
+    refl ⊳ refl ⊳ refl ⊳ refl ⊳ refl ⊳ refl ⊳ refl ⊳ refl ⊳
+    refl ⊳ refl ⊳ refl ⊳ refl ⊳ refl ⊳ refl ⊳ refl ⊳ refl ⊳ more
 
 fits_c : (rest : List Row) → AllFit 208 rest → AllFit 192 (row_c ++ rest)
 unfolding encoding_of
-fits_c rest more = (
-  refl,
-  (
-    refl,
-    (
-      λ w. refl,
-      (
-        λ w. refl,
-        (
-          λ w. refl,
-          (
-            refl,
-            (
-              λ b. refl,
-              (
-                refl,
-                (
-                  refl,
-                  (
-                    refl,
-                    (λ w. refl, (tt, (λ w. refl, (λ w. refl, (λ b. refl, (refl, more)))))),
-                  ),
-                ),
-              ),
-            ),
-          ),
-        ),
-      ),
-    ),
-  ),
-)
+fits_c rest more =
+    refl ⊳ refl ⊳ (λ w. refl) ⊳ (λ w. refl) ⊳ (λ w. refl) ⊳ refl ⊳ (λ b. refl) ⊳ refl ⊳
+    refl ⊳ refl ⊳ (λ w. refl) ⊳ tt ⊳ (λ w. refl) ⊳ (λ w. refl) ⊳ (λ b. refl) ⊳ refl ⊳ more
 
 fits_d : (rest : List Row) → AllFit 224 rest → AllFit 208 (row_d ++ rest)
 unfolding encoding_of
-fits_d rest more = (
-  refl,
-  (
-    refl,
-    (
-      λ w. refl,
-      (
-        λ b. refl,
-        (
-          λ w. refl,
-          (
-            refl,
-            (
-              λ b. refl,
-              (
-                refl,
-                (
-                  refl,
-                  (
-                    tt,
-                    (λ w. refl, (λ b. refl, (λ w. refl, (tt, (λ b. refl, (refl, more)))))),
-                  ),
-                ),
-              ),
-            ),
-          ),
-        ),
-      ),
-    ),
-  ),
-)
+fits_d rest more =
+    refl ⊳ refl ⊳ (λ w. refl) ⊳ (λ b. refl) ⊳ (λ w. refl) ⊳ refl ⊳ (λ b. refl) ⊳ refl ⊳
+    refl ⊳ tt ⊳ (λ w. refl) ⊳ (λ b. refl) ⊳ (λ w. refl) ⊳ tt ⊳ (λ b. refl) ⊳ refl ⊳ more
 
 fits_e : (rest : List Row) → AllFit 240 rest → AllFit 224 (row_e ++ rest)
 unfolding encoding_of
-fits_e rest more = (
-  refl,
-  (
-    refl,
-    (
-      λ w. refl,
-      (
-        refl,
-        (
-          λ w. refl,
-          (
-            refl,
-            (
-              λ b. refl,
-              (
-                refl,
-                (
-                  refl,
-                  (
-                    refl,
-                    (λ w. refl, (refl, (λ w. refl, (tt, (λ b. refl, (refl, more)))))),
-                  ),
-                ),
-              ),
-            ),
-          ),
-        ),
-      ),
-    ),
-  ),
-)
+fits_e rest more =
+    refl ⊳ refl ⊳ (λ w. refl) ⊳ refl ⊳ (λ w. refl) ⊳ refl ⊳ (λ b. refl) ⊳ refl ⊳
+    refl ⊳ refl ⊳ (λ w. refl) ⊳ refl ⊳ (λ w. refl) ⊳ tt ⊳ (λ b. refl) ⊳ refl ⊳ more
 
 fits_f : (rest : List Row) → AllFit 256 rest → AllFit 240 (row_f ++ rest)
 unfolding encoding_of
-fits_f rest more = (
-  refl,
-  (
-    refl,
-    (
-      λ w. refl,
-      (
-        refl,
-        (
-          λ w. refl,
-          (
-            refl,
-            (
-              λ b. refl,
-              (
-                refl,
-                (
-                  refl,
-                  (
-                    refl,
-                    (λ w. refl, (refl, (λ w. refl, (tt, (λ b. refl, (refl, more)))))),
-                  ),
-                ),
-              ),
-            ),
-          ),
-        ),
-      ),
-    ),
-  ),
-)
+fits_f rest more =
+    refl ⊳ refl ⊳ (λ w. refl) ⊳ refl ⊳ (λ w. refl) ⊳ refl ⊳ (λ b. refl) ⊳ refl ⊳
+    refl ⊳ refl ⊳ (λ w. refl) ⊳ refl ⊳ (λ w. refl) ⊳ tt ⊳ (λ b. refl) ⊳ refl ⊳ more
 
 abbrev from_f : List Row
 from_f = row_f ++ []
@@ -699,13 +175,17 @@ all_fit =
 fit_at : (rs : List Row) (k i : ℕ) → AllFit k rs → Fits (k + i) (slice_index_or rs i Undefined)
 fit_at [] k i h = tt
 fit_at (r ∷ rs) k zero h = subst (λ n. Fits n r) (omega arith) h.0
-fit_at (r ∷ rs) k (suc i) h = subst (λ n. Fits n (slice_index_or rs i Undefined)) (omega arith) (fit_at rs (suc k) i h.1)
+fit_at (r ∷ rs) k (suc i) h =
+    subst (λ n. Fits n (slice_index_or rs i Undefined)) (omega arith) (fit_at rs (suc k) i h.1)
 
 fits : (opcode : ℕ) → Fits opcode (row opcode)
 unfolding row
-fits opcode = subst (λ n. Fits n (slice_index_or rows opcode Undefined)) (zero-add opcode) (fit_at rows 0 opcode all_fit)
+fits opcode =
+    subst (λ n. Fits n (slice_index_or rows opcode Undefined)) (zero-add opcode)
+    (fit_at rows 0 opcode all_fit)
 
-by_row : (r : Row) (i : Instr) (opcode : ℕ) (operand : List ℕ) → Fits opcode r → get_or operand 0 0 < 256 → IsOperand r i operand → opcode ∷ operand ≡ encoding_of i
+by_row : (r : Row) (i : Instr) (opcode : ℕ) (operand : List ℕ) → Fits opcode r → get_or operand 0 0 < 256
+    → IsOperand r i operand → opcode ∷ operand ≡ encoding_of i
 by_row Undefined i opcode operand fit small h = absurd h
 by_row (Alone j) i opcode [] fit small h = sym (ap encoding_of h ∙ fit)
 by_row (Alone j) i opcode (b ∷ bytes) fit small h = absurd h
@@ -717,10 +197,12 @@ by_row (Word f) i opcode (low ∷ []) fit small h = absurd h
 by_row (Word f) i opcode (low ∷ (high ∷ [])) fit small h =
     let first : low ≡ (low + 256 * high) % 256 = omega (arith, small) in
     let second : high ≡ (low + 256 * high) / 256 = omega (arith, small) in
-    ap (λ n. opcode ∷ (n ∷ (high ∷ []))) first ∙ ap (λ n. opcode ∷ ((low + 256 * high) % 256 ∷ (n ∷ []))) second
+    ap (λ n. opcode ∷ (n ∷ (high ∷ []))) first
+    ∙ ap (λ n. opcode ∷ ((low + 256 * high) % 256 ∷ (n ∷ []))) second
     ∙ sym (ap encoding_of h ∙ fit (low + 256 * high))
 by_row (Word f) i opcode (low ∷ (high ∷ (b ∷ bytes))) fit small h = absurd h
 
-pub encoding_is : (i : Instr) (bytes : List ℕ) → Encodes i bytes → get_or bytes 1 0 < 256 → bytes ≡ encoding_of i
+pub encoding_is : (i : Instr) (bytes : List ℕ) → Encodes i bytes → get_or bytes 1 0 < 256
+    → bytes ≡ encoding_of i
 encoding_is i [] h small = absurd h
 encoding_is i (opcode ∷ operand) h small = by_row (row opcode) i opcode operand (fits opcode) small h

@@ -1,5 +1,7 @@
 -- Symbols and sets of names in memory are those that contracts see, by bytes.
-use Rattle.std.proofs.Common.{◌≡◌, ℕ, suc, arith, slice_get, None, ◌+◌, ◌<◌, ◌≤◌, length, drop, get_or, drop-cons, add-one, List, [], ◌∷◌, ◌++◌, Bool, true, false, ◌||◌, Some, cond, map, refl, sym, ap, ◌∙◌}
+use Rattle.std.proofs.Common.{◌≡◌, ℕ, suc, arith, slice_get, None, ◌+◌, ◌<◌, ◌≤◌, length, drop, get_or}
+use Rattle.std.proofs.Common.{drop-cons, add-one, List, [], ◌∷◌, ◌++◌, Bool, true, false, ◌||◌, Some, cond}
+use Rattle.std.proofs.Common.{map, refl, sym, ap, ◌∙◌}
 use Rattle.std.specs.Prelude.{String, fold}
 use Rattle.std.specs.Global.{Global}
 use Rattle.std.specs.Str.{bytes_eq}
@@ -24,22 +26,31 @@ use Rattle.asm_build.specs.Meaning.{with_symbol}
 abbrev Entry : Type 0
 Entry = String Global × Symbol
 
-pub find_entry : (q : List ℕ) (es : List Entry) → lookup (λ k. bytes_eq q (string_bytes k)) es ≡ symbol_at (entries_in es) q
+pub find_entry : (q : List ℕ) (es : List Entry)
+    → lookup (λ k. bytes_eq q (string_bytes k)) es ≡ symbol_at (entries_in es) q
 find_entry q [] = refl
 find_entry q (e ∷ es) = ap (cond (bytes_eq q (string_bytes e.0)) (Some e.1)) (find_entry q es)
 
-set_step : (b : Bool) (k : String Global) (d c : Symbol) (es fs : List Entry) (gs : List (List ℕ × Symbol)) → entries_in fs ≡ gs
-    → entries_in (cond b ((k, d) ∷ es) ((k, c) ∷ fs)) ≡ cond b ((string_bytes k, d) ∷ entries_in es) ((string_bytes k, c) ∷ gs)
+set_step : (b : Bool) (k : String Global) (d c : Symbol) (es fs : List Entry) (gs : List (List ℕ × Symbol))
+    → entries_in fs ≡ gs
+    → entries_in (cond b ((k, d) ∷ es) ((k, c) ∷ fs))
+    ≡ cond b ((string_bytes k, d) ∷ entries_in es) ((string_bytes k, c) ∷ gs)
 set_step true k d c es fs gs h = refl
 set_step false k d c es fs gs h = ap (λ (t : List (List ℕ × Symbol)). (string_bytes k, c) ∷ t) h
 
-pub set_entry : (k : String Global) (d : Symbol) (es : List Entry) → entries_in (insert_entry string_eq es k d) ≡ with_symbol (entries_in es) (string_bytes k) d
+pub set_entry : (k : String Global) (d : Symbol) (es : List Entry)
+    → entries_in (insert_entry string_eq es k d) ≡ with_symbol (entries_in es) (string_bytes k) d
 set_entry k d [] = refl
-set_entry k d (e ∷ es) = set_step (string_eq k e.0) e.0 d e.1 es (insert_entry string_eq es k d) (with_symbol (entries_in es) (string_bytes k) d) (set_entry k d es)
+set_entry k d (e ∷ es) =
+    set_step (string_eq k e.0) e.0 d e.1 es (insert_entry string_eq es k d)
+    (with_symbol (entries_in es) (string_bytes k) d) (set_entry k d es)
 
-copy_entry : (e f : Entry) (es fs : List Entry) → string_bytes f.0 ≡ string_bytes e.0 → f.1 ≡ e.1 → entries_in fs ≡ entries_in es → entries_in (f ∷ fs) ≡ entries_in (e ∷ es)
+copy_entry : (e f : Entry) (es fs : List Entry) → string_bytes f.0 ≡ string_bytes e.0 → f.1 ≡ e.1
+    → entries_in fs ≡ entries_in es → entries_in (f ∷ fs) ≡ entries_in (e ∷ es)
 copy_entry e f es fs h k more =
-    ap (λ (b : List ℕ). (b, f.1) ∷ entries_in fs) h ∙ ap (λ (d : Symbol). (string_bytes e.0, d) ∷ entries_in fs) k ∙ ap (λ (t : List (List ℕ × Symbol)). (string_bytes e.0, e.1) ∷ t) more
+    ap (λ (b : List ℕ). (b, f.1) ∷ entries_in fs) h
+    ∙ ap (λ (d : Symbol). (string_bytes e.0, d) ∷ entries_in fs) k
+    ∙ ap (λ (t : List (List ℕ × Symbol)). (string_bytes e.0, e.1) ∷ t) more
 
 -- ---- sets
 
@@ -53,7 +64,8 @@ pub among_texts : (x : List ℕ) (ks : List Text) → list_any (λ k. bytes_eq x
 among_texts x [] = refl
 among_texts x (k ∷ ks) = ap (λ b. bytes_eq x k.now || b) (among_texts x ks)
 
-among_there : (x v : List ℕ) (names : List (List ℕ)) (b : Bool) → is_among v names ≡ true → bytes_eq x v ≡ b → is_among x names ≡ (b || is_among x names)
+among_there : (x v : List ℕ) (names : List (List ℕ)) (b : Bool) → is_among v names ≡ true → bytes_eq x v ≡ b
+    → is_among x names ≡ (b || is_among x names)
 among_there x v names true h e = ap (λ n. is_among n names) ((bytes_eq-Decides x v).0 e) ∙ h
 among_there x v names false h e = refl
 
@@ -63,17 +75,23 @@ or_swap true false = refl
 or_swap false true = refl
 or_swap false false = refl
 
-among_more : (x v : List ℕ) (names : List (List ℕ)) → is_among x (names ++ v ∷ []) ≡ (bytes_eq x v || is_among x names)
+among_more : (x v : List ℕ) (names : List (List ℕ))
+    → is_among x (names ++ v ∷ []) ≡ (bytes_eq x v || is_among x names)
 among_more x v names = list_any-append (bytes_eq x) names (v ∷ []) ∙ or_swap (is_among x names) (bytes_eq x v)
 
 insert_by : (x : List ℕ) (v : Text) (ks : List Text) (b : Bool) → is_among v.now (texts ks) ≡ b
     → is_among x (texts (cond b ks (ks ++ v ∷ []))) ≡ (bytes_eq x v.now || is_among x (texts ks))
-insert_by x v ks true h = among_there x v.now (texts ks) (bytes_eq x v.now) h refl ∙ ap (λ b. b || is_among x (texts ks)) refl
-insert_by x v ks false h = ap (is_among x) (map-append (λ (n : Text). n.now) ks (v ∷ [])) ∙ among_more x v.now (texts ks)
+insert_by x v ks true h =
+    among_there x v.now (texts ks) (bytes_eq x v.now) h refl ∙ ap (λ b. b || is_among x (texts ks)) refl
+insert_by x v ks false h =
+    ap (is_among x) (map-append (λ (n : Text). n.now) ks (v ∷ [])) ∙ among_more x v.now (texts ks)
 
-pub among_inserted : (x : List ℕ) (v : Text) (ks : List Text) → is_among x (texts (insert_key (λ (m n : Text). bytes_eq m.now n.now) ks v)) ≡ (bytes_eq x v.now || is_among x (texts ks))
+pub among_inserted : (x : List ℕ) (v : Text) (ks : List Text)
+    → is_among x (texts (insert_key (λ (m n : Text). bytes_eq m.now n.now) ks v))
+    ≡ (bytes_eq x v.now || is_among x (texts ks))
 among_inserted x v ks =
-    ap (λ b. is_among x (texts (cond b ks (ks ++ v ∷ [])))) (among_texts v.now ks) ∙ insert_by x v ks (is_among v.now (texts ks)) refl
+    ap (λ b. is_among x (texts (cond b ks (ks ++ v ∷ [])))) (among_texts v.now ks)
+    ∙ insert_by x v ks (is_among v.now (texts ks)) refl
 
 -- ---- copies
 
@@ -86,7 +104,7 @@ copied [] (f ∷ fs) h = absurd h
 copied (e ∷ es) [] h = absurd h
 copied (e ∷ es) (f ∷ fs) h = copy_entry e f es fs h.0.0 h.0.1 (copied es fs h.1)
 
--- ---- the names of an expression, one behind the other
+-- ---- the names of an expression, one after the other
 
 abbrev pub named : List (Bor Name) → List (List ℕ)
 named ns = map (λ (n : Bor Name). n.now) ns
@@ -96,21 +114,25 @@ shifted true true c = refl
 shifted true false c = refl
 shifted false b c = refl
 
-pub among_goes : (ns : List (Bor Name)) (i : ℕ) (n : Bor Name) (before after : List (List ℕ)) (b : Bool) (x : List ℕ)
+pub among_goes : (ns : List (Bor Name)) (i : ℕ) (n : Bor Name) (before after : List (List ℕ)) (b : Bool)
+    (x : List ℕ)
     → i < length ns → n ≡ get_or ns i n → is_among x after ≡ (bytes_eq x n.now || is_among x before)
     → (is_among x (named (drop i ns)) || is_among x before) ≡ b
     → (is_among x (named (drop (i + 1) ns)) || is_among x after) ≡ b
 among_goes ns i n before after b x lt e grows was =
-    let more : drop i ns ≡ n ∷ drop (i + 1) ns = drop-cons ns i n lt ∙ ap (λ m. m ∷ drop (suc i) ns) (sym e) ∙ ap (λ k. n ∷ drop k ns) (sym (add-one i)) in
+    let more : drop i ns ≡ n ∷ drop (i + 1) ns =
+    drop-cons ns i n lt ∙ ap (λ m. m ∷ drop (suc i) ns) (sym e)
+    ∙ ap (λ k. n ∷ drop k ns) (sym (add-one i)) in
     ap (λ c. is_among x (named (drop (i + 1) ns)) || c) grows
     ∙ sym (shifted (bytes_eq x n.now) (is_among x (named (drop (i + 1) ns))) (is_among x before))
     ∙ sym (ap (λ ms. is_among x (named ms) || is_among x before) more) ∙ was
 
 pub among_ends : (ns : List (Bor Name)) (i : ℕ) (before : List (List ℕ)) (b : Bool) (x : List ℕ)
     → length ns ≤ i → (is_among x (named (drop i ns)) || is_among x before) ≡ b → is_among x before ≡ b
-among_ends ns i before b x le was = ap (λ ms. is_among x (named ms) || is_among x before) (sym (drop_all i ns le)) ∙ was
+among_ends ns i before b x le was =
+    ap (λ ms. is_among x (named ms) || is_among x before) (sym (drop_all i ns le)) ∙ was
 
--- ---- definitions, one behind the other
+-- ---- definitions, one after the other
 
 abbrev pub Table : Type 0
 Table = List (List ℕ × Symbol)
@@ -125,12 +147,15 @@ drops es i e h =
     ∙ ap (λ k. e ∷ drop k es) (sym (add-one i))
 
 pub fold_goes : (es start total : Table) (i : ℕ) (e : List ℕ × Symbol) → slice_get es i ≡ Some e
-    → fold defines start (drop i es) ≡ total → fold defines (with_symbol start e.0 e.1) (drop (i + 1) es) ≡ total
+    → fold defines start (drop i es) ≡ total
+    → fold defines (with_symbol start e.0 e.1) (drop (i + 1) es) ≡ total
 fold_goes es start total i e there h = ap (fold defines start) (sym (drops es i e there)) ∙ h
 
-pub fold_ends : (es start total : Table) (i : ℕ) → length es ≤ i → fold defines start (drop i es) ≡ total → start ≡ total
+pub fold_ends : (es start total : Table) (i : ℕ) → length es ≤ i → fold defines start (drop i es) ≡ total
+    → start ≡ total
 fold_ends es start total i le h = ap (fold defines start) (sym (drop_all i es le)) ∙ h
 
 pub some_there : (es : Table) (i : ℕ) → i < length es → None ≡ slice_get es i → ⊥
 some_there [] i lt h = omega (arith, lt)
-some_there (e ∷ es) i lt h = let there : slice_get (e ∷ es) i ≡ Some (get_or (e ∷ es) i e) = slice_get-get_or (e ∷ es) i e lt in cc
+some_there (e ∷ es) i lt h =
+    let there : slice_get (e ∷ es) i ≡ Some (get_or (e ∷ es) i e) = slice_get-get_or (e ∷ es) i e lt in cc

@@ -1,13 +1,21 @@
 -- The bytes of each instruction (8080 User's Manual, chapter 4): the opcode with its register,
--- pair or condition, and behind it the byte, or the word low byte first.
+-- pair or condition, and after it the byte, or the word low byte first.
 use Rattle.std.specs.Prelude.{ℕ, ◌+◌, ◌*◌, ◌/◌, ◌%◌, List, [], ◌∷◌}
 use Rattle.i80_rows.specs.declared.instruction.Instr.{Instr}
-use Rattle.i80_rows.specs.declared.instruction.Instr.TheVariants.{Nop, Lxi, Stax, Ldax, Shld, Lhld, Sta, Lda, Inx, Dcx, Dad, Inr, Dcr, Mvi, Rotate, Daa, Cma, Stc, Cmc, Mov, MovFromM, MovToM, Hlt, Alu, AluImmediate, Jmp, JumpIf, Call, CallIf, Ret, RetIf, Rst, Push, Pop, Xthl, Xchg, Pchl, Sphl, Out, In, Di, Ei}
-use Rattle.i80_rows.specs.Codes.{reg_of, reg_code, pair_code, stack_pair_code, index_pair_code, cond_code, operation_code, rotation_code, vector_code}
+use Rattle.i80_rows.specs.declared.instruction.Instr.TheVariants.{Nop, Lxi, Stax, Ldax, Shld, Lhld, Sta, Lda}
+use Rattle.i80_rows.specs.declared.instruction.Instr.TheVariants.{Inx, Dcx, Dad, Inr, Dcr, Mvi, Rotate, Daa}
+use Rattle.i80_rows.specs.declared.instruction.Instr.TheVariants.{Cma, Stc, Cmc, Mov, MovFromM, MovToM, Hlt}
+use Rattle.i80_rows.specs.declared.instruction.Instr.TheVariants.{Alu, AluImmediate, Jmp, JumpIf, Call}
+use Rattle.i80_rows.specs.declared.instruction.Instr.TheVariants.{CallIf, Ret, RetIf, Rst, Push, Pop, Xthl}
+use Rattle.i80_rows.specs.declared.instruction.Instr.TheVariants.{Xchg, Pchl, Sphl, Out, In, Di, Ei}
+use Rattle.i80_rows.specs.Codes.{reg_of, reg_code, pair_code, stack_pair_code, index_pair_code, cond_code}
+use Rattle.i80_rows.specs.Codes.{operation_code, rotation_code, vector_code}
 
+-- an opcode and a word, low byte first
 abbrev pub with_word : ℕ → ℕ → List ℕ
 with_word opcode w = opcode ∷ (w % 256 ∷ (w / 256 ∷ []))
 
+-- the bytes of an instruction
 unfoldable pub encoding_of : Instr → List ℕ
 encoding_of Nop = 0 ∷ []
 encoding_of (Lxi p w) = with_word (16 * pair_code p + 1) w

@@ -1,5 +1,6 @@
 -- The layout round: where each statement stands, or the first fault on the way.
-use Rattle.std.specs.Prelude.{ℕ, ◌+◌, ◌%◌, List, [], ◌∷◌, length, Bool, true, false, ◌&&◌, ◌||◌, Option, Some, None, is_some, Result, Ok, Err, if◌then◌else◌, nat_lt}
+use Rattle.std.specs.Prelude.{ℕ, ◌+◌, ◌%◌, List, [], ◌∷◌, length, Bool, true, false, ◌&&◌, ◌||◌, Option, Some}
+use Rattle.std.specs.Prelude.{None, is_some, Result, Ok, Err, if◌then◌else◌, nat_lt}
 use Rattle.std.specs.Str.{bytes_eq}
 use Rattle.std.specs.List.{list_any}
 use Rattle.asm_expr.specs.Value.{value_of}
@@ -14,13 +15,16 @@ use Rattle.asm_syntax.specs.Outcome.{Fault, CellFault, ◌>>=◌, at_line}
 use Rattle.asm_build.specs.declared.symbols.SymbolKind.{SymbolKind}
 use Rattle.asm_build.specs.declared.symbols.Symbol.{Symbol}
 use Rattle.asm_build.specs.declared.laid.Laid.{Laid}
-use Rattle.asm_build.specs.Statements.{on_action, definition_of, is_set, early_in, late_in, names_in, names_in_early, length_of}
-use Rattle.asm_build.specs.Reading.{Entries, Lines, symbol_at, or_else, value_in, last_definition, place_after, parts_after, has_ended, is_selected}
+use Rattle.asm_build.specs.Statements.{on_action, definition_of, is_set, early_in, late_in, names_in}
+use Rattle.asm_build.specs.Statements.{names_in_early, length_of}
+use Rattle.asm_build.specs.Reading.{Entries, Lines, symbol_at, or_else, value_in, last_definition}
+use Rattle.asm_build.specs.Reading.{place_after, parts_after, has_ended, is_selected}
 
+-- a name is one of these
 abbrev pub is_among : List ℕ → List (List ℕ) → Bool
 is_among x names = list_any (bytes_eq x) names
 
--- what can be said of a name behind some lines
+-- what can be said of a name after some lines
 pub record Past : Type 0 where
   -- what was kept from before the cell
   pub kept : List ℕ → Option Symbol
@@ -31,12 +35,15 @@ pub record Past : Type 0 where
   -- an assembled operand of any other kind names it
   pub used : List ℕ → Bool
 
+-- an assembled ORG, DS, EQU, SET or IF names it
 abbrev pub needs : Statement × Laid → List ℕ → Bool
 needs p x = p.1.is_assembled && is_among x (names_in_early (on_action early_in None p.0))
 
+-- an assembled operand of any other kind names it
 abbrev pub uses : Statement × Laid → List ℕ → Bool
 uses p x = p.1.is_assembled && is_among x (names_in (on_action late_in [] p.0))
 
+-- what these lines say of a name
 abbrev pub past : Entries → Lines → Past
 past kept earlier = record {
   kept = symbol_at kept;
@@ -59,16 +66,19 @@ abbrev pub check_again : Label × SymbolKind → Symbol → Result (Unit {0}) Fa
 check_again d was =
     if is_set was.kind && is_set d.1 then Ok tt else Err (d.0.column, fault.Twice)
 
+-- the first definition of a name is not late
 abbrev pub check_first : Past → Option Operand → Label × SymbolKind → Result (Unit {0}) Fault
 check_first before o d =
     if is_late before d.0.name d.1 (is_among d.0.name (names_in_early o))
     then Err (d.0.column, fault.Early) else Ok tt
 
+-- a first definition, or another one
 abbrev pub check_defined : Past → Option Operand → Label × SymbolKind → Option Symbol
     → Result (Unit {0}) Fault
 check_defined before o d None = check_first before o d
 check_defined before o d (Some was) = check_again d was
 
+-- the definition of a statement, if it has one
 abbrev pub check_definition : Past → Option Operand → Option (Label × SymbolKind)
     → Result (Unit {0}) Fault
 check_definition before o None = Ok tt
@@ -76,19 +86,22 @@ check_definition before o (Some d) = check_defined before o d (before.defined d.
 
 -- ---- values that the layout needs
 
+-- a value, or why there is none, as an early operand's fault
 abbrev pub or_early : ℕ → Result ℕ ExprFault → Result ℕ Fault
 or_early column (Ok v) = Ok v
 or_early column (Err expr.Undefined) = Err (column, fault.Early)
 or_early column (Err expr.Divisor) = Err (column, fault.Divisor)
 
+-- the value of an early operand, 0 where there is none
 abbrev pub early : Past → ℕ → Option Operand → Result ℕ Fault
 early before here None = Ok 0
 early before here (Some o) =
     or_early o.column
     (value_of (λ x. value_in (or_else (before.defined x) (before.kept x))) here o.expr)
 
--- ---- places: no statement passes over a byte behind the last address
+-- ---- places: no statement passes over a byte past the last address
 
+-- an operation's bytes are within memory
 abbrev pub within : ℕ → ℕ → Option Operation → Result (Unit {0}) Fault
 within place value None = Ok tt
 within place value (Some o) =
@@ -104,20 +117,21 @@ assembled before place s = do
   fits ← within place v s.operation
   Ok (record { place = place; is_assembled = true; value = v })
 
+-- how a statement is laid out: one that isn't assembled only stands at its place
 abbrev pub laid_out : Past → ℕ → Bool → Statement → Result Laid Fault
 laid_out before place selected s =
     if selected then assembled before place s
     else Ok (record { place = place; is_assembled = false; value = 0 })
 
--- how a statement is laid out behind these lines
-abbrev pub laid_behind : Entries → Lines → Statement → Result Laid Fault
-laid_behind kept earlier s =
+-- how a statement is laid out after these lines
+abbrev pub laid_after : Entries → Lines → Statement → Result Laid Fault
+laid_after kept earlier s =
     laid_out (past kept earlier) (place_after earlier)
     (is_selected (has_ended earlier) (parts_after earlier) s) s
 
--- the lines that statements give behind these, or the first fault
+-- the lines that statements give after these, or the first fault
 unfoldable pub layout : Entries → Lines → List Statement → Result Lines CellFault
 layout kept earlier [] = Ok earlier
 layout kept earlier (s ∷ ss) = do
-  r ← at_line (length earlier + 1) (laid_behind kept earlier s)
+  r ← at_line (length earlier + 1) (laid_after kept earlier s)
   layout kept ((s, r) ∷ earlier) ss

@@ -1,5 +1,6 @@
 -- The value round: what a reading of a cell gives, or the first fault on the way.
-use Rattle.std.specs.Prelude.{◌≡◌, ℕ, ◌+◌, ◌/◌, ◌%◌, List, [], ◌∷◌, ◌++◌, length, Bool, ◌||◌, ◌==◌, Option, Some, None, Result, Ok, Err, if◌then◌else◌, nat_lt, nat_le, fold}
+use Rattle.std.specs.Prelude.{◌≡◌, ℕ, ◌+◌, ◌/◌, ◌%◌, List, [], ◌∷◌, ◌++◌, length, Bool, ◌||◌, ◌==◌, Option}
+use Rattle.std.specs.Prelude.{Some, None, Result, Ok, Err, if◌then◌else◌, nat_lt, nat_le, fold}
 use Rattle.std.specs.Str.{bytes_eq}
 use Rattle.std.specs.List.{list_any}
 use Rattle.indexmap.specs.IndexMap.{insert_entry}
@@ -35,6 +36,7 @@ use Rattle.asm_build.specs.Layout.{layout}
 
 -- ---- the bytes of an action, where names have these values and `$` is here
 
+-- a value, or why there is none, as a late operand's fault
 abbrev pub or_fault : ℕ → Result ℕ ExprFault → Result ℕ Fault
 or_fault column (Ok v) = Ok v
 or_fault column (Err expr.Undefined) = Err (column, fault.Undefined)
@@ -45,6 +47,7 @@ abbrev pub as_byte : ℕ → ℕ → Result ℕ Fault
 as_byte column v =
     if nat_lt v 256 || nat_le 65280 v then Ok (v % 256) else Err (column, fault.ByteRange)
 
+-- the vector of a restart
 abbrev pub vector : ℕ → Option Vector
 vector v =
     if v == 0 then Some V0 else
@@ -56,6 +59,7 @@ vector v =
     if v == 6 then Some V6 else
     if v == 7 then Some V7 else None
 
+-- a vector, else ByteRange
 abbrev pub as_vector : ℕ → Option Vector → Result Vector Fault
 as_vector column None = Err (column, fault.ByteRange)
 as_vector column (Some n) = Ok n
@@ -63,33 +67,55 @@ as_vector column (Some n) = Ok n
 -- the bytes of each in turn, up to the first fault
 abbrev pub all_bytes : {A : Type 0} → (A → Result (List ℕ) Fault) → List A → Result (List ℕ) Fault
 all_bytes f [] = Ok []
-all_bytes f (x ∷ xs) = f x >>= λ bs. all_bytes f xs >>= λ more. Ok (bs ++ more)
+all_bytes f (x ∷ xs) = do
+  bs ← f x
+  more ← all_bytes f xs
+  Ok (bs ++ more)
 
 module _ (names : List ℕ → Option ℕ) (here : ℕ) where
+  -- an operand's value
   abbrev pub number : Operand → Result ℕ Fault
   number o = or_fault o.column (value_of names here o.expr)
 
+  -- an operand that is a byte
   abbrev pub byte : Operand → Result ℕ Fault
-  byte o = number o >>= λ v. as_byte o.column v
+  byte o = do
+    v ← number o
+    as_byte o.column v
 
+  -- an operand that is a vector
   abbrev pub restart : Operand → Result Vector Fault
-  restart o = number o >>= λ v. as_vector o.column (vector v)
+  restart o = do
+    v ← number o
+    as_vector o.column (vector v)
 
+  -- an instruction's bytes
   abbrev pub instruction_bytes : Instruction → Result (List ℕ) Fault
   instruction_bytes (instruction.Alone i) = Ok (encoding_of i)
-  instruction_bytes (instruction.Byte op o) =
-      byte o >>= λ b. Ok (encoding_of (byte_instruction op b))
-  instruction_bytes (instruction.Word op o) =
-      number o >>= λ w. Ok (encoding_of (word_instruction op w))
-  instruction_bytes (instruction.Restart o) = restart o >>= λ n. Ok (encoding_of (Rst n))
+  instruction_bytes (instruction.Byte op o) = do
+    b ← byte o
+    Ok (encoding_of (byte_instruction op b))
+  instruction_bytes (instruction.Word op o) = do
+    w ← number o
+    Ok (encoding_of (word_instruction op w))
+  instruction_bytes (instruction.Restart o) = do
+    n ← restart o
+    Ok (encoding_of (Rst n))
 
+  -- an operand of DB
   abbrev pub datum_bytes : Data → Result (List ℕ) Fault
   datum_bytes (datum.Text t) = Ok t
-  datum_bytes (datum.Byte o) = byte o >>= λ b. Ok (b ∷ [])
+  datum_bytes (datum.Byte o) = do
+    b ← byte o
+    Ok (b ∷ [])
 
+  -- an operand of DW, low byte first
   abbrev pub word_bytes : Operand → Result (List ℕ) Fault
-  word_bytes o = number o >>= λ w. Ok (w % 256 ∷ (w / 256 ∷ []))
+  word_bytes o = do
+    w ← number o
+    Ok (w % 256 ∷ (w / 256 ∷ []))
 
+  -- an action's bytes
   abbrev pub bytes_of : Action → Result (List ℕ) Fault
   bytes_of (action.Instruction i) = instruction_bytes i
   bytes_of (action.Bytes ds) = all_bytes datum_bytes ds
@@ -98,7 +124,9 @@ module _ (names : List ℕ → Option ℕ) (here : ℕ) where
 
   -- END's operand is where to start
   abbrev pub start_of : Option ℕ → Action → Result (Option ℕ) Fault
-  start_of before (action.End (Some o)) = number o >>= λ v. Ok (Some v)
+  start_of before (action.End (Some o)) = do
+    v ← number o
+    Ok (Some v)
   start_of before _ = Ok before
 
 -- ---- what lines give together
@@ -118,11 +146,13 @@ at_address address (b ∷ bs) = (address, b) ∷ at_address ((address + 1) % 655
 abbrev pub overlaps : List (ℕ × ℕ) → List (ℕ × ℕ) → Bool
 overlaps image more = list_any (λ p. has image p.0) more
 
+-- the row of a line that gives bytes
 abbrev pub rows_of : ℕ → ℕ → List ℕ → List Row
 rows_of line address [] = []
 rows_of line address (b ∷ bs) =
     record { address = address; length = length (b ∷ bs); line = line } ∷ []
 
+-- what there is with these bytes, and this start
 abbrev pub with_bytes : Output → ℕ → ℕ → List ℕ → Option ℕ → Output
 with_bytes out line address bytes start = record {
   image = out.image ++ at_address address bytes;
@@ -130,6 +160,7 @@ with_bytes out line address bytes start = record {
   start = start;
 }
 
+-- the same, where no byte overlaps
 abbrev pub put : ℕ → Output → ℕ → ℕ → List ℕ → Option ℕ → Result Output Fault
 put column out line address bytes start =
     if overlaps out.image (at_address address bytes)
@@ -144,6 +175,7 @@ with_operation names out line here (Some o) = do
   start ← start_of names here out.start o.action
   put o.column out line here bytes start
 
+-- what there is with a line
 abbrev pub with_line : (List ℕ → Option ℕ) → Output → ℕ → Statement × Laid → Result Output Fault
 with_line names out line p =
     if p.1.is_assembled
@@ -162,6 +194,7 @@ output_of kept all (p ∷ ps) = do
 abbrev pub with_symbol : Entries → List ℕ → Symbol → Entries
 with_symbol es x d = insert_entry bytes_eq es x d
 
+-- names with the definition of a statement
 abbrev pub with_definition : Option (Label × SymbolKind) → Laid → Entries → Entries
 with_definition None r es = es
 with_definition (Some d) r es = with_symbol es d.0.name (given_as d.1 r)
@@ -179,6 +212,7 @@ symbols_after kept all = fold (λ es e. with_symbol es e.0 e.1) kept (definition
 
 -- ---- both rounds
 
+-- what a cell gives, and the symbols to keep
 pub record Meaning : Type 0 where
   pub output : Output
   pub symbols : Entries
@@ -191,8 +225,11 @@ meaning_of kept all = do
 
 -- what a cell gives: the layout round, and where it finds no fault the value round
 abbrev pub built_of : Entries → List Statement → Result Meaning CellFault
-built_of kept ss = layout kept [] ss >>= λ all. meaning_of kept all
+built_of kept ss = do
+  all ← layout kept [] ss
+  meaning_of kept all
 
+-- what `build` gives
 abbrev pub meaning_in : Built → Meaning
 meaning_in b = record {
   output = record { image = b.image.items; rows = b.rows.items; start = b.start };

@@ -1,5 +1,6 @@
 -- What a consistent reading of a cell is: a condition, whichever way it is found.
-use Rattle.std.specs.Prelude.{◌≡◌, ℕ, ◌+◌, ◌%◌, List, [], ◌∷◌, Bool, true, false, not, ◌&&◌, ◌==◌, Option, Some, None, Ok, if◌then◌else◌}
+use Rattle.std.specs.Prelude.{◌≡◌, ℕ, ◌+◌, ◌%◌, List, [], ◌∷◌, Bool, true, false, not, ◌&&◌, ◌==◌, Option}
+use Rattle.std.specs.Prelude.{Some, None, Ok, if◌then◌else◌}
 use Rattle.std.specs.Str.{bytes_eq}
 use Rattle.std.specs.List.{list_all, list_any}
 use Rattle.std.specs.Map.{lookup}
@@ -19,6 +20,7 @@ use Rattle.asm_build.specs.Statements.{on_action, is_end, definition_of, is_set,
 abbrev pub Entries : Type 0
 Entries = List (List ℕ × Symbol)
 
+-- what a name stands for
 abbrev pub symbol_at : Entries → List ℕ → Option Symbol
 symbol_at es x = lookup (bytes_eq x) es
 
@@ -26,10 +28,12 @@ symbol_at es x = lookup (bytes_eq x) es
 abbrev pub Lines : Type 0
 Lines = List (Statement × Laid)
 
+-- the first of two that is there
 abbrev pub or_else : {A : Type 0} → Option A → Option A → Option A
 or_else (Some v) o = Some v
 or_else None o = o
 
+-- a symbol's value
 abbrev pub value_in : Option Symbol → Option ℕ
 value_in None = None
 value_in (Some d) = Some d.value
@@ -42,6 +46,7 @@ given_as kind.Label r = record { value = r.place % 65536; kind = kind.Label }
 given_as kind.Equ r = record { value = r.value; kind = kind.Equ }
 given_as kind.Set r = record { value = r.value; kind = kind.Set }
 
+-- what a definition gives this name
 abbrev pub given_by : Option (Label × SymbolKind) → Laid → List ℕ → Option Symbol
 given_by None r x = None
 given_by (Some d) r x = if bytes_eq x d.0.name then Some (given_as d.1 r) else None
@@ -55,6 +60,7 @@ abbrev pub last_definition : Lines → List ℕ → Option Symbol
 last_definition [] x = None
 last_definition (p ∷ ps) x = or_else (defined_on p x) (last_definition ps x)
 
+-- a symbol, where a SET defined it
 abbrev pub only_set : Option Symbol → Option Symbol
 only_set None = None
 only_set (Some d) = if is_set d.kind then Some d else None
@@ -74,43 +80,50 @@ abbrev pub late_symbol : Option Symbol → Option Symbol → Option Symbol → O
 late_symbol None set was = was
 late_symbol (Some d) set was = if is_set d.kind then or_else set was else Some d
 
+-- the value of a name for an operand after these lines of the cell
 abbrev pub late_value : Entries → Lines → Lines → List ℕ → Option ℕ
 late_value kept all earlier x =
     value_in (late_symbol (last_definition all x) (last_set earlier x) (symbol_at kept x))
 
 -- ---- places
 
-abbrev pub place_behind : Laid → Action → ℕ
-place_behind r (action.Origin o) = r.value
-place_behind r a = r.place + length_of a r.value
+-- the place after an action
+abbrev pub place_past : Laid → Action → ℕ
+place_past r (action.Origin o) = r.value
+place_past r a = r.place + length_of a r.value
 
+-- the place after a statement
 abbrev pub next_place : Statement × Laid → ℕ
-next_place p = if p.1.is_assembled then on_action (place_behind p.1) p.1.place p.0 else p.1.place
+next_place p = if p.1.is_assembled then on_action (place_past p.1) p.1.place p.0 else p.1.place
 
--- where a statement stands behind these
+-- where a statement stands after these
 abbrev pub place_after : Lines → ℕ
 place_after [] = 0
 place_after (p ∷ ps) = next_place p
 
 -- ---- parts: for each open IF whether its selected part stands here, the innermost first
 
-abbrev pub turned : List Bool → List Bool
-turned [] = []
-turned (b ∷ bs) = not b ∷ bs
+-- an ELSE switches the innermost IF to its other part
+abbrev pub switched : List Bool → List Bool
+switched [] = []
+switched (b ∷ bs) = not b ∷ bs
 
+-- the parts round the innermost IF
 abbrev pub outer : List Bool → List Bool
 outer [] = []
 outer (b ∷ bs) = bs
 
-abbrev pub parts_behind : List Bool → ℕ → Action → List Bool
-parts_behind parts value (action.If o) = not (value == 0) ∷ parts
-parts_behind parts value action.Else = turned parts
-parts_behind parts value action.EndIf = outer parts
-parts_behind parts value _ = parts
+-- the parts after an action
+abbrev pub parts_past : List Bool → ℕ → Action → List Bool
+parts_past parts value (action.If o) = not (value == 0) ∷ parts
+parts_past parts value action.Else = switched parts
+parts_past parts value action.EndIf = outer parts
+parts_past parts value _ = parts
 
+-- the parts after these lines
 abbrev pub parts_after : Lines → List Bool
 parts_after [] = []
-parts_after (p ∷ ps) = on_action (parts_behind (parts_after ps) p.1.value) (parts_after ps) p.0
+parts_after (p ∷ ps) = on_action (parts_past (parts_after ps) p.1.value) (parts_after ps) p.0
 
 -- an ELSE or ENDIF stands outside of its own IF
 abbrev pub parts_around : List Bool → Action → List Bool
@@ -118,30 +131,34 @@ parts_around parts action.Else = outer parts
 parts_around parts action.EndIf = outer parts
 parts_around parts _ = parts
 
+-- one of these lines has END
 abbrev pub has_ended : Lines → Bool
 has_ended ps = list_any (λ p. on_action is_end false p.0) ps
 
+-- a statement is assembled: no END came, and each IF selects the part that it stands in
 abbrev pub is_selected : Bool → List Bool → Statement → Bool
 is_selected ended parts s = not ended && list_all (λ b. b) (on_action (parts_around parts) parts s)
 
 -- ---- readings
 
+-- the value of an early operand, 0 where there is none
 abbrev pub EarlyIs : Entries → Lines → Laid → Option Operand → Type 0
 EarlyIs kept earlier r None = r.value ≡ 0
 EarlyIs kept earlier r (Some o) =
     value_of (early_value kept earlier) (r.place % 65536) o.expr ≡ Ok r.value
 
+-- the same of an assembled statement; any other has the value 0
 abbrev pub ValueIs : Entries → Lines → Laid → Option Operand → Bool → Type 0
 ValueIs kept earlier r o true = EarlyIs kept earlier r o
 ValueIs kept earlier r o false = r.value ≡ 0
 
--- a statement is laid out so behind these lines
+-- a statement is laid out so after these lines
 pub record Fits (kept : Entries) (earlier : Lines) (s : Statement) (r : Laid) : Type 0 where
   pub place : r.place ≡ place_after earlier
   pub assembled : r.is_assembled ≡ is_selected (has_ended earlier) (parts_after earlier) s
   pub value : ValueIs kept earlier r (on_action early_in None s) r.is_assembled
 
--- the statements, each laid out as it fits behind those before it, give these lines
+-- the statements, each laid out as it fits after those before it, give these lines
 abbrev pub Reads : Entries → Lines → List Statement → Lines → Type 0
 Reads kept earlier [] lines = lines ≡ earlier
 Reads kept earlier (s ∷ ss) lines =

@@ -11,16 +11,18 @@ use Rattle.asm_build.specs.declared.laid.Laid.{Laid}
 use Rattle.asm_build.specs.declared.layout.Layout.{Layout}
 use Rattle.asm_build.specs.declared.values.Values.{Values}
 use Rattle.asm_build.specs.Statements.{on_action, is_end, definition_of}
-use Rattle.asm_build.specs.Reading.{Entries, Lines, symbol_at, value_in, late_symbol, parts_behind, next_place, place_after, parts_after, has_ended}
+use Rattle.asm_build.specs.Reading.{Entries, Lines, symbol_at, value_in, late_symbol, parts_past, next_place}
+use Rattle.asm_build.specs.Reading.{place_after, parts_after, has_ended}
 use Rattle.asm_build.specs.Layout.{Past, is_among, needs, uses}
 use Rattle.asm_build.specs.Meaning.{Output, with_definition, definitions}
 
--- statements, each beside how it is laid out, behind these lines
+-- statements, each beside how it is laid out, after these lines
 abbrev pub lines_of : Lines → List Statement → List Laid → Lines
 lines_of earlier (s ∷ ss) (r ∷ rs) = lines_of ((s, r) ∷ earlier) ss rs
 lines_of earlier [] rs = earlier
 lines_of earlier (s ∷ ss) [] = earlier
 
+-- what symbols and sets of names say of a name
 abbrev pub past_in : Entries → Entries → List (List ℕ) → List (List ℕ) → Past
 past_in kept own needed used = record {
   kept = symbol_at kept;
@@ -29,9 +31,11 @@ past_in kept own needed used = record {
   used = λ x. is_among x used;
 }
 
+-- what a layout says of a name
 abbrev pub past_of : Entries → Layout → Past
 past_of kept l = past_in kept l.own l.needed l.used
 
+-- the cell's own symbols with the definition of a line
 abbrev pub with_line_definition : Entries → Statement → Laid → Entries
 with_line_definition es s r =
     if r.is_assembled then with_definition (definition_of s) r es else es
@@ -41,17 +45,17 @@ pub record Advances (old new : Layout) (s : Statement) (r : Laid) : Type 0 where
   pub own : new.own ≡ with_line_definition old.own s r
   pub needed : (x : List ℕ) → is_among x new.needed ≡ (needs (s, r) x || is_among x old.needed)
   pub used : (x : List ℕ) → is_among x new.used ≡ (uses (s, r) x || is_among x old.used)
-  pub parts : new.parts ≡ on_action (parts_behind old.parts r.value) old.parts s
+  pub parts : new.parts ≡ on_action (parts_past old.parts r.value) old.parts s
   pub place : new.place ≡ next_place (s, r)
   pub ended : new.has_ended ≡ (on_action is_end false s || old.has_ended)
   pub rows : new.rows.items ≡ old.rows.items ++ r ∷ []
 
--- a fault of a line
+-- a line's fault in its cell
 abbrev pub placed : ℕ → LineFault → AsmFault
-placed n line.NoMemory = asm.NoMemory
+placed n line.OutOfMemory = asm.OutOfMemory
 placed n (line.At column kind) = asm.At n column kind
 
--- a layout is what is known behind these lines
+-- a layout is what is known after these lines
 pub record Stands (earlier : Lines) (l : Layout) : Type 0 where
   pub own : l.own ≡ definitions earlier
   pub needed : (x : List ℕ) → is_among x l.needed ≡ list_any (λ p. needs p x) earlier
@@ -60,13 +64,17 @@ pub record Stands (earlier : Lines) (l : Layout) : Type 0 where
   pub place : l.place ≡ place_after earlier
   pub ended : l.has_ended ≡ has_ended earlier
 
--- bytes behind those that are there
-abbrev pub behind : List ℕ → Result (List ℕ) Fault → Result (List ℕ) Fault
-behind front r = r >>= λ bs. Ok (front ++ bs)
+-- bytes after those that are there
+abbrev pub appended : List ℕ → Result (List ℕ) Fault → Result (List ℕ) Fault
+appended front r = do
+  bs ← r
+  Ok (front ++ bs)
 
+-- what the cell's symbols, its SETs so far and the kept symbols give a late operand
 abbrev pub late_in : Entries → Entries → Entries → List ℕ → Option ℕ
 late_in own sets kept x =
     value_in (late_symbol (symbol_at own x) (symbol_at sets x) (symbol_at kept x))
 
+-- what the value round has put together
 abbrev pub output_in : Values → Output
 output_in v = record { image = v.image; rows = v.rows.items; start = v.start }

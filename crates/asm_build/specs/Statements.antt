@@ -1,6 +1,7 @@
 -- What a statement says by itself (8080/8085 Assembly Language Programming Manual, chapters 2
 -- and 4).
-use Rattle.std.specs.Prelude.{ℕ, ◌*◌, List, [], ◌∷◌, ◌++◌, length, sum, map, Bool, true, false, Option, Some, None}
+use Rattle.std.specs.Prelude.{ℕ, ◌*◌, List, [], ◌∷◌, ◌++◌, length, sum, map, Bool, true, false, Option, Some}
+use Rattle.std.specs.Prelude.{None}
 use Rattle.std.specs.Option.{option_map_or}
 use Rattle.asm_expr.specs.Tree.{names_of}
 use Rattle.asm_syntax.specs.declared.statement.Operand.{Operand}
@@ -19,25 +20,29 @@ use Rattle.asm_build.specs.declared.symbols.SymbolKind.TheVariants as kind
 abbrev pub on_action : {A : Type 0} → (Action → A) → A → Statement → A
 on_action f none s = option_map_or (λ o. f o.action) s.operation none
 
+-- END
 abbrev pub is_end : Action → Bool
 is_end (action.End o) = true
 is_end _ = false
 
 -- ---- names
 
+-- a label's name
 abbrev pub as_label : Option Label → Option (Label × SymbolKind)
 as_label None = None
 as_label (Some l) = Some (l, kind.Label)
 
--- the name that a statement defines, and as what: that of EQU or SET, else its label
+-- what an action defines: EQU and SET their name, any other what its label defines
 abbrev pub defined_by_action : Option Label → Action → Option (Label × SymbolKind)
 defined_by_action label (action.Equate l o) = Some (l, kind.Equ)
 defined_by_action label (action.Set l o) = Some (l, kind.Set)
 defined_by_action label _ = as_label label
 
+-- the name that a statement defines, and as what
 abbrev pub definition_of : Statement → Option (Label × SymbolKind)
 definition_of s = on_action (defined_by_action s.label) (as_label s.label) s
 
+-- SET
 abbrev pub is_set : SymbolKind → Bool
 is_set kind.Set = true
 is_set kind.Label = false
@@ -54,12 +59,14 @@ early_in (action.Set l o) = Some o
 early_in (action.If o) = Some o
 early_in _ = None
 
+-- the operand of an instruction, if it has one
 abbrev pub operands_in_instruction : Instruction → List Operand
 operands_in_instruction (instruction.Alone i) = []
 operands_in_instruction (instruction.Byte op o) = o ∷ []
 operands_in_instruction (instruction.Word op o) = o ∷ []
 operands_in_instruction (instruction.Restart o) = o ∷ []
 
+-- the operands of DB that are no strings
 abbrev pub operands_in_data : List Data → List Operand
 operands_in_data [] = []
 operands_in_data (datum.Text t ∷ ds) = operands_in_data ds
@@ -73,22 +80,26 @@ late_in (action.Words os) = os
 late_in (action.End (Some o)) = o ∷ []
 late_in _ = []
 
+-- the names in operands
 abbrev pub names_in : List Operand → List (List ℕ)
 names_in [] = []
 names_in (o ∷ os) = names_of o.expr ++ names_in os
 
+-- the names in an early operand
 abbrev pub names_in_early : Option Operand → List (List ℕ)
 names_in_early None = []
 names_in_early (Some o) = names_of o.expr
 
 -- ---- lengths
 
+-- how many bytes an instruction has
 abbrev pub length_of_instruction : Instruction → ℕ
 length_of_instruction (instruction.Alone i) = 1
 length_of_instruction (instruction.Byte op o) = 2
 length_of_instruction (instruction.Word op o) = 3
 length_of_instruction (instruction.Restart o) = 1
 
+-- how many bytes an operand of DB gives
 abbrev pub length_of_datum : Data → ℕ
 length_of_datum (datum.Text t) = length t
 length_of_datum (datum.Byte o) = 1

@@ -6,7 +6,7 @@ ghost use Rattle.asm_build.specs.Encodings.{encoding_of};
 ghost use Rattle.asm_build.specs.Meaning.{as_byte, vector, number, byte, restart};
 ghost use Rattle.asm_build.specs.Meaning.{instruction_bytes, datum_bytes, word_bytes, all_bytes};
 ghost use Rattle.asm_build.specs.Meaning.{bytes_of, start_of};
-ghost use Rattle.asm_build.specs.State.{behind};
+ghost use Rattle.asm_build.specs.State.{appended};
 
 use crate::layout::at;
 use asm_expr::env::Env;
@@ -104,7 +104,7 @@ fn instruction_bytes<E: Env>(
     Ok(encoding(alloc, instr)?)
 }
 
-// Puts the bytes of an operand of DB behind those that are there.
+// Puts the bytes of an operand of DB after those that are there.
 fn put_datum<E: Env>(
     names: &E,
     here: u16,
@@ -112,7 +112,7 @@ fn put_datum<E: Env>(
     bytes: &mut Vec<u8>,
 ) -> Result<(), LineFault>
     ensures { LineGives (λ _. bytes.new.items) result
-        (behind bytes.old.items (datum_bytes (E.values names.now) here datum.now)) }
+        (appended bytes.old.items (datum_bytes (E.values names.now) here datum.now)) }
 {
     match datum {
         Data::Text(text) => {
@@ -143,7 +143,7 @@ fn data_bytes<E: Env>(
     Ok(bytes)
 }
 
-// Puts the bytes of an operand of DW behind those that are there.
+// Puts the bytes of an operand of DW after those that are there.
 fn put_word<E: Env>(
     names: &E,
     here: u16,
@@ -151,7 +151,7 @@ fn put_word<E: Env>(
     bytes: &mut Vec<u8>,
 ) -> Result<(), LineFault>
     ensures { LineGives (λ _. bytes.new.items) result
-        (behind bytes.old.items (word_bytes (E.values names.now) here operand.now)) }
+        (appended bytes.old.items (word_bytes (E.values names.now) here operand.now)) }
 {
     let word = number(names, here, operand)?;
     bytes.push((word % 256) as u8)?;
@@ -193,7 +193,7 @@ pub(crate) fn bytes_of<E: Env>(
     }
 }
 
-/// The start behind an action, where it was so before.
+/// The start after an action, where it was so before.
 pub(crate) fn start_of<E: Env>(
     names: &E,
     here: u16,

@@ -11,7 +11,7 @@ use asm_syntax::fault::AsmFault;
 use asm_syntax::statement::{MOST_LINES, Statement, Statements};
 use std::alloc::Global;
 
-// The layout round, and behind it the value round.
+// The layout round, and after it the value round.
 fn both_rounds(alloc: Global, statements: &[Statement], kept: &Symbols) -> Result<Built, AsmFault>
     requires { length statements.now ≤ MOST_LINES }
     ensures { Gives meaning_in result (built_of kept.now statements.now) }
@@ -34,7 +34,7 @@ fn both_rounds(alloc: Global, statements: &[Statement], kept: &Symbols) -> Resul
 /// statement: `Twice` and `Early` at a name that is defined, `Early` and `Divisor` at an operand
 /// of ORG, DS, EQU, SET or IF, `PastEnd` at the operation. Only a cell that can be laid out has
 /// faults of values: `Undefined`, `Divisor` and `ByteRange` at an operand, `Overlap` at the
-/// operation. Want of memory may be answered in place of a fault that is found later.
+/// operation. Out of memory may be reported in place of a fault that is found later.
 ///
 /// 8080/8085 Assembly Language Programming Manual, chapters 2 and 4.
 pub fn build(alloc: Global, statements: &Statements, kept: &Symbols) -> Result<Built, AsmFault>

@@ -4,6 +4,7 @@ ghost use Rattle.std.specs.Prelude.{IfOk, OnOk};
 ghost use Rattle.asm_build.specs.Images.{has};
 ghost use Rattle.asm_build.specs.Meaning.{at_address, overlaps};
 
+use i80_rows::memory::MEMORY_SIZE;
 use std::alloc::{AllocError, Global};
 use std::marker::Model;
 
@@ -27,7 +28,7 @@ impl Model for Image {
         × ((a : ℕ) → a < 65536 → slice_index_or i.is_taken.items a false ≡ has i.bytes.items a) };
 }
 
-// As many times false.
+// So many times false.
 fn all_false(alloc: Global, count: usize) -> Result<Vec<bool>, AllocError>
     ensures count { IfOk result (λ v. length v.items ≡ count) }
     ensures none { IfOk result (λ v. (a : ℕ) → slice_index_or v.items a false ≡ false) }
@@ -39,7 +40,7 @@ impl Image {
     pub(crate) fn new(alloc: Global) -> Result<Image, AllocError>
         ensures { IfOk result (λ i. i ≡ []) }
     {
-        let is_taken = all_false(alloc, 65_536)?;
+        let is_taken = all_false(alloc, MEMORY_SIZE)?;
         Ok(Image {
             bytes: Vec::new(alloc),
             is_taken,

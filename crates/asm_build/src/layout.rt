@@ -7,7 +7,7 @@ ghost use Rattle.asm_syntax.specs.Outcome.{Gives, LineGives, at_line};
 ghost use Rattle.asm_build.specs.Statements.{on_action, is_end, definition_of, early_in, late_in};
 ghost use Rattle.asm_build.specs.Statements.{names_in, names_in_early, operands_in_data};
 ghost use Rattle.asm_build.specs.Statements.{operands_in_instruction, length_of};
-ghost use Rattle.asm_build.specs.Reading.{given_as, next_place, parts_around, parts_behind};
+ghost use Rattle.asm_build.specs.Reading.{given_as, next_place, parts_around, parts_past};
 ghost use Rattle.asm_build.specs.Reading.{is_selected, symbol_at};
 ghost use Rattle.asm_build.specs.Meaning.{definitions};
 ghost use Rattle.asm_build.specs.Layout.{is_among, needs, uses, check_first, check_defined};
@@ -27,9 +27,10 @@ use asm_syntax::fault::{AsmFault, FaultKind, LineFault};
 use asm_syntax::statement::{
     Action, Data, Instruction, Label, MOST_LINES, Operand, Operation, Statement,
 };
+use i80_rows::memory::MEMORY_SIZE;
 use std::alloc::{AllocError, Global};
 
-/// What is known behind some lines.
+/// What is known after some lines.
 #[derive(Drop)]
 pub(crate) struct Layout<'a> {
     /// The cell's own symbols.
@@ -50,7 +51,7 @@ pub(crate) fn on_line(line: usize, fault: LineFault) -> AsmFault
     ensures { result ≡ placed line fault }
 {
     match fault {
-        LineFault::NoMemory => AsmFault::NoMemory,
+        LineFault::OutOfMemory => AsmFault::OutOfMemory,
         LineFault::At { column, kind } => AsmFault::At { line, column, kind },
     }
 }
@@ -90,7 +91,7 @@ fn early(names: EarlyNames<'_>, here: u16, operand: Option<&Operand>) -> Result<
     }
 }
 
-// That no byte lies behind the last address.
+// That no byte lies past the last address.
 fn within(place: u32, value: u16, operation: &Option<Operation>) -> Result<(), LineFault>
     requires { place ≤ 65536 }
     ensures exact { LineGives (λ _. tt) result (within place value operation.now) }
@@ -100,7 +101,7 @@ fn within(place: u32, value: u16, operation: &Option<Operation>) -> Result<(), L
     match operation {
         None => Ok(()),
         Some(operation) => {
-            let room = 65_536 - place as usize;
+            let room = MEMORY_SIZE - place as usize;
             if length_of(&operation.action, value) > room {
                 return Err(at(operation.column, FaultKind::PastEnd));
             }
@@ -244,10 +245,10 @@ fn note_names<'a>(
     }
 }
 
-// Opens, turns or closes an IF.
-fn turn_parts(parts: &mut Parts, statement: &Statement, value: u16) -> Result<(), AllocError>
+// Opens, switches or closes an IF.
+fn update_parts(parts: &mut Parts, statement: &Statement, value: u16) -> Result<(), AllocError>
     ensures { OnOk result
-        (parts.new ≡ on_action (parts_behind parts.old value) parts.old statement.now) }
+        (parts.new ≡ on_action (parts_past parts.old value) parts.old statement.now) }
 {
     let Some(operation) = &statement.operation else {
         return Ok(());
@@ -255,7 +256,7 @@ fn turn_parts(parts: &mut Parts, statement: &Statement, value: u16) -> Result<()
     match &operation.action {
         Action::If(_) => parts.open(value != 0),
         Action::Else => {
-            parts.turn();
+            parts.switch();
             Ok(())
         }
         Action::EndIf => {
@@ -278,7 +279,7 @@ fn is_end(statement: &Statement) -> bool
     }
 }
 
-// The place behind a statement.
+// The place after a statement.
 fn next_place(statement: &Statement, row: Laid) -> u32
     requires { next_place (statement.now, row) ≤ 65536 }
     ensures { result ≡ next_place (statement.now, row) }
@@ -443,7 +444,7 @@ impl<'a> Layout<'a> {
     {
         define(alloc, &mut self.own, statement, row)?;
         note_names(alloc, &mut self.needed, &mut self.used, statement, row)?;
-        turn_parts(&mut self.parts, statement, row.value)?;
+        update_parts(&mut self.parts, statement, row.value)?;
         self.rows.push(row)?;
         self.has_ended = is_end(statement) || self.has_ended;
         self.place = next_place(statement, row);
@@ -475,7 +476,7 @@ impl<'a> Layout<'a> {
     }
 }
 
-/// Lays the statements of a cell out, or tells the first fault on the way.
+/// Lays the statements of a cell out, or reports the first fault on the way.
 pub(crate) fn lay_out<'a>(
     alloc: Global,
     kept: &Symbols,

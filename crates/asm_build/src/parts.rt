@@ -1,7 +1,7 @@
 //! The open IFs around a statement.
 ghost use Rattle.std.specs.Prelude.{◌≡◌, [], ◌∷◌, OnOk};
 ghost use Rattle.std.specs.List.{list_all};
-ghost use Rattle.asm_build.specs.Reading.{turned, outer};
+ghost use Rattle.asm_build.specs.Reading.{switched, outer};
 
 use std::alloc::{AllocError, Global};
 use std::marker::Model;
@@ -37,9 +37,9 @@ impl Parts {
         Ok(())
     }
 
-    // An ELSE.
-    pub(crate) fn turn(&mut self)
-        ensures { self.new ≡ turned self.old }
+    // An ELSE switches the innermost IF to its other part.
+    pub(crate) fn switch(&mut self)
+        ensures { self.new ≡ switched self.old }
     {
         let open = self.selected.len();
         if open > 0 {

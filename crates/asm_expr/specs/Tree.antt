@@ -6,10 +6,11 @@ use Rattle.asm_expr.specs.declared.expression.Binary.{Binary}
 use Rattle.asm_expr.specs.declared.expression.Atom.{Atom}
 use Rattle.asm_expr.specs.declared.expression.Atom.TheVariants as atom
 use Rattle.asm_expr.specs.declared.expression.TreeFault.{TreeFault}
-use Rattle.asm_expr.specs.declared.expression.TreeFault.TheVariants.{NoMemory, Nesting}
+use Rattle.asm_expr.specs.declared.expression.TreeFault.TheVariants.{OutOfMemory, Nesting}
 use Rattle.asm_expr.specs.declared.expression.Node.{Node}
 use Rattle.asm_expr.specs.declared.expression.Node.TheVariants as node
 
+-- an expression: an atom, or an operator or a pair of parentheses with what it stands round
 pub data Tree : Type 0 where
   Number : (n : ℕ) → Tree
   Here : Tree
@@ -18,6 +19,7 @@ pub data Tree : Type 0 where
   Infix : (operator : Binary) (left right : Tree) → Tree
   Parens : (inner : Tree) → Tree
 
+-- the tree of an atom
 abbrev pub atom_of : Atom → Tree
 atom_of (atom.Number n) = Number n
 atom_of atom.Here = Here
@@ -30,6 +32,7 @@ tree_of (node.Prefix' op p a) = Prefix op (tree_of a)
 tree_of (node.Infix' op p a q b) = Infix op (tree_of a) (tree_of b)
 tree_of (node.Parens' p a) = Parens (tree_of a)
 
+-- an atom is 1 deep, anything else 1 more than the deepest of its parts
 abbrev pub depth_of : Tree → ℕ
 depth_of (Number n) = 1
 depth_of Here = 1
@@ -47,7 +50,7 @@ names_of (Prefix op a) = names_of a
 names_of (Infix op a b) = names_of a ++ names_of b
 names_of (Parens a) = names_of a
 
--- a tree so deep is refused for its depth alone, and else only for want of memory
+-- a tree of this depth is refused: Nesting where it is above 64, else out of memory
 abbrev pub Refuses : TreeFault → ℕ → Type 0
-Refuses NoMemory depth = depth ≤ 64
+Refuses OutOfMemory depth = depth ≤ 64
 Refuses Nesting depth = 64 < depth

@@ -1,6 +1,8 @@
 -- What an expression is worth (8080/8085 Assembly Language Programming Manual, chapter 2,
 -- "Assembly-time expression evaluation"): arithmetic without sign, modulo 65,536.
-use Rattle.std.specs.Prelude.{ℕ, ◌+◌, ◌-◌, ◌*◌, ◌/◌, ◌%◌, ◌^◌, List, Bool, not, Option, Some, None, Result, Ok, Err, if◌then◌else◌, nat_lt, nat_le, ◌==◌, is_some, unwrap_or, bit_and, bit_or, bit_xor}
+use Rattle.std.specs.Prelude.{ℕ, ◌+◌, ◌-◌, ◌*◌, ◌/◌, ◌%◌, ◌^◌, List, Bool, not, Option, Some, None, Result}
+use Rattle.std.specs.Prelude.{Ok, Err, if◌then◌else◌, nat_lt, nat_le, ◌==◌, is_some, unwrap_or, bit_and}
+use Rattle.std.specs.Prelude.{bit_or, bit_xor}
 use Rattle.std.specs.List.{list_all}
 use Rattle.asm_expr.specs.declared.expression.Unary.{Unary}
 use Rattle.asm_expr.specs.declared.expression.Unary.TheVariants as unary
@@ -14,6 +16,7 @@ use Rattle.asm_expr.specs.declared.evaluation.ExprFault.TheVariants.{Undefined, 
 abbrev pub truth : Bool → ℕ
 truth b = if b then 65535 else 0
 
+-- what an operator before an operand gives
 abbrev pub unary_of : Unary → ℕ → ℕ
 unary_of unary.Plus x = x
 unary_of unary.Minus x = (65536 - x) % 65536
@@ -21,7 +24,7 @@ unary_of unary.Not x = 65535 - x
 unary_of unary.High x = x / 256
 unary_of unary.Low x = x % 256
 
--- none where the divisor is 0
+-- what an operator between two operands gives: none where it divides by 0
 abbrev pub binary_of : Binary → ℕ → ℕ → Option ℕ
 binary_of binary.Multiply x y = Some (x * y % 65536)
 binary_of binary.Divide x y = if y == 0 then None else Some (x / y)
@@ -40,10 +43,12 @@ binary_of binary.And x y = Some (bit_and x y)
 binary_of binary.Or x y = Some (bit_or x y)
 binary_of binary.Xor x y = Some (bit_xor x y)
 
+-- what two numbers give together, where both are there
 abbrev pub on_both : (ℕ → ℕ → Option ℕ) → Option ℕ → Option ℕ → Option ℕ
 on_both f (Some x) (Some y) = f x y
 on_both f _ _ = None
 
+-- what a number gives, where it is there
 abbrev pub on_one : (ℕ → ℕ) → Option ℕ → Option ℕ
 on_one f (Some x) = Some (f x)
 on_one f None = None
@@ -58,6 +63,7 @@ number_of names here (Infix op a b) =
     on_both (binary_of op) (number_of names here a) (number_of names here b)
 number_of names here (Parens a) = number_of names here a
 
+-- a number, else Divisor
 abbrev pub or_divisor : Option ℕ → Result ℕ ExprFault
 or_divisor (Some x) = Ok x
 or_divisor None = Err Divisor

@@ -1,6 +1,7 @@
 //! Expression trees (8080/8085 Assembly Language Programming Manual, chapter 2, "Operand field").
 ghost use Rattle.std.specs.Prelude.{◌≡◌, ◌≤◌, ◌<◌, ◌+◌, ◌++◌, ℕ, List, max, map, IfOk, OnOk, MatchResult};
-ghost use Rattle.asm_expr.specs.Tree.{Tree, Prefix, Infix, Parens, tree_of, depth_of, names_of, atom_of, Refuses};
+ghost use Rattle.asm_expr.specs.Tree.{Tree, Prefix, Infix, Parens};
+ghost use Rattle.asm_expr.specs.Tree.{tree_of, depth_of, names_of, atom_of, Refuses};
 
 use crate::name::Name;
 use std::alloc::{AllocError, AllocFailed, Global};
@@ -62,20 +63,20 @@ pub(crate) enum Node {
 #[derive(Clone, Copy, Debug, PartialEq, Eq, Error)]
 pub enum TreeFault {
     /// Memory ran out.
-    #[error("NoMemory")]
-    NoMemory,
+    #[error("OutOfMemory")]
+    OutOfMemory,
     /// The tree would be deeper than 64.
     #[error("Nesting")]
     Nesting,
 }
 
 impl<T: Drop> From<AllocFailed<T>> for TreeFault {
-    ghost use Rattle.asm_expr.specs.declared.expression.TreeFault.TheVariants.{NoMemory};
+    ghost use Rattle.asm_expr.specs.declared.expression.TreeFault.TheVariants.{OutOfMemory};
 
-    ghost from_gives = { λ _ fault. fault ≡ NoMemory };
+    ghost from_gives = { λ _ fault. fault ≡ OutOfMemory };
 
     fn from(_: AllocFailed<T>) -> TreeFault {
-        TreeFault::NoMemory
+        TreeFault::OutOfMemory
     }
 }
 
@@ -183,7 +184,7 @@ impl Expr {
     }
 }
 
-// Puts the names of a tree behind those that are there.
+// Adds the names of a tree after those that are there.
 fn add_names<'a>(node: &'a Node, names: &mut Vec<&'a Name>) -> Result<(), AllocError>
     ensures { OnOk result (map (λ n. n.now) names.new.items
         ≡ map (λ n. n.now) names.old.items ++ names_of (tree_of node.now)) }

@@ -1,7 +1,7 @@
 pub mod Numerals
 pub mod Quotes
 pub mod Readings
-pub mod Runs
+pub mod Spans
 pub mod Scan
 pub mod Spelled
 pub mod Strings

@@ -1,26 +1,30 @@
 -- What is spelled so is read so.
-use Rattle.std.proofs.Common.{◌≡◌, ℕ, suc, ◌+◌, ◌-◌, List, [], ◌∷◌, ◌++◌, Bool, true, false, length, Option, Some, Result, Ok, Err, refl, sym, ap, ◌∙◌, arith, eqb}
+use Rattle.std.proofs.Common.{◌≡◌, ℕ, suc, ◌+◌, ◌-◌, List, [], ◌∷◌, ◌++◌, Bool, true, false, length, Option}
+use Rattle.std.proofs.Common.{Some, Result, Ok, Err, refl, sym, ap, ◌∙◌, arith, eqb}
 use Rattle.std.specs.Prelude.{not, ◌||◌}
 use Rattle.std.specs.List.{take_while, list_all}
 use Rattle.std.proofs.lemmas.Bool.{and_parts, eqb-false, not-true}
 use Rattle.asm_syntax.specs.Lexemes.{Lexeme, Name, Keyword, Overlong, Number, Text, Sign, Piece}
 use Rattle.asm_syntax.specs.Outcome.{Fault, ◌>>=◌}
-use Rattle.asm_lex.specs.Characters.{is_blank, is_digit, is_letter, is_alphanumeric, is_word_part, is_printed}
+use Rattle.std.specs.Char.{is_ascii_digit, is_ascii_uppercase, is_ascii_lowercase, is_ascii_alphanumeric}
+use Rattle.asm_lex.specs.Characters.{is_blank, is_word_part, is_printed}
 use Rattle.asm_lex.specs.Numbers.{number_of}
 use Rattle.asm_lex.specs.Texts.{closing}
 use Rattle.asm_lex.specs.Tokens.{number_read, value_read, word_read, text_read, token_at, tokens_from}
 use Rattle.asm_lex.specs.Spelling.{IsWord, IsDigits, doubled, IsString, is_sign, IsToken, SpellsUpTo, IsTail}
-use Rattle.asm_lex.proofs.Runs.{run_is, drop_front, differs}
+use Rattle.asm_lex.proofs.Spans.{span_is, drop_front, differs}
 use Rattle.asm_lex.proofs.Scan.{with_front, skips, rest_at}
 use Rattle.asm_lex.proofs.Strings.{string_is_read}
 
 -- ---- the token at the front, by its first character
 
-number_first : (b : ℕ) (xs : List ℕ) → is_digit b ≡ true → token_at (b ∷ xs) ≡ number_read (take_while is_alphanumeric (b ∷ xs))
+number_first : (b : ℕ) (xs : List ℕ) → is_ascii_digit b ≡ true
+    → token_at (b ∷ xs) ≡ number_read (take_while is_ascii_alphanumeric (b ∷ xs))
 unfolding token_at
 number_first b xs digit = rw digit refl
 
-word_first : (b : ℕ) (xs : List ℕ) → is_digit b ≡ false → is_word_part b ≡ true → token_at (b ∷ xs) ≡ word_read (take_while is_word_part (b ∷ xs))
+word_first : (b : ℕ) (xs : List ℕ) → is_ascii_digit b ≡ false → is_word_part b ≡ true
+    → token_at (b ∷ xs) ≡ word_read (take_while is_word_part (b ∷ xs))
 unfolding token_at
 word_first b xs digit part = rw (part, digit) refl
 
@@ -36,15 +40,16 @@ or_false false b h = (refl, h)
 pub record Alone (b : ℕ) : Type 0 where
   pub printed : is_printed b ≡ true
   pub word : is_word_part b ≡ false
-  pub digit : is_digit b ≡ false
+  pub digit : is_ascii_digit b ≡ false
   pub quote : eqb b 39 ≡ false
   pub blank : is_blank b ≡ false
   pub comment : eqb b 59 ≡ false
 
-pub not_digit : (b : ℕ) → is_word_part b ≡ false → is_digit b ≡ false
+pub not_digit : (b : ℕ) → is_word_part b ≡ false → is_ascii_digit b ≡ false
 not_digit b word =
-    let alpha = or_false (is_alphanumeric b) (eqb b 63 || eqb b 64) word in
-    let digit = or_false (is_digit b) (is_letter b) alpha.0 in
+    let alpha = or_false (is_ascii_alphanumeric b) (eqb b 63 || eqb b 64) word in
+    let upper = or_false (is_ascii_digit b || is_ascii_uppercase b) (is_ascii_lowercase b) alpha.0 in
+    let digit = or_false (is_ascii_digit b) (is_ascii_uppercase b) upper.0 in
     digit.0
 
 alone : (b : ℕ) → is_sign b ≡ true → Alone b
@@ -55,11 +60,19 @@ alone b h =
     let o = or_false (eqb b 32) (eqb b 39 || eqb b 59) w.1 in
     let q = or_false (eqb b 39) (eqb b 59) o.1 in
     let tab : eqb b 9 ≡ false = differs is_printed 9 b refl h1.0 in
-    record { printed = h1.0; word = w.0; digit = not_digit b w.0; quote = q.0; blank = rw (o.0, tab) refl; comment = q.1 }
+    record {
+      printed = h1.0;
+      word = w.0;
+      digit = not_digit b w.0;
+      quote = q.0;
+      blank = rw (o.0, tab) refl;
+      comment = q.1;
+    }
 
 sign_first : (b : ℕ) (xs : List ℕ) → Alone b → token_at (b ∷ xs) ≡ Ok (Sign b, 1)
 unfolding token_at
-sign_first b xs h = let w = h.word in let d = h.digit in let q = h.quote in let p = h.printed in rw (w, d, q, p) refl
+sign_first b xs h =
+    let w = h.word in let d = h.digit in let q = h.quote in let p = h.printed in rw (w, d, q, p) refl
 
 -- ---- a token
 
@@ -78,8 +91,8 @@ not_blank p b s t passes = let e = differs p 32 b s passes in let f = differs p 
 good_word : (l : Lexeme) (text rest : List ℕ) → IsWord l text rest → Good l text rest
 good_word l [] rest h = absurd h.begins
 good_word l (b ∷ bs) rest h =
-    let part = and_parts (is_word_part b) (list_all is_word_part bs) h.run.all in
-    let digit : is_digit b ≡ false = not-true (is_digit b) h.begins in
+    let part = and_parts (is_word_part b) (list_all is_word_part bs) h.span.all in
+    let digit : is_ascii_digit b ≡ false = not-true (is_ascii_digit b) h.begins in
     record {
       first = b;
       others = bs;
@@ -87,25 +100,27 @@ good_word l (b ∷ bs) rest h =
       blank = not_blank is_word_part b refl refl part.0;
       comment = differs is_word_part 59 b refl part.0;
       reads = word_first b (bs ++ rest) digit part.0
-          ∙ ap word_read (run_is is_word_part (b ∷ bs) rest h.run.all h.run.ends)
+          ∙ ap word_read (span_is is_word_part (b ∷ bs) rest h.span.all h.span.ends)
           ∙ ap (λ (k : Lexeme). Ok (k, length (b ∷ bs))) h.says;
     }
 
-pub digits_read : (text rest : List ℕ) (o : Option ℕ) → IsDigits text rest → number_of text ≡ o → token_at (text ++ rest) ≡ value_read (length text) o
+pub digits_read : (text rest : List ℕ) (o : Option ℕ) → IsDigits text rest → number_of text ≡ o
+    → token_at (text ++ rest) ≡ value_read (length text) o
 digits_read [] rest o h e = absurd h.begins
 digits_read (b ∷ bs) rest o h e =
     number_first b (bs ++ rest) h.begins
-    ∙ ap number_read (run_is is_alphanumeric (b ∷ bs) rest h.run.all h.run.ends)
+    ∙ ap number_read (span_is is_ascii_alphanumeric (b ∷ bs) rest h.span.all h.span.ends)
     ∙ ap (value_read (length (b ∷ bs))) e
 
-good_number : (n : ℕ) (text rest : List ℕ) → IsDigits text rest → number_of text ≡ Some n → Good (Number n) text rest
+good_number : (n : ℕ) (text rest : List ℕ) → IsDigits text rest → number_of text ≡ Some n
+    → Good (Number n) text rest
 good_number n [] rest h e = absurd h.begins
 good_number n (b ∷ bs) rest h e = record {
   first = b;
   others = bs;
   is = refl;
-  blank = not_blank is_digit b refl refl h.begins;
-  comment = differs is_digit 59 b refl h.begins;
+  blank = not_blank is_ascii_digit b refl refl h.begins;
+  comment = differs is_ascii_digit 59 b refl h.begins;
   reads = digits_read (b ∷ bs) rest (Some n) h e;
 }
 
@@ -118,7 +133,9 @@ good_string cs text rest h =
       is = h.quoted;
       blank = refl;
       comment = refl;
-      reads = ap token_at inner ∙ text_first ((doubled cs ++ 39 ∷ []) ++ rest) ∙ string_is_read ((doubled cs ++ 39 ∷ []) ++ rest) cs text rest (sym inner) h;
+      reads =
+          ap token_at inner ∙ text_first ((doubled cs ++ 39 ∷ []) ++ rest)
+          ∙ string_is_read ((doubled cs ++ 39 ∷ []) ++ rest) cs text rest (sym inner) h;
     }
 
 good_sign : (s : ℕ) (text rest : List ℕ) → text ≡ s ∷ [] → is_sign s ≡ true → Good (Sign s) text rest
@@ -141,22 +158,29 @@ good (Number n) text rest h = good_number n text rest h.0 h.1
 good (Text cs) text rest h = good_string cs text rest h
 good (Sign s) text rest h = good_sign s text rest h.0 h.1
 
--- a token is read, and what is behind it
-token_goes : (l : Lexeme) (c b : ℕ) (bs rest : List ℕ) → is_blank b ≡ false → eqb b 59 ≡ false → token_at (b ∷ (bs ++ rest)) ≡ Ok (l, suc (length bs))
-    → tokens_from 0 c (b ∷ (bs ++ rest)) ≡ (tokens_from 0 (c + suc (length bs)) rest >>= λ ps. Ok ((c, l) ∷ ps))
+-- a token is read, and what is after it
+token_goes : (l : Lexeme) (c b : ℕ) (bs rest : List ℕ) → is_blank b ≡ false → eqb b 59 ≡ false
+    → token_at (b ∷ (bs ++ rest)) ≡ Ok (l, suc (length bs))
+    → tokens_from 0 c (b ∷ (bs ++ rest))
+    ≡ (tokens_from 0 (c + suc (length bs)) rest >>= λ ps. Ok ((c, l) ∷ ps))
 token_goes l c b bs rest blank comment read =
     let n_is : suc (length bs) - 1 ≡ length bs = omega arith in
     let c_is : c + 1 + length bs ≡ c + suc (length bs) = omega arith in
-    rest_at c b (bs ++ rest) blank (eqb-false b 59 comment) ∙ rw (read, n_is, skips (length bs) (c + 1) (bs ++ rest), drop_front bs rest, c_is) refl
+    rest_at c b (bs ++ rest) blank (eqb-false b 59 comment)
+    ∙ rw (read, n_is, skips (length bs) (c + 1) (bs ++ rest), drop_front bs rest, c_is) refl
 
-token_reads : (l : Lexeme) (c : ℕ) (text rest : List ℕ) → Good l text rest → tokens_from 0 c (text ++ rest) ≡ (tokens_from 0 (c + length text) rest >>= λ ps. Ok ((c, l) ∷ ps))
+token_reads : (l : Lexeme) (c : ℕ) (text rest : List ℕ) → Good l text rest
+    → tokens_from 0 c (text ++ rest) ≡ (tokens_from 0 (c + length text) rest >>= λ ps. Ok ((c, l) ∷ ps))
 token_reads l c text rest g =
-    let read : token_at (g.first ∷ (g.others ++ rest)) ≡ Ok (l, suc (length g.others)) = ap (λ (t : List ℕ). token_at (t ++ rest)) (sym g.is) ∙ g.reads ∙ ap (λ (t : List ℕ). Ok (l, length t)) g.is in
+    let read : token_at (g.first ∷ (g.others ++ rest)) ≡ Ok (l, suc (length g.others)) =
+    ap (λ (t : List ℕ). token_at (t ++ rest)) (sym g.is) ∙ g.reads
+    ∙ ap (λ (t : List ℕ). Ok (l, length t)) g.is in
     rw g.is (token_goes l c g.first g.others rest g.blank g.comment read)
 
 -- ---- a line
 
-skip_blanks : (blanks rest : List ℕ) (c : ℕ) → list_all is_blank blanks ≡ true → tokens_from 0 c (blanks ++ rest) ≡ tokens_from 0 (c + length blanks) rest
+skip_blanks : (blanks rest : List ℕ) (c : ℕ) → list_all is_blank blanks ≡ true
+    → tokens_from 0 c (blanks ++ rest) ≡ tokens_from 0 (c + length blanks) rest
 unfolding tokens_from
 skip_blanks [] rest c all = ap (λ k. tokens_from 0 k rest) (omega arith)
 skip_blanks (b ∷ blanks) rest c all =
@@ -164,7 +188,8 @@ skip_blanks (b ∷ blanks) rest c all =
     let e : c + 1 + length blanks ≡ c + suc (length blanks) = omega arith in
     rw h.0 (skip_blanks blanks rest (c + 1) h.1 ∙ ap (λ k. tokens_from 0 k rest) e)
 
-put_first : (p : Piece) (ps : List Piece) (read : Result (List Piece) Fault) → (with_front ps read >>= λ qs. Ok (p ∷ qs)) ≡ with_front (p ∷ ps) read
+put_first : (p : Piece) (ps : List Piece) (read : Result (List Piece) Fault)
+    → (with_front ps read >>= λ qs. Ok (p ∷ qs)) ≡ with_front (p ∷ ps) read
 put_first p ps (Ok qs) = refl
 put_first p ps (Err f) = refl
 
@@ -172,13 +197,16 @@ nothing_first : (read : Result (List Piece) Fault) → read ≡ with_front [] re
 nothing_first (Ok qs) = refl
 nothing_first (Err f) = refl
 
--- the tokens that a line spells are read, and then what is behind them
-pub spelled_reads : (ps : List Piece) (c : ℕ) (line : List ℕ) (last : ℕ) (rest : List ℕ) → SpellsUpTo c ps line last rest
+-- the tokens that a line spells are read, and then what is after them
+pub spelled_reads : (ps : List Piece) (c : ℕ) (line : List ℕ) (last : ℕ) (rest : List ℕ)
+    → SpellsUpTo c ps line last rest
     → tokens_from 0 c line ≡ with_front ps (tokens_from 0 last rest)
 spelled_reads [] c line last rest (blanks, is, all, last_is) =
-    ap (tokens_from 0 c) is ∙ skip_blanks blanks rest c all ∙ ap (λ k. tokens_from 0 k rest) (sym last_is) ∙ nothing_first (tokens_from 0 last rest)
+    ap (tokens_from 0 c) is ∙ skip_blanks blanks rest c all ∙ ap (λ k. tokens_from 0 k rest) (sym last_is)
+    ∙ nothing_first (tokens_from 0 last rest)
 spelled_reads (p ∷ ps) c line last rest (blanks, text, more, is, all, column, token, later) =
-    ap (tokens_from 0 c) is ∙ skip_blanks blanks (text ++ more) c all ∙ ap (λ k. tokens_from 0 k (text ++ more)) (sym column)
+    ap (tokens_from 0 c) is ∙ skip_blanks blanks (text ++ more) c all
+    ∙ ap (λ k. tokens_from 0 k (text ++ more)) (sym column)
     ∙ token_reads p.1 p.0 text more (good p.1 text more token)
     ∙ ap (λ read. read >>= λ qs. Ok (p ∷ qs)) (spelled_reads ps (p.0 + length text) more last rest later)
     ∙ put_first p ps (tokens_from 0 last rest)

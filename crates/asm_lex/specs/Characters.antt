@@ -1,24 +1,16 @@
 -- The characters of a line (8080/8085 Assembly Language Programming Manual, chapter 2).
 use Rattle.std.specs.Prelude.{ℕ, Bool, nat_le, ◌==◌, ◌&&◌, ◌||◌}
+use Rattle.std.specs.Char.{is_ascii_alphanumeric}
+use Rattle.asm_syntax.specs.Ascii.{tab, space, question_mark, at_sign, tilde}
 
 -- a space or a tab
 abbrev pub is_blank : ℕ → Bool
-is_blank b = b == 32 || b == 9
-
-abbrev pub is_digit : ℕ → Bool
-is_digit b = nat_le 48 b && nat_le b 57
-
--- in either case
-abbrev pub is_letter : ℕ → Bool
-is_letter b = (nat_le 65 b && nat_le b 90) || (nat_le 97 b && nat_le b 122)
-
-abbrev pub is_alphanumeric : ℕ → Bool
-is_alphanumeric b = is_digit b || is_letter b
+is_blank b = b == space || b == tab
 
 -- letters, digits, ? and @
 abbrev pub is_word_part : ℕ → Bool
-is_word_part b = is_alphanumeric b || (b == 63 || b == 64)
+is_word_part b = is_ascii_alphanumeric b || (b == question_mark || b == at_sign)
 
 -- a space, or an ASCII character that shows
 abbrev pub is_printed : ℕ → Bool
-is_printed b = nat_le 32 b && nat_le b 126
+is_printed b = nat_le space b && nat_le b tilde

@@ -3,13 +3,10 @@
 use Rattle.std.specs.Prelude.{ℕ, ◌+◌, ◌-◌, ◌*◌, List, Option, Some, None, if◌then◌else◌, nat_lt}
 use Rattle.std.specs.Prelude.{◌==◌, ◌&&◌, ◌||◌, length, take, slice_index, fold}
 use Rattle.std.specs.List.{list_all}
-use Rattle.std.specs.Char.{digit_value as char_digit, to_ascii_uppercase}
+use Rattle.std.specs.Char.{digit_value, to_ascii_uppercase}
+use Rattle.asm_syntax.specs.Ascii.{letter_b, letter_d, letter_h, letter_o, letter_q}
 
--- the value of a digit of base 36, in either case, and 36 for anything else
-abbrev pub digit_value : ℕ → ℕ
-digit_value b = char_digit b
-
--- the number that digits spell behind a number
+-- the number that digits spell after a number
 abbrev pub spelled : ℕ → ℕ → List ℕ → ℕ
 spelled base n ds = fold (λ m d. m * base + digit_value d) n ds
 
@@ -22,15 +19,15 @@ in_base base ds =
 
 -- by the last character: H 16, D 10, O and Q 8, B 2, and else 10 with no letter
 abbrev pub by_last : ℕ → List ℕ → List ℕ → Option ℕ
-by_last last front run =
-    if last == 72 then in_base 16 front
-    else (if last == 68 then in_base 10 front
-    else (if last == 79 || last == 81 then in_base 8 front
-    else (if last == 66 then in_base 2 front
-    else in_base 10 run)))
+by_last last front digits =
+    if last == letter_h then in_base 16 front
+    else (if last == letter_d then in_base 10 front
+    else (if last == letter_o || last == letter_q then in_base 8 front
+    else (if last == letter_b then in_base 2 front
+    else in_base 10 digits)))
 
--- the number that a run of letters and digits is
+-- the number that letters and digits are
 abbrev pub number_of : List ℕ → Option ℕ
-number_of run =
-    let last = length run - 1
-    in by_last (to_ascii_uppercase (slice_index run last)) (take last run) run
+number_of digits =
+    let last = length digits - 1
+    in by_last (to_ascii_uppercase (slice_index digits last)) (take last digits) digits

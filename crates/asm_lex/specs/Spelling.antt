@@ -2,13 +2,14 @@
 use Rattle.std.specs.Prelude.{◌≡◌, ℕ, ◌+◌, ◌<◌, ◌≤◌, List, [], ◌∷◌, ◌++◌, length, map, Some, None}
 use Rattle.std.specs.Prelude.{Bool, true, false, if◌then◌else◌, not, ◌&&◌, ◌||◌, ◌==◌}
 use Rattle.std.specs.List.{list_all}
-use Rattle.std.specs.Char.{to_ascii_uppercase}
+use Rattle.std.specs.Char.{to_ascii_uppercase, is_ascii_digit, is_ascii_alphanumeric}
 use Rattle.asm_syntax.specs.declared.fault.FaultKind.{FaultKind}
 use Rattle.asm_syntax.specs.declared.fault.FaultKind.TheVariants as kind
+use Rattle.asm_syntax.specs.Ascii.{space, quote, semicolon}
 use Rattle.asm_syntax.specs.Lexemes.{Lexeme, Name, Keyword, Overlong, Number, Text, Sign}
 use Rattle.asm_syntax.specs.Lexemes.{Piece, word_lexeme}
 use Rattle.asm_syntax.specs.Outcome.{Fault}
-use Rattle.asm_lex.specs.Characters.{is_blank, is_digit, is_alphanumeric, is_word_part, is_printed}
+use Rattle.asm_lex.specs.Characters.{is_blank, is_word_part, is_printed}
 use Rattle.asm_lex.specs.Numbers.{number_of}
 
 -- a character that passes stands at the front
@@ -21,33 +22,34 @@ abbrev pub Stops : (ℕ → Bool) → List ℕ → Type 0
 Stops p [] = Unit {0}
 Stops p (b ∷ rest) = p b ≡ false
 
--- a run of characters that pass, as long as it can be before the rest
-pub record IsRun (p : ℕ → Bool) (text rest : List ℕ) : Type 0 where
+-- a span of characters that pass, as long as it can be before the rest
+pub record IsSpan (p : ℕ → Bool) (text rest : List ℕ) : Type 0 where
   pub all : list_all p text ≡ true
   pub ends : Stops p rest
 
 -- letters, digits, ? and @, the first no digit
 pub record IsWord (word : Lexeme) (text rest : List ℕ) : Type 0 where
-  pub begins : Begins (λ b. not (is_digit b)) text
-  pub run : IsRun is_word_part text rest
+  pub begins : Begins (λ b. not (is_ascii_digit b)) text
+  pub span : IsSpan is_word_part text rest
   pub says : word_lexeme (map to_ascii_uppercase text) ≡ word
 
 -- letters and digits, the first a digit
 pub record IsDigits (text rest : List ℕ) : Type 0 where
-  pub begins : Begins is_digit text
-  pub run : IsRun is_alphanumeric text rest
+  pub begins : Begins is_ascii_digit text
+  pub span : IsSpan is_ascii_alphanumeric text rest
 
+-- the character round strings
 abbrev pub is_quote : ℕ → Bool
-is_quote b = b == 39
+is_quote b = b == quote
 
 -- characters with each quote doubled
 abbrev pub doubled : List ℕ → List ℕ
 doubled [] = []
-doubled (c ∷ cs) = (if is_quote c then 39 ∷ [] else []) ++ (c ∷ doubled cs)
+doubled (c ∷ cs) = (if is_quote c then quote ∷ [] else []) ++ (c ∷ doubled cs)
 
 -- from 1 to 128 characters between quotes
 pub record IsString (cs text rest : List ℕ) : Type 0 where
-  pub quoted : text ≡ 39 ∷ (doubled cs ++ 39 ∷ [])
+  pub quoted : text ≡ quote ∷ (doubled cs ++ quote ∷ [])
   pub ends : Stops is_quote rest
   pub printed : list_all is_printed cs ≡ true
   pub some : 0 < length cs
@@ -55,7 +57,7 @@ pub record IsString (cs text rest : List ℕ) : Type 0 where
 
 -- a character that is a token by itself
 abbrev pub is_sign : ℕ → Bool
-is_sign b = is_printed b && not (is_word_part b || (b == 32 || (b == 39 || b == 59)))
+is_sign b = is_printed b && not (is_word_part b || (b == space || (b == quote || b == semicolon)))
 
 -- the text spells the token, where rest follows it
 abbrev pub IsToken : Lexeme → List ℕ → List ℕ → Type 0
@@ -85,7 +87,7 @@ SpellsUpTo column (p ∷ ps) line last rest =
 -- nothing, or a comment
 abbrev pub IsTail : List ℕ → Type 0
 IsTail [] = Unit {0}
-IsTail (b ∷ rest) = b ≡ 59
+IsTail (b ∷ rest) = b ≡ semicolon
 
 -- the line has these tokens and no more
 abbrev pub Spells : ℕ → List Piece → List ℕ → Type 0

@@ -1,13 +1,14 @@
 //! The tokens of a line (8080/8085 Assembly Language Programming Manual, chapter 2).
 ghost use Rattle.std.specs.Prelude.{ℕ, slice_index, ◌≡◌, ◌<◌, ◌≤◌, length, drop, IfOk};
 ghost use Rattle.std.specs.List.{take_while};
+ghost use Rattle.std.specs.Char.{is_ascii_alphanumeric};
 ghost use Rattle.asm_syntax.specs.Lexemes.{pieces_of};
 ghost use Rattle.asm_syntax.specs.Outcome.{LineGives};
-ghost use Rattle.asm_lex.specs.Characters.{is_alphanumeric, is_word_part};
+ghost use Rattle.asm_lex.specs.Characters.{is_word_part};
 ghost use Rattle.asm_lex.specs.Texts.{closing};
 ghost use Rattle.asm_lex.specs.Tokens.{read_of, number_read, text_read, token_at, tokens_of};
 
-use crate::class::{is_alphanumeric, is_blank, is_digit, is_printed, is_word_part};
+use crate::class::{is_blank, is_printed, is_word_part};
 use crate::number::number_of;
 use crate::quote::{closing, is_text};
 use asm_syntax::fault::{FaultKind, LineFault};
@@ -15,12 +16,17 @@ use asm_syntax::token::{Placed, Token, Word};
 use asm_syntax::word::word_token;
 use std::alloc::Global;
 
-fn run_len(bytes: &[u8]) -> usize
-    ensures { result ≡ length (take_while is_alphanumeric bytes.now) }
+// How many letters and digits stand at the front.
+fn span_len(bytes: &[u8]) -> usize
+    ensures { result ≡ length (take_while is_ascii_alphanumeric bytes.now) }
 {
-    bytes.iter().take_while(|b| is_alphanumeric(**b)).count()
+    bytes
+        .iter()
+        .take_while(|b| b.is_ascii_alphanumeric())
+        .count()
 }
 
+// How many characters of a word stand at the front.
 fn word_len(bytes: &[u8]) -> usize
     ensures ascii { (k : ℕ) → k < result → slice_index bytes.now k < 128 }
     ensures value { result ≡ length (take_while is_word_part bytes.now) }
@@ -30,11 +36,11 @@ fn word_len(bytes: &[u8]) -> usize
 
 // The number at the front, which begins with a digit.
 fn number_at(bytes: &[u8]) -> Result<(Token<'_>, usize), FaultKind>
-    requires { 0 < length (take_while is_alphanumeric bytes.now) }
-    ensures value { read_of result ≡ number_read (take_while is_alphanumeric bytes.now) }
+    requires { 0 < length (take_while is_ascii_alphanumeric bytes.now) }
+    ensures value { read_of result ≡ number_read (take_while is_ascii_alphanumeric bytes.now) }
     ensures within { IfOk result (λ x. (0 < x.1) × (x.1 ≤ length bytes.now)) }
 {
-    let len = run_len(bytes);
+    let len = span_len(bytes);
     match number_of(&bytes[..len]) {
         Some(n) => Ok((Token::Number(n), len)),
         None => Err(FaultKind::Number),
@@ -69,7 +75,7 @@ fn token_at(bytes: &[u8]) -> Result<(Token<'_>, usize), FaultKind>
     ensures within { IfOk result (λ x. (0 < x.1) × (x.1 ≤ length bytes.now)) }
 {
     let first = bytes[0];
-    if is_digit(first) {
+    if first.is_ascii_digit() {
         return number_at(bytes);
     }
     if is_word_part(first) {
@@ -89,7 +95,7 @@ fn token_at(bytes: &[u8]) -> Result<(Token<'_>, usize), FaultKind>
 
 /// The tokens of a line up to its end or its comment, with their columns from 1.
 ///
-/// What is wrong is the leftmost of these, and there is no other fault than these and `NoMemory`:
+/// What is wrong is the leftmost of these, and there is no other fault than these and `OutOfMemory`:
 /// - `Character`: a character outside of 20h to 7Eh that is no tab, and in no string;
 /// - `Number`, at its first digit: above 65,535, or a digit that its base doesn't have;
 /// - `Text`, at its opening quote: a string that isn't closed, that has no character or more than

@@ -10,4 +10,3 @@ pub mod laws;
 pub mod lexer;
 mod number;
 mod quote;
-pub mod text;

@@ -1,7 +1,9 @@
 //! Numbers (8080/8085 Assembly Language Programming Manual, chapter 2).
 ghost use Rattle.std.specs.Prelude.{◌≡◌, ◌<◌, ◌≤◌, length, IfSome};
-ghost use Rattle.asm_lex.specs.Numbers.{number_of, in_base, digit_value};
+ghost use Rattle.std.specs.Char.{digit_value};
+ghost use Rattle.asm_lex.specs.Numbers.{number_of, in_base};
 
+// The value of a digit of base 36, in either case, and 36 for anything else.
 fn digit(b: u8) -> u32
     ensures { result ≡ digit_value b }
 {
@@ -33,17 +35,17 @@ fn in_base(base: u32, digits: &[u8]) -> Option<u16>
     Some(n as u16)
 }
 
-/// The number that a run of letters and digits is.
-pub fn number_of(run: &[u8]) -> Option<u16>
-    requires { 0 < length run.now }
-    ensures { result ≡ number_of run.now }
+/// The number that letters and digits are.
+pub fn number_of(digits: &[u8]) -> Option<u16>
+    requires { 0 < length digits.now }
+    ensures { result ≡ number_of digits.now }
 {
-    let (front, last) = run.split_at(run.len() - 1);
+    let (front, last) = digits.split_at(digits.len() - 1);
     match last[0] {
         b'H' | b'h' => in_base(16, front),
         b'D' | b'd' => in_base(10, front),
         b'O' | b'o' | b'Q' | b'q' => in_base(8, front),
         b'B' | b'b' => in_base(2, front),
-        _ => in_base(10, run),
+        _ => in_base(10, digits),
     }
 }

@@ -7,7 +7,7 @@ ghost use Rattle.asm_lex.specs.Texts.{closing, is_text};
 
 use crate::class::is_printed;
 
-// Where the closing quote stands behind an opening one.
+// Where the closing quote stands after an opening one.
 pub fn closing(bytes: &[u8]) -> Option<usize>
     ensures value { result ≡ closing bytes.now }
     ensures within { IfSome result (λ n. n < length bytes.now) }

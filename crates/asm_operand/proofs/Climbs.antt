@@ -1,5 +1,6 @@
 -- One step along a chain of operators.
-use Rattle.std.proofs.Common.{◌≡◌, ℕ, zero, suc, ◌+◌, ◌-◌, ◌≢◌, List, Some, None, Result, Ok, Err, refl, arith}
+use Rattle.std.proofs.Common.{◌≡◌, ℕ, zero, suc, ◌+◌, ◌-◌, ◌≢◌, List, Some, None, Result, Ok, Err, refl}
+use Rattle.std.proofs.Common.{arith}
 use Rattle.asm_expr.specs.Tree.{Tree, Infix}
 use Rattle.asm_expr.specs.declared.expression.Binary.{Binary}
 use Rattle.asm_syntax.specs.declared.fault.FaultKind.TheVariants as kind
@@ -33,23 +34,27 @@ unfolding chain
 chain_stops first expr zero level a ls some h = absurd (some refl)
 chain_stops first expr (suc count) level a ls some h = rw h refl
 
-pub chain_right_faults : (first : ℕ) (expr : ℕ → List Lexeme → Found) (count level : ℕ) (a : Tree) (ls rest : List Lexeme) (op : Binary) (e : Fault)
+pub chain_right_faults : (first : ℕ) (expr : ℕ → List Lexeme → Found) (count level : ℕ) (a : Tree)
+    (ls rest : List Lexeme) (op : Binary) (e : Fault)
     → count ≢ 0 → infix_at level ls ≡ Some (op, rest) → expr (infix_strength op + 1) rest ≡ Err e
     → chain first expr count level a ls ≡ Err e
 unfolding chain
 chain_right_faults first expr zero level a ls rest op e some h right = absurd (some refl)
 chain_right_faults first expr (suc count) level a ls rest op e some h right = rw (h, right) refl
 
-pub chain_made_faults : (first : ℕ) (expr : ℕ → List Lexeme → Found) (count level : ℕ) (a b : Tree) (ls rest after : List Lexeme) (op : Binary) (e : Fault)
+pub chain_made_faults : (first : ℕ) (expr : ℕ → List Lexeme → Found) (count level : ℕ) (a b : Tree)
+    (ls rest after : List Lexeme) (op : Binary) (e : Fault)
     → count ≢ 0 → infix_at level ls ≡ Some (op, rest) → expr (infix_strength op + 1) rest ≡ Ok (b, after)
     → made first (Infix op a b) ≡ Err e → chain first expr count level a ls ≡ Err e
 unfolding chain
 chain_made_faults first expr zero level a b ls rest after op e some h right m = absurd (some refl)
 chain_made_faults first expr (suc count) level a b ls rest after op e some h right m = rw (h, right, m) refl
 
-pub chain_goes_on : (first : ℕ) (expr : ℕ → List Lexeme → Found) (count level : ℕ) (a b t : Tree) (ls rest after : List Lexeme) (op : Binary)
+pub chain_goes_on : (first : ℕ) (expr : ℕ → List Lexeme → Found) (count level : ℕ) (a b t : Tree)
+    (ls rest after : List Lexeme) (op : Binary)
     → count ≢ 0 → infix_at level ls ≡ Some (op, rest) → expr (infix_strength op + 1) rest ≡ Ok (b, after)
-    → made first (Infix op a b) ≡ Ok t → chain first expr count level a ls ≡ chain first expr (count - 1) level t after
+    → made first (Infix op a b) ≡ Ok t
+    → chain first expr count level a ls ≡ chain first expr (count - 1) level t after
 unfolding chain
 chain_goes_on first expr zero level a b t ls rest after op some h right m = absurd (some refl)
 chain_goes_on first expr (suc count) level a b t ls rest after op some h right m =
@@ -64,5 +69,5 @@ chain_ends first expr count level a ls h = rw h refl
 -- a fault of a part is a fault of the whole
 pub fails_along : {Y Z : Type 0} → (e : LineFault) (part : Result Y Fault) (all : Result Z Fault)
     → ((f : Fault) → part ≡ Err f → all ≡ Err f) → LineFails e part → LineFails e all
-fails_along line.NoMemory part all along h = tt
+fails_along line.OutOfMemory part all along h = tt
 fails_along (line.At column what) part all along h = along (column, what) h

@@ -1,5 +1,6 @@
 -- The laws of the definition of expressions.
-use Rattle.std.proofs.Common.{◌≡◌, ℕ, List, [], ◌↔◌, IsTrue, Bool, true, false, Some, Err, refl, sym, ap, ◌∙◌, arith, append-nil, inl, inr, ◌≤◌, ◌<◌}
+use Rattle.std.proofs.Common.{◌≡◌, ℕ, List, [], ◌↔◌, IsTrue, Bool, true, false, Some, Err, refl, sym, ap, ◌∙◌}
+use Rattle.std.proofs.Common.{arith, append-nil, inl, inr, ◌≤◌, ◌<◌}
 use Rattle.std.specs.Prelude.{nat_le}
 use Rattle.std.proofs.lemmas.Bool.Decides.{nat_tests}
 use Rattle.asm_expr.specs.Tree.{Tree, depth_of}
@@ -17,7 +18,9 @@ use Rattle.asm_operand.proofs.Readings.{reading_of}
 
 shaped : (t : Tree) (ls : List Lexeme) → Spells t ls → shape (Some (BeforeOperand 0)) ls ≡ true
 unfolding shape
-shaped t ls s = ap (λ (r : List Lexeme). shape (Some (BeforeOperand 0)) r) (sym (append-nil ls)) ∙ shape-spelled t 0 ls [] s
+shaped t ls s =
+    ap (λ (r : List Lexeme). shape (Some (BeforeOperand 0)) r) (sym (append-nil ls))
+    ∙ shape-spelled t 0 ls [] s
 
 pub expression_is : (column : ℕ) (ps : List Piece) (t : Tree) → Reads t ps
     → expression column ps ≡ within_depth (first_column ps) t
@@ -26,7 +29,8 @@ expression_is column ps t r =
     rw (shaped t (symbols ps) r.0) (by (found_whole t (first_column ps) (symbols ps) r.1 r.0))
   where
     by : Found_whole (first_column ps) 64 0 t (symbols ps) []
-        → (expr_at (first_column ps) 64 0 (symbols ps) >>= whole column (first_column ps)) ≡ within_depth (first_column ps) t
+        → (expr_at (first_column ps) 64 0 (symbols ps) >>= whole column (first_column ps))
+        ≡ within_depth (first_column ps) t
     by (inl x) =
         let h : depth_of t ≤ 64 = x.0 in
         let fits : nat_le (depth_of t) 64 ≡ true = grind (arith, nat_tests) in

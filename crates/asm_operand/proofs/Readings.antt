@@ -1,5 +1,7 @@
 -- What has the shape of an expression spells a proper tree.
-use Rattle.std.proofs.Common.{◌≡◌, ℕ, zero, suc, ◌+◌, ◌<◌, ◌≤◌, List, [], ◌∷◌, ◌++◌, Bool, true, false, length, Option, Some, None, refl, sym, ap, ◌∙◌, arith, append_assoc, append-nil, subst}
+use Rattle.std.proofs.Common.{◌≡◌, ℕ, zero, suc, ◌+◌, ◌<◌, ◌≤◌, List, [], ◌∷◌, ◌++◌, Bool, true, false}
+use Rattle.std.proofs.Common.{length, Option, Some, None, refl, sym, ap, ◌∙◌, arith, append_assoc, append-nil}
+use Rattle.std.proofs.Common.{subst}
 use Rattle.std.specs.Prelude.{nat_lt, ◌==◌}
 use Rattle.std.proofs.lemmas.Bool.Decides.{nat_tests}
 use Rattle.asm_expr.specs.Tree as tree
@@ -10,15 +12,16 @@ use Rattle.asm_syntax.specs.Lexemes.{Lexeme, Name, Keyword, Overlong, Number, Te
 use Rattle.asm_expr.specs.declared.expression.Unary.TheVariants as unary
 use Rattle.asm_expr.specs.declared.expression.Binary.TheVariants as binary
 use Rattle.asm_operand.specs.declared.shape.Place.{Place}
-use Rattle.asm_operand.specs.declared.shape.Place.TheVariants.{BeforeOperand, BehindOperand}
-use Rattle.asm_operand.specs.Operators.{prefix_strength, infix_strength, is_sign, prefix_of, infix_of, atom_in}
+use Rattle.asm_operand.specs.declared.shape.Place.TheVariants.{BeforeOperand, AfterOperand}
+use Rattle.asm_operand.specs.Operators.{prefix_strength, infix_strength, is_sign, prefix_of, infix_of}
+use Rattle.asm_operand.specs.Operators.{atom_in}
 use Rattle.asm_operand.specs.Reading.{Spells, weakest_left, weakest_right, IsProper}
 use Rattle.asm_operand.specs.Shape.{shape, next_place}
 use Rattle.asm_operand.specs.Climb.{infix_at}
 use Rattle.asm_operand.proofs.Shapes.{shape-prefix, shape-infix}
 use Rattle.asm_operand.proofs.Trees.{front_strength, strength_of, infix_some}
 
--- a tree at the front, which no operator behind it takes from, and the rest
+-- a tree at the front, which no operator after it takes from, and the rest
 record Front (opened level : ℕ) (ls : List Lexeme) : Type 0 where
   t : Tree
   front : List Lexeme
@@ -28,10 +31,10 @@ record Front (opened level : ℕ) (ls : List Lexeme) : Type 0 where
   proper : IsProper t
   left : level ≤ weakest_left t
   right : front_strength rest ≤ weakest_right t
-  goes_on : shape (Some (BehindOperand opened)) rest ≡ true
+  goes_on : shape (Some (AfterOperand opened)) rest ≡ true
   shorter : length rest < length ls
 
--- and the operator behind it, if there is one, is weaker than the level
+-- and the operator after it, if there is one, is weaker than the level
 record Reading (opened level : ℕ) (ls : List Lexeme) : Type 0 where
   found : Front opened level ls
   stops : infix_at level found.rest ≡ None
@@ -73,16 +76,23 @@ front_infix : (level : ℕ) (ls rest : List Lexeme) (op : Binary) → infix_at l
 front_infix level [] rest op h = cc
 front_infix level (l ∷ ls) rest op h = by (infix_of l) refl
   where
-    by : (o : Option Binary) → infix_of l ≡ o → (m : Lexeme) × (l ∷ ls ≡ m ∷ rest) × (infix_of m ≡ Some op) × (level ≤ infix_strength op)
+    by : (o : Option Binary) → infix_of l ≡ o
+        → (m : Lexeme) × (l ∷ ls ≡ m ∷ rest) × (infix_of m ≡ Some op) × (level ≤ infix_strength op)
     by None e = let h' = rw e at h in cc
     by (Some p) e = strong_by (nat_lt (infix_strength p) level) refl
       where
-        strong_by : (b : Bool) → nat_lt (infix_strength p) level ≡ b → (m : Lexeme) × (l ∷ ls ≡ m ∷ rest) × (infix_of m ≡ Some op) × (level ≤ infix_strength op)
+        strong_by : (b : Bool) → nat_lt (infix_strength p) level ≡ b
+            → (m : Lexeme) × (l ∷ ls ≡ m ∷ rest) × (infix_of m ≡ Some op) × (level ≤ infix_strength op)
         strong_by true w = let h' = rw (e, w) at h in cc
         strong_by false w =
             let same = some_pair (p, ls) (op, rest) (rw (e, w) at h) in
-            let le : level ≤ infix_strength p = grind (arith, nat_tests) in
-            (l, ap (λ (r : List Lexeme). l ∷ r) same.1, e ∙ ap (λ (o : Binary). Some o) same.0, rw same.0 at le)
+            let le : level ≤ infix_strength p = grind (arith, nat_tests) in (
+              l,
+              ap (λ (r : List Lexeme). l ∷ r) same.1,
+              e
+                  ∙ ap (λ (o : Binary). Some o) same.0,
+              rw same.0 at le,
+            )
 
 -- what stops below a level is weaker
 stop_strength : (level : ℕ) (ls : List Lexeme) → infix_at (level + 1) ls ≡ None → front_strength ls ≤ level
@@ -130,37 +140,47 @@ some_none x h = cc
 
 atom_step : (opened : ℕ) (l : Lexeme) (ls : List Lexeme) → prefix_of l ≡ None → is_sign 40 l ≡ false
     → shape (Some (BeforeOperand opened)) (l ∷ ls) ≡ true
-    → (t : Tree) × (atom_in l ≡ Some t) × (shape (Some (BehindOperand opened)) ls ≡ true)
+    → (t : Tree) × (atom_in l ≡ Some t) × (shape (Some (AfterOperand opened)) ls ≡ true)
 unfolding shape
 atom_step opened l ls p s h = by (atom_in l) refl
   where
-    by : (o : Option Tree) → atom_in l ≡ o → (t : Tree) × (atom_in l ≡ Some t) × (shape (Some (BehindOperand opened)) ls ≡ true)
+    by : (o : Option Tree) → atom_in l ≡ o
+        → (t : Tree) × (atom_in l ≡ Some t) × (shape (Some (AfterOperand opened)) ls ≡ true)
     by None e =
         let next : next_place (BeforeOperand opened) l ≡ None = rw (p, s, e) refl in
         let no_way : shape None ls ≡ true = sym (ap (λ (q : Option Place). shape q ls) next) ∙ h in cc
     by (Some t) e =
-        let next : next_place (BeforeOperand opened) l ≡ Some (BehindOperand opened) = rw (p, s, e) refl in
+        let next : next_place (BeforeOperand opened) l ≡ Some (AfterOperand opened) = rw (p, s, e) refl in
         (t, e, sym (ap (λ (q : Option Place). shape q ls) next) ∙ h)
 
-closing_step : (opened : ℕ) (ls : List Lexeme) → infix_at 0 ls ≡ None → shape (Some (BehindOperand (suc opened))) ls ≡ true
-    → (rest : List Lexeme) × (ls ≡ Sign 41 ∷ rest) × (shape (Some (BehindOperand opened)) rest ≡ true)
+closing_step : (opened : ℕ) (ls : List Lexeme) → infix_at 0 ls ≡ None
+    → shape (Some (AfterOperand (suc opened))) ls ≡ true
+    → (rest : List Lexeme) × (ls ≡ Sign 41 ∷ rest) × (shape (Some (AfterOperand opened)) rest ≡ true)
 unfolding shape
 closing_step opened [] stops h = cc
 closing_step opened (l ∷ ls) stops h = by (infix_of l) refl
   where
-    by : (o : Option Binary) → infix_of l ≡ o → (rest : List Lexeme) × (l ∷ ls ≡ Sign 41 ∷ rest) × (shape (Some (BehindOperand opened)) rest ≡ true)
+    by : (o : Option Binary) → infix_of l ≡ o
+        → (rest : List Lexeme) × (l ∷ ls ≡ Sign 41 ∷ rest) × (shape (Some (AfterOperand opened)) rest ≡ true)
     by (Some op) e = absurd (some_none (op, ls) (sym (infix_some 0 l ls op e (omega arith)) ∙ stops))
     by None e = sign_by (is_sign 41 l) refl
       where
-        sign_by : (b : Bool) → is_sign 41 l ≡ b → (rest : List Lexeme) × (l ∷ ls ≡ Sign 41 ∷ rest) × (shape (Some (BehindOperand opened)) rest ≡ true)
+        sign_by : (b : Bool) → is_sign 41 l ≡ b
+            → (rest : List Lexeme) × (l ∷ ls ≡ Sign 41 ∷ rest)
+            × (shape (Some (AfterOperand opened)) rest ≡ true)
         sign_by true w =
-            let next : next_place (BehindOperand (suc opened)) l ≡ Some (BehindOperand opened) = rw (e, w) refl in
-            (ls, ap (λ (m : Lexeme). m ∷ ls) (is_sign-is 41 l w), sym (ap (λ (q : Option Place). shape q ls) next) ∙ h)
+            let next : next_place (AfterOperand (suc opened)) l ≡ Some (AfterOperand opened) =
+            rw (e, w) refl in (
+              ls,
+              ap (λ (m : Lexeme). m ∷ ls) (is_sign-is 41 l w),
+              sym
+                  (ap (λ (q : Option Place). shape q ls) next) ∙ h,
+            )
         sign_by false w =
-            let next : next_place (BehindOperand (suc opened)) l ≡ None = rw (e, w) refl in
+            let next : next_place (AfterOperand (suc opened)) l ≡ None = rw (e, w) refl in
             let no_way : shape None ls ≡ true = sym (ap (λ (q : Option Place). shape q ls) next) ∙ h in cc
 
-ending_step : (ls : List Lexeme) → infix_at 0 ls ≡ None → shape (Some (BehindOperand 0)) ls ≡ true → ls ≡ []
+ending_step : (ls : List Lexeme) → infix_at 0 ls ≡ None → shape (Some (AfterOperand 0)) ls ≡ true → ls ≡ []
 unfolding shape
 ending_step [] stops h = refl
 ending_step (l ∷ ls) stops h = by (infix_of l) refl
@@ -171,10 +191,10 @@ ending_step (l ∷ ls) stops h = by (infix_of l) refl
       where
         sign_by : (b : Bool) → is_sign 41 l ≡ b → l ∷ ls ≡ []
         sign_by true w =
-            let next : next_place (BehindOperand 0) l ≡ None = rw (e, w) refl in
+            let next : next_place (AfterOperand 0) l ≡ None = rw (e, w) refl in
             let no_way : shape None ls ≡ true = sym (ap (λ (q : Option Place). shape q ls) next) ∙ h in cc
         sign_by false w =
-            let next : next_place (BehindOperand 0) l ≡ None = rw (e, w) refl in
+            let next : next_place (AfterOperand 0) l ≡ None = rw (e, w) refl in
             let no_way : shape None ls ≡ true = sym (ap (λ (q : Option Place). shape q ls) next) ∙ h in cc
 
 open_step : (opened : ℕ) (l : Lexeme) (ls : List Lexeme) → prefix_of l ≡ None → is_sign 40 l ≡ true
@@ -192,7 +212,8 @@ no_less m n h le = omega arith
 
 -- ---- a tree at the front
 
-atom_front : (opened level : ℕ) (l : Lexeme) (ls : List Lexeme) → level ≤ 8 → prefix_of l ≡ None → is_sign 40 l ≡ false
+atom_front : (opened level : ℕ) (l : Lexeme) (ls : List Lexeme) → level ≤ 8 → prefix_of l ≡ None
+    → is_sign 40 l ≡ false
     → shape (Some (BeforeOperand opened)) (l ∷ ls) ≡ true → Front opened level (l ∷ ls)
 unfolding AtomReads
 atom_front opened level l ls small p s h =
@@ -212,13 +233,17 @@ atom_front opened level l ls small p s h =
       shorter = omega arith;
     }
 
-prefix_front : (k opened level : ℕ) (l : Lexeme) (ls : List Lexeme) (op : Unary) → Reads_below k → length ls ≤ k → level ≤ 8
-    → prefix_of l ≡ Some op → shape (Some (BeforeOperand opened)) (l ∷ ls) ≡ true → Front opened level (l ∷ ls)
+prefix_front : (k opened level : ℕ) (l : Lexeme) (ls : List Lexeme) (op : Unary) → Reads_below k
+    → length ls ≤ k → level ≤ 8
+    → prefix_of l ≡ Some op → shape (Some (BeforeOperand opened)) (l ∷ ls) ≡ true
+    → Front opened level (l ∷ ls)
 prefix_front k opened level l ls op below le small e h =
     let ps : prefix_strength op ≤ 7 = prefix_small op in
-    let r = below opened (prefix_strength op + 1) ls le (omega arith) (sym (shape-prefix opened l ls op e) ∙ h) in
+    let r =
+    below opened (prefix_strength op + 1) ls le (omega arith) (sym (shape-prefix opened l ls op e) ∙ h) in
     let f = r.found in
-    let weak : front_strength f.rest ≤ prefix_strength op = stop_strength (prefix_strength op) f.rest r.stops in
+    let weak : front_strength f.rest ≤ prefix_strength op =
+    stop_strength (prefix_strength op) f.rest r.stops in
     let stronger : prefix_strength op + 1 ≤ weakest_left f.t = f.left in
     let taken : front_strength f.rest ≤ weakest_right f.t = f.right in
     let less : length f.rest < length ls = f.shorter in
@@ -235,8 +260,10 @@ prefix_front k opened level l ls op below le small e h =
       shorter = omega arith;
     }
 
-parens_front : (k opened level : ℕ) (l : Lexeme) (ls : List Lexeme) → Reads_below k → length ls ≤ k → level ≤ 8
-    → prefix_of l ≡ None → is_sign 40 l ≡ true → shape (Some (BeforeOperand opened)) (l ∷ ls) ≡ true → Front opened level (l ∷ ls)
+parens_front : (k opened level : ℕ) (l : Lexeme) (ls : List Lexeme) → Reads_below k → length ls ≤ k
+    → level ≤ 8
+    → prefix_of l ≡ None → is_sign 40 l ≡ true → shape (Some (BeforeOperand opened)) (l ∷ ls) ≡ true
+    → Front opened level (l ∷ ls)
 parens_front k opened level l ls below le small p s h =
     let r = below (suc opened) 0 ls le (omega arith) (sym (open_step opened l ls p s) ∙ h) in
     let f = r.found in
@@ -273,17 +300,20 @@ operand_front k opened level (l ∷ ls) below le small h = by (prefix_of l) refl
         sign_by true w = parens_front k opened level l ls below (omega arith) small e w h
         sign_by false w = atom_front opened level l ls small e w h
 
--- ---- operators behind it
+-- ---- operators after it
 
-infix_front : (k opened level : ℕ) (ls rest : List Lexeme) (op : Binary) → Reads_below k → (f : Front opened level ls) → length f.rest ≤ k
+infix_front : (k opened level : ℕ) (ls rest : List Lexeme) (op : Binary) → Reads_below k
+    → (f : Front opened level ls) → length f.rest ≤ k
     → infix_at level f.rest ≡ Some (op, rest)
     → (g : Front opened level ls) × (length g.rest < length f.rest)
 infix_front k opened level ls rest op below f le h =
     let x = front_infix level f.rest rest op h in
     let ss : infix_strength op ≤ 7 = strength_small op in
     let one_more : length f.rest ≡ length (x.0 ∷ rest) = ap length x.1 in
-    let behind : shape (Some (BehindOperand opened)) (x.0 ∷ rest) ≡ true = rw x.1 at f.goes_on in
-    let r = below opened (infix_strength op + 1) rest (omega arith) (omega arith) (sym (shape-infix opened x.0 rest op x.2) ∙ behind) in
+    let later : shape (Some (AfterOperand opened)) (x.0 ∷ rest) ≡ true = rw x.1 at f.goes_on in
+    let r =
+    below opened (infix_strength op + 1) rest (omega arith) (omega arith)
+    (sym (shape-infix opened x.0 rest op x.2) ∙ later) in
     let g = r.found in
     let weak : front_strength g.rest ≤ infix_strength op = stop_strength (infix_strength op) g.rest r.stops in
     let stronger : infix_strength op + 1 ≤ weakest_left g.t = g.left in
@@ -311,14 +341,16 @@ infix_front k opened level ls rest op below f le h =
       omega arith,
     )
 
-extend : (j k opened level : ℕ) (ls : List Lexeme) → Reads_below k → (f : Front opened level ls) → length f.rest ≤ j → length f.rest ≤ k
+extend : (j k opened level : ℕ) (ls : List Lexeme) → Reads_below k → (f : Front opened level ls)
+    → length f.rest ≤ j → length f.rest ≤ k
     → Reading opened level ls
 extend zero k opened level ls below f lej lek = by (infix_at level f.rest) refl
   where
     by : (o : Option (Binary × List Lexeme)) → infix_at level f.rest ≡ o → Reading opened level ls
     by None e = record { found = f; stops = e }
     by (Some x) e = absurd (no_less _ _ (infix_front k opened level ls x.1 x.0 below f lek e).1 lej)
-extend (suc j) k opened level ls below f lej lek = by (λ g lj lk. extend j k opened level ls below g lj lk) (infix_at level f.rest) refl
+extend (suc j) k opened level ls below f lej lek =
+    by (λ g lj lk. extend j k opened level ls below g lj lk) (infix_at level f.rest) refl
   where
     by : ((g : Front opened level ls) → length g.rest ≤ j → length g.rest ≤ k → Reading opened level ls)
         → (o : Option (Binary × List Lexeme)) → infix_at level f.rest ≡ o → Reading opened level ls

@@ -5,7 +5,7 @@ use Rattle.asm_expr.specs.declared.expression.Unary.{Unary}
 use Rattle.asm_expr.specs.declared.expression.Binary.{Binary}
 use Rattle.asm_syntax.specs.Lexemes.{Lexeme, Sign}
 use Rattle.asm_operand.specs.declared.shape.Place.{Place}
-use Rattle.asm_operand.specs.declared.shape.Place.TheVariants.{BeforeOperand, BehindOperand}
+use Rattle.asm_operand.specs.declared.shape.Place.TheVariants.{BeforeOperand, AfterOperand}
 use Rattle.asm_operand.specs.Operators.{prefix_of, infix_of}
 use Rattle.asm_operand.specs.Reading.{Spells}
 use Rattle.asm_operand.specs.Shape.{shape, next_place}
@@ -15,7 +15,7 @@ next_prefix : (opened : ℕ) (l : Lexeme) (op : Unary) → prefix_of l ≡ Some 
 next_prefix opened l op e = rw e refl
 
 next_infix : (opened : ℕ) (l : Lexeme) (op : Binary) → infix_of l ≡ Some op
-    → next_place (BehindOperand opened) l ≡ Some (BeforeOperand opened)
+    → next_place (AfterOperand opened) l ≡ Some (BeforeOperand opened)
 next_infix opened l op e = rw e refl
 
 pub shape-prefix : (opened : ℕ) (l : Lexeme) (ls : List Lexeme) (op : Unary) → prefix_of l ≡ Some op
@@ -24,12 +24,12 @@ unfolding shape
 shape-prefix opened l ls op e = ap (λ (p : Option Place). shape p ls) (next_prefix opened l op e)
 
 pub shape-infix : (opened : ℕ) (l : Lexeme) (ls : List Lexeme) (op : Binary) → infix_of l ≡ Some op
-    → shape (Some (BehindOperand opened)) (l ∷ ls) ≡ shape (Some (BeforeOperand opened)) ls
+    → shape (Some (AfterOperand opened)) (l ∷ ls) ≡ shape (Some (BeforeOperand opened)) ls
 unfolding shape
 shape-infix opened l ls op e = ap (λ (p : Option Place). shape p ls) (next_infix opened l op e)
 
 pub shape-spelled : (t : tree.Tree) (opened : ℕ) (ls rest : List Lexeme) → Spells t ls
-    → shape (Some (BeforeOperand opened)) (ls ++ rest) ≡ shape (Some (BehindOperand opened)) rest
+    → shape (Some (BeforeOperand opened)) (ls ++ rest) ≡ shape (Some (AfterOperand opened)) rest
 unfolding shape
 shape-spelled (tree.Number n) opened ls rest s = rw s refl
 shape-spelled tree.Here opened ls rest s = rw s refl

@@ -1,8 +1,10 @@
 -- When a tree is what lexemes say, whatever reads them.
-use Rattle.std.specs.Prelude.{◌≡◌, ℕ, ◌<◌, ◌≤◌, List, [], ◌∷◌, ◌++◌, Some, Result, Ok, Err, if◌then◌else◌, nat_le, min}
+use Rattle.std.specs.Prelude.{◌≡◌, ℕ, ◌<◌, ◌≤◌, List, [], ◌∷◌, ◌++◌, Some, Result, Ok, Err, if◌then◌else◌}
+use Rattle.std.specs.Prelude.{nat_le, min}
 use Rattle.asm_expr.specs.Tree as tree
 use Rattle.asm_syntax.specs.declared.fault.FaultKind.TheVariants as kind
 use Rattle.asm_syntax.specs.declared.statement.Operand.{Operand}
+use Rattle.asm_syntax.specs.Ascii.{dollar, open_parenthesis, close_parenthesis}
 use Rattle.asm_syntax.specs.Lexemes.{Lexeme, Name, Number, Sign, Piece}
 use Rattle.asm_syntax.specs.Outcome.{Fault}
 use Rattle.asm_operand.specs.Operators.{prefix_strength, infix_strength, prefix_of, infix_of, symbols}
@@ -11,7 +13,7 @@ use Rattle.asm_operand.specs.Operators.{prefix_strength, infix_strength, prefix_
 -- and parentheses round what is inside
 abbrev pub Spells : tree.Tree → List Lexeme → Type 0
 Spells (tree.Number n) ls = ls ≡ Number n ∷ []
-Spells tree.Here ls = ls ≡ Sign 36 ∷ []
+Spells tree.Here ls = ls ≡ Sign dollar ∷ []
 Spells (tree.Named x) ls = ls ≡ Name x ∷ []
 Spells (tree.Prefix op a) ls =
     (l : Lexeme) × (rest : List Lexeme) × (ls ≡ l ∷ rest) × (prefix_of l ≡ Some op) × Spells a rest
@@ -19,7 +21,9 @@ Spells (tree.Infix op a b) ls =
     (left : List Lexeme) × (l : Lexeme) × (right : List Lexeme) × (ls ≡ left ++ (l ∷ right))
     × (infix_of l ≡ Some op) × Spells a left × Spells b right
 Spells (tree.Parens a) ls =
-    (inner : List Lexeme) × (ls ≡ Sign 40 ∷ (inner ++ (Sign 41 ∷ []))) × Spells a inner
+    (inner : List Lexeme)
+    × (ls ≡ Sign open_parenthesis ∷ (inner ++ (Sign close_parenthesis ∷ [])))
+    × Spells a inner
 
 -- the weakest operator that could take an operand from the left of a tree, 8 where there is none
 abbrev pub weakest_left : tree.Tree → ℕ

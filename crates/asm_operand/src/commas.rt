@@ -1,19 +1,20 @@
 //! Operands, which commas part, and operands that are one token.
 ghost use Rattle.std.specs.Prelude.{◌≡◌, ◌<◌, ◌∷◌, length, option_map, IfSome};
 ghost use Rattle.asm_syntax.specs.Lexemes.{pieces_of, characters_of};
-ghost use Rattle.asm_operand.specs.Commas.{operands_of, operands_behind, split_commas, next_operand, single, pair, register_of, text_of};
+ghost use Rattle.asm_operand.specs.Commas.{operands_of, operands_after, split_commas, next_operand, single};
+ghost use Rattle.asm_operand.specs.Commas.{pair, register_of, text_of};
 
 use crate::operators::is_sign;
 use asm_syntax::keyword::{Keyword, RegisterWord};
 use asm_syntax::token::{Placed, Token};
 
-/// The tokens before the first comma, and those behind it if there is one: the first operand, and
-/// what the operands behind it are read from. With no token there is one empty operand.
+/// The tokens before the first comma, and those after it if there is one: the first operand, and
+/// what the operands after it are read from. With no token there is one empty operand.
 pub fn next_operand<'a>(tokens: &'a [Placed<'a>]) -> (&'a [Placed<'a>], Option<&'a [Placed<'a>]>)
     ensures value { (pieces_of result.0.now, option_map (λ rest. pieces_of rest.now) result.1)
         ≡ next_operand (pieces_of tokens.now) }
     ensures operands { operands_of (pieces_of tokens.now) ≡ pieces_of result.0.now
-        ∷ operands_behind (option_map (λ rest. pieces_of rest.now) result.1) }
+        ∷ operands_after (option_map (λ rest. pieces_of rest.now) result.1) }
     ensures shorter { IfSome result.1 (λ rest. length rest.now < length tokens.now) }
 {
     for (i, piece) in tokens.iter().enumerate() {
@@ -43,8 +44,8 @@ pub fn pair<'a>(tokens: &'a [Placed<'a>]) -> Option<(&'a [Placed<'a>], &'a [Plac
     ensures { option_map (λ x. (pieces_of x.0.now, pieces_of x.1.now)) result
         ≡ pair (split_commas (pieces_of tokens.now)) }
 {
-    let (first, behind) = next_operand(tokens);
-    let rest = behind?;
+    let (first, others) = next_operand(tokens);
+    let rest = others?;
     match next_operand(rest) {
         (second, None) => Some((first, second)),
         (_, Some(_)) => None,

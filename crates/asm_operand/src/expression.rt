@@ -4,7 +4,8 @@ ghost use Rattle.asm_expr.specs.Tree.{Prefix, Infix, Parens};
 ghost use Rattle.asm_syntax.specs.Lexemes.{pieces_of};
 ghost use Rattle.asm_syntax.specs.Outcome.{LineGives};
 ghost use Rattle.asm_operand.specs.Operators.{symbols};
-ghost use Rattle.asm_operand.specs.Climb.{fault_at, found, made, closed, operand_at, infix_at, expr_at, first_column, expression};
+ghost use Rattle.asm_operand.specs.Climb.{fault_at, found, made, closed, operand_at, infix_at, expr_at};
+ghost use Rattle.asm_operand.specs.Climb.{first_column, expression};
 ghost use Rattle.asm_syntax.specs.declared.fault.LineFault.TheVariants as line;
 ghost use Rattle.asm_syntax.specs.declared.fault.FaultKind.TheVariants as kind;
 
@@ -25,7 +26,7 @@ fn fault_at(column: usize, fault: TreeFault) -> LineFault
     ensures { result ≡ fault_at column fault }
 {
     match fault {
-        TreeFault::NoMemory => LineFault::NoMemory,
+        TreeFault::OutOfMemory => LineFault::OutOfMemory,
         TreeFault::Nesting => LineFault::At {
             column,
             kind: FaultKind::Nesting,
@@ -90,7 +91,7 @@ fn too_deep(first: usize) -> LineFault
     }
 }
 
-// The operator at the front and what is behind it, if it is at least as strong as the level.
+// The operator at the front and what is after it, if it is at least as strong as the level.
 fn infix_at<'a>(level: u8, tokens: &'a [Placed<'a>]) -> Option<(Binary, &'a [Placed<'a>])>
     ensures { option_map (λ x. (x.0, symbols (pieces_of x.1.now))) result
         ≡ infix_at level (symbols (pieces_of tokens.now)) }
@@ -173,10 +174,10 @@ fn expr_at<'a>(
     }
     let (mut left, mut rest) = operand_at(alloc, first, n - 1, tokens)?;
     for _ in 0..MOST_DEPTH + 1 {
-        let Some((operator, behind)) = infix_at(level, rest) else {
+        let Some((operator, operand)) = infix_at(level, rest) else {
             return Ok((left, rest));
         };
-        let (right, after) = expr_at(alloc, first, n - 1, infix_strength(operator) + 1, behind)?;
+        let (right, after) = expr_at(alloc, first, n - 1, infix_strength(operator) + 1, operand)?;
         left = infix(alloc, first, operator, left, right)?;
         rest = after;
     }
@@ -188,7 +189,7 @@ fn expr_at<'a>(
 /// than 64. HIGH and LOW bind strongest, then `*`, `/`, MOD, SHL and SHR, then `+` and `-`, also
 /// before an operand, then EQ to GE, then NOT, then AND, then OR and XOR (8080/8085 Assembly
 /// Language Programming Manual, chapter 2, "Operand field"). Operators between operands associate
-/// to the left; one before an operand takes what stronger operators join behind it.
+/// to the left; one before an operand takes what stronger operators join after it.
 #[tactic(auto, unfolding(crate::specs::Climb::expression))]
 pub fn expression(
     alloc: Global,

@@ -1,4 +1,4 @@
-// Operands of the 8080 assembly language: from the tokens behind an operation to its operands.
+// Operands of the 8080 assembly language: from the tokens after an operation to its operands.
 // `misplaced_word` finds the leftmost word that can't stand where it does, by what is before it.
 // `next_operand`, `single` and `pair` cut tokens at commas; `register` and `text` read one token.
 // `is_expression` says which tokens are an expression, in linear time and without recursion.

@@ -2,7 +2,8 @@
 ghost use Rattle.std.specs.Prelude.{◌≡◌, ◌≤◌, option_map, is_some, IfOk};
 ghost use Rattle.asm_expr.specs.Tree.{atom_of};
 ghost use Rattle.asm_syntax.specs.Lexemes.{lexeme_of};
-ghost use Rattle.asm_operand.specs.Operators.{prefix_strength, infix_strength, is_sign, prefix_of, infix_of, atom_in, plain};
+ghost use Rattle.asm_operand.specs.Operators.{prefix_strength, infix_strength, is_sign, prefix_of, infix_of};
+ghost use Rattle.asm_operand.specs.Operators.{atom_in, plain};
 
 use crate::strings::number;
 use asm_expr::expression::{Atom, Binary, Unary};

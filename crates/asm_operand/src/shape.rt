@@ -10,7 +10,7 @@ use asm_syntax::token::{Placed, Token};
 #[derive(Clone, Copy)]
 pub(crate) enum Place {
     BeforeOperand(usize),
-    BehindOperand(usize),
+    AfterOperand(usize),
 }
 
 fn next_place(place: Place, token: Token<'_>) -> Option<Place>
@@ -25,16 +25,16 @@ fn next_place(place: Place, token: Token<'_>) -> Option<Place>
             } else if is_sign(b'(', token) {
                 Some(Place::BeforeOperand(open + 1))
             } else if is_atom(token) {
-                Some(Place::BehindOperand(open))
+                Some(Place::AfterOperand(open))
             } else {
                 None
             }
         }
-        Place::BehindOperand(open) => {
+        Place::AfterOperand(open) => {
             if infix_of(token).is_some() {
                 Some(Place::BeforeOperand(open))
             } else if is_sign(b')', token) && open > 0 {
-                Some(Place::BehindOperand(open - 1))
+                Some(Place::AfterOperand(open - 1))
             } else {
                 None
             }
@@ -55,5 +55,5 @@ pub fn is_expression(operand: &[Placed<'_>]) -> bool
         };
         place = next;
     }
-    matches!(place, Place::BehindOperand(0))
+    matches!(place, Place::AfterOperand(0))
 }

@@ -3,10 +3,10 @@ ghost use Rattle.std.specs.Prelude.{◌≡◌, ◌+◌, ◌<◌, ◌∷◌, [], 
 ghost use Rattle.asm_syntax.specs.Lexemes.{characters_of};
 ghost use Rattle.asm_operand.specs.Operators.{number_of};
 
-use asm_syntax::sequence::Sequence;
+use base_text::sequence::Sequence;
 use std::alloc::{AllocError, Global};
 
-// The first character and what stands behind it, where a doubled quote is one character.
+// The first character and what stands after it, where a doubled quote is one character.
 fn next_character(text: &[u8]) -> Option<(u8, &[u8])>
     ensures read { MatchOption result (text.now ≡ [])
         (λ x. characters_of text.now ≡ x.0 ∷ characters_of x.1.now) }
@@ -41,9 +41,9 @@ pub fn string_bytes(alloc: Global, text: &[u8]) -> Result<Sequence<u8>, AllocErr
 {
     let mut bytes = Vec::new(alloc);
     let mut rest = text;
-    while let Some((character, behind)) = next_character(rest) {
+    while let Some((character, after)) = next_character(rest) {
         bytes.push(character)?;
-        rest = behind;
+        rest = after;
     }
-    Ok(Sequence::from_vec(bytes))
+    Ok(Sequence::from(bytes))
 }

@@ -1,13 +1,14 @@
 //! Words that can't stand where they do.
 ghost use Rattle.std.specs.Prelude.{◌≡◌};
 ghost use Rattle.asm_syntax.specs.Lexemes.{lexeme_of, pieces_of};
-ghost use Rattle.asm_operand.specs.Words.{ends_operand, leads, keyword_misplaced, is_misplaced, misplaced_word};
+ghost use Rattle.asm_operand.specs.Words.{ends_operand, leads, keyword_misplaced, is_misplaced};
+ghost use Rattle.asm_operand.specs.Words.{misplaced_word};
 
 use crate::operators::is_sign;
 use asm_syntax::keyword::Keyword;
 use asm_syntax::token::{Placed, Token};
 
-// Whether an atom of an expression begins behind this token.
+// Whether an atom of an expression begins after this token.
 fn leads(token: Token<'_>) -> bool
     ensures { result ≡ leads (lexeme_of token.entry) }
 {
@@ -18,22 +19,22 @@ fn leads(token: Token<'_>) -> bool
     }
 }
 
-fn ends_operand(behind: &[Placed<'_>]) -> bool
-    ensures { result ≡ ends_operand (pieces_of behind.now) }
+fn ends_operand(rest: &[Placed<'_>]) -> bool
+    ensures { result ≡ ends_operand (pieces_of rest.now) }
 {
-    match behind.split_first() {
+    match rest.split_first() {
         None => true,
         Some((next, _)) => is_sign(b',', next.token),
     }
 }
 
 // Whether a word can't stand where an atom begins.
-fn keyword_misplaced(begins_operand: bool, keyword: Keyword, behind: &[Placed<'_>]) -> bool
-    ensures { result ≡ keyword_misplaced begins_operand keyword (pieces_of behind.now) }
+fn keyword_misplaced(begins_operand: bool, keyword: Keyword, rest: &[Placed<'_>]) -> bool
+    ensures { result ≡ keyword_misplaced begins_operand keyword (pieces_of rest.now) }
 {
     match keyword {
         Keyword::Prefix(_) => false,
-        Keyword::Register(_) => !(begins_operand && ends_operand(behind)),
+        Keyword::Register(_) => !(begins_operand && ends_operand(rest)),
         _ => true,
     }
 }
@@ -42,15 +43,14 @@ fn is_misplaced(
     begins_operand: bool,
     begins_atom: bool,
     token: Token<'_>,
-    behind: &[Placed<'_>],
+    rest: &[Placed<'_>],
 ) -> bool
     ensures { result ≡ is_misplaced begins_operand begins_atom (lexeme_of token.entry)
-        (pieces_of behind.now) }
+        (pieces_of rest.now) }
 {
     match token {
         Token::Overlong => true,
-        Token::Keyword(keyword) => begins_atom
-            && keyword_misplaced(begins_operand, keyword, behind),
+        Token::Keyword(keyword) => begins_atom && keyword_misplaced(begins_operand, keyword, rest),
         _ => false,
     }
 }
@@ -66,8 +66,8 @@ pub fn misplaced_word(operands: &[Placed<'_>]) -> Option<usize>
     let mut begins_operand = true;
     let mut begins_atom = true;
     for (i, piece) in operands.iter().enumerate() {
-        let behind = operands.split_at(i + 1).1;
-        if is_misplaced(begins_operand, begins_atom, piece.token, behind) {
+        let rest = operands.split_at(i + 1).1;
+        if is_misplaced(begins_operand, begins_atom, piece.token, rest) {
             return Some(piece.column);
         }
         begins_operand = is_sign(b',', piece.token);

@@ -7,12 +7,14 @@ use Rattle.asm_syntax.specs.declared.statement.ByteOperation.TheVariants as byte
 use Rattle.asm_syntax.specs.declared.statement.WordOperation.{WordOperation}
 use Rattle.asm_syntax.specs.declared.statement.WordOperation.TheVariants as word
 
+-- with this byte
 abbrev pub byte_instruction : ByteOperation → ℕ → Instr
 byte_instruction (byte.Mvi r) b = instr.Mvi r b
 byte_instruction (byte.AluImmediate op) b = instr.AluImmediate op b
 byte_instruction byte.Out b = instr.Out b
 byte_instruction byte.In b = instr.In b
 
+-- with this word
 abbrev pub word_instruction : WordOperation → ℕ → Instr
 word_instruction (word.Lxi p) w = instr.Lxi p w
 word_instruction word.Shld w = instr.Shld w

@@ -1,3 +1,4 @@
+pub mod Ascii
 pub mod Instructions
 pub mod Lexemes
 pub mod Outcome

@@ -14,26 +14,28 @@ Fault = ℕ × FaultKind
 abbrev pub CellFault : Type 0
 CellFault = ℕ × ℕ × FaultKind
 
--- one step behind the other, up to the first fault
+-- one step after the other, up to the first fault
 infixl 10 ◌>>=◌
 abbrev pub ◌>>=◌ : {A B F : Type 0} → Result A F → (A → Result B F) → Result B F
 (Ok x) >>= f = f x
 (Err e) >>= f = Err e
 
--- what a function over a line answered, seen by view, is what was read, unless memory ran out
+-- what a function over a line reports as its fault is the fault of what was read, or out of memory
 abbrev pub LineFails : {Y : Type 0} → LineFault → Result Y Fault → Type 0
-LineFails line.NoMemory read = Unit {0}
+LineFails line.OutOfMemory read = Unit {0}
 LineFails (line.At column kind) read = read ≡ Err (column, kind)
 
+-- what it answers, seen by view, is what was read
 abbrev pub LineGives : {X Y : Type 0} → (X → Y) → Result X LineFault → Result Y Fault → Type 0
 LineGives view (Ok x) read = read ≡ Ok (view x)
 LineGives view (Err e) read = LineFails e read
 
--- and the same over a cell
+-- the same over a cell: its fault
 abbrev pub Fails : {Y : Type 0} → AsmFault → Result Y CellFault → Type 0
-Fails asm.NoMemory read = Unit {0}
+Fails asm.OutOfMemory read = Unit {0}
 Fails (asm.At line column kind) read = read ≡ Err (line, column, kind)
 
+-- and its answer
 abbrev pub Gives : {X Y : Type 0} → (X → Y) → Result X AsmFault → Result Y CellFault → Type 0
 Gives view (Ok x) read = read ≡ Ok (view x)
 Gives view (Err e) read = Fails e read

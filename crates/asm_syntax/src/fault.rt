@@ -52,7 +52,7 @@ pub enum FaultKind {
     /// A byte at an address that has one.
     #[error("Overlap")]
     Overlap,
-    /// A byte behind the last address, 65,535.
+    /// A byte past the last address, 65,535.
     #[error("PastEnd")]
     PastEnd,
 }
@@ -60,37 +60,37 @@ pub enum FaultKind {
 /// Why a line isn't read: memory ran out, or what is wrong at a column from 1.
 #[derive(Clone, Copy, Debug, PartialEq, Eq, Error)]
 pub enum LineFault {
-    #[error("NoMemory")]
-    NoMemory,
+    #[error("OutOfMemory")]
+    OutOfMemory,
     #[error("{column} {kind}")]
     At { column: usize, kind: FaultKind },
 }
 
 impl From<AllocError> for LineFault {
-    ghost use Rattle.asm_syntax.specs.declared.fault.LineFault.TheVariants.{NoMemory};
+    ghost use Rattle.asm_syntax.specs.declared.fault.LineFault.TheVariants.{OutOfMemory};
 
-    ghost from_gives = { λ _ fault. fault ≡ NoMemory };
+    ghost from_gives = { λ _ fault. fault ≡ OutOfMemory };
 
     fn from(_: AllocError) -> LineFault {
-        LineFault::NoMemory
+        LineFault::OutOfMemory
     }
 }
 
 impl<T: Drop> From<AllocFailed<T>> for LineFault {
-    ghost use Rattle.asm_syntax.specs.declared.fault.LineFault.TheVariants.{NoMemory};
+    ghost use Rattle.asm_syntax.specs.declared.fault.LineFault.TheVariants.{OutOfMemory};
 
-    ghost from_gives = { λ _ fault. fault ≡ NoMemory };
+    ghost from_gives = { λ _ fault. fault ≡ OutOfMemory };
 
     fn from(_: AllocFailed<T>) -> LineFault {
-        LineFault::NoMemory
+        LineFault::OutOfMemory
     }
 }
 
 /// Why a cell isn't assembled: memory ran out, or what is wrong at a line and a column from 1.
 #[derive(Clone, Copy, Debug, PartialEq, Eq, Error)]
 pub enum AsmFault {
-    #[error("NoMemory")]
-    NoMemory,
+    #[error("OutOfMemory")]
+    OutOfMemory,
     #[error("{line}:{column} {kind}")]
     At {
         line: usize,
@@ -102,19 +102,19 @@ pub enum AsmFault {
 impl From<AllocError> for AsmFault {
     ghost use Rattle.asm_syntax.specs.declared.fault.AsmFault.TheVariants as asm;
 
-    ghost from_gives = { λ _ fault. fault ≡ asm.NoMemory };
+    ghost from_gives = { λ _ fault. fault ≡ asm.OutOfMemory };
 
     fn from(_: AllocError) -> AsmFault {
-        AsmFault::NoMemory
+        AsmFault::OutOfMemory
     }
 }
 
 impl<T: Drop> From<AllocFailed<T>> for AsmFault {
     ghost use Rattle.asm_syntax.specs.declared.fault.AsmFault.TheVariants as asm;
 
-    ghost from_gives = { λ _ fault. fault ≡ asm.NoMemory };
+    ghost from_gives = { λ _ fault. fault ≡ asm.OutOfMemory };
 
     fn from(_: AllocFailed<T>) -> AsmFault {
-        AsmFault::NoMemory
+        AsmFault::OutOfMemory
     }
 }

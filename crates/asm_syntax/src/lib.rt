@@ -7,7 +7,6 @@
 
 pub mod fault;
 pub mod keyword;
-pub mod sequence;
 pub mod statement;
 pub mod token;
 pub mod word;

@@ -2,9 +2,9 @@
 ghost use Rattle.std.specs.Prelude.{◌≡◌, ◌≤◌, ◌<◌, ◌++◌, ◌∷◌, [], length, OnOk, OnErr};
 ghost use Rattle.asm_syntax.specs.Instructions.{byte_instruction, word_instruction};
 
-use crate::sequence::Sequence;
 use asm_expr::expression::Expr;
 use asm_expr::name::Name;
+use base_text::sequence::Sequence;
 use i80_rows::instruction::{Cond, Instr, Operation as AluOperation, Pair, Reg};
 use std::alloc::{AllocError, Global};
 use std::marker::Model;
@@ -26,7 +26,7 @@ pub struct Label {
     pub name: Name,
 }
 
-/// An instruction that lacks the byte behind its opcode.
+/// An instruction that lacks the byte after its opcode.
 #[derive(Clone, Copy, Debug, PartialEq, Eq)]
 pub enum ByteOperation {
     Mvi(Reg),
@@ -49,7 +49,7 @@ impl ByteOperation {
     }
 }
 
-/// An instruction that lacks the word behind its opcode.
+/// An instruction that lacks the word after its opcode.
 #[derive(Clone, Copy, Debug, PartialEq, Eq)]
 pub enum WordOperation {
     Lxi(Pair),

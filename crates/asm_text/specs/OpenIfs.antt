@@ -2,6 +2,7 @@
 use Rattle.std.specs.Prelude.{ℕ, zero, suc, List, [], ◌∷◌, false, slice_index_or}
 use Rattle.asm_text.specs.declared.open_if.OpenIf.{OpenIf}
 
+-- what stands in the array where no IF does
 abbrev pub no_if : OpenIf
 no_if = record { line = 0; column = 0; has_else = false }
 

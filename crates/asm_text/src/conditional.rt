@@ -1,7 +1,8 @@
 //! IF, ELSE and ENDIF of a text.
 ghost use Rattle.std.specs.Prelude.{◌≡◌, [], false};
 ghost use Rattle.asm_syntax.specs.Outcome.{LineGives, Gives};
-ghost use Rattle.asm_text.specs.Conditionals.{at_if, at_else, at_endif, open_behind, open_after, all_closed};
+ghost use Rattle.asm_text.specs.Conditionals.{at_if, at_else, at_endif, open_after_action, open_after};
+ghost use Rattle.asm_text.specs.Conditionals.{all_closed};
 
 use crate::open_if::{MOST_OPEN, OpenIf};
 use asm_syntax::fault::{AsmFault, FaultKind, LineFault};
@@ -44,7 +45,7 @@ impl OpenIfs {
     }
 
     // An IF in this line and column.
-    #[tactic(auto, using(crate::proofs::Conditionals::last_first_push, crate::proofs::Conditionals::last_first_length))]
+    #[tactic(auto, using(crate::proofs::Conditionals::one_more, crate::proofs::Conditionals::length_is))]
     fn open(&mut self, line: usize, column: usize) -> Result<(), LineFault>
         ensures { LineGives (λ _. self.new) result (at_if line column self.old) }
     {
@@ -60,9 +61,9 @@ impl OpenIfs {
         Ok(())
     }
 
-    // An ELSE in this column.
+    // An ELSE in this column, which switches the innermost IF to its other part.
     #[tactic(auto, using(crate::proofs::Conditionals::last_first_top))]
-    fn turn(&mut self, column: usize) -> Result<(), LineFault>
+    fn switch(&mut self, column: usize) -> Result<(), LineFault>
         ensures { LineGives (λ _. self.new) result (at_else column self.old) }
     {
         if self.len == 0 {
@@ -100,7 +101,7 @@ impl OpenIfs {
         };
         match &operation.action {
             Action::If(_) => self.open(line, operation.column),
-            Action::Else => self.turn(operation.column),
+            Action::Else => self.switch(operation.column),
             Action::EndIf => self.close(operation.column),
             _ => Ok(()),
         }

@@ -8,18 +8,19 @@ ghost use Rattle.asm_operand.specs.Shape.{is_expression};
 ghost use Rattle.asm_operand.specs.Climb.{expression};
 ghost use Rattle.asm_text.specs.Forms.{is_data, data_at, each_of, some_operands, end_of, directive_of};
 
-use crate::forms::{no_operand, one_operand};
+use crate::forms::{no_operand, only_expression};
 use asm_operand::commas::{next_operand, text};
 use asm_operand::expression::expression;
 use asm_operand::shape::is_expression;
 use asm_operand::strings::string_bytes;
 use asm_syntax::fault::{FaultKind, LineFault};
 use asm_syntax::keyword::Directive;
-use asm_syntax::sequence::Sequence;
 use asm_syntax::statement::{Action, Data, Operand};
 use asm_syntax::token::Placed;
+use base_text::sequence::Sequence;
 use std::alloc::Global;
 
+// The fault of an operation in this column.
 fn unfit(column: usize) -> LineFault
     ensures { result ≡ LineFault.At column FaultKind.Operands }
 {
@@ -29,36 +30,39 @@ fn unfit(column: usize) -> LineFault
     }
 }
 
+// Whether an operand of DB fits: a string alone, or an expression.
 fn is_data(operand: &[Placed]) -> bool
     ensures { result ≡ is_data (pieces_of operand.now) }
 {
     text(operand).is_some() || is_expression(operand)
 }
 
+// Whether each operand fits DB.
 fn are_data<'a>(tokens: &'a [Placed<'a>]) -> bool
     ensures { result ≡ list_all is_data (operands_of (pieces_of tokens.now)) }
 {
     let mut left = Some(tokens);
     while let Some(operands) = left {
-        let (first, behind) = next_operand(operands);
+        let (first, rest) = next_operand(operands);
         if !is_data(first) {
             return false;
         }
-        left = behind;
+        left = rest;
     }
     true
 }
 
+// Whether each operand fits DW.
 fn are_expressions<'a>(tokens: &'a [Placed<'a>]) -> bool
     ensures { result ≡ list_all is_expression (operands_of (pieces_of tokens.now)) }
 {
     let mut left = Some(tokens);
     while let Some(operands) = left {
-        let (first, behind) = next_operand(operands);
+        let (first, rest) = next_operand(operands);
         if !is_expression(first) {
             return false;
         }
-        left = behind;
+        left = rest;
     }
     true
 }
@@ -82,11 +86,11 @@ fn data_list<'a>(
     let mut list = Vec::new(alloc);
     let mut left = Some(tokens);
     while let Some(operands) = left {
-        let (first, behind) = next_operand(operands);
+        let (first, rest) = next_operand(operands);
         list.push(data_at(alloc, column, first)?)?;
-        left = behind;
+        left = rest;
     }
-    Ok(Sequence::from_vec(list))
+    Ok(Sequence::from(list))
 }
 
 fn expression_list<'a>(
@@ -99,16 +103,17 @@ fn expression_list<'a>(
     let mut list = Vec::new(alloc);
     let mut left = Some(tokens);
     while let Some(operands) = left {
-        let (first, behind) = next_operand(operands);
+        let (first, rest) = next_operand(operands);
         list.push(expression(alloc, column, first)?)?;
-        left = behind;
+        left = rest;
     }
-    Ok(Sequence::from_vec(list))
+    Ok(Sequence::from(list))
 }
 
 // The operands of DB.
 fn some_data(alloc: Global, column: usize, tokens: &[Placed]) -> Result<Sequence<Data>, LineFault>
-    ensures { LineGives (λ x. x) result (some_operands column is_data (data_at column) (pieces_of tokens.now)) }
+    ensures { LineGives (λ x. x) result
+        (some_operands column is_data (data_at column) (pieces_of tokens.now)) }
 {
     if tokens.is_empty() || !are_data(tokens) {
         return Err(unfit(column));
@@ -122,7 +127,8 @@ fn some_words(
     column: usize,
     tokens: &[Placed],
 ) -> Result<Sequence<Operand>, LineFault>
-    ensures { LineGives (λ x. x) result (some_operands column is_expression (expression column) (pieces_of tokens.now)) }
+    ensures { LineGives (λ x. x) result
+        (some_operands column is_expression (expression column) (pieces_of tokens.now)) }
 {
     if tokens.is_empty() || !are_expressions(tokens) {
         return Err(unfit(column));
@@ -137,10 +143,10 @@ fn end_of(alloc: Global, column: usize, tokens: &[Placed]) -> Result<Option<Oper
     if tokens.is_empty() {
         return Ok(None);
     }
-    Ok(Some(expression(alloc, column, one_operand(column, tokens)?)?))
+    Ok(Some(only_expression(alloc, column, tokens)?))
 }
 
-/// What a directive in this column says with the operands behind it, where no name stands before it.
+/// What a directive in this column says with the operands after it, where no name stands before it.
 #[tactic(auto, unfolding(crate::specs::Forms::directive_of))]
 pub fn directive(
     alloc: Global,
@@ -151,21 +157,12 @@ pub fn directive(
     ensures { LineGives (λ x. x) result (directive_of column directive (pieces_of tokens.now)) }
 {
     match directive {
-        Directive::Origin => {
-            let place = expression(alloc, column, one_operand(column, tokens)?)?;
-            Ok(Action::Origin(place))
-        }
+        Directive::Origin => Ok(Action::Origin(only_expression(alloc, column, tokens)?)),
         Directive::Bytes => Ok(Action::Bytes(some_data(alloc, column, tokens)?)),
         Directive::Words => Ok(Action::Words(some_words(alloc, column, tokens)?)),
-        Directive::Space => {
-            let length = expression(alloc, column, one_operand(column, tokens)?)?;
-            Ok(Action::Space(length))
-        }
+        Directive::Space => Ok(Action::Space(only_expression(alloc, column, tokens)?)),
         Directive::Equate | Directive::Set => Err(unfit(column)),
-        Directive::If => {
-            let condition = expression(alloc, column, one_operand(column, tokens)?)?;
-            Ok(Action::If(condition))
-        }
+        Directive::If => Ok(Action::If(only_expression(alloc, column, tokens)?)),
         Directive::Else => no_operand(column, Action::Else, tokens),
         Directive::EndIf => no_operand(column, Action::EndIf, tokens),
         Directive::End => Ok(Action::End(end_of(alloc, column, tokens)?)),

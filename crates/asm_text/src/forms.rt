@@ -1,15 +1,18 @@
-//! How many operands stand behind an operation.
+//! How many operands stand after an operation.
 ghost use Rattle.std.specs.Prelude.{◌≡◌};
 ghost use Rattle.asm_syntax.specs.Lexemes.{pieces_of};
 ghost use Rattle.asm_syntax.specs.Outcome.{LineGives};
-ghost use Rattle.asm_text.specs.Forms.{no_operand, one_operand, two_operands};
+ghost use Rattle.asm_text.specs.Forms.{no_operand, one_operand, two_operands, only_expression};
 
 use crate::registers::fitting;
 use asm_operand::commas::{pair, single};
+use asm_operand::expression::expression;
 use asm_syntax::fault::{FaultKind, LineFault};
+use asm_syntax::statement::Operand;
 use asm_syntax::token::Placed;
+use std::alloc::Global;
 
-/// A value, where no operand stands behind the operation.
+/// A value, where no operand stands after the operation.
 pub fn no_operand<T: Drop>(column: usize, value: T, tokens: &[Placed]) -> Result<T, LineFault>
     ensures { LineGives (λ x. x) result (no_operand column value (pieces_of tokens.now)) }
 {
@@ -23,7 +26,7 @@ pub fn no_operand<T: Drop>(column: usize, value: T, tokens: &[Placed]) -> Result
     }
 }
 
-/// The operand, where one stands behind the operation.
+/// The operand, where one stands after the operation.
 pub fn one_operand<'a>(
     column: usize,
     tokens: &'a [Placed<'a>],
@@ -33,12 +36,24 @@ pub fn one_operand<'a>(
     fitting(column, single(tokens))
 }
 
-/// The operands, where two stand behind the operation.
+/// The operands, where two stand after the operation.
 pub fn two_operands<'a>(
     column: usize,
     tokens: &'a [Placed<'a>],
 ) -> Result<(&'a [Placed<'a>], &'a [Placed<'a>]), LineFault>
-    ensures { LineGives (λ x. (pieces_of x.0.now, pieces_of x.1.now)) result (two_operands column (pieces_of tokens.now)) }
+    ensures { LineGives (λ x. (pieces_of x.0.now, pieces_of x.1.now)) result
+        (two_operands column (pieces_of tokens.now)) }
 {
     fitting(column, pair(tokens))
+}
+
+/// The expression, where one operand stands after the operation.
+pub fn only_expression(
+    alloc: Global,
+    column: usize,
+    tokens: &[Placed],
+) -> Result<Operand, LineFault>
+    ensures { LineGives (λ x. x) result (only_expression column (pieces_of tokens.now)) }
+{
+    expression(alloc, column, one_operand(column, tokens)?)
 }

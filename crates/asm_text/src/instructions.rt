@@ -2,9 +2,11 @@
 ghost use Rattle.std.specs.Prelude.{◌≡◌};
 ghost use Rattle.asm_syntax.specs.Lexemes.{pieces_of};
 ghost use Rattle.asm_syntax.specs.Outcome.{LineGives};
-ghost use Rattle.asm_text.specs.Forms.{move_of, move_between, one_operand, two_operands, no_operand, register_instruction, pair_instruction, index_instruction, stack_instruction, instruction_of};
+ghost use Rattle.asm_text.specs.Forms.{move_of, move_between, one_operand, two_operands, no_operand};
+ghost use Rattle.asm_text.specs.Forms.{register_instruction, pair_instruction, index_instruction};
+ghost use Rattle.asm_text.specs.Forms.{stack_instruction, instruction_of};
 
-use crate::forms::{no_operand, one_operand, two_operands};
+use crate::forms::{no_operand, one_operand, only_expression, two_operands};
 use crate::registers::{
     fitting, index_operand, pair_operand, register_of, register_operand, stack_operand,
 };
@@ -67,15 +69,41 @@ fn move_between(to: Option<Register>, from: Option<Register>) -> Option<Instr>
     }
 }
 
-fn move_of(column: usize, to: &[Placed], from: &[Placed]) -> Result<Instr, LineFault>
-    ensures { LineGives (λ x. x) result (move_of column (pieces_of to.now, pieces_of from.now)) }
+// MOV with these operands.
+fn move_of(column: usize, operands: (&[Placed], &[Placed])) -> Result<Instr, LineFault>
+    ensures { LineGives (λ x. x) result
+        (move_of column (pieces_of operands.entry.0.now, pieces_of operands.entry.1.now)) }
 {
-    let to = register_operand(column, to)?;
-    let from = register_operand(column, from)?;
+    let to = register_operand(column, operands.0)?;
+    let from = register_operand(column, operands.1)?;
     fitting(column, move_between(register_of(to), register_of(from)))
 }
 
-/// The instruction that a mnemonic in this column names with the operands behind it.
+// MVI with its operands.
+#[tactic(auto, unfolding(crate::specs::Forms::instruction_of))]
+fn move_immediate(alloc: Global, column: usize, tokens: &[Placed]) -> Result<Instruction, LineFault>
+    ensures { LineGives (λ x. x) result
+        (instruction_of column Mnemonic.MoveImmediate (pieces_of tokens.now)) }
+{
+    let (to, byte) = two_operands(column, tokens)?;
+    let reg = register_operand(column, to)?;
+    let byte = expression(alloc, column, byte)?;
+    Ok(Instruction::Byte(ByteOperation::Mvi(reg), byte))
+}
+
+// LXI with its operands.
+#[tactic(auto, unfolding(crate::specs::Forms::instruction_of))]
+fn load_pair(alloc: Global, column: usize, tokens: &[Placed]) -> Result<Instruction, LineFault>
+    ensures { LineGives (λ x. x) result
+        (instruction_of column Mnemonic.LoadPair (pieces_of tokens.now)) }
+{
+    let (to, word) = two_operands(column, tokens)?;
+    let pair = pair_operand(column, to)?;
+    let word = expression(alloc, column, word)?;
+    Ok(Instruction::Word(WordOperation::Lxi(pair), word))
+}
+
+/// The instruction that a mnemonic in this column names with the operands after it.
 #[tactic(auto, unfolding(crate::specs::Forms::instruction_of))]
 pub fn instruction(
     alloc: Global,
@@ -91,22 +119,9 @@ pub fn instruction(
             let reg = register_operand(column, one_operand(column, tokens)?)?;
             Ok(Instruction::Alone(register_instruction(operation, reg)))
         }
-        Mnemonic::Move => {
-            let (to, from) = two_operands(column, tokens)?;
-            Ok(Instruction::Alone(move_of(column, to, from)?))
-        }
-        Mnemonic::MoveImmediate => {
-            let (to, byte) = two_operands(column, tokens)?;
-            let reg = register_operand(column, to)?;
-            let byte = expression(alloc, column, byte)?;
-            Ok(Instruction::Byte(ByteOperation::Mvi(reg), byte))
-        }
-        Mnemonic::LoadPair => {
-            let (to, word) = two_operands(column, tokens)?;
-            let pair = pair_operand(column, to)?;
-            let word = expression(alloc, column, word)?;
-            Ok(Instruction::Word(WordOperation::Lxi(pair), word))
-        }
+        Mnemonic::Move => Ok(Instruction::Alone(move_of(column, two_operands(column, tokens)?)?)),
+        Mnemonic::MoveImmediate => move_immediate(alloc, column, tokens),
+        Mnemonic::LoadPair => load_pair(alloc, column, tokens),
         Mnemonic::Pair(operation) => {
             let pair = pair_operand(column, one_operand(column, tokens)?)?;
             Ok(Instruction::Alone(pair_instruction(operation, pair)))
@@ -120,16 +135,13 @@ pub fn instruction(
             Ok(Instruction::Alone(stack_instruction(operation, pair)))
         }
         Mnemonic::Byte(operation) => {
-            let byte = expression(alloc, column, one_operand(column, tokens)?)?;
+            let byte = only_expression(alloc, column, tokens)?;
             Ok(Instruction::Byte(operation, byte))
         }
         Mnemonic::Word(operation) => {
-            let word = expression(alloc, column, one_operand(column, tokens)?)?;
+            let word = only_expression(alloc, column, tokens)?;
             Ok(Instruction::Word(operation, word))
         }
-        Mnemonic::Restart => {
-            let number = expression(alloc, column, one_operand(column, tokens)?)?;
-            Ok(Instruction::Restart(number))
-        }
+        Mnemonic::Restart => Ok(Instruction::Restart(only_expression(alloc, column, tokens)?)),
     }
 }

@@ -2,14 +2,15 @@
 ghost use Rattle.std.specs.Prelude.{◌≡◌, is_some};
 ghost use Rattle.asm_syntax.specs.Lexemes.{pieces_of, piece_of, lexeme_of};
 ghost use Rattle.asm_syntax.specs.Outcome.{LineGives};
-ghost use Rattle.asm_text.specs.Lines.{name_at, is_colon, label_at, placed_well, definition_in, defined_by, or_mnemonic, only_operand, definition_at, action_of, plain_at, operation_at, line_of};
+ghost use Rattle.asm_text.specs.Lines.{name_at, is_colon, label_at, placed_well, definition_in, defined_by};
+ghost use Rattle.asm_text.specs.Lines.{or_mnemonic, only_operand, definition_at, action_of, plain_at};
+ghost use Rattle.asm_text.specs.Lines.{operation_at, line_of};
 
 use crate::directives::directive;
-use crate::forms::one_operand;
+use crate::forms::only_expression;
 use crate::instructions::instruction;
 use asm_expr::name::Name;
 use asm_lex::lexer::tokens;
-use asm_operand::expression::expression;
 use asm_operand::words::misplaced_word;
 use asm_syntax::fault::{FaultKind, LineFault};
 use asm_syntax::keyword::{Directive, Keyword};
@@ -51,7 +52,7 @@ fn is_colon(token: &Token) -> bool
     }
 }
 
-// The label of a line, and what stands behind it.
+// The label of a line, and what stands after it.
 #[tactic(auto, unfolding(crate::specs::Lines::label_at))]
 fn label_at<'a>(
     alloc: Global,
@@ -132,10 +133,10 @@ fn only_operand(
             kind: FaultKind::Operands,
         });
     }
-    expression(alloc, column, one_operand(column, tokens)?)
+    only_expression(alloc, column, tokens)
 }
 
-// A name with EQU or SET, which stands in this column, and what stands behind it.
+// A name with EQU or SET, which stands in this column, and what stands after it.
 #[tactic(auto, unfolding(crate::specs::Lines::definition_at))]
 fn definition_at(
     alloc: Global,
@@ -145,7 +146,8 @@ fn definition_at(
     definition: Definition,
     rest: &[Placed],
 ) -> Result<Operation, LineFault>
-    ensures { LineGives (λ x. x) result (definition_at is_labelled (piece_of first.now) column definition (pieces_of rest.now)) }
+    ensures { LineGives (λ x. x) result
+        (definition_at is_labelled (piece_of first.now) column definition (pieces_of rest.now)) }
 {
     let name = or_mnemonic(first.column, name_at(alloc, first)?)?;
     placed_well(rest)?;
@@ -154,7 +156,7 @@ fn definition_at(
     Ok(Operation { column, action })
 }
 
-// What the word of an operation says with the operands behind it.
+// What the word of an operation says with the operands after it.
 #[tactic(auto, unfolding(crate::specs::Lines::action_of))]
 fn action_of(
     alloc: Global,
@@ -188,7 +190,7 @@ fn plain_at(alloc: Global, first: &Placed, rest: &[Placed]) -> Result<Operation,
     Ok(Operation { column, action })
 }
 
-// The operation behind a label, or behind none.
+// The operation after a label, or after none.
 #[tactic(auto, unfolding(crate::specs::Lines::operation_at))]
 fn operation_at(
     alloc: Global,
@@ -197,11 +199,11 @@ fn operation_at(
 ) -> Result<Option<Operation>, LineFault>
     ensures { LineGives (λ x. x) result (operation_at is_labelled (pieces_of tokens.now)) }
 {
-    let Some((first, behind)) = tokens.split_first() else {
+    let Some((first, others)) = tokens.split_first() else {
         return Ok(None);
     };
-    let Some((second, rest)) = behind.split_first() else {
-        return Ok(Some(plain_at(alloc, first, behind)?));
+    let Some((second, rest)) = others.split_first() else {
+        return Ok(Some(plain_at(alloc, first, others)?));
     };
     match definition_in(&second.token) {
         Some(definition) => {
@@ -215,7 +217,7 @@ fn operation_at(
             )?;
             Ok(Some(operation))
         }
-        None => Ok(Some(plain_at(alloc, first, behind)?)),
+        None => Ok(Some(plain_at(alloc, first, others)?)),
     }
 }
 

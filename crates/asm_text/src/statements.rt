@@ -2,7 +2,8 @@
 ghost use Rattle.std.specs.Prelude.{◌≡◌, ◌≤◌, [], length, IfOk, MatchResult};
 ghost use Rattle.std.specs.Str.Lines.{lines};
 ghost use Rattle.asm_syntax.specs.Outcome.{LineGives, Gives};
-ghost use Rattle.asm_text.specs.Statements.{line_step_of, step_of, is_end_action, statements_from, statements_of, texts_of};
+ghost use Rattle.asm_text.specs.Statements.{line_step_of, step_of, is_end_action, statements_from};
+ghost use Rattle.asm_text.specs.Statements.{statements_of, texts_of};
 
 use crate::conditional::OpenIfs;
 use crate::lines::statement;
@@ -42,7 +43,7 @@ fn step(alloc: Global, number: usize, ifs: &mut OpenIfs, line: &str) -> Result<S
 {
     match read_line(alloc, number, ifs, line.as_bytes()) {
         Ok(statement) => Ok(statement),
-        Err(LineFault::NoMemory) => Err(AsmFault::NoMemory),
+        Err(LineFault::OutOfMemory) => Err(AsmFault::OutOfMemory),
         Err(LineFault::At { column, kind }) => Err(AsmFault::At {
             line: number,
             column,

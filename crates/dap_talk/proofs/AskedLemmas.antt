@@ -1,5 +1,31 @@
 -- What holds of every command that was read.
-use Rattle.std.proofs.Common.{◌≡◌, ℕ, ◌≤◌, List, [], ◌∷◌, length, Bool, true, false, cond, nat_le, ◌&&◌, Option, Some, None, option_map, option_and_then, codes, refl, sym, ap, ◌∙◌, subst, arith}
+use Rattle.std.proofs.Common.{
+  ◌≡◌,
+  ℕ,
+  ◌≤◌,
+  List,
+  [],
+  ◌∷◌,
+  length,
+  Bool,
+  true,
+  false,
+  cond,
+  nat_le,
+  ◌&&◌,
+  Option,
+  Some,
+  None,
+  option_map,
+  option_and_then,
+  codes,
+  refl,
+  sym,
+  ap,
+  ◌∙◌,
+  subst,
+  arith,
+}
 use Rattle.std.proofs.lemmas.Bool.Decides.{nat_tests}
 use Rattle.serde_json.specs.Data.{Data, Items, no_items, item}
 use Rattle.serde_json.specs.Events.{items_len}
@@ -7,8 +33,36 @@ use Rattle.serde_json.specs.Find.{as_array}
 use Rattle.dap_talk.specs.declared.command.CommandName.{CommandName}
 use Rattle.dap_talk.specs.declared.command.CommandName.TheVariants as name
 use Rattle.dap_talk.specs.declared.command.DapCommand.{DapCommand}
-use Rattle.dap_talk.specs.Argument.{source, address, Found, found_number, found_lines, Argument, required, argument_at, found, found_or, all_found, line_of, lines_of, at_most_256, whole, when_between}
-use Rattle.dap_talk.specs.Table.{arguments_of, command_of, name_of, asked, IsBounded, number_in, lines_in, count_to_256, number_or_0, breakpoints_or_none}
+use Rattle.dap_talk.specs.Argument.{
+  source,
+  address,
+  Found,
+  found_number,
+  found_lines,
+  Argument,
+  required,
+  argument_at,
+  found,
+  found_or,
+  all_found,
+  line_of,
+  lines_of,
+  at_most_256,
+  whole,
+  when_between,
+}
+use Rattle.dap_talk.specs.Table.{
+  arguments_of,
+  command_of,
+  name_of,
+  asked,
+  IsBounded,
+  number_in,
+  lines_in,
+  count_to_256,
+  number_or_0,
+  breakpoints_or_none,
+}
 
 -- ---- the name
 
@@ -57,7 +111,7 @@ record Splits (o : Option Found) (p : Option (List Found)) (vs : List Found) : T
   first : Found
   others : List Found
   here : o ≡ Some first
-  behind : p ≡ Some others
+  after : p ≡ Some others
   whole_is : first ∷ others ≡ vs
 
 splits : (o : Option Found) (p : Option (List Found)) (vs : List Found)
@@ -68,7 +122,7 @@ splits (Some v) (Some ws) vs e = record {
   first = v;
   others = ws;
   here = refl;
-  behind =
+  after =
       refl;
   whole_is = cc;
 }
@@ -163,7 +217,7 @@ set_breakpoints_bounded d c e =
     let s : Splits _ _ _ = splits (found (required (codes "source") source) d) (all_found
     (breakpoints_or_none (codes "breakpoints") ∷ []) d) made.0 made.1 in
     let t : Splits _ _ _ = splits (found (breakpoints_or_none (codes "breakpoints")) d)
-    (Some []) s.others s.behind in
+    (Some []) s.others s.after in
     let short : IsShort t.first = short_at (codes "breakpoints") (argument_at
     (codes "breakpoints") d) t.first t.here in
     bounded_by name.SetBreakpoints made.0 (s.first ∷ t.first ∷ t.others) c made.2
@@ -178,11 +232,11 @@ disassemble_bounded d c e =
     let s : Splits _ _ _ = splits (found (required (codes "memoryReference") address) d)
     (all_found second d) made.0 made.1 in
     let t : Splits _ _ _ = splits (found (number_or_0 (codes "offset")) d)
-    (all_found third d) s.others s.behind in
+    (all_found third d) s.others s.after in
     let u : Splits _ _ _ = splits (found (number_or_0 (codes "instructionOffset")) d)
-    (all_found last d) t.others t.behind in
+    (all_found last d) t.others t.after in
     let v : Splits _ _ _ = splits (found (required (codes "instructionCount") count_to_256) d)
-    (Some []) u.others u.behind in
+    (Some []) u.others u.after in
     let counted : IsCount v.first = counted_at (codes "instructionCount") (argument_at
     (codes "instructionCount") d) v.first v.here in
     bounded_by name.Disassemble made.0 (s.first ∷ t.first ∷ u.first ∷ v.first ∷ v.others) c made.2

@@ -1,4 +1,4 @@
--- Where memory can be wanting.
+-- What can be out of memory.
 use Rattle.std.proofs.Common.{◌≡◌, Option, Some, None, IsSome}
 use Rattle.serde_json.specs.Data.{Data}
 use Rattle.dap_talk.specs.declared.command.CommandName.{CommandName}

@@ -1,6 +1,23 @@
 -- The kinds of arguments, and what is found for one in a request.
-use Rattle.std.specs.Prelude.{ℕ, ◌+◌, ◌-◌, ◌*◌, ◌==◌, ◌&&◌, nat_le, if◌then◌else◌, List, [], ◌∷◌, Option, Some, None, option_map, option_and_then, is_none, Bool, codes}
+use Rattle.std.specs.Prelude.{
+  ℕ,
+  ◌&&◌,
+  nat_le,
+  if◌then◌else◌,
+  List,
+  [],
+  ◌∷◌,
+  Option,
+  Some,
+  None,
+  option_map,
+  option_and_then,
+  is_none,
+  Bool,
+  codes,
+}
 use Rattle.std.specs.Str.{bytes_eq}
+use Rattle.base_text.specs.Hexadecimal.{word_spelled}
 use Rattle.serde_json.specs.Data.{Data, Items, no_items, item}
 use Rattle.serde_json.specs.Events.{items_len}
 use Rattle.serde_json.specs.Find.{get, get_member, as_number, as_u64, as_str, as_array, as_object}
@@ -64,20 +81,10 @@ at_most_256 ds = if nat_le (items_len ds) 256 then Some ds else None
 abbrev pub granularity_of : List ℕ → Granularity
 granularity_of name = if bytes_eq name (codes "instruction") then Instruction else Line
 
-abbrev pub digit_of : ℕ → Option ℕ
-digit_of c =
-    if nat_le 48 c && nat_le c 57 then Some (c - 48) else
-    (if nat_le 65 c && nat_le c 70 then Some (c - 55) else
-    (if nat_le 97 c && nat_le c 102 then Some (c - 87) else None))
-
--- the number that hexadecimal digits write, behind the number so far
-abbrev pub number_from : ℕ → List ℕ → Option ℕ
-number_from n [] = Some n
-number_from n (c ∷ cs) = option_and_then (λ digit. number_from (n * 16 + digit) cs) (digit_of c)
-
+-- the word after `0x`
 abbrev pub address_of : List ℕ → Option ℕ
-address_of (first ∷ second ∷ a ∷ b ∷ c ∷ d ∷ []) =
-    if (first == 48) && (second == 120) then number_from 0 (a ∷ b ∷ c ∷ d ∷ []) else None
+address_of (first ∷ second ∷ digits) =
+    if bytes_eq (first ∷ second ∷ []) (codes "0x") then word_spelled digits else None
 address_of other = None
 
 -- what a value is as an argument of a kind, if it is one

@@ -1,9 +1,21 @@
 -- The JSON of answers (Debug Adapter Protocol, "Base Protocol", "Events", "Requests", "Types";
 -- Jupyter messaging, "Debug request"). The members of an object stand in the order of their keys'
 -- bytes.
-use Rattle.std.specs.Prelude.{ℕ, ◌+◌, ◌/◌, ◌%◌, nat_lt, if◌then◌else◌, Bool, true, false, Option, Some, None, List, [], ◌∷◌, ◌++◌, map, codes}
+use Rattle.std.specs.Prelude.{ℕ, Bool, true, false, Option, Some, None, List, [], ◌∷◌, ◌++◌, map, codes}
 use Rattle.std.specs.List.{join_with_byte}
-use Rattle.serde_json.specs.Data.{Data, boolean, number, unsigned, string, array, object, Members, no_members, member}
+use Rattle.base_text.specs.Hexadecimal.{upper_byte, lower_word}
+use Rattle.serde_json.specs.Data.{
+  Data,
+  boolean,
+  number,
+  unsigned,
+  string,
+  array,
+  object,
+  Members,
+  no_members,
+  member,
+}
 use Rattle.serde_json.specs.View.{items_of}
 use Rattle.dap_talk.specs.declared.answer.Breakpoint.{Breakpoint}
 use Rattle.dap_talk.specs.declared.answer.StackFrame.{StackFrame}
@@ -16,6 +28,8 @@ use Rattle.dap_talk.specs.declared.answer.Body.TheVariants as body
 use Rattle.dap_talk.specs.declared.answer.Outcome.{Outcome}
 use Rattle.dap_talk.specs.declared.answer.Outcome.TheVariants.{Success, Refused}
 use Rattle.dap_talk.specs.declared.answer.Response.{Response}
+use Rattle.dap_talk.specs.declared.bodies.Scope.{Scope}
+use Rattle.dap_talk.specs.declared.bodies.Scope.TheVariants as scope
 use Rattle.dap_talk.specs.declared.answer.StopReason.{StopReason}
 use Rattle.dap_talk.specs.declared.answer.StopReason.TheVariants as stop
 use Rattle.dap_talk.specs.declared.answer.Event.{Event}
@@ -34,22 +48,18 @@ whole_number n = number (unsigned n)
 abbrev pub list_of : {T : Type 0} → (T → Data) → List T → Data
 list_of f xs = array (items_of (map f xs))
 
--- ---- digits
+-- ---- texts
 
--- `0` to `9`, and then `A` to `F` or `a` to `f`
-abbrev pub hex_digit : Bool → ℕ → ℕ
-hex_digit upper n = if nat_lt n 10 then 48 + n else (if upper then 55 + n else 87 + n)
-
-abbrev pub hex_byte : Bool → ℕ → List ℕ
-hex_byte upper n = hex_digit upper (n / 16) ∷ hex_digit upper (n % 16) ∷ []
+abbrev pub space : ℕ
+space = 32
 
 -- `0x` and four digits in lower case
 abbrev pub reference : ℕ → List ℕ
-reference address = codes "0x" ++ (hex_byte false (address / 256) ++ hex_byte false (address % 256))
+reference address = codes "0x" ++ lower_word address
 
 -- two digits in upper case for each byte, with a space between
 abbrev pub spaced_bytes : List ℕ → List ℕ
-spaced_bytes bytes = join_with_byte 32 (map (hex_byte true) bytes)
+spaced_bytes bytes = join_with_byte space (map upper_byte bytes)
 
 -- ---- parts of bodies
 
@@ -61,18 +71,22 @@ breakpoint_json b = object_of (
     (codes "line", whole_number b.line) ∷
     (codes "verified", boolean b.verified) ∷ [])
 
+-- what a frame has, with a source or without one
+abbrev pub bare_frame : StackFrame → List (List ℕ × Data)
+bare_frame f =
+    (codes "column", whole_number 1) ∷
+    (codes "id", whole_number f.id) ∷
+    (codes "instructionPointerReference", string (reference f.address)) ∷
+    (codes "line", whole_number f.line) ∷
+    (codes "name", string f.name) ∷ []
+
 -- a frame without a source has no `source`
 abbrev pub source_members : Option (List ℕ) → List (List ℕ × Data)
 source_members None = []
 source_members (Some path) = (codes "source", source_json path) ∷ []
 
 abbrev pub frame_json : StackFrame → Data
-frame_json f = object_of (
-    (codes "column", whole_number 1) ∷
-    (codes "id", whole_number f.id) ∷
-    (codes "instructionPointerReference", string (reference f.address)) ∷
-    (codes "line", whole_number f.line) ∷
-    (codes "name", string f.name) ∷ source_members f.source)
+frame_json f = object_of (bare_frame f ++ source_members f.source)
 
 abbrev pub variable_json : Variable → Data
 variable_json v = object_of (
@@ -105,13 +119,16 @@ scope_json name reference expensive = object_of (
     (codes "name", string name) ∷
     (codes "variablesReference", whole_number reference) ∷ [])
 
-abbrev pub every_scope : List Data
+abbrev pub scope_of : Scope → Data
+scope_of scope.Registers = scope_json (codes "Registers") 1 false
+scope_of scope.Flags = scope_json (codes "Flags") 2 false
+scope_of scope.Devices = scope_json (codes "Devices") 3 false
+scope_of scope.Symbols = scope_json (codes "Symbols") 4 false
+scope_of scope.Memory = scope_json (codes "Memory") 5 true
+
+abbrev pub every_scope : List Scope
 every_scope =
-    scope_json (codes "Registers") 1 false ∷
-    scope_json (codes "Flags") 2 false ∷
-    scope_json (codes "Devices") 3 false ∷
-    scope_json (codes "Symbols") 4 false ∷
-    scope_json (codes "Memory") 5 true ∷ []
+    scope.Registers ∷ scope.Flags ∷ scope.Devices ∷ scope.Symbols ∷ scope.Memory ∷ []
 
 abbrev pub stopped_threads : Bool → Data
 stopped_threads true = list_of whole_number (1 ∷ [])
@@ -140,9 +157,6 @@ capabilities_json = object_of (
 abbrev pub threads_json : Data
 threads_json = object_of ((codes "threads", array (items_of (thread_json ∷ []))) ∷ [])
 
-abbrev pub scopes_json : Data
-scopes_json = object_of ((codes "scopes", array (items_of every_scope)) ∷ [])
-
 abbrev pub stack_trace_json : List StackFrame → ℕ → Data
 stack_trace_json frames total = object_of (
     (codes "stackFrames", list_of frame_json frames) ∷
@@ -158,7 +172,7 @@ body_json body.Capabilities = capabilities_json
 body_json (body.Breakpoints bs) = one_list (codes "breakpoints") breakpoint_json bs
 body_json body.Threads = threads_json
 body_json (body.StackTrace frames total) = stack_trace_json frames total
-body_json body.Scopes = scopes_json
+body_json body.Scopes = one_list (codes "scopes") scope_of every_scope
 body_json (body.Variables vs) = one_list (codes "variables") variable_json vs
 body_json body.Continued = object_of ((codes "allThreadsContinued", boolean true) ∷ [])
 body_json (body.Instructions is) = one_list (codes "instructions") instruction_json is

@@ -1,7 +1,8 @@
 pub mod Argument
 pub mod Table
-pub mod Refusal
+pub mod Answer
 pub mod Reading
 pub mod Murmur
 pub mod Json
 pub mod Fault
+pub mod Object

@@ -1,5 +1,20 @@
 -- The path of a cell: MurmurHash2 (A. Appleby; 32 bits, seed 0) of its text, all modulo 2^32.
-use Rattle.std.specs.Prelude.{ℕ, ◌+◌, ◌*◌, ◌/◌, ◌%◌, ◌^◌, List, [], ◌∷◌, ◌++◌, length, bit_xor, codes, decimal}
+use Rattle.std.specs.Prelude.{
+  ℕ,
+  ◌+◌,
+  ◌*◌,
+  ◌/◌,
+  ◌%◌,
+  ◌^◌,
+  List,
+  [],
+  ◌∷◌,
+  ◌++◌,
+  length,
+  bit_xor,
+  codes,
+  decimal,
+}
 
 -- multiplied by the algorithm's m
 unfoldable pub times_m : ℕ → ℕ
@@ -16,7 +31,7 @@ xor_shifted bits n = bit_xor n (n / 2 ^ bits)
 unfoldable pub mixed : ℕ → ℕ
 mixed k = times_m (xor_shifted 24 (times_m k))
 
--- behind the hash so far, four bytes at a time, and then the one, two or three that are left
+-- after the hash so far: four bytes at a time, and then the one, two or three that are left
 abbrev pub hash_from : ℕ → List ℕ → ℕ
 hash_from h [] = h
 hash_from h (a ∷ []) = times_m (bit_xor h (low_first (a ∷ [])))

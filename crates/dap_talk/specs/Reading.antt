@@ -1,6 +1,20 @@
 -- What a JSON value asks for as a debug request (Debug Adapter Protocol, "Base Protocol":
 -- ProtocolMessage and Request), and which faults stand for what is no such request.
-use Rattle.std.specs.Prelude.{◌≡◌, ℕ, List, Option, Some, None, Result, Ok, Err, if◌then◌else◌, option_map, option_and_then, codes}
+use Rattle.std.specs.Prelude.{
+  ◌≡◌,
+  ℕ,
+  List,
+  Option,
+  Some,
+  None,
+  Result,
+  Ok,
+  Err,
+  if◌then◌else◌,
+  option_map,
+  option_and_then,
+  codes,
+}
 use Rattle.std.specs.Str.{bytes_eq}
 use Rattle.serde_json.specs.Data.{Data}
 use Rattle.serde_json.specs.Find.{get}
@@ -62,7 +76,7 @@ reading_of_envelope d (Some e) = reading_of_name e d (named e.command)
 unfoldable pub reading : Data → Reading
 reading d = reading_of_envelope d (envelope_of d)
 
--- memory can be wanting only for what is a request
+-- only a request can be out of memory
 abbrev pub IsOfRequest : Reading → Type 0
 IsOfRequest not_request = ⊥
 IsOfRequest (unknown_command seq command) = ⊥

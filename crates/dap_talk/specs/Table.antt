@@ -11,7 +11,24 @@ use Rattle.dap_talk.specs.declared.command.CommandName.{CommandName}
 use Rattle.dap_talk.specs.declared.command.CommandName.TheVariants as name
 use Rattle.dap_talk.specs.declared.command.DapCommand.{DapCommand}
 use Rattle.dap_talk.specs.declared.command.DapCommand.TheVariants as command
-use Rattle.dap_talk.specs.Argument.{Kind, number, text, source, breakpoints, granularity, address, Found, found_number, found_text, found_lines, found_granularity, Argument, required, optional, all_found}
+use Rattle.dap_talk.specs.Argument.{
+  Kind,
+  number,
+  text,
+  source,
+  breakpoints,
+  granularity,
+  address,
+  Found,
+  found_number,
+  found_text,
+  found_lines,
+  found_granularity,
+  Argument,
+  required,
+  optional,
+  all_found,
+}
 
 abbrev pub spelled : CommandName → List ℕ
 spelled name.Initialize = codes "initialize"

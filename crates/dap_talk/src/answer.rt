@@ -1,7 +1,8 @@
 //! Typed answers: responses with their bodies, and events.
 ghost use Rattle.std.specs.Prelude.{◌≡◌};
 
-use crate::text::{Sequence, Text};
+use base_text::sequence::{Bytes, Sequence};
+use base_text::text::Text;
 
 /// A breakpoint that was asked for, and whether its source has the line.
 #[derive(Clone, Copy, PartialEq, Eq, Debug)]
@@ -12,7 +13,7 @@ pub struct Breakpoint {
 
 /// A frame of the stack (Debug Adapter Protocol, "Types": StackFrame). Where no source is known,
 /// the line is 0 by custom; the column is always 1.
-#[derive(Clone, Debug, Drop)]
+#[derive(Debug, Drop)]
 pub struct StackFrame {
     pub id: u32,
     pub name: Text,
@@ -22,14 +23,14 @@ pub struct StackFrame {
 }
 
 /// A variable as it is shown.
-#[derive(Clone, Debug, Drop)]
+#[derive(Debug, Drop)]
 pub struct Variable {
     pub name: Text,
     pub value: Text,
 }
 
 /// A line of disassembly.
-#[derive(Clone, Debug, Drop)]
+#[derive(Debug, Drop)]
 pub struct Instruction {
     pub address: u16,
     pub bytes: Sequence<u8>,
@@ -37,7 +38,7 @@ pub struct Instruction {
 }
 
 /// The breakpoints of a source.
-#[derive(Clone, Debug, Drop)]
+#[derive(Debug, Drop)]
 pub struct SourceBreakpoints {
     pub path: Text,
     pub lines: Sequence<u32>,
@@ -45,7 +46,7 @@ pub struct SourceBreakpoints {
 
 /// The state of debugging (Jupyter messaging, `debugInfo`): whether a frontend is attached, whether
 /// the thread is stopped, and the sources that have breakpoints.
-#[derive(Clone, Debug, Drop)]
+#[derive(Debug, Drop)]
 pub struct DebugState {
     pub is_attached: bool,
     pub is_stopped: bool,
@@ -53,7 +54,7 @@ pub struct DebugState {
 }
 
 /// The body of a successful response (Debug Adapter Protocol, "Requests").
-#[derive(Clone, Debug, Drop)]
+#[derive(Debug, Drop)]
 pub enum Body {
     /// Of commands that answer nothing but that they were done.
     Empty,
@@ -81,14 +82,14 @@ pub enum Body {
 }
 
 /// How a request was answered: done, or refused with a message.
-#[derive(Clone, Debug, Drop)]
+#[derive(Debug, Drop)]
 pub enum Outcome {
     Success(Body),
     Refused(Text),
 }
 
 /// An answer to the request with this number and command.
-#[derive(Clone, Debug, Drop)]
+#[derive(Debug, Drop)]
 pub struct Response {
     pub request_seq: u32,
     pub command: Text,

@@ -1,28 +1,49 @@
 //! What stands in the arguments of a request.
-ghost use Rattle.std.specs.Prelude.{◌≡◌, ℕ, ◌<◌, IfOk, IfSome, IsSome, is_some, option_map, option_and_then};
+ghost use Rattle.std.specs.Prelude.{◌≡◌, ◌<◌, IfOk, IfSome, IsSome, is_some, option_map, option_and_then};
 ghost use Rattle.serde_json.specs.Find.{as_array};
 ghost use Rattle.serde_json.specs.View.{view, items_view};
-ghost use Rattle.dap_talk.specs.declared.arguments.Refusal.TheVariants.{OutOfMemory};
-ghost use Rattle.dap_talk.specs.Argument.{Kind, number, text, source, address, found_number, found_text, found_lines, found_granularity, whole_between, is_plain, line_of, lines_of, at_most_256, digit_of, address_of, argument_at, found, required};
-ghost use Rattle.dap_talk.specs.Table.{byte, count_to_256, number_or_0, breakpoints_or_none, granularity_or_line};
+ghost use Rattle.dap_talk.specs.declared.arguments.ArgumentFault.TheVariants.{OutOfMemory};
+ghost use Rattle.dap_talk.specs.Argument.{
+  number,
+  text,
+  source,
+  address,
+  found_number,
+  found_text,
+  found_lines,
+  found_granularity,
+  whole_between,
+  text_at,
+  is_plain,
+  line_of,
+  lines_of,
+  at_most_256,
+  address_of,
+  argument_at,
+  found,
+  required,
+};
+ghost use Rattle.dap_talk.specs.Table.{byte, count_to_256, number_or_0, breakpoints_or_none};
+ghost use Rattle.dap_talk.specs.Table.{granularity_or_line};
 
 use crate::command::Granularity;
-use crate::text::Sequence;
+use base_text::hexadecimal::read_word;
+use base_text::sequence::Sequence;
 use serde_json::Value;
 use std::alloc::{AllocError, Global};
 
 /// Why a command isn't read.
 #[derive(Clone, Copy, PartialEq, Eq, Debug)]
-pub enum Refusal {
+pub enum ArgumentFault {
     OutOfMemory,
     Arguments,
 }
 
-impl From<AllocError> for Refusal {
+impl From<AllocError> for ArgumentFault {
     ghost from_gives = { λ _ refusal. refusal ≡ OutOfMemory };
 
-    fn from(_e: AllocError) -> Refusal {
-        Refusal::OutOfMemory
+    fn from(_e: AllocError) -> ArgumentFault {
+        ArgumentFault::OutOfMemory
     }
 }
 
@@ -86,6 +107,13 @@ pub fn count_at(request: &Value, key: &str) -> Option<u16>
     u16::try_from(n).ok()
 }
 
+/// The text at a key of a value.
+pub fn member_text<'a>(value: &'a Value, key: &str) -> Option<&'a str>
+    ensures { option_map (λ t. t.now) result ≡ text_at key.now (view value.now) }
+{
+    value.get(key)?.as_str()
+}
+
 /// A text, which is required.
 pub fn text_at<'a>(request: &'a Value, key: &str) -> Option<&'a str>
     ensures { option_map (λ t. found_text t.now) result
@@ -99,7 +127,7 @@ pub fn source_at<'a>(request: &'a Value, key: &str) -> Option<&'a str>
     ensures { option_map (λ t. found_text t.now) result
         ≡ found (required key.now source) (view request.now) }
 {
-    argument_at(request, key)??.get("path")?.as_str()
+    member_text(argument_at(request, key)??, "path")
 }
 
 /// A granularity, by line where it is absent.
@@ -117,32 +145,13 @@ pub fn granularity_or_line(request: &Value, key: &str) -> Option<Granularity>
     }
 }
 
-fn digit_of(c: u8) -> Option<u16>
-    ensures digit { result ≡ digit_of c }
-    ensures small { IfSome result (λ digit. digit < 16) }
-{
-    match c {
-        b'0'..=b'9' => Some(u16::from(c - b'0')),
-        b'A'..=b'F' => Some(u16::from(c - b'A') + 10),
-        b'a'..=b'f' => Some(u16::from(c - b'a') + 10),
-        _ => None,
-    }
-}
-
 fn address_of(text: &str) -> Option<u16>
     ensures { result ≡ address_of text.now }
 {
-    let [first, second, a, b, c, d] = text.as_bytes() else {
+    let [b'0', b'x', digits @ ..] = text.as_bytes() else {
         return None;
     };
-    if *first != b'0' || *second != b'x' {
-        return None;
-    }
-    let a = digit_of(*a)?;
-    let b = digit_of(*b)?;
-    let c = digit_of(*c)?;
-    let d = digit_of(*d)?;
-    Some(((a * 16 + b) * 16 + c) * 16 + d)
+    read_word(digits)
 }
 
 /// An address, `0x` and four hexadecimal digits, which is required.

@@ -1,8 +1,9 @@
 //! The path under which a frontend knows a cell's text.
-ghost use Rattle.std.specs.Prelude.{◌≡◌, ◌<◌, length, bit_xor, IfOk};
-ghost use Rattle.dap_talk.specs.Murmur.{times_m, mixed, low_first, hash_from, finished, murmur2, cell_path};
+ghost use Rattle.std.specs.Prelude.{◌≡◌, ◌<◌, length, IfOk};
+ghost use Rattle.dap_talk.specs.Murmur.{times_m, mixed, low_first, hash_from, finished, murmur2};
+ghost use Rattle.dap_talk.specs.Murmur.{cell_path};
 
-use crate::text::Text;
+use base_text::text::Text;
 use std::alloc::{AllocError, Global};
 
 /// What each cell's path begins with, before its number.

@@ -2,7 +2,8 @@
 ghost use Rattle.std.specs.Prelude.{◌≡◌, IfSome};
 ghost use Rattle.dap_talk.specs.Table.{spelled, first_named};
 
-use crate::text::{Sequence, Text};
+use base_text::sequence::Sequence;
+use base_text::text::Text;
 
 /// The commands of debug requests.
 #[derive(Clone, Copy, PartialEq, Eq, Debug)]
@@ -63,7 +64,7 @@ impl StepKind {
 }
 
 /// A command with its arguments.
-#[derive(Clone, Debug, Drop)]
+#[derive(Debug, Drop)]
 pub enum DapCommand {
     Initialize,
     Attach,
@@ -121,7 +122,7 @@ pub enum DapCommand {
 }
 
 /// A request: its number, to which the response refers, and its command.
-#[derive(Clone, Debug, Drop)]
+#[derive(Debug, Drop)]
 pub struct DapRequest {
     pub seq: u32,
     pub command: DapCommand,

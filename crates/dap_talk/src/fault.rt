@@ -3,7 +3,7 @@ ghost use Rattle.std.specs.Prelude.{◌≡◌, IfOk};
 ghost use Rattle.dap_talk.specs.Fault.{message_of, refused};
 
 use crate::answer::{Outcome, Response};
-use crate::text::Text;
+use base_text::text::Text;
 use std::alloc::{AllocError, Global};
 use thiserror::Error;
 
@@ -12,7 +12,7 @@ use thiserror::Error;
 /// memory.
 #[derive(Debug, Drop, Error)]
 pub enum DapFault<'a> {
-    /// The value is a request, and there is no memory for what it carries.
+    /// The value is a request, and what it carries is out of memory.
     #[error("OutOfMemory")]
     OutOfMemory,
     /// No object with the type `request`, a number and a command.

@@ -1,12 +1,29 @@
 //! The JSON of the parts of bodies.
-ghost use Rattle.std.specs.Prelude.{◌≡◌, ◌∷◌, ◌++◌, IfOk, OnOk, List, ℕ, map, string_bytes, true, false};
-ghost use Rattle.serde_json.specs.Data.{Data, array, string};
-ghost use Rattle.serde_json.specs.View.{view, items_of};
-ghost use Rattle.dap_talk.specs.Json.{hex_byte, reference, spaced_bytes, list_of, line_json, breakpoint_json, frame_json, variable_json, instruction_json, source_breakpoints_json};
+ghost use Rattle.std.specs.Prelude.{◌≡◌, ◌∷◌, ◌++◌, IfOk, OnOk, string_bytes};
+ghost use Rattle.serde_json.specs.Data.{Data, string};
+ghost use Rattle.serde_json.specs.View.{view};
+ghost use Rattle.base_text.specs.Hexadecimal.{upper_byte};
+ghost use Rattle.dap_talk.specs.Object.{members_of};
+ghost use Rattle.dap_talk.specs.Json.{
+  space,
+  reference,
+  spaced_bytes,
+  members_from,
+  list_of,
+  source_json,
+  line_json,
+  breakpoint_json,
+  bare_frame,
+  frame_json,
+  variable_json,
+  instruction_json,
+  source_breakpoints_json,
+};
 
 use crate::answer::{Breakpoint, Instruction, SourceBreakpoints, StackFrame, Variable};
-use crate::text::Text;
-use serde_json::{Value, json};
+use crate::object::Object;
+use base_text::hexadecimal::{push_byte, push_lower_word};
+use serde_json::Value;
 use std::alloc::{AllocError, Global};
 
 /// What has one JSON value.
@@ -32,41 +49,22 @@ impl ToJson for Breakpoint {
     ghost json = { breakpoint_json };
 
     fn to_json(&self, alloc: Global) -> Result<Value, AllocError> {
-        json!(in alloc; {"line": self.line, "verified": self.verified})
+        let object = Object::new(alloc)
+            .number("line", u64::from(self.line))?
+            .flag("verified", self.verified)?;
+        Ok(object.into_value())
     }
-}
-
-fn push_lower_byte(text: &mut String, byte: u8) -> Result<(), AllocError>
-    ensures { OnOk result (string_bytes text.new ≡ string_bytes text.old ++ hex_byte false byte) }
-{
-    write!(text, "{byte:02x}")?;
-    Ok(())
-}
-
-fn push_upper_byte(text: &mut String, byte: u8) -> Result<(), AllocError>
-    ensures { OnOk result (string_bytes text.new ≡ string_bytes text.old ++ hex_byte true byte) }
-{
-    write!(text, "{byte:02X}")?;
-    Ok(())
-}
-
-fn reference(alloc: Global, address: u16) -> Result<String, AllocError>
-    ensures { IfOk result (λ text. string_bytes text ≡ reference address) }
-{
-    let [high, low] = address.to_be_bytes();
-    let mut text = String::from_str(alloc, "0x")?;
-    push_lower_byte(&mut text, high)?;
-    push_lower_byte(&mut text, low)?;
-    Ok(text)
 }
 
 impl ToJson for Variable {
     ghost json = { variable_json };
 
     fn to_json(&self, alloc: Global) -> Result<Value, AllocError> {
-        let name = self.name.as_str();
-        let value = self.value.as_str();
-        json!(in alloc; {"name": name, "value": value, "variablesReference": 0u32})
+        let object = Object::new(alloc)
+            .text("name", self.name.as_str())?
+            .text("value", self.value.as_str())?
+            .number("variablesReference", 0)?;
+        Ok(object.into_value())
     }
 }
 
@@ -74,8 +72,8 @@ impl ToJson for u32 {
     ghost json = { line_json };
 
     fn to_json(&self, alloc: Global) -> Result<Value, AllocError> {
-        let line = *self;
-        json!(in alloc; {"line": line})
+        let object = Object::new(alloc).number("line", u64::from(*self))?;
+        Ok(object.into_value())
     }
 }
 
@@ -83,66 +81,97 @@ impl ToJson for SourceBreakpoints {
     ghost json = { source_breakpoints_json };
 
     fn to_json(&self, alloc: Global) -> Result<Value, AllocError> {
-        let lines = array_of(alloc, self.lines.as_slice())?;
-        let path = self.path.as_str();
-        json!(in alloc; {"breakpoints": lines, "source": path})
+        let object = Object::new(alloc)
+            .value("breakpoints", array_of(alloc, self.lines.as_slice())?)?
+            .text("source", self.path.as_str())?;
+        Ok(object.into_value())
     }
+}
+
+fn reference(alloc: Global, address: u16) -> Result<Value, AllocError>
+    ensures { IfOk result (λ v. view v ≡ string (reference address)) }
+{
+    let mut text = String::from_str(alloc, "0x")?;
+    push_lower_word(&mut text, address)?;
+    Ok(Value::from(text))
 }
 
 fn push_spaced_byte(text: &mut String, byte: u8) -> Result<(), AllocError>
     ensures { OnOk result
-        (string_bytes text.new ≡ string_bytes text.old ++ 32 ∷ hex_byte true byte) }
+        (string_bytes text.new ≡ string_bytes text.old ++ space ∷ upper_byte byte) }
 {
     text.push(' ')?;
-    push_upper_byte(text, byte)
+    push_byte(text, byte)
 }
 
-fn spaced_behind(alloc: Global, first: u8, others: &[u8]) -> Result<String, AllocError>
+fn spaced_from(alloc: Global, first: u8, others: &[u8]) -> Result<String, AllocError>
     ensures { IfOk result (λ text. string_bytes text ≡ spaced_bytes (first ∷ others.now)) }
 {
     let mut text = String::new(alloc);
-    push_upper_byte(&mut text, first)?;
+    push_byte(&mut text, first)?;
     for byte in others {
         push_spaced_byte(&mut text, *byte)?;
     }
     Ok(text)
 }
 
-fn spaced_bytes(alloc: Global, bytes: &[u8]) -> Result<String, AllocError>
-    ensures { IfOk result (λ text. string_bytes text ≡ spaced_bytes bytes.now) }
+fn spaced_bytes(alloc: Global, bytes: &[u8]) -> Result<Value, AllocError>
+    ensures { IfOk result (λ v. view v ≡ string (spaced_bytes bytes.now)) }
 {
-    match bytes.split_first() {
-        None => Ok(String::new(alloc)),
-        Some((first, others)) => spaced_behind(alloc, *first, others),
-    }
+    let text = match bytes.split_first() {
+        None => String::new(alloc),
+        Some((first, others)) => spaced_from(alloc, *first, others)?,
+    };
+    Ok(Value::from(text))
 }
 
 impl ToJson for Instruction {
     ghost json = { instruction_json };
 
     fn to_json(&self, alloc: Global) -> Result<Value, AllocError> {
-        let address = reference(alloc, self.address)?;
-        let bytes = spaced_bytes(alloc, self.bytes.as_slice())?;
-        let text = self.text.as_str();
-        json!(in alloc; {"address": address, "instructionBytes": bytes, "instruction": text})
+        let object = Object::new(alloc)
+            .value("address", reference(alloc, self.address)?)?
+            .value(
+                "instructionBytes",
+                spaced_bytes(alloc, self.bytes.as_slice())?,
+            )?
+            .text("instruction", self.text.as_str())?;
+        Ok(object.into_value())
     }
+}
+
+fn source(alloc: Global, path: &str) -> Result<Value, AllocError>
+    ensures { IfOk result (λ v. view v ≡ source_json path.now) }
+{
+    let object = Object::new(alloc).text("path", path)?;
+    Ok(object.into_value())
+}
+
+// What a frame has, with a source or without one.
+fn bare_frame(alloc: Global, frame: &StackFrame) -> Result<Object, AllocError>
+    ensures { IfOk result (λ o. members_of o ≡ members_from (bare_frame frame.now)) }
+{
+    Object::new(alloc)
+        .value(
+            "instructionPointerReference",
+            reference(alloc, frame.address)?,
+        )?
+        .number("id", u64::from(frame.id))?
+        .text("name", frame.name.as_str())?
+        .number("line", u64::from(frame.line))?
+        .number("column", 1)
 }
 
 impl ToJson for StackFrame {
     ghost json = { frame_json };
 
     fn to_json(&self, alloc: Global) -> Result<Value, AllocError> {
-        let reference = reference(alloc, self.address)?;
-        let name = self.name.as_str();
-        let id = self.id;
-        let line = self.line;
+        let object = bare_frame(alloc, self)?;
         match &self.source {
-            None => json!(in alloc; {"id": id, "name": name, "line": line, "column": 1u32,
-                "instructionPointerReference": reference}),
+            None => Ok(object.into_value()),
             Some(path) => {
-                let path = path.as_str();
-                json!(in alloc; {"id": id, "name": name, "line": line, "column": 1u32,
-                    "instructionPointerReference": reference, "source": {"path": path}})
+                let source = source(alloc, path.as_str())?;
+                Ok(object.value("source", source)?.into_value())
             }
         }
     }

@@ -2,30 +2,30 @@
 ghost use Rattle.std.specs.Prelude.{◌≡◌, IfOk, Some, IfSome, option_map};
 ghost use Rattle.serde_json.specs.View.{view};
 ghost use Rattle.dap_talk.specs.Table.{asked, spelled, name_of, IsBounded};
-ghost use Rattle.dap_talk.specs.Refusal.{IsAnswer};
+ghost use Rattle.dap_talk.specs.Answer.{IsAnswer};
 ghost use Rattle.dap_talk.specs.Reading.{command_text, envelope_of, envelope_with, reading, Answers};
 
 use crate::arguments::{
-    Refusal, address_at, breakpoints_or_none, byte_at, count_at, granularity_or_line, lines_of,
-    number_at, number_or_0, source_at, text_at, whole_between,
+    ArgumentFault, address_at, breakpoints_or_none, byte_at, count_at, granularity_or_line,
+    lines_of, member_text, number_at, number_or_0, source_at, text_at, whole_between,
 };
 use crate::command::{CommandName, DapCommand, DapRequest, StepKind};
 use crate::fault::DapFault;
-use crate::text::Text;
+use base_text::text::Text;
 use serde_json::Value;
 use std::alloc::Global;
 
-fn set_breakpoints(alloc: Global, request: &Value) -> Result<DapCommand, Refusal>
+fn set_breakpoints(alloc: Global, request: &Value) -> Result<DapCommand, ArgumentFault>
     ensures { IsAnswer (asked CommandName.SetBreakpoints (view request.now)) result }
 {
     let Some(path) = source_at(request, "source") else {
-        return Err(Refusal::Arguments);
+        return Err(ArgumentFault::Arguments);
     };
     let Some(breakpoints) = breakpoints_or_none(request, "breakpoints") else {
-        return Err(Refusal::Arguments);
+        return Err(ArgumentFault::Arguments);
     };
     let Some(lines) = lines_of(alloc, breakpoints)? else {
-        return Err(Refusal::Arguments);
+        return Err(ArgumentFault::Arguments);
     };
     let path = Text::copy_of(alloc, path)?;
     Ok(DapCommand::SetBreakpoints { path, lines })
@@ -107,21 +107,21 @@ fn disassemble(request: &Value) -> Option<DapCommand>
     })
 }
 
-fn source(alloc: Global, request: &Value) -> Result<DapCommand, Refusal>
+fn source(alloc: Global, request: &Value) -> Result<DapCommand, ArgumentFault>
     ensures { IsAnswer (asked CommandName.Source (view request.now)) result }
 {
     let Some(path) = source_at(request, "source") else {
-        return Err(Refusal::Arguments);
+        return Err(ArgumentFault::Arguments);
     };
     let path = Text::copy_of(alloc, path)?;
     Ok(DapCommand::Source { path })
 }
 
-fn dump_cell(alloc: Global, request: &Value) -> Result<DapCommand, Refusal>
+fn dump_cell(alloc: Global, request: &Value) -> Result<DapCommand, ArgumentFault>
     ensures { IsAnswer (asked CommandName.DumpCell (view request.now)) result }
 {
     let Some(code) = text_at(request, "code") else {
-        return Err(Refusal::Arguments);
+        return Err(ArgumentFault::Arguments);
     };
     let code = Text::copy_of(alloc, code)?;
     Ok(DapCommand::DumpCell { code })
@@ -141,26 +141,30 @@ fn board_press(request: &Value) -> Option<DapCommand>
     Some(DapCommand::BoardPress { vector })
 }
 
-fn board_type(alloc: Global, request: &Value) -> Result<DapCommand, Refusal>
+fn board_type(alloc: Global, request: &Value) -> Result<DapCommand, ArgumentFault>
     ensures { IsAnswer (asked CommandName.BoardType (view request.now)) result }
 {
     let Some(text) = text_at(request, "text") else {
-        return Err(Refusal::Arguments);
+        return Err(ArgumentFault::Arguments);
     };
     let text = Text::copy_of(alloc, text)?;
     Ok(DapCommand::BoardType { text })
 }
 
-fn or_refused(command: Option<DapCommand>) -> Result<DapCommand, Refusal>
+fn or_refused(command: Option<DapCommand>) -> Result<DapCommand, ArgumentFault>
     ensures { IsAnswer command result }
 {
     match command {
         Some(command) => Ok(command),
-        None => Err(Refusal::Arguments),
+        None => Err(ArgumentFault::Arguments),
     }
 }
 
-fn read_command(alloc: Global, name: CommandName, request: &Value) -> Result<DapCommand, Refusal>
+fn read_command(
+    alloc: Global,
+    name: CommandName,
+    request: &Value,
+) -> Result<DapCommand, ArgumentFault>
     ensures { IsAnswer (asked name (view request.now)) result }
 {
     match name {
@@ -197,11 +201,11 @@ fn envelope_of(value: &Value) -> Option<(u32, &str)>
     ensures command { IfSome result
         (λ e. command_text (view value.now) ≡ Some e.1.now) }
 {
-    if value.get("type")?.as_str()? != "request" {
+    if member_text(value, "type")? != "request" {
         return None;
     }
     let seq = whole_between(value.get("seq")?, 0, u32::MAX)?;
-    let command = value.get("command")?.as_str()?;
+    let command = member_text(value, "command")?;
     Some((seq, command))
 }
 
@@ -224,7 +228,7 @@ pub fn read_request<'a>(alloc: Global, value: &'a Value) -> Result<DapRequest, D
     };
     match read_command(alloc, name, value) {
         Ok(command) => Ok(DapRequest { seq, command }),
-        Err(Refusal::OutOfMemory) => Err(DapFault::OutOfMemory),
-        Err(Refusal::Arguments) => Err(DapFault::Arguments { seq, command: text }),
+        Err(ArgumentFault::OutOfMemory) => Err(DapFault::OutOfMemory),
+        Err(ArgumentFault::Arguments) => Err(DapFault::Arguments { seq, command: text }),
     }
 }

@@ -1,23 +1,62 @@
 -- What one more operation makes of the panel.
-use Rattle.std.proofs.Common.{◌≡◌, List, [], ◌∷◌, ◌++◌, Bool, true, false, Option, Some, None, unwrap_or, cond, ◌==◌, drop, refl, ap, sym, ◌∙◌, append-nil}
-use Rattle.std.specs.List.{filter_map, cons_option}
+use Rattle.std.proofs.Common.{
+  ◌≡◌,
+  List,
+  [],
+  ◌∷◌,
+  ◌++◌,
+  Bool,
+  true,
+  false,
+  Option,
+  Some,
+  None,
+  unwrap_or,
+  cond,
+  ◌==◌,
+  drop,
+  refl,
+  ap,
+  sym,
+  ◌∙◌,
+  append-nil,
+}
+use Rattle.std.specs.List.{filter_map, cons_option, last_or}
 use Rattle.std.proofs.lemmas.List.Elements.{filter_map-append}
 use Rattle.std.proofs.lemmas.Grind.{fold-append}
 use Rattle.i80_exec.specs.declared.ports.PortOperation.TheVariants.{In, Out}
-use Rattle.i80_devs.specs.Past.{Operation, Port, Typed, Switches, Press, Taken, PanelState, last_or, waiting_after, switches_of, lamps_of, latched_of, panel_after, panel_next}
+use Rattle.i80_devs.specs.Past.{
+  Operation,
+  Port,
+  Typed,
+  Switches,
+  Press,
+  Taken,
+  PanelState,
+  last_set,
+  waiting_after,
+  switches_of,
+  lamps_of,
+  latched_of,
+  panel_after,
+  panel_next,
+}
 
-last_or-append : {A : Type 0} (d x : A) (xs : List A) → last_or d (xs ++ x ∷ []) ≡ x
-last_or-append d x [] = refl
-last_or-append d x (y ∷ ys) = last_or-append y x ys
+last_or-append : {A : Type 0} (o : Option A) (x : A) (xs : List A) → last_or o (xs ++ x ∷ []) ≡ Some x
+last_or-append o x [] = refl
+last_or-append o x (y ∷ ys) = last_or-append (Some y) x ys
 
-last_or-option : {A : Type 0} (d : A) (xs : List A) (o : Option A) → last_or d (xs ++ cons_option o []) ≡ unwrap_or o (last_or d xs)
-last_or-option d xs None = ap (last_or d) (append-nil xs)
-last_or-option d xs (Some x) = last_or-append d x xs
+last_or-option : {A : Type 0} (d : A) (xs : List A) (o : Option A)
+    → unwrap_or (last_or None (xs ++ cons_option o [])) d ≡ unwrap_or o (unwrap_or (last_or None xs) d)
+last_or-option d xs None = ap (λ ys. unwrap_or (last_or None ys) d) (append-nil xs)
+last_or-option d xs (Some x) = ap (λ o. unwrap_or o d) (last_or-append None x xs)
 
 -- what was last set, after one more operation
-last_set : {A : Type 0} (d : A) (h : Operation → Option A) (past : List Operation) (o : Operation)
-    → last_or d (filter_map h (past ++ o ∷ [])) ≡ unwrap_or (h o) (last_or d (filter_map h past))
-last_set d h past o = ap (last_or d) (filter_map-append h past (o ∷ [])) ∙ last_or-option d (filter_map h past) (h o)
+last_set-append : {A : Type 0} (d : A) (h : Operation → Option A) (past : List Operation) (o : Operation)
+    → last_set d h (past ++ o ∷ []) ≡ unwrap_or (h o) (last_set d h past)
+last_set-append d h past o =
+    ap (λ xs. unwrap_or (last_or None xs) d) (filter_map-append h past (o ∷ []))
+    ∙ last_or-option d (filter_map h past) (h o)
 
 -- the panel with each of its parts set by the operation where that sets it
 abbrev set_by : PanelState → Operation → PanelState
@@ -28,9 +67,15 @@ set_by p o = record {
   latched = unwrap_or (latched_of o) p.latched;
 }
 
-set_after : (past : List Operation) (o : Operation) → panel_after (past ++ o ∷ []) ≡ set_by (panel_after past) o
+set_after : (past : List Operation) (o : Operation)
+    → panel_after (past ++ o ∷ []) ≡ set_by (panel_after past) o
 set_after past o =
-    rw (fold-append waiting_after [] past (o ∷ []), last_set 0 switches_of past o, last_set 0 lamps_of past o, last_set None latched_of past o) refl
+    rw (
+      fold-append waiting_after [] past (o ∷ []),
+      last_set-append 0 switches_of past o,
+      last_set-append 0 lamps_of past o,
+      last_set-append None latched_of past o,
+    ) refl
 
 set_next : (p : PanelState) (o : Operation) → set_by p o ≡ panel_next p o
 set_next p (Typed bytes) = refl
@@ -38,14 +83,20 @@ set_next p (Switches byte) = refl
 set_next p (Press n) = refl
 set_next p Taken = refl
 set_next p (Port (In port byte)) =
-    elim (port == 1) as (λ (b : Bool). (let q : PanelState = record p { waiting = cond b (drop 1 p.waiting) p.waiting } in q) ≡ cond b (record p { waiting = drop 1 p.waiting }) p) [ true ↦ refl | false ↦ refl ]
+    elim (port == 1) as (λ (b : Bool).
+    (let q : PanelState = record p { waiting = cond b (drop 1 p.waiting) p.waiting } in q)
+    ≡ cond b (record p { waiting = drop 1 p.waiting }) p) [ true ↦ refl | false ↦ refl ]
 set_next p (Port (Out port byte)) =
-    elim (port == 2) as (λ (b : Bool). (let q : PanelState = record p { lamps = unwrap_or (cond b (Some byte) None) p.lamps } in q) ≡ cond b (record p { lamps = byte }) p) [ true ↦ refl | false ↦ refl ]
+    elim (port == 2) as (λ (b : Bool).
+    (let q : PanelState = record p { lamps = unwrap_or (cond b (Some byte) None) p.lamps } in q)
+    ≡ cond b (record p { lamps = byte }) p) [ true ↦ refl | false ↦ refl ]
 
-pub panel_more : (past : List Operation) (o : Operation) → panel_after (past ++ o ∷ []) ≡ panel_next (panel_after past) o
+pub panel_more : (past : List Operation) (o : Operation)
+    → panel_after (past ++ o ∷ []) ≡ panel_next (panel_after past) o
 panel_more past o = set_after past o ∙ set_next (panel_after past) o
 
 -- a panel that is the next one is what one more operation makes of the past
 pub next_after : (o : Operation) (old new : PanelState) (past : List Operation)
     → new ≡ panel_next old o → old ≡ panel_after past → new ≡ panel_after (past ++ o ∷ [])
-next_after o old new past next stands = next ∙ ap (λ (p : PanelState). panel_next p o) stands ∙ sym (panel_more past o)
+next_after o old new past next stands =
+    next ∙ ap (λ (p : PanelState). panel_next p o) stands ∙ sym (panel_more past o)

@@ -1,6 +1,21 @@
--- The devices, told by the list of all operations on them.
-use Rattle.std.specs.Prelude.{◌≡◌, ℕ, ◌+◌, List, [], ◌∷◌, ◌++◌, Option, Some, None, drop, ◌==◌, if◌then◌else◌}
-use Rattle.std.specs.List.{fold, filter_map}
+-- The devices, as the list of all operations on them makes them.
+use Rattle.std.specs.Prelude.{
+  ◌≡◌,
+  ℕ,
+  ◌+◌,
+  List,
+  [],
+  ◌∷◌,
+  ◌++◌,
+  Option,
+  Some,
+  None,
+  drop,
+  ◌==◌,
+  if◌then◌else◌,
+}
+use Rattle.std.specs.Option.{unwrap_or}
+use Rattle.std.specs.List.{fold, filter_map, last_or}
 use Rattle.i80_exec.specs.declared.ports.PortOperation.{PortOperation}
 use Rattle.i80_exec.specs.declared.ports.PortOperation.TheVariants.{In, Out}
 
@@ -12,12 +27,7 @@ pub data Operation : Type 0 where
   Press : ℕ → Operation
   Taken : Operation
 
--- the last of a list, or d where it is empty
-abbrev pub last_or : {A : Type 0} → A → List A → A
-last_or d [] = d
-last_or d (x ∷ xs) = last_or x xs
-
--- typed bytes wait behind those that wait already, and each IN 1 takes the first if there is one
+-- typed bytes wait after those that wait already, and each IN 1 takes the first if there is one
 abbrev pub waiting_after : List ℕ → Operation → List ℕ
 waiting_after waiting (Typed bytes) = waiting ++ bytes
 waiting_after waiting (Port (In port byte)) = if port == 1 then (drop 1 waiting) else waiting
@@ -58,13 +68,17 @@ pub record PanelState : Type 0 where
   pub lamps : ℕ
   pub latched : Option ℕ
 
--- after all these operations; switches, lamps and request are what they were last set to
+-- what the operations last set a part of the panel to, or first where none sets it
+abbrev pub last_set : {A : Type 0} → A → (Operation → Option A) → List Operation → A
+last_set first set_to past = unwrap_or (last_or None (filter_map set_to past)) first
+
+-- after all these operations
 abbrev pub panel_after : List Operation → PanelState
 panel_after past = record {
   waiting = fold waiting_after [] past;
-  switches = last_or 0 (filter_map switches_of past);
-  lamps = last_or 0 (filter_map lamps_of past);
-  latched = last_or None (filter_map latched_of past);
+  switches = last_set 0 switches_of past;
+  lamps = last_set 0 lamps_of past;
+  latched = last_set None latched_of past;
 }
 
 abbrev pub one_if_any : List ℕ → ℕ
@@ -75,7 +89,7 @@ abbrev pub first_or_zero : List ℕ → ℕ
 first_or_zero [] = 0
 first_or_zero (byte ∷ bytes) = byte
 
--- IN 0 tells whether a byte waits, with bit 1 set; IN 1 gives it; IN 2 gives the switches; others FFh
+-- IN 0 reports whether a byte waits, with bit 1 set; IN 1 gives it; IN 2 gives the switches; others FFh
 abbrev pub answer : PanelState → ℕ → ℕ
 answer p port =
     if port == 0 then (2 + one_if_any p.waiting) else
@@ -104,9 +118,10 @@ pub record DeviceState : Type 0 where
 abbrev pub StandsFor : DeviceState → List Operation → Type 0
 StandsFor d past = d.panel ≡ panel_after past
 
--- whatever the past was, this operation comes behind it
+-- whatever the past was, this operation comes after it
 abbrev pub Appends : Operation → DeviceState → DeviceState → Type 0
-Appends operation old new = (past : List Operation) → StandsFor old past → StandsFor new (past ++ operation ∷ [])
+Appends operation old new = (past : List Operation) → StandsFor old past
+    → StandsFor new (past ++ operation ∷ [])
 
 -- port operations and room stay
 pub record SamePorts (old new : DeviceState) : Type 0 where

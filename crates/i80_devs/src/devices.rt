@@ -1,5 +1,21 @@
 //! The devices: a console (ports 0, 1 and 3), switches and lamps (port 2), and a request button.
-ghost use Rattle.std.specs.Prelude.{◌≡◌, ◌+◌, ◌≤◌, ◌<◌, ◌++◌, ◌∷◌, ◌↔◌, [], List, length, OnOk, OnErr, IfSome, IsSome, Err};
+ghost use Rattle.std.specs.Prelude.{
+  ◌≡◌,
+  ◌+◌,
+  ◌≤◌,
+  ◌<◌,
+  ◌++◌,
+  ◌∷◌,
+  ◌↔◌,
+  [],
+  List,
+  length,
+  OnOk,
+  OnErr,
+  IfSome,
+  IsSome,
+  Err,
+};
 
 use crate::panel::Panel;
 use crate::traffic::Traffic;
@@ -11,7 +27,7 @@ use thiserror::Error;
 
 /// Why a press of the request button is refused.
 #[derive(Clone, Copy, PartialEq, Eq, Debug, Error)]
-pub enum Press {
+pub enum PressFault {
     #[error("a request is latched already")]
     Latched,
     #[error("there are the buttons 0 to 7")]
@@ -79,7 +95,7 @@ impl Devices {
       Operation,
       Typed,
       Switches,
-      Press as Pressed,
+      Press,
       Taken,
       StandsFor,
       Appends,
@@ -142,20 +158,20 @@ impl Devices {
     }
 
     /// Presses button n, which latches a request for RST n where none is latched.
-    pub fn press(&mut self, n: u8) -> Result<(), Press>
-        ensures ok { OnOk result (Appends (Pressed n) self.old self.new) }
+    pub fn press(&mut self, n: u8) -> Result<(), PressFault>
+        ensures ok { OnOk result (Appends (Press n) self.old self.new) }
         ensures ports { SamePorts self.old self.new }
         // The number is looked at first.
-        ensures vector { (result ≡ Err Press.Vector) ↔ (8 ≤ n) }
+        ensures vector { (result ≡ Err PressFault.Vector) ↔ (8 ≤ n) }
         ensures latched { (past : List Operation) → StandsFor self.old past
-            → (result ≡ Err Press.Latched) ↔ ((n < 8) × IsSome (panel_after past).latched) }
+            → (result ≡ Err PressFault.Latched) ↔ ((n < 8) × IsSome (panel_after past).latched) }
         ensures err { OnErr result (self.new ≡ self.old) }
     {
         if n > 7 {
-            return Err(Press::Vector);
+            return Err(PressFault::Vector);
         }
         if self.panel.latched().is_some() {
-            return Err(Press::Latched);
+            return Err(PressFault::Latched);
         }
         self.panel.set_latched(Some(n));
         Ok(())

@@ -1,4 +1,4 @@
-// The devices of the board behind the processor's ports: console, switches, lamps, request button.
+// The devices of the board at the processor's ports: console, switches, lamps, request button.
 // Every answer is a function of the list of all operations so far, by the program, at the console
 // and at the panel; the code keeps only what that function needs.
 // `take_out` gives the port operations since the last time, each IN and OUT once and in order.

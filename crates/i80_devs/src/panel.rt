@@ -20,7 +20,12 @@ impl Model for Panel {
 
     ghost Value = { PanelState };
 
-    ghost view = { λ p. record { waiting = p.waiting.items; switches = p.switches; lamps = p.lamps; latched = p.latched } };
+    ghost view = { λ p. record {
+      waiting = p.waiting.items;
+      switches = p.switches;
+      lamps = p.lamps;
+      latched = p.latched;
+    } };
 
     ghost use Rattle.std.specs.Prelude.{◌≤◌, IfSome};
 

@@ -14,7 +14,9 @@ use Rattle.i80_rows.specs.declared.instruction.StackPair.{StackPair}
 use Rattle.i80_rows.specs.declared.instruction.Vector.{Vector}
 use Rattle.i80_rows.specs.declared.instruction.Vector.TheVariants as vectors
 use Rattle.i80_rows.specs.Codes.{reg_of, vector_code}
+use Rattle.asm_syntax.specs.declared.keyword.Keyword.{Keyword as Word}
 use Rattle.asm_syntax.specs.declared.keyword.Keyword.TheVariants as keyword
+use Rattle.asm_syntax.specs.declared.keyword.RegisterWord.{RegisterWord}
 use Rattle.asm_syntax.specs.declared.keyword.Mnemonic.TheVariants as mnemonic
 use Rattle.asm_syntax.specs.declared.keyword.Directive.TheVariants as directive
 use Rattle.asm_syntax.specs.declared.keyword.RegisterOperation.{RegisterOperation}
@@ -36,7 +38,7 @@ use Rattle.asm_syntax.specs.declared.statement.Data.TheVariants as datum
 use Rattle.asm_syntax.specs.declared.statement.Action.{Action}
 use Rattle.asm_syntax.specs.declared.statement.Action.TheVariants as action
 use Rattle.asm_syntax.specs.Instructions.{byte_instruction, word_instruction}
-use Rattle.asm_syntax.specs.Lexemes.{Keyword, Number}
+use Rattle.asm_syntax.specs.Lexemes.{Lexeme, Keyword, Number, Sign}
 use Rattle.asm_syntax.specs.Words.{keyword_of}
 use Rattle.asm_text.specs.Forms.{register_instruction, pair_instruction, index_instruction, stack_instruction, move_between}
 use Rattle.asm_text.specs.Registers as word
@@ -49,8 +51,8 @@ use Rattle.i80_dis.specs.Text.{byte_text, word_text, register_word, pair_word, i
 use Rattle.i80_dis.specs.Law.{AreBytes}
 use Rattle.i80_dis.proofs.Numerals.{byte_numeral, word_numeral, vector_numeral}
 use Rattle.i80_dis.proofs.Words.{IsNamed, Means, register_for, pair_for, index_for, stack_for, register_named, pair_named, index_named, stack_named, register_back, pair_back, index_back, stack_back, operation_means, immediate_means, rotation_means, jump_means, call_means, return_means}
-use Rattle.i80_dis.proofs.Printed.{IsShort, word_printed, number_printed, weaker, behind, behind_two, none_read, one_read, two_read, none_short, one_short, two_short}
-use Rattle.i80_dis.proofs.Forms.{number_at, Says, alone_says, register_says, pair_says, index_says, stack_says, byte_says, word_says, restart_says, move_says, immediate_says, load_says, datum_says}
+use Rattle.i80_dis.proofs.Printed.{IsShort, IsPrinted, word_printed, number_printed, weaker, behind, behind_two, none_read, one_read, two_read, none_short, one_short, two_short}
+use Rattle.i80_dis.proofs.Forms.{number_at, Says, Spelled, alone_says, register_says, pair_says, index_says, stack_says, byte_says, word_says, restart_says, move_says, immediate_says, load_says, datum_says}
 
 -- ---- lines that give bytes
 
@@ -88,96 +90,78 @@ alone_line i w named long =
       long = λ value. long;
     }
 
-register_line : (op : RegisterOperation) (r : Reg) (w : List ℕ) → Means w (mnemonic.Register op) → 1 ≡ length (encoding_of (register_instruction op r))
-    → IsLine (w ++ operand_field (register_word r ∷ [])) (encoding_of (register_instruction op r))
+-- ---- one operand
+
+-- A mnemonic with one operand, which together say what gives these bytes.
+one_line : (m : Word) (o : Lexeme) (w text bytes : List ℕ) (acts : Giving) → IsNamed w m 4 → IsPrinted o text 6
+    → (Spelled (w ++ operand_field (text ∷ [])) ((1, Keyword m) ∷ (behind w, o) ∷ [])
+    → Says (w ++ operand_field (text ∷ [])) (action_by acts))
+    → ((names : List ℕ → Option ℕ) (here : ℕ) → bytes_of names here (action_by acts) ≡ Ok bytes)
+    → ((value : ℕ) → length_of (action_by acts) value ≡ length bytes)
+    → IsLine (w ++ operand_field (text ∷ [])) bytes
+one_line m o w text bytes acts named printed says gives long =
+    let p = word_printed m w 4 named in
+    record {
+      acts = acts;
+      says = says (one_read (Keyword m) o w text 4 6 p printed);
+      short = one_short (Keyword m) o w text p printed;
+      gives = gives;
+      long = long;
+    }
+
+-- the same of a register's word
+name_line : (m : Word) (r : RegisterWord) (w text : List ℕ) (i : Instr) (n : ℕ) → IsNamed w m 4
+    → IsNamed text (keyword.Register r) n → n ≤ 6
+    → (Spelled (w ++ operand_field (text ∷ [])) ((1, Keyword m) ∷ (behind w, Keyword (keyword.Register r)) ∷ [])
+    → Says (w ++ operand_field (text ∷ [])) (action.Instruction (instruction.Alone i)))
+    → 1 ≡ length (encoding_of i) → IsLine (w ++ operand_field (text ∷ [])) (encoding_of i)
+name_line m r w text i n named is few says long =
+    one_line m (Keyword (keyword.Register r)) w text (encoding_of i) (inl (instruction.Alone i)) named
+    (weaker (Keyword (keyword.Register r)) text n 6 (word_printed (keyword.Register r) text n is) few)
+    says (λ names here. refl) (λ value. long)
+
+register_line : (op : RegisterOperation) (r : Reg) (w : List ℕ) → Means w (mnemonic.Register op)
+    → 1 ≡ length (encoding_of (register_instruction op r)) → IsLine (w ++ operand_field (register_word r ∷ [])) (encoding_of (register_instruction op r))
 register_line op r w named long =
-    let m = keyword.Mnemonic (mnemonic.Register op) in
-    let o = keyword.Register (register_for r) in
-    let p = word_printed m w 4 named in
-    let q = weaker (Keyword o) (register_word r) 2 6 (word_printed o (register_word r) 2 (register_named r)) (omega arith) in
-    record {
-      acts = inl (instruction.Alone (register_instruction op r));
-      says = register_says (w ++ operand_field (register_word r ∷ [])) op (behind w) (register_for r) r (register_back r) (one_read (Keyword m) (Keyword o) w (register_word r) 4 6 p q);
-      short = one_short (Keyword m) (Keyword o) w (register_word r) p q;
-      gives = λ names here. refl;
-      long = λ value. long;
-    }
+    name_line (keyword.Mnemonic (mnemonic.Register op)) (register_for r) w (register_word r) (register_instruction op r) 2 named (register_named r) (omega arith)
+    (register_says _ op (behind w) (register_for r) r (register_back r)) long
 
-pair_line : (op : PairOperation) (r : Pair) (w : List ℕ) → Means w (mnemonic.Pair op) → 1 ≡ length (encoding_of (pair_instruction op r))
-    → IsLine (w ++ operand_field (pair_word r ∷ [])) (encoding_of (pair_instruction op r))
+pair_line : (op : PairOperation) (r : Pair) (w : List ℕ) → Means w (mnemonic.Pair op)
+    → 1 ≡ length (encoding_of (pair_instruction op r)) → IsLine (w ++ operand_field (pair_word r ∷ [])) (encoding_of (pair_instruction op r))
 pair_line op r w named long =
-    let m = keyword.Mnemonic (mnemonic.Pair op) in
-    let o = keyword.Register (pair_for r) in
-    let p = word_printed m w 4 named in
-    let q = weaker (Keyword o) (pair_word r) 2 6 (word_printed o (pair_word r) 2 (pair_named r)) (omega arith) in
-    record {
-      acts = inl (instruction.Alone (pair_instruction op r));
-      says = pair_says (w ++ operand_field (pair_word r ∷ [])) op (behind w) (pair_for r) r (pair_back r) (one_read (Keyword m) (Keyword o) w (pair_word r) 4 6 p q);
-      short = one_short (Keyword m) (Keyword o) w (pair_word r) p q;
-      gives = λ names here. refl;
-      long = λ value. long;
-    }
+    name_line (keyword.Mnemonic (mnemonic.Pair op)) (pair_for r) w (pair_word r) (pair_instruction op r) 2 named (pair_named r) (omega arith)
+    (pair_says _ op (behind w) (pair_for r) r (pair_back r)) long
 
-index_line : (op : IndexOperation) (r : IndexPair) (w : List ℕ) → Means w (mnemonic.Index op) → 1 ≡ length (encoding_of (index_instruction op r))
-    → IsLine (w ++ operand_field (index_word r ∷ [])) (encoding_of (index_instruction op r))
+index_line : (op : IndexOperation) (r : IndexPair) (w : List ℕ) → Means w (mnemonic.Index op)
+    → 1 ≡ length (encoding_of (index_instruction op r)) → IsLine (w ++ operand_field (index_word r ∷ [])) (encoding_of (index_instruction op r))
 index_line op r w named long =
-    let m = keyword.Mnemonic (mnemonic.Index op) in
-    let o = keyword.Register (index_for r) in
-    let p = word_printed m w 4 named in
-    let q = weaker (Keyword o) (index_word r) 3 6 (word_printed o (index_word r) 3 (index_named r)) (omega arith) in
-    record {
-      acts = inl (instruction.Alone (index_instruction op r));
-      says = index_says (w ++ operand_field (index_word r ∷ [])) op (behind w) (index_for r) r (index_back r) (one_read (Keyword m) (Keyword o) w (index_word r) 4 6 p q);
-      short = one_short (Keyword m) (Keyword o) w (index_word r) p q;
-      gives = λ names here. refl;
-      long = λ value. long;
-    }
+    name_line (keyword.Mnemonic (mnemonic.Index op)) (index_for r) w (index_word r) (index_instruction op r) 3 named (index_named r) (omega arith)
+    (index_says _ op (behind w) (index_for r) r (index_back r)) long
 
-stack_line : (op : StackOperation) (r : StackPair) (w : List ℕ) → Means w (mnemonic.Stack op) → 1 ≡ length (encoding_of (stack_instruction op r))
-    → IsLine (w ++ operand_field (stack_word r ∷ [])) (encoding_of (stack_instruction op r))
+stack_line : (op : StackOperation) (r : StackPair) (w : List ℕ) → Means w (mnemonic.Stack op)
+    → 1 ≡ length (encoding_of (stack_instruction op r)) → IsLine (w ++ operand_field (stack_word r ∷ [])) (encoding_of (stack_instruction op r))
 stack_line op r w named long =
-    let m = keyword.Mnemonic (mnemonic.Stack op) in
-    let o = keyword.Register (stack_for r) in
-    let p = word_printed m w 4 named in
-    let q = weaker (Keyword o) (stack_word r) 3 6 (word_printed o (stack_word r) 3 (stack_named r)) (omega arith) in
-    record {
-      acts = inl (instruction.Alone (stack_instruction op r));
-      says = stack_says (w ++ operand_field (stack_word r ∷ [])) op (behind w) (stack_for r) r (stack_back r) (one_read (Keyword m) (Keyword o) w (stack_word r) 4 6 p q);
-      short = one_short (Keyword m) (Keyword o) w (stack_word r) p q;
-      gives = λ names here. refl;
-      long = λ value. long;
-    }
+    name_line (keyword.Mnemonic (mnemonic.Stack op)) (stack_for r) w (stack_word r) (stack_instruction op r) 3 named (stack_named r) (omega arith)
+    (stack_says _ op (behind w) (stack_for r) r (stack_back r)) long
 
 low_byte : (b : ℕ) → b < 256 → b % 256 ≡ b
 low_byte b lt = omega (arith, lt)
 
-byte_line : (op : ByteOperation) (b : ℕ) (w : List ℕ) → Means w (mnemonic.Byte op) → b < 256 → 2 ≡ length (encoding_of (byte_instruction op b))
+byte_line : (op : ByteOperation) (b : ℕ) (w : List ℕ) → Means w (mnemonic.Byte op) → b < 256
+    → 2 ≡ length (encoding_of (byte_instruction op b))
     → IsLine (w ++ operand_field (byte_text b ∷ [])) (encoding_of (byte_instruction op b))
 byte_line op b w named lt long =
-    let m = keyword.Mnemonic (mnemonic.Byte op) in
-    let p = word_printed m w 4 named in
-    let q = number_printed b (byte_text b) 6 (byte_numeral b lt) (omega arith) in
-    record {
-      acts = inl (instruction.Byte op (number_at (behind w) b));
-      says = byte_says (w ++ operand_field (byte_text b ∷ [])) op (behind w) b (one_read (Keyword m) (Number b) w (byte_text b) 4 6 p q);
-      short = one_short (Keyword m) (Number b) w (byte_text b) p q;
-      gives = λ names here. rw (lt-ltb b 256 lt, low_byte b lt) refl;
-      long = λ value. long;
-    }
+    one_line (keyword.Mnemonic (mnemonic.Byte op)) (Number b) w (byte_text b) (encoding_of (byte_instruction op b))
+    (inl (instruction.Byte op (number_at (behind w) b))) named (number_printed b (byte_text b) 6 (byte_numeral b lt) (omega arith))
+    (byte_says _ op (behind w) b) (λ names here. rw (lt-ltb b 256 lt, low_byte b lt) refl) (λ value. long)
 
-word_line : (op : WordOperation) (n : ℕ) (w : List ℕ) → Means w (mnemonic.Word op) → n < 65536 → 3 ≡ length (encoding_of (word_instruction op n))
+word_line : (op : WordOperation) (n : ℕ) (w : List ℕ) → Means w (mnemonic.Word op) → n < 65536
+    → 3 ≡ length (encoding_of (word_instruction op n))
     → IsLine (w ++ operand_field (word_text n ∷ [])) (encoding_of (word_instruction op n))
 word_line op n w named lt long =
-    let m = keyword.Mnemonic (mnemonic.Word op) in
-    let p = word_printed m w 4 named in
-    let q = number_printed n (word_text n) 6 (word_numeral n lt) (omega arith) in
-    record {
-      acts = inl (instruction.Word op (number_at (behind w) n));
-      says = word_says (w ++ operand_field (word_text n ∷ [])) op (behind w) n (one_read (Keyword m) (Number n) w (word_text n) 4 6 p q);
-      short = one_short (Keyword m) (Number n) w (word_text n) p q;
-      gives = λ names here. refl;
-      long = λ value. long;
-    }
+    one_line (keyword.Mnemonic (mnemonic.Word op)) (Number n) w (word_text n) (encoding_of (word_instruction op n))
+    (inl (instruction.Word op (number_at (behind w) n))) named (number_printed n (word_text n) 6 (word_numeral n lt) (omega arith))
+    (word_says _ op (behind w) n) (λ names here. refl) (λ value. long)
 
 vector_back : (n : Vector) → vector (vector_code n) ≡ Some n
 vector_back vectors.V0 = refl
@@ -199,72 +183,65 @@ vector_short vectors.V5 = omega arith
 vector_short vectors.V6 = omega arith
 vector_short vectors.V7 = omega arith
 
-restart_line : (n : Vector) (w : List ℕ) → Means w mnemonic.Restart → 1 ≡ length (encoding_of (Rst n)) → IsLine (w ++ operand_field (vector_word n ∷ [])) (encoding_of (Rst n))
+restart_line : (n : Vector) (w : List ℕ) → Means w mnemonic.Restart → 1 ≡ length (encoding_of (Rst n))
+    → IsLine (w ++ operand_field (vector_word n ∷ [])) (encoding_of (Rst n))
 restart_line n w named long =
-    let m = keyword.Mnemonic mnemonic.Restart in
-    let p = word_printed m w 4 named in
-    let q = number_printed (vector_code n) (vector_word n) 6 (vector_numeral n) (vector_short n) in
-    record {
-      acts = inl (instruction.Restart (number_at (behind w) (vector_code n)));
-      says = restart_says (w ++ operand_field (vector_word n ∷ [])) (behind w) (vector_code n) (one_read (Keyword m) (Number (vector_code n)) w (vector_word n) 4 6 p q);
-      short = one_short (Keyword m) (Number (vector_code n)) w (vector_word n) p q;
-      gives = λ names here. rw (vector_back n) refl;
-      long = λ value. long;
-    }
+    one_line (keyword.Mnemonic mnemonic.Restart) (Number (vector_code n)) w (vector_word n) (encoding_of (Rst n))
+    (inl (instruction.Restart (number_at (behind w) (vector_code n)))) named
+    (number_printed (vector_code n) (vector_word n) 6 (vector_numeral n) (vector_short n))
+    (restart_says _ (behind w) (vector_code n)) (λ names here. rw (vector_back n) refl) (λ value. long)
 
 -- ---- two operands
 
-move_line : (r s : Reg) (i : Instr) (w : List ℕ) → IsNamed w (keyword.Mnemonic mnemonic.Move) 3 → move_between (word.register_of r) (word.register_of s) ≡ Some i
-    → 1 ≡ length (encoding_of i) → IsLine (w ++ operand_field (register_word r ∷ register_word s ∷ [])) (encoding_of i)
+-- A mnemonic with two operands, which together say what gives these bytes.
+two_line : (m a : Word) (o : Lexeme) (w first second bytes : List ℕ) (acts : Giving)
+    → IsNamed w m 3 → IsNamed first a 2 → IsPrinted o second 6
+    → (Spelled (w ++ operand_field (first ∷ second ∷ []))
+    ((1, Keyword m) ∷ (behind w, Keyword a) ∷ (behind w + length first, Sign 44) ∷ (behind_two w first, o) ∷ [])
+    → Says (w ++ operand_field (first ∷ second ∷ [])) (action_by acts))
+    → ((names : List ℕ → Option ℕ) (here : ℕ) → bytes_of names here (action_by acts) ≡ Ok bytes)
+    → ((value : ℕ) → length_of (action_by acts) value ≡ length bytes)
+    → IsLine (w ++ operand_field (first ∷ second ∷ [])) bytes
+two_line m a o w first second bytes acts named is printed says gives long =
+    let p = word_printed m w 3 named in
+    let q = word_printed a first 2 is in
+    record {
+      acts = acts;
+      says = says (two_read (Keyword m) (Keyword a) o w first second 3 2 6 p q printed);
+      short = two_short (Keyword m) (Keyword a) o w first second p q printed;
+      gives = gives;
+      long = long;
+    }
+
+move_line : (r s : Reg) (i : Instr) (w : List ℕ) → IsNamed w (keyword.Mnemonic mnemonic.Move) 3
+    → move_between (word.register_of r) (word.register_of s) ≡ Some i → 1 ≡ length (encoding_of i)
+    → IsLine (w ++ operand_field (register_word r ∷ register_word s ∷ [])) (encoding_of i)
 move_line r s i w named is long =
-    let m = keyword.Mnemonic mnemonic.Move in
-    let a = keyword.Register (register_for r) in
     let b = keyword.Register (register_for s) in
-    let p = word_printed m w 3 named in
-    let q = word_printed a (register_word r) 2 (register_named r) in
-    let t = weaker (Keyword b) (register_word s) 2 6 (word_printed b (register_word s) 2 (register_named s)) (omega arith) in
-    record {
-      acts = inl (instruction.Alone i);
-      says = move_says (w ++ operand_field (register_word r ∷ register_word s ∷ [])) (behind w) (behind w + length (register_word r)) (behind_two w (register_word r)) (register_for r) (register_for s) r s i
-          (register_back r) (register_back s) is (two_read (Keyword m) (Keyword a) (Keyword b) w (register_word r) (register_word s) 3 2 6 p q t);
-      short = two_short (Keyword m) (Keyword a) (Keyword b) w (register_word r) (register_word s) p q t;
-      gives = λ names here. refl;
-      long = λ value. long;
-    }
+    two_line (keyword.Mnemonic mnemonic.Move) (keyword.Register (register_for r)) (Keyword b) w (register_word r) (register_word s)
+    (encoding_of i) (inl (instruction.Alone i)) named (register_named r)
+    (weaker (Keyword b) (register_word s) 2 6 (word_printed b (register_word s) 2 (register_named s)) (omega arith))
+    (move_says _ (behind w) (behind w + length (register_word r)) (behind_two w (register_word r)) (register_for r) (register_for s) r s i
+    (register_back r) (register_back s) is)
+    (λ names here. refl) (λ value. long)
 
-immediate_line : (r : Reg) (b : ℕ) (w : List ℕ) → IsNamed w (keyword.Mnemonic mnemonic.MoveImmediate) 3 → b < 256 → 2 ≡ length (encoding_of (Mvi r b))
-    → IsLine (w ++ operand_field (register_word r ∷ byte_text b ∷ [])) (encoding_of (Mvi r b))
+immediate_line : (r : Reg) (b : ℕ) (w : List ℕ) → IsNamed w (keyword.Mnemonic mnemonic.MoveImmediate) 3 → b < 256
+    → 2 ≡ length (encoding_of (Mvi r b)) → IsLine (w ++ operand_field (register_word r ∷ byte_text b ∷ [])) (encoding_of (Mvi r b))
 immediate_line r b w named lt long =
-    let m = keyword.Mnemonic mnemonic.MoveImmediate in
-    let a = keyword.Register (register_for r) in
-    let p = word_printed m w 3 named in
-    let q = word_printed a (register_word r) 2 (register_named r) in
-    let t = number_printed b (byte_text b) 6 (byte_numeral b lt) (omega arith) in
-    record {
-      acts = inl (instruction.Byte (byte_op.Mvi r) (number_at (behind_two w (register_word r)) b));
-      says = immediate_says (w ++ operand_field (register_word r ∷ byte_text b ∷ [])) (behind w) (behind w + length (register_word r)) (behind_two w (register_word r)) b (register_for r) r
-          (register_back r) (two_read (Keyword m) (Keyword a) (Number b) w (register_word r) (byte_text b) 3 2 6 p q t);
-      short = two_short (Keyword m) (Keyword a) (Number b) w (register_word r) (byte_text b) p q t;
-      gives = λ names here. rw (lt-ltb b 256 lt, low_byte b lt) refl;
-      long = λ value. long;
-    }
+    two_line (keyword.Mnemonic mnemonic.MoveImmediate) (keyword.Register (register_for r)) (Number b) w (register_word r) (byte_text b)
+    (encoding_of (Mvi r b)) (inl (instruction.Byte (byte_op.Mvi r) (number_at (behind_two w (register_word r)) b))) named (register_named r)
+    (number_printed b (byte_text b) 6 (byte_numeral b lt) (omega arith))
+    (immediate_says _ (behind w) (behind w + length (register_word r)) (behind_two w (register_word r)) b (register_for r) r (register_back r))
+    (λ names here. rw (lt-ltb b 256 lt, low_byte b lt) refl) (λ value. long)
 
-load_line : (r : Pair) (n : ℕ) (w : List ℕ) → IsNamed w (keyword.Mnemonic mnemonic.LoadPair) 3 → n < 65536 → 3 ≡ length (encoding_of (Lxi r n))
-    → IsLine (w ++ operand_field (pair_word r ∷ word_text n ∷ [])) (encoding_of (Lxi r n))
+load_line : (r : Pair) (n : ℕ) (w : List ℕ) → IsNamed w (keyword.Mnemonic mnemonic.LoadPair) 3 → n < 65536
+    → 3 ≡ length (encoding_of (Lxi r n)) → IsLine (w ++ operand_field (pair_word r ∷ word_text n ∷ [])) (encoding_of (Lxi r n))
 load_line r n w named lt long =
-    let m = keyword.Mnemonic mnemonic.LoadPair in
-    let a = keyword.Register (pair_for r) in
-    let p = word_printed m w 3 named in
-    let q = word_printed a (pair_word r) 2 (pair_named r) in
-    let t = number_printed n (word_text n) 6 (word_numeral n lt) (omega arith) in
-    record {
-      acts = inl (instruction.Word (word_op.Lxi r) (number_at (behind_two w (pair_word r)) n));
-      says = load_says (w ++ operand_field (pair_word r ∷ word_text n ∷ [])) (behind w) (behind w + length (pair_word r)) (behind_two w (pair_word r)) n (pair_for r) r
-          (pair_back r) (two_read (Keyword m) (Keyword a) (Number n) w (pair_word r) (word_text n) 3 2 6 p q t);
-      short = two_short (Keyword m) (Keyword a) (Number n) w (pair_word r) (word_text n) p q t;
-      gives = λ names here. refl;
-      long = λ value. long;
-    }
+    two_line (keyword.Mnemonic mnemonic.LoadPair) (keyword.Register (pair_for r)) (Number n) w (pair_word r) (word_text n)
+    (encoding_of (Lxi r n)) (inl (instruction.Word (word_op.Lxi r) (number_at (behind_two w (pair_word r)) n))) named (pair_named r)
+    (number_printed n (word_text n) 6 (word_numeral n lt) (omega arith))
+    (load_says _ (behind w) (behind w + length (pair_word r)) (behind_two w (pair_word r)) n (pair_for r) r (pair_back r))
+    (λ names here. refl) (λ value. long)
 
 -- ---- each instruction
 

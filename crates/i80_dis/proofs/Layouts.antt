@@ -9,7 +9,7 @@ use Rattle.asm_build.specs.declared.built.Row.{Row}
 use Rattle.asm_build.specs.Images.{has}
 use Rattle.asm_build.specs.Statements.{length_of}
 use Rattle.asm_build.specs.Reading.{Entries, Lines, place_after, parts_after, has_ended, is_selected, late_value}
-use Rattle.asm_build.specs.Layout.{past, laid_out, laid_behind, layout}
+use Rattle.asm_build.specs.Layout.{past, laid_out, laid_after, layout}
 use Rattle.asm_build.specs.Meaning.{Output, Meaning, at_address, overlaps, bytes_of, rows_of, with_bytes, output_of, definitions, meaning_of, built_of}
 use Rattle.asm_build.proofs.ReadingLemmas as reading
 use Rattle.asm_text.specs.Statements.{statements_of}
@@ -49,7 +49,7 @@ laid (inl i) kept earlier place le = rw (le-ltb 65536 (place + length_of (action
 laid (inr ds) kept earlier place le = rw (le-ltb 65536 (place + length_of (action_by (inr ds)) 0) le) refl
 
 laid_at : (a : Giving) (kept : Entries) (earlier : Lines) (place : ℕ) → Behind earlier place → place + length_of (action_by a) 0 ≤ 65536
-    → laid_behind kept earlier (does (action_by a)) ≡ Ok (at place)
+    → laid_after kept earlier (does (action_by a)) ≡ Ok (at place)
 laid_at a kept earlier place b le =
     let s = does (action_by a) in
     let p = b.place_is in
@@ -66,7 +66,7 @@ abbrev lines_onto : Lines → ℕ → List Given → Lines
 lines_onto earlier place [] = earlier
 lines_onto earlier place (g ∷ gs) = lines_onto ((does (action_by g.line.acts), at place) ∷ earlier) (place + length g.bytes) gs
 
-layout_goes : (kept : Entries) (earlier : Lines) (s : Statement) (r : Laid) (ss : List Statement) → laid_behind kept earlier s ≡ Ok r
+layout_goes : (kept : Entries) (earlier : Lines) (s : Statement) (r : Laid) (ss : List Statement) → laid_after kept earlier s ≡ Ok r
     → layout kept earlier (s ∷ ss) ≡ layout kept ((s, r) ∷ earlier) ss
 unfolding layout
 layout_goes kept earlier s r ss is = rw is refl
@@ -172,7 +172,7 @@ origin_row address = record { place = 0; is_assembled = true; value = address }
 abbrev origin_lines : ℕ → Lines
 origin_lines address = (origin address, origin_row address) ∷ []
 
-origin_laid : (kept : Entries) (address : ℕ) → laid_behind kept [] (origin address) ≡ Ok (origin_row address)
+origin_laid : (kept : Entries) (address : ℕ) → laid_after kept [] (origin address) ≡ Ok (origin_row address)
 origin_laid kept address = refl
 
 origin_behind : (address : ℕ) → Behind (origin_lines address) address

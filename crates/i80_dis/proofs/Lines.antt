@@ -2,8 +2,8 @@
 use Rattle.std.proofs.Common.{◌≡◌, ℕ, zero, suc, ◌+◌, ◌-◌, ◌*◌, ◌<◌, ◌≤◌, List, [], ◌∷◌, ◌++◌, length, drop, map, get_or, drop-cons, add-one, append_assoc, Option, Some, None, Result, Ok, Err, refl, sym, ap, ◌∙◌, arith}
 use Rattle.std.proofs.lemmas.List.{drop_all, append-nil}
 use Rattle.i80_rows.specs.declared.instruction.Instr.{Instr}
-use Rattle.i80_rows.specs.declared.instruction.Decode.{Decode}
-use Rattle.i80_rows.specs.declared.instruction.Decode.TheVariants as fault
+use Rattle.i80_rows.specs.declared.instruction.DecodeFault.{DecodeFault}
+use Rattle.i80_rows.specs.declared.instruction.DecodeFault.TheVariants as fault
 use Rattle.i80_rows.specs.Rows.{Row, Undefined, Alone, Byte, Word, row, read, read_row}
 use Rattle.i80_dis.specs.declared.line.Shown.{Shown}
 use Rattle.i80_dis.specs.declared.line.Shown.TheVariants.{Instruction, Datum}
@@ -17,7 +17,7 @@ pub record Within (n : ℕ) (bytes : List ℕ) : Type 0 where
   pub some : 0 < n
   pub most : n ≤ length bytes
 
-abbrev was_read : Instr × ℕ → Result (Instr × ℕ) Decode
+abbrev was_read : Instr × ℕ → Result (Instr × ℕ) DecodeFault
 was_read p = Ok p
 
 read_is : (p q : Instr × ℕ) → was_read p ≡ was_read q → p ≡ q
@@ -57,7 +57,7 @@ not_some : {A : Type 0} (x : A) → None ≡ Some x → ⊥
 not_some x e = cc
 
 -- the first line, and those behind it
-next_line : (read_is : Result (Instr × ℕ) Decode) (s : Shown) (n b : ℕ) (bytes : List ℕ) → read (b ∷ bytes) ≡ read_is
+next_line : (read_is : Result (Instr × ℕ) DecodeFault) (s : Shown) (n b : ℕ) (bytes : List ℕ) → read (b ∷ bytes) ≡ read_is
     → next_shown (b ∷ bytes) ≡ Some (s, suc n) → lines_of (b ∷ bytes) ≡ s ∷ lines_of (drop n bytes)
 unfolding lines_from
 next_line (Err (fault.Short k)) s n b bytes e h = absurd (not_some (s, suc n) (rw e at h))
@@ -81,7 +81,7 @@ line_goes s n [] lt pos e = absurd (omega (arith, lt))
 line_goes s zero (b ∷ bytes) lt pos e = absurd (omega (arith, pos))
 line_goes s (suc n) (b ∷ bytes) lt pos e = next_line (read (b ∷ bytes)) s n b bytes refl e
 
-cut_off : (read_is : Result (Instr × ℕ) Decode) (b : ℕ) (bytes : List ℕ) → read (b ∷ bytes) ≡ read_is
+cut_off : (read_is : Result (Instr × ℕ) DecodeFault) (b : ℕ) (bytes : List ℕ) → read (b ∷ bytes) ≡ read_is
     → next_shown (b ∷ bytes) ≡ None → lines_of (b ∷ bytes) ≡ map Datum (b ∷ bytes)
 unfolding lines_from
 cut_off (Err (fault.Short k)) b bytes e h = rw e refl

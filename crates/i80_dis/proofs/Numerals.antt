@@ -3,13 +3,15 @@ use Rattle.std.proofs.Common.{◌≡◌, ℕ, zero, suc, ◌/◌, ◌%◌, ◌<�
 use Rattle.std.specs.Prelude.{◌&&◌, nat_lt}
 use Rattle.std.specs.List.{list_all}
 use Rattle.std.proofs.lemmas.Bool.{and_parts, eqb-true, cases_lt, lt-ltb}
-use Rattle.asm_lex.specs.Characters.{is_digit, is_alphanumeric}
-use Rattle.asm_lex.specs.Numbers.{digit_value, spelled, number_of}
+use Rattle.std.specs.Char.{is_ascii_digit, is_ascii_alphanumeric}
+use Rattle.std.specs.Char.{digit_value}
+use Rattle.asm_lex.specs.Numbers.{spelled, number_of}
 use Rattle.asm_lex.specs.Spelling.{Begins}
 use Rattle.i80_rows.specs.declared.instruction.Vector.{Vector}
 use Rattle.i80_rows.specs.declared.instruction.Vector.TheVariants as vector
 use Rattle.i80_rows.specs.Codes.{vector_code}
-use Rattle.i80_dis.specs.Text.{hex_digit, byte_text, word_text, vector_word}
+use Rattle.base_text.specs.Hexadecimal.{upper_digit}
+use Rattle.i80_dis.specs.Text.{byte_text, word_text, vector_word}
 
 -- ---- a test of every number below n
 
@@ -25,21 +27,21 @@ at_below p (suc n) d all lt =
 
 -- ---- one digit
 
-hex_value : (d : ℕ) → d < 16 → digit_value (hex_digit d) ≡ d
-hex_value d lt = eqb-true _ _ (at_below (λ k. eqb (digit_value (hex_digit k)) k) 16 d refl lt)
+hex_value : (d : ℕ) → d < 16 → digit_value (upper_digit d) ≡ d
+hex_value d lt = eqb-true _ _ (at_below (λ k. eqb (digit_value (upper_digit k)) k) 16 d refl lt)
 
-hex_part : (d : ℕ) → d < 16 → is_alphanumeric (hex_digit d) ≡ true
-hex_part d lt = at_below (λ k. is_alphanumeric (hex_digit k)) 16 d refl lt
+hex_part : (d : ℕ) → d < 16 → is_ascii_alphanumeric (upper_digit d) ≡ true
+hex_part d lt = at_below (λ k. is_ascii_alphanumeric (upper_digit k)) 16 d refl lt
 
-hex_small : (d : ℕ) → d < 16 → nat_lt (digit_value (hex_digit d)) 16 ≡ true
-hex_small d lt = at_below (λ k. nat_lt (digit_value (hex_digit k)) 16) 16 d refl lt
+hex_small : (d : ℕ) → d < 16 → nat_lt (digit_value (upper_digit d)) 16 ≡ true
+hex_small d lt = at_below (λ k. nat_lt (digit_value (upper_digit k)) 16) 16 d refl lt
 
 -- ---- numbers
 
 -- a text is read as a number
 pub record IsNumeral (n : ℕ) (text : List ℕ) : Type 0 where
-  pub begins : Begins is_digit text
-  pub all : list_all is_alphanumeric text ≡ true
+  pub begins : Begins is_ascii_digit text
+  pub all : list_all is_ascii_alphanumeric text ≡ true
   pub value : number_of text ≡ Some n
 
 some_if : (a b : Bool) (n m : ℕ) → a ≡ true → b ≡ true → n ≡ m → cond (a && b) (Some n) None ≡ Some m
@@ -51,7 +53,7 @@ pub byte_numeral : (n : ℕ) → n < 256 → IsNumeral n (byte_text n)
 byte_numeral n lt =
     let hi : n / 16 < 16 = omega (arith, lt) in
     let lo : n % 16 < 16 = omega arith in
-    let digits = 48 ∷ hex_digit (n / 16) ∷ hex_digit (n % 16) ∷ [] in
+    let digits = 48 ∷ upper_digit (n / 16) ∷ upper_digit (n % 16) ∷ [] in
     let value : spelled 16 0 digits ≡ n = rw (hex_value (n / 16) hi, hex_value (n % 16) lo) (omega arith) in
     record {
       begins = refl;
@@ -68,7 +70,7 @@ word_numeral n lt =
     let h2 : n / 256 % 16 < 16 = omega arith in
     let h1 : n % 256 / 16 < 16 = omega arith in
     let h0 : n % 256 % 16 < 16 = omega arith in
-    let digits = 48 ∷ hex_digit (n / 256 / 16) ∷ hex_digit (n / 256 % 16) ∷ hex_digit (n % 256 / 16) ∷ hex_digit (n % 256 % 16) ∷ [] in
+    let digits = 48 ∷ upper_digit (n / 256 / 16) ∷ upper_digit (n / 256 % 16) ∷ upper_digit (n % 256 / 16) ∷ upper_digit (n % 256 % 16) ∷ [] in
     let value : spelled 16 0 digits ≡ n = rw (hex_value (n / 256 / 16) h3, hex_value (n / 256 % 16) h2, hex_value (n % 256 / 16) h1, hex_value (n % 256 % 16) h0) (omega arith) in
     record {
       begins = refl;

@@ -6,7 +6,8 @@ use Rattle.std.proofs.lemmas.Bool.{and_parts, and_from, both_ways, not-true, cas
 use Rattle.asm_syntax.specs.declared.keyword.Keyword.{Keyword}
 use Rattle.asm_syntax.specs.Lexemes.{Lexeme, Number, Sign, Piece}
 use Rattle.asm_syntax.specs.Lexemes as lexeme
-use Rattle.asm_lex.specs.Characters.{is_alphanumeric, is_word_part}
+use Rattle.std.specs.Char.{is_ascii_alphanumeric}
+use Rattle.asm_lex.specs.Characters.{is_word_part}
 use Rattle.asm_lex.specs.Tokens.{tokens_of}
 use Rattle.asm_lex.specs.Spelling.{Stops, IsToken, Spells}
 use Rattle.asm_lex.proofs.Readings.{spells_read}
@@ -36,27 +37,27 @@ all_plain (c ∷ text) all =
     let h = and_parts (is_word_part c) (list_all is_word_part text) all in
     and_from (nat_lt 13 c) (list_all (nat_lt 13) text) (word_plain c h.0) (all_plain text h.1)
 
-digits_plain : (text : List ℕ) → list_all is_alphanumeric text ≡ true → list_all (nat_lt 13) text ≡ true
+digits_plain : (text : List ℕ) → list_all is_ascii_alphanumeric text ≡ true → list_all (nat_lt 13) text ≡ true
 digits_plain [] all = refl
 digits_plain (c ∷ text) all =
-    let h = and_parts (is_alphanumeric c) (list_all is_alphanumeric text) all in
+    let h = and_parts (is_ascii_alphanumeric c) (list_all is_ascii_alphanumeric text) all in
     let part : is_word_part c ≡ true = rw h.0 refl in
     and_from (nat_lt 13 c) (list_all (nat_lt 13) text) (word_plain c part) (digits_plain text h.1)
 
-stops : (rest : List ℕ) → Stops is_word_part rest → Stops is_alphanumeric rest
+stops : (rest : List ℕ) → Stops is_word_part rest → Stops is_ascii_alphanumeric rest
 stops [] h = tt
-stops (c ∷ rest) h = let o = or_false (is_alphanumeric c) _ h in o.0
+stops (c ∷ rest) h = let o = or_false (is_ascii_alphanumeric c) _ h in o.0
 
 pub word_printed : (k : Keyword) (text : List ℕ) (most : ℕ) → IsNamed text k most → IsPrinted (lexeme.Keyword k) text most
 word_printed k text most named = record {
-  token = λ rest ends. record { begins = named.begins; run = record { all = named.all; ends = ends }; says = named.says };
+  token = λ rest ends. record { begins = named.begins; span = record { all = named.all; ends = ends }; says = named.says };
   plain = all_plain text named.all;
   short = named.short;
 }
 
 pub number_printed : (n : ℕ) (text : List ℕ) (most : ℕ) → IsNumeral n text → length text ≤ most → IsPrinted (Number n) text most
 number_printed n text most numeral short = record {
-  token = λ rest ends. (record { begins = numeral.begins; run = record { all = numeral.all; ends = stops rest ends } }, numeral.value);
+  token = λ rest ends. (record { begins = numeral.begins; span = record { all = numeral.all; ends = stops rest ends } }, numeral.value);
   plain = digits_plain text numeral.all;
   short = short;
 }

@@ -3,8 +3,8 @@ use Rattle.std.proofs.Common.{◌≡◌, ◌↔◌, ℕ, zero, suc, ◌<◌, ◌
 use Rattle.std.proofs.lemmas.List.{take-append-drop, length-drop}
 use Rattle.std.proofs.Math.Seq.{drop-append_seam}
 use Rattle.i80_rows.specs.declared.instruction.Instr.{Instr}
-use Rattle.i80_rows.specs.declared.instruction.Decode.{Decode}
-use Rattle.i80_rows.specs.declared.instruction.Decode.TheVariants as fault
+use Rattle.i80_rows.specs.declared.instruction.DecodeFault.{DecodeFault}
+use Rattle.i80_rows.specs.declared.instruction.DecodeFault.TheVariants as fault
 use Rattle.i80_rows.specs.Rows.{Row, Undefined, Alone, Byte, Word, row, read, read_row}
 use Rattle.i80_rows.specs.Encoding.{Encodes}
 use Rattle.i80_rows.proofs.DecodeLemmas.{read_found, encoded_read}
@@ -90,12 +90,12 @@ short_row (Word f) n opcode (b ∷ []) e = omega arith
 short_row (Word f) n opcode (b ∷ (c ∷ rest)) e = absurd cc
 
 encodes_front : (i : Instr) (n : ℕ) (bytes : List ℕ) → read bytes ≡ Ok (i, n) → Encodes i (take n bytes)
-encodes_front i n bytes e = subst (λ (r : Result (Instr × ℕ) Decode). IfOk r (λ p. Encodes p.0 (take p.1 bytes))) e (read_found bytes)
+encodes_front i n bytes e = subst (λ (r : Result (Instr × ℕ) DecodeFault). IfOk r (λ p. Encodes p.0 (take p.1 bytes))) e (read_found bytes)
 
 abbrev Listed : ℕ → Type 0
 Listed k = (bytes : List ℕ) → length bytes ≤ k → Lists bytes (lines_of bytes)
 
-lists_by : (r : Result (Instr × ℕ) Decode) (k b : ℕ) (bytes : List ℕ) → Listed k → length bytes ≤ k → read (b ∷ bytes) ≡ r → Lists (b ∷ bytes) (lines_of (b ∷ bytes))
+lists_by : (r : Result (Instr × ℕ) DecodeFault) (k b : ℕ) (bytes : List ℕ) → Listed k → length bytes ≤ k → read (b ∷ bytes) ≡ r → Lists (b ∷ bytes) (lines_of (b ∷ bytes))
 lists_by (Ok (i, n)) k b bytes more le e =
     let w = read_within i n (b ∷ bytes) e in
     let some : 0 < n = w.some in

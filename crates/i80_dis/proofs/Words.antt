@@ -30,7 +30,8 @@ use Rattle.asm_syntax.specs.declared.statement.WordOperation.TheVariants as word
 use Rattle.asm_syntax.specs.Lexemes.{Lexeme, word_lexeme}
 use Rattle.asm_syntax.specs.Lexemes as lexeme
 use Rattle.asm_syntax.specs.Words.{keyword_of}
-use Rattle.asm_lex.specs.Characters.{is_digit, is_word_part}
+use Rattle.std.specs.Char.{is_ascii_digit}
+use Rattle.asm_lex.specs.Characters.{is_word_part}
 use Rattle.asm_lex.specs.Spelling.{Begins}
 use Rattle.asm_text.specs.Registers.{reg_of, pair_of, index_of, stack_of}
 use Rattle.i80_dis.specs.Text.{register_word, pair_word, index_word, stack_word, condition_word, operation_word, immediate_word, rotation_word}
@@ -38,7 +39,7 @@ use Rattle.std.specs.Prelude.{codes, ◌++◌}
 
 -- a word of at most so many characters is a keyword
 pub record IsNamed (text : List ℕ) (k : Keyword) (most : ℕ) : Type 0 where
-  pub begins : Begins (λ b. not (is_digit b)) text
+  pub begins : Begins (λ b. not (is_ascii_digit b)) text
   pub all : list_all is_word_part text ≡ true
   pub says : word_lexeme (map to_ascii_uppercase text) ≡ lexeme.Keyword k
   pub short : length text ≤ most

@@ -1,8 +1,8 @@
 -- What the lines of a listing show: each an instruction, or a byte that begins none.
 use Rattle.std.specs.Prelude.{◌≡◌, ◌<◌, ◌⊎◌, ℕ, zero, suc, ◌-◌, List, [], ◌∷◌, ◌++◌, length, map, Bool, true, false, Option, Some, None, Result, Ok, Err, if◌then◌else◌}
 use Rattle.i80_rows.specs.declared.instruction.Instr.{Instr}
-use Rattle.i80_rows.specs.declared.instruction.Decode.{Decode}
-use Rattle.i80_rows.specs.declared.instruction.Decode.TheVariants as fault
+use Rattle.i80_rows.specs.declared.instruction.DecodeFault.{DecodeFault}
+use Rattle.i80_rows.specs.declared.instruction.DecodeFault.TheVariants as fault
 use Rattle.i80_rows.specs.Rows.{Row, Undefined, Alone, Byte, Word, row, read}
 use Rattle.i80_rows.specs.Encoding.{Encodes}
 use Rattle.i80_dis.specs.declared.line.Shown.{Shown}
@@ -22,7 +22,7 @@ abbrev pub IsCutOff : List ℕ → Type 0
 IsCutOff [] = ⊥
 IsCutOff (opcode ∷ rest) = length (opcode ∷ rest) < length_in (row opcode)
 
--- The lines' bytes, one behind the other, are these. An undefined opcode is a line by itself; where
+-- The lines' bytes, one after the other, are these. An undefined opcode is a line by itself; where
 -- an instruction is cut off, each byte that is left is one.
 abbrev pub Lists : List ℕ → List Shown → Type 0
 Lists bytes [] = bytes ≡ []
@@ -34,12 +34,12 @@ Lists bytes (Datum b ∷ lines) =
 
 -- ---- the same, read off the table
 
-abbrev pub is_cut_off : Result (Instr × ℕ) Decode → Bool
+abbrev pub is_cut_off : Result (Instr × ℕ) DecodeFault → Bool
 is_cut_off (Err (fault.Short needed)) = true
 is_cut_off _ = false
 
 -- what the first line shows of bytes of which this is the first, and how many of them
-abbrev pub shown_by : ℕ → Result (Instr × ℕ) Decode → Shown × ℕ
+abbrev pub shown_by : ℕ → Result (Instr × ℕ) DecodeFault → Shown × ℕ
 shown_by opcode (Ok (i, n)) = (Instruction i, n)
 shown_by opcode (Err f) = (Datum opcode, 1)
 

@@ -1,6 +1,7 @@
 -- How a listing is written: mnemonics and operands of the 8080/8085 Assembly Language Programming
 -- Manual, chapter 3; numbers in hexadecimal, of two digits for a byte and four for a word.
 use Rattle.std.specs.Prelude.{ℕ, ◌+◌, ◌/◌, ◌%◌, List, [], ◌∷◌, ◌++◌, nat_lt, codes, if◌then◌else◌}
+use Rattle.base_text.specs.Hexadecimal.{upper_byte, upper_word}
 use Rattle.i80_rows.specs.declared.instruction.Cond.{Cond}
 use Rattle.i80_rows.specs.declared.instruction.Cond.TheVariants as cond
 use Rattle.i80_rows.specs.declared.instruction.IndexPair.{IndexPair}
@@ -26,20 +27,13 @@ use Rattle.i80_dis.specs.Shown.{lines_of}
 
 -- ---- numbers
 
--- `0` to `9`, `A` to `F`
-abbrev pub hex_digit : ℕ → ℕ
-hex_digit n = if nat_lt n 10 then 48 + n else 55 + n
-
-abbrev pub hex_byte : ℕ → List ℕ
-hex_byte n = hex_digit (n / 16) ∷ (hex_digit (n % 16) ∷ [])
-
 -- a byte as `0hhH`, which begins with a digit
 abbrev pub byte_text : ℕ → List ℕ
-byte_text n = codes "0" ++ hex_byte n ++ codes "H"
+byte_text n = codes "0" ++ upper_byte n ++ codes "H"
 
 -- a word as `0hhhhH`
 abbrev pub word_text : ℕ → List ℕ
-word_text n = codes "0" ++ hex_byte (n / 256) ++ hex_byte (n % 256) ++ codes "H"
+word_text n = codes "0" ++ upper_word n ++ codes "H"
 
 -- ---- words
 
@@ -196,12 +190,12 @@ operands (Out b) = byte_text b ∷ []
 operands (In b) = byte_text b ∷ []
 operands _ = []
 
--- operands behind another one
+-- operands after another one
 abbrev pub more_operands : List (List ℕ) → List ℕ
 more_operands [] = []
 more_operands (o ∷ os) = codes "," ++ o ++ more_operands os
 
--- operands behind a mnemonic
+-- operands after a mnemonic
 abbrev pub operand_field : List (List ℕ) → List ℕ
 operand_field [] = []
 operand_field (o ∷ os) = codes " " ++ o ++ more_operands os

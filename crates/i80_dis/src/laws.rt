@@ -12,7 +12,7 @@ pub fn lines_are()
 {}
 
 /// A listing of bytes is a cell. Whatever symbols were kept, it has a consistent reading; no fault
-/// stands in it; and each of its consistent readings gives these bytes, one behind the other from
+/// stands in it; and each of its consistent readings gives these bytes, one after the other from
 /// the address on, no start, and the symbols that were kept.
 pub fn listing_assembles()
     ensures { (kept : Entries) (address : ℕ) (bytes : List ℕ)

@@ -7,14 +7,14 @@ ghost use Rattle.i80_dis.specs.Text.{text_of};
 use crate::mnemonic::push_mnemonic;
 use crate::operand::{operands_of, push_byte, push_operands};
 use i80_rows::decoding::decode;
-use i80_rows::instruction::{Decode, Instr};
+use i80_rows::instruction::{DecodeFault, Instr};
 use std::alloc::{AllocError, Global};
 
 /// What a line shows.
 #[derive(Clone, Copy, Debug, PartialEq, Eq)]
 pub enum Shown {
     Instruction(Instr),
-    /// A byte by itself, behind DB.
+    /// A byte by itself, after DB.
     Datum(u8),
 }
 
@@ -38,8 +38,8 @@ pub(crate) fn next_shown(bytes: &[u8]) -> Option<(Shown, u8)>
 {
     match decode(bytes) {
         Ok((instr, length)) => Some((Shown::Instruction(instr), length)),
-        Err(Decode::Undefined) => Some((Shown::Datum(bytes[0]), 1)),
-        Err(Decode::Short { .. }) => None,
+        Err(DecodeFault::Undefined) => Some((Shown::Datum(bytes[0]), 1)),
+        Err(DecodeFault::Short { .. }) => None,
     }
 }
 

@@ -59,7 +59,7 @@ fn push_lines(text: &mut String, bytes: &[u8]) -> Result<(), AllocError>
     Ok(())
 }
 
-/// The listing of bytes, of which the first stands at this address: `ORG`, and behind it a line
+/// The listing of bytes, of which the first stands at this address: `ORG`, and after it a line
 /// for each instruction; no text for no bytes.
 ///
 /// An undefined opcode is `DB` with that byte. Where an instruction is cut off by the end of the

@@ -110,7 +110,7 @@ fn stem(instr: Instr) -> &'static str
     }
 }
 
-// The condition behind the stem, or nothing.
+// The condition after the stem, or nothing.
 fn ending(instr: Instr) -> &'static str
     ensures { result.now ≡ ending instr }
 {

@@ -1,8 +1,67 @@
 -- What each instruction does (8080 User's Manual, chapter 4).
-use Rattle.std.specs.Prelude.{ℕ, ◌+◌, ◌-◌, ◌*◌, ◌/◌, ◌%◌, Option, Some, None, Bool, true, false, not, nat_lt, if◌then◌else◌}
+use Rattle.std.specs.Prelude.{
+  ℕ,
+  ◌+◌,
+  ◌-◌,
+  ◌*◌,
+  ◌/◌,
+  ◌%◌,
+  Option,
+  Some,
+  None,
+  Bool,
+  true,
+  false,
+  not,
+  nat_lt,
+  if◌then◌else◌,
+}
 use Rattle.i80_rows.specs.declared.arithmetic.AluResult.{AluResult}
 use Rattle.i80_rows.specs.declared.instruction.Instr.{Instr}
-use Rattle.i80_rows.specs.declared.instruction.Instr.TheVariants.{Nop, Lxi, Stax, Ldax, Shld, Lhld, Sta, Lda, Inx, Dcx, Dad, Inr, Dcr, Mvi, Rotate, Daa, Cma, Stc, Cmc, Mov, MovFromM, MovToM, Hlt, Alu, AluImmediate, Jmp, JumpIf, Call, CallIf, Ret, RetIf, Rst, Push, Pop, Xthl, Xchg, Pchl, Sphl, Out, In, Di, Ei}
+use Rattle.i80_rows.specs.declared.instruction.Instr.TheVariants.{
+  Nop,
+  Lxi,
+  Stax,
+  Ldax,
+  Shld,
+  Lhld,
+  Sta,
+  Lda,
+  Inx,
+  Dcx,
+  Dad,
+  Inr,
+  Dcr,
+  Mvi,
+  Rotate,
+  Daa,
+  Cma,
+  Stc,
+  Cmc,
+  Mov,
+  MovFromM,
+  MovToM,
+  Hlt,
+  Alu,
+  AluImmediate,
+  Jmp,
+  JumpIf,
+  Call,
+  CallIf,
+  Ret,
+  RetIf,
+  Rst,
+  Push,
+  Pop,
+  Xthl,
+  Xchg,
+  Pchl,
+  Sphl,
+  Out,
+  In,
+  Di,
+  Ei,
+}
 use Rattle.i80_rows.specs.declared.instruction.Reg.{Reg}
 use Rattle.i80_rows.specs.declared.instruction.Reg.TheVariants as reg
 use Rattle.i80_rows.specs.declared.instruction.Pair.TheVariants as pair
@@ -11,13 +70,42 @@ use Rattle.i80_rows.specs.declared.instruction.Cond.TheVariants as cond
 use Rattle.i80_rows.specs.declared.instruction.Operation.{Operation}
 use Rattle.i80_rows.specs.declared.instruction.Operation.TheVariants.{Add, Adc, Sub, Sbb, Ana, Xra, Ora, Cmp}
 use Rattle.i80_rows.specs.FlagValues.{FlagValues}
-use Rattle.i80_rows.specs.Arithmetic.{sum, difference, conjunction, exclusive, inclusive, rotated, increment, decrement, adjusted}
+use Rattle.i80_rows.specs.Arithmetic.{
+  sum,
+  difference,
+  conjunction,
+  exclusive,
+  inclusive,
+  rotated,
+  increment,
+  decrement,
+  adjusted,
+}
 use Rattle.i80_rows.specs.Codes.{reg_of, vector_code}
 use Rattle.i80_exec.specs.declared.registers.Stepped.{Stepped}
 use Rattle.i80_exec.specs.declared.registers.Stepped.TheVariants.{Done, Called, Returned, Halted}
 use Rattle.i80_exec.specs.declared.ports.PortOperation.{PortOperation}
 use Rattle.i80_exec.specs.declared.ports.PortOperation.TheVariants as port
-use Rattle.i80_exec.specs.State.{MachineState, wrapped, byte_at, stored, word_at, stored_word, with_regs, with_pc, with_sp, with_a, with_flags, get, put, get_pair, put_pair, get_index, get_stack_pair, put_stack_pair}
+use Rattle.i80_exec.specs.State.{
+  MachineState,
+  wrapped,
+  byte_at,
+  stored,
+  word_at,
+  stored_word,
+  with_regs,
+  with_pc,
+  with_sp,
+  with_a,
+  with_flags,
+  get,
+  put,
+  get_pair,
+  put_pair,
+  get_index,
+  get_stack_pair,
+  put_stack_pair,
+}
 
 -- the machine afterwards, at most one port operation, and the answer
 pub record Outcome : Type 0 where
@@ -133,11 +221,13 @@ effect (RetIf c) input m = if (holds c m.regs.flags) then (returned m) else (don
 effect (Rst n) input m = called m (8 * vector_code n)
 effect (Push p) input m = done (pushed m (get_stack_pair m p))
 effect (Pop p) input m = done (put_stack_pair (popped m) p (word_at m m.regs.sp))
-effect Xthl input m = done (put_pair (stored_word m m.regs.sp (get_pair m pair.H)) pair.H (word_at m m.regs.sp))
+effect Xthl input m =
+    done (put_pair (stored_word m m.regs.sp (get_pair m pair.H)) pair.H (word_at m m.regs.sp))
 effect Xchg input m = done (exchanged m)
 effect Pchl input m = done (with_pc m (get_pair m pair.H))
 effect Sphl input m = done (with_sp m (get_pair m pair.H))
 effect (Out p) input m = record { after = m; operation = Some (port.Out p m.regs.a); answer = Done }
-effect (In p) input m = record { after = with_a m (input p); operation = Some (port.In p (input p)); answer = Done }
+effect (In p) input m =
+    record { after = with_a m (input p); operation = Some (port.In p (input p)); answer = Done }
 effect Di input m = done m
 effect Ei input m = done m

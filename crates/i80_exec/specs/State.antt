@@ -1,5 +1,6 @@
 -- A processor with its memory, and how its parts are read and written.
 use Rattle.std.specs.Prelude.{ℕ, ◌+◌, ◌*◌, ◌/◌, ◌%◌, List, false, replicate, slice_index, slice_set}
+use Rattle.std.specs.List.{fold}
 use Rattle.i80_rows.specs.declared.instruction.Reg.{Reg}
 use Rattle.i80_rows.specs.declared.instruction.Reg.TheVariants as reg
 use Rattle.i80_rows.specs.declared.instruction.Pair.{Pair}
@@ -27,6 +28,10 @@ byte_at m address = slice_index m.memory (wrapped address)
 
 abbrev pub stored : MachineState → ℕ → ℕ → MachineState
 stored m address byte = record m { memory = slice_set m.memory (wrapped address) byte }
+
+-- each byte of an image is stored at its address, in order
+abbrev pub loaded : MachineState → List (ℕ × ℕ) → MachineState
+loaded m image = fold (λ m p. stored m p.0 p.1) m image
 
 -- words lie low byte first
 abbrev pub word_at : MachineState → ℕ → ℕ
@@ -103,13 +108,26 @@ abbrev pub put_stack_pair : MachineState → StackPair → ℕ → MachineState
 put_stack_pair m stack.B word = put_pair m pair.B word
 put_stack_pair m stack.D word = put_pair m pair.D word
 put_stack_pair m stack.H word = put_pair m pair.H word
-put_stack_pair m stack.Psw word = with_regs m (record m.regs { a = word / 256; flags = flags_of (word % 256) })
+put_stack_pair m stack.Psw word =
+    with_regs m (record m.regs { a = word / 256; flags = flags_of (word % 256) })
 
 abbrev pub clear_flags : FlagValues
 clear_flags = record { s = false; z = false; ac = false; p = false; cy = false }
 
 abbrev pub clear_regs : Registers
-clear_regs = record { a = 0; b = 0; c = 0; d = 0; e = 0; h = 0; l = 0; flags = clear_flags; sp = 0; pc = 0; interrupts = Off }
+clear_regs = record {
+  a = 0;
+  b = 0;
+  c = 0;
+  d = 0;
+  e = 0;
+  h = 0;
+  l = 0;
+  flags = clear_flags;
+  sp = 0;
+  pc = 0;
+  interrupts = Off;
+}
 
 unfoldable pub zeros : List ℕ
 zeros = replicate 65536 0

@@ -1,5 +1,21 @@
 -- One step: the instruction at PC, or an accepted interrupt request.
-use Rattle.std.specs.Prelude.{◌≡◌, ℕ, ◌+◌, ◌*◌, List, [], ◌∷◌, ◌++◌, length, Option, Some, None}
+use Rattle.std.specs.Prelude.{
+  ◌≡◌,
+  ℕ,
+  ◌+◌,
+  ◌*◌,
+  List,
+  [],
+  ◌∷◌,
+  ◌++◌,
+  length,
+  Bool,
+  true,
+  false,
+  Option,
+  Some,
+  None,
+}
 use Rattle.i80_rows.specs.declared.instruction.Instr.{Instr}
 use Rattle.i80_rows.specs.declared.instruction.Instr.TheVariants.{Di, Ei}
 use Rattle.i80_rows.specs.Rows.{Row, Undefined, Alone, Byte, Word, row}
@@ -10,6 +26,14 @@ use Rattle.i80_exec.specs.declared.registers.Interrupts.TheVariants.{Off, Arming
 use Rattle.i80_exec.specs.declared.ports.PortOperation.{PortOperation}
 use Rattle.i80_exec.specs.State.{MachineState, wrapped, byte_at, word_at, with_pc, with_interrupts}
 use Rattle.i80_exec.specs.Effect.{Outcome, effect, called}
+
+-- whether a step was HLT
+abbrev pub is_halt : Stepped → Bool
+is_halt stepped.Halted = true
+is_halt stepped.Done = false
+is_halt (stepped.Called slot target) = false
+is_halt (stepped.Returned slot) = false
+is_halt (stepped.Undefined opcode) = false
 
 -- the interrupt state after an instruction that began in one: EI leaves arming, DI leaves off,
 -- and any other instruction that began in arming ends in on
@@ -28,9 +52,10 @@ abbrev pub executed : Instr → ℕ → (ℕ → ℕ) → MachineState → Outco
 executed i size input m =
     with_interrupts_after i m.regs.interrupts (effect i input (with_pc m (wrapped (m.regs.pc + size))))
 
--- the row of the opcode at PC, with its operand from the addresses behind; an undefined one changes nothing
+-- the row of the opcode at PC, with its operand from the addresses after it; an undefined one changes nothing
 abbrev pub by_row : Row → (ℕ → ℕ) → MachineState → Outcome
-by_row Undefined input m = record { after = m; operation = None; answer = stepped.Undefined (byte_at m m.regs.pc) }
+by_row Undefined input m =
+    record { after = m; operation = None; answer = stepped.Undefined (byte_at m m.regs.pc) }
 by_row (Alone i) input m = executed i 1 input m
 by_row (Byte f) input m = executed (f (byte_at m (m.regs.pc + 1))) 2 input m
 by_row (Word f) input m = executed (f (word_at m (m.regs.pc + 1))) 3 input m
@@ -63,7 +88,8 @@ state_after next s None = s
 state_after next s (Some p) = next s p
 
 -- the devices did this operation, or none, and nothing else
-pub record Performs {S : Type 0} (operation : Option PortOperation) (next : S → PortOperation → S) (operations operations' : List PortOperation) (state state' : S) (spare spare' : ℕ) : Type 0 where
+pub record Performs {S : Type 0} (operation : Option PortOperation) (next : S → PortOperation → S)
+    (operations operations' : List PortOperation) (state state' : S) (spare spare' : ℕ) : Type 0 where
   pub appended : operations' ≡ operations ++ operation_list operation
   pub state_is : state' ≡ state_after next state operation
   pub spare_is : spare' + length (operation_list operation) ≡ spare

@@ -1,4 +1,4 @@
-// An Intel 8080 with its 65,536 bytes of memory, and the ports that its devices lie behind.
+// An Intel 8080 with its 65,536 bytes of memory, and the ports of its devices.
 // `Machine::step` does one instruction, for each of the 256 opcodes and whatever devices there are:
 // the machine, the port traffic and the answer afterwards are what the written table gives.
 // `Machine::accept` does RST n for an interrupt request where interrupts are on.

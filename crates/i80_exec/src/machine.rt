@@ -1,5 +1,20 @@
 //! The processor and its memory, what its instructions are made of, and one step at a time.
-ghost use Rattle.std.specs.Prelude.{◌≡◌, ◌+◌, ◌*◌, ◌≤◌, ◌++◌, List, ℕ, length, replicate, IfOk, IfSome, IfNone, Some, None};
+ghost use Rattle.std.specs.Prelude.{
+  ◌≡◌,
+  ◌+◌,
+  ◌*◌,
+  ◌≤◌,
+  ◌++◌,
+  List,
+  ℕ,
+  length,
+  replicate,
+  IfOk,
+  IfSome,
+  IfNone,
+  Some,
+  None,
+};
 ghost use Rattle.i80_rows.specs.declared.arithmetic.AluResult.{AluResult};
 ghost use Rattle.i80_rows.specs.declared.instruction.Instr.TheVariants.{Xthl};
 ghost use Rattle.i80_exec.specs.State.{
@@ -46,11 +61,9 @@ use crate::registers::{Interrupts, Registers, Stepped};
 use i80_rows::arithmetic::{AluResult, alu_add, alu_and, alu_or, alu_sub, alu_xor};
 use i80_rows::flags::Flags;
 use i80_rows::instruction::{Cond, Operation, Pair, StackPair};
+use i80_rows::memory::MEMORY_SIZE;
 use std::alloc::{AllocError, Global};
 use std::marker::Model;
-
-/// How many bytes of memory there are, at the addresses from 0 on.
-const MEMORY_SIZE: usize = 65536;
 
 /// A processor with its memory.
 #[derive(Drop)]

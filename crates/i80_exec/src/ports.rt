@@ -1,4 +1,4 @@
-//! The ports of the processor, and what every device behind them keeps to.
+//! The ports of the processor, and what every device at them keeps to.
 ghost use Rattle.std.specs.Prelude.{◌≡◌, ◌+◌, ◌≤◌, ◌++◌, ◌∷◌, [], List, ℕ};
 ghost use Rattle.i80_exec.specs.declared.ports.PortOperation.{PortOperation};
 ghost use Rattle.i80_exec.specs.declared.ports.PortOperation.TheVariants.{In, Out};
@@ -10,7 +10,7 @@ pub enum PortOperation {
     Out { port: u8, byte: u8 },
 }
 
-/// The devices behind the ports. A contract sees them as the list of operations since the last
+/// The devices at the ports. A contract sees them as the list of operations since the last
 /// time that they were taken, a state, and how many more operations there is room for.
 pub trait Ports {
     /// What the answers of the devices rest on.

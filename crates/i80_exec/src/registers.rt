@@ -1,7 +1,7 @@
-//! What the processor holds beside its memory, and what one step of it tells.
+//! What the processor holds beside its memory, and what one step of it reports.
 use i80_rows::flags::Flags;
 
-/// Whether interrupt requests are accepted. EI leaves `Arming`, so that the instruction behind it
+/// Whether interrupt requests are accepted. EI leaves `Arming`, so that the instruction after it
 /// is done before a request is accepted.
 #[derive(Clone, Copy, PartialEq, Eq, Debug)]
 pub enum Interrupts {

@@ -1,5 +1,35 @@
 -- The bit operations of the code are the sums and digits of the definitions.
-use Rattle.std.proofs.Common.{◌≡◌, ℕ, ◌+◌, ◌-◌, ◌*◌, ◌/◌, ◌%◌, ◌^◌, ◌<◌, ◌≤◌, Bool, true, false, not, ◌||◌, ◌==◌, nat_eq, nat_lt, nat_le, refl, sym, ap, ◌∙◌, bit_and, bit_or, bit_xor, arith, List, max}
+use Rattle.std.proofs.Common.{
+  ◌≡◌,
+  ℕ,
+  ◌+◌,
+  ◌-◌,
+  ◌*◌,
+  ◌/◌,
+  ◌%◌,
+  ◌^◌,
+  ◌<◌,
+  ◌≤◌,
+  Bool,
+  true,
+  false,
+  not,
+  ◌||◌,
+  ◌==◌,
+  nat_eq,
+  nat_lt,
+  nat_le,
+  refl,
+  sym,
+  ap,
+  ◌∙◌,
+  bit_and,
+  bit_or,
+  bit_xor,
+  arith,
+  List,
+  max,
+}
 use Rattle.std.proofs.lemmas.Nat.{and_mask}
 use Rattle.std.proofs.lemmas.Nat.Bits.{and_pow, bit_at_xor, bit_at_or, bit_at-lt}
 use Rattle.std.specs.Int.{bit_at, from_bool}
@@ -7,7 +37,19 @@ use Rattle.std.proofs.lemmas.Bool.Decides.{nat_tests}
 use Rattle.i80_rows.specs.declared.instruction.Rotation.TheVariants.{Rlc, Rrc, Ral, Rar}
 use Rattle.i80_rows.specs.declared.arithmetic.AluResult.{AluResult}
 use Rattle.i80_rows.specs.FlagValues.{FlagValues, digit, is_set}
-use Rattle.i80_rows.specs.Arithmetic.{is_even, by_digits, with_flags, sum, increment, decrement, exclusive, conjunction, adjusted, rotated, turned}
+use Rattle.i80_rows.specs.Arithmetic.{
+  is_even,
+  by_digits,
+  with_flags,
+  sum,
+  increment,
+  decrement,
+  exclusive,
+  conjunction,
+  adjusted,
+  rotated,
+  turned,
+}
 use Rattle.i80_rows.proofs.Tables.{agree, table}
 
 pub carry_by_mask : (x : ℕ) → x < 512 → not (nat_eq (bit_and x 256) 0) ≡ nat_lt 255 x
@@ -25,10 +67,13 @@ above n m low high = grind (arith, nat_tests)
 pub auxiliary_by_xor : (x y c v : ℕ) → x < 256 → y < 256 → c ≤ 1 → v ≡ (x + y + c) % 256
     → not (nat_eq (bit_and (bit_xor (bit_xor x y) v) 16) 0) ≡ nat_lt 15 (x % 16 + y % 16 + c)
 auxiliary_by_xor x y c v hx hy hc e =
-    let masked : bit_and (bit_xor (bit_xor x y) v) 16 ≡ bit_at (bit_xor (bit_xor x y) v) 4 * 16 = and_pow (bit_xor (bit_xor x y) v) 4 in
-    let outer : bit_at (bit_xor (bit_xor x y) v) 4 ≡ (bit_at (bit_xor x y) 4 + v / 16 % 2) % 2 = bit_at_xor (bit_xor x y) v 4 in
+    let masked : bit_and (bit_xor (bit_xor x y) v) 16 ≡ bit_at (bit_xor (bit_xor x y) v) 4 * 16 =
+    and_pow (bit_xor (bit_xor x y) v) 4 in
+    let outer : bit_at (bit_xor (bit_xor x y) v) 4 ≡ (bit_at (bit_xor x y) 4 + v / 16 % 2) % 2 =
+    bit_at_xor (bit_xor x y) v 4 in
     let inner : bit_at (bit_xor x y) 4 ≡ (x / 16 % 2 + y / 16 % 2) % 2 = bit_at_xor x y 4 in
-    let all : bit_and (bit_xor (bit_xor x y) v) 16 ≡ ((x / 16 % 2 + y / 16 % 2) % 2 + v / 16 % 2) % 2 * 16 = masked ∙ ap (λ d. d * 16) (outer ∙ ap (λ d. (d + v / 16 % 2) % 2) inner) in
+    let all : bit_and (bit_xor (bit_xor x y) v) 16 ≡ ((x / 16 % 2 + y / 16 % 2) % 2 + v / 16 % 2) % 2 * 16 =
+    masked ∙ ap (λ d. d * 16) (outer ∙ ap (λ d. (d + v / 16 % 2) % 2) inner) in
     above _ _ (λ z. omega (arith, z, all)) (λ z. omega (arith, z, all))
 
 pub from_bool-le : (c : Bool) → from_bool c ≤ 1
@@ -36,7 +81,9 @@ from_bool-le true = omega arith
 from_bool-le false = omega arith
 
 pub sum_by_bits : (x y : ℕ) (c : Bool) → x < 256 → y < 256
-    → with_flags (bit_and (x + y + from_bool c) 255) (not (nat_eq (bit_and (bit_xor (bit_xor x y) (bit_and (x + y + from_bool c) 255)) 16) 0)) (not (nat_eq (bit_and (x + y + from_bool c) 256) 0)) ≡ sum x y c
+    → with_flags (bit_and (x + y + from_bool c) 255)
+    (not (nat_eq (bit_and (bit_xor (bit_xor x y) (bit_and (x + y + from_bool c) 255)) 16) 0))
+    (not (nat_eq (bit_and (x + y + from_bool c) 256) 0)) ≡ sum x y c
 sum_by_bits x y c hx hy =
     let t = x + y + from_bool c in
     let low : bit_and t 255 ≡ t % 256 = and_mask t 8 in
@@ -47,12 +94,14 @@ sum_by_bits x y c hx hy =
 pub increment_by_bits : (x : ℕ) (cy : Bool) → x < 256
     → with_flags ((x + 1) % 256) (nat_eq (bit_and ((x + 1) % 256) 15) 0) cy ≡ increment x cy
 increment_by_bits x cy h =
-    agree (λ x. with_flags ((x + 1) % 256) (nat_eq (bit_and ((x + 1) % 256) 15) 0) cy) (λ x. increment x cy) 256 refl x h
+    agree (λ x. with_flags ((x + 1) % 256) (nat_eq (bit_and ((x + 1) % 256) 15) 0) cy) (λ x. increment x cy)
+    256 refl x h
 
 pub decrement_by_bits : (x : ℕ) (cy : Bool) → x < 256
     → with_flags ((x + 255) % 256) (not (nat_eq (bit_and ((x + 255) % 256) 15) 15)) cy ≡ decrement x cy
 decrement_by_bits x cy h =
-    agree (λ x. with_flags ((x + 255) % 256) (not (nat_eq (bit_and ((x + 255) % 256) 15) 15)) cy) (λ x. decrement x cy) 256 refl x h
+    agree (λ x. with_flags ((x + 255) % 256) (not (nat_eq (bit_and ((x + 255) % 256) 15) 15)) cy)
+    (λ x. decrement x cy) 256 refl x h
 
 pub xor_by_digits : (x y : ℕ) → x < 256 → y < 256 → bit_xor x y ≡ by_digits (λ a b. (a + b) % 2) x y
 xor_by_digits x y hx hy = agree (bit_xor x) (by_digits (λ a b. (a + b) % 2) x) 256 (rows x hx) y hy
@@ -63,16 +112,21 @@ xor_by_digits x y hx hy = agree (bit_xor x) (by_digits (λ a b. (a + b) % 2) x) 
 pub auxiliary_by_or : (x y : ℕ) → not (nat_eq (bit_and (bit_or x y) 8) 0) ≡ (is_set x 3 || is_set y 3)
 auxiliary_by_or x y =
     let masked : bit_and (bit_or x y) 8 ≡ bit_at (bit_or x y) 3 * 8 = and_pow (bit_or x y) 3 in
-    ap (λ n. not (nat_eq n 0)) (masked ∙ ap (λ d. d * 8) (bit_at_or x y 3)) ∙ digits (bit_at x 3) (bit_at y 3) (bit_at-lt x 3) (bit_at-lt y 3)
+    ap (λ n. not (nat_eq n 0)) (masked ∙ ap (λ d. d * 8) (bit_at_or x y 3))
+    ∙ digits (bit_at x 3) (bit_at y 3) (bit_at-lt x 3) (bit_at-lt y 3)
   where
     digits : (a b : ℕ) → a < 2 → b < 2 → not (nat_eq (max a b * 8) 0) ≡ ((a == 1) || (b == 1))
-    digits a b ha hb = agree (λ b. not (nat_eq (max a b * 8) 0)) (λ b. (a == 1) || (b == 1)) 2 (agree (λ a. table (λ b. not (nat_eq (max a b * 8) 0)) 2) (λ a. table (λ b. (a == 1) || (b == 1)) 2) 2 refl a ha) b hb
+    digits a b ha hb = agree (λ b. not (nat_eq (max a b * 8) 0)) (λ b. (a == 1) || (b == 1)) 2
+        (agree (λ a. table (λ b. not (nat_eq (max a b * 8) 0)) 2) (λ a. table (λ b. (a == 1) || (b == 1)) 2)
+        2 refl a ha) b hb
 
 abbrev pub daa_value : ℕ → Bool → Bool → ℕ
-daa_value a ac cy = (a + (6 * from_bool (nat_lt 9 (bit_and a 15) || ac) + 96 * from_bool (cy || nat_lt 153 a))) % 256
+daa_value a ac cy = (a
+    + (6 * from_bool (nat_lt 9 (bit_and a 15) || ac) + 96 * from_bool (cy || nat_lt 153 a))) % 256
 
 abbrev pub daa_code : ℕ → Bool → Bool → AluResult
-daa_code a ac cy = with_flags (daa_value a ac cy) (not (nat_eq (bit_and (bit_xor a (daa_value a ac cy)) 16) 0)) (cy || nat_lt 153 a)
+daa_code a ac cy = with_flags (daa_value a ac cy)
+    (not (nat_eq (bit_and (bit_xor a (daa_value a ac cy)) 16) 0)) (cy || nat_lt 153 a)
 
 abbrev pub daa_spec : ℕ → Bool → Bool → AluResult
 daa_spec a ac cy = adjusted a (record { s = false; z = false; ac = ac; p = false; cy = cy })
@@ -84,7 +138,8 @@ daa_each false true = refl
 daa_each false false = refl
 
 pub adjusted_by_bits : (a : ℕ) (f : FlagValues) → a < 256 → daa_code a f.ac f.cy ≡ adjusted a f
-adjusted_by_bits a f h = agree (λ a. daa_code a f.ac f.cy) (λ a. daa_spec a f.ac f.cy) 256 (daa_each f.ac f.cy) a h
+adjusted_by_bits a f h =
+    agree (λ a. daa_code a f.ac f.cy) (λ a. daa_spec a f.ac f.cy) 256 (daa_each f.ac f.cy) a h
 
 pub or_by_digits : (x y : ℕ) → x < 256 → y < 256 → bit_or x y ≡ by_digits (λ a b. a + b - a * b) x y
 or_by_digits x y hx hy = agree (bit_or x) (by_digits (λ a b. a + b - a * b) x) 256 (rows x hx) y hy
@@ -92,22 +147,36 @@ or_by_digits x y hx hy = agree (bit_or x) (by_digits (λ a b. a + b - a * b) x) 
     rows : (x : ℕ) → x < 256 → table (bit_or x) 256 ≡ table (by_digits (λ a b. a + b - a * b) x) 256
     rows = agree (λ x. table (bit_or x) 256) (λ x. table (by_digits (λ a b. a + b - a * b) x) 256) 256 refl
 
-pub rlc_by_bits : (a : ℕ) (f : FlagValues) → a < 256 → turned (bit_or (a * 2 % 256) (a / 128)) (not (nat_eq (bit_and a 128) 0)) f ≡ rotated Rlc a f
-rlc_by_bits a f h = agree (λ a. turned (bit_or (a * 2 % 256) (a / 128)) (not (nat_eq (bit_and a 128) 0)) f) (λ a. rotated Rlc a f) 256 refl a h
+pub rlc_by_bits : (a : ℕ) (f : FlagValues) → a < 256
+    → turned (bit_or (a * 2 % 256) (a / 128)) (not (nat_eq (bit_and a 128) 0)) f ≡ rotated Rlc a f
+rlc_by_bits a f h = agree (λ a. turned (bit_or (a * 2 % 256) (a / 128)) (not (nat_eq (bit_and a 128) 0)) f)
+    (λ a. rotated Rlc a f) 256 refl a h
 
-pub rrc_by_bits : (a : ℕ) (f : FlagValues) → a < 256 → turned (bit_or (a / 2) (a * 128 % 256)) (not (nat_eq (bit_and a 1) 0)) f ≡ rotated Rrc a f
-rrc_by_bits a f h = agree (λ a. turned (bit_or (a / 2) (a * 128 % 256)) (not (nat_eq (bit_and a 1) 0)) f) (λ a. rotated Rrc a f) 256 refl a h
+pub rrc_by_bits : (a : ℕ) (f : FlagValues) → a < 256
+    → turned (bit_or (a / 2) (a * 128 % 256)) (not (nat_eq (bit_and a 1) 0)) f ≡ rotated Rrc a f
+rrc_by_bits a f h = agree (λ a. turned (bit_or (a / 2) (a * 128 % 256)) (not (nat_eq (bit_and a 1) 0)) f)
+    (λ a. rotated Rrc a f) 256 refl a h
 
-ral_each : (cy : Bool) (f : FlagValues) → table (λ a. turned (bit_or (a * 2 % 256) (from_bool cy)) (not (nat_eq (bit_and a 128) 0)) f) 256 ≡ table (λ a. turned (a * 2 % 256 + from_bool cy) (a / 128 == 1) f) 256
+ral_each : (cy : Bool) (f : FlagValues)
+    → table (λ a. turned (bit_or (a * 2 % 256) (from_bool cy)) (not (nat_eq (bit_and a 128) 0)) f) 256
+    ≡ table (λ a. turned (a * 2 % 256 + from_bool cy) (a / 128 == 1) f) 256
 ral_each true f = refl
 ral_each false f = refl
 
-pub ral_by_bits : (a : ℕ) (f : FlagValues) → a < 256 → turned (bit_or (a * 2 % 256) (from_bool f.cy)) (not (nat_eq (bit_and a 128) 0)) f ≡ rotated Ral a f
-ral_by_bits a f h = agree (λ a. turned (bit_or (a * 2 % 256) (from_bool f.cy)) (not (nat_eq (bit_and a 128) 0)) f) (λ a. rotated Ral a f) 256 (ral_each f.cy f) a h
+pub ral_by_bits : (a : ℕ) (f : FlagValues) → a < 256
+    → turned (bit_or (a * 2 % 256) (from_bool f.cy)) (not (nat_eq (bit_and a 128) 0)) f ≡ rotated Ral a f
+ral_by_bits a f h = agree
+    (λ a. turned (bit_or (a * 2 % 256) (from_bool f.cy)) (not (nat_eq (bit_and a 128) 0)) f)
+    (λ a. rotated Ral a f) 256 (ral_each f.cy f) a h
 
-rar_each : (cy : Bool) (f : FlagValues) → table (λ a. turned (bit_or (a / 2) (from_bool cy * 128 % 256)) (not (nat_eq (bit_and a 1) 0)) f) 256 ≡ table (λ a. turned (a / 2 + 128 * from_bool cy) (a % 2 == 1) f) 256
+rar_each : (cy : Bool) (f : FlagValues)
+    → table (λ a. turned (bit_or (a / 2) (from_bool cy * 128 % 256)) (not (nat_eq (bit_and a 1) 0)) f) 256
+    ≡ table (λ a. turned (a / 2 + 128 * from_bool cy) (a % 2 == 1) f) 256
 rar_each true f = refl
 rar_each false f = refl
 
-pub rar_by_bits : (a : ℕ) (f : FlagValues) → a < 256 → turned (bit_or (a / 2) (from_bool f.cy * 128 % 256)) (not (nat_eq (bit_and a 1) 0)) f ≡ rotated Rar a f
-rar_by_bits a f h = agree (λ a. turned (bit_or (a / 2) (from_bool f.cy * 128 % 256)) (not (nat_eq (bit_and a 1) 0)) f) (λ a. rotated Rar a f) 256 (rar_each f.cy f) a h
+pub rar_by_bits : (a : ℕ) (f : FlagValues) → a < 256
+    → turned (bit_or (a / 2) (from_bool f.cy * 128 % 256)) (not (nat_eq (bit_and a 1) 0)) f ≡ rotated Rar a f
+rar_by_bits a f h = agree
+    (λ a. turned (bit_or (a / 2) (from_bool f.cy * 128 % 256)) (not (nat_eq (bit_and a 1) 0)) f)
+    (λ a. rotated Rar a f) 256 (rar_each f.cy f) a h

@@ -1,14 +1,43 @@
 -- The row of each opcode that encode puts together of the codes of its registers, conditions and so on.
 use Rattle.std.proofs.Common.{◌≡◌, ℕ, ◌+◌, ◌*◌, ◌/◌, ◌%◌, [], ◌∷◌, refl, sym, ap, subst, bit_or, arith}
 use Rattle.i80_rows.specs.declared.instruction.Instr.{Instr}
-use Rattle.i80_rows.specs.declared.instruction.Instr.TheVariants.{Mov, MovFromM, Alu, AluImmediate, JumpIf, CallIf, RetIf, Rst, Push, Pop}
+use Rattle.i80_rows.specs.declared.instruction.Instr.TheVariants.{
+  Lxi,
+  Inx,
+  Dcx,
+  Dad,
+  Inr,
+  Dcr,
+  Mvi,
+  Mov,
+  MovFromM,
+  MovToM,
+  Alu,
+  AluImmediate,
+  JumpIf,
+  CallIf,
+  RetIf,
+  Rst,
+  Push,
+  Pop,
+}
 use Rattle.i80_rows.specs.Rows.{Row, Alone, Byte, Word, row}
 use Rattle.i80_rows.specs.Encoding.{Encodes, IsOperand}
-use Rattle.i80_rows.specs.Codes.{reg_of, reg_code, stack_pair_code, cond_code, operation_code, vector_code}
+use Rattle.i80_rows.specs.Codes.{
+  reg_of,
+  reg_code,
+  pair_code,
+  stack_pair_code,
+  cond_code,
+  operation_code,
+  vector_code,
+}
 use Rattle.i80_rows.specs.declared.instruction.Reg.{Reg}
 use Rattle.i80_rows.specs.declared.instruction.Reg.TheVariants as reg
 use Rattle.i80_rows.specs.declared.instruction.Register.{Register}
 use Rattle.i80_rows.specs.declared.instruction.Register.TheVariants as register
+use Rattle.i80_rows.specs.declared.instruction.Pair.{Pair}
+use Rattle.i80_rows.specs.declared.instruction.Pair.TheVariants as pair
 use Rattle.i80_rows.specs.declared.instruction.StackPair.{StackPair}
 use Rattle.i80_rows.specs.declared.instruction.StackPair.TheVariants as stack
 use Rattle.i80_rows.specs.declared.instruction.Cond.{Cond}
@@ -25,12 +54,14 @@ alone opcode i e = subst (λ (w : Row). IsOperand w i []) (sym e) refl
 pub with_byte : (opcode b : ℕ) (f : ℕ → Instr) → row opcode ≡ Byte f → Encodes (f b) (opcode ∷ (b ∷ []))
 with_byte opcode b f e = subst (λ (w : Row). IsOperand w (f b) (b ∷ [])) (sym e) refl
 
-pub with_word : (opcode x : ℕ) (f : ℕ → Instr) → row opcode ≡ Word f → Encodes (f x) (opcode ∷ (x % 256 ∷ (x / 256 ∷ [])))
+pub with_word : (opcode x : ℕ) (f : ℕ → Instr) → row opcode ≡ Word f
+    → Encodes (f x) (opcode ∷ (x % 256 ∷ (x / 256 ∷ [])))
 with_word opcode x f e =
     let whole : x ≡ x % 256 + 256 * (x / 256) = omega arith in
     subst (λ (w : Row). IsOperand w (f x) (x % 256 ∷ (x / 256 ∷ []))) (sym e) (ap f whole)
 
-pub mov_row : (to from : Register) → row (bit_or (bit_or 64 (reg_code (reg_of to) * 8 % 256)) (reg_code (reg_of from))) ≡ Alone (Mov to from)
+pub mov_row : (to from : Register)
+    → row (bit_or (bit_or 64 (reg_code (reg_of to) * 8 % 256)) (reg_code (reg_of from))) ≡ Alone (Mov to from)
 unfolding row
 mov_row register.B register.B = refl
 mov_row register.B register.C = refl
@@ -92,7 +123,8 @@ mov_from_m_row register.H = refl
 mov_from_m_row register.L = refl
 mov_from_m_row register.A = refl
 
-pub alu_row : (o : Operation) (reg : Reg) → row (bit_or (bit_or 128 (operation_code o * 8 % 256)) (reg_code reg)) ≡ Alone (Alu o reg)
+pub alu_row : (o : Operation) (reg : Reg)
+    → row (bit_or (bit_or 128 (operation_code o * 8 % 256)) (reg_code reg)) ≡ Alone (Alu o reg)
 unfolding row
 alu_row operation.Add reg.B = refl
 alu_row operation.Add reg.C = refl
@@ -227,3 +259,74 @@ pop_row stack.B = refl
 pop_row stack.D = refl
 pop_row stack.H = refl
 pop_row stack.Psw = refl
+
+pub lxi_row : (p : Pair) → row (bit_or (pair_code p * 16 % 256) 1) ≡ Word (Lxi p)
+unfolding row
+lxi_row pair.B = refl
+lxi_row pair.D = refl
+lxi_row pair.H = refl
+lxi_row pair.Sp = refl
+
+pub inx_row : (p : Pair) → row (bit_or (pair_code p * 16 % 256) 3) ≡ Alone (Inx p)
+unfolding row
+inx_row pair.B = refl
+inx_row pair.D = refl
+inx_row pair.H = refl
+inx_row pair.Sp = refl
+
+pub dcx_row : (p : Pair) → row (bit_or (pair_code p * 16 % 256) 11) ≡ Alone (Dcx p)
+unfolding row
+dcx_row pair.B = refl
+dcx_row pair.D = refl
+dcx_row pair.H = refl
+dcx_row pair.Sp = refl
+
+pub dad_row : (p : Pair) → row (bit_or (pair_code p * 16 % 256) 9) ≡ Alone (Dad p)
+unfolding row
+dad_row pair.B = refl
+dad_row pair.D = refl
+dad_row pair.H = refl
+dad_row pair.Sp = refl
+
+pub inr_row : (r : Reg) → row (bit_or (reg_code r * 8 % 256) 4) ≡ Alone (Inr r)
+unfolding row
+inr_row reg.B = refl
+inr_row reg.C = refl
+inr_row reg.D = refl
+inr_row reg.E = refl
+inr_row reg.H = refl
+inr_row reg.L = refl
+inr_row reg.M = refl
+inr_row reg.A = refl
+
+pub dcr_row : (r : Reg) → row (bit_or (reg_code r * 8 % 256) 5) ≡ Alone (Dcr r)
+unfolding row
+dcr_row reg.B = refl
+dcr_row reg.C = refl
+dcr_row reg.D = refl
+dcr_row reg.E = refl
+dcr_row reg.H = refl
+dcr_row reg.L = refl
+dcr_row reg.M = refl
+dcr_row reg.A = refl
+
+pub mvi_row : (r : Reg) → row (bit_or (reg_code r * 8 % 256) 6) ≡ Byte (Mvi r)
+unfolding row
+mvi_row reg.B = refl
+mvi_row reg.C = refl
+mvi_row reg.D = refl
+mvi_row reg.E = refl
+mvi_row reg.H = refl
+mvi_row reg.L = refl
+mvi_row reg.M = refl
+mvi_row reg.A = refl
+
+pub mov_to_m_row : (r : Register) → row (bit_or 112 (reg_code (reg_of r))) ≡ Alone (MovToM r)
+unfolding row
+mov_to_m_row register.B = refl
+mov_to_m_row register.C = refl
+mov_to_m_row register.D = refl
+mov_to_m_row register.E = refl
+mov_to_m_row register.H = refl
+mov_to_m_row register.L = refl
+mov_to_m_row register.A = refl

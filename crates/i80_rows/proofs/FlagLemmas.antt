@@ -1,5 +1,23 @@
 -- What the flag byte is, by computation over its 256 values and over the 32 flags.
-use Rattle.std.proofs.Common.{◌≡◌, ℕ, ◌+◌, ◌*◌, ◌%◌, ◌^◌, ◌<◌, ◌≤◌, Bool, true, false, refl, bit_and, bit_or, nat_eq, not, arith}
+use Rattle.std.proofs.Common.{
+  ◌≡◌,
+  ℕ,
+  ◌+◌,
+  ◌*◌,
+  ◌%◌,
+  ◌^◌,
+  ◌<◌,
+  ◌≤◌,
+  Bool,
+  true,
+  false,
+  refl,
+  bit_and,
+  bit_or,
+  nat_eq,
+  not,
+  arith,
+}
 use Rattle.std.specs.Int.{from_bool}
 use mir.Val.{bool_byte}
 use Rattle.i80_rows.specs.FlagValues.{FlagValues, flag_byte, flags_of}
@@ -8,13 +26,18 @@ use Rattle.i80_rows.proofs.Tables.{agree}
 pub masked_flags : (x : ℕ) → x < 256 → flags_of (bit_or (bit_and x 215) 2) ≡ flags_of x
 masked_flags = agree (λ x. flags_of (bit_or (bit_and x 215) 2)) flags_of 256 refl
 
-pub masked_byte : (x : ℕ) → x < 256 → flag_byte (flags_of (bit_or (bit_and x 215) 2)) ≡ bit_or (bit_and x 215) 2
-masked_byte = agree (λ x. flag_byte (flags_of (bit_or (bit_and x 215) 2))) (λ x. bit_or (bit_and x 215) 2) 256 refl
+pub masked_byte : (x : ℕ) → x < 256 → flag_byte (flags_of (bit_or (bit_and x 215) 2))
+    ≡ bit_or (bit_and x 215) 2
+masked_byte = agree (λ x. flag_byte (flags_of (bit_or (bit_and x 215) 2))) (λ x. bit_or (bit_and x 215) 2)
+    256 refl
 
 abbrev pub packed : Bool → Bool → Bool → Bool → Bool → ℕ
-packed s z ac p cy = bit_or (bit_or (bit_or (bit_or (bit_or (bool_byte s * 128 % 256) (bool_byte z * 64 % 256)) (bool_byte ac * 16 % 256)) (bool_byte p * 4 % 256)) 2) (bool_byte cy)
+packed s z ac p cy = bit_or
+    (bit_or (bit_or (bit_or (bit_or (bool_byte s * 128 % 256) (bool_byte z * 64 % 256))
+    (bool_byte ac * 16 % 256)) (bool_byte p * 4 % 256)) 2) (bool_byte cy)
 
-pub packed_flags : (s z ac p cy : Bool) → flags_of (packed s z ac p cy) ≡ record { s = s; z = z; ac = ac; p = p; cy = cy }
+pub packed_flags : (s z ac p cy : Bool) → flags_of (packed s z ac p cy)
+    ≡ record { s = s; z = z; ac = ac; p = p; cy = cy }
 packed_flags true true true true true = refl
 packed_flags true true true true false = refl
 packed_flags true true true false true = refl
@@ -87,13 +110,31 @@ from_bool-le true = omega arith
 from_bool-le false = omega arith
 
 pub shown_small : (b : ℕ) → flag_byte (flags_of b) ≡ b → b < 256
-shown_small b e = let f = flags_of b in omega (arith, e, from_bool-le f.s, from_bool-le f.z, from_bool-le f.ac, from_bool-le f.p, from_bool-le f.cy)
+shown_small b e = let f = flags_of b in
+    omega (
+      arith,
+      e,
+      from_bool-le f.s,
+      from_bool-le f.z,
+      from_bool-le f.ac,
+      from_bool-le f.p,
+      from_bool-le f.cy,
+    )
 
-pub recarried_flags : (b : ℕ) (cy : Bool) → b < 256 → flags_of (bit_or (bit_and b 254) (from_bool cy)) ≡ record (flags_of b) { cy = cy }
-recarried_flags b true h = agree (λ b. flags_of (bit_or (bit_and b 254) 1)) (λ b. record (flags_of b) { cy = true }) 256 refl b h
-recarried_flags b false h = agree (λ b. flags_of (bit_or (bit_and b 254) 0)) (λ b. record (flags_of b) { cy = false }) 256 refl b h
+pub recarried_flags : (b : ℕ) (cy : Bool) → b < 256 → flags_of (bit_or (bit_and b 254) (from_bool cy))
+    ≡ record (flags_of b) { cy = cy }
+recarried_flags b true h =
+    agree (λ b. flags_of (bit_or (bit_and b 254) 1)) (λ b. record (flags_of b) { cy = true }) 256 refl b h
+recarried_flags b false h =
+    agree (λ b. flags_of (bit_or (bit_and b 254) 0)) (λ b. record (flags_of b) { cy = false }) 256 refl b h
 
 -- the new byte of what a byte shows
-pub recarried_byte : (b : ℕ) (cy : Bool) → b < 256 → flag_byte (flags_of (bit_or (bit_and b 254) (from_bool cy))) ≡ bit_or (bit_and (flag_byte (flags_of b)) 254) (from_bool cy)
-recarried_byte b true h = agree (λ b. flag_byte (flags_of (bit_or (bit_and b 254) 1))) (λ b. bit_or (bit_and (flag_byte (flags_of b)) 254) 1) 256 refl b h
-recarried_byte b false h = agree (λ b. flag_byte (flags_of (bit_or (bit_and b 254) 0))) (λ b. bit_or (bit_and (flag_byte (flags_of b)) 254) 0) 256 refl b h
+pub recarried_byte : (b : ℕ) (cy : Bool) → b < 256
+    → flag_byte (flags_of (bit_or (bit_and b 254) (from_bool cy)))
+    ≡ bit_or (bit_and (flag_byte (flags_of b)) 254) (from_bool cy)
+recarried_byte b true h =
+    agree (λ b. flag_byte (flags_of (bit_or (bit_and b 254) 1)))
+    (λ b. bit_or (bit_and (flag_byte (flags_of b)) 254) 1) 256 refl b h
+recarried_byte b false h =
+    agree (λ b. flag_byte (flags_of (bit_or (bit_and b 254) 0)))
+    (λ b. bit_or (bit_and (flag_byte (flags_of b)) 254) 0) 256 refl b h

@@ -1,5 +1,20 @@
 -- Sums, differences and logic of bytes with their flags, in whole numbers and binary digits.
-use Rattle.std.specs.Prelude.{ℕ, ◌+◌, ◌-◌, ◌*◌, ◌/◌, ◌%◌, Bool, false, not, ◌||◌, nat_lt, nat_le, ◌==◌, if◌then◌else◌}
+use Rattle.std.specs.Prelude.{
+  ℕ,
+  ◌+◌,
+  ◌-◌,
+  ◌*◌,
+  ◌/◌,
+  ◌%◌,
+  Bool,
+  false,
+  not,
+  ◌||◌,
+  nat_lt,
+  nat_le,
+  ◌==◌,
+  if◌then◌else◌,
+}
 use Rattle.std.specs.Int.{from_bool}
 use Rattle.i80_rows.specs.declared.instruction.Rotation.{Rotation}
 use Rattle.i80_rows.specs.declared.instruction.Rotation.TheVariants.{Rlc, Rrc, Ral, Rar}
@@ -8,7 +23,8 @@ use Rattle.i80_rows.specs.FlagValues.{FlagValues, digit, is_set}
 
 -- the eight binary digits add up to an even number
 abbrev pub is_even : ℕ → Bool
-is_even x = (digit x 0 + digit x 1 + digit x 2 + digit x 3 + digit x 4 + digit x 5 + digit x 6 + digit x 7) % 2 == 0
+is_even x = (digit x 0 + digit x 1 + digit x 2 + digit x 3 + digit x 4 + digit x 5 + digit x 6 + digit x 7)
+    % 2 == 0
 
 -- the sign, zero and parity that a result shows, and these carries
 abbrev pub shown_by : ℕ → Bool → Bool → FlagValues

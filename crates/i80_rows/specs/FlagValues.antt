@@ -12,7 +12,8 @@ pub record FlagValues : Type 0 where
 
 -- S is bit 7, Z bit 6, AC bit 4, P bit 2 and CY bit 0; bits 5 and 3 are 0, and bit 1 is 1
 abbrev pub flag_byte : FlagValues → ℕ
-flag_byte f = 128 * from_bool f.s + 64 * from_bool f.z + 16 * from_bool f.ac + 4 * from_bool f.p + 2 + from_bool f.cy
+flag_byte f = 128 * from_bool f.s + 64 * from_bool f.z + 16 * from_bool f.ac + 4 * from_bool f.p + 2
+    + from_bool f.cy
 
 -- binary digit k of x
 abbrev pub digit : ℕ → ℕ → ℕ

@@ -1,7 +1,65 @@
 -- The table of 256 rows (8080 User's Manual, chapter 4 and the opcode table), and what bytes read as by it.
-use Rattle.std.specs.Prelude.{ℕ, ◌+◌, ◌*◌, List, [], ◌∷◌, ◌++◌, Result, Ok, Err, slice_index_or}
+use Rattle.std.specs.Prelude.{
+  ℕ,
+  ◌+◌,
+  ◌*◌,
+  List,
+  [],
+  ◌∷◌,
+  ◌++◌,
+  Bool,
+  true,
+  false,
+  Result,
+  Ok,
+  Err,
+  slice_index_or,
+}
 use Rattle.i80_rows.specs.declared.instruction.Instr.{Instr}
-use Rattle.i80_rows.specs.declared.instruction.Instr.TheVariants.{Nop, Lxi, Stax, Ldax, Shld, Lhld, Sta, Lda, Inx, Dcx, Dad, Inr, Dcr, Mvi, Rotate, Daa, Cma, Stc, Cmc, Mov, MovFromM, MovToM, Hlt, Alu, AluImmediate, Jmp, JumpIf, Call, CallIf, Ret, RetIf, Rst, Push, Pop, Xthl, Xchg, Pchl, Sphl, Out, In, Di, Ei}
+use Rattle.i80_rows.specs.declared.instruction.Instr.TheVariants.{
+  Nop,
+  Lxi,
+  Stax,
+  Ldax,
+  Shld,
+  Lhld,
+  Sta,
+  Lda,
+  Inx,
+  Dcx,
+  Dad,
+  Inr,
+  Dcr,
+  Mvi,
+  Rotate,
+  Daa,
+  Cma,
+  Stc,
+  Cmc,
+  Mov,
+  MovFromM,
+  MovToM,
+  Hlt,
+  Alu,
+  AluImmediate,
+  Jmp,
+  JumpIf,
+  Call,
+  CallIf,
+  Ret,
+  RetIf,
+  Rst,
+  Push,
+  Pop,
+  Xthl,
+  Xchg,
+  Pchl,
+  Sphl,
+  Out,
+  In,
+  Di,
+  Ei,
+}
 use Rattle.i80_rows.specs.declared.instruction.Reg.TheVariants as reg
 use Rattle.i80_rows.specs.declared.instruction.Register.TheVariants as register
 use Rattle.i80_rows.specs.declared.instruction.Pair.TheVariants as pair
@@ -11,10 +69,10 @@ use Rattle.i80_rows.specs.declared.instruction.Cond.TheVariants as cond
 use Rattle.i80_rows.specs.declared.instruction.Operation.TheVariants.{Add, Adc, Sub, Sbb, Ana, Xra, Ora, Cmp}
 use Rattle.i80_rows.specs.declared.instruction.Rotation.TheVariants.{Rlc, Rrc, Ral, Rar}
 use Rattle.i80_rows.specs.declared.instruction.Vector.TheVariants.{V0, V1, V2, V3, V4, V5, V6, V7}
-use Rattle.i80_rows.specs.declared.instruction.Decode.{Decode}
-use Rattle.i80_rows.specs.declared.instruction.Decode.TheVariants as fault
+use Rattle.i80_rows.specs.declared.instruction.DecodeFault.{DecodeFault}
+use Rattle.i80_rows.specs.declared.instruction.DecodeFault.TheVariants as fault
 
--- an undefined row, or an instruction that stands alone, with a byte behind it, or with a word
+-- an undefined row, or an instruction that stands alone, with a byte after it, or with a word
 pub data Row : Type 0 where
   Undefined : Row
   Alone : Instr → Row
@@ -51,31 +109,46 @@ row_3 =
 
 abbrev pub row_4 : List Row
 row_4 =
-    (Alone (Mov register.B register.B)) ∷ (Alone (Mov register.B register.C)) ∷ (Alone (Mov register.B register.D)) ∷ (Alone (Mov register.B register.E)) ∷
-    (Alone (Mov register.B register.H)) ∷ (Alone (Mov register.B register.L)) ∷ (Alone (MovFromM register.B)) ∷ (Alone (Mov register.B register.A)) ∷
-    (Alone (Mov register.C register.B)) ∷ (Alone (Mov register.C register.C)) ∷ (Alone (Mov register.C register.D)) ∷ (Alone (Mov register.C register.E)) ∷
-    (Alone (Mov register.C register.H)) ∷ (Alone (Mov register.C register.L)) ∷ (Alone (MovFromM register.C)) ∷ (Alone (Mov register.C register.A)) ∷ []
+    (Alone (Mov register.B register.B)) ∷ (Alone (Mov register.B register.C)) ∷
+    (Alone (Mov register.B register.D)) ∷ (Alone (Mov register.B register.E)) ∷
+    (Alone (Mov register.B register.H)) ∷ (Alone (Mov register.B register.L)) ∷
+    (Alone (MovFromM register.B)) ∷ (Alone (Mov register.B register.A)) ∷
+    (Alone (Mov register.C register.B)) ∷ (Alone (Mov register.C register.C)) ∷
+    (Alone (Mov register.C register.D)) ∷ (Alone (Mov register.C register.E)) ∷
+    (Alone (Mov register.C register.H)) ∷ (Alone (Mov register.C register.L)) ∷
+    (Alone (MovFromM register.C)) ∷ (Alone (Mov register.C register.A)) ∷ []
 
 abbrev pub row_5 : List Row
 row_5 =
-    (Alone (Mov register.D register.B)) ∷ (Alone (Mov register.D register.C)) ∷ (Alone (Mov register.D register.D)) ∷ (Alone (Mov register.D register.E)) ∷
-    (Alone (Mov register.D register.H)) ∷ (Alone (Mov register.D register.L)) ∷ (Alone (MovFromM register.D)) ∷ (Alone (Mov register.D register.A)) ∷
-    (Alone (Mov register.E register.B)) ∷ (Alone (Mov register.E register.C)) ∷ (Alone (Mov register.E register.D)) ∷ (Alone (Mov register.E register.E)) ∷
-    (Alone (Mov register.E register.H)) ∷ (Alone (Mov register.E register.L)) ∷ (Alone (MovFromM register.E)) ∷ (Alone (Mov register.E register.A)) ∷ []
+    (Alone (Mov register.D register.B)) ∷ (Alone (Mov register.D register.C)) ∷
+    (Alone (Mov register.D register.D)) ∷ (Alone (Mov register.D register.E)) ∷
+    (Alone (Mov register.D register.H)) ∷ (Alone (Mov register.D register.L)) ∷
+    (Alone (MovFromM register.D)) ∷ (Alone (Mov register.D register.A)) ∷
+    (Alone (Mov register.E register.B)) ∷ (Alone (Mov register.E register.C)) ∷
+    (Alone (Mov register.E register.D)) ∷ (Alone (Mov register.E register.E)) ∷
+    (Alone (Mov register.E register.H)) ∷ (Alone (Mov register.E register.L)) ∷
+    (Alone (MovFromM register.E)) ∷ (Alone (Mov register.E register.A)) ∷ []
 
 abbrev pub row_6 : List Row
 row_6 =
-    (Alone (Mov register.H register.B)) ∷ (Alone (Mov register.H register.C)) ∷ (Alone (Mov register.H register.D)) ∷ (Alone (Mov register.H register.E)) ∷
-    (Alone (Mov register.H register.H)) ∷ (Alone (Mov register.H register.L)) ∷ (Alone (MovFromM register.H)) ∷ (Alone (Mov register.H register.A)) ∷
-    (Alone (Mov register.L register.B)) ∷ (Alone (Mov register.L register.C)) ∷ (Alone (Mov register.L register.D)) ∷ (Alone (Mov register.L register.E)) ∷
-    (Alone (Mov register.L register.H)) ∷ (Alone (Mov register.L register.L)) ∷ (Alone (MovFromM register.L)) ∷ (Alone (Mov register.L register.A)) ∷ []
+    (Alone (Mov register.H register.B)) ∷ (Alone (Mov register.H register.C)) ∷
+    (Alone (Mov register.H register.D)) ∷ (Alone (Mov register.H register.E)) ∷
+    (Alone (Mov register.H register.H)) ∷ (Alone (Mov register.H register.L)) ∷
+    (Alone (MovFromM register.H)) ∷ (Alone (Mov register.H register.A)) ∷
+    (Alone (Mov register.L register.B)) ∷ (Alone (Mov register.L register.C)) ∷
+    (Alone (Mov register.L register.D)) ∷ (Alone (Mov register.L register.E)) ∷
+    (Alone (Mov register.L register.H)) ∷ (Alone (Mov register.L register.L)) ∷
+    (Alone (MovFromM register.L)) ∷ (Alone (Mov register.L register.A)) ∷ []
 
 abbrev pub row_7 : List Row
 row_7 =
-    (Alone (MovToM register.B)) ∷ (Alone (MovToM register.C)) ∷ (Alone (MovToM register.D)) ∷ (Alone (MovToM register.E)) ∷
+    (Alone (MovToM register.B)) ∷ (Alone (MovToM register.C)) ∷
+    (Alone (MovToM register.D)) ∷ (Alone (MovToM register.E)) ∷
     (Alone (MovToM register.H)) ∷ (Alone (MovToM register.L)) ∷ (Alone Hlt) ∷ (Alone (MovToM register.A)) ∷
-    (Alone (Mov register.A register.B)) ∷ (Alone (Mov register.A register.C)) ∷ (Alone (Mov register.A register.D)) ∷ (Alone (Mov register.A register.E)) ∷
-    (Alone (Mov register.A register.H)) ∷ (Alone (Mov register.A register.L)) ∷ (Alone (MovFromM register.A)) ∷ (Alone (Mov register.A register.A)) ∷ []
+    (Alone (Mov register.A register.B)) ∷ (Alone (Mov register.A register.C)) ∷
+    (Alone (Mov register.A register.D)) ∷ (Alone (Mov register.A register.E)) ∷
+    (Alone (Mov register.A register.H)) ∷ (Alone (Mov register.A register.L)) ∷
+    (Alone (MovFromM register.A)) ∷ (Alone (Mov register.A register.A)) ∷ []
 
 abbrev pub row_8 : List Row
 row_8 =
@@ -135,13 +208,21 @@ row_f =
 
 -- rows 00 to FF
 abbrev pub rows : List Row
-rows = row_0 ++ row_1 ++ row_2 ++ row_3 ++ row_4 ++ row_5 ++ row_6 ++ row_7 ++ row_8 ++ row_9 ++ row_a ++ row_b ++ row_c ++ row_d ++ row_e ++ row_f
+rows = row_0 ++ row_1 ++ row_2 ++ row_3 ++ row_4 ++ row_5 ++ row_6 ++ row_7 ++ row_8 ++ row_9 ++ row_a
+    ++ row_b ++ row_c ++ row_d ++ row_e ++ row_f
 
 unfoldable pub row : ℕ → Row
 row opcode = slice_index_or rows opcode Undefined
 
--- what bytes behind an opcode of this row read as: the instruction and its length; words stand low byte first
-abbrev pub read_row : Row → List ℕ → Result (Instr × ℕ) Decode
+-- no instruction has this row's opcode
+abbrev pub is_undefined : Row → Bool
+is_undefined Undefined = true
+is_undefined (Alone i) = false
+is_undefined (Byte f) = false
+is_undefined (Word f) = false
+
+-- what bytes after an opcode of this row read as: the instruction and its length; words stand low byte first
+abbrev pub read_row : Row → List ℕ → Result (Instr × ℕ) DecodeFault
 read_row Undefined rest = Err fault.Undefined
 read_row (Alone i) rest = Ok (i, 1)
 read_row (Byte f) [] = Err (fault.Short 2)
@@ -151,6 +232,6 @@ read_row (Word f) (low ∷ []) = Err (fault.Short 3)
 read_row (Word f) (low ∷ (high ∷ rest)) = Ok (f (low + 256 * high), 3)
 
 -- what bytes begin with
-abbrev pub read : List ℕ → Result (Instr × ℕ) Decode
+abbrev pub read : List ℕ → Result (Instr × ℕ) DecodeFault
 read [] = Err (fault.Short 1)
 read (opcode ∷ rest) = read_row (row opcode) rest

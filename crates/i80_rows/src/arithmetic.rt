@@ -47,7 +47,7 @@ pub fn alu_add(x: u8, y: u8, carry: bool) -> AluResult
 }
 
 /// The difference of two bytes and a borrow: SUB, SBB, SUI, SBI, CMP, CPI. The complement of `y`
-/// and of the borrow is added, so AC is the carry out of bit 3 of that sum and CY tells a borrow.
+/// and of the borrow is added, so AC is the carry out of bit 3 of that sum and CY reports a borrow.
 #[inline]
 pub fn alu_sub(x: u8, y: u8, borrow: bool) -> AluResult
     ensures { result ≡ difference x y borrow }

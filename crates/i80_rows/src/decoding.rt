@@ -4,7 +4,8 @@ ghost use Rattle.i80_rows.specs.Rows.{read, read_row, row};
 ghost use Rattle.i80_rows.specs.Encoding.{Encodes};
 
 use crate::instruction::{
-    Cond, Decode, IndexPair, Instr, Operation, Pair, Reg, Register, Rotation, StackPair, Vector,
+    Cond, DecodeFault, IndexPair, Instr, Operation, Pair, Reg, Register, Rotation, StackPair,
+    Vector,
 };
 
 macro_rules! alone {
@@ -17,7 +18,7 @@ macro_rules! byte {
     ($rest:expr, $instr:path $(, $operand:expr)*) => {
         match $rest {
             [byte, ..] => Ok(($instr($($operand,)* *byte), 2)),
-            _ => Err(Decode::Short { needed: 2 }),
+            _ => Err(DecodeFault::Short { needed: 2 }),
         }
     };
 }
@@ -26,14 +27,14 @@ macro_rules! word {
     ($rest:expr, $instr:path $(, $operand:expr)*) => {
         match $rest {
             [low, high, ..] => Ok(($instr($($operand,)* u16::from_le_bytes([*low, *high])), 3)),
-            _ => Err(Decode::Short { needed: 3 }),
+            _ => Err(DecodeFault::Short { needed: 3 }),
         }
     };
 }
 
 macro_rules! undefined {
     ($rest:expr) => {
-        Err(Decode::Undefined)
+        Err(DecodeFault::Undefined)
     };
 }
 
@@ -51,7 +52,7 @@ macro_rules! opcodes {
 }
 
 /// The instruction that the bytes begin with, and its length of 1 to 3 bytes.
-pub fn decode(bytes: &[u8]) -> Result<(Instr, u8), Decode>
+pub fn decode(bytes: &[u8]) -> Result<(Instr, u8), DecodeFault>
     // What is found is encoded by as many bytes at the front,
     ensures found { IfOk result (λ p. Encodes p.0 (take p.1 bytes.now)) }
     // and what is encoded at the front is found, whatever follows it.
@@ -63,11 +64,11 @@ pub fn decode(bytes: &[u8]) -> Result<(Instr, u8), Decode>
     read_instruction(bytes)
 }
 
-fn read_instruction(bytes: &[u8]) -> Result<(Instr, u8), Decode>
+fn read_instruction(bytes: &[u8]) -> Result<(Instr, u8), DecodeFault>
     ensures { result ≡ read bytes.now }
 {
     let [opcode, rest @ ..] = bytes else {
-        return Err(Decode::Short { needed: 1 });
+        return Err(DecodeFault::Short { needed: 1 });
     };
     let opcode = *opcode;
     match opcode >> 5 {
@@ -83,7 +84,7 @@ fn read_instruction(bytes: &[u8]) -> Result<(Instr, u8), Decode>
 }
 
 #[tactic(auto, unfolding(crate::specs::Rows::row))]
-fn read_00(opcode: u8, rest: &[u8]) -> Result<(Instr, u8), Decode>
+fn read_00(opcode: u8, rest: &[u8]) -> Result<(Instr, u8), DecodeFault>
     requires { opcode < 32 }
     ensures { result ≡ read_row (row opcode) rest.now }
 {
@@ -124,7 +125,7 @@ fn read_00(opcode: u8, rest: &[u8]) -> Result<(Instr, u8), Decode>
 }
 
 #[tactic(auto, unfolding(crate::specs::Rows::row))]
-fn read_20(opcode: u8, rest: &[u8]) -> Result<(Instr, u8), Decode>
+fn read_20(opcode: u8, rest: &[u8]) -> Result<(Instr, u8), DecodeFault>
     requires low { 32 ≤ opcode }
     requires high { opcode < 64 }
     ensures { result ≡ read_row (row opcode) rest.now }
@@ -166,7 +167,7 @@ fn read_20(opcode: u8, rest: &[u8]) -> Result<(Instr, u8), Decode>
 }
 
 #[tactic(auto, unfolding(crate::specs::Rows::row))]
-fn read_40(opcode: u8, rest: &[u8]) -> Result<(Instr, u8), Decode>
+fn read_40(opcode: u8, rest: &[u8]) -> Result<(Instr, u8), DecodeFault>
     requires low { 64 ≤ opcode }
     requires high { opcode < 96 }
     ensures { result ≡ read_row (row opcode) rest.now }
@@ -208,7 +209,7 @@ fn read_40(opcode: u8, rest: &[u8]) -> Result<(Instr, u8), Decode>
 }
 
 #[tactic(auto, unfolding(crate::specs::Rows::row))]
-fn read_60(opcode: u8, rest: &[u8]) -> Result<(Instr, u8), Decode>
+fn read_60(opcode: u8, rest: &[u8]) -> Result<(Instr, u8), DecodeFault>
     requires low { 96 ≤ opcode }
     requires high { opcode < 128 }
     ensures { result ≡ read_row (row opcode) rest.now }
@@ -250,7 +251,7 @@ fn read_60(opcode: u8, rest: &[u8]) -> Result<(Instr, u8), Decode>
 }
 
 #[tactic(auto, unfolding(crate::specs::Rows::row))]
-fn read_80(opcode: u8, rest: &[u8]) -> Result<(Instr, u8), Decode>
+fn read_80(opcode: u8, rest: &[u8]) -> Result<(Instr, u8), DecodeFault>
     requires low { 128 ≤ opcode }
     requires high { opcode < 160 }
     ensures { result ≡ read_row (row opcode) rest.now }
@@ -292,7 +293,7 @@ fn read_80(opcode: u8, rest: &[u8]) -> Result<(Instr, u8), Decode>
 }
 
 #[tactic(auto, unfolding(crate::specs::Rows::row))]
-fn read_a0(opcode: u8, rest: &[u8]) -> Result<(Instr, u8), Decode>
+fn read_a0(opcode: u8, rest: &[u8]) -> Result<(Instr, u8), DecodeFault>
     requires low { 160 ≤ opcode }
     requires high { opcode < 192 }
     ensures { result ≡ read_row (row opcode) rest.now }
@@ -334,7 +335,7 @@ fn read_a0(opcode: u8, rest: &[u8]) -> Result<(Instr, u8), Decode>
 }
 
 #[tactic(auto, unfolding(crate::specs::Rows::row))]
-fn read_c0(opcode: u8, rest: &[u8]) -> Result<(Instr, u8), Decode>
+fn read_c0(opcode: u8, rest: &[u8]) -> Result<(Instr, u8), DecodeFault>
     requires low { 192 ≤ opcode }
     requires high { opcode < 224 }
     ensures { result ≡ read_row (row opcode) rest.now }
@@ -376,7 +377,7 @@ fn read_c0(opcode: u8, rest: &[u8]) -> Result<(Instr, u8), Decode>
 }
 
 #[tactic(auto, unfolding(crate::specs::Rows::row))]
-fn read_e0(opcode: u8, rest: &[u8]) -> Result<(Instr, u8), Decode>
+fn read_e0(opcode: u8, rest: &[u8]) -> Result<(Instr, u8), DecodeFault>
     requires low { 224 ≤ opcode }
     requires high { opcode < 256 }
     ensures { result ≡ read_row (row opcode) rest.now }

@@ -149,7 +149,7 @@ pub enum Instr {
     Hlt,
     /// ADD to CMP with a register or M.
     Alu(Operation, Reg),
-    /// ADI to CPI with the byte behind the opcode.
+    /// ADI to CPI with the byte after the opcode.
     AluImmediate(Operation, u8),
     Jmp(u16),
     JumpIf(Cond, u16),
@@ -172,7 +172,7 @@ pub enum Instr {
 
 /// Why no instruction was read.
 #[derive(Clone, Copy, PartialEq, Eq, Debug)]
-pub enum Decode {
+pub enum DecodeFault {
     /// The first byte is one of the twelve undefined opcodes.
     Undefined,
     /// The bytes end before the instruction does, which needs this many.

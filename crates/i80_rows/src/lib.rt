@@ -1,6 +1,6 @@
 // The instruction set of the Intel 8080: its 256 rows, its flags and its arithmetic.
 // `decode` reads an instruction exactly where bytes begin with its encoding by the table of rows,
-// and tells undefined opcodes and missing operands apart; `encode` writes that encoding.
+// and keeps undefined opcodes and missing operands apart; `encode` writes that encoding.
 // Each arithmetic function gives the result and the five flags that sums of whole numbers give.
 // Nothing here allocates, and nothing can fail but `decode`.
 #![tactic(auto)]
@@ -10,3 +10,4 @@ pub mod decoding;
 pub mod encoding;
 pub mod flags;
 pub mod instruction;
+pub mod memory;

@@ -1,10 +1,17 @@
 -- What the steps of opening may refuse.
 use Rattle.std.specs.Prelude.{◌≡◌, List, ℕ, Some, take, slice_get}
 use Rattle.jup_wire.specs.declared.message.WireFault.{WireFault}
-use Rattle.jup_wire.specs.declared.message.WireFault.TheVariants.{OutOfMemory, Delimiter, Count, Signature, Json, Header}
+use Rattle.jup_wire.specs.declared.message.WireFault.TheVariants.{
+  OutOfMemory,
+  Delimiter,
+  Count,
+  Signature,
+  Json,
+  Header,
+}
 use Rattle.jup_wire.specs.Wire.{delimiter, NoDelimiter}
 
--- want of memory, or no JSON where P says so
+-- out of memory, or no JSON where P says so
 abbrev pub JsonFault : WireFault → Type 0 → Type 0
 JsonFault OutOfMemory P = Unit {0}
 JsonFault Json P = P
@@ -13,7 +20,7 @@ JsonFault Count P = ⊥
 JsonFault Signature P = ⊥
 JsonFault Header P = ⊥
 
--- want of memory, or no header where P says so
+-- out of memory, or no header where P says so
 abbrev pub HeaderFault : WireFault → Type 0 → Type 0
 HeaderFault OutOfMemory P = Unit {0}
 HeaderFault Header P = P

@@ -1,5 +1,17 @@
 -- JSON frames and what a header has.
-use Rattle.std.specs.Prelude.{◌≡◌, ◌≤◌, ℕ, false, List, Option, Some, None, codes, if◌then◌else◌, option_and_then}
+use Rattle.std.specs.Prelude.{
+  ◌≡◌,
+  ◌≤◌,
+  ℕ,
+  false,
+  List,
+  Option,
+  Some,
+  None,
+  codes,
+  if◌then◌else◌,
+  option_and_then,
+}
 use Rattle.std.specs.Str.{is_utf8}
 use Rattle.serde_json.specs.Data.{Data, depth}
 use Rattle.serde_json.specs.Written.{has_float, compact_text}

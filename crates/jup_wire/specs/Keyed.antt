@@ -1,4 +1,4 @@
--- A keyed hasher, told by what it has taken in.
+-- A keyed hasher, by what it has taken in.
 use Rattle.std.specs.Prelude.{List, ℕ, ◌++◌}
 use Rattle.sha2.specs.Hashers.{Holds256}
 use Rattle.jup_wire.specs.Signature.{block_of, padded}

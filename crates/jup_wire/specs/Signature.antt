@@ -4,7 +4,7 @@ use Rattle.std.specs.List.{concat}
 use Rattle.sha2.specs.Sha256.{sha256}
 use Rattle.hex.specs.Hex.{encode_lower}
 
--- zeros behind a key, up to the 64 bytes of a block of SHA-256
+-- a key and zeros, up to the 64 bytes of a block of SHA-256
 abbrev pub zero_filled : List ℕ → List ℕ
 zero_filled key = key ++ replicate (64 - length key) 0
 
@@ -20,6 +20,6 @@ padded pad block = map (λ byte. bit_xor byte pad) block
 abbrev pub hmac : List ℕ → List ℕ → List ℕ
 hmac key text = sha256 (padded 0x5c (block_of key) ++ sha256 (padded 0x36 (block_of key) ++ text))
 
--- over the frames, one behind the other
+-- over the frames, one after the other
 unfoldable pub signature : List ℕ → List (List ℕ) → List ℕ
 signature key frames = encode_lower (hmac key (concat frames))

@@ -19,7 +19,7 @@ NoDelimiter frames = AllByRecursion (λ frame. frame ≢ delimiter) frames
 abbrev pub json_frames : Parts → List (List ℕ)
 json_frames p = p.header ∷ p.parent_header ∷ p.metadata ∷ p.content ∷ []
 
--- the identities up to the first delimiter, the delimiter, the signature, the JSON frames, and any buffers
+-- the identities up to the first delimiter, the delimiter, the signature, the JSON frames, any buffers
 pub record HasParts (frames : List (List ℕ)) (digits : List ℕ) (p : Parts) : Type 0 where
   pub buffers : List (List ℕ)
   pub whole : frames ≡ p.identities ++ delimiter ∷ digits ∷ (json_frames p ++ buffers)
@@ -33,7 +33,8 @@ abbrev pub AreJson : Parts → Type 0
 AreJson p = AllByRecursion (λ frame. IsSome (json_of frame)) (json_frames p)
 
 -- under this key the frames are a message with these parts, this header and this content
-pub record IsMessage (key : List ℕ) (frames : List (List ℕ)) (p : Parts) (h : Header) (content : Data) : Type 0 where
+pub record IsMessage (key : List ℕ) (frames : List (List ℕ)) (p : Parts) (h : Header) (content : Data)
+    : Type 0 where
   pub digits : List ℕ
   pub parts : HasParts frames digits p
   pub signed : IsSigned key digits p
@@ -43,7 +44,7 @@ pub record IsMessage (key : List ℕ) (frames : List (List ℕ)) (p : Parts) (h 
   pub header : IsHeader header_value h
   pub content_json : json_of p.content ≡ Some content
 
--- there is a delimiter, and fewer than five frames behind the first one
+-- there is a delimiter, and fewer than five frames follow the first one
 pub record LacksFrames (frames : List (List ℕ)) : Type 0 where
   pub before : List (List ℕ)
   pub after : List (List ℕ)
@@ -53,10 +54,11 @@ pub record LacksFrames (frames : List (List ℕ)) : Type 0 where
 
 -- the frames have parts, and these are signed
 abbrev pub OpensUpTo : List ℕ → List (List ℕ) → (Parts → Type 0) → Type 0
-OpensUpTo key frames P = (digits : List ℕ) × (p : Parts) × HasParts frames digits p × IsSigned key digits p × P p
+OpensUpTo key frames P =
+    (digits : List ℕ) × (p : Parts) × HasParts frames digits p × IsSigned key digits p × P p
 
--- Why frames are refused under a key; a reason stands only where none before it does. Memory can be
--- wanting only for what is signed.
+-- Why frames are refused under a key; a reason stands only where none before it does. Only what is
+-- signed can be out of memory.
 abbrev pub IsRefused : List ℕ → List (List ℕ) → WireFault → Type 0
 IsRefused key frames fault.OutOfMemory = OpensUpTo key frames (λ p. Unit {0})
 IsRefused key frames fault.Delimiter = NoDelimiter frames
@@ -65,4 +67,5 @@ IsRefused key frames fault.Signature =
     (digits : List ℕ) × (p : Parts) × HasParts frames digits p × (¬ IsSigned key digits p)
 IsRefused key frames fault.Json = OpensUpTo key frames (λ p. ¬ AreJson p)
 IsRefused key frames fault.Header =
-    OpensUpTo key frames (λ p. AreJson p × ((d : Data) (h : Header) → json_of p.header ≡ Some d → ¬ IsHeader d h))
+    OpensUpTo key frames
+    (λ p. AreJson p × ((d : Data) (h : Header) → json_of p.header ≡ Some d → ¬ IsHeader d h))

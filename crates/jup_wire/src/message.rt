@@ -1,5 +1,6 @@
 //! A message, and why frames are none.
-use crate::frames::{Bytes, Frames, Text};
+use base_text::sequence::{Bytes, Frames};
+use base_text::text::Text;
 use serde_json::Value;
 use thiserror::Error;
 

@@ -1,18 +1,44 @@
 //! Opening: from frames to a message.
-ghost use Rattle.std.specs.Prelude.{◌≡◌, ◌≢◌, ◌<◌, ◌≤◌, ◌+◌, ◌↔◌, ◌++◌, ◌∷◌, ◌⊎◌, [], List, ℕ, Some, None, length, vec_len, IsTrue, IfOk, IfErr, IfSome, IfNone, IsErrAnd, MatchResult};
+ghost use Rattle.std.specs.Prelude.{
+  ◌≡◌,
+  ◌≢◌,
+  ◌<◌,
+  ◌≤◌,
+  ◌+◌,
+  ◌↔◌,
+  ◌++◌,
+  ◌∷◌,
+  ◌⊎◌,
+  [],
+  List,
+  ℕ,
+  Some,
+  None,
+  length,
+  vec_len,
+  IsTrue,
+  IfOk,
+  IfErr,
+  IfSome,
+  IfNone,
+  IsErrAnd,
+  MatchResult,
+};
 ghost use Rattle.serde_json.specs.Data.{Data};
 ghost use Rattle.serde_json.specs.View.{view};
 ghost use Rattle.jup_wire.specs.Json.{json_of, text_at, IsHeader};
-ghost use Rattle.jup_wire.specs.Wire.{delimiter, json_frames, NoDelimiter, HasParts, IsSigned, AreJson, IsMessage, IsRefused};
+ghost use Rattle.jup_wire.specs.Wire.{delimiter, NoDelimiter, HasParts, IsSigned, AreJson, IsMessage};
+ghost use Rattle.jup_wire.specs.Wire.{IsRefused};
 ghost use Rattle.jup_wire.specs.Fault.{JsonFault, HeaderFault, FirstDelimiter};
 ghost use Rattle.jup_wire.specs.Signature.{signature};
 ghost use Rattle.jup_wire.specs.declared.message.Header.{Header};
 ghost use Rattle.jup_wire.specs.declared.message.Parts.{Parts};
 ghost use Rattle.jup_wire.specs.declared.message.WireFault.{WireFault};
 
-use crate::frames::{Bytes, Frames, Text};
 use crate::message::{DELIMITER, Header, Message, Parts, WireFault};
 use crate::signature::is_signed;
+use base_text::sequence::{Bytes, Frames};
+use base_text::text::Text;
 use serde_json::Value;
 use std::alloc::Global;
 
@@ -114,7 +140,8 @@ fn read_values(alloc: Global, parts: &Parts) -> Result<(Value, Value), WireFault
 
 fn text_of<'a>(value: &'a Value, key: &str) -> Result<&'a str, WireFault>
     ensures text { IfOk result (λ text. text_at key.now (view value.now) ≡ Some text.now) }
-    ensures fault { IfErr result (λ e. (e ≡ WireFault.Header) × (text_at key.now (view value.now) ≡ None)) }
+    ensures fault { IfErr result
+        (λ e. (e ≡ WireFault.Header) × (text_at key.now (view value.now) ≡ None)) }
 {
     value
         .get(key)
@@ -126,8 +153,8 @@ fn copy_of(alloc: Global, text: &str) -> Result<Text, WireFault>
     ensures text { IfOk result (λ copy. copy ≡ text.now) }
     ensures fault { IfErr result (λ e. e ≡ WireFault.OutOfMemory) }
 {
-    match String::from_str(alloc, text) {
-        Ok(copy) => Ok(Text::from(copy)),
+    match Text::copy_of(alloc, text) {
+        Ok(copy) => Ok(copy),
         Err(_) => Err(WireFault::OutOfMemory),
     }
 }
@@ -166,9 +193,9 @@ fn open(alloc: Global, frames: Frames, key: &[u8]) -> Result<Message, WireFault>
 }
 
 /// Opens a message under a key. With an empty key no signature is checked. The frames are moved
-/// into the message; buffers behind the content are accepted and dropped. Each fault comes where it
-/// stands and none before it in the list of `WireFault` does; memory can be wanting only for what
-/// passes the checks of delimiter, count and signature, and then in place of the later two.
+/// into the message; buffers after the content are accepted and dropped. Each fault comes where it
+/// stands and none before it in the list of `WireFault` does. Only what passes the checks of delimiter,
+/// count and signature can be out of memory, and then in place of the later two.
 pub fn open_message(alloc: Global, frames: Frames, key: &[u8]) -> Result<Message, WireFault>
     ensures message { IfOk result
         (λ m. IsMessage key.now frames m.parts m.header (view m.content)) }

@@ -1,5 +1,5 @@
 //! Sealing: from JSON to frames.
-ghost use Rattle.std.specs.Prelude.{◌≡◌, ◌++◌, ◌∷◌, [], IfOk};
+ghost use Rattle.std.specs.Prelude.{◌≡◌, IfOk};
 ghost use Rattle.serde_json.specs.View.{view};
 ghost use Rattle.jup_wire.specs.declared.message.Parts.{Parts};
 ghost use Rattle.jup_wire.specs.declared.message.Header.{Header};
@@ -7,9 +7,9 @@ ghost use Rattle.jup_wire.specs.Json.{IsTextOf};
 ghost use Rattle.jup_wire.specs.Wire.{IsMessage};
 ghost use Rattle.jup_wire.specs.Seal.{signature_frame, frames_of, IsSealed, IsOpenable};
 
-use crate::frames::{Bytes, Frames};
 use crate::message::{DELIMITER, Parts};
 use crate::signature::signature_of;
+use base_text::sequence::{Bytes, Frames};
 use serde_json::Value;
 use std::alloc::{AllocError, Global};
 
@@ -38,10 +38,10 @@ fn signature_frame(alloc: Global, key: &[u8], parts: &Parts) -> Result<Bytes, Al
     ensures { IfOk result (λ digits. digits ≡ signature_frame key.now parts.now) }
 {
     if key.is_empty() {
-        return Ok(Bytes::from(Vec::new(alloc)));
+        return Ok(Bytes::new(alloc));
     }
     let code = signature_of(key, parts);
-    Ok(Bytes::from(Vec::from_slice(alloc, &code)?))
+    Bytes::copy_of(alloc, &code)
 }
 
 fn join(alloc: Global, parts: Parts, digits: Bytes) -> Result<Frames, AllocError>
@@ -54,7 +54,7 @@ fn join(alloc: Global, parts: Parts, digits: Bytes) -> Result<Frames, AllocError
         metadata,
         content,
     } = parts;
-    let delimiter = Bytes::from(Vec::from_slice(alloc, DELIMITER)?);
+    let delimiter = Bytes::copy_of(alloc, DELIMITER)?;
     let mut frames = identities.into_vec();
     frames.reserve(6)?;
     frames.push_reserved(delimiter);

@@ -5,8 +5,9 @@ ghost use Rattle.hex.specs.Hex.{encode_lower};
 ghost use Rattle.jup_wire.specs.Wire.{json_frames};
 ghost use Rattle.jup_wire.specs.Signature.{zero_filled, block_of, padded, hmac, signature};
 
-use crate::frames::{Bytes, Text};
 use crate::message::Parts;
+use base_text::sequence::Bytes;
+use base_text::text::Text;
 use sha2::{Digest, Sha256};
 use std::alloc::{AllocError, Global};
 
@@ -19,7 +20,7 @@ const INNER_PAD: u8 = 0x36;
 
 const OUTER_PAD: u8 = 0x5c;
 
-/// The signature of the frames, one behind the other: 64 digits. Any key will do, the empty one too.
+/// The signature of the frames, one after the other: 64 digits. Any key will do, the empty one too.
 #[tactic(auto, unfolding(crate::specs::Signature::signature))]
 pub fn sign(alloc: Global, key: &[u8], frames: &[Bytes]) -> Result<Text, AllocError>
     ensures { IfOk result (λ text. text ≡ signature key.now frames.now) }
@@ -57,7 +58,7 @@ fn code_of(key: &[u8], frames: &[Bytes]) -> [u8; 32]
     hasher.finalize()
 }
 
-// Compares all bytes whatever the first ones are, so that its time doesn't tell where they differ.
+// Compares all bytes whatever the first ones are, so that its time doesn't show where they differ.
 fn same_bytes(a: &[u8], b: &[u8]) -> bool
     ensures { IsTrue result ↔ (a.now ≡ b.now) }
 {

@@ -1,27 +1,14 @@
 // lab80, an Intel 8080 laboratory: `lab80 step` runs a program's bytes and prints what each
 // instruction did, `lab80 asm` assembles and runs a cell, `lab80 dis` lists bytes as assembler text.
-// The engine of a word is a function over any reader and writer, whose contract says that what it
-// writes is the stated text of what it reads. This file only maps words to engines, and what they
-// answer to exit statuses.
+// The engines of these words stand in lab_engines, each with the contract that what it writes is
+// the stated text of what it reads. This file maps words to engines, and what they answer to exit
+// statuses.
 #![tactic(auto)]
 
-mod asm;
-#[cfg(test)]
-mod asm_tests;
-mod dis;
-#[cfg(test)]
-mod dis_tests;
-mod ending;
-mod image;
-mod printing;
-mod runner;
-mod step;
-#[cfg(test)]
-mod tests;
-
-use crate::asm::run_asm;
-use crate::dis::{origin_of, run_dis};
-use crate::step::run_step;
+use base_text::hexadecimal::read_word;
+use lab_engines::asm::run_asm;
+use lab_engines::dis::run_dis;
+use lab_engines::step::run_step;
 use lab_io::status::Status;
 use std::process::ExitCode;
 use std::rt::Env;
@@ -37,7 +24,7 @@ fn main(rt: HostRuntime) -> ExitCode {
 fn run(rt: &(impl Env + Input + Print + Eprint + AllocGlobal)) -> Status {
     let words = match words(rt) {
         Ok(words) => words,
-        Err(error) if error.kind() == io::ErrorKind::OutOfMemory => return Status::Memory,
+        Err(error) if error.kind() == io::ErrorKind::OutOfMemory => return Status::OutOfMemory,
         Err(_) => return usage(rt),
     };
     match words.as_slice() {
@@ -47,7 +34,7 @@ fn run(rt: &(impl Env + Input + Print + Eprint + AllocGlobal)) -> Status {
         [word] if word.as_str() == "asm" => {
             run_asm(rt.alloc(), &mut rt.reader(), &mut io::writer(rt))
         }
-        [word, origin] if word.as_str() == "dis" => match origin_of(origin.as_str()) {
+        [word, origin] if word.as_str() == "dis" => match read_word(origin.as_bytes()) {
             Some(origin) => run_dis(rt.alloc(), origin, &mut rt.reader(), &mut io::writer(rt)),
             None => usage(rt),
         },
@@ -55,7 +42,7 @@ fn run(rt: &(impl Env + Input + Print + Eprint + AllocGlobal)) -> Status {
     }
 }
 
-/// The words behind the program's name.
+/// The words after the program's name.
 fn words(rt: &(impl Env + AllocGlobal)) -> io::Result<Vec<String>> {
     Ok(env::args(rt)?.skip(1).collect(rt.alloc())?)
 }

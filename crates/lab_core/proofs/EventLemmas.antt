@@ -3,15 +3,14 @@ use Rattle.std.proofs.Common.{◌≡◌, ℕ, ◌<◌, List, [], ◌∷◌, Opti
 use Rattle.std.specs.Option.{is_some, IsSome}
 use Rattle.std.specs.Prelude.{nat_lt}
 use Rattle.std.proofs.lemmas.Bool.Decides.{nat_tests}
-use Rattle.i80_exec.specs.State.{MachineState, stored}
+use Rattle.i80_exec.specs.State.{MachineState, stored, loaded}
 use Rattle.i80_devs.specs.Past.{Press, panel_after}
-use Rattle.lab_image.specs.Loads.{loaded}
 use Rattle.lab_core.specs.declared.run_state.RunState.TheVariants.{NoRun, Running}
 use Rattle.lab_core.specs.declared.answer.Answer.{Answer}
 use Rattle.lab_core.specs.declared.answer.Answer.TheVariants.{Accepted}
 use Rattle.lab_core.specs.declared.event.Event.{Event}
-use Rattle.lab_core.specs.declared.refused.Refused.{Refused}
-use Rattle.lab_core.specs.declared.refused.Refused.TheVariants.{Latched}
+use Rattle.lab_core.specs.declared.fault.EventFault.{EventFault}
+use Rattle.lab_core.specs.declared.fault.EventFault.TheVariants.{Latched}
 use Rattle.lab_core.specs.Board.{Board}
 use Rattle.lab_core.specs.Events.{Given, Gives, Applies, Runs, without_run, with_run, pressed, with_operation}
 
@@ -42,7 +41,7 @@ loaded-regs m [] = refl
 loaded-regs m (p ∷ image) = loaded-regs (stored m p.0 p.1) image
 
 -- one event more
-pub Runs-append : (b mid new : Board) (events : List Event) (replies : List (Result Answer Refused)) (event : Event) (reply : Result Answer Refused)
+pub Runs-append : (b mid new : Board) (events : List Event) (replies : List (Result Answer EventFault)) (event : Event) (reply : Result Answer EventFault)
     → Runs b events replies mid → Applies mid event reply new → Runs b (events ++ event ∷ []) (replies ++ reply ∷ []) new
 Runs-append b mid new [] [] event reply runs applies = (new, rw (sym runs) applies, refl)
 Runs-append b mid new (e ∷ events) (r ∷ replies) event reply runs applies =

@@ -7,7 +7,7 @@ use Rattle.lab_core.specs.declared.event.Event.{Event}
 use Rattle.lab_core.specs.declared.event.Event.TheVariants as event
 use Rattle.lab_core.specs.declared.answer.SliceOutcome.{SliceOutcome}
 use Rattle.lab_core.specs.declared.answer.Answer.{Answer}
-use Rattle.lab_core.specs.declared.refused.Refused.{Refused}
+use Rattle.lab_core.specs.declared.fault.EventFault.{EventFault}
 use Rattle.lab_core.specs.Board.{Board}
 use Rattle.lab_core.specs.Slices.{IsSlice}
 use Rattle.lab_core.specs.Events.{Given, Gives, GivesSlice, SlicesRun, Applies, Runs}
@@ -34,7 +34,7 @@ same_ending n b k e e' s s' =
       | inr all ↦ (let within = s.within in let ends : k ≡ n = omega arith in s.last ends ∙ sym (s'.last ends))
     ]
 
-slice_once : (n : ℕ) (b new new' : Board) (r r' : Result Answer Refused) → GivesSlice n b r new → GivesSlice n b r' new' → (r ≡ r') × (new ≡ new')
+slice_once : (n : ℕ) (b new new' : Board) (r r' : Result Answer EventFault) → GivesSlice n b r new → GivesSlice n b r' new' → (r ≡ r') × (new ≡ new')
 slice_once n b new new' r r' g g' =
     let count = same_count n b g.k g'.k g.ending g'.ending g.slice g'.slice in
     let P : ℕ → Type 0 = λ k. IsSlice n b k g'.ending in
@@ -45,15 +45,15 @@ slice_once n b new new' r r' g g' =
     let board' = g'.board_is in
     (cc, cc)
 
-gives_once : (b new new' : Board) (given : Given) (r r' : Result Answer Refused) → Gives b given r new → Gives b given r' new' → (r ≡ r') × (new ≡ new')
+gives_once : (b new new' : Board) (given : Given) (r r' : Result Answer EventFault) → Gives b given r new → Gives b given r' new' → (r ≡ r') × (new ≡ new')
 gives_once b new new' (Ok (a, after)) r r' g g' = (g.0 ∙ sym g'.0, g.1 ∙ sym g'.1)
 gives_once b new new' (Err e) r r' g g' = (g.0 ∙ sym g'.0, g.1 ∙ sym g'.1)
 
-slices_once : (run : RunState) (n : ℕ) (b new new' : Board) (r r' : Result Answer Refused) → SlicesRun run n b r new → SlicesRun run n b r' new' → (r ≡ r') × (new ≡ new')
+slices_once : (run : RunState) (n : ℕ) (b new new' : Board) (r r' : Result Answer EventFault) → SlicesRun run n b r new → SlicesRun run n b r' new' → (r ≡ r') × (new ≡ new')
 slices_once NoRun n b new new' r r' g g' = (g.0 ∙ sym g'.0, g.1 ∙ sym g'.1)
 slices_once Running n b new new' r r' g g' = slice_once n b new new' r r' g g'
 
-applies_once : (b new new' : Board) (e : Event) (r r' : Result Answer Refused) → Applies b e r new → Applies b e r' new' → (r ≡ r') × (new ≡ new')
+applies_once : (b new new' : Board) (e : Event) (r r' : Result Answer EventFault) → Applies b e r new → Applies b e r' new' → (r ≡ r') × (new ≡ new')
 applies_once b new new' (event.Load path text) r r' g g' = gives_once b new new' _ r r' g g'
 applies_once b new new' (event.Start address) r r' g g' = gives_once b new new' _ r r' g g'
 applies_once b new new' (event.Slice n) r r' g g' = slices_once b.run n b new new' r r' g g'
@@ -63,7 +63,7 @@ applies_once b new new' (event.Typed bytes) r r' g g' = (g.0 ∙ sym g'.0, g.1 �
 applies_once b new new' (event.Switches byte) r r' g g' = (g.0 ∙ sym g'.0, g.1 ∙ sym g'.1)
 applies_once b new new' (event.Press n) r r' g g' = gives_once b new new' _ r r' g g'
 
-pub runs_once : (b : Board) (events : List Event) (rs rs' : List (Result Answer Refused)) (new new' : Board)
+pub runs_once : (b : Board) (events : List Event) (rs rs' : List (Result Answer EventFault)) (new new' : Board)
     → Runs b events rs new → Runs b events rs' new' → (rs ≡ rs') × (new ≡ new')
 runs_once b [] [] [] new new' g g' = (refl, g ∙ sym g')
 runs_once b (e ∷ es) (r ∷ rs) (r' ∷ rs') new new' g g' =

@@ -1,20 +1,19 @@
 -- What each event answers, and what it makes of a board.
 use Rattle.std.specs.Prelude.{◌≡◌, ℕ, ◌≤◌, List, [], ◌∷◌, ◌++◌, Option, Result, Ok, Err, is_some, nat_lt, if◌then◌else◌}
-use Rattle.i80_exec.specs.State.{with_pc, power_on}
+use Rattle.i80_exec.specs.State.{with_pc, power_on, loaded as with_image}
 use Rattle.i80_devs.specs.Past.{Operation, Typed, Switches, Press, panel_after}
 use Rattle.asm_syntax.specs.declared.fault.AsmFault.TheVariants.{At}
 use Rattle.asm_syntax.specs.Outcome.{CellFault, ◌>>=◌}
 use Rattle.asm_text.specs.Statements.{statements_of}
 use Rattle.asm_build.specs.Reading.{Entries}
 use Rattle.asm_build.specs.Meaning.{Meaning, built_of}
-use Rattle.lab_image.specs.Loads.{loaded as with_image}
 use Rattle.lab_core.specs.declared.run_state.RunState.{RunState}
 use Rattle.lab_core.specs.declared.run_state.RunState.TheVariants.{NoRun, Running}
 use Rattle.lab_core.specs.declared.sources.Source.{Source}
 use Rattle.lab_core.specs.declared.event.Event.{Event}
 use Rattle.lab_core.specs.declared.event.Event.TheVariants as event
-use Rattle.lab_core.specs.declared.refused.Refused.{Refused}
-use Rattle.lab_core.specs.declared.refused.Refused.TheVariants.{NotRunning, Busy, Latched, Vector, Assembly}
+use Rattle.lab_core.specs.declared.fault.EventFault.{EventFault}
+use Rattle.lab_core.specs.declared.fault.EventFault.TheVariants.{NotRunning, Busy, Latched, Vector, Assembly}
 use Rattle.lab_core.specs.declared.answer.SliceOutcome.{SliceOutcome}
 use Rattle.lab_core.specs.declared.answer.Answer.{Answer}
 use Rattle.lab_core.specs.declared.answer.Answer.TheVariants as answer
@@ -24,7 +23,7 @@ use Rattle.lab_core.specs.Sources.{place_of, number_at, kept_at}
 
 -- what an event gives: its answer and the board after it, or why it is refused
 abbrev pub Given : Type 0
-Given = Result (Answer × Board) Refused
+Given = Result (Answer × Board) EventFault
 
 -- ---- with or without a run
 
@@ -38,7 +37,7 @@ with_run Running given = given
 
 -- ---- the events
 
-abbrev pub or_assembly : {A : Type 0} → Result A CellFault → Result A Refused
+abbrev pub or_assembly : {A : Type 0} → Result A CellFault → Result A EventFault
 or_assembly (Ok x) = Ok x
 or_assembly (Err (line, column, kind)) = Err (Assembly (At line column kind))
 
@@ -93,24 +92,24 @@ pressed n b =
 -- ---- what is answered
 
 -- a refusal leaves the board as it was
-abbrev pub Gives : Board → Given → Result Answer Refused → Board → Type 0
+abbrev pub Gives : Board → Given → Result Answer EventFault → Board → Type 0
 Gives b (Ok (a, b')) reply new = (reply ≡ Ok a) × (new ≡ b')
 Gives b (Err r) reply new = (reply ≡ Err r) × (new ≡ b)
 
 -- a slice of n steps, which ended after k
-pub record GivesSlice (n : ℕ) (b : Board) (reply : Result Answer Refused) (new : Board) : Type 0 where
+pub record GivesSlice (n : ℕ) (b : Board) (reply : Result Answer EventFault) (new : Board) : Type 0 where
   pub k : ℕ
   pub ending : SliceOutcome
   pub slice : IsSlice n b k ending
   pub reply_is : reply ≡ Ok (answer.Sliced k (traffic_of k b) ending)
   pub board_is : new ≡ left_by ending (after_steps k b)
 
-abbrev pub SlicesRun : RunState → ℕ → Board → Result Answer Refused → Board → Type 0
+abbrev pub SlicesRun : RunState → ℕ → Board → Result Answer EventFault → Board → Type 0
 SlicesRun NoRun n b reply new = Gives b (Err NotRunning) reply new
 SlicesRun Running n b reply new = GivesSlice n b reply new
 
 -- On this board the event is answered so, and makes it that board.
-abbrev pub Applies : Board → Event → Result Answer Refused → Board → Type 0
+abbrev pub Applies : Board → Event → Result Answer EventFault → Board → Type 0
 Applies b (event.Load path text) reply new = Gives b (without_run b.run (loaded (record { path = path; text = text }) b)) reply new
 Applies b (event.Start address) reply new = Gives b (without_run b.run (Ok (answer.Started, started address b))) reply new
 Applies b (event.Slice n) reply new = SlicesRun b.run n b reply new
@@ -120,8 +119,8 @@ Applies b (event.Typed bytes) reply new = Gives b (Ok (answer.Accepted, with_ope
 Applies b (event.Switches byte) reply new = Gives b (Ok (answer.Accepted, with_operation (Switches byte) b)) reply new
 Applies b (event.Press n) reply new = Gives b (pressed n b) reply new
 
--- the events are answered so, one after the other
-abbrev pub Runs : Board → List Event → List (Result Answer Refused) → Board → Type 0
+-- the events are answered so, in turn
+abbrev pub Runs : Board → List Event → List (Result Answer EventFault) → Board → Type 0
 Runs b [] [] new = new ≡ b
 Runs b (event ∷ events) (reply ∷ replies) new = (mid : Board) × Applies b event reply mid × Runs mid events replies new
 Runs b [] (reply ∷ replies) new = ⊥

@@ -7,13 +7,13 @@ use Rattle.asm_build.specs.Reading.{Entries}
 use Rattle.lab_frames.specs.declared.frame.Frame.{Frame}
 use Rattle.lab_frames.specs.Live.{live}
 use Rattle.lab_image.specs.Loads as origins
-use Rattle.lab_image.specs.declared.runs.Run.{Run}
+use Rattle.lab_image.specs.declared.spans.Span.{Span}
 use Rattle.lab_core.specs.declared.run_state.RunState.{RunState}
 use Rattle.lab_core.specs.declared.sources.Source.{Source}
 use Rattle.lab_core.specs.declared.event.Event.{Event}
 use Rattle.lab_core.specs.declared.answer.Answer.{Answer}
-use Rattle.lab_core.specs.declared.refused.Refused.{Refused}
-use Rattle.lab_core.specs.declared.refused.Refused.TheVariants.{NoMemory}
+use Rattle.lab_core.specs.declared.fault.EventFault.{EventFault}
+use Rattle.lab_core.specs.declared.fault.EventFault.TheVariants.{OutOfMemory}
 use Rattle.lab_core.specs.Board.{Board}
 use Rattle.lab_core.specs.Slices.{ends_in_halt}
 use Rattle.lab_core.specs.Events.{Applies, Runs}
@@ -23,7 +23,7 @@ pub record LabState : Type 0 where
   pub machine : MachineState
   pub devices : devices.DeviceState
   pub frames : List Frame
-  pub origins : List Run
+  pub origins : List Span
   pub symbols : Entries
   pub sources : List Source
   pub run : RunState
@@ -46,11 +46,11 @@ abbrev pub StandsFor : LabState → Board → Type 0
 StandsFor lab b = StandsAmid lab b []
 
 -- Whatever board the old lab stands for, the new one stands for what the event makes of it.
-abbrev pub AppliesTo : LabState → Event → Result Answer Refused → LabState → Type 0
+abbrev pub AppliesTo : LabState → Event → Result Answer EventFault → LabState → Type 0
 AppliesTo old event reply new =
-    (b : Board) → StandsFor old b → reply ≢ Err NoMemory → (b' : Board) × Applies b event reply b' × StandsFor new b'
+    (b : Board) → StandsFor old b → reply ≢ Err OutOfMemory → (b' : Board) × Applies b event reply b' × StandsFor new b'
 
 -- the same of events in turn
-abbrev pub RunsOn : LabState → List Event → List (Result Answer Refused) → LabState → Type 0
+abbrev pub RunsOn : LabState → List Event → List (Result Answer EventFault) → LabState → Type 0
 RunsOn old events replies new =
     (b : Board) → StandsFor old b → (b' : Board) × Runs b events replies b' × StandsFor new b'

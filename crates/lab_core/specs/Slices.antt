@@ -2,14 +2,12 @@
 use Rattle.std.specs.Prelude.{◌≡◌, ℕ, zero, suc, ◌<◌, ◌≤◌, List, [], ◌++◌, Bool, true, false, ◌&&◌, Option, Some, None, is_none, unwrap_or, if◌then◌else◌}
 use Rattle.std.specs.List.{fold}
 use Rattle.std.specs.Option.{option_or}
-use Rattle.i80_rows.specs.Rows.{Row, Undefined, Alone, Byte, Word, row}
-use Rattle.i80_exec.specs.declared.registers.Stepped.{Stepped}
-use Rattle.i80_exec.specs.declared.registers.Stepped.TheVariants as stepped
+use Rattle.i80_rows.specs.Rows.{row, is_undefined}
 use Rattle.i80_exec.specs.declared.registers.Interrupts.{Interrupts}
 use Rattle.i80_exec.specs.declared.registers.Interrupts.TheVariants.{Off, Arming, On}
 use Rattle.i80_exec.specs.declared.ports.PortOperation.{PortOperation}
 use Rattle.i80_exec.specs.State.{byte_at}
-use Rattle.i80_exec.specs.Step.{operation_list}
+use Rattle.i80_exec.specs.Step.{operation_list, is_halt}
 use Rattle.i80_devs.specs.Past.{panel_after}
 use Rattle.lab_frames.specs.Live.{BoardStep}
 use Rattle.lab_core.specs.declared.answer.SliceOutcome.{SliceOutcome}
@@ -19,13 +17,6 @@ use Rattle.lab_core.specs.declared.run_state.RunState.TheVariants.{NoRun}
 use Rattle.lab_core.specs.Board.{Board, accepted, next_step, stepped}
 
 -- ---- the reasons, and whether each stands
-
-abbrev pub is_halt : Stepped → Bool
-is_halt stepped.Halted = true
-is_halt stepped.Done = false
-is_halt (stepped.Called slot target) = false
-is_halt (stepped.Returned slot) = false
-is_halt (stepped.Undefined opcode) = false
 
 -- the last step was HLT
 abbrev pub ends_in_halt : List BoardStep → Bool
@@ -40,12 +31,6 @@ abbrev pub is_on : Interrupts → Bool
 is_on Off = false
 is_on Arming = false
 is_on On = true
-
-abbrev pub is_undefined : Row → Bool
-is_undefined Undefined = true
-is_undefined (Alone i) = false
-is_undefined (Byte f) = false
-is_undefined (Word f) = false
 
 -- the run's last step was HLT with interrupts off after it, which ends the run
 abbrev pub halted : Board → Option SliceOutcome

@@ -2,8 +2,8 @@
 use Rattle.std.specs.Prelude.{ℕ, ◌+◌, List, [], ◌∷◌, ◌++◌, length, Option, Some, None, Result, Ok, Err, nat_lt, if◌then◌else◌}
 use Rattle.std.specs.Str.{bytes_eq}
 use Rattle.lab_core.specs.declared.sources.Source.{Source}
-use Rattle.lab_core.specs.declared.refused.Refused.{Refused}
-use Rattle.lab_core.specs.declared.refused.Refused.TheVariants.{SourceNameTaken, SourcesFull}
+use Rattle.lab_core.specs.declared.fault.EventFault.{EventFault}
+use Rattle.lab_core.specs.declared.fault.EventFault.TheVariants.{SourceNameTaken, SourcesFull}
 
 -- the number of the source with this path, where the first one has number n, and its text
 unfoldable pub source_from : ℕ → List Source → List ℕ → Option (ℕ × List ℕ)
@@ -11,12 +11,12 @@ source_from n [] path = None
 source_from n (s ∷ ss) path =
     if bytes_eq s.path path then Some (n, s.text) else source_from (n + 1) ss path
 
-abbrev pub with_text : List ℕ → Option (ℕ × List ℕ) → ℕ → Result (Option ℕ) Refused
+abbrev pub with_text : List ℕ → Option (ℕ × List ℕ) → ℕ → Result (Option ℕ) EventFault
 with_text text (Some (n, kept)) count = if bytes_eq kept text then Ok (Some n) else Err SourceNameTaken
 with_text text None count = if nat_lt count 1024 then Ok None else Err SourcesFull
 
 -- Whether a source may be kept: it is there already, under its number, or it is new and has room.
-abbrev pub place_of : Source → List Source → Result (Option ℕ) Refused
+abbrev pub place_of : Source → List Source → Result (Option ℕ) EventFault
 place_of s sources = with_text s.text (source_from 0 sources s.path) (length sources)
 
 -- its number, and the sources with it: a new one comes last

@@ -1,9 +1,7 @@
 //! What events answer.
-ghost use Rattle.std.specs.Prelude.{◌≡◌, length};
-
-use crate::refused::Refused;
+use crate::fault::EventFault;
+use base_text::sequence::Sequence;
 use i80_devs::traffic::Traffic;
-use std::marker::Model;
 
 /// How a run ends by itself.
 #[derive(Clone, Copy, PartialEq, Eq, Debug)]
@@ -45,40 +43,10 @@ pub enum Answer {
 }
 
 /// The answers to events in turn, refusals among them.
+pub type Answers = Sequence<Result<Answer, EventFault>>;
+
+/// A list of events that ended where it ran out of memory: the answers to those before.
 #[derive(Drop, Debug)]
-pub struct Answers {
-    answers: Vec<Result<Answer, Refused>>,
-}
-
-impl Model for Answers {
-    ghost use Rattle.std.specs.Prelude.{List, Result};
-    ghost use Rattle.lab_core.specs.declared.answer.Answer.{Answer};
-    ghost use Rattle.lab_core.specs.declared.refused.Refused.{Refused};
-
-    ghost Value = { List (Result Answer Refused) };
-
-    ghost view = { λ a. a.answers.items };
-}
-
-impl Answers {
-    /// The answers.
-    pub fn as_slice(&self) -> &[Result<Answer, Refused>]
-        ensures { result.now ≡ self.now }
-    {
-        self.answers.as_slice()
-    }
-}
-
-impl From<Vec<Result<Answer, Refused>>> for Answers {
-    ghost from_gives = { λ items answers. answers ≡ items.items };
-
-    fn from(answers: Vec<Result<Answer, Refused>>) -> Answers {
-        Answers { answers }
-    }
-}
-
-/// A run of events that ended where memory was wanting: the answers to those before.
-#[derive(Drop, Debug)]
-pub struct Stopped {
+pub struct EventsFault {
     pub answers: Answers,
 }

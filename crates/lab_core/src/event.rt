@@ -1,7 +1,7 @@
 //! What happens to a board.
 
-use crate::bytes::Bytes;
-use crate::text::Text;
+use base_text::sequence::Bytes;
+use base_text::text::Text;
 
 /// An event.
 #[derive(Drop, Debug)]

@@ -2,13 +2,13 @@
 ghost use Rattle.std.specs.Prelude.{◌≡◌, List, Result};
 ghost use Rattle.lab_core.specs.declared.event.Event.{Event};
 ghost use Rattle.lab_core.specs.declared.answer.Answer.{Answer};
-ghost use Rattle.lab_core.specs.declared.refused.Refused.{Refused};
+ghost use Rattle.lab_core.specs.declared.fault.EventFault.{EventFault};
 ghost use Rattle.lab_core.specs.Board.{Board};
 ghost use Rattle.lab_core.specs.Events.{Runs};
 
 /// On a board, events in turn are answered in one way only, and leave one board.
 pub fn one_answer()
-    ensures { (b : Board) (events : List Event) (replies replies' : List (Result Answer Refused))
+    ensures { (b : Board) (events : List Event) (replies replies' : List (Result Answer EventFault))
         (new new' : Board) → Runs b events replies new → Runs b events replies' new'
         → (replies ≡ replies') × (new ≡ new') }
 {}

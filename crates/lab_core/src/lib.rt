@@ -1,16 +1,14 @@
 // The board of the laboratory: the processor, its devices, the texts that were loaded, and one run.
 // `Lab::apply` does one event and `Lab::run` a list of them. Answers and effects are those of a
 // stated relation over boards, whose devices, frames and origins are functions of all that was done.
-// A refusal changes nothing. Want of memory is answered only where a growth was refused.
+// A refusal changes nothing. Out of memory is answered only where a growth was refused.
 #![tactic(auto)]
 
 pub mod answer;
 mod board_step;
-pub mod bytes;
 pub mod event;
+pub mod fault;
 pub mod lab;
 pub mod laws;
-pub mod refused;
 pub mod run_state;
 pub mod sources;
-pub mod text;

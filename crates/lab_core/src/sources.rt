@@ -2,8 +2,8 @@
 ghost use Rattle.std.specs.Prelude.{◌≡◌, ◌<◌, ◌+◌, ◌++◌, ◌∷◌, [], length, IfOk, IfSome, option_map};
 ghost use Rattle.lab_core.specs.Sources.{source_from};
 
-use crate::refused::Refused;
-use crate::text::Text;
+use crate::fault::EventFault;
+use base_text::text::Text;
 use std::alloc::{AllocError, Global};
 use std::marker::Model;
 
@@ -67,7 +67,7 @@ impl Sources {
     }
 
     /// The number of a text that is kept already, or none where it is new and may be kept.
-    pub fn place(&self, path: &str, text: &str) -> Result<Option<usize>, Refused>
+    pub fn place(&self, path: &str, text: &str) -> Result<Option<usize>, EventFault>
         ensures place { result ≡ place_of (record { path = path.now; text = text.now }) self.now }
         ensures few { IfOk result (λ place. number_at place self.now < 1024) }
     {
@@ -76,14 +76,14 @@ impl Sources {
                 if kept == text {
                     Ok(Some(number))
                 } else {
-                    Err(Refused::SourceNameTaken)
+                    Err(EventFault::SourceNameTaken)
                 }
             }
             None => {
                 if self.sources.len() < MOST_SOURCES {
                     Ok(None)
                 } else {
-                    Err(Refused::SourcesFull)
+                    Err(EventFault::SourcesFull)
                 }
             }
         }

@@ -61,7 +61,7 @@ ReturnsFrom Done sp = Unit {0}
 ReturnsFrom Halted sp = Unit {0}
 ReturnsFrom (Undefined opcode) sp = Unit {0}
 
--- SP before a step and after it, as its answer tells them
+-- SP before a step and after it, as its answer has them
 pub record TellsSp (answer : Stepped) (before after : ℕ) : Type 0 where
   pub returns : ReturnsFrom answer before
   pub calls : CallsAt answer after

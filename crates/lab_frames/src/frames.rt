@@ -13,11 +13,12 @@ ghost use Rattle.lab_frames.specs.Frames.{
 
 use crate::frame::Frame;
 use i80_exec::registers::Stepped;
+use i80_rows::memory::MEMORY_SIZE;
 use std::alloc::{AllocError, Global};
 use std::marker::Model;
 
 /// How many frames are live at most: one for each slot.
-const ROOM: usize = 65536;
+const ROOM: usize = MEMORY_SIZE;
 
 /// The live frames of a run. A contract sees them as a list, oldest first.
 #[derive(Drop)]

@@ -1,2 +1,2 @@
-pub mod RunLemmas
+pub mod SpanLemmas
 pub mod TellLemmas

@@ -1,2 +1,2 @@
 pub mod Loads
-pub mod Runs
+pub mod Spans

@@ -1,9 +1,9 @@
 //! Loads into the machine, and the origins that they leave.
 ghost use Rattle.std.specs.Prelude.{◌≡◌, [], List, OnOk, OnErr};
-ghost use Rattle.lab_image.specs.Loads.{loaded};
+ghost use Rattle.i80_exec.specs.State.{loaded};
 
 use crate::origin::Origin;
-use crate::runs::{self, Run};
+use crate::spans::{self, Span};
 use asm_build::built::Built;
 use i80_exec::machine::Machine;
 use std::alloc::{AllocError, Global};
@@ -12,20 +12,20 @@ use std::marker::Model;
 /// The origin of each address that has one.
 #[derive(Drop)]
 pub struct Origins {
-    runs: Vec<Run>,
+    spans: Vec<Span>,
     alloc: Global,
 }
 
 impl Model for Origins {
     ghost use Rattle.std.specs.Prelude.{List};
-    ghost use Rattle.lab_image.specs.declared.runs.Run.{Run};
-    ghost use Rattle.lab_image.specs.Runs.{AreRuns};
+    ghost use Rattle.lab_image.specs.declared.spans.Span.{Span};
+    ghost use Rattle.lab_image.specs.Spans.{AreSpans};
 
-    ghost Value = { List Run };
+    ghost Value = { List Span };
 
-    ghost view = { λ o. o.runs.items };
+    ghost view = { λ o. o.spans.items };
 
-    ghost invariant = { λ o. AreRuns 0 o.runs.items 65536 };
+    ghost invariant = { λ o. AreSpans 0 o.spans.items 65536 };
 }
 
 impl Origins {
@@ -36,14 +36,14 @@ impl Origins {
         ensures { StandsFor result [] }
     {
         Origins {
-            runs: Vec::new(alloc),
+            spans: Vec::new(alloc),
             alloc,
         }
     }
 
     /// Writes the bytes that a cell gives to the machine, in order, and takes its rows as origins.
     ///
-    /// The caller numbers the sources. A row covers its address and those behind it, as many as it
+    /// The caller numbers the sources. A row covers its address and those after it, as many as it
     /// has bytes, up to FFFFH. An address that no row covers keeps the origin that it had.
     pub fn load(
         &mut self,
@@ -57,27 +57,27 @@ impl Origins {
         ensures err { OnErr result (self.new ≡ self.old) }
     {
         let mut own = Vec::new(self.alloc);
-        runs::put_rows(self.alloc, &mut own, source, &built.rows)?;
-        let runs = runs::overlaid(self.alloc, &self.runs, &own)?;
+        spans::put_rows(self.alloc, &mut own, source, &built.rows)?;
+        let spans = spans::overlaid(self.alloc, &self.spans, &own)?;
         store_all(machine, &built.image);
-        self.runs = runs;
+        self.spans = spans;
         Ok(())
     }
 
-    /// The origin of an address: what the last row that covers it tells, among those of all loads
+    /// The origin of an address: that of the last row that covers it, among those of all loads
     /// since the last `clear`, or since `new`.
     pub fn at(&self, address: u16) -> Option<Origin>
         ensures { (loads : List Load) → StandsFor self.now loads
             → result ≡ origin_of loads address }
     {
-        runs::origin_in(&self.runs, address)
+        spans::origin_in(&self.spans, address)
     }
 
     /// Forgets all loads. The bytes in the machine stay.
     pub fn clear(&mut self)
         ensures { StandsFor self.new [] }
     {
-        self.runs.clear();
+        self.spans.clear();
     }
 }
 

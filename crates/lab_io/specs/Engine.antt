@@ -2,20 +2,20 @@
 use Rattle.std.specs.Prelude.{◌≡◌, ℕ, List, Option, Bool, take, if◌then◌else◌}
 use Rattle.std.specs.Io.KnownBytes.{Appends}
 use Rattle.lab_io.specs.declared.status.Status.{Status}
-use Rattle.lab_io.specs.declared.status.Status.TheVariants.{Success, Refused, Usage, Memory, Failed}
+use Rattle.lab_io.specs.declared.status.Status.TheVariants.{Success, Refused, Usage, OutOfMemory, Failed}
 
 -- a front of the text, which may be all of it, was written
 pub record WritesFront (text : List ℕ) (old new : Option (List ℕ)) : Type 0 where
   pub count : ℕ
   pub written : Appends old new (take count text)
 
--- The status is the text's and all of the text was written; where memory was wanting or a read or a write failed,
+-- The status is the text's and all of the text was written; where it ran out of memory or a read or a write failed,
 -- a front of it.
 abbrev pub Answers : Status → List ℕ → Status → Option (List ℕ) → Option (List ℕ) → Type 0
 Answers status text Success old new = (status ≡ Success) × Appends old new text
 Answers status text Refused old new = (status ≡ Refused) × Appends old new text
 Answers status text Usage old new = ⊥
-Answers status text Memory old new = WritesFront text old new
+Answers status text OutOfMemory old new = WritesFront text old new
 Answers status text Failed old new = WritesFront text old new
 
 abbrev pub answered : Bool → Status
@@ -25,5 +25,5 @@ abbrev pub IsFailure : Status → Type 0
 IsFailure Success = ⊥
 IsFailure Refused = ⊥
 IsFailure Usage = ⊥
-IsFailure Memory = Unit {0}
+IsFailure OutOfMemory = Unit {0}
 IsFailure Failed = Unit {0}

@@ -1,17 +1,18 @@
 -- What hexadecimal text on standard input means.
-use Rattle.std.specs.Prelude.{ℕ, ◌+◌, ◌-◌, ◌*◌, ◌/◌, ◌%◌, List, [], ◌∷◌, Bool, not, ◌&&◌, ◌||◌, nat_lt, nat_le, ◌==◌, filter, map, length, if◌then◌else◌}
+use Rattle.std.specs.Prelude.{ℕ, ◌+◌, ◌*◌, ◌/◌, ◌%◌, List, [], ◌∷◌, Bool, not, ◌||◌, nat_lt, ◌==◌, is_some, unwrap_or, filter, map, length, if◌then◌else◌}
+use Rattle.base_text.specs.Hexadecimal as hexadecimal
 use Rattle.std.specs.List.{list_all}
 
 -- space, tab, line feed and carriage return, which are ignored wherever they stand
 abbrev pub is_blank : ℕ → Bool
 is_blank c = c == 32 || c == 9 || c == 10 || c == 13
 
--- `0` to `9`, `A` to `F`, `a` to `f`
+-- a digit of base 16, in either case
 abbrev pub is_hex_digit : ℕ → Bool
-is_hex_digit c = (nat_le 48 c && nat_le c 57) || (nat_le 65 c && nat_le c 70) || (nat_le 97 c && nat_le c 102)
+is_hex_digit c = is_some (hexadecimal.digit_value c)
 
 abbrev pub digit_value : ℕ → ℕ
-digit_value c = if (nat_le c 57) then (c - 48) else (if (nat_le c 70) then (c - 55) else (c - 87))
+digit_value c = unwrap_or (hexadecimal.digit_value c) 0
 
 -- the characters that aren't ignored
 abbrev pub characters : List ℕ → List ℕ

@@ -3,8 +3,8 @@ use Rattle.std.specs.Prelude.{◌≡◌, ℕ, ◌%◌, List, [], ◌∷◌, ◌+
 use Rattle.std.specs.List.{list_all}
 use Rattle.std.specs.Prelude.{Result, Ok, Err}
 use Rattle.lab_io.specs.HexInput.{characters, is_hex_digit, digit_value, paired, Input, BadHex, PastEnd, Bytes}
-use Rattle.lab_io.specs.declared.hex_input.InputFault.{InputFault}
-use Rattle.lab_io.specs.declared.hex_input.InputFault.TheVariants as fault
+use Rattle.lab_io.specs.declared.hex_input.HexFault.{HexFault}
+use Rattle.lab_io.specs.declared.hex_input.HexFault.TheVariants as fault
 
 -- the digits of as many bytes as memory has
 unfoldable pub most_digits : ℕ
@@ -45,7 +45,9 @@ kept_more h value = record {
 }
 
 -- the digits' values that were found, or the fault, are those of the input
-abbrev pub Finds : {X : Type 0} → (X → List ℕ) → Result X InputFault → Input → Type 0
+abbrev pub Finds : {X : Type 0} → (X → List ℕ) → Result X HexFault → Input → Type 0
 Finds view (Ok digits) input = input ≡ Bytes (paired (view digits))
 Finds view (Err fault.BadHex) input = input ≡ BadHex
 Finds view (Err fault.PastEnd) input = input ≡ PastEnd
+Finds view (Err fault.OutOfMemory) input = ⊥
+Finds view (Err fault.Read) input = ⊥

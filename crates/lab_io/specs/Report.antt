@@ -1,9 +1,34 @@
 -- What a report says.
-use Rattle.std.specs.Prelude.{◌≡◌, ℕ, List, string_bytes}
+use Rattle.std.specs.Prelude.{◌≡◌, ℕ, List, [], ◌∷◌, ◌++◌, codes, string_bytes}
 use Rattle.lab_io.specs.declared.status.Status.{Status}
 use Rattle.lab_io.specs.Engine.{answered}
+use Rattle.lab_io.specs.HexInput.{Input, BadHex, PastEnd, Bytes}
+use Rattle.lab_io.specs.declared.hex_input.HexFault.{HexFault}
+use Rattle.lab_io.specs.declared.hex_input.HexFault.TheVariants as fault
 use Rattle.lab_io.specs.declared.report.Report.{Report}
+use Rattle.lab_io.specs.declared.status.Status.TheVariants.{Refused}
 
 pub record IsReport (report : Report) (status : Status) (text : List ℕ) : Type 0 where
   pub status_is : answered report.is_refused ≡ status
   pub text_is : string_bytes report.text ≡ text
+
+abbrev pub line : List ℕ → List ℕ
+line text = text ++ 10 ∷ []
+
+-- refused hexadecimal input has a line; out of memory and a failed read have none
+abbrev pub Refuses : HexFault → Report → Type 0
+Refuses fault.BadHex report = IsReport report Refused (line (codes "bad hex"))
+Refuses fault.PastEnd report = IsReport report Refused (line (codes "past end"))
+Refuses fault.OutOfMemory report = ⊥
+Refuses fault.Read report = ⊥
+
+-- the text of an input: bytes have their own, refused input has its line
+abbrev pub text_for : (List ℕ → List ℕ) → Input → List ℕ
+text_for f BadHex = line (codes "bad hex")
+text_for f PastEnd = line (codes "past end")
+text_for f (Bytes bytes) = f bytes
+
+abbrev pub status_for : (List ℕ → Status) → Input → Status
+status_for f BadHex = Refused
+status_for f PastEnd = Refused
+status_for f (Bytes bytes) = f bytes

@@ -3,37 +3,62 @@ ghost use Rattle.std.specs.Prelude.{◌≡◌, ◌<◌, ◌++◌, ◌∷◌, [],
 ghost use Rattle.lab_io.specs.HexInput.{is_blank, is_hex_digit, digit_value, input_of, paired};
 ghost use Rattle.lab_io.specs.HexState.{kept_more};
 
+use base_streams::ports::IoFault;
+use base_text::hexadecimal::digit_value;
+use i80_rows::memory::MEMORY_SIZE;
 use std::alloc::{AllocError, AllocFailed, Global};
 use std::marker::Model;
+use thiserror::Error;
 
 /// How many digits the bytes of a whole memory have.
-const MOST_DIGITS: usize = 131072;
+const MOST_DIGITS: usize = 2 * MEMORY_SIZE;
 
-/// Why hexadecimal text is refused.
-#[derive(Clone, Copy, PartialEq, Eq, Debug)]
-pub enum InputFault {
+/// Why hexadecimal text gives no bytes.
+#[derive(Clone, Copy, PartialEq, Eq, Debug, Error)]
+pub enum HexFault {
     /// A character is neither a digit nor a blank, or the number of digits is odd.
+    #[error("bad hex")]
     BadHex,
     /// There are more bytes than memory has.
+    #[error("past end")]
     PastEnd,
+    #[error("out of memory")]
+    OutOfMemory,
+    /// A read failed, or 4,294,967,295 reads didn't come to the end.
+    #[error("a read failed")]
+    Read,
 }
 
-/// Why a piece of text isn't taken.
-#[derive(Clone, Copy, PartialEq, Eq, Debug)]
-pub enum PieceFault {
-    /// A character is neither a digit nor a blank.
-    BadHex,
-    Memory,
-}
-
-impl From<AllocFailed<u8>> for PieceFault {
+impl From<AllocError> for HexFault {
     ghost use Rattle.std.specs.Prelude.{◌≡◌};
-    ghost use Rattle.lab_io.specs.declared.hex_input.PieceFault.TheVariants.{Memory};
+    ghost use Rattle.lab_io.specs.declared.hex_input.HexFault.TheVariants.{OutOfMemory};
 
-    ghost from_gives = { λ _ fault. fault ≡ Memory };
+    ghost from_gives = { λ _ fault. fault ≡ OutOfMemory };
 
-    fn from(_failed: AllocFailed<u8>) -> PieceFault {
-        PieceFault::Memory
+    fn from(_: AllocError) -> HexFault {
+        HexFault::OutOfMemory
+    }
+}
+
+impl From<AllocFailed<u8>> for HexFault {
+    ghost use Rattle.std.specs.Prelude.{◌≡◌};
+    ghost use Rattle.lab_io.specs.declared.hex_input.HexFault.TheVariants.{OutOfMemory};
+
+    ghost from_gives = { λ _ fault. fault ≡ OutOfMemory };
+
+    fn from(_: AllocFailed<u8>) -> HexFault {
+        HexFault::OutOfMemory
+    }
+}
+
+impl From<IoFault> for HexFault {
+    ghost use Rattle.std.specs.Prelude.{◌≡◌};
+    ghost use Rattle.lab_io.specs.declared.hex_input.HexFault.TheVariants.{Read};
+
+    ghost from_gives = { λ _ fault. fault ≡ Read };
+
+    fn from(_: IoFault) -> HexFault {
+        HexFault::Read
     }
 }
 
@@ -72,9 +97,9 @@ impl HexInput {
     }
 
     /// Takes the next piece of text. After an `Err` the rest of the text is of no use.
-    pub fn feed(&mut self, piece: &[u8]) -> Result<(), PieceFault>
+    pub fn feed(&mut self, piece: &[u8]) -> Result<(), HexFault>
         ensures ok { OnOk result (Reads piece.now self.old self.new) }
-        ensures bad { IsErrOf result PieceFault.BadHex → IsBad piece.now }
+        ensures bad { IsErrOf result HexFault.BadHex → IsBad piece.now }
     {
         for byte in piece {
             if let Err(fault) = self.feed_byte(*byte) {
@@ -85,29 +110,29 @@ impl HexInput {
     }
 
     /// The values of the digits, high one of each byte first, once all of the text is there.
-    pub fn digits(&self) -> Result<&[u8], InputFault>
+    pub fn digits(&self) -> Result<&[u8], HexFault>
         ensures found { (text : List ℕ) → StandsFor self.now text
             → Finds (λ digits. digits.now) result (input_of text) }
         ensures small { IfOk result (λ digits. All (λ d. d < 16) digits.now) }
     {
         if self.is_odd {
-            return Err(InputFault::BadHex);
+            return Err(HexFault::BadHex);
         }
         if self.is_long {
-            return Err(InputFault::PastEnd);
+            return Err(HexFault::PastEnd);
         }
         Ok(self.digits.as_slice())
     }
 
-    fn feed_byte(&mut self, byte: u8) -> Result<(), PieceFault>
+    fn feed_byte(&mut self, byte: u8) -> Result<(), HexFault>
         ensures ok { OnOk result (Reads (byte ∷ []) self.old self.new) }
-        ensures bad { IsErrOf result PieceFault.BadHex → IsBad (byte ∷ []) }
+        ensures bad { IsErrOf result HexFault.BadHex → IsBad (byte ∷ []) }
     {
         if matches!(byte, b' ' | b'\t' | b'\n' | b'\r') {
             return Ok(());
         }
-        let Some(value) = hex_value(byte) else {
-            return Err(PieceFault::BadHex);
+        let Some(value) = digit_value(byte) else {
+            return Err(HexFault::BadHex);
         };
         self.keep(value)?;
         Ok(())
@@ -125,19 +150,6 @@ impl HexInput {
         }
         self.is_odd = !self.is_odd;
         Ok(())
-    }
-}
-
-/// The value of a hexadecimal digit, in either case.
-pub fn hex_value(byte: u8) -> Option<u8>
-    ensures small { IfSome result (λ value. value < 16) }
-    ensures value { result ≡ (if is_hex_digit byte then Some (digit_value byte) else None) }
-{
-    match byte {
-        b'0'..=b'9' => Some(byte - b'0'),
-        b'A'..=b'F' => Some(byte - b'A' + 10),
-        b'a'..=b'f' => Some(byte - b'a' + 10),
-        _ => None,
     }
 }
 

@@ -7,8 +7,8 @@ pub enum Status {
     Refused = 1,
     /// The words on the command line are none that the program knows.
     Usage = 2,
-    /// Memory is wanting.
-    Memory = 3,
+    /// Out of memory.
+    OutOfMemory = 3,
     /// A read or a write failed, or a reader didn't end.
     Failed = 4,
 }

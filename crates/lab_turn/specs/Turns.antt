@@ -1,5 +1,5 @@
 -- The rule of the table: word 0 is the number of tickets that were drawn, word 1 the ticket that is served, and the one slot holds the value.
--- Below it what each step tells.
+-- Below it what each step shows.
 use Rattle.std.specs.Prelude.{◌≡◌, ◌≢◌, ℕ, ◌+◌, ◌<◌, ◌≤◌, true, false, List, [], ◌∷◌, ◌++◌, map, length, Option, Some, None}
 use mathlib.Core.List.{IsPrefix}
 use Rattle.atomic_table.specs.Table.{State, Me, Step}

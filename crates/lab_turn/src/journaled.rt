@@ -15,14 +15,14 @@ pub trait Journaled {
     ghost entries: { Self → List (ℕ × Self.Call) };
     // How many entries there may be.
     ghost limit: { Self → ℕ };
-    // The reply to a call that stands behind these entries.
+    // The reply to a call that follows these entries.
     ghost answer: { List (ℕ × Self.Call) → Self.Call → Self.Reply };
     // Whether a reply is that of an entry. Another says why there is none.
     ghost is_entry: { Self.Reply → Bool };
     // Whether a reply says that the journal is full.
     ghost is_full: { Self.Reply → Bool };
 
-    /// Makes a call for a seat. It becomes the last entry, or nothing changes: for want of memory,
+    /// Makes a call for a seat. It becomes the last entry, or nothing changes: out of memory,
     /// or because the journal is at its limit.
     fn act(&mut self, seat: u32, call: Self::Call) -> Self::Reply
         ensures limit { limit self.new ≡ limit self.old }

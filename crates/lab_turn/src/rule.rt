@@ -1,4 +1,4 @@
-//! The table of a turnstile with its rule, and what each step on it tells.
+//! The table of a turnstile with its rule, and what each step on it shows.
 //!
 //! The rule has two parts, tickets and slot (`specs/Tickets.antt`), and seen and own calls
 //! (`specs/Seen.antt`). It holds between any two of the steps: read the tickets, draw one, look at
@@ -27,7 +27,7 @@ pub struct Turns<J> {
     of: PhantomData<J>,
 }
 
-/// What the table is told once: the value that it is opened over, and how many seats there may be.
+/// What the table is given once: the value that it is opened over, and how many seats there may be.
 pub struct Opening<J> {
     pub over: Snapshot<J>,
     pub seats: u32,

@@ -167,7 +167,7 @@ impl<J: Journaled> Turnstile<J> {
 
     /// Waits for its turn, and makes one call on the value.
     ///
-    /// The reply is the value's own: a refusal by the value, as for want of memory, is an `Ok` too,
+    /// The reply is the value's own: a refusal by the value, as out of memory, is an `Ok` too,
     /// and leaves no entry. `Worn` comes only once 2^64 - 1 tickets were drawn, and makes no call.
     pub fn turn<R: Wait>(
         &self,

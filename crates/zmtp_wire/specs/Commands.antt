@@ -1,15 +1,16 @@
 -- Commands (RFC 23, "Commands" and "The NULL Security Mechanism"): a name, and in READY properties.
-use Rattle.std.specs.Prelude.{◌≡◌, ℕ, ◌<◌, if◌then◌else◌, true, Option, Some, None, List, [], ◌∷◌, ◌++◌, length, codes}
+use Rattle.std.specs.Prelude.{◌≡◌, ℕ, ◌<◌, if◌then◌else◌, true, Option, Some, None, List, [], ◌∷◌, ◌++◌}
+use Rattle.std.specs.Prelude.{length, codes}
 use Rattle.std.specs.Str.{str_eq_ignore_ascii_case}
-use Rattle.zmtp_wire.specs.declared.cause.Cause.{Cause}
-use Rattle.zmtp_wire.specs.declared.cause.Cause.TheVariants as cause
+use Rattle.zmtp_wire.specs.declared.fault.StreamFault.{StreamFault}
+use Rattle.zmtp_wire.specs.declared.fault.StreamFault.TheVariants as fault
 use Rattle.zmtp_wire.specs.declared.head.Stage.{Stage}
 use Rattle.zmtp_wire.specs.declared.head.Stage.TheVariants.{Handshake, Traffic}
 use Rattle.zmtp_wire.specs.declared.role.Role.{Role}
 use Rattle.zmtp_wire.specs.Roles.{accepts}
 use Rattle.zmtp_wire.specs.Framing.{number_from}
 
--- a name that isn't empty behind its length, one byte, and then the others
+-- a name's length, one byte, the name, which isn't empty, and then the others
 pub record IsNamed (bytes name others : List ℕ) : Type 0 where
   pub some : 0 < length name
   pub spelled : bytes ≡ length name ∷ (name ++ others)
@@ -21,22 +22,26 @@ pub record IsProperty (bytes name value others : List ℕ) : Type 0 where
   pub four : length digits ≡ 4
   pub size : number_from 0 digits ≡ length value
 
+-- a name and a value
 pub record Property : Type 0 where
   pub name : List ℕ
   pub value : List ℕ
 
+-- the property of this name and this value
 abbrev pub property : List ℕ → List ℕ → Property
 property name value = record { name = name; value = value }
 
 -- nothing but properties
 pub data IsProperties : List ℕ → List Property → Type 0 where
   Ends : (bytes : List ℕ) → bytes ≡ [] → IsProperties bytes []
-  Next : (bytes name value others : List ℕ) (properties : List Property) → IsProperty bytes name value others → IsProperties others properties → IsProperties bytes (property name value ∷ properties)
+  Next : (bytes name value others : List ℕ) (properties : List Property) → IsProperty bytes name value others
+      → IsProperties others properties → IsProperties bytes (property name value ∷ properties)
 
 -- the value of the first property of this name; upper and lower case of ASCII are one
 abbrev pub value_of : List ℕ → List Property → Option (List ℕ)
 value_of name [] = None
-value_of name (p ∷ properties) = if str_eq_ignore_ascii_case p.name name then (Some p.value) else value_of name properties
+value_of name (p ∷ properties) =
+    if str_eq_ignore_ascii_case p.name name then (Some p.value) else value_of name properties
 
 -- the value that was found before, else the one that is found next
 abbrev pub first_value : Option (List ℕ) → Option (List ℕ) → Option (List ℕ)
@@ -82,9 +87,10 @@ pub record IsUnfit (role : Role) (body : List ℕ) : Type 0 where
   pub ready : IsReady body properties
   pub unfit : Fits role properties → ⊥
 
--- why the content of a command is refused: as the first, it must be a READY; later it must be one that is passed over
-abbrev pub IsRefused : Role → Stage → List ℕ → Cause → Type 0
-IsRefused role Handshake body cause.Command = (properties : List Property) → IsReady body properties → ⊥
-IsRefused role Handshake body cause.SocketType = IsUnfit role body
-IsRefused role Traffic body cause.Command = IsSkipped body → ⊥
-IsRefused role stage body other = ⊥
+-- why the content of a command is refused: as the first, it must be a READY with a socket type that fits;
+-- later it must be one that is passed over
+pub data IsRefused (role : Role) (stage : Stage) (body : List ℕ) (c : StreamFault) : Type 0 where
+  NoReady : stage ≡ Handshake → c ≡ fault.Command
+      → ((properties : List Property) → IsReady body properties → ⊥) → IsRefused role stage body c
+  Unfit : stage ≡ Handshake → c ≡ fault.SocketType → IsUnfit role body → IsRefused role stage body c
+  NotSkipped : stage ≡ Traffic → c ≡ fault.Command → (IsSkipped body → ⊥) → IsRefused role stage body c

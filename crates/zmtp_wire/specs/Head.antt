@@ -1,7 +1,8 @@
 -- What the first bytes of an item say, as a function of them.
-use Rattle.std.specs.Prelude.{ℕ, zero, suc, ◌+◌, ◌*◌, nat_lt, nat_le, if◌then◌else◌, Bool, true, false, Option, Some, None, List, [], ◌∷◌, length}
-use Rattle.zmtp_wire.specs.declared.cause.Cause.{Cause}
-use Rattle.zmtp_wire.specs.declared.cause.Cause.TheVariants as cause
+use Rattle.std.specs.Prelude.{ℕ, zero, suc, ◌+◌, ◌*◌, nat_lt, nat_le, if◌then◌else◌, Bool, true, false}
+use Rattle.std.specs.Prelude.{Option, Some, None, List, [], ◌∷◌, length}
+use Rattle.zmtp_wire.specs.declared.fault.StreamFault.{StreamFault}
+use Rattle.zmtp_wire.specs.declared.fault.StreamFault.TheVariants as fault
 use Rattle.zmtp_wire.specs.declared.head.Stage.{Stage}
 use Rattle.zmtp_wire.specs.declared.head.Stage.TheVariants.{Greeting, Handshake, Traffic}
 use Rattle.zmtp_wire.specs.declared.head.Kind.{Kind}
@@ -17,37 +18,45 @@ room_at (suc zero) = 4096
 room_at (suc (suc zero)) = 16
 room_at (suc (suc (suc n))) = 0
 
+-- what the bytes of a long size say, with this many to come, after the number so far
 abbrev pub long_size : Kind → ℕ → ℕ → List ℕ → Head
 long_size kind zero size bytes = Sized kind 9 size
 long_size kind (suc left) size [] = Wants
 long_size kind (suc left) size (byte ∷ bytes) =
-    if nat_lt (room_at left) (size * 256 + byte) then (Bad cause.FrameSize) else (long_size kind left (size * 256 + byte) bytes)
+    if nat_lt (room_at left) (size * 256 + byte) then (Bad fault.FrameSize)
+    else (long_size kind left (size * 256 + byte) bytes)
 
+-- what the byte of a short size says
 abbrev pub short_size : Kind → List ℕ → Head
 short_size kind [] = Wants
 short_size kind (size ∷ bytes) = Sized kind 2 size
 
+-- what the bytes after a good flag say
 abbrev pub sized : Kind → Bool → List ℕ → Head
 sized kind true bytes = long_size kind 8 0 bytes
 sized kind false bytes = short_size kind bytes
 
-abbrev pub unless_refused : Option Cause → Kind → Bool → List ℕ → Head
+-- a refusal comes first
+abbrev pub unless_refused : Option StreamFault → Kind → Bool → List ℕ → Head
 unless_refused (Some c) kind long bytes = Bad c
 unless_refused None kind long bytes = sized kind long bytes
 
+-- what the bytes after a flag say
 abbrev pub flagged : Stage → ℕ → Option Kind → Bool → List ℕ → Head
-flagged stage count None long bytes = Bad cause.Flags
+flagged stage count None long bytes = Bad fault.Flags
 flagged stage count (Some kind) long bytes = unless_refused (refusal stage count kind) kind long bytes
 
+-- what the bytes of a frame say
 abbrev pub frame_head : Stage → ℕ → List ℕ → Head
 frame_head stage count [] = Wants
 frame_head stage count (flag ∷ bytes) = flagged stage count (kind_of flag) (is_long flag) bytes
 
-abbrev pub greeting_head : Option Cause → List ℕ → Head
+-- what the bytes of a greeting say, by what is wrong with them
+abbrev pub greeting_head : Option StreamFault → List ℕ → Head
 greeting_head (Some c) bytes = Bad c
 greeting_head None bytes = if nat_le 64 (length bytes) then Greets else Wants
 
--- what the bytes of an item say, behind this many frames of its message
+-- what the bytes of an item say, after this many frames of its message
 abbrev pub head_of : Stage → ℕ → List ℕ → Head
 head_of Greeting count bytes = greeting_head (first_broken 0 bytes) bytes
 head_of Handshake count bytes = frame_head Handshake count bytes

@@ -1,6 +1,6 @@
 -- A feed on its way through the bytes that it has.
-use Rattle.std.specs.Prelude.{◌≡◌, ℕ, ◌<◌, ◌≤◌, Bool, Option, Some, None, List, [], ◌∷◌, length, take}
-use Rattle.zmtp_wire.specs.declared.cause.Cause.{Cause}
+use Rattle.std.specs.Prelude.{◌≡◌, ℕ, ◌<◌, ◌≤◌, Option, Some, None, List, [], ◌∷◌, length, take}
+use Rattle.zmtp_wire.specs.declared.fault.StreamFault.{StreamFault}
 use Rattle.zmtp_wire.specs.declared.role.Role.{Role}
 use Rattle.zmtp_wire.specs.declared.progress.Progress.{Progress}
 use Rattle.zmtp_wire.specs.declared.progress.Ready.{Ready}
@@ -9,6 +9,7 @@ use Rattle.zmtp_wire.specs.declared.progress.Taken.TheVariants.{Item, Partial, B
 use Rattle.zmtp_wire.specs.declared.head.Stage.TheVariants.{Handshake, Traffic}
 use Rattle.zmtp_wire.specs.declared.head.Kind.{Kind}
 use Rattle.zmtp_wire.specs.declared.head.Kind.TheVariants.{Command, Message}
+use Rattle.zmtp_wire.specs.declared.head.Position.{Position}
 use Rattle.zmtp_wire.specs.Commands.{IsAccepted, IsSkipped, IsRefused}
 use Rattle.zmtp_wire.specs.Stream.{Got, with_frame, Step, Fault, IsPartial}
 
@@ -19,44 +20,59 @@ identity_from (Some ready) before = ready.identity
 
 -- how far the reading has come in this feed, where this identity was known before
 abbrev pub got_in : Progress → Option (List ℕ) → Got
-got_in p before = record { stage = p.stage; identity = identity_from p.accepted before; messages = p.messages.items; frames = p.frames }
+got_in p before = record {
+  stage = p.stage;
+  identity = identity_from p.accepted before;
+  messages = p.messages.items;
+  frames = p.frames;
+}
+
+-- the reading before and the reading after, whatever identity was known before this feed
+abbrev pub WhateverBefore : Progress → Progress → (Got → Got → Type 0) → Type 0
+WhateverBefore old new relates = (before : Option (List ℕ)) → relates (got_in old before) (got_in new before)
 
 -- what a frame does to the reading
 pub data Effect (role : Role) (g : Got) : Kind → List ℕ → Got → Type 0 where
-  Accept : (h : Got) (body : List ℕ) (identity : Option (List ℕ)) → g.stage ≡ Handshake → IsAccepted role body identity → h ≡ record g { stage = Traffic; identity = identity } → Effect role g Command body h
+  Accept : (h : Got) (body : List ℕ) (identity : Option (List ℕ)) → g.stage ≡ Handshake
+      → IsAccepted role body identity → h ≡ record g { stage = Traffic; identity = identity }
+      → Effect role g Command body h
   Skip : (h : Got) (body : List ℕ) → g.stage ≡ Traffic → IsSkipped body → h ≡ g → Effect role g Command body h
-  Take : (h : Got) (body : List ℕ) (more : Bool) → h ≡ with_frame g more body → Effect role g (Message more) body h
+  Take : (h : Got) (body : List ℕ) (position : Position) → h ≡ with_frame g position body
+      → Effect role g (Message position) body h
 
 -- what stands at the front of the bytes, and what it does
 abbrev pub Takes : Role → List ℕ → Taken → Progress → Progress → Type 0
-Takes role bytes (Item n) old new = (0 < n) × (n ≤ length bytes) × ((before : Option (List ℕ)) → Step role (got_in old before) (take n bytes) (got_in new before))
-Takes role bytes Partial old new = (new ≡ old) × ((before : Option (List ℕ)) → IsPartial role (got_in old before) bytes)
-Takes role bytes (Broken c) old new = (new ≡ old) × ((before : Option (List ℕ)) → Fault role (got_in old before) bytes c)
+Takes role bytes (Item n) old new =
+    (0 < n) × (n ≤ length bytes) × WhateverBefore old new (λ g h. Step role g (take n bytes) h)
+Takes role bytes Partial old new = (new ≡ old) × WhateverBefore old new (λ g h. IsPartial role g bytes)
+Takes role bytes (Broken c) old new = (new ≡ old) × WhateverBefore old new (λ g h. Fault role g bytes c)
 
 -- a command's content is accepted or refused
-abbrev pub TakesCommand : Role → List ℕ → Option Cause → Progress → Progress → Type 0
-TakesCommand role body None old new = (before : Option (List ℕ)) → Effect role (got_in old before) Command body (got_in new before)
+abbrev pub TakesCommand : Role → List ℕ → Option StreamFault → Progress → Progress → Type 0
+TakesCommand role body None old new = WhateverBefore old new (λ g h. Effect role g Command body h)
 TakesCommand role body (Some c) old new = (new ≡ old) × IsRefused role old.stage body c
 
 -- a frame's body is taken in, or a command's is refused
-abbrev pub TakesBody : Role → Kind → List ℕ → Option Cause → Progress → Progress → Type 0
-TakesBody role kind body None old new = (before : Option (List ℕ)) → Effect role (got_in old before) kind body (got_in new before)
+abbrev pub TakesBody : Role → Kind → List ℕ → Option StreamFault → Progress → Progress → Type 0
+TakesBody role kind body None old new = WhateverBefore old new (λ g h. Effect role g kind body h)
 TakesBody role kind body (Some c) old new = (new ≡ old) × (kind ≡ Command) × IsRefused role old.stage body c
 
+-- the same messages, and the same frames of the one that has begun
 pub record SameMessages (old new : Progress) : Type 0 where
   pub messages : new.messages.items ≡ old.messages.items
   pub frames : new.frames ≡ old.frames
 
 -- where the whole items end
-abbrev pub EndsAt : Role → List ℕ → Option Cause → Progress → Type 0
-EndsAt role rest None p = (before : Option (List ℕ)) → IsPartial role (got_in p before) rest
-EndsAt role rest (Some c) p = (before : Option (List ℕ)) → Fault role (got_in p before) rest c
+abbrev pub EndsAt : Role → List ℕ → Option StreamFault → Progress → Type 0
+EndsAt role rest None p = WhateverBefore p p (λ g h. IsPartial role g rest)
+EndsAt role rest (Some c) p = WhateverBefore p p (λ g h. Fault role g rest c)
 
 -- the frames that had come before are the first of the first message, else of the one that has begun
 abbrev pub KeepsFirst : List (List ℕ) → List (List (List ℕ)) → List (List ℕ) → Type 0
 KeepsFirst before [] frames = take (length before) frames ≡ before
 KeepsFirst before (m ∷ messages) frames = take (length before) m ≡ before
 
+-- this many frames, of the first message, else of the one that has begun
 abbrev pub FirstFrames : List (List (List ℕ)) → List (List ℕ) → List (List ℕ) → ℕ → Type 0
 FirstFrames [] old new count = new ≡ take count old
 FirstFrames (m ∷ messages) old new count = new ≡ take count m

@@ -5,6 +5,7 @@ use Rattle.std.specs.Str.{bytes_eq}
 use Rattle.zmtp_wire.specs.declared.role.Role.{Role}
 use Rattle.zmtp_wire.specs.declared.role.Role.TheVariants.{Router, Pub, Rep, Dealer, Sub}
 
+-- the name of a socket type
 abbrev pub socket_name : Role → List ℕ
 socket_name Router = codes "ROUTER"
 socket_name Pub = codes "PUB"
@@ -20,5 +21,6 @@ peers Rep = codes "REQ" ∷ codes "DEALER" ∷ []
 peers Dealer = codes "ROUTER" ∷ []
 peers Sub = codes "PUB" ∷ []
 
+-- whether a peer of this socket type may talk to the role
 abbrev pub accepts : Role → List ℕ → Bool
 accepts role name = list_any (bytes_eq name) (peers role)

@@ -1,10 +1,13 @@
--- What a stream of bytes says: a greeting, READY, and then messages and commands (RFC 23, "Overall Behavior").
-use Rattle.std.specs.Prelude.{◌≡◌, ℕ, ◌<◌, Bool, true, false, Option, Some, None, List, [], ◌∷◌, ◌++◌, length}
-use Rattle.zmtp_wire.specs.declared.cause.Cause.{Cause}
-use Rattle.zmtp_wire.specs.declared.cause.Cause.TheVariants as cause
+-- What a stream of bytes says: a greeting, READY, and then messages and commands
+-- (RFC 23, "Overall Behavior").
+use Rattle.std.specs.Prelude.{◌≡◌, ℕ, ◌<◌, true, Option, Some, None, List, [], ◌∷◌, ◌++◌, length}
+use Rattle.zmtp_wire.specs.declared.fault.StreamFault.{StreamFault}
+use Rattle.zmtp_wire.specs.declared.fault.StreamFault.TheVariants as fault
 use Rattle.zmtp_wire.specs.declared.head.Stage.{Stage}
 use Rattle.zmtp_wire.specs.declared.head.Stage.TheVariants.{Greeting, Handshake, Traffic}
 use Rattle.zmtp_wire.specs.declared.head.Kind.TheVariants.{Command, Message}
+use Rattle.zmtp_wire.specs.declared.head.Position.{Position}
+use Rattle.zmtp_wire.specs.declared.head.Position.TheVariants.{More, Last}
 use Rattle.zmtp_wire.specs.declared.role.Role.{Role}
 use Rattle.zmtp_wire.specs.Greeting.{IsGreeting, first_broken}
 use Rattle.zmtp_wire.specs.Framing.{IsAllowed, broken_by_flag, is_long, least_number}
@@ -17,37 +20,52 @@ pub record Got : Type 0 where
   pub messages : List (List (List ℕ))
   pub frames : List (List ℕ)
 
+-- nothing has been read
 abbrev pub opening : Got
 opening = record { stage = Greeting; identity = None; messages = []; frames = [] }
 
-abbrev pub with_frame : Got → Bool → List ℕ → Got
-with_frame g true body = record g { frames = g.frames ++ body ∷ [] }
-with_frame g false body = record g { messages = g.messages ++ (g.frames ++ body ∷ []) ∷ []; frames = [] }
+-- one frame more; the last one completes its message
+abbrev pub with_frame : Got → Position → List ℕ → Got
+with_frame g More body = record g { frames = g.frames ++ body ∷ [] }
+with_frame g Last body = record g { messages = g.messages ++ (g.frames ++ body ∷ []) ∷ []; frames = [] }
 
--- a whole item, and how far the reading has come behind it
+-- a whole item, and how far the reading has come after it
 pub data Step (role : Role) : Got → List ℕ → Got → Type 0 where
-  Greets : (g h : Got) (raw : List ℕ) → g.stage ≡ Greeting → IsGreeting raw → h ≡ record g { stage = Handshake } → Step role g raw h
-  Readies : (g h : Got) (raw body : List ℕ) (identity : Option (List ℕ)) → g.stage ≡ Handshake → IsAllowed g.stage (length g.frames) raw Command body → IsAccepted role body identity → h ≡ record g { stage = Traffic; identity = identity } → Step role g raw h
-  Skips : (g h : Got) (raw body : List ℕ) → g.stage ≡ Traffic → IsAllowed g.stage (length g.frames) raw Command body → IsSkipped body → h ≡ g → Step role g raw h
-  Takes : (g h : Got) (raw body : List ℕ) (more : Bool) → IsAllowed g.stage (length g.frames) raw (Message more) body → h ≡ with_frame g more body → Step role g raw h
+  Greets : (g h : Got) (raw : List ℕ) → g.stage ≡ Greeting → IsGreeting raw
+      → h ≡ record g { stage = Handshake } → Step role g raw h
+  Readies : (g h : Got) (raw body : List ℕ) (identity : Option (List ℕ)) → g.stage ≡ Handshake
+      → IsAllowed g.stage (length g.frames) raw Command body → IsAccepted role body identity
+      → h ≡ record g { stage = Traffic; identity = identity } → Step role g raw h
+  Skips : (g h : Got) (raw body : List ℕ) → g.stage ≡ Traffic
+      → IsAllowed g.stage (length g.frames) raw Command body → IsSkipped body → h ≡ g → Step role g raw h
+  Takes : (g h : Got) (raw body : List ℕ) (position : Position)
+      → IsAllowed g.stage (length g.frames) raw (Message position) body → h ≡ with_frame g position body
+      → Step role g raw h
 
 -- the bytes are whole items and then the rest, and the reading goes on from the one to the other
 pub data Reads (role : Role) : Got → List ℕ → Got → List ℕ → Type 0 where
   Stays : (g : Got) (bytes : List ℕ) → Reads role g bytes g bytes
-  Goes : (g h i : Got) (bytes raw others rest : List ℕ) → Step role g raw h → bytes ≡ raw ++ others → Reads role h others i rest → Reads role g bytes i rest
+  Goes : (g h i : Got) (bytes raw others rest : List ℕ) → Step role g raw h → bytes ≡ raw ++ others
+      → Reads role h others i rest → Reads role g bytes i rest
 
 -- no item may begin as these bytes do
-pub data Fault (role : Role) : Got → List ℕ → Cause → Type 0 where
-  InGreeting : (g : Got) (bytes : List ℕ) (c : Cause) → g.stage ≡ Greeting → first_broken 0 bytes ≡ Some c → Fault role g bytes c
-  InFlag : (g : Got) (bytes others : List ℕ) (flag : ℕ) (c : Cause) → (g.stage ≡ Greeting → ⊥) → bytes ≡ flag ∷ others → broken_by_flag g.stage (length g.frames) flag ≡ Some c → Fault role g bytes c
+pub data Fault (role : Role) : Got → List ℕ → StreamFault → Type 0 where
+  InGreeting : (g : Got) (bytes : List ℕ) (c : StreamFault) → g.stage ≡ Greeting
+      → first_broken 0 bytes ≡ Some c → Fault role g bytes c
+  InFlag : (g : Got) (bytes others : List ℕ) (flag : ℕ) (c : StreamFault) → (g.stage ≡ Greeting → ⊥)
+      → bytes ≡ flag ∷ others → broken_by_flag g.stage (length g.frames) flag ≡ Some c → Fault role g bytes c
   -- the least size that the bytes may still have is too large
-  InSize : (g : Got) (bytes others : List ℕ) (flag : ℕ) (c : Cause) → bytes ≡ flag ∷ others → broken_by_flag g.stage (length g.frames) flag ≡ None → is_long flag ≡ true → 1048576 < least_number 8 0 others → c ≡ cause.FrameSize → Fault role g bytes c
-  InCommand : (g : Got) (bytes raw others body : List ℕ) (c : Cause) → bytes ≡ raw ++ others → IsAllowed g.stage (length g.frames) raw Command body → IsRefused role g.stage body c → Fault role g bytes c
+  InSize : (g : Got) (bytes others : List ℕ) (flag : ℕ) (c : StreamFault) → bytes ≡ flag ∷ others
+      → broken_by_flag g.stage (length g.frames) flag ≡ None → is_long flag ≡ true
+      → 1048576 < least_number 8 0 others → c ≡ fault.FrameSize → Fault role g bytes c
+  InCommand : (g : Got) (bytes raw others body : List ℕ) (c : StreamFault) → bytes ≡ raw ++ others
+      → IsAllowed g.stage (length g.frames) raw Command body → IsRefused role g.stage body c
+      → Fault role g bytes c
 
 -- what has come of an item isn't whole, and nothing is wrong with it
 pub record IsPartial (role : Role) (g : Got) (bytes : List ℕ) : Type 0 where
   pub unfinished : (raw others : List ℕ) (h : Got) → Step role g raw h → bytes ≡ raw ++ others → ⊥
-  pub good : (c : Cause) → Fault role g bytes c → ⊥
+  pub good : (c : StreamFault) → Fault role g bytes c → ⊥
 
 -- what a side keeps of its stream
 pub record SideState : Type 0 where
@@ -56,14 +74,14 @@ pub record SideState : Type 0 where
   pub identity : Option (List ℕ)
   pub frames : List (List ℕ)
   pub rest : List ℕ
-  pub fault : Option Cause
+  pub fault : Option StreamFault
 
 -- how far a side has come, with these messages before
 abbrev pub got_by : SideState → List (List (List ℕ)) → Got
 got_by s messages = record { stage = s.stage; identity = s.identity; messages = messages; frames = s.frames }
 
 -- after the whole items comes the rest that the side keeps, or a fault, and then it keeps none
-abbrev pub EndsIn : SideState → Got → List ℕ → Option Cause → Type 0
+abbrev pub EndsIn : SideState → Got → List ℕ → Option StreamFault → Type 0
 EndsIn s g rest None = (rest ≡ s.rest) × IsPartial s.role g rest
 EndsIn s g rest (Some c) = (s.rest ≡ []) × Fault s.role g rest c
 
@@ -73,7 +91,9 @@ pub record StandsFor (s : SideState) (stream : List ℕ) (messages : List (List 
   pub reads : Reads s.role opening stream (got_by s messages) rest
   pub ends : EndsIn s (got_by s messages) rest s.fault
 
--- whatever the stream was before, this piece comes behind it, and completes these messages
-pub record Completes (old : SideState) (piece : List ℕ) (out : List (List (List ℕ))) (new : SideState) : Type 0 where
+-- whatever the stream was before, this piece comes after it, and completes these messages
+pub record Completes (old : SideState) (piece : List ℕ) (out : List (List (List ℕ))) (new : SideState)
+    : Type 0 where
   pub role : new.role ≡ old.role
-  pub stands : (stream : List ℕ) (messages : List (List (List ℕ))) → StandsFor old stream messages → StandsFor new (stream ++ piece) (messages ++ out)
+  pub stands : (stream : List ℕ) (messages : List (List (List ℕ))) → StandsFor old stream messages
+      → StandsFor new (stream ++ piece) (messages ++ out)

@@ -1,8 +1,11 @@
 -- What a side writes (RFC 23).
-use Rattle.std.specs.Prelude.{◌≡◌, ℕ, ◌≤◌, nat_le, if◌then◌else◌, Bool, true, false, List, [], ◌∷◌, ◌++◌, length, All, codes, replicate}
+use Rattle.std.specs.Prelude.{◌≡◌, ℕ, ◌≤◌, nat_le, if◌then◌else◌, true, false, List, [], ◌∷◌, ◌++◌}
+use Rattle.std.specs.Prelude.{length, All, codes, replicate}
 use Rattle.std.specs.Int.{w64, to_be_bytes}
 use Rattle.zmtp_wire.specs.declared.head.Stage.TheVariants.{Handshake, Traffic}
 use Rattle.zmtp_wire.specs.declared.head.Kind.TheVariants.{Command, Message}
+use Rattle.zmtp_wire.specs.declared.head.Position.{Position}
+use Rattle.zmtp_wire.specs.declared.head.Position.TheVariants.{More, Last}
 use Rattle.zmtp_wire.specs.declared.role.Role.{Role}
 use Rattle.zmtp_wire.specs.Framing.{flag_of, IsAllowed}
 use Rattle.zmtp_wire.specs.Commands.{property, IsReady}
@@ -21,20 +24,24 @@ pub record IsReadyOf (raw : List ℕ) (role : Role) : Type 0 where
   pub ready : IsReady body (property (codes "Socket-Type") (socket_name role) ∷ [])
 
 -- a frame of a message, with a short size where it fits
-abbrev pub frame_bytes : Bool → List ℕ → List ℕ
-frame_bytes more body =
-    if nat_le (length body) 255 then (flag_of (Message more) false ∷ length body ∷ body) else
-    (flag_of (Message more) true ∷ (to_be_bytes w64 (length body) ++ body))
+abbrev pub frame_bytes : Position → List ℕ → List ℕ
+frame_bytes position body =
+    if nat_le (length body) 255 then (flag_of (Message position) false ∷ length body ∷ body) else
+    (flag_of (Message position) true ∷ (to_be_bytes w64 (length body) ++ body))
 
-abbrev pub is_some_left : List (List ℕ) → Bool
-is_some_left [] = false
-is_some_left (body ∷ frames) = true
+-- where a frame stands that these frames follow
+abbrev pub position_before : List (List ℕ) → Position
+position_before [] = Last
+position_before (body ∷ frames) = More
 
 -- each frame but the last says that more follow
 abbrev pub message_bytes : List (List ℕ) → List ℕ
 message_bytes [] = []
-message_bytes (body ∷ frames) = frame_bytes (is_some_left frames) body ++ message_bytes frames
+message_bytes (body ∷ frames) = frame_bytes (position_before frames) body ++ message_bytes frames
 
 -- whatever came before, a reader past READY reads this message and nothing more, if it is within the limits
 abbrev pub IsReadAs : List ℕ → List (List ℕ) → Type 0
-IsReadAs bytes frames = length frames ≤ 64 → All (λ body. length body ≤ 1048576) frames → (role : Role) (g : Got) → g.stage ≡ Traffic → g.frames ≡ [] → Reads role g bytes (record g { messages = g.messages ++ frames ∷ [] }) []
+IsReadAs bytes frames =
+    length frames ≤ 64 → All (λ body. length body ≤ 1048576) frames → (role : Role) (g : Got)
+    → g.stage ≡ Traffic → g.frames ≡ []
+    → Reads role g bytes (record g { messages = g.messages ++ frames ∷ [] }) []

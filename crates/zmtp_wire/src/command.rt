@@ -1,21 +1,23 @@
 //! The contents of commands: names, properties, READY.
-ghost use Rattle.std.specs.Prelude.{◌≡◌, ℕ, List, [], ◌∷◌, length, IfSome, IfNone, IfOk, IfErr, option_copied};
+ghost use Rattle.std.specs.Prelude.{◌≡◌, ℕ, List, [], ◌∷◌, length, option_copied};
+ghost use Rattle.std.specs.Prelude.{IfSome, IfNone, IfOk, IfErr};
 ghost use Rattle.std.specs.Bool.{OnTrue, OnFalse};
 ghost use Rattle.zmtp_wire.specs.Framing.{number_from};
-ghost use Rattle.zmtp_wire.specs.Commands.{IsNamed, IsProperty, IsProperties, Property, property, value_of, first_value, Finds, IsAccepted, IsSkipped, IsRefused};
+ghost use Rattle.zmtp_wire.specs.Commands.{IsNamed, IsProperty, IsProperties, Property, property};
+ghost use Rattle.zmtp_wire.specs.Commands.{value_of, first_value, Finds, IsAccepted, IsSkipped, IsRefused};
 ghost use Rattle.zmtp_wire.specs.declared.head.Stage.TheVariants.{Handshake};
 
-use crate::cause::Cause;
+use crate::fault::StreamFault;
 use crate::role::Role;
 
-/// A name, and the bytes behind it.
+/// A name, and the bytes after it.
 #[derive(Drop)]
 pub struct Named<'a> {
     pub name: &'a [u8],
     pub others: &'a [u8],
 }
 
-/// Splits off a name that isn't empty, behind its length.
+/// Splits off a name that isn't empty, after its length.
 pub fn split_name(bytes: &[u8]) -> Option<Named<'_>>
     ensures found { IfSome result (λ n. IsNamed bytes.now n.name.now n.others.now) }
     ensures none { IfNone result ((name others : List ℕ) → IsNamed bytes.now name others → ⊥) }
@@ -43,7 +45,7 @@ fn number_of(bytes: &[u8]) -> usize
     }
 }
 
-/// A property, and the bytes behind it.
+/// A property, and the bytes after it.
 #[derive(Drop)]
 struct SplitProperty<'a> {
     name: &'a [u8],
@@ -54,7 +56,8 @@ struct SplitProperty<'a> {
 // Splits off a property.
 fn split_property(bytes: &[u8]) -> Option<SplitProperty<'_>>
     ensures found { IfSome result (λ p. IsProperty bytes.now p.name.now p.value.now p.others.now) }
-    ensures none { IfNone result ((name value others : List ℕ) → IsProperty bytes.now name value others → ⊥) }
+    ensures none { IfNone result
+        ((name value others : List ℕ) → IsProperty bytes.now name value others → ⊥) }
 {
     let Named { name, others } = split_name(bytes)?;
     if others.len() < 4 {
@@ -99,7 +102,8 @@ fn first_of<'a>(
 
 // Reads properties to the end.
 fn read_properties(bytes: &[u8]) -> Option<KnownProperties<'_>>
-    ensures found { IfSome result (λ known. Finds bytes.now (option_copied known.socket_type) (option_copied known.identity)) }
+    ensures found { IfSome result
+        (λ known. Finds bytes.now (option_copied known.socket_type) (option_copied known.identity)) }
     ensures none { IfNone result ((properties : List Property) → IsProperties bytes.now properties → ⊥) }
 {
     let mut socket_type = None;
@@ -122,22 +126,22 @@ fn read_properties(bytes: &[u8]) -> Option<KnownProperties<'_>>
 }
 
 /// The identity that a peer's READY gives, if it is one that is accepted.
-pub fn read_ready(role: Role, body: &[u8]) -> Result<Option<&[u8]>, Cause>
+pub fn read_ready(role: Role, body: &[u8]) -> Result<Option<&[u8]>, StreamFault>
     ensures ok { IfOk result (λ identity. IsAccepted role body.now (option_copied identity)) }
     ensures err { IfErr result (λ cause. IsRefused role Handshake body.now cause) }
 {
     let Some(Named { name, others }) = split_name(body) else {
-        return Err(Cause::Command);
+        return Err(StreamFault::Command);
     };
     if name != b"READY".as_slice() {
-        return Err(Cause::Command);
+        return Err(StreamFault::Command);
     }
     let Some(known) = read_properties(others) else {
-        return Err(Cause::Command);
+        return Err(StreamFault::Command);
     };
     match known.socket_type {
         Some(socket_type) if role.accepts(socket_type) => Ok(known.identity),
-        _ => Err(Cause::SocketType),
+        _ => Err(StreamFault::SocketType),
     }
 }
 

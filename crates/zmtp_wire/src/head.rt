@@ -4,7 +4,7 @@ ghost use Rattle.zmtp_wire.specs.Greeting.{broken_by, first_broken};
 ghost use Rattle.zmtp_wire.specs.Framing.{kind_of, is_long, refusal};
 ghost use Rattle.zmtp_wire.specs.Head.{head_of, frame_head, long_size, room_at};
 
-use crate::cause::Cause;
+use crate::fault::StreamFault;
 
 /// What a stream has come to: its greeting, the handshake, then traffic.
 #[derive(Clone, Copy, PartialEq, Eq, Debug)]
@@ -14,11 +14,20 @@ pub enum Stage {
     Traffic,
 }
 
-/// A frame is a command, or one of a message, with more frames of that message behind it or not.
+/// Where a frame stands in its message.
+#[derive(Clone, Copy)]
+pub enum Position {
+    /// More frames of the message follow.
+    More,
+    /// It is the last one.
+    Last,
+}
+
+/// A frame is a command, or one of a message.
 #[derive(Clone, Copy)]
 pub enum Kind {
     Command,
-    Message(bool),
+    Message(Position),
 }
 
 /// What the first bytes of an item say.
@@ -27,7 +36,7 @@ pub enum Head {
     /// More bytes are wanted.
     Wants,
     /// No item may begin so.
-    Bad(Cause),
+    Bad(StreamFault),
     /// A whole greeting stands here.
     Greets,
     /// A frame of this kind, whose body begins at this place and has this size.
@@ -39,24 +48,24 @@ pub const GREETING_SIZE: usize = 64;
 
 // The byte of the mechanism NULL at this place of the greeting.
 #[tactic(auto, unfolding(crate::specs::Greeting::broken_by))]
-fn broken_at(place: usize, byte: u8) -> Option<Cause>
+fn broken_at(place: usize, byte: u8) -> Option<StreamFault>
     ensures { result ≡ broken_by place byte }
 {
     let (good, cause) = match place {
-        0 => (byte == 0xff, Cause::Signature),
-        9 => (byte == 0x7f, Cause::Signature),
-        10 => (byte >= 3, Cause::Version),
-        12 => (byte == b'N', Cause::Mechanism),
-        13 => (byte == b'U', Cause::Mechanism),
-        14 | 15 => (byte == b'L', Cause::Mechanism),
-        16..32 => (byte == 0, Cause::Mechanism),
-        _ => (true, Cause::Signature),
+        0 => (byte == 0xff, StreamFault::Signature),
+        9 => (byte == 0x7f, StreamFault::Signature),
+        10 => (byte >= 3, StreamFault::Version),
+        12 => (byte == b'N', StreamFault::Mechanism),
+        13 => (byte == b'U', StreamFault::Mechanism),
+        14 | 15 => (byte == b'L', StreamFault::Mechanism),
+        16..32 => (byte == 0, StreamFault::Mechanism),
+        _ => (true, StreamFault::Signature),
     };
     if good { None } else { Some(cause) }
 }
 
 // What the first wrong byte of a greeting breaks; the bytes begin at this place of it.
-fn first_broken_from(place: usize, bytes: &[u8]) -> Option<Cause>
+fn first_broken_from(place: usize, bytes: &[u8]) -> Option<StreamFault>
     ensures { result ≡ first_broken place bytes.now }
 {
     if place >= 32 {
@@ -73,26 +82,28 @@ fn kind_of_flag(flag: u8) -> Option<Kind>
     ensures { result ≡ kind_of flag }
 {
     match flag {
-        0 | 2 => Some(Kind::Message(false)),
-        1 | 3 => Some(Kind::Message(true)),
+        0 | 2 => Some(Kind::Message(Position::Last)),
+        1 | 3 => Some(Kind::Message(Position::More)),
         4 | 6 => Some(Kind::Command),
         _ => None,
     }
 }
 
-// Why a frame may not come here, behind this many frames of its message.
-fn refusal_of(stage: Stage, count: usize, kind: Kind) -> Option<Cause>
+// Why a frame may not come here, after this many frames of its message.
+fn refusal_of(stage: Stage, count: usize, kind: Kind) -> Option<StreamFault>
     ensures { result ≡ refusal stage count kind }
 {
     match (stage, kind) {
-        (Stage::Greeting, _) => Some(Cause::Flags),
-        (Stage::Handshake, Kind::Message(_)) => Some(Cause::Command),
+        (Stage::Greeting, _) => Some(StreamFault::Flags),
+        (Stage::Handshake, Kind::Message(_)) => Some(StreamFault::Command),
         (Stage::Handshake, Kind::Command) => None,
-        (Stage::Traffic, Kind::Message(false)) => None,
-        (Stage::Traffic, Kind::Message(true)) if count >= 63 => Some(Cause::FrameCount),
-        (Stage::Traffic, Kind::Message(true)) => None,
+        (Stage::Traffic, Kind::Message(Position::Last)) => None,
+        (Stage::Traffic, Kind::Message(Position::More)) if count >= 63 => {
+            Some(StreamFault::FrameCount)
+        },
+        (Stage::Traffic, Kind::Message(Position::More)) => None,
         (Stage::Traffic, Kind::Command) if count == 0 => None,
-        (Stage::Traffic, Kind::Command) => Some(Cause::Command),
+        (Stage::Traffic, Kind::Command) => Some(StreamFault::Command),
     }
 }
 
@@ -122,7 +133,7 @@ fn long_size_from(kind: Kind, left: usize, size: u64, bytes: &[u8]) -> Head
     };
     let size = size * 256 + u64::from(*byte);
     if size > room_with(left - 1) {
-        return Head::Bad(Cause::FrameSize);
+        return Head::Bad(StreamFault::FrameSize);
     }
     long_size_from(kind, left - 1, size, others)
 }
@@ -135,7 +146,7 @@ fn read_frame_head(stage: Stage, count: usize, bytes: &[u8]) -> Head
     };
     let flag = *flag;
     let Some(kind) = kind_of_flag(flag) else {
-        return Head::Bad(Cause::Flags);
+        return Head::Bad(StreamFault::Flags);
     };
     if let Some(cause) = refusal_of(stage, count, kind) {
         return Head::Bad(cause);

@@ -1,13 +1,14 @@
 //! A feed on its way through the bytes that it has: item by item, until none is whole.
-ghost use Rattle.std.specs.Prelude.{◌≡◌, ◌≤◌, [], length, drop, Option, List, ℕ, OnOk, OnErr, IfOk, option_copied};
-ghost use Rattle.zmtp_wire.specs.Stream.{Reads, Step, with_frame};
-ghost use Rattle.zmtp_wire.specs.Progress.{got_in, Takes, TakesCommand, TakesBody, EndsAt, SameMessages, KeepsFirst, FirstFrames};
+ghost use Rattle.std.specs.Prelude.{◌≡◌, ◌≤◌, [], length, drop, OnOk, OnErr, IfOk, option_copied};
+ghost use Rattle.zmtp_wire.specs.Stream.{Reads, with_frame};
+ghost use Rattle.zmtp_wire.specs.Progress.{WhateverBefore, Takes, TakesCommand, TakesBody, EndsAt};
+ghost use Rattle.zmtp_wire.specs.Progress.{SameMessages, KeepsFirst, FirstFrames};
 
-use crate::bytes::{Bytes, Frames};
-use crate::cause::Cause;
 use crate::command::{is_skipped, read_ready};
-use crate::head::{GREETING_SIZE, Head, Kind, Stage, read_head};
+use crate::fault::StreamFault;
+use crate::head::{GREETING_SIZE, Head, Kind, Position, Stage, read_head};
 use crate::role::Role;
+use base_text::sequence::{Bytes, Frames};
 use std::alloc::{AllocError, Global};
 use std::mem;
 
@@ -37,29 +38,34 @@ pub enum Taken {
     /// None that is whole.
     Partial,
     /// One that breaks the stream.
-    Broken(Cause),
+    Broken(StreamFault),
 }
 
-// Puts a whole frame of a message behind the others.
+// Adds a whole frame of a message.
 fn add_frame(
     alloc: Global,
     progress: &mut Progress,
-    more: bool,
+    position: Position,
     body: &[u8],
 ) -> Result<(), AllocError>
-    ensures ok { OnOk result ((before : Option (List ℕ)) → got_in progress.new before ≡ with_frame (got_in progress.old before) more body.now) }
+    ensures ok { OnOk result (WhateverBefore progress.old progress.new
+        (λ old new. new ≡ with_frame old position body.now)) }
     ensures err { OnErr result (SameMessages progress.old progress.new) }
 {
     let frame = Bytes::copy_of(alloc, body)?;
-    if more {
-        progress.frames.push(frame)?;
-        return Ok(());
+    match position {
+        Position::More => {
+            progress.frames.push(frame)?;
+            Ok(())
+        }
+        Position::Last => {
+            progress.messages.reserve(1)?;
+            progress.frames.push(frame)?;
+            let whole = mem::replace(&mut progress.frames, Frames::new(alloc));
+            progress.messages.push_reserved(whole);
+            Ok(())
+        }
     }
-    progress.messages.reserve(1)?;
-    progress.frames.push(frame)?;
-    let whole = mem::replace(&mut progress.frames, Frames::new(alloc));
-    progress.messages.push_reserved(whole);
-    Ok(())
 }
 
 fn copy_identity(alloc: Global, identity: Option<&[u8]>) -> Result<Option<Bytes>, AllocError>
@@ -74,13 +80,13 @@ fn copy_identity(alloc: Global, identity: Option<&[u8]>) -> Result<Option<Bytes>
     }
 }
 
-// Takes in a command's content, or tells why it is refused.
+// Takes in a command's content, or reports why it is refused.
 fn take_command(
     alloc: Global,
     role: Role,
     progress: &mut Progress,
     body: &[u8],
-) -> Result<Option<Cause>, AllocError>
+) -> Result<Option<StreamFault>, AllocError>
     requires { progress.old.stage ≡ Stage.Greeting → ⊥ }
     ensures ok { IfOk result (λ cause. TakesCommand role body.now cause progress.old progress.new) }
     ensures err { OnErr result (progress.new ≡ progress.old) }
@@ -96,7 +102,7 @@ fn take_command(
             Err(cause) => Ok(Some(cause)),
         },
         _ if is_skipped(body) => Ok(None),
-        _ => Ok(Some(Cause::Command)),
+        _ => Ok(Some(StreamFault::Command)),
     }
 }
 
@@ -107,15 +113,15 @@ fn take_body(
     progress: &mut Progress,
     kind: Kind,
     body: &[u8],
-) -> Result<Option<Cause>, AllocError>
+) -> Result<Option<StreamFault>, AllocError>
     requires { progress.old.stage ≡ Stage.Greeting → ⊥ }
     ensures ok { IfOk result (λ cause. TakesBody role kind body.now cause progress.old progress.new) }
     ensures err { OnErr result (SameMessages progress.old progress.new) }
 {
     match kind {
         Kind::Command => take_command(alloc, role, progress, body),
-        Kind::Message(more) => {
-            add_frame(alloc, progress, more, body)?;
+        Kind::Message(position) => {
+            add_frame(alloc, progress, position, body)?;
             Ok(None)
         }
     }
@@ -151,18 +157,20 @@ fn take_item(
     }
 }
 
-/// Takes in the whole items at the front of the bytes, and tells how many bytes these had and which
-/// fault comes behind them.
+/// Takes in the whole items at the front of the bytes, and reports how many bytes these had and which
+/// fault follows them.
 pub fn take_items(
     alloc: Global,
     role: Role,
     progress: &mut Progress,
     bytes: &[u8],
-) -> Result<(usize, Option<Cause>), AllocError>
+) -> Result<(usize, Option<StreamFault>), AllocError>
     ensures count { IfOk result (λ r. r.0 ≤ length bytes.now) }
-    ensures reads { IfOk result (λ r. (before : Option (List ℕ)) → Reads role (got_in progress.old before) bytes.now (got_in progress.new before) (drop r.0 bytes.now)) }
+    ensures reads { IfOk result (λ r. WhateverBefore progress.old progress.new
+        (λ old new. Reads role old bytes.now new (drop r.0 bytes.now))) }
     ensures ends { IfOk result (λ r. EndsAt role (drop r.0 bytes.now) r.1 progress.new) }
-    ensures err { OnErr result (progress.old.messages.items ≡ [] → KeepsFirst progress.old.frames progress.new.messages.items progress.new.frames) }
+    ensures err { OnErr result (progress.old.messages.items ≡ []
+        → KeepsFirst progress.old.frames progress.new.messages.items progress.new.frames) }
 {
     let mut place = 0usize;
     while place <= bytes.len() {

@@ -1,33 +1,62 @@
 //! One side of a connection, which reads what the peer sends.
-ghost use Rattle.std.specs.Prelude.{◌≡◌, ◌≤◌, ◌↔◌, [], ℕ, List, Option, IsTrue, length, drop, IfOk, IfErr, OnOk, option_copied, Some, None, Err};
+ghost use Rattle.std.specs.Prelude.{◌≡◌, ◌≤◌, ◌↔◌, IsTrue, [], length, drop, Some, None};
+ghost use Rattle.std.specs.Prelude.{IfOk, IfErr, OnOk, option_copied};
 
-use crate::bytes::{Bytes, Incomings};
-use crate::cause::FeedFault;
+use crate::fault::{FeedFault, StreamFault};
 use crate::head::Stage;
+use crate::incomings::Incomings;
+use crate::progress::{Progress, first_frames, take_items};
 use crate::role::Role;
-use crate::stream::Stream;
+use base_text::sequence::{Bytes, Frames};
 use std::alloc::Global;
 use std::marker::Model;
+use std::mem;
 
-/// One side of a connection: what it has read of its stream.
+/// One side of a connection: how far it has read its stream, the frames of the message that has begun,
+/// and the bytes of the item that has begun.
 #[derive(Drop)]
 pub struct Side {
-    stream: Stream,
+    role: Role,
+    stage: Stage,
+    identity: Option<Bytes>,
+    frames: Frames,
+    rest: Vec<u8>,
+    fault: Option<StreamFault>,
 }
 
 impl Model for Side {
     ghost use Rattle.zmtp_wire.specs.Stream.{SideState};
-    ghost use Rattle.zmtp_wire.specs.Feeding.{state_of};
 
     ghost Value = { SideState };
 
-    ghost view = { λ s. state_of s.stream };
+    ghost view = { λ s. record {
+      role = s.role;
+      stage = s.stage;
+      identity = s.identity;
+      frames = s.frames;
+      rest = s.rest.items;
+      fault = s.fault;
+    } };
+}
+
+// Lets the first bytes go. Where there are none to let go, nothing is moved.
+fn keep_from(bytes: &mut Vec<u8>, from: usize)
+    requires { from ≤ length bytes.old.items }
+    ensures { bytes.new.items ≡ drop from bytes.old.items }
+{
+    if from == 0 {
+        return;
+    }
+    let left = bytes.len() - from;
+    bytes.copy_within(from.., 0);
+    bytes.truncate(left);
 }
 
 impl Side {
-    ghost use Rattle.zmtp_wire.specs.declared.cause.Cause.{Cause};
+    ghost use Rattle.zmtp_wire.specs.declared.fault.StreamFault.{StreamFault};
     ghost use Rattle.zmtp_wire.specs.declared.head.Stage.TheVariants.{Traffic};
     ghost use Rattle.zmtp_wire.specs.Stream.{StandsFor, Completes};
+    ghost use Rattle.zmtp_wire.specs.Progress.{identity_from};
     ghost use Rattle.zmtp_wire.specs.Feeding.{FeedFails, IsBroken};
 
     /// A side of this role at the beginning of its stream.
@@ -37,7 +66,12 @@ impl Side {
         ensures fault { result.fault ≡ None }
     {
         Side {
-            stream: Stream::new(alloc, role),
+            role,
+            stage: Stage::Greeting,
+            identity: None,
+            frames: Frames::new(alloc),
+            rest: Vec::new(alloc),
+            fault: None,
         }
     }
 
@@ -45,14 +79,14 @@ impl Side {
     pub fn is_ready(&self) -> bool
         ensures { IsTrue result ↔ (self.now.stage ≡ Traffic) }
     {
-        self.stream.stage == Stage::Traffic
+        self.stage == Stage::Traffic
     }
 
     /// The identity that the peer's READY gave, if it gave one.
     pub fn identity(&self) -> Option<&Bytes>
         ensures { option_copied result ≡ self.now.identity }
     {
-        self.stream.identity.as_ref()
+        self.identity.as_ref()
     }
 
     /// Takes the next piece of the stream, and gives the messages that it completes.
@@ -61,8 +95,63 @@ impl Side {
         ensures good { OnOk result (self.new.fault ≡ None) }
         ensures err { IfErr result (λ fault. FeedFails self.old piece.now fault self.new) }
         // After a fault each piece answers the same, and changes nothing.
-        ensures stored { (cause : Cause) → self.old.fault ≡ Some cause → IsBroken result cause × (self.new ≡ self.old) }
+        ensures stored { (cause : StreamFault) → self.old.fault ≡ Some cause
+            → IsBroken result cause × (self.new ≡ self.old) }
     {
-        self.stream.feed(alloc, piece)
+        if let Some(cause) = self.fault {
+            let before = Incomings::new(alloc);
+            return Err(FeedFault::Broken { before, cause });
+        }
+        let kept = self.rest.len();
+        if self.rest.extend_from_slice(piece).is_err() {
+            return Err(FeedFault::OutOfMemory);
+        }
+        let count = self.frames.len();
+        let mut progress = Progress {
+            stage: self.stage,
+            accepted: None,
+            frames: mem::replace(&mut self.frames, Frames::new(alloc)),
+            messages: Vec::new(alloc),
+        };
+        match take_items(alloc, self.role, &mut progress, self.rest.as_slice()) {
+            Err(_) => {
+                self.frames = first_frames(progress, count);
+                self.rest.truncate(kept);
+                Err(FeedFault::OutOfMemory)
+            }
+            Ok((used, None)) => {
+                keep_from(&mut self.rest, used);
+                Ok(self.go_on(progress))
+            }
+            Ok((_, Some(cause))) => {
+                self.rest.clear();
+                self.fault = Some(cause);
+                let before = self.go_on(progress);
+                Err(FeedFault::Broken { before, cause })
+            }
+        }
+    }
+
+    // Takes over what a feed has come to, and gives its messages.
+    fn go_on(&mut self, progress: Progress) -> Incomings
+        ensures messages { result ≡ progress.messages.items }
+        ensures state { self.new ≡ record self.old {
+          stage = progress.stage;
+          identity = identity_from progress.accepted self.old.identity;
+          frames = progress.frames;
+        } }
+    {
+        let Progress {
+            stage,
+            accepted,
+            frames,
+            messages,
+        } = progress;
+        self.stage = stage;
+        self.frames = frames;
+        if let Some(ready) = accepted {
+            self.identity = ready.identity;
+        }
+        Incomings::from(messages)
     }
 }

@@ -2,8 +2,27 @@
 ghost use Rattle.std.specs.Prelude.{◌≡◌, ◌+◌, ◌*◌, ◌<◌, ◌≤◌, ◌++◌, length};
 ghost use Rattle.i80_rows.specs.Rows.{row};
 ghost use Rattle.i80_rows.specs.declared.instruction.Instr.TheVariants.{Nop};
-ghost use Rattle.i80_exec.specs.State.{wrapped, byte_at, word_at, stored, get_pair, with_pc, with_interrupts};
-ghost use Rattle.i80_exec.specs.Step.{by_row, interrupts_after, operation_list, state_after, IsOutcome, Performs};
+ghost use Rattle.i80_exec.specs.State.{
+  wrapped,
+  byte_at,
+  word_at,
+  stored,
+  get,
+  put,
+  get_pair,
+  with_pc,
+  with_interrupts,
+};
+ghost use Rattle.i80_exec.specs.Effect.{operated};
+ghost use Rattle.i80_exec.specs.Opcodes.{reg_at, operation_at};
+ghost use Rattle.i80_exec.specs.Step.{
+  by_row,
+  interrupts_after,
+  operation_list,
+  state_after,
+  IsOutcome,
+  Performs,
+};
 
 use crate::machine::Machine;
 use crate::ports::Ports;
@@ -13,52 +32,206 @@ use i80_rows::instruction::{Cond, Operation, Pair, Rotation, StackPair};
 
 macro_rules! arm {
     (nop $m:ident $ports:ident $opcode:ident) => {{ $m.advance(1); Stepped::Done }};
-    (hlt $m:ident $ports:ident $opcode:ident) => {{ $m.advance(1); Stepped::Halted }};
     (undefined $m:ident $ports:ident $opcode:ident) => {{ Stepped::Undefined { opcode: $opcode } }};
-    (mov $m:ident $ports:ident $opcode:ident, $to:ident, $from:ident) => {{ $m.advance(1); $m.regs.$to = $m.regs.$from; Stepped::Done }};
-    (load $m:ident $ports:ident $opcode:ident, $to:ident) => {{ $m.advance(1); $m.regs.$to = $m.byte_at_hl(); Stepped::Done }};
-    (store $m:ident $ports:ident $opcode:ident, $from:ident) => {{ $m.advance(1); $m.store_at_hl($m.regs.$from); Stepped::Done }};
-    (alu $m:ident $ports:ident $opcode:ident, $operation:ident, $from:ident) => {{ $m.advance(1); $m.operate(Operation::$operation, $m.regs.$from); Stepped::Done }};
-    (alu_memory $m:ident $ports:ident $opcode:ident, $operation:ident) => {{ $m.advance(1); $m.operate(Operation::$operation, $m.byte_at_hl()); Stepped::Done }};
-    (immediate $m:ident $ports:ident $opcode:ident, $operation:ident) => {{ let byte = $m.operand(); $m.advance(2); $m.operate(Operation::$operation, byte); Stepped::Done }};
-    (mvi $m:ident $ports:ident $opcode:ident, $to:ident) => {{ let byte = $m.operand(); $m.advance(2); $m.regs.$to = byte; Stepped::Done }};
-    (mvi_memory $m:ident $ports:ident $opcode:ident) => {{ let byte = $m.operand(); $m.advance(2); $m.store_at_hl(byte); Stepped::Done }};
-    (inr $m:ident $ports:ident $opcode:ident, $to:ident) => {{ $m.advance(1); let next = inr($m.regs.$to, $m.regs.flags.carry()); $m.regs.$to = next.value; $m.regs.flags = next.flags; Stepped::Done }};
-    (dcr $m:ident $ports:ident $opcode:ident, $to:ident) => {{ $m.advance(1); let next = dcr($m.regs.$to, $m.regs.flags.carry()); $m.regs.$to = next.value; $m.regs.flags = next.flags; Stepped::Done }};
-    (inr_memory $m:ident $ports:ident $opcode:ident) => {{ $m.advance(1); let next = inr($m.byte_at_hl(), $m.regs.flags.carry()); $m.store_at_hl(next.value); $m.regs.flags = next.flags; Stepped::Done }};
-    (dcr_memory $m:ident $ports:ident $opcode:ident) => {{ $m.advance(1); let next = dcr($m.byte_at_hl(), $m.regs.flags.carry()); $m.store_at_hl(next.value); $m.regs.flags = next.flags; Stepped::Done }};
-    (lxi $m:ident $ports:ident $opcode:ident, $pair:ident) => {{ let word = $m.operand_word(); $m.advance(3); $m.put_pair(Pair::$pair, word); Stepped::Done }};
-    (inx $m:ident $ports:ident $opcode:ident, $pair:ident) => {{ $m.advance(1); $m.put_pair(Pair::$pair, $m.get_pair(Pair::$pair).wrapping_add(1)); Stepped::Done }};
-    (dcx $m:ident $ports:ident $opcode:ident, $pair:ident) => {{ $m.advance(1); $m.put_pair(Pair::$pair, $m.get_pair(Pair::$pair).wrapping_sub(1)); Stepped::Done }};
-    (dad $m:ident $ports:ident $opcode:ident, $pair:ident) => {{ $m.advance(1); $m.add_to_hl($m.get_pair(Pair::$pair)); Stepped::Done }};
-    (stax $m:ident $ports:ident $opcode:ident, $pair:ident) => {{ $m.advance(1); $m.poke($m.get_pair(Pair::$pair), $m.regs.a); Stepped::Done }};
-    (ldax $m:ident $ports:ident $opcode:ident, $pair:ident) => {{ $m.advance(1); $m.regs.a = $m.peek($m.get_pair(Pair::$pair)); Stepped::Done }};
-    (shld $m:ident $ports:ident $opcode:ident) => {{ let address = $m.operand_word(); $m.advance(3); $m.store_word(address, $m.get_pair(Pair::H)); Stepped::Done }};
-    (lhld $m:ident $ports:ident $opcode:ident) => {{ let address = $m.operand_word(); $m.advance(3); $m.put_pair(Pair::H, $m.word_at(address)); Stepped::Done }};
-    (sta $m:ident $ports:ident $opcode:ident) => {{ let address = $m.operand_word(); $m.advance(3); $m.poke(address, $m.regs.a); Stepped::Done }};
-    (lda $m:ident $ports:ident $opcode:ident) => {{ let address = $m.operand_word(); $m.advance(3); $m.regs.a = $m.peek(address); Stepped::Done }};
-    (rotate $m:ident $ports:ident $opcode:ident, $rotation:ident) => {{ $m.advance(1); $m.set_a(rotate(Rotation::$rotation, $m.regs.a, $m.regs.flags)); Stepped::Done }};
-    (daa $m:ident $ports:ident $opcode:ident) => {{ $m.advance(1); $m.set_a(daa($m.regs.a, $m.regs.flags)); Stepped::Done }};
+    (immediate $m:ident $ports:ident $opcode:ident, $operation:ident) => {{
+        let byte = $m.operand();
+        $m.advance(2);
+        $m.operate(Operation::$operation, byte);
+        Stepped::Done
+    }};
+    (mvi $m:ident $ports:ident $opcode:ident, $to:ident) => {{
+        let byte = $m.operand();
+        $m.advance(2);
+        $m.regs.$to = byte;
+        Stepped::Done
+    }};
+    (mvi_memory $m:ident $ports:ident $opcode:ident) => {{
+        let byte = $m.operand();
+        $m.advance(2);
+        $m.store_at_hl(byte);
+        Stepped::Done
+    }};
+    (inr $m:ident $ports:ident $opcode:ident, $to:ident) => {{
+        $m.advance(1);
+        let next = inr($m.regs.$to, $m.regs.flags.carry());
+        $m.regs.$to = next.value;
+        $m.regs.flags = next.flags;
+        Stepped::Done
+    }};
+    (dcr $m:ident $ports:ident $opcode:ident, $to:ident) => {{
+        $m.advance(1);
+        let next = dcr($m.regs.$to, $m.regs.flags.carry());
+        $m.regs.$to = next.value;
+        $m.regs.flags = next.flags;
+        Stepped::Done
+    }};
+    (inr_memory $m:ident $ports:ident $opcode:ident) => {{
+        $m.advance(1);
+        let next = inr($m.byte_at_hl(), $m.regs.flags.carry());
+        $m.store_at_hl(next.value);
+        $m.regs.flags = next.flags;
+        Stepped::Done
+    }};
+    (dcr_memory $m:ident $ports:ident $opcode:ident) => {{
+        $m.advance(1);
+        let next = dcr($m.byte_at_hl(), $m.regs.flags.carry());
+        $m.store_at_hl(next.value);
+        $m.regs.flags = next.flags;
+        Stepped::Done
+    }};
+    (lxi $m:ident $ports:ident $opcode:ident, $pair:ident) => {{
+        let word = $m.operand_word();
+        $m.advance(3);
+        $m.put_pair(Pair::$pair, word);
+        Stepped::Done
+    }};
+    (inx $m:ident $ports:ident $opcode:ident, $pair:ident) => {{
+        $m.advance(1);
+        $m.put_pair(Pair::$pair, $m.get_pair(Pair::$pair).wrapping_add(1));
+        Stepped::Done
+    }};
+    (dcx $m:ident $ports:ident $opcode:ident, $pair:ident) => {{
+        $m.advance(1);
+        $m.put_pair(Pair::$pair, $m.get_pair(Pair::$pair).wrapping_sub(1));
+        Stepped::Done
+    }};
+    (dad $m:ident $ports:ident $opcode:ident, $pair:ident) => {{
+        $m.advance(1);
+        $m.add_to_hl($m.get_pair(Pair::$pair));
+        Stepped::Done
+    }};
+    (stax $m:ident $ports:ident $opcode:ident, $pair:ident) => {{
+        $m.advance(1);
+        $m.poke($m.get_pair(Pair::$pair), $m.regs.a);
+        Stepped::Done
+    }};
+    (ldax $m:ident $ports:ident $opcode:ident, $pair:ident) => {{
+        $m.advance(1);
+        $m.regs.a = $m.peek($m.get_pair(Pair::$pair));
+        Stepped::Done
+    }};
+    (shld $m:ident $ports:ident $opcode:ident) => {{
+        let address = $m.operand_word();
+        $m.advance(3);
+        $m.store_word(address, $m.get_pair(Pair::H));
+        Stepped::Done
+    }};
+    (lhld $m:ident $ports:ident $opcode:ident) => {{
+        let address = $m.operand_word();
+        $m.advance(3);
+        $m.put_pair(Pair::H, $m.word_at(address));
+        Stepped::Done
+    }};
+    (sta $m:ident $ports:ident $opcode:ident) => {{
+        let address = $m.operand_word();
+        $m.advance(3);
+        $m.poke(address, $m.regs.a);
+        Stepped::Done
+    }};
+    (lda $m:ident $ports:ident $opcode:ident) => {{
+        let address = $m.operand_word();
+        $m.advance(3);
+        $m.regs.a = $m.peek(address);
+        Stepped::Done
+    }};
+    (rotate $m:ident $ports:ident $opcode:ident, $rotation:ident) => {{
+        $m.advance(1);
+        $m.set_a(rotate(Rotation::$rotation, $m.regs.a, $m.regs.flags));
+        Stepped::Done
+    }};
+    (daa $m:ident $ports:ident $opcode:ident) => {{
+        $m.advance(1);
+        $m.set_a(daa($m.regs.a, $m.regs.flags));
+        Stepped::Done
+    }};
     (cma $m:ident $ports:ident $opcode:ident) => {{ $m.advance(1); $m.regs.a = !$m.regs.a; Stepped::Done }};
-    (stc $m:ident $ports:ident $opcode:ident) => {{ $m.advance(1); $m.regs.flags = $m.regs.flags.with_carry(true); Stepped::Done }};
-    (cmc $m:ident $ports:ident $opcode:ident) => {{ $m.advance(1); $m.regs.flags = $m.regs.flags.with_carry(!$m.regs.flags.carry()); Stepped::Done }};
-    (jmp $m:ident $ports:ident $opcode:ident) => {{ let target = $m.operand_word(); $m.advance(3); $m.jump(target); Stepped::Done }};
-    (jump_if $m:ident $ports:ident $opcode:ident, $cond:ident) => {{ let target = $m.operand_word(); $m.advance(3); if $m.holds(Cond::$cond) { $m.jump(target); } Stepped::Done }};
-    (call $m:ident $ports:ident $opcode:ident) => {{ let target = $m.operand_word(); $m.advance(3); $m.call(target) }};
-    (call_if $m:ident $ports:ident $opcode:ident, $cond:ident) => {{ let target = $m.operand_word(); $m.advance(3); if $m.holds(Cond::$cond) { $m.call(target) } else { Stepped::Done } }};
+    (stc $m:ident $ports:ident $opcode:ident) => {{
+        $m.advance(1);
+        $m.regs.flags = $m.regs.flags.with_carry(true);
+        Stepped::Done
+    }};
+    (cmc $m:ident $ports:ident $opcode:ident) => {{
+        $m.advance(1);
+        $m.regs.flags = $m.regs.flags.with_carry(!$m.regs.flags.carry());
+        Stepped::Done
+    }};
+    (jmp $m:ident $ports:ident $opcode:ident) => {{
+        let target = $m.operand_word();
+        $m.advance(3);
+        $m.jump(target);
+        Stepped::Done
+    }};
+    (jump_if $m:ident $ports:ident $opcode:ident, $cond:ident) => {{
+        let target = $m.operand_word();
+        $m.advance(3);
+        if $m.holds(Cond::$cond) { $m.jump(target); }
+        Stepped::Done
+    }};
+    (call $m:ident $ports:ident $opcode:ident) => {{
+        let target = $m.operand_word();
+        $m.advance(3);
+        $m.call(target)
+    }};
+    (call_if $m:ident $ports:ident $opcode:ident, $cond:ident) => {{
+        let target = $m.operand_word();
+        $m.advance(3);
+        if $m.holds(Cond::$cond) { $m.call(target) } else { Stepped::Done }
+    }};
     (ret $m:ident $ports:ident $opcode:ident) => {{ $m.advance(1); $m.ret() }};
-    (ret_if $m:ident $ports:ident $opcode:ident, $cond:ident) => {{ $m.advance(1); if $m.holds(Cond::$cond) { $m.ret() } else { Stepped::Done } }};
+    (ret_if $m:ident $ports:ident $opcode:ident, $cond:ident) => {{
+        $m.advance(1);
+        if $m.holds(Cond::$cond) { $m.ret() } else { Stepped::Done }
+    }};
     (rst $m:ident $ports:ident $opcode:ident, $target:literal) => {{ $m.advance(1); $m.call($target) }};
-    (push $m:ident $ports:ident $opcode:ident, $pair:ident) => {{ $m.advance(1); $m.push_word($m.get_stack_pair(StackPair::$pair)); Stepped::Done }};
-    (pop $m:ident $ports:ident $opcode:ident, $pair:ident) => {{ $m.advance(1); let word = $m.pop_word(); $m.put_stack_pair(StackPair::$pair, word); Stepped::Done }};
-    (xthl $m:ident $ports:ident $opcode:ident) => {{ $m.advance(1); $m.exchange_with_stack(); Stepped::Done }};
+    (push $m:ident $ports:ident $opcode:ident, $pair:ident) => {{
+        $m.advance(1);
+        $m.push_word($m.get_stack_pair(StackPair::$pair));
+        Stepped::Done
+    }};
+    (pop $m:ident $ports:ident $opcode:ident, $pair:ident) => {{
+        $m.advance(1);
+        let word = $m.pop_word();
+        $m.put_stack_pair(StackPair::$pair, word);
+        Stepped::Done
+    }};
+    (xthl $m:ident $ports:ident $opcode:ident) => {{
+        $m.advance(1);
+        $m.exchange_with_stack();
+        Stepped::Done
+    }};
     (xchg $m:ident $ports:ident $opcode:ident) => {{ $m.advance(1); $m.exchange_with_de(); Stepped::Done }};
-    (pchl $m:ident $ports:ident $opcode:ident) => {{ $m.advance(1); $m.jump($m.get_pair(Pair::H)); Stepped::Done }};
-    (sphl $m:ident $ports:ident $opcode:ident) => {{ $m.advance(1); $m.regs.sp = $m.get_pair(Pair::H); Stepped::Done }};
-    (output $m:ident $ports:ident $opcode:ident) => {{ let port = $m.operand(); $m.advance(2); $ports.output(port, $m.regs.a); Stepped::Done }};
-    (input $m:ident $ports:ident $opcode:ident) => {{ let port = $m.operand(); $m.advance(2); $m.regs.a = $ports.input(port); Stepped::Done }};
-    (di $m:ident $ports:ident $opcode:ident) => {{ $m.advance(1); $m.regs.interrupts = Interrupts::Off; Stepped::Done }};
-    (ei $m:ident $ports:ident $opcode:ident) => {{ $m.advance(1); $m.regs.interrupts = Interrupts::Arming; Stepped::Done }};
+    (pchl $m:ident $ports:ident $opcode:ident) => {{
+        $m.advance(1);
+        $m.jump($m.get_pair(Pair::H));
+        Stepped::Done
+    }};
+    (sphl $m:ident $ports:ident $opcode:ident) => {{
+        $m.advance(1);
+        $m.regs.sp = $m.get_pair(Pair::H);
+        Stepped::Done
+    }};
+    (output $m:ident $ports:ident $opcode:ident) => {{
+        let port = $m.operand();
+        $m.advance(2);
+        $ports.output(port, $m.regs.a);
+        Stepped::Done
+    }};
+    (input $m:ident $ports:ident $opcode:ident) => {{
+        let port = $m.operand();
+        $m.advance(2);
+        $m.regs.a = $ports.input(port);
+        Stepped::Done
+    }};
+    (di $m:ident $ports:ident $opcode:ident) => {{
+        $m.advance(1);
+        $m.regs.interrupts = Interrupts::Off;
+        Stepped::Done
+    }};
+    (ei $m:ident $ports:ident $opcode:ident) => {{
+        $m.advance(1);
+        $m.regs.interrupts = Interrupts::Arming;
+        Stepped::Done
+    }};
 }
 
 macro_rules! opcodes {
@@ -69,7 +242,9 @@ macro_rules! opcodes {
         }
     };
     (@ $kind:ident $m:ident $ports:ident $opcode:ident;) => { arm!($kind $m $ports $opcode) };
-    (@ $kind:ident $m:ident $ports:ident $opcode:ident; $($operand:tt)+) => { arm!($kind $m $ports $opcode, $($operand)+) };
+    (@ $kind:ident $m:ident $ports:ident $opcode:ident; $($operand:tt)+) => {
+        arm!($kind $m $ports $opcode, $($operand)+)
+    };
 }
 
 macro_rules! groups {
@@ -100,12 +275,12 @@ impl Machine {
             0x30 0x31 0x32 0x33 0x34 0x35 0x36 0x37 0x38 0x39 0x3a 0x3b 0x3c 0x3d 0x3e 0x3f => step_20;
             0x40 0x41 0x42 0x43 0x44 0x45 0x46 0x47 0x48 0x49 0x4a 0x4b 0x4c 0x4d 0x4e 0x4f => step_40;
             0x50 0x51 0x52 0x53 0x54 0x55 0x56 0x57 0x58 0x59 0x5a 0x5b 0x5c 0x5d 0x5e 0x5f => step_40;
-            0x60 0x61 0x62 0x63 0x64 0x65 0x66 0x67 0x68 0x69 0x6a 0x6b 0x6c 0x6d 0x6e 0x6f => step_60;
-            0x70 0x71 0x72 0x73 0x74 0x75 0x76 0x77 0x78 0x79 0x7a 0x7b 0x7c 0x7d 0x7e 0x7f => step_60;
+            0x60 0x61 0x62 0x63 0x64 0x65 0x66 0x67 0x68 0x69 0x6a 0x6b 0x6c 0x6d 0x6e 0x6f => step_40;
+            0x70 0x71 0x72 0x73 0x74 0x75 0x76 0x77 0x78 0x79 0x7a 0x7b 0x7c 0x7d 0x7e 0x7f => step_40;
             0x80 0x81 0x82 0x83 0x84 0x85 0x86 0x87 0x88 0x89 0x8a 0x8b 0x8c 0x8d 0x8e 0x8f => step_80;
             0x90 0x91 0x92 0x93 0x94 0x95 0x96 0x97 0x98 0x99 0x9a 0x9b 0x9c 0x9d 0x9e 0x9f => step_80;
-            0xa0 0xa1 0xa2 0xa3 0xa4 0xa5 0xa6 0xa7 0xa8 0xa9 0xaa 0xab 0xac 0xad 0xae 0xaf => step_a0;
-            0xb0 0xb1 0xb2 0xb3 0xb4 0xb5 0xb6 0xb7 0xb8 0xb9 0xba 0xbb 0xbc 0xbd 0xbe 0xbf => step_a0;
+            0xa0 0xa1 0xa2 0xa3 0xa4 0xa5 0xa6 0xa7 0xa8 0xa9 0xaa 0xab 0xac 0xad 0xae 0xaf => step_80;
+            0xb0 0xb1 0xb2 0xb3 0xb4 0xb5 0xb6 0xb7 0xb8 0xb9 0xba 0xbb 0xbc 0xbd 0xbe 0xbf => step_80;
             0xc0 0xc1 0xc2 0xc3 0xc4 0xc5 0xc6 0xc7 0xc8 0xc9 0xca 0xcb 0xcc 0xcd 0xce 0xcf => step_c0;
             0xd0 0xd1 0xd2 0xd3 0xd4 0xd5 0xd6 0xd7 0xd8 0xd9 0xda 0xdb 0xdc 0xdd 0xde 0xdf => step_c0;
             0xe0 0xe1 0xe2 0xe3 0xe4 0xe5 0xe6 0xe7 0xe8 0xe9 0xea 0xeb 0xec 0xed 0xee 0xef => step_e0;
@@ -114,7 +289,7 @@ impl Machine {
         }
     }
 
-    /// The byte behind the opcode.
+    /// The byte after the opcode.
     #[inline(always)]
     fn operand(&self) -> u8
         ensures { result ≡ byte_at self.now (self.now.regs.pc + 1) }
@@ -122,7 +297,7 @@ impl Machine {
         self.peek(self.regs.pc.wrapping_add(1))
     }
 
-    /// The word behind the opcode.
+    /// The word after the opcode.
     #[inline(always)]
     fn operand_word(&self) -> u16
         ensures { result ≡ word_at self.now (self.now.regs.pc + 1) }
@@ -265,65 +440,77 @@ impl Machine {
         }
     }
 
+    /// The register of a code of three bits, or the byte in memory at HL.
     #[inline]
-    #[tactic(auto, unfolding(i80_rows::specs::Rows::row))]
-    fn step_40<P: Ports>(&mut self, opcode: u8, ports: &mut P) -> Stepped
-        requires opcode { opcode ≡ byte_at self.old self.old.regs.pc }
-        requires low { 64 ≤ opcode }
-        requires high { opcode < 96 }
-        requires spare { 1 ≤ P.spare ports.old }
-        ensures after { self.new ≡ (by_row (row opcode) (P.answer (P.state ports.old)) self.old).after }
-        ensures answer { result ≡ (by_row (row opcode) (P.answer (P.state ports.old)) self.old).answer }
-        ensures operations { P.operations ports.new ≡ P.operations ports.old
-            ++ operation_list (by_row (row opcode) (P.answer (P.state ports.old)) self.old).operation }
-        ensures state { P.state ports.new ≡ state_after P.after (P.state ports.old)
-            (by_row (row opcode) (P.answer (P.state ports.old)) self.old).operation }
-        ensures spare { P.spare ports.new
-            + length (operation_list (by_row (row opcode) (P.answer (P.state ports.old)) self.old).operation)
-            ≡ P.spare ports.old }
+    fn byte_of(&self, code: u8) -> u8
+        requires { code < 8 }
+        ensures { result ≡ get self.now (reg_at code) }
     {
-        let m = self;
-        opcodes! { m ports opcode;
-            0x40 => mov(b, b);
-            0x41 => mov(b, c);
-            0x42 => mov(b, d);
-            0x43 => mov(b, e);
-            0x44 => mov(b, h);
-            0x45 => mov(b, l);
-            0x46 => load(b);
-            0x47 => mov(b, a);
-            0x48 => mov(c, b);
-            0x49 => mov(c, c);
-            0x4a => mov(c, d);
-            0x4b => mov(c, e);
-            0x4c => mov(c, h);
-            0x4d => mov(c, l);
-            0x4e => load(c);
-            0x4f => mov(c, a);
-            0x50 => mov(d, b);
-            0x51 => mov(d, c);
-            0x52 => mov(d, d);
-            0x53 => mov(d, e);
-            0x54 => mov(d, h);
-            0x55 => mov(d, l);
-            0x56 => load(d);
-            0x57 => mov(d, a);
-            0x58 => mov(e, b);
-            0x59 => mov(e, c);
-            0x5a => mov(e, d);
-            0x5b => mov(e, e);
-            0x5c => mov(e, h);
-            0x5d => mov(e, l);
-            0x5e => load(e);
-            0x5f => mov(e, a);
+        match code {
+            0 => self.regs.b,
+            1 => self.regs.c,
+            2 => self.regs.d,
+            3 => self.regs.e,
+            4 => self.regs.h,
+            5 => self.regs.l,
+            6 => self.byte_at_hl(),
+            7 => self.regs.a,
+            _ => unreachable!(),
         }
     }
 
+    /// Sets the register of a code of three bits, or the byte in memory at HL.
     #[inline]
-    #[tactic(auto, unfolding(i80_rows::specs::Rows::row))]
-    fn step_60<P: Ports>(&mut self, opcode: u8, ports: &mut P) -> Stepped
+    fn set_byte_of(&mut self, code: u8, byte: u8)
+        requires { code < 8 }
+        ensures { self.new ≡ put self.old (reg_at code) byte }
+    {
+        match code {
+            0 => self.regs.b = byte,
+            1 => self.regs.c = byte,
+            2 => self.regs.d = byte,
+            3 => self.regs.e = byte,
+            4 => self.regs.h = byte,
+            5 => self.regs.l = byte,
+            6 => self.store_at_hl(byte),
+            7 => self.regs.a = byte,
+            _ => unreachable!(),
+        }
+    }
+
+    /// Does ADD to CMP, of a code of three bits, on A and a byte.
+    #[inline]
+    fn operate_by(&mut self, code: u8, byte: u8)
+        requires { code < 8 }
+        ensures { self.new ≡ operated (operation_at code) self.old byte }
+    {
+        let operation = match code {
+            0 => Operation::Add,
+            1 => Operation::Adc,
+            2 => Operation::Sub,
+            3 => Operation::Sbb,
+            4 => Operation::Ana,
+            5 => Operation::Xra,
+            6 => Operation::Ora,
+            7 => Operation::Cmp,
+            _ => unreachable!(),
+        };
+        self.operate(operation, byte);
+    }
+
+    /// SBB A, which gives 0 or FF by the carry alone: the compiler sees it only where it stands by itself.
+    #[inline]
+    fn sbb_a(&mut self)
+        ensures { self.new ≡ operated Operation.Sbb self.old self.old.regs.a }
+    {
+        self.operate(Operation::Sbb, self.regs.a);
+    }
+
+    /// MOV, whose opcode has the codes of its registers, and HLT among them.
+    #[inline]
+    fn step_40<P: Ports>(&mut self, opcode: u8, ports: &mut P) -> Stepped
         requires opcode { opcode ≡ byte_at self.old self.old.regs.pc }
-        requires low { 96 ≤ opcode }
+        requires low { 64 ≤ opcode }
         requires high { opcode < 128 }
         requires spare { 1 ≤ P.spare ports.old }
         ensures after { self.new ≡ (by_row (row opcode) (P.answer (P.state ports.old)) self.old).after }
@@ -336,102 +523,20 @@ impl Machine {
             + length (operation_list (by_row (row opcode) (P.answer (P.state ports.old)) self.old).operation)
             ≡ P.spare ports.old }
     {
-        let m = self;
-        opcodes! { m ports opcode;
-            0x60 => mov(h, b);
-            0x61 => mov(h, c);
-            0x62 => mov(h, d);
-            0x63 => mov(h, e);
-            0x64 => mov(h, h);
-            0x65 => mov(h, l);
-            0x66 => load(h);
-            0x67 => mov(h, a);
-            0x68 => mov(l, b);
-            0x69 => mov(l, c);
-            0x6a => mov(l, d);
-            0x6b => mov(l, e);
-            0x6c => mov(l, h);
-            0x6d => mov(l, l);
-            0x6e => load(l);
-            0x6f => mov(l, a);
-            0x70 => store(b);
-            0x71 => store(c);
-            0x72 => store(d);
-            0x73 => store(e);
-            0x74 => store(h);
-            0x75 => store(l);
-            0x76 => hlt();
-            0x77 => store(a);
-            0x78 => mov(a, b);
-            0x79 => mov(a, c);
-            0x7a => mov(a, d);
-            0x7b => mov(a, e);
-            0x7c => mov(a, h);
-            0x7d => mov(a, l);
-            0x7e => load(a);
-            0x7f => mov(a, a);
+        self.advance(1);
+        if opcode == 0x76 {
+            return Stepped::Halted;
         }
+        let byte = self.byte_of(opcode % 8);
+        self.set_byte_of(opcode / 8 % 8, byte);
+        Stepped::Done
     }
 
+    /// ADD to CMP, whose opcode has the codes of its operation and its register.
     #[inline]
-    #[tactic(auto, unfolding(i80_rows::specs::Rows::row))]
     fn step_80<P: Ports>(&mut self, opcode: u8, ports: &mut P) -> Stepped
         requires opcode { opcode ≡ byte_at self.old self.old.regs.pc }
         requires low { 128 ≤ opcode }
-        requires high { opcode < 160 }
-        requires spare { 1 ≤ P.spare ports.old }
-        ensures after { self.new ≡ (by_row (row opcode) (P.answer (P.state ports.old)) self.old).after }
-        ensures answer { result ≡ (by_row (row opcode) (P.answer (P.state ports.old)) self.old).answer }
-        ensures operations { P.operations ports.new ≡ P.operations ports.old
-            ++ operation_list (by_row (row opcode) (P.answer (P.state ports.old)) self.old).operation }
-        ensures state { P.state ports.new ≡ state_after P.after (P.state ports.old)
-            (by_row (row opcode) (P.answer (P.state ports.old)) self.old).operation }
-        ensures spare { P.spare ports.new
-            + length (operation_list (by_row (row opcode) (P.answer (P.state ports.old)) self.old).operation)
-            ≡ P.spare ports.old }
-    {
-        let m = self;
-        opcodes! { m ports opcode;
-            0x80 => alu(Add, b);
-            0x81 => alu(Add, c);
-            0x82 => alu(Add, d);
-            0x83 => alu(Add, e);
-            0x84 => alu(Add, h);
-            0x85 => alu(Add, l);
-            0x86 => alu_memory(Add);
-            0x87 => alu(Add, a);
-            0x88 => alu(Adc, b);
-            0x89 => alu(Adc, c);
-            0x8a => alu(Adc, d);
-            0x8b => alu(Adc, e);
-            0x8c => alu(Adc, h);
-            0x8d => alu(Adc, l);
-            0x8e => alu_memory(Adc);
-            0x8f => alu(Adc, a);
-            0x90 => alu(Sub, b);
-            0x91 => alu(Sub, c);
-            0x92 => alu(Sub, d);
-            0x93 => alu(Sub, e);
-            0x94 => alu(Sub, h);
-            0x95 => alu(Sub, l);
-            0x96 => alu_memory(Sub);
-            0x97 => alu(Sub, a);
-            0x98 => alu(Sbb, b);
-            0x99 => alu(Sbb, c);
-            0x9a => alu(Sbb, d);
-            0x9b => alu(Sbb, e);
-            0x9c => alu(Sbb, h);
-            0x9d => alu(Sbb, l);
-            0x9e => alu_memory(Sbb);
-            0x9f => alu(Sbb, a);
-        }
-    }
-
-    #[inline]
-    #[tactic(auto, unfolding(i80_rows::specs::Rows::row))]
-    fn step_a0<P: Ports>(&mut self, opcode: u8, ports: &mut P) -> Stepped
-        requires opcode { opcode ≡ byte_at self.old self.old.regs.pc }
-        requires low { 160 ≤ opcode }
         requires high { opcode < 192 }
         requires spare { 1 ≤ P.spare ports.old }
         ensures after { self.new ≡ (by_row (row opcode) (P.answer (P.state ports.old)) self.old).after }
@@ -444,41 +549,14 @@ impl Machine {
             + length (operation_list (by_row (row opcode) (P.answer (P.state ports.old)) self.old).operation)
             ≡ P.spare ports.old }
     {
-        let m = self;
-        opcodes! { m ports opcode;
-            0xa0 => alu(Ana, b);
-            0xa1 => alu(Ana, c);
-            0xa2 => alu(Ana, d);
-            0xa3 => alu(Ana, e);
-            0xa4 => alu(Ana, h);
-            0xa5 => alu(Ana, l);
-            0xa6 => alu_memory(Ana);
-            0xa7 => alu(Ana, a);
-            0xa8 => alu(Xra, b);
-            0xa9 => alu(Xra, c);
-            0xaa => alu(Xra, d);
-            0xab => alu(Xra, e);
-            0xac => alu(Xra, h);
-            0xad => alu(Xra, l);
-            0xae => alu_memory(Xra);
-            0xaf => alu(Xra, a);
-            0xb0 => alu(Ora, b);
-            0xb1 => alu(Ora, c);
-            0xb2 => alu(Ora, d);
-            0xb3 => alu(Ora, e);
-            0xb4 => alu(Ora, h);
-            0xb5 => alu(Ora, l);
-            0xb6 => alu_memory(Ora);
-            0xb7 => alu(Ora, a);
-            0xb8 => alu(Cmp, b);
-            0xb9 => alu(Cmp, c);
-            0xba => alu(Cmp, d);
-            0xbb => alu(Cmp, e);
-            0xbc => alu(Cmp, h);
-            0xbd => alu(Cmp, l);
-            0xbe => alu_memory(Cmp);
-            0xbf => alu(Cmp, a);
+        self.advance(1);
+        if opcode == 0x9f {
+            self.sbb_a();
+            return Stepped::Done;
         }
+        let byte = self.byte_of(opcode % 8);
+        self.operate_by(opcode / 8 % 8, byte);
+        Stepped::Done
     }
 
     #[inline]

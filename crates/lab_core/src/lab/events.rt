@@ -4,26 +4,26 @@ ghost use Rattle.lab_core.specs.Board.{Board};
 ghost use Rattle.lab_core.specs.Events.{Runs, Fits};
 ghost use Rattle.lab_core.specs.Labs.{StandsFor, AppliesTo, RunsOn};
 
-use crate::answer::{Answer, Answers, Stopped};
+use crate::answer::{Answer, Answers, EventsFault};
 use crate::event::Event;
+use crate::fault::EventFault;
 use crate::lab::Lab;
-use crate::refused::Refused;
 use crate::run_state::RunState;
 use i80_exec::machine::Machine;
 
-fn is_want_of_memory(answer: &Result<Answer, Refused>) -> bool
-    ensures { IsTrue result ↔ (answer.now ≡ Err Refused.NoMemory) }
+fn is_out_of_memory(answer: &Result<Answer, EventFault>) -> bool
+    ensures { IsTrue result ↔ (answer.now ≡ Err EventFault.OutOfMemory) }
 {
-    matches!(answer, Err(Refused::NoMemory))
+    matches!(answer, Err(EventFault::OutOfMemory))
 }
 
 impl Lab {
     /// One event: its answer, or why it is refused.
     ///
     /// Where several refusals stand, `Busy` comes first, then `SourceNameTaken` and `SourcesFull`,
-    /// then the fault of the cell; and `Vector` before `Latched`. Those come before want of memory,
-    /// but memory can be wanting on the way to a cell's fault.
-    pub fn apply(&mut self, event: &Event) -> Result<Answer, Refused>
+    /// then the fault of the cell; and `Vector` before `Latched`. Those come before out of memory,
+    /// which may come on the way to a cell's fault.
+    pub fn apply(&mut self, event: &Event) -> Result<Answer, EventFault>
         requires { Fits event.now }
         ensures applied { AppliesTo self.old event.now result self.new }
         ensures err { OnErr result (self.new ≡ self.old) }
@@ -40,9 +40,9 @@ impl Lab {
         }
     }
 
-    /// Events in turn, whose answers hold the refusals too. It ends at the first want of memory with
-    /// the answers so far; the events behind are not done. Room for an answer is made before its event.
-    pub fn run(&mut self, events: &[Event]) -> Result<Answers, Stopped>
+    /// Events in turn, whose answers hold the refusals too. It ends where it first runs out of
+    /// memory, with the answers so far; later events are not done. Room for an answer is made before its event.
+    pub fn run(&mut self, events: &[Event]) -> Result<Answers, EventsFault>
         requires { All Fits events.now }
         ensures ok { IfOk result (λ answers. RunsOn self.old events.now answers self.new) }
         ensures stopped { IfErr result (λ stopped.
@@ -52,13 +52,13 @@ impl Lab {
         let mut answers = Vec::new(self.alloc);
         for event in events {
             if answers.reserve(1).is_err() {
-                return Err(Stopped {
+                return Err(EventsFault {
                     answers: Answers::from(answers),
                 });
             }
             let answer = self.apply(event);
-            if is_want_of_memory(&answer) {
-                return Err(Stopped {
+            if is_out_of_memory(&answer) {
+                return Err(EventsFault {
                     answers: Answers::from(answers),
                 });
             }
@@ -67,12 +67,12 @@ impl Lab {
         Ok(Answers::from(answers))
     }
 
-    fn start(&mut self, address: u16) -> Result<Answer, Refused>
+    fn start(&mut self, address: u16) -> Result<Answer, EventFault>
         ensures applied { AppliesTo self.old (Event.Start address) result self.new }
         ensures err { OnErr result (self.new ≡ self.old) }
     {
         match self.run_state {
-            RunState::Running => Err(Refused::Busy),
+            RunState::Running => Err(EventFault::Busy),
             RunState::NoRun => {
                 self.machine.set_pc(address);
                 self.frames.clear();
@@ -83,12 +83,12 @@ impl Lab {
         }
     }
 
-    fn interrupt(&mut self) -> Result<Answer, Refused>
+    fn interrupt(&mut self) -> Result<Answer, EventFault>
         ensures applied { AppliesTo self.old Event.Interrupt result self.new }
         ensures err { OnErr result (self.new ≡ self.old) }
     {
         match self.run_state {
-            RunState::NoRun => Err(Refused::NotRunning),
+            RunState::NoRun => Err(EventFault::NotRunning),
             RunState::Running => {
                 self.run_state = RunState::NoRun;
                 Ok(Answer::Interrupted)
@@ -96,7 +96,7 @@ impl Lab {
         }
     }
 
-    fn reset(&mut self) -> Result<Answer, Refused>
+    fn reset(&mut self) -> Result<Answer, EventFault>
         ensures applied { AppliesTo self.old Event.Reset result self.new }
         ensures err { OnErr result (self.new ≡ self.old) }
     {
@@ -111,7 +111,7 @@ impl Lab {
         Ok(Answer::Reset)
     }
 
-    fn type_bytes(&mut self, bytes: &[u8]) -> Result<Answer, Refused>
+    fn type_bytes(&mut self, bytes: &[u8]) -> Result<Answer, EventFault>
         ensures applied { AppliesTo self.old (Event.Typed bytes.now) result self.new }
         ensures err { OnErr result (self.new ≡ self.old) }
     {
@@ -119,7 +119,7 @@ impl Lab {
         Ok(Answer::Accepted)
     }
 
-    fn set_switches(&mut self, byte: u8) -> Result<Answer, Refused>
+    fn set_switches(&mut self, byte: u8) -> Result<Answer, EventFault>
         ensures applied { AppliesTo self.old (Event.Switches byte) result self.new }
         ensures err { OnErr result (self.new ≡ self.old) }
     {
@@ -127,7 +127,7 @@ impl Lab {
         Ok(Answer::Accepted)
     }
 
-    fn press(&mut self, n: u8) -> Result<Answer, Refused>
+    fn press(&mut self, n: u8) -> Result<Answer, EventFault>
         ensures applied { AppliesTo self.old (Event.Press n) result self.new }
         ensures err { OnErr result (self.new ≡ self.old) }
     {

@@ -9,8 +9,8 @@ ghost use Rattle.lab_core.specs.Labs.{StandsFor, AppliesTo};
 
 use crate::answer::Answer;
 use crate::event::Event;
+use crate::fault::EventFault;
 use crate::lab::Lab;
-use crate::refused::Refused;
 use crate::run_state::RunState;
 use crate::sources::Source;
 use asm_build::built::Built;
@@ -20,12 +20,12 @@ use asm_text::statements::statements;
 use std::alloc::AllocError;
 
 impl Lab {
-    pub(super) fn load(&mut self, path: &str, text: &str) -> Result<Answer, Refused>
+    pub(super) fn load(&mut self, path: &str, text: &str) -> Result<Answer, EventFault>
         ensures applied { AppliesTo self.old (Event.Load path.now text.now) result self.new }
         ensures err { OnErr result (self.new ≡ self.old) }
     {
         match self.run_state {
-            RunState::Running => Err(Refused::Busy),
+            RunState::Running => Err(EventFault::Busy),
             RunState::NoRun => {
                 let place = self.sources.place(path, text)?;
                 let built = self.assemble(text)?;

@@ -1,14 +1,12 @@
 //! Slices of a run.
 ghost use Rattle.std.specs.Prelude.{◌≡◌, ◌+◌, ◌≤◌, ◌++◌, List, OnOk, OnErr};
 ghost use Rattle.i80_exec.specs.declared.ports.PortOperation.{PortOperation};
-ghost use Rattle.i80_exec.specs.Step.{operation_list};
-ghost use Rattle.i80_rows.specs.Rows.{row};
+ghost use Rattle.i80_exec.specs.Step.{operation_list, is_halt};
+ghost use Rattle.i80_rows.specs.Rows.{row, is_undefined};
 ghost use Rattle.lab_core.specs.Board.{Board, next_step, stepped};
 ghost use Rattle.lab_core.specs.Slices.{
-  is_halt,
   is_off,
   is_on,
-  is_undefined,
   halted,
   waiting,
   undefined,
@@ -23,12 +21,12 @@ ghost use Rattle.lab_core.specs.Labs.{StandsFor, StandsAmid, AppliesTo};
 use crate::answer::{Answer, End, SliceOutcome};
 use crate::board_step::board_step;
 use crate::event::Event;
+use crate::fault::EventFault;
 use crate::lab::Lab;
-use crate::refused::Refused;
 use crate::run_state::RunState;
 use i80_exec::registers::{Interrupts, Stepped};
 use i80_rows::decoding::decode;
-use i80_rows::instruction::Decode;
+use i80_rows::instruction::DecodeFault;
 
 fn is_halt(answer: Stepped) -> bool
     ensures { result ≡ is_halt answer }
@@ -51,17 +49,17 @@ fn is_on(interrupts: Interrupts) -> bool
 fn is_undefined(opcode: u8) -> bool
     ensures { result ≡ is_undefined (row opcode) }
 {
-    matches!(decode(&[opcode]), Err(Decode::Undefined))
+    matches!(decode(&[opcode]), Err(DecodeFault::Undefined))
 }
 
 impl Lab {
     /// Makes at most this many steps of the run, with room for their port operations made before.
-    pub(super) fn slice(&mut self, n: u16) -> Result<Answer, Refused>
+    pub(super) fn slice(&mut self, n: u16) -> Result<Answer, EventFault>
         ensures applied { AppliesTo self.old (Event.Slice n) result self.new }
         ensures err { OnErr result (self.new ≡ self.old) }
     {
         match self.run_state {
-            RunState::NoRun => Err(Refused::NotRunning),
+            RunState::NoRun => Err(EventFault::NotRunning),
             RunState::Running => {
                 self.devices.reserve_out(n.into())?;
                 let (executed, outcome) = self.steps(n);

@@ -1,9 +1,10 @@
 use Rattle.std.proofs.Common.{◌≡◌, drop}
 use Rattle.asm_build.specs.Meaning.{word_bytes, all_bytes}
-use Rattle.asm_build.specs.State.{behind}
+use Rattle.asm_build.specs.State.{appended}
 use Rattle.asm_build.proofs.bytes.words_bytes.Given as goal
 
 abbrev pub invariant-loop-operand : goal.invariant-loop-operand
 invariant-loop-operand g l =
-    behind l.bytes.items (all_bytes (word_bytes (g.E.Env.values l.names) l.here) (drop l.operand-index l.operands))
+    appended l.bytes.items (all_bytes (word_bytes (g.E.Env.values l.names) l.here)
+    (drop l.operand-index l.operands))
     ≡ all_bytes (word_bytes (g.E.Env.values l.names) l.here) l.operands

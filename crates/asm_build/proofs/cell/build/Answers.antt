@@ -8,9 +8,11 @@ use Rattle.asm_build.proofs.cell.build.Goals as goal
 pub returns-clause-found : goal.returns-clause-found
 returns-clause-found c =
     found_in c.args.kept.now c.args.statements.now c.both_rounds.result
-    (subst (λ (ss : List Statement). Gives meaning_in c.both_rounds.result (built_of c.args.kept.now ss)) c.as_slice.ensures.items c.both_rounds.ensures)
+    (subst (λ (ss : List Statement). Gives meaning_in c.both_rounds.result (built_of c.args.kept.now ss))
+    c.as_slice.ensures.items c.both_rounds.ensures)
 
 pub returns-clause-only : goal.returns-clause-only
 returns-clause-only c =
     only_in c.args.kept.now c.args.statements.now c.both_rounds.result
-    (subst (λ (ss : List Statement). Gives meaning_in c.both_rounds.result (built_of c.args.kept.now ss)) c.as_slice.ensures.items c.both_rounds.ensures)
+    (subst (λ (ss : List Statement). Gives meaning_in c.both_rounds.result (built_of c.args.kept.now ss))
+    c.as_slice.ensures.items c.both_rounds.ensures)

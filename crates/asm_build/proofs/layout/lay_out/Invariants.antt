@@ -8,5 +8,6 @@ invariant-loop-i l = record {
   small : l.state.place ≤ 65536;
   rows : length l.state.rows.items ≡ l.i;
   stands : Stands (lines_of [] l.statements l.state.rows.items) l.state;
-  goes_on : layout l.kept (lines_of [] l.statements l.state.rows.items) (drop l.i l.statements) ≡ layout l.kept [] l.statements;
+  goes_on : layout l.kept (lines_of [] l.statements l.state.rows.items) (drop l.i l.statements)
+      ≡ layout l.kept [] l.statements;
 }

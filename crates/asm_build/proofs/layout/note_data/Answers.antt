@@ -8,4 +8,5 @@ loop-datum-preserved c = λ x.
 
 pub returns : goal.returns
 returns c = λ x.
-    data_end c.args.items.now c.loop-datum.datum-index _ _ x c.loop-datum-test.false (c.loop-datum.invariant x)
+    data_end c.args.items.now c.loop-datum.datum-index _ _ x c.loop-datum-test.false
+    (c.loop-datum.invariant x)

@@ -8,4 +8,5 @@ loop-operand-preserved c = λ x.
 
 pub returns : goal.returns
 returns c = λ x.
-    operands_end c.args.operands.now c.loop-operand.operand-index _ _ x c.loop-operand-test.false (c.loop-operand.invariant x)
+    operands_end c.args.operands.now c.loop-operand.operand-index _ _ x c.loop-operand-test.false
+    (c.loop-operand.invariant x)

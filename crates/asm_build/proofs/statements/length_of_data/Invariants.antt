@@ -3,4 +3,5 @@ use Rattle.asm_build.specs.Statements.{length_of_datum}
 use Rattle.asm_build.proofs.statements.length_of_data.Given as goal
 
 abbrev pub invariant-loop-datum : goal.invariant-loop-datum
-invariant-loop-datum l = l.length ≡ min (sum (map length_of_datum (take l.datum-index l.items))) 18446744073709551615
+invariant-loop-datum l =
+    l.length ≡ min (sum (map length_of_datum (take l.datum-index l.items))) 18446744073709551615

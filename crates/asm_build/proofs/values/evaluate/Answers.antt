@@ -13,15 +13,22 @@ loop-i-init c =
     let ss = c.args.statements.now in
     record {
       done = output_none c.args.kept.now _ ss (output_in c.in_ok-done.done) c.in_ok-done.ensures;
-      sets = λ x. ap (λ es. symbol_at es x) c.new-sets.ensures ∙ ap (λ ps. last_set ps x) (sym (lines_none [] ss));
+      sets =
+          λ x. ap (λ es. symbol_at es x) c.new-sets.ensures
+          ∙ ap (λ ps. last_set ps x) (sym (lines_none [] ss));
     }
 
 pub returns-in_err-with_line : goal.returns-in_err-with_line
 returns-in_err-with_line c =
-    let p = err_from_is_err_and c.from_residual-in_err-with_line.result c.from_residual-in_err-with_line.ensures.1 in
-    rw (p.1, p.2) (output_fails c.in_err-with_line.field-0.0 c.args.kept.now c.args.layout.now.own c.loop-i.sets
-    c.args.statements.now c.args.layout.now.rows.items (output_in c.loop-i.done) c.loop-i.i c.index-statements-i.result c.index-row.result.now
-    c.requires.own c.requires.rows (omega arith) c.index-statements-i.is c.index-row.ensures c.loop-i.invariant.sets c.loop-i.invariant.done
+    let p =
+    err_from_is_err_and c.from_residual-in_err-with_line.result c.from_residual-in_err-with_line.ensures.1
+    in
+    rw (p.1, p.2) (output_fails c.in_err-with_line.field-0.0 c.args.kept.now c.args.layout.now.own
+    c.loop-i.sets
+    c.args.statements.now c.args.layout.now.rows.items (output_in c.loop-i.done) c.loop-i.i
+    c.index-statements-i.result c.index-row.result.now
+    c.requires.own c.requires.rows (omega arith) c.index-statements-i.is c.index-row.ensures
+    c.loop-i.invariant.sets c.loop-i.invariant.done
     c.in_err-with_line.ensures)
 
 pub loop-i-preserved : goal.loop-i-preserved
@@ -37,8 +44,10 @@ loop-i-preserved c =
     lines_take ss rs i s r c.requires.rows lt c.index-statements-i.is c.index-row.ensures in
     record {
       done = ap (output_of kept (lines_of [] ss rs)) more
-          ∙ output_goes kept c.args.layout.now.own c.loop-i.sets (lines_of [] ss rs) (lines_of [] ss (take i rs)) (output_in c.loop-i.done)
-          (output_in c.with_line.new.self) i (s, r) c.requires.own c.loop-i.invariant.sets (lines_taken ss rs i c.requires.rows lt)
+          ∙ output_goes kept c.args.layout.now.own c.loop-i.sets (lines_of [] ss rs)
+          (lines_of [] ss (take i rs)) (output_in c.loop-i.done)
+          (output_in c.with_line.new.self) i (s, r) c.requires.own c.loop-i.invariant.sets
+          (lines_taken ss rs i c.requires.rows lt)
           c.loop-i.invariant.done c.in_ok-with_line.ensures;
       sets = λ x. c.in_ok-note_set.ensures x
           ∙ ap (or_else (only_set (defined_on (s, r) x))) (c.loop-i.invariant.sets x)
@@ -49,5 +58,6 @@ pub returns : goal.returns
 returns c =
     let ss = c.args.statements.now in
     let rs = c.args.layout.now.rows.items in
-    ap (λ q. output_of c.args.kept.now (lines_of [] ss rs) (lines_of [] ss q)) (sym (take_all c.loop-i.i rs (omega (arith, c.requires.rows))))
+    ap (λ q. output_of c.args.kept.now (lines_of [] ss rs) (lines_of [] ss q))
+    (sym (take_all c.loop-i.i rs (omega (arith, c.requires.rows))))
     ∙ c.loop-i.invariant.done

@@ -6,6 +6,8 @@ use Rattle.asm_build.proofs.values.evaluate.Given as goal
 
 abbrev pub invariant-loop-i : goal.invariant-loop-i
 invariant-loop-i l = record {
-  done : output_of l.kept (lines_of [] l.statements l.layout.rows.items) (lines_of [] l.statements (take l.i l.layout.rows.items)) ≡ Ok (output_in l.done);
-  sets : (x : List ℕ) → symbol_at l.sets x ≡ last_set (lines_of [] l.statements (take l.i l.layout.rows.items)) x;
+  done : output_of l.kept (lines_of [] l.statements l.layout.rows.items)
+      (lines_of [] l.statements (take l.i l.layout.rows.items)) ≡ Ok (output_in l.done);
+  sets : (x : List ℕ)
+      → symbol_at l.sets x ≡ last_set (lines_of [] l.statements (take l.i l.layout.rows.items)) x;
 }

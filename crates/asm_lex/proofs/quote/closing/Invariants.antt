@@ -1,11 +1,11 @@
 use Rattle.std.proofs.Common.{◌≡◌, ◌+◌, length}
-use Rattle.asm_lex.specs.Texts.{behind, closing}
+use Rattle.asm_lex.specs.Texts.{moved_by, closing}
 use Rattle.asm_lex.proofs.quote.closing.Given as goal
 
 abbrev pub invariant-loop-rest : goal.invariant-loop-rest
 invariant-loop-rest l = record {
   within : l.len + length l.rest ≡ length l.bytes;
-  goes_on : behind l.len (closing l.rest) ≡ closing l.bytes;
+  goes_on : moved_by l.len (closing l.rest) ≡ closing l.bytes;
 }
 
 abbrev pub decreases-loop-rest : goal.decreases-loop-rest

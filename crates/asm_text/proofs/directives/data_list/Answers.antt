@@ -10,14 +10,18 @@ pub returns-in_err-data_at : goal.returns-in_err-data_at
 returns-in_err-data_at c =
     let p = err_from_is_err_and c.from_residual.result c.from_residual.ensures.1 in
     let left = rw (c.in-Some.is, c.next_operand.ensures.operands) at c.loop-left.invariant in
-    rw (p.1, p.2) (each_fails _ (data_at c.args.column) c.loop-left.list.items _ _ (each_of (data_at c.args.column) (operands_of (pieces_of c.args.tokens.now))) c.in_err-data_at.ensures left)
+    rw (p.1, p.2) (each_fails _ (data_at c.args.column) c.loop-left.list.items _ _
+    (each_of (data_at c.args.column) (operands_of (pieces_of c.args.tokens.now))) c.in_err-data_at.ensures
+    left)
 
 pub loop-left-preserved : goal.loop-left-preserved
 loop-left-preserved c =
     let left = rw (c.in-Some.is, c.next_operand.ensures.operands) at c.loop-left.invariant in
-    rw c.in_ok-push.ensures.items (sym (each_goes (data_at c.args.column) c.loop-left.list.items _ _ c.in_ok-data_at.field-0 c.in_ok-data_at.ensures) ∙ left)
+    rw c.in_ok-push.ensures.items (sym
+    (each_goes (data_at c.args.column) c.loop-left.list.items _ _ c.in_ok-data_at.field-0
+    c.in_ok-data_at.ensures) ∙ left)
 
 pub returns : goal.returns
 returns c =
     let left = rw c.in_default.is at c.loop-left.invariant in
-    sym left ∙ each_done (data_at c.args.column) c.loop-left.list.items ∙ ap Ok (sym c.from_vec.ensures)
+    sym left ∙ each_done (data_at c.args.column) c.loop-left.list.items ∙ ap Ok (sym c.from.ensures)

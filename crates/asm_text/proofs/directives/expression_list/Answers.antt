@@ -11,14 +11,18 @@ pub returns-in_err-expression : goal.returns-in_err-expression
 returns-in_err-expression c =
     let p = err_from_is_err_and c.from_residual.result c.from_residual.ensures.1 in
     let left = rw (c.in-Some.is, c.next_operand.ensures.operands) at c.loop-left.invariant in
-    rw (p.1, p.2) (each_fails _ (expression c.args.column) c.loop-left.list.items _ _ (each_of (expression c.args.column) (operands_of (pieces_of c.args.tokens.now))) c.in_err-expression.ensures left)
+    rw (p.1, p.2) (each_fails _ (expression c.args.column) c.loop-left.list.items _ _
+    (each_of (expression c.args.column) (operands_of (pieces_of c.args.tokens.now)))
+    c.in_err-expression.ensures left)
 
 pub loop-left-preserved : goal.loop-left-preserved
 loop-left-preserved c =
     let left = rw (c.in-Some.is, c.next_operand.ensures.operands) at c.loop-left.invariant in
-    rw c.in_ok-push.ensures.items (sym (each_goes (expression c.args.column) c.loop-left.list.items _ _ c.in_ok-expression.field-0 c.in_ok-expression.ensures) ∙ left)
+    rw c.in_ok-push.ensures.items (sym
+    (each_goes (expression c.args.column) c.loop-left.list.items _ _ c.in_ok-expression.field-0
+    c.in_ok-expression.ensures) ∙ left)
 
 pub returns : goal.returns
 returns c =
     let left = rw c.in_default.is at c.loop-left.invariant in
-    sym left ∙ each_done (expression c.args.column) c.loop-left.list.items ∙ ap Ok (sym c.from_vec.ensures)
+    sym left ∙ each_done (expression c.args.column) c.loop-left.list.items ∙ ap Ok (sym c.from.ensures)

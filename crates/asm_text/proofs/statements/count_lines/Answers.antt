@@ -3,4 +3,6 @@ use Rattle.std.proofs.lemmas.Iterator.Splits.{YieldsList-from_lines}
 use Rattle.asm_text.proofs.statements.count_lines.Goals as goal
 
 pub returns : goal.returns
-returns c = count_from_yields_List c.lines.result c.count.result c.count.ensures.ran (YieldsList-from_lines c.args.text.now c.lines.ensures.rest)
+returns c =
+    count_from_yields_List c.lines.result c.count.result c.count.ensures.ran
+    (YieldsList-from_lines c.args.text.now c.lines.ensures.rest)

@@ -7,4 +7,5 @@ pub returns-clause-found : goal.returns-clause-found
 returns-clause-found c = rw c.read_instruction.ensures (read_found c.args.bytes.now)
 
 pub returns-clause-only : goal.returns-clause-only
-returns-clause-only c i code rest encodes split = c.read_instruction.ensures ∙ ap read split ∙ encoded_read i code rest encodes
+returns-clause-only c i code rest encodes split = c.read_instruction.ensures ∙ ap read split
+    ∙ encoded_read i code rest encodes

@@ -1,5 +1,5 @@
 use Rattle.std.proofs.Common.{◌≡◌, take}
-use Rattle.lab_image.specs.Loads.{loaded}
+use Rattle.i80_exec.specs.State.{loaded}
 use Rattle.lab_image.proofs.origins.store_all.Given as goal
 
 -- the bytes so far are put

@@ -10,6 +10,8 @@ returns-then-size-others-clause-none c =
     let after = c.split_at.result.1.now in
     let front = c.split_at.ensures.front in
     let back = c.split_at.ensures.back in
-    let whole : c.in_ok-name.field-0.others.now ≡ digits ++ after = sym (rw (front, back) (take-append-drop 4 c.in_ok-name.field-0.others.now)) in
+    let whole : c.in_ok-name.field-0.others.now ≡ digits ++ after =
+    sym (rw (front, back) (take-append-drop 4 c.in_ok-name.field-0.others.now)) in
     let long : length after < number_from 0 digits = rw c.number_of-size.ensures at c.if-size-others.true in
-    too_long c.args.bytes.now c.in_ok-name.field-0.name.now c.in_ok-name.field-0.others.now digits after c.in_ok-name.ensures.found whole c.split_at.ensures.front_len long
+    too_long c.args.bytes.now c.in_ok-name.field-0.name.now c.in_ok-name.field-0.others.now digits after
+    c.in_ok-name.ensures.found whole c.split_at.ensures.front_len long

@@ -4,4 +4,5 @@ use Rattle.asm_build.proofs.image.Image.append.Given as goal
 
 abbrev pub invariant-loop-byte : goal.invariant-loop-byte
 invariant-loop-byte l =
-    l.self ++ at_address l.next (drop l.byte-index l.bytes) ≡ l.initial.self ++ at_address l.initial.next l.bytes
+    l.self ++ at_address l.next (drop l.byte-index l.bytes)
+    ≡ l.initial.self ++ at_address l.initial.next l.bytes

@@ -16,4 +16,6 @@ loop-preserved c =
     (sym c.if-has.ensures) c.loop.invariant
 
 pub returns : goal.returns
-returns c = overlap_ends c.args.self.now c.args.bytes.now c.loop.index c.loop.next _ c.loop-test.false c.loop.invariant
+returns c =
+    overlap_ends c.args.self.now c.args.bytes.now c.loop.index c.loop.next _ c.loop-test.false
+    c.loop.invariant

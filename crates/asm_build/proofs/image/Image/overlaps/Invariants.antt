@@ -4,4 +4,5 @@ use Rattle.asm_build.proofs.image.Image.overlaps.Given as goal
 
 abbrev pub invariant-loop : goal.invariant-loop
 invariant-loop l =
-    overlaps l.self (at_address l.next (drop l.index l.bytes)) ≡ overlaps l.self (at_address l.initial.next l.bytes)
+    overlaps l.self (at_address l.next (drop l.index l.bytes))
+    ≡ overlaps l.self (at_address l.initial.next l.bytes)

@@ -9,12 +9,14 @@ loop-name-init c = λ x. refl
 
 pub loop-name-preserved : goal.loop-name-preserved
 loop-name-preserved c = λ x.
-    let adds = c.in_ok-insert.ensures x ∙ ap (λ n. bytes_eq x n || is_among x c.loop-name.self) c.as_str.ensures in
+    let adds =
+    c.in_ok-insert.ensures x ∙ ap (λ n. bytes_eq x n || is_among x c.loop-name.self) c.as_str.ensures in
     among_goes c.deref-name-items.result.now c.loop-name.name-index c.name-item.result _ _ _ x
     c.loop-name-test.true c.name-item.is adds (c.loop-name.invariant x)
 
 pub returns : goal.returns
 returns c = λ x.
-    among_ends c.deref-name-items.result.now c.loop-name.name-index _ _ x c.loop-name-test.false (c.loop-name.invariant x)
+    among_ends c.deref-name-items.result.now c.loop-name.name-index _ _ x c.loop-name-test.false
+    (c.loop-name.invariant x)
     ∙ ap (λ ns. is_among x (named ns) || is_among x c.args.self.now) c.deref-name-items.ensures.value
     ∙ ap (λ ns. is_among x ns || is_among x c.args.self.now) c.in_ok-names.ensures

@@ -11,9 +11,13 @@ loop-index-preserved c =
     elim c.match-at.branch [
       | in-Some+in_ok-define w ↦
           ap (λ es. fold defines es (drop (i + 1) others)) (w.self-is ∙ w.in_ok-define.ensures.ok)
-          ∙ fold_goes others c.loop-index.self _ i (w.in-Some.name.now, w.in-Some.symbol) (sym w.in-Some.ensures) c.loop-index.invariant
-      | in_default w ↦ absurd (some_there others i (omega (arith, c.len-index-end.ensures)) w.in_default.ensures)
+          ∙ fold_goes others c.loop-index.self _ i (w.in-Some.name.now, w.in-Some.symbol)
+          (sym w.in-Some.ensures) c.loop-index.invariant
+      | in_default w ↦ absurd (some_there others i (omega (arith, c.len-index-end.ensures))
+          w.in_default.ensures)
     ]
 
 pub returns : goal.returns
-returns c = fold_ends c.args.others.now c.loop-index.self _ c.loop-index.index (omega (arith, c.len-index-end.ensures)) c.loop-index.invariant
+returns c =
+    fold_ends c.args.others.now c.loop-index.self _ c.loop-index.index
+    (omega (arith, c.len-index-end.ensures)) c.loop-index.invariant

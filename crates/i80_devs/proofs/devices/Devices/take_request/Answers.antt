@@ -5,4 +5,6 @@ use Rattle.i80_devs.proofs.devices.Devices.take_request.Goals as goal
 
 pub returns-clause-past : goal.returns-clause-past
 returns-clause-past c past stands =
-    next_after Taken c.args.self.now.panel c.set_latched.new.self past (c.set_latched.ensures ∙ ap (λ (d : DeviceState). panel_next d.panel Taken) c.self.view_is) stands
+    let operation = Taken in
+    next_after operation c.args.self.now.panel c.set_latched.new.self past
+    (c.set_latched.ensures ∙ ap (λ (d : DeviceState). panel_next d.panel operation) c.self.view_is) stands

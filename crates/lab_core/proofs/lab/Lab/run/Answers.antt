@@ -13,7 +13,7 @@ loop-event-preserved c =
     record {
       runs = λ b s.
           let before = inv.runs b s in
-          let after = c.apply-answer.ensures.applied before.0 before.2 (iff_false c.is_want_of_memory.ensures c.if-is_want_of_memory.false) in
+          let after = c.apply-answer.ensures.applied before.0 before.2 (iff_false c.is_out_of_memory.ensures c.if-is_out_of_memory.false) in
           (after.0, rw (items, more) (Runs-append b before.0 after.0 _ _ _ _ before.1 after.1), after.2);
       count = rw items (length-append c.loop-event.answers.items (c.apply-answer.result ∷ []) ∙ ap (λ n. n + 1) inv.count);
     }

@@ -1,0 +1,167 @@
+//! Sessions of cells, each over the symbols that the one before left, and all that a cell gives.
+
+use asm_build::built::{Built, Row};
+use asm_build::cell::build;
+use asm_build::symbols::Symbols;
+use asm_syntax::fault::AsmFault;
+use asm_text::statements::statements;
+use std::alloc::{AllocError, Global};
+use std::test::Fail;
+
+fn show_image(text: &mut String, image: &[(u16, u8)]) -> Result<(), Fail> {
+    for (address, byte) in image {
+        write!(text, "{address:X}={byte:X} ")?;
+    }
+    Ok(())
+}
+
+fn show_rows(text: &mut String, rows: &[Row]) -> Result<(), Fail> {
+    for row in rows {
+        write!(text, "{}@{:X}+{} ", row.line, row.address, row.length)?;
+    }
+    Ok(())
+}
+
+fn show_symbols(text: &mut String, symbols: &Symbols) -> Result<(), Fail> {
+    for index in 0..symbols.len() {
+        if let Some((name, symbol)) = symbols.at(index) {
+            write!(text, "{name}:{:X} {:?} ", symbol.value, symbol.kind)?;
+        }
+    }
+    Ok(())
+}
+
+// Each byte with its address, each row as line@address+length, the start, and the symbols in order.
+fn show(text: &mut String, built: &Built) -> Result<(), Fail> {
+    show_image(text, built.image.as_slice())?;
+    show_rows(text, built.rows.as_slice())?;
+    if let Some(start) = built.start {
+        write!(text, "start {start:X} ")?;
+    }
+    show_symbols(text, &built.symbols)
+}
+
+// Assembles a cell over the symbols that were kept.
+pub(crate) fn built(alloc: Global, cell: &str, kept: &Symbols) -> Result<Built, AsmFault> {
+    let all = statements(alloc, cell)?;
+    build(alloc, &all, kept)
+}
+
+// What a cell gives over the symbols that were kept, which a good cell replaces, or its fault.
+fn told(alloc: Global, kept: &mut Symbols, cell: &str) -> Result<String, Fail> {
+    let mut text = String::new(alloc);
+    match built(alloc, cell, kept) {
+        Ok(built) => {
+            show(&mut text, &built)?;
+            *kept = built.symbols;
+        }
+        Err(AsmFault::OutOfMemory) => return Err(Fail::from(AllocError)),
+        Err(fault) => write!(text, "{fault}")?,
+    }
+    Ok(text)
+}
+
+const LABEL_AGAIN: (&str, &str) = (
+    "JMP X\nY: NOP\nX:\nRST 7\nEND Y\nJMP 0",
+    "0=C3 1=4 2=0 3=0 4=FF 1@0+3 2@3+1 4@4+1 start 3 X:4 Label Z:9 Equ Y:3 Label ",
+);
+
+// The cell's own label wins over the one that was kept, each time that the cell is built.
+const LABELS: [(&str, &str); 3] = [
+    ("X: NOP\nZ EQU 9", "0=0 1@0+1 X:0 Label Z:9 Equ "),
+    LABEL_AGAIN,
+    LABEL_AGAIN,
+];
+
+const DIRECTIVES: [(&str, &str); 4] = [
+    (
+        "ORG 0FFH\nDB 'IT''S',-1\nX: DS 3\nDW 1234H,$\n\nMVI M,X",
+        "6:7 ByteRange",
+    ),
+    (
+        "ORG 0FFH\nDB 'IT''S',-1\nX: DS 3\nDW 1234H,$\n",
+        "FF=49 100=54 101=27 102=53 103=FF 107=34 108=12 109=7 10A=1 2@FF+5 4@107+4 X:104 Label ",
+    ),
+    (
+        "ORG 0FFFEH\nMVI M,80H\nX: DS 0\nORG 0FFFDH\nY: DS 2\nZ: NOP",
+        "6:4 Overlap",
+    ),
+    (
+        "ORG 0FFFEH\nMVI M,80H\nX: DS 0\nORG 0FFFDH\nY: DS 2",
+        "FFFE=36 FFFF=80 2@FFFE+2 X:0 Label Y:FFFD Label ",
+    ),
+];
+
+// An IF selects by what was kept; a SET changes from use to use, and its last value is kept.
+const CHOICES: [(&str, &str); 4] = [
+    ("X SET 0", "X:0 Set "),
+    (
+        "IF X\nRST 1\nELSE\nRST 2\nIF 1\nRST 3\nENDIF\nENDIF",
+        "0=D7 1=DF 4@0+1 6@1+1 X:0 Set ",
+    ),
+    (
+        "X SET 0\nMVI M,X\nX SET X+1\nMVI M,X",
+        "0=36 1=0 2=36 3=1 2@0+2 4@2+2 X:1 Set ",
+    ),
+    (
+        "IF X\nRST 1\nELSE\nRST 2\nIF 1\nRST 3\nENDIF\nENDIF",
+        "0=CF 2@0+1 X:1 Set ",
+    ),
+];
+
+// What was taken from the kept symbols can't be defined; what was only used can.
+const TAKEN: [(&str, &str); 5] = [
+    ("X: NOP", "0=0 1@0+1 X:0 Label "),
+    ("\nX: DS X", "2:1 Early"),
+    ("\nX SET X+1", "2:1 Early"),
+    ("ORG X\nX: NOP", "2:1 Early"),
+    ("JMP X\nX:", "0=C3 1=3 2=0 1@0+3 X:3 Label "),
+];
+
+const OVER_ITSELF: (&str, &str) = (
+    "JMP X\nNOP\nX: HLT\nZ SET 9",
+    "0=C3 1=4 2=0 3=0 4=76 1@0+3 2@3+1 3@4+1 X:4 Label Y:7 Equ Z:9 Set ",
+);
+
+// Kept names stay in their places, new ones come last; a cell may be built over its own symbols.
+const KEPT: [(&str, &str); 3] = [
+    ("X: NOP\nY EQU 7", "0=0 1@0+1 X:0 Label Y:7 Equ "),
+    OVER_ITSELF,
+    OVER_ITSELF,
+];
+
+// Only lines that give bytes have rows.
+const ROWS: [(&str, &str); 2] = [
+    ("", ""),
+    (
+        "; nothing\nX: MVI A,5\nY: DS 3\n\n DW 1,2\nEND X+2",
+        "0=3E 1=5 5=1 6=0 7=2 8=0 2@0+2 5@5+4 start 2 X:0 Label Y:2 Label ",
+    ),
+];
+
+// Whether each cell of a session gives what it should.
+fn is_session(alloc: Global, session: &[(&str, &str)]) -> Result<bool, Fail> {
+    let mut kept = Symbols::new(alloc);
+    for (cell, wanted) in session {
+        if told(alloc, &mut kept, cell)?.as_str() != *wanted {
+            return Ok(false);
+        }
+    }
+    Ok(true)
+}
+
+#[test]
+fn sessions(rt: HostRuntime) -> Result<(), Fail> {
+    let sessions = [
+        LABELS.as_slice(),
+        DIRECTIVES.as_slice(),
+        CHOICES.as_slice(),
+        TAKEN.as_slice(),
+        KEPT.as_slice(),
+        ROWS.as_slice(),
+    ];
+    for (number, session) in sessions.iter().enumerate() {
+        assert!(rt; is_session(rt.alloc(), session)?, "session {number}");
+    }
+    Ok(())
+}

@@ -1,0 +1,13 @@
+use Rattle.std.proofs.Common.{◌≡◌, ◌≤◌, ◌-◌, length, take}
+use Rattle.base_streams.specs.Told.{Told}
+use Rattle.base_streams.proofs.writing.write_all.Given as goal
+
+abbrev pub invariant-loop-place : goal.invariant-loop-place
+invariant-loop-place g l = record {
+  within : l.place ≤ length l.bytes;
+  told : Told (g.W.Outlet.taken l.fn.to) (g.W.Outlet.taken l.to) (take l.place l.bytes);
+  failed : g.W.Outlet.failed l.to ≡ g.W.Outlet.failed l.fn.to;
+}
+
+abbrev pub decreases-loop-place : goal.decreases-loop-place
+decreases-loop-place g l = length l.bytes - l.place

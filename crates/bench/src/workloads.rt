@@ -1,0 +1,83 @@
+//! Three endless workloads on the machine, which `bench/core` times beside a plain switch interpreter
+//! in C.
+ghost use Rattle.std.specs.Prelude.{◌≤◌};
+
+use crate::slot::Slot;
+use anyhow::{Result, bail};
+use i80_exec::machine::Machine;
+use i80_exec::registers::Stepped;
+use std::alloc::{AllocError, Global};
+
+/// Two nested counters, counted down.
+static LOOP: [u8; 15] = [
+    0x06, 0, 0x0e, 0, 0x0d, 0xc2, 4, 0, 0x05, 0xc2, 4, 0, 0xc3, 0, 0,
+];
+
+/// A page of bytes, made anew and sorted by exchanges.
+static SORT: [u8; 53] = [
+    0x31, 0, 0x30, 0x21, 0, 0x20, 0x78, 0x07, 0x80, 0xc6, 0x3b, 0x47, 0x77, 0x2c, 0xc2, 6, 0, 0x21,
+    0, 0x20, 0x0e, 0, 0x16, 0xff, 0x7e, 0x23, 0xbe, 0xda, 0x28, 0, 0xca, 0x28, 0, 0x5e, 0x77, 0x2b,
+    0x73, 0x23, 0x0e, 1, 0x15, 0xc2, 0x18, 0, 0x79, 0xb7, 0xc2, 0x11, 0, 0x04, 0xc3, 3, 0,
+];
+
+/// Arithmetic and logic in a subroutine that calls another.
+static CALLS: [u8; 41] = [
+    0x31, 0, 0x40, 0x3e, 1, 0xcd, 0x10, 0, 0x3c, 0xc2, 5, 0, 0xc3, 3, 0, 0, 0xc5, 0x47, 0x87, 0xa8,
+    0xe6, 0x3f, 0x88, 0x17, 0x94, 0xde, 5, 0x27, 0x2f, 0x6f, 0xcd, 0x24, 0, 0x78, 0xc1, 0xc9, 0xb0,
+    0x3f, 0xd0, 0x67, 0xc9,
+];
+
+fn loaded(alloc: Global, code: &[u8]) -> Result<Machine, AllocError> {
+    let mut machine = Machine::new(alloc)?;
+    let mut address = 0u16;
+    for byte in code {
+        machine.poke(address, *byte);
+        address = address.wrapping_add(1);
+    }
+    Ok(machine)
+}
+
+/// Steps until HLT, at most so often. The machine is a local one, so that its registers can be kept
+/// in the processor's own.
+#[inline(never)]
+fn run(given: Machine, ports: &mut Slot, count: u64) -> Machine {
+    let mut machine = given;
+    for _ in 0..count {
+        ports.clear();
+        if let Stepped::Halted = machine.step(ports) {
+            break;
+        }
+    }
+    machine
+}
+
+/// Runs a workload for so many instructions, and prints where it came to.
+pub fn report(rt: &(impl Print + AllocGlobal), name: &str, count: u64) -> Result<()> {
+    let code = match name {
+        "loop" => LOOP.as_slice(),
+        "sort" => SORT.as_slice(),
+        "calls" => CALLS.as_slice(),
+        _ => bail!("the workloads are loop, sort and calls"),
+    };
+    let regs = run(loaded(rt.alloc(), code)?, &mut Slot::new(), count).regs();
+    print!(rt;
+        "{name} PC={:04X} A={:02X} F={:02X}",
+        regs.pc,
+        regs.a,
+        regs.flags.to_byte()
+    )?;
+    print!(rt;
+        " B={:02X} C={:02X} D={:02X} E={:02X}",
+        regs.b, regs.c, regs.d, regs.e
+    )?;
+    println!(rt; " H={:02X} L={:02X} SP={:04X}", regs.h, regs.l, regs.sp)?;
+    Ok(())
+}
+
+/// Runs each workload for ten thousand instructions.
+pub fn check(rt: &(impl Print + AllocGlobal)) -> Result<()> {
+    for name in ["loop", "sort", "calls"] {
+        report(rt, name, 10_000)?;
+    }
+    Ok(())
+}

@@ -1,0 +1,281 @@
+//! The JSON of responses and events, as frontends read it.
+use base_text::sequence::Sequence;
+use base_text::text::Text;
+use dap_talk::answer::{
+    Body, Breakpoint, DebugState, Event, Instruction, Outcome, Response, SourceBreakpoints,
+    StackFrame, StopReason, Variable,
+};
+use dap_talk::sending::{event, response};
+use std::alloc::{AllocError, Global};
+use std::process::Abort;
+use std::test::Fail;
+
+// A body, from plain values.
+#[derive(Clone, Copy)]
+enum Shape {
+    Empty,
+    Capabilities,
+    Breakpoints(&'static [Breakpoint]),
+    Threads,
+    // Number, name, path or an empty text, line and address; and how many there are in all.
+    StackTrace(&'static [(u32, &'static str, &'static str, u32, u16)], u32),
+    Scopes,
+    // Name and value.
+    Variables(&'static [(&'static str, &'static str)]),
+    Continued,
+    // Address, bytes and text.
+    Instructions(&'static [(u16, &'static [u8], &'static str)]),
+    Content(&'static str),
+    SourcePath(&'static str),
+    // Attached, stopped, and paths with their lines.
+    DebugState(bool, bool, &'static [(&'static str, &'static [u32])]),
+}
+
+fn frames(
+    alloc: Global,
+    rows: &[(u32, &str, &str, u32, u16)],
+) -> Result<Sequence<StackFrame>, AllocError> {
+    let mut frames = Sequence::new(alloc);
+    for (id, name, path, line, address) in rows {
+        let source = if path.is_empty() {
+            None
+        } else {
+            Some(Text::copy_of(alloc, *path)?)
+        };
+        frames.push(StackFrame {
+            id: *id,
+            name: Text::copy_of(alloc, *name)?,
+            source,
+            line: *line,
+            address: *address,
+        })?;
+    }
+    Ok(frames)
+}
+
+fn variables(alloc: Global, rows: &[(&str, &str)]) -> Result<Sequence<Variable>, AllocError> {
+    let mut variables = Sequence::new(alloc);
+    for (name, value) in rows {
+        variables.push(Variable {
+            name: Text::copy_of(alloc, *name)?,
+            value: Text::copy_of(alloc, *value)?,
+        })?;
+    }
+    Ok(variables)
+}
+
+fn instructions(
+    alloc: Global,
+    rows: &[(u16, &[u8], &str)],
+) -> Result<Sequence<Instruction>, AllocError> {
+    let mut instructions = Sequence::new(alloc);
+    for (address, bytes, text) in rows {
+        instructions.push(Instruction {
+            address: *address,
+            bytes: Sequence::copy_of(alloc, *bytes)?,
+            text: Text::copy_of(alloc, *text)?,
+        })?;
+    }
+    Ok(instructions)
+}
+
+fn state(
+    alloc: Global,
+    is_attached: bool,
+    is_stopped: bool,
+    rows: &[(&str, &[u32])],
+) -> Result<DebugState, AllocError> {
+    let mut breakpoints = Sequence::new(alloc);
+    for (path, lines) in rows {
+        breakpoints.push(SourceBreakpoints {
+            path: Text::copy_of(alloc, *path)?,
+            lines: Sequence::from(lines.to_vec(alloc)?),
+        })?;
+    }
+    Ok(DebugState {
+        is_attached,
+        is_stopped,
+        breakpoints,
+    })
+}
+
+fn body(alloc: Global, shape: &Shape) -> Result<Body, AllocError> {
+    match *shape {
+        Shape::Empty => Ok(Body::Empty),
+        Shape::Capabilities => Ok(Body::Capabilities),
+        Shape::Breakpoints(rows) => Ok(Body::Breakpoints(Sequence::from(rows.to_vec(alloc)?))),
+        Shape::Threads => Ok(Body::Threads),
+        Shape::StackTrace(rows, total) => Ok(Body::StackTrace {
+            frames: frames(alloc, rows)?,
+            total,
+        }),
+        Shape::Scopes => Ok(Body::Scopes),
+        Shape::Variables(rows) => Ok(Body::Variables(variables(alloc, rows)?)),
+        Shape::Continued => Ok(Body::Continued),
+        Shape::Instructions(rows) => Ok(Body::Instructions(instructions(alloc, rows)?)),
+        Shape::Content(text) => Ok(Body::Content(Text::copy_of(alloc, text)?)),
+        Shape::SourcePath(path) => Ok(Body::SourcePath(Text::copy_of(alloc, path)?)),
+        Shape::DebugState(is_attached, is_stopped, rows) => {
+            Ok(Body::DebugState(state(alloc, is_attached, is_stopped, rows)?))
+        }
+    }
+}
+
+// Bodies, and their JSON.
+const BODIES: [(Shape, &str); 14] = [
+    (Shape::Empty, "{}"),
+    (
+        Shape::Capabilities,
+        "{\"supportsConfigurationDoneRequest\":true,\"supportsDisassembleRequest\":true,\
+\"supportsSteppingGranularity\":true}",
+    ),
+    (
+        Shape::Threads,
+        "{\"threads\":[{\"id\":1,\"name\":\"8080\"}]}",
+    ),
+    (Shape::Continued, "{\"allThreadsContinued\":true}"),
+    (
+        Shape::Scopes,
+        "{\"scopes\":[\
+{\"expensive\":false,\"name\":\"Registers\",\"variablesReference\":1},\
+{\"expensive\":false,\"name\":\"Flags\",\"variablesReference\":2},\
+{\"expensive\":false,\"name\":\"Devices\",\"variablesReference\":3},\
+{\"expensive\":false,\"name\":\"Symbols\",\"variablesReference\":4},\
+{\"expensive\":true,\"name\":\"Memory\",\"variablesReference\":5}]}",
+    ),
+    (
+        Shape::Breakpoints(&[
+            Breakpoint {
+                line: 3,
+                verified: true,
+            },
+            Breakpoint {
+                line: 90,
+                verified: false,
+            },
+        ]),
+        "{\"breakpoints\":[{\"line\":3,\"verified\":true},{\"line\":90,\"verified\":false}]}",
+    ),
+    (
+        Shape::Variables(&[("A", "05AH")]),
+        "{\"variables\":[{\"name\":\"A\",\"value\":\"05AH\",\"variablesReference\":0}]}",
+    ),
+    (Shape::Variables(&[]), "{\"variables\":[]}"),
+    (
+        Shape::StackTrace(
+            &[
+                (1, "F1", "/tmp/i8080_lab/0.asm", 3, 0xc3fe),
+                (2, "main", "", 0, 4),
+            ],
+            70,
+        ),
+        "{\"stackFrames\":[\
+{\"column\":1,\"id\":1,\"instructionPointerReference\":\"0xc3fe\",\"line\":3,\"name\":\"F1\",\
+\"source\":{\"path\":\"/tmp/i8080_lab/0.asm\"}},\
+{\"column\":1,\"id\":2,\"instructionPointerReference\":\"0x0004\",\"line\":0,\"name\":\"main\"}],\
+\"totalFrames\":70}",
+    ),
+    (
+        Shape::Instructions(&[
+            (0xffff, &[0xc3, 0x04, 0xaf], "JMP 0AF04H"),
+            (2, &[0], "NOP"),
+        ]),
+        "{\"instructions\":[\
+{\"address\":\"0xffff\",\"instruction\":\"JMP 0AF04H\",\"instructionBytes\":\"C3 04 AF\"},\
+{\"address\":\"0x0002\",\"instruction\":\"NOP\",\"instructionBytes\":\"00\"}]}",
+    ),
+    (
+        Shape::Content("HLT ;\"\n"),
+        "{\"content\":\"HLT ;\\\"\\n\"}",
+    ),
+    (
+        Shape::SourcePath("/tmp/i8080_lab/0.asm"),
+        "{\"sourcePath\":\"/tmp/i8080_lab/0.asm\"}",
+    ),
+    (
+        Shape::DebugState(false, false, &[]),
+        "{\"breakpoints\":[],\"exceptionPaths\":[],\"hashMethod\":\"Murmur2\",\"hashSeed\":0,\
+\"isStarted\":false,\"richRendering\":false,\"stoppedThreads\":[],\
+\"tmpFilePrefix\":\"/tmp/i8080_lab/\",\"tmpFileSuffix\":\".asm\"}",
+    ),
+    (
+        Shape::DebugState(true, true, &[("a", &[2, 5])]),
+        "{\"breakpoints\":[{\"breakpoints\":[{\"line\":2},{\"line\":5}],\"source\":\"a\"}],\
+\"exceptionPaths\":[],\"hashMethod\":\"Murmur2\",\"hashSeed\":0,\
+\"isStarted\":true,\"richRendering\":false,\"stoppedThreads\":[1],\
+\"tmpFilePrefix\":\"/tmp/i8080_lab/\",\"tmpFileSuffix\":\".asm\"}",
+    ),
+];
+
+fn success(alloc: Global, shape: &Shape) -> Result<Response, AllocError> {
+    let body = body(alloc, shape)?;
+    Ok(Response {
+        request_seq: 9,
+        command: Text::copy_of(alloc, "c")?,
+        outcome: Outcome::Success(body),
+    })
+}
+
+fn sent(alloc: Global, shape: &Shape) -> Result<String, AllocError> {
+    let answer = success(alloc, shape)?;
+    response(alloc, 12, &answer)?.to_string(alloc)
+}
+
+fn whole(alloc: Global, body: &str) -> Result<String, AllocError> {
+    format!(in alloc;
+        "{{\"body\":{body},\"command\":\"c\",\"request_seq\":9,\
+\"seq\":12,\"success\":true,\"type\":\"response\"}}"
+    )
+}
+
+fn expect_body(rt: &(impl Abort + AllocGlobal), shape: &Shape, json: &str) -> Result<(), Fail> {
+    let found = sent(rt.alloc(), shape)?;
+    let json = whole(rt.alloc(), json)?;
+    assert!(rt; found.as_str() == json.as_str(), "{found}");
+    Ok(())
+}
+
+#[test]
+fn bodies(rt: HostRuntime) -> Result<(), Fail> {
+    for (shape, json) in BODIES {
+        expect_body(&rt, &shape, json)?;
+    }
+    Ok(())
+}
+
+// Events, and their JSON.
+const EVENTS: [(Event, &str); 5] = [
+    (
+        Event::Initialized,
+        "{\"event\":\"initialized\",\"seq\":4,\"type\":\"event\"}",
+    ),
+    (
+        Event::Continued,
+        "{\"body\":{\"allThreadsContinued\":true,\"threadId\":1},\"event\":\"continued\",\
+\"seq\":4,\"type\":\"event\"}",
+    ),
+    (
+        Event::Stopped(StopReason::Breakpoint),
+        "{\"body\":{\"allThreadsStopped\":true,\"reason\":\"breakpoint\",\"threadId\":1},\
+\"event\":\"stopped\",\"seq\":4,\"type\":\"event\"}",
+    ),
+    (
+        Event::Stopped(StopReason::Step),
+        "{\"body\":{\"allThreadsStopped\":true,\"reason\":\"step\",\"threadId\":1},\
+\"event\":\"stopped\",\"seq\":4,\"type\":\"event\"}",
+    ),
+    (
+        Event::Stopped(StopReason::Pause),
+        "{\"body\":{\"allThreadsStopped\":true,\"reason\":\"pause\",\"threadId\":1},\
+\"event\":\"stopped\",\"seq\":4,\"type\":\"event\"}",
+    ),
+];
+
+#[test]
+fn events(rt: HostRuntime) -> Result<(), Fail> {
+    for (sent, json) in EVENTS {
+        let found = event(rt.alloc(), 4, sent)?.to_string(rt.alloc())?;
+        assert!(rt; found.as_str() == json, "{found}");
+    }
+    Ok(())
+}

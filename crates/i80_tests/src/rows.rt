@@ -1,0 +1,113 @@
+//! Values that the 8080 User's Manual and real processors give.
+use i80_rows::arithmetic::{
+    AluResult, alu_add, alu_and, alu_or, alu_sub, alu_xor, daa, dcr, inr, rotate,
+};
+use i80_rows::decoding::decode;
+use i80_rows::encoding::encode;
+use i80_rows::flags::Flags;
+use i80_rows::instruction::{Cond, DecodeFault, Instr, Operation, Reg, Register, Rotation, Vector};
+use std::process::Abort;
+
+const NO_FLAGS: u8 = 0x02;
+
+fn expect(rt: &impl Abort, computed: AluResult, value: u8, flag_byte: u8) {
+    assert_eq!(rt;
+        (computed.value, computed.flags.to_byte()),
+        (value, flag_byte)
+    );
+}
+
+#[test]
+fn arithmetic_sets_the_flags_of_the_manual(rt: HostRuntime) {
+    let clear = Flags::from_byte(NO_FLAGS);
+    expect(&rt, alu_add(0x6c, 0x2e, false), 0x9a, 0x96);
+    expect(&rt, alu_add(0xff, 0x00, false), 0xff, 0x86);
+    expect(&rt, alu_add(0xff, 0x00, true), 0x00, 0x57);
+    expect(&rt, alu_sub(0x3e, 0x3e, false), 0x00, 0x56);
+    expect(&rt, alu_sub(0x00, 0x00, true), 0xff, 0x87);
+    expect(&rt, alu_and(0xfc, 0x0f), 0x0c, 0x16);
+    expect(&rt, alu_and(0x03, 0x05), 0x01, 0x02);
+    expect(&rt, alu_xor(0x5c, 0x78), 0x24, 0x06);
+    expect(&rt, alu_or(0x33, 0x0f), 0x3f, 0x06);
+    expect(&rt, inr(0xff, true), 0x00, 0x57);
+    expect(&rt, inr(0x7f, false), 0x80, 0x92);
+    expect(&rt, dcr(0x00, true), 0xff, 0x87);
+    expect(&rt, dcr(0x10, false), 0x0f, 0x06);
+    expect(&rt, daa(0x9b, clear), 0x01, 0x13);
+    expect(&rt, daa(0x15, clear.with_carry(true)), 0x75, 0x03);
+}
+
+#[test]
+fn rotations_change_only_the_carry(rt: HostRuntime) {
+    let all = Flags::from_byte(0xff);
+    let none = Flags::from_byte(0x00);
+    for (rotation, a, flags, value, flag_byte) in [
+        (Rotation::Rlc, 0xf2, none, 0xe5, 0x03),
+        (Rotation::Rrc, 0xf2, all, 0x79, 0xd6),
+        (Rotation::Ral, 0xb5, none, 0x6a, 0x03),
+        (Rotation::Rar, 0x6a, all, 0xb5, 0xd6),
+    ] {
+        expect(&rt, rotate(rotation, a, flags), value, flag_byte);
+    }
+}
+
+#[test]
+fn the_flag_byte_has_three_fixed_bits(rt: HostRuntime) {
+    let flags = [
+        (Flags::from_byte(0xff), 0xd7),
+        (Flags::from_byte(0x00), 0x02),
+        (Flags::new(true, false, false, true, false), 0x86),
+    ];
+    for (flags, byte) in flags {
+        assert_eq!(rt; flags.to_byte(), byte);
+    }
+    let flags = Flags::from_byte(0x51);
+    assert!(rt; !flags.sign() && flags.zero() && flags.auxiliary_carry());
+    assert!(rt; !flags.parity() && flags.carry());
+}
+
+fn decodes(rt: &impl Abort, bytes: &[u8], want: Result<(Instr, u8), DecodeFault>) {
+    assert_eq!(rt; decode(bytes), want);
+}
+
+#[test]
+fn decode_tells_undefined_and_short_apart(rt: HostRuntime) {
+    decodes(&rt, &[], Err(DecodeFault::Short { needed: 1 }));
+    decodes(&rt, &[0xc3, 0x34], Err(DecodeFault::Short { needed: 3 }));
+    decodes(&rt, &[0x3e], Err(DecodeFault::Short { needed: 2 }));
+    decodes(&rt, &[0xc3, 0x34, 0x12], Ok((Instr::Jmp(0x1234), 3)));
+    decodes(&rt, &[0x3e, 0x6c, 0x76], Ok((Instr::Mvi(Reg::A, 0x6c), 2)));
+    decodes(&rt, &[0x41], Ok((Instr::Mov(Register::B, Register::C), 1)));
+    decodes(
+        &rt,
+        &[0xdc, 0, 1],
+        Ok((Instr::CallIf(Cond::Carry, 0x0100), 3)),
+    );
+    decodes(
+        &rt,
+        &[0xfe, 9],
+        Ok((Instr::AluImmediate(Operation::Cmp, 9), 2)),
+    );
+    decodes(&rt, &[0xcf], Ok((Instr::Rst(Vector::V1), 1)));
+    for opcode in [
+        0x08, 0x10, 0x18, 0x20, 0x28, 0x30, 0x38, 0xcb, 0xd9, 0xdd, 0xed, 0xfd,
+    ] {
+        decodes(&rt, &[opcode, 0, 0], Err(DecodeFault::Undefined));
+    }
+}
+
+#[test]
+fn each_defined_opcode_is_encoded_again(rt: HostRuntime) {
+    for (first, want) in [(0u8, 57), (64, 64), (128, 64), (192, 59)] {
+        let mut defined = 0u32;
+        for more in 0..64u8 {
+            let code = [first | more, 0x34, 0x12];
+            if let Ok((instr, _)) = decode(&code) {
+                let encoded = encode(instr);
+                assert!(rt; code.starts_with(encoded.as_slice()), "{code:?}");
+                defined = defined.wrapping_add(1);
+            }
+        }
+        assert_eq!(rt; defined, want);
+    }
+}

@@ -1,0 +1,69 @@
+//! Why an event is refused.
+
+use asm_syntax::fault::AsmFault;
+use i80_devs::devices::PressFault;
+use std::alloc::AllocError;
+use thiserror::Error;
+
+/// Why an event is refused. The board is as it was.
+#[derive(Clone, Copy, PartialEq, Eq, Debug, Error)]
+pub enum EventFault {
+    #[error("out of memory")]
+    OutOfMemory,
+    #[error("no program runs")]
+    NotRunning,
+    #[error("a program runs")]
+    Busy,
+    /// The path is kept with another text.
+    #[error("the path has another text")]
+    SourceNameTaken,
+    #[error("a request is latched already")]
+    Latched,
+    /// The cell has this fault.
+    #[error("{0}")]
+    Assembly(AsmFault),
+    #[error("there are the buttons 0 to 7")]
+    Vector,
+    /// As many texts are kept as may be, and this path isn't among them.
+    #[error("there are 1,024 sources")]
+    SourcesFull,
+}
+
+impl From<AllocError> for EventFault {
+    ghost use Rattle.std.specs.Prelude.{◌≡◌};
+    ghost use Rattle.lab_core.specs.declared.fault.EventFault.TheVariants.{OutOfMemory};
+
+    ghost from_gives = { λ _ refused. refused ≡ OutOfMemory };
+
+    fn from(_: AllocError) -> EventFault {
+        EventFault::OutOfMemory
+    }
+}
+
+impl From<AsmFault> for EventFault {
+    ghost use Rattle.std.specs.Prelude.{◌≡◌};
+    ghost use Rattle.lab_core.specs.Refusals.{refused_for};
+
+    ghost from_gives = { λ fault refused. refused ≡ refused_for fault };
+
+    fn from(fault: AsmFault) -> EventFault {
+        match fault {
+            AsmFault::OutOfMemory => EventFault::OutOfMemory,
+            AsmFault::At { .. } => EventFault::Assembly(fault),
+        }
+    }
+}
+
+impl From<PressFault> for EventFault {
+    ghost use Rattle.std.specs.Prelude.{◌≡◌};
+    ghost use Rattle.lab_core.specs.Refusals.{refused_press};
+
+    ghost from_gives = { λ press refused. refused ≡ refused_press press };
+
+    fn from(press: PressFault) -> EventFault {
+        match press {
+            PressFault::Latched => EventFault::Latched,
+            PressFault::Vector => EventFault::Vector,
+        }
+    }
+}

@@ -1,0 +1,4 @@
+pub mod ImageLemmas
+pub mod PrintedLemmas
+pub mod RunLemmas
+pub mod RunnerLemmas

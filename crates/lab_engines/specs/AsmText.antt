@@ -1,0 +1,81 @@
+-- The text and the status with which the word `asm` answers its input.
+use Rattle.std.specs.Prelude.{ℕ, List, [], ◌++◌, Option, Some, None, Result, Ok, Err, codes, if◌then◌else◌}
+use Rattle.std.specs.Fmt.{decimal}
+use Rattle.std.specs.Str.{is_utf8}
+use Rattle.i80_exec.specs.State.{power_on, with_pc, loaded}
+use Rattle.asm_syntax.specs.Outcome.{CellFault, ◌>>=◌}
+use Rattle.asm_syntax.specs.declared.fault.FaultKind.{FaultKind}
+use Rattle.asm_syntax.specs.declared.fault.FaultKind.TheVariants as fault
+use Rattle.asm_text.specs.Statements.{statements_of}
+use Rattle.asm_build.specs.Meaning.{Meaning, built_of}
+use Rattle.lab_io.specs.declared.status.Status.{Status}
+use Rattle.lab_io.specs.declared.status.Status.TheVariants.{Success, Refused}
+use Rattle.lab_engines.specs.declared.asm.TheConstants.{RUN_LIMIT}
+use Rattle.base_text.specs.Hexadecimal.{upper_word}
+use Rattle.lab_io.specs.Report.{line}
+use Rattle.lab_engines.specs.Printed.{register_line}
+use Rattle.lab_engines.specs.Computer.{Computer, fresh, after, end_at, run_length}
+use Rattle.lab_engines.specs.StepText.{end_line}
+use Rattle.lab_engines.specs.Image.{image_text}
+
+-- the registers where a run ends, and how it ended
+unfoldable pub run_end_text : ℕ → Computer → List ℕ
+run_end_text limit start =
+    let steps = run_length limit start in
+    register_line (after steps start).machine.regs ++ end_line (end_at limit start steps)
+
+-- a machine after power-on with the image in its memory, about to begin at this address
+abbrev pub begun_at : ℕ → List (ℕ × ℕ) → Computer
+begun_at address image = fresh (with_pc (loaded power_on image) address)
+
+-- where the program starts and how it ends, if the cell says where
+abbrev pub start_text : List (ℕ × ℕ) → Option ℕ → List ℕ
+start_text image None = []
+start_text image (Some address) =
+    line (codes "start " ++ upper_word address) ++ run_end_text RUN_LIMIT (begun_at address image)
+
+abbrev pub built_text : List (ℕ × ℕ) → Option ℕ → List ℕ
+built_text image start = image_text image ++ start_text image start
+
+-- what is wrong, after its line and column
+abbrev pub fault_line : ℕ → ℕ → List ℕ → List ℕ
+fault_line number column name = line (decimal number ++ codes ":" ++ decimal column ++ codes " " ++ name)
+
+abbrev pub fault_name : FaultKind → List ℕ
+fault_name fault.Character = codes "Character"
+fault_name fault.Number = codes "Number"
+fault_name fault.Text = codes "Text"
+fault_name fault.Name = codes "Name"
+fault_name fault.Mnemonic = codes "Mnemonic"
+fault_name fault.Operands = codes "Operands"
+fault_name (fault.Conditional is_missing_endif) = codes "Conditional"
+fault_name fault.TooLong = codes "TooLong"
+fault_name fault.Undefined = codes "Undefined"
+fault_name fault.Divisor = codes "Divisor"
+fault_name fault.Nesting = codes "Nesting"
+fault_name fault.Twice = codes "Twice"
+fault_name fault.Early = codes "Early"
+fault_name fault.ByteRange = codes "ByteRange"
+fault_name fault.Overlap = codes "Overlap"
+fault_name fault.PastEnd = codes "PastEnd"
+
+-- what a cell's text gives over no symbols, or its first fault
+abbrev pub cell_of : List ℕ → Result Meaning CellFault
+cell_of text = do
+  statements ← statements_of text
+  built_of [] statements
+
+abbrev pub cell_text : Result Meaning CellFault → List ℕ
+cell_text (Ok m) = built_text m.output.image m.output.start
+cell_text (Err f) = fault_line f.0 f.1 (fault_name f.2)
+
+abbrev pub cell_status : Result Meaning CellFault → Status
+cell_status (Ok m) = Success
+cell_status (Err f) = Refused
+
+-- input that isn't UTF-8 has no text, so that it is refused whatever else is wrong with it
+abbrev pub asm_text : List ℕ → List ℕ
+asm_text input = if (is_utf8 input) then (cell_text (cell_of input)) else (line (codes "bad text"))
+
+abbrev pub asm_status : List ℕ → Status
+asm_status input = if (is_utf8 input) then (cell_status (cell_of input)) else Refused

@@ -1,0 +1,195 @@
+//! The word `asm`: the image of a cell, and how the program in it ends.
+ghost use Rattle.std.specs.Prelude.{◌≡◌, ◌++◌, List, ℕ, OnOk, IfOk, IfErr, IfSome, Some, None, option_map, if◌then◌else◌, string_bytes};
+ghost use Rattle.std.specs.Str.{is_utf8};
+ghost use Rattle.asm_syntax.specs.Outcome.{Gives};
+ghost use Rattle.asm_build.specs.Meaning.{meaning_in};
+ghost use Rattle.lab_io.specs.Engine.{Answers, IsFailure};
+ghost use Rattle.lab_io.specs.Report.{IsReport};
+ghost use Rattle.lab_engines.specs.AsmText.{
+  start_text,
+  built_text,
+  begun_at,
+  fault_line,
+  fault_name,
+  cell_of,
+  cell_text,
+  cell_status,
+  asm_text,
+  asm_status,
+};
+ghost use Rattle.lab_engines.specs.Runner.{StandsFor};
+
+use crate::image::{push_image, store_image};
+use crate::runner::Runner;
+use asm_build::built::Built;
+use asm_build::cell::build;
+use asm_build::symbols::Symbols;
+use asm_syntax::fault::{AsmFault, FaultKind};
+use asm_text::statements::statements;
+use base_text::hexadecimal::push_word;
+use i80_exec::machine::Machine;
+use lab_io::reading::read_all;
+use lab_io::report::{Report, deliver, refusal};
+use lab_io::status::Status;
+use std::alloc::{AllocError, Global};
+use std::io::{Read, Write};
+use std::str;
+
+/// How many steps a run may have.
+pub const RUN_LIMIT: u64 = 100_000;
+
+/// Reads a cell of assembler text, assembles it over no symbols, and writes the bytes that it
+/// gives in order of address; where the cell says where to start, also how the program ends on a
+/// machine after power-on that has those bytes.
+/// What is refused is answered by one line: `bad text` where the input isn't UTF-8, else the line,
+/// the column and the name of the cell's first fault. Nothing is written before all is read.
+pub fn run_asm<R: Read, W: Write>(alloc: Global, reader: &mut R, writer: &mut W) -> Status
+    // For every input that the reader has: the text and the status of that input, or a front of
+    // the text where it ran out of memory or a read or a write failed.
+    ensures { IfSome (R.remaining reader.old) (λ input.
+        Answers (asm_status input) (asm_text input) result
+        (W.contents writer.old) (W.contents writer.new)) }
+{
+    match asm_report(alloc, reader) {
+        Ok(report) => deliver(writer, &report),
+        Err(failure) => failure,
+    }
+}
+
+fn asm_report<R: Read>(alloc: Global, reader: &mut R) -> Result<Report, Status>
+    ensures report { IfSome (R.remaining reader.old) (λ input.
+        IfOk result (λ report. IsReport report (asm_status input) (asm_text input))) }
+    ensures failure { IfErr result IsFailure }
+{
+    let bytes = read_all(alloc, reader)?;
+    input_report(alloc, &bytes).map_err(|_| Status::OutOfMemory)
+}
+
+fn input_report(alloc: Global, bytes: &[u8]) -> Result<Report, AllocError>
+    ensures { IfOk result (λ report.
+        IsReport report (asm_status bytes.now) (asm_text bytes.now)) }
+{
+    match decoded(bytes) {
+        Some(text) => cell_report(alloc, text),
+        None => refusal(alloc, "bad text\n"),
+    }
+}
+
+/// The report of what a cell gives, or of its first fault.
+fn cell_report(alloc: Global, text: &str) -> Result<Report, AllocError>
+    ensures { IfOk result (λ report.
+        IsReport report (cell_status (cell_of text.now)) (cell_text (cell_of text.now))) }
+{
+    match assembled(alloc, text) {
+        Ok(built) => built_report(alloc, &built.image, built.start),
+        Err(AsmFault::At { line, column, kind }) => {
+            fault_report(alloc, line, column, name_of(kind))
+        }
+        Err(AsmFault::OutOfMemory) => Err(AllocError),
+    }
+}
+
+/// What a cell gives over no symbols.
+fn assembled(alloc: Global, text: &str) -> Result<Built, AsmFault>
+    ensures { Gives meaning_in result (cell_of text.now) }
+{
+    let statements = statements(alloc, text)?;
+    build(alloc, &statements, &Symbols::new(alloc))
+}
+
+/// The report of what was assembled: the image and, where the cell says where to start, how a run
+/// of it ends.
+fn built_report(
+    alloc: Global,
+    image: &[(u16, u8)],
+    start: Option<u16>,
+) -> Result<Report, AllocError>
+    ensures { IfOk result (λ report.
+        IsReport report Status.Success (built_text image.now start)) }
+{
+    let mut text = String::new(alloc);
+    push_image(alloc, &mut text, image)?;
+    if let Some(address) = start {
+        push_start(alloc, &mut text, image, address)?;
+    }
+    Ok(Report {
+        is_refused: false,
+        text,
+    })
+}
+
+/// Adds where the program starts, and how a run of it ends.
+fn push_start(
+    alloc: Global,
+    text: &mut String,
+    image: &[(u16, u8)],
+    address: u16,
+) -> Result<(), AllocError>
+    ensures { OnOk result (string_bytes text.new
+        ≡ string_bytes text.old ++ start_text image.now (Some address)) }
+{
+    text.push_str("start ")?;
+    push_word(text, address)?;
+    text.push_str("\n")?;
+    let mut runner = begun_at(alloc, image, address)?;
+    runner.print_end(RUN_LIMIT, text)?;
+    Ok(())
+}
+
+/// A machine after power-on with the image in its memory, about to begin at an address.
+fn begun_at(alloc: Global, image: &[(u16, u8)], address: u16) -> Result<Runner, AllocError>
+    ensures { IfOk result (λ runner. StandsFor runner (begun_at address image.now)) }
+{
+    let mut machine = Machine::new(alloc)?;
+    store_image(&mut machine, image);
+    machine.set_pc(address);
+    Ok(Runner::new(alloc, machine))
+}
+
+/// The report that something is wrong at a line and a column, both counted from 1.
+fn fault_report(alloc: Global, line: usize, column: usize, name: &str) -> Result<Report, AllocError>
+    ensures { IfOk result (λ report.
+        IsReport report Status.Refused (fault_line line column name.now)) }
+{
+    let mut text = String::new(alloc);
+    write!(text, "{line}:{column} {name}\n")?;
+    Ok(Report {
+        is_refused: true,
+        text,
+    })
+}
+
+/// The text whose UTF-8 the bytes are, if they are any.
+fn decoded(bytes: &[u8]) -> Option<&str>
+    ensures { option_map (λ text. text.now) result
+        ≡ (if is_utf8 bytes.now then Some bytes.now else None) }
+{
+    match str::from_utf8(bytes) {
+        Ok(text) => Some(text),
+        Err(_) => None,
+    }
+}
+
+/// The name of what is wrong, which is how it is displayed.
+pub fn name_of(kind: FaultKind) -> &'static str
+    ensures { result.now ≡ fault_name kind }
+{
+    match kind {
+        FaultKind::Character => "Character",
+        FaultKind::Number => "Number",
+        FaultKind::Text => "Text",
+        FaultKind::Name => "Name",
+        FaultKind::Mnemonic => "Mnemonic",
+        FaultKind::Operands => "Operands",
+        FaultKind::Conditional { .. } => "Conditional",
+        FaultKind::TooLong => "TooLong",
+        FaultKind::Undefined => "Undefined",
+        FaultKind::Divisor => "Divisor",
+        FaultKind::Nesting => "Nesting",
+        FaultKind::Twice => "Twice",
+        FaultKind::Early => "Early",
+        FaultKind::ByteRange => "ByteRange",
+        FaultKind::Overlap => "Overlap",
+        FaultKind::PastEnd => "PastEnd",
+    }
+}

@@ -1,0 +1,62 @@
+//! The word `dis`: the listing of bytes.
+ghost use Rattle.std.specs.Prelude.{IfOk, IfErr, IfSome};
+ghost use Rattle.lab_io.specs.HexInput.{input_of};
+ghost use Rattle.lab_io.specs.Engine.{Answers, IsFailure};
+ghost use Rattle.lab_io.specs.Report.{IsReport};
+ghost use Rattle.lab_engines.specs.DisText.{listed_text, listed_status, dis_text, dis_status};
+
+use i80_dis::listing::listing;
+use i80_rows::memory::MEMORY_SIZE;
+use lab_io::reading::read_hex;
+use lab_io::report::{Report, deliver, hex_refusal, refusal};
+use lab_io::status::Status;
+use std::alloc::{AllocError, Global};
+use std::io::{Read, Write};
+
+/// Reads bytes as hexadecimal text and writes their listing, of which the first stands at this
+/// address.
+/// What is refused is answered by one line, and nothing is written before all of the text is read.
+pub fn run_dis<R: Read, W: Write>(
+    alloc: Global,
+    origin: u16,
+    reader: &mut R,
+    writer: &mut W,
+) -> Status
+    // For every input that the reader has: the text and the status of that input, or a front of
+    // the text where it ran out of memory or a read or a write failed.
+    ensures { IfSome (R.remaining reader.old) (λ input.
+        Answers (dis_status origin (input_of input)) (dis_text origin (input_of input)) result
+        (W.contents writer.old) (W.contents writer.new)) }
+{
+    match dis_report(alloc, origin, reader) {
+        Ok(report) => deliver(writer, &report),
+        Err(failure) => failure,
+    }
+}
+
+fn dis_report<R: Read>(alloc: Global, origin: u16, reader: &mut R) -> Result<Report, Status>
+    ensures report { IfSome (R.remaining reader.old) (λ input.
+        IfOk result (λ report.
+        IsReport report (dis_status origin (input_of input)) (dis_text origin (input_of input)))) }
+    ensures failure { IfErr result IsFailure }
+{
+    match read_hex(alloc, reader) {
+        Ok(bytes) => listed_report(alloc, origin, &bytes).map_err(|_| Status::OutOfMemory),
+        Err(fault) => hex_refusal(alloc, fault),
+    }
+}
+
+/// The report of bytes, of which the first is to stand at this address.
+fn listed_report(alloc: Global, origin: u16, bytes: &[u8]) -> Result<Report, AllocError>
+    ensures { IfOk result (λ report. IsReport report
+        (listed_status origin bytes.now) (listed_text origin bytes.now)) }
+{
+    if usize::from(origin) + bytes.len() > MEMORY_SIZE {
+        return refusal(alloc, "past end\n");
+    }
+    let text = listing(alloc, origin, bytes)?;
+    Ok(Report {
+        is_refused: false,
+        text,
+    })
+}

@@ -1,0 +1,391 @@
+//! The engines on tables of inputs, each row worked out by hand from the manual.
+use crate::words::Word;
+use base_streams::fakes::{Narrow, Slow};
+use lab_io::status::Status;
+use std::alloc::{AllocError, Global};
+use std::test::Fail;
+
+const SUM: &str = "PC=0002 A=6C F=02 B=00 C=00 D=00 E=00 H=00 L=00 SP=0000
+PC=0004 A=6C F=02 B=2E C=00 D=00 E=00 H=00 L=00 SP=0000
+PC=0005 A=9A F=96 B=2E C=00 D=00 E=00 H=00 L=00 SP=0000
+PC=0006 A=9A F=96 B=2E C=00 D=00 E=00 H=00 L=00 SP=0000
+halted
+";
+
+const WAITS: &str = "PC=0001 A=00 F=02 B=00 C=00 D=00 E=00 H=00 L=00 SP=0000
+PC=0002 A=00 F=02 B=00 C=00 D=00 E=00 H=00 L=00 SP=0000
+waiting
+";
+
+const FIVE: &str = "X: MVI A,5\nHLT\nEND X\n";
+
+const FIVE_ENDS: &str = "0000: 3E 05 76
+start 0000
+PC=0003 A=05 F=02 B=00 C=00 D=00 E=00 H=00 L=00 SP=0000
+halted
+";
+
+// Two steps a round: of 100,000 steps 50,000 are C350h rounds.
+const COUNTS: &str = "0000: 03 C3 00 00
+start 0000
+PC=0000 A=00 F=02 B=C3 C=50 D=00 E=00 H=00 L=00 SP=0000
+limit
+";
+
+const EI_HLT: &str = "0000: FB 76
+start 0000
+PC=0002 A=00 F=02 B=00 C=00 D=00 E=00 H=00 L=00 SP=0000
+waiting
+";
+
+const UNDEFINED_AT_0: &str = "0000: 08
+start 0000
+PC=0000 A=00 F=02 B=00 C=00 D=00 E=00 H=00 L=00 SP=0000
+undefined 08
+";
+
+const UNDEFINED_AT_16: &str = "0010: 08
+start 0010
+PC=0010 A=00 F=02 B=00 C=00 D=00 E=00 H=00 L=00 SP=0000
+undefined 08
+";
+
+const JUMPS: &str = "0000: C3 00 00
+start 0000
+PC=0000 A=00 F=02 B=00 C=00 D=00 E=00 H=00 L=00 SP=0000
+limit
+";
+
+const DI_HLT: &str = "0000: F3 76
+start 0000
+PC=0002 A=00 F=02 B=00 C=00 D=00 E=00 H=00 L=00 SP=0000
+halted
+";
+
+const SEVENTEEN: &str = "0000: 41 42 43 44 45 46 47 48 49 4A 4B 4C 4D 4E 4F 50
+0010: 51
+";
+
+const LATER_FIRST: &str = "ORG 0FFFFH\nDB 1\nORG 2\nDB 2\nDS 1\nDB 3\nORG 3\nDB 4\nORG 6\nDB 5";
+
+const BYTES: &str = "3E 6C 08 CF";
+
+const LISTING: &str = "ORG 00100H
+MVI A,06CH
+DB 008H
+RST 1
+";
+
+const AT_100H: Word = Word::Dis(0x0100);
+
+/// A word, its input, and the whole text that it answers with success.
+const ANSWERS: [(Word, &str, &str); 26] = [
+    (Word::Step, "3E 6C 06 2E 80 76", SUM),
+    (Word::Step, "3 E6c\t06 2e\r\n80\n76\n", SUM),
+    (Word::Step, "08", "undefined 08\n"),
+    (Word::Step, "fd", "undefined FD\n"),
+    (Word::Step, "FB 76", WAITS),
+    (Word::Asm, FIVE, FIVE_ENDS),
+    (Word::Asm, "x:\tmvi a,5\r\nhlt\r\nend x\r\n)", FIVE_ENDS),
+    (Word::Asm, "", ""),
+    (Word::Asm, "\n; nothing\n", ""),
+    (Word::Asm, "HLT", "0000: 76\n"),
+    (Word::Asm, "HLT\nEND", "0000: 76\n"),
+    (Word::Asm, "HLT ; \u{e4}\u{20ac}", "0000: 76\n"),
+    (Word::Asm, "DB 'ABCDEFGHIJKLMNOPQ'", SEVENTEEN),
+    (
+        Word::Asm,
+        LATER_FIRST,
+        "0002: 02 04 03\n0006: 05\nFFFF: 01\n",
+    ),
+    (Word::Asm, "EI\nHLT\nEND 0", EI_HLT),
+    (Word::Asm, "DB 8\nEND 0", UNDEFINED_AT_0),
+    (Word::Asm, "ORG 10H\nDB 8\nEND 16", UNDEFINED_AT_16),
+    (Word::Asm, "JMP 0\nEND 0", JUMPS),
+    (Word::Asm, "DI\nHLT\nEND 0", DI_HLT),
+    (Word::Asm, "X: INX B\nJMP X\nEND X", COUNTS),
+    (AT_100H, BYTES, LISTING),
+    (AT_100H, "3 e6C\t08\r\nc\nF\n", LISTING),
+    (Word::Dis(0xffff), "00", "ORG 0FFFFH\nNOP\n"),
+    (Word::Dis(0), "C3 34", "ORG 00000H\nDB 0C3H\nDB 034H\n"),
+    (Word::Dis(0xffff), "", ""),
+    (Word::Dis(0), " \n", ""),
+];
+
+/// A word, an input that it refuses, and the line that says why.
+const REFUSALS: [(Word, &str, &str); 24] = [
+    (Word::Step, "3G", "bad hex\n"),
+    (Word::Step, "3", "bad hex\n"),
+    (Word::Step, "3E 6", "bad hex\n"),
+    (Word::Step, "0x3E", "bad hex\n"),
+    (Word::Step, "3E;", "bad hex\n"),
+    (Word::Step, "\u{feff}3E", "bad hex\n"),
+    (Word::Asm, "DB 0100H", "1:4 ByteRange\n"),
+    (Word::Asm, "NOP\n HLT \u{e4}", "2:6 Character\n"),
+    (Word::Asm, "DB 65536", "1:4 Number\n"),
+    (Word::Asm, "DB 'A", "1:4 Text\n"),
+    (Word::Asm, "A: NOP", "1:1 Name\n"),
+    (Word::Asm, "MOVE A,B", "1:1 Mnemonic\n"),
+    (Word::Asm, "NOP 1", "1:1 Operands\n"),
+    (Word::Asm, "NOP\nIF 1\nNOP", "2:1 Conditional\n"),
+    (Word::Asm, "DB X", "1:4 Undefined\n"),
+    (Word::Asm, "DB 1/0", "1:4 Divisor\n"),
+    (Word::Asm, "X: NOP\nX: NOP", "2:1 Twice\n"),
+    (Word::Asm, "ORG X\nX: NOP", "1:5 Early\n"),
+    (Word::Asm, "NOP\nORG 0\nNOP", "3:1 Overlap\n"),
+    (Word::Asm, "ORG 0FFFFH\nDW 1", "2:1 PastEnd\n"),
+    (Word::Dis(0xffff), "00 00", "past end\n"),
+    (Word::Dis(0xffff), "00 00 0", "bad hex\n"),
+    (Word::Dis(0xffff), "00 00 0G", "bad hex\n"),
+    (Word::Dis(0), "3", "bad hex\n"),
+];
+
+#[test]
+fn each_input_has_its_text(rt: HostRuntime) {
+    for (word, input, text) in ANSWERS {
+        let mut written = Vec::new(rt.alloc());
+        let status = word.run(rt.alloc(), &mut input.as_bytes(), &mut written);
+        assert_eq!(rt; status, Status::Success, "{input}");
+        assert_eq!(rt; written.as_slice(), text.as_bytes(), "{input}");
+    }
+}
+
+#[test]
+fn a_refused_input_has_one_line(rt: HostRuntime) {
+    for (word, input, line) in REFUSALS {
+        let mut written = Vec::new(rt.alloc());
+        let status = word.run(rt.alloc(), &mut input.as_bytes(), &mut written);
+        assert_eq!(rt; status, Status::Refused, "{input}");
+        assert_eq!(rt; written.as_slice(), line.as_bytes(), "{input}");
+    }
+}
+
+#[test]
+fn what_is_not_utf8_is_bad_text(rt: HostRuntime) {
+    for input in [b"\xff", b"\x80", b"\xc3"] {
+        let mut written = Vec::new(rt.alloc());
+        let status = Word::Asm.run(rt.alloc(), &mut input.as_slice(), &mut written);
+        assert_eq!(rt; status, Status::Refused);
+        assert_eq!(rt; written.as_slice(), b"bad text\n".as_slice());
+    }
+}
+
+/// A word, a piece of input and how often it comes, what follows; the answer's status, how many lines
+/// it has, and how it ends.
+#[rattlefmt::skip]
+const LONG: [(Word, &[u8], u32, &[u8], Status, usize, &str); 12] = [
+    (
+        Word::Step,
+        b"",
+        0,
+        b"",
+        Status::Success,
+        1001,
+        "PC=03E8 A=00 F=02 B=00 C=00 D=00 E=00 H=00 L=00 SP=0000\nlimit\n",
+    ),
+    (
+        Word::Step,
+        b"00",
+        999,
+        b"7608",
+        Status::Success,
+        1001,
+        "PC=03E8 A=00 F=02 B=00 C=00 D=00 E=00 H=00 L=00 SP=0000\nhalted\n",
+    ),
+    (
+        Word::Step,
+        b"00",
+        999,
+        b"0008",
+        Status::Success,
+        1001,
+        "PC=03E8 A=00 F=02 B=00 C=00 D=00 E=00 H=00 L=00 SP=0000\nlimit\n",
+    ),
+    (
+        Word::Step,
+        b"76 ",
+        65_536,
+        b"",
+        Status::Success,
+        2,
+        "PC=0001 A=00 F=02 B=00 C=00 D=00 E=00 H=00 L=00 SP=0000\nhalted\n",
+    ),
+    (
+        Word::Step,
+        b"76 ",
+        65_536,
+        b"0",
+        Status::Refused,
+        1,
+        "bad hex\n",
+    ),
+    (
+        Word::Step,
+        b"76 ",
+        65_536,
+        b"00\n",
+        Status::Refused,
+        1,
+        "past end\n",
+    ),
+    (
+        Word::Step,
+        b"76 ",
+        65_536,
+        b"00\nx",
+        Status::Refused,
+        1,
+        "bad hex\n",
+    ),
+    (
+        Word::Asm,
+        b";",
+        1_048_577,
+        b"",
+        Status::Refused,
+        1,
+        "1:1 TooLong\n",
+    ),
+    (
+        Word::Asm,
+        b";",
+        1_048_577,
+        b"\xff",
+        Status::Refused,
+        1,
+        "bad text\n",
+    ),
+    (
+        Word::Dis(0),
+        b"76",
+        65_536,
+        b"",
+        Status::Success,
+        65_537,
+        "HLT\n",
+    ),
+    (
+        Word::Dis(0),
+        b"76",
+        65_536,
+        b"76",
+        Status::Refused,
+        1,
+        "past end\n",
+    ),
+    (
+        Word::Dis(0),
+        b"76",
+        65_536,
+        b"767",
+        Status::Refused,
+        1,
+        "bad hex\n",
+    ),
+];
+
+fn repeated(alloc: Global, piece: &[u8], count: u32, tail: &[u8]) -> Result<Vec<u8>, AllocError> {
+    let mut bytes = Vec::new(alloc);
+    for _ in 0..count {
+        bytes.extend_from_slice(piece)?;
+    }
+    bytes.extend_from_slice(tail)?;
+    Ok(bytes)
+}
+
+#[test]
+fn long_inputs_are_answered_up_to_their_limits(rt: HostRuntime) -> Result<(), Fail> {
+    for (word, piece, count, tail, status, lines, end) in LONG {
+        let input = repeated(rt.alloc(), piece, count, tail)?;
+        let mut written = Vec::new(rt.alloc());
+        let answer = word.run(rt.alloc(), &mut input.as_slice(), &mut written);
+        assert_eq!(rt; answer, status, "{end}");
+        let ends = written.iter().filter(|byte| **byte == b'\n').count();
+        assert_eq!(rt; ends, lines, "{end}");
+        assert!(rt; written.ends_with(end.as_bytes()), "{end}");
+    }
+    Ok(())
+}
+
+#[test]
+fn pieces_and_interruptions_change_nothing(rt: HostRuntime) {
+    for (word, input, text) in [
+        (Word::Step, "3E 6C 06 2E 80 76\r\n", SUM),
+        (Word::Asm, FIVE, FIVE_ENDS),
+        (AT_100H, BYTES, LISTING),
+    ] {
+        for piece in [1usize, 2, 7, 4096] {
+            let mut reader = Slow {
+                rest: input.as_bytes(),
+                piece,
+                is_interrupted: false,
+                fails: false,
+            };
+            let mut written = Vec::new(rt.alloc());
+            let status = word.run(rt.alloc(), &mut reader, &mut written);
+            assert_eq!(rt; status, Status::Success, "{piece}");
+            assert_eq!(rt; written.as_slice(), text.as_bytes(), "{piece}");
+        }
+    }
+}
+
+#[test]
+fn a_failed_read_writes_nothing(rt: HostRuntime) {
+    for (word, input) in [
+        (Word::Step, "3E 6C"),
+        (Word::Asm, FIVE),
+        (Word::Asm, "DB 0100H"),
+        (Word::Asm, ""),
+        (AT_100H, BYTES),
+    ] {
+        let mut reader = Slow {
+            rest: input.as_bytes(),
+            piece: 2,
+            is_interrupted: false,
+            fails: true,
+        };
+        let mut written = Vec::new(rt.alloc());
+        let status = word.run(rt.alloc(), &mut reader, &mut written);
+        assert_eq!(rt; status, Status::Failed, "{input}");
+        assert!(rt; written.is_empty(), "{input}");
+    }
+}
+
+/// A word, its input, its text, and how many bytes the writer has room for.
+const ROOMS: [(Word, &str, &str, usize); 16] = [
+    (Word::Asm, "", "", 0),
+    (Word::Step, "3E6C062E8076", SUM, 0),
+    (Word::Step, "3E6C062E8076", SUM, 1),
+    (Word::Step, "3E6C062E8076", SUM, 56),
+    (Word::Step, "3E6C062E8076", SUM, 230),
+    (Word::Step, "3E6C062E8076", SUM, SUM.len()),
+    (Word::Asm, FIVE, FIVE_ENDS, 0),
+    (Word::Asm, FIVE, FIVE_ENDS, 1),
+    (Word::Asm, FIVE, FIVE_ENDS, 15),
+    (Word::Asm, FIVE, FIVE_ENDS, 16),
+    (Word::Asm, FIVE, FIVE_ENDS, FIVE_ENDS.len() - 1),
+    (Word::Asm, FIVE, FIVE_ENDS, FIVE_ENDS.len()),
+    (AT_100H, BYTES, LISTING, 0),
+    (AT_100H, BYTES, LISTING, 12),
+    (AT_100H, BYTES, LISTING, LISTING.len() - 1),
+    (AT_100H, BYTES, LISTING, LISTING.len()),
+];
+
+#[test]
+fn a_failed_write_leaves_a_front_of_the_text(rt: HostRuntime) {
+    for (word, input, text, room) in ROOMS {
+        let mut writer = Narrow {
+            bytes: Vec::new(rt.alloc()),
+            room,
+        };
+        let status = word.run(rt.alloc(), &mut input.as_bytes(), &mut writer);
+        let wanted = if room == text.len() {
+            Status::Success
+        } else {
+            Status::Failed
+        };
+        assert_eq!(rt; status, wanted, "{room}");
+        assert_eq!(rt; writer.bytes.len(), room, "{room}");
+        assert!(rt; text.as_bytes().starts_with(&writer.bytes), "{room}");
+    }
+}

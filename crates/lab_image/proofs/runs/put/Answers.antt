@@ -1,9 +1,0 @@
-use Rattle.std.proofs.Common.{◌∙◌, sym, arith}
-use Rattle.lab_image.proofs.RunLemmas.{overlay_last}
-use Rattle.lab_image.proofs.runs.put.Goals as goal
-
-pub returns-then-count_ended-len : goal.returns-then-count_ended-len
-returns-then-count_ended-len c =
-    let ends = rw c.deref.ensures.value at c.count_ended.ensures in
-    c.in_ok-push.ensures.items
-    ∙ sym (overlay_last c.args.runs.now.items c.args.run c.count_ended.result c.requires.sorted c.requires.order ends (omega arith))

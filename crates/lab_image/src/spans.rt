@@ -1,0 +1,166 @@
+//! Sorted spans of addresses, each of them what is left of a row.
+ghost use Rattle.std.specs.Prelude.{◌≡◌, ◌≤◌, ◌<◌, ◌∷◌, ◌++◌, [], OnOk, IfOk, IfSome};
+ghost use Rattle.lab_image.specs.Loads.{Tells};
+ghost use Rattle.lab_image.specs.Spans.{AreSpans, EndBy, between, origin_in, overlay, span_of};
+
+use crate::origin::Origin;
+use asm_build::built::Row;
+use i80_rows::memory::MEMORY_SIZE;
+use std::alloc::{AllocError, Global};
+
+/// How many addresses there are.
+const ADDRESSES: u32 = MEMORY_SIZE as u32;
+
+/// Addresses of a row that follow each other.
+#[derive(Clone, Copy)]
+pub(crate) struct Span {
+    /// The first of them.
+    pub(crate) from: u32,
+    /// One more than the last of them.
+    pub(crate) to: u32,
+    /// Where the row began, which a cut leaves as it is.
+    pub(crate) start: u16,
+    pub(crate) source: u32,
+    pub(crate) line: usize,
+}
+
+// How many spans end by an address, so that they lie below it.
+fn count_ended(spans: &[Span], address: u32) -> usize
+    requires { AreSpans 0 spans.now 65536 }
+    ensures { EndBy spans.now address result }
+{
+    let mut low = 0;
+    let mut high = spans.len();
+    while low < high {
+        let middle = low + (high - low) / 2;
+        if spans[middle].to <= address {
+            low = middle + 1;
+        } else {
+            high = middle;
+        }
+    }
+    low
+}
+
+/// The origin of an address.
+pub(crate) fn origin_in(spans: &[Span], address: u16) -> Option<Origin>
+    requires { AreSpans 0 spans.now 65536 }
+    ensures { result ≡ origin_in spans.now address }
+{
+    let place = count_ended(spans, u32::from(address));
+    if place == spans.len() {
+        return None;
+    }
+    let span = spans[place];
+    if u32::from(address) < span.from {
+        return None;
+    }
+    Some(Origin {
+        source: span.source,
+        line: span.line,
+        is_first: address == span.start,
+    })
+}
+
+// Appends what the spans have of the addresses from `low` on and below `high`.
+fn push_between(all: &mut Vec<Span>, spans: &[Span], low: u32, high: u32) -> Result<(), AllocError>
+    requires { AreSpans 0 spans.now 65536 }
+    ensures { OnOk result (all.new.items ≡ all.old.items ++ between low high spans.now) }
+{
+    let (_, rest) = spans.split_at(count_ended(spans, low));
+    for span in rest {
+        let from = low.max(span.from);
+        let to = span.to.min(high);
+        if from >= to {
+            return Ok(());
+        }
+        all.push(Span {
+            from,
+            to,
+            start: span.start,
+            source: span.source,
+            line: span.line,
+        })?;
+    }
+    Ok(())
+}
+
+/// The new spans, and between them what the old ones have left, in one pass over both.
+pub(crate) fn overlaid(alloc: Global, old: &[Span], new: &[Span]) -> Result<Vec<Span>, AllocError>
+    requires { AreSpans 0 old.now 65536 }
+    ensures { IfOk result (λ all. all.items ≡ overlay 0 old.now new.now) }
+{
+    let mut all = Vec::new(alloc);
+    let mut low = 0;
+    for span in new {
+        push_between(&mut all, old, low, span.from)?;
+        all.push(*span)?;
+        low = span.to;
+    }
+    push_between(&mut all, old, low, ADDRESSES)?;
+    Ok(all)
+}
+
+// Puts a span in the place of what the others have of its addresses.
+fn put(alloc: Global, spans: &mut Vec<Span>, span: Span) -> Result<(), AllocError>
+    requires sorted { AreSpans 0 spans.old.items 65536 }
+    requires order { span.from < span.to }
+    ensures { OnOk result (spans.new.items ≡ overlay 0 spans.old.items (span ∷ [])) }
+{
+    // Rows mostly come in the order of their addresses, and then nothing is copied.
+    if count_ended(spans, span.from) == spans.len() {
+        spans.push(span)?;
+        return Ok(());
+    }
+    *spans = overlaid(alloc, spans, &[span])?;
+    Ok(())
+}
+
+// The addresses that a row covers, if it covers any. None lies past the last one of memory.
+fn span_of(source: u32, row: &Row) -> Option<Span>
+    ensures value { result ≡ span_of source row.now }
+    ensures order { IfSome result (λ span. (span.from < span.to) × (span.to ≤ 65536)) }
+{
+    if row.length == 0 {
+        return None;
+    }
+    let from = u32::from(row.address);
+    let space = ADDRESSES - from;
+    let length = u32::try_from(row.length).unwrap_or(space).min(space);
+    Some(Span {
+        from,
+        to: from + length,
+        start: row.address,
+        source,
+        line: row.line,
+    })
+}
+
+// Puts the span of a row, if it has one.
+fn put_row(alloc: Global, spans: &mut Vec<Span>, source: u32, row: &Row) -> Result<(), AllocError>
+    requires { AreSpans 0 spans.old.items 65536 }
+    ensures sorted { OnOk result (AreSpans 0 spans.new.items 65536) }
+    ensures origins { OnOk result (Tells source (row.now ∷ []) spans.old.items spans.new.items) }
+{
+    match span_of(source, row) {
+        Some(span) => put(alloc, spans, span),
+        None => Ok(()),
+    }
+}
+
+/// Puts the rows of a source, in order.
+pub(crate) fn put_rows(
+    alloc: Global,
+    spans: &mut Vec<Span>,
+    source: u32,
+    rows: &[Row],
+) -> Result<(), AllocError>
+    requires { AreSpans 0 spans.old.items 65536 }
+    ensures sorted { OnOk result (AreSpans 0 spans.new.items 65536) }
+    ensures origins { OnOk result (Tells source rows.now spans.old.items spans.new.items) }
+{
+    for row in rows {
+        put_row(alloc, spans, source, row)?;
+    }
+    Ok(())
+}

@@ -1,7 +1,0 @@
-use Rattle.lab_io.proofs.StreamLemmas.{read_piece}
-use Rattle.lab_io.proofs.streams.read_hex.Goals as goal
-
-pub loop-preserved-in-Ok-feed : goal.loop-preserved-in-Ok-feed
-loop-preserved-in-Ok-feed g c =
-    let reads = rw c.split_at.ensures.front at c.in-Ok-feed.ensures.ok in
-    read_piece _ _ _ _ _ _ c.loop.invariant c.in-Ok.ensures.bytes.0 reads

@@ -1,5 +1,0 @@
-use Rattle.lab_io.proofs.StreamLemmas.{HasRead}
-use Rattle.lab_io.proofs.streams.read_hex.Given as goal
-
-abbrev pub invariant-loop : goal.invariant-loop
-invariant-loop g l = HasRead (g.R.Read.remaining l.fn.reader) (g.R.Read.remaining l.reader) l.input

@@ -1,0 +1,562 @@
+//! Streams worked out by hand from RFC 23, cut in many ways.
+
+use base_text::hexadecimal::digit_value;
+use base_text::sequence::{Bytes, Frames};
+use std::alloc::{AllocError, Global};
+use std::process::Abort;
+use std::test::Fail;
+use zmtp_wire::fault::{FeedFault, StreamFault};
+use zmtp_wire::incomings::Incomings;
+use zmtp_wire::role::Role;
+use zmtp_wire::side::Side;
+use zmtp_wire::writing::{greeting, put_message, ready};
+
+// A greeting with all that is free filled in, and a DEALER's READY.
+const GREETING: &str = "FF00000000000000017F03014E554C4C00000000000000000000000000000000\
+    0100000000000000000000000000000000000000000000000000000000000009";
+
+const DEALER: &str = "041C0552454144590B536F636B65742D54797065000000064445414C4552";
+
+// Adds the bytes that digits spell.
+fn push_hex(bytes: &mut Vec<u8>, digits: &str) -> Result<(), Fail> {
+    let mut high = None;
+    for digit in digits.as_bytes() {
+        let Some(digit) = digit_value(*digit) else {
+            continue;
+        };
+        match high {
+            None => high = Some(digit),
+            Some(first) => {
+                bytes.push(first % 16 * 16 + digit)?;
+                high = None;
+            }
+        }
+    }
+    Ok(())
+}
+
+// The bytes of three parts.
+fn bytes_of(alloc: Global, greeting: &str, ready: &str, traffic: &str) -> Result<Vec<u8>, Fail> {
+    let mut bytes = Vec::new(alloc);
+    push_hex(&mut bytes, greeting)?;
+    push_hex(&mut bytes, ready)?;
+    push_hex(&mut bytes, traffic)?;
+    Ok(bytes)
+}
+
+// What is left of a text after a part and the byte that ends it.
+fn text_after_part<'a>(text: &'a [u8], part: &[u8], end: u8) -> Option<&'a [u8]> {
+    let (last, others) = text.strip_prefix(part)?.split_first()?;
+    if *last == end { Some(others) } else { None }
+}
+
+// What is left of a text after these messages: each frame ends with a comma, each message with a full stop.
+fn text_after<'a>(text: &'a [u8], messages: &[Frames]) -> Option<&'a [u8]> {
+    let mut text = text;
+    for message in messages {
+        for frame in message.as_slice() {
+            text = text_after_part(text, frame.as_slice(), b',')?;
+        }
+        text = text_after_part(text, b"", b'.')?;
+    }
+    Some(text)
+}
+
+// Whether a peer's READY was accepted, and whether it gave an identity.
+fn known(side: &Side) -> (bool, bool) {
+    (side.is_ready(), side.identity().is_some())
+}
+
+// What a feed gives. Where memory is refused the side has to be as before, and the same piece is fed again.
+fn answer_of(alloc: Global, side: &mut Side, piece: &[u8]) -> Result<Incomings, FeedFault> {
+    let before = known(side);
+    match side.feed(alloc, piece) {
+        Err(FeedFault::OutOfMemory) if known(side) == before => side.feed(alloc, piece),
+        answer => answer,
+    }
+}
+
+// Feeds a piece that gives the messages at the front of a text. Gives the text that is left, and the fault.
+fn feed<'a>(
+    alloc: Global,
+    side: &mut Side,
+    piece: &[u8],
+    text: &'a [u8],
+) -> Result<(&'a [u8], Option<StreamFault>), Fail> {
+    let (messages, fault) = match answer_of(alloc, side, piece) {
+        Ok(messages) => (messages, None),
+        Err(FeedFault::Broken { before, cause }) => (before, Some(cause)),
+        Err(FeedFault::OutOfMemory) => return Err(Fail::from(AllocError)),
+    };
+    let text = text_after(text, messages.as_slice()).ok_or("other messages")?;
+    Ok((text, fault))
+}
+
+// Feeds bytes in pieces of this size, which give the messages of this text and no others. Gives how many
+// bytes were fed when the stream broke, and why it did.
+fn feed_all(
+    alloc: Global,
+    side: &mut Side,
+    bytes: &[u8],
+    size: usize,
+    text: &str,
+) -> Result<Option<(usize, StreamFault)>, Fail> {
+    let mut text = text.as_bytes();
+    let mut fed = 0usize;
+    let mut broken = None;
+    for piece in bytes.chunks(size.max(1)) {
+        let (left, fault) = feed(alloc, side, piece, text)?;
+        text = left;
+        fed = fed.saturating_add(piece.len());
+        if let Some(fault) = fault {
+            broken = Some((fed, fault));
+            break;
+        }
+    }
+    if text.is_empty() {
+        Ok(broken)
+    } else {
+        Err(Fail::from("too few messages"))
+    }
+}
+
+// A ROUTER that has read these bytes, in one piece.
+fn router_after(alloc: Global, greeting: &str, ready: &str) -> Result<Side, Fail> {
+    let bytes = bytes_of(alloc, greeting, ready, "")?;
+    let mut side = Side::new(alloc, Role::Router);
+    match side.feed(alloc, bytes.as_slice()) {
+        Ok(_) => Ok(side),
+        Err(_) => Err(Fail::from("no handshake")),
+    }
+}
+
+// Bytes, the messages that they complete, and where and why they break the stream.
+type Row = (&'static str, &'static str, Option<(usize, StreamFault)>);
+
+// Feeds bytes one by one to a ROUTER that has read the greeting and the READY.
+fn outcome(
+    alloc: Global,
+    greeting: &str,
+    ready: &str,
+    digits: &str,
+    text: &str,
+) -> Result<Option<(usize, StreamFault)>, Fail> {
+    let bytes = bytes_of(alloc, "", "", digits)?;
+    let mut side = router_after(alloc, greeting, ready)?;
+    feed_all(alloc, &mut side, bytes.as_slice(), 1, text)
+}
+
+fn check_rows(
+    rt: &impl Abort,
+    alloc: Global,
+    greeting: &str,
+    ready: &str,
+    rows: &[Row],
+) -> Result<(), Fail> {
+    for (digits, text, broken) in rows {
+        let found = outcome(alloc, greeting, ready, digits, text)?;
+        assert_eq!(rt; found, *broken, "{digits}");
+    }
+    Ok(())
+}
+
+const GREETINGS: [Row; 7] = [
+    ("FE", "", Some((1, StreamFault::Signature))),
+    (
+        "FF00000000000000007E",
+        "",
+        Some((10, StreamFault::Signature)),
+    ),
+    (
+        "FF01020304050607087F02",
+        "",
+        Some((11, StreamFault::Version)),
+    ),
+    ("FF00000000000000007F04FF4E554C4C00", "", None),
+    (
+        "FF00000000000000007F0300504C41494E",
+        "",
+        Some((13, StreamFault::Mechanism)),
+    ),
+    (
+        "FF00000000000000007F03004E554C4C53",
+        "",
+        Some((17, StreamFault::Mechanism)),
+    ),
+    (
+        "FF00000000000000007F03004E554C4C00000000000000000000000000000001",
+        "",
+        Some((32, StreamFault::Mechanism)),
+    ),
+];
+
+#[test]
+fn greetings(rt: HostRuntime) -> Result<(), Fail> {
+    check_rows(&rt, rt.alloc(), "", "", &GREETINGS)
+}
+
+const HANDSHAKES: [Row; 13] = [
+    ("08", "", Some((1, StreamFault::Flags))),
+    ("00", "", Some((1, StreamFault::Command))),
+    ("03", "", Some((1, StreamFault::Command))),
+    ("0400", "", Some((2, StreamFault::Command))),
+    ("04050450494E47", "", Some((7, StreamFault::Command))),
+    ("0406055245414459", "", Some((8, StreamFault::SocketType))),
+    ("04080552454144590000", "", Some((10, StreamFault::Command))),
+    ("040D055245414459017800000001", "", None),
+    (
+        "040C055245414459017800000001",
+        "",
+        Some((14, StreamFault::Command)),
+    ),
+    (
+        "04190552454144590B536F636B65742D5479706500000003535542",
+        "",
+        Some((27, StreamFault::SocketType)),
+    ),
+    (
+        "0600000000000000190552454144590B734F434B45542D7459504500000003524551 000161",
+        "a,.",
+        None,
+    ),
+    ("060000000000100001", "", Some((9, StreamFault::FrameSize))),
+    ("0401", "", None),
+];
+
+#[test]
+fn handshakes(rt: HostRuntime) -> Result<(), Fail> {
+    check_rows(&rt, rt.alloc(), GREETING, "", &HANDSHAKES)
+}
+
+const TRAFFIC: [Row; 16] = [
+    ("01 00 00 05 68 65 6C 6C 6F", ",hello,.", None),
+    ("02 00 00 00 00 00 00 00 01 61", "a,.", None),
+    ("02 00 00 00 00 00 10 00 00", "", None),
+    (
+        "02 00 00 00 00 00 10 00 01",
+        "",
+        Some((9, StreamFault::FrameSize)),
+    ),
+    (
+        "06 00 00 00 00 00 10 00 01",
+        "",
+        Some((9, StreamFault::FrameSize)),
+    ),
+    (
+        "03 00 00 00 00 00 11",
+        "",
+        Some((7, StreamFault::FrameSize)),
+    ),
+    ("02 80", "", Some((2, StreamFault::FrameSize))),
+    ("00 01 61 08", "a,.", Some((4, StreamFault::Flags))),
+    ("05", "", Some((1, StreamFault::Flags))),
+    ("07", "", Some((1, StreamFault::Flags))),
+    ("01 00 04", "", Some((3, StreamFault::Command))),
+    (
+        "04 06 05 45 52 52 4F 52",
+        "",
+        Some((8, StreamFault::Command)),
+    ),
+    ("04 00", "", Some((2, StreamFault::Command))),
+    ("04 02 02 61", "", Some((4, StreamFault::Command))),
+    ("04 05 04 50 49 4E 47 00 01 61", "a,.", None),
+    ("04 06 05 52 45 41 44 59 00 01 61", "a,.", None),
+];
+
+#[test]
+fn traffic(rt: HostRuntime) -> Result<(), Fail> {
+    check_rows(&rt, rt.alloc(), GREETING, DEALER, &TRAFFIC)
+}
+
+// Feeds the same piece again and again.
+fn check_again(rt: &impl Abort, alloc: Global, side: &mut Side) -> Result<(), Fail> {
+    for text in &["a,.", "", ""] {
+        let broken = feed_all(alloc, side, b"\0\x01a\x08", 4, text)?;
+        assert_eq!(rt; broken, Some((4, StreamFault::Flags)));
+    }
+    Ok(())
+}
+
+#[test]
+fn faults_stay(rt: HostRuntime) -> Result<(), Fail> {
+    let mut side = router_after(rt.alloc(), GREETING, DEALER)?;
+    check_again(&rt, rt.alloc(), &mut side)
+}
+
+// Sixty-three frames that others follow, and then one more, or the last.
+const FRAME_COUNTS: [Row; 2] = [
+    (
+        "0100 0100 0100 0100 0100 0100 0100 0100 0100 0100 0100 0100 0100 0100 0100 0100 0100 0100 0100\
+         0100 0100 0100 0100 0100 0100 0100 0100 0100 0100 0100 0100 0100 0100 0100 0100 0100 0100 0100\
+         0100 0100 0100 0100 0100 0100 0100 0100 0100 0100 0100 0100 0100 0100 0100 0100 0100 0100 0100\
+         0100 0100 0100 0100 0100 0100 01",
+        "",
+        Some((127, StreamFault::FrameCount)),
+    ),
+    (
+        "0100 0100 0100 0100 0100 0100 0100 0100 0100 0100 0100 0100 0100 0100 0100 0100 0100 0100 0100\
+         0100 0100 0100 0100 0100 0100 0100 0100 0100 0100 0100 0100 0100 0100 0100 0100 0100 0100 0100\
+         0100 0100 0100 0100 0100 0100 0100 0100 0100 0100 0100 0100 0100 0100 0100 0100 0100 0100 0100\
+         0100 0100 0100 0100 0100 0100 0000",
+        ",,,,,,,,,,,,,,,,,,,,,,,,,,,,,,,,,,,,,,,,,,,,,,,,,,,,,,,,,,,,,,,,.",
+        None,
+    ),
+];
+
+#[test]
+fn frame_counts(rt: HostRuntime) -> Result<(), Fail> {
+    check_rows(&rt, rt.alloc(), GREETING, DEALER, &FRAME_COUNTS)
+}
+
+// A peer's READY, whether it is accepted, and the identity that it gives.
+const IDENTITIES: [(&str, bool, Option<&[u8]>); 4] = [
+    ("", false, None),
+    (DEALER, true, None),
+    (
+        "04290552454144590B536F636B65742D54797065000000064445414C4552084964656E7469747900000000",
+        true,
+        Some(b""),
+    ),
+    (
+        "0438055245414459084964656E7469747900000001610B536F636B65742D5479706500000006524F5554455208\
+        4944454E544954590000000162",
+        true,
+        Some(b"a"),
+    ),
+];
+
+// Whether the peer gave this identity, or none.
+fn has_identity(side: &Side, want: Option<&[u8]>) -> bool {
+    match (side.identity(), want) {
+        (Some(identity), Some(want)) => identity.as_slice() == want,
+        (None, None) => true,
+        _ => false,
+    }
+}
+
+// Whether READY is accepted, and whether it gives this identity, or none.
+fn known_after(alloc: Global, ready: &str, want: Option<&[u8]>) -> Result<(bool, bool), Fail> {
+    let side = router_after(alloc, GREETING, ready)?;
+    Ok((side.is_ready(), has_identity(&side, want)))
+}
+
+#[test]
+fn identities(rt: HostRuntime) -> Result<(), Fail> {
+    for (ready, is_ready, identity) in &IDENTITIES {
+        let known = known_after(rt.alloc(), ready, *identity)?;
+        assert_eq!(rt; known, (*is_ready, true), "{ready}");
+    }
+    Ok(())
+}
+
+const ROLES: [Role; 5] = [Role::Router, Role::Pub, Role::Rep, Role::Dealer, Role::Sub];
+
+// A peer's socket type, and the roles that accept it.
+const ACCEPTED: [(&str, &[Role]); 8] = [
+    ("DEALER", &[Role::Router, Role::Rep]),
+    ("PUB", &[Role::Sub]),
+    ("REP", &[]),
+    ("REQ", &[Role::Router, Role::Rep]),
+    ("ROUTER", &[Role::Router, Role::Dealer]),
+    ("SUB", &[Role::Pub]),
+    ("XSUB", &[Role::Pub]),
+    ("router", &[]),
+];
+
+#[test]
+fn accepted_types(rt: HostRuntime) {
+    for (name, roles) in &ACCEPTED {
+        for role in &ROLES {
+            assert_eq!(rt;
+                role.accepts(name.as_bytes()),
+                roles.contains(role),
+                "{name}"
+            );
+        }
+    }
+}
+
+// What a side of each role writes after its greeting.
+const READIES: [(Role, &str); 5] = [
+    (
+        Role::Router,
+        "04 1C 05 52 45 41 44 59 0B 53 6F 63 6B 65 74 2D 54 79 70 65 00 00 00 06 52 4F 55 54 45 52",
+    ),
+    (
+        Role::Pub,
+        "04 19 05 52 45 41 44 59 0B 53 6F 63 6B 65 74 2D 54 79 70 65 00 00 00 03 50 55 42",
+    ),
+    (
+        Role::Rep,
+        "04 19 05 52 45 41 44 59 0B 53 6F 63 6B 65 74 2D 54 79 70 65 00 00 00 03 52 45 50",
+    ),
+    (
+        Role::Sub,
+        "04 19 05 52 45 41 44 59 0B 53 6F 63 6B 65 74 2D 54 79 70 65 00 00 00 03 53 55 42",
+    ),
+    (Role::Dealer, DEALER),
+];
+
+#[test]
+fn written_handshakes(rt: HostRuntime) -> Result<(), Fail> {
+    let mut want = bytes_of(
+        rt.alloc(),
+        "FF 00 00 00 00 00 00 00 00 7F 03 00 4E 55 4C 4C",
+        "",
+        "",
+    )?;
+    want.resize(64, 0)?;
+    assert_eq!(rt; greeting(), want.as_slice());
+    for (role, digits) in &READIES {
+        let want = bytes_of(rt.alloc(), digits, "", "")?;
+        assert_eq!(rt; ready(*role), want.as_slice());
+    }
+    Ok(())
+}
+
+// The message of an empty frame and one of 256 bytes.
+fn message_of_two(alloc: Global) -> Result<Bytes, Fail> {
+    let mut frames = Frames::new(alloc);
+    frames.push(Bytes::new(alloc))?;
+    frames.push(Bytes::from(vec![in alloc; b'x'; 256]?))?;
+    Ok(put_message(alloc, frames.as_slice())?)
+}
+
+#[test]
+fn written_message(rt: HostRuntime) -> Result<(), Fail> {
+    let mut want = bytes_of(rt.alloc(), "01 00 02 00 00 00 00 00 00 01 00", "", "")?;
+    want.resize(267, b'x')?;
+    let message = message_of_two(rt.alloc())?;
+    assert_eq!(rt; message.as_slice(), want.as_slice());
+    Ok(())
+}
+
+// A handshake and these messages five hundred times, and the text of the messages.
+fn long_stream(alloc: Global) -> Result<(Vec<u8>, String), Fail> {
+    let mut bytes = bytes_of(alloc, GREETING, DEALER, "")?;
+    let mut text = String::new(alloc);
+    for _ in 0..500 {
+        push_hex(
+            &mut bytes,
+            "01 01 61 02 00 00 00 00 00 00 00 02 68 69 00 01 62",
+        )?;
+        text.push_str("a,hi,.b,.")?;
+    }
+    Ok((bytes, text))
+}
+
+// Feeds bytes in pieces of this size to a ROUTER.
+fn outcome_in_pieces(
+    alloc: Global,
+    bytes: &[u8],
+    size: usize,
+    text: &str,
+) -> Result<Option<(usize, StreamFault)>, Fail> {
+    let mut side = Side::new(alloc, Role::Router);
+    feed_all(alloc, &mut side, bytes, size, text)
+}
+
+fn long_outcome(alloc: Global, size: usize) -> Result<Option<(usize, StreamFault)>, Fail> {
+    let (bytes, text) = long_stream(alloc)?;
+    outcome_in_pieces(alloc, bytes.as_slice(), size, text.as_str())
+}
+
+#[test]
+fn pieces(rt: HostRuntime) -> Result<(), Fail> {
+    for size in &[1, 7, 4096, 65536] {
+        let broken = long_outcome(rt.alloc(), *size)?;
+        assert_eq!(rt; broken, None, "in pieces of {size}");
+    }
+    Ok(())
+}
+
+// Feeds a handshake and a message in two parts. Gives whether READY was accepted in the first.
+fn feed_two(alloc: Global, side: &mut Side, front: &[u8], back: &[u8]) -> Result<bool, Fail> {
+    let (text, fault) = feed(alloc, side, front, ",hello,.".as_bytes())?;
+    let is_ready = side.is_ready();
+    let (rest, broken) = feed(alloc, side, back, text)?;
+    if text.len() == 8 && rest.is_empty() && fault.is_none() && broken.is_none() {
+        Ok(is_ready)
+    } else {
+        Err(Fail::from("another message, or a fault"))
+    }
+}
+
+fn ready_between(alloc: Global, front: &[u8], back: &[u8]) -> Result<bool, Fail> {
+    let mut side = Side::new(alloc, Role::Router);
+    feed_two(alloc, &mut side, front, back)
+}
+
+// Cut once, after each byte of the handshake and of the first message.
+#[test]
+fn cut_once(rt: HostRuntime) -> Result<(), Fail> {
+    let bytes = bytes_of(rt.alloc(), GREETING, DEALER, "01 00 00 05 68 65 6C 6C 6F")?;
+    for cut in 0..103 {
+        let (front, back) = bytes.as_slice().split_at_checked(cut).ok_or("too short")?;
+        let is_ready = ready_between(rt.alloc(), front, back)?;
+        assert_eq!(rt; is_ready, cut >= 94, "cut at {cut}");
+    }
+    Ok(())
+}
+
+// A message of one frame, moved in and out.
+fn frames_moved(alloc: Global) -> Result<Frames, Fail> {
+    let mut frames = Frames::new(alloc);
+    frames.push(Bytes::from(b"ab".to_vec(alloc)?))?;
+    let mut messages = Incomings::new(alloc);
+    messages.push(frames)?;
+    let mut messages = messages.into_vec();
+    Ok(messages.pop().ok_or("no message")?)
+}
+
+#[test]
+fn conversions(rt: HostRuntime) -> Result<(), Fail> {
+    let frames = frames_moved(rt.alloc())?;
+    assert_eq!(rt; frames.len(), 1);
+    let mut frames = frames.into_vec();
+    let frame = frames.pop().ok_or("no frame")?;
+    assert_eq!(rt; frame.into_vec().as_slice(), b"ab".as_slice());
+    let mut frames = Frames::from(frames);
+    frames.truncate(0);
+    assert_eq!(rt; frames.len(), 0);
+    Ok(())
+}
+
+// A greeting, a DEALER's READY with the identity `me`, three messages, and a flag byte of no frame.
+const CONVERSATION: &[u8] =
+    b"\xFF\0\0\0\0\0\0\0\x01\x7F\x03\0NULL\0\0\0\0\0\0\0\0\0\0\0\0\0\0\0\0\0\
+    \0\0\0\0\0\0\0\0\0\0\0\0\0\0\0\0\0\0\0\0\0\0\0\0\0\0\0\0\0\0\0\
+    \x04\x2B\x05READY\x0BSocket-Type\0\0\0\x06DEALER\x08Identity\0\0\0\x02me\
+    \x01\x01a\0\x02hi\0\0\x01\0\x01\x05hello\0\x01!\x08";
+
+// Feeds the conversation in pieces of this size. Nothing here but the feeds takes memory, and with an
+// allocation refused the answer is the same.
+fn converse(rt: &impl Abort, alloc: Global, size: usize) -> Result<(), Fail> {
+    let mut side = Side::new(alloc, Role::Router);
+    let text = "a,hi,.,.,hello,!,.";
+    let broken = feed_all(alloc, &mut side, CONVERSATION, size, text)?;
+    assert_eq!(rt; broken, Some((CONVERSATION.len(), StreamFault::Flags)));
+    assert!(rt; side.is_ready());
+    assert!(rt; has_identity(&side, Some(b"me")));
+    Ok(())
+}
+
+#[test]
+fn fed_again_whole(rt: HostRuntime) -> Result<(), Fail> {
+    converse(&rt, rt.alloc(), 1000)
+}
+
+#[test]
+fn fed_again_in_two(rt: HostRuntime) -> Result<(), Fail> {
+    converse(&rt, rt.alloc(), 113)
+}
+
+#[test]
+fn fed_again_in_sixteens(rt: HostRuntime) -> Result<(), Fail> {
+    converse(&rt, rt.alloc(), 16)
+}
+
+#[test]
+fn fed_again_byte_by_byte(rt: HostRuntime) -> Result<(), Fail> {
+    converse(&rt, rt.alloc(), 1)
+}
