@@ -13,8 +13,10 @@ mod workloads;
 
 use anyhow::{Result, bail};
 use std::env;
+use std::sync::Wait;
+use std::thread::Threads;
 
-fn check(rt: &HostRuntime) -> Result<()> {
+fn check<R: Threads + Wait + Sync + Print + AllocGlobal>(rt: &R) -> Result<()> {
     workloads::check(rt)?;
     assembler::check(rt)?;
     listing::check(rt)?;
