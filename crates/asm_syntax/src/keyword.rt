@@ -2,7 +2,8 @@
 ghost use Rattle.std.specs.Prelude.{◌≡◌, map};
 ghost use Rattle.std.specs.Char.{to_ascii_uppercase};
 ghost use Rattle.std.specs.Str.{bytes_eq};
-ghost use Rattle.asm_syntax.specs.Words.{found_in, keyword_of};
+ghost use Rattle.std.specs.Map.{lookup};
+ghost use Rattle.asm_syntax.specs.Words.{keyword_of};
 
 use crate::statement::{ByteOperation, WordOperation};
 use asm_expr::expression::{Binary, Unary};
@@ -412,8 +413,10 @@ fn is_word(word: &[u8], text: &[u8]) -> bool
     found.is_empty()
 }
 
+// What a word in either case means by a table.
 fn found_in(table: &[(&str, Keyword)], word: &[u8]) -> Option<Keyword>
-    ensures { result ≡ found_in (map (λ e. (e.0.now, e.1)) table.now) (map to_ascii_uppercase word.now) }
+    ensures { result ≡ lookup (bytes_eq (map to_ascii_uppercase word.now))
+        (map (λ e. (e.0.now, e.1)) table.now) }
 {
     for (text, keyword) in table {
         if is_word(word, text.as_bytes()) {
@@ -424,7 +427,7 @@ fn found_in(table: &[(&str, Keyword)], word: &[u8]) -> Option<Keyword>
 }
 
 /// What a word in either case means, if it can't be a name.
-#[tactic(auto, unfolding(crate::specs::Words::keyword_of))]
+#[tactic(auto, using(crate::proofs::Tables::keywords_are))]
 pub fn keyword_of(word: &[u8]) -> Option<Keyword>
     ensures { result ≡ keyword_of (map to_ascii_uppercase word.now) }
 {

@@ -113,19 +113,13 @@ const IMAGES: [(&str, &str, u16, &[u8]); 8] = [
 ];
 
 // Cells over no symbols, and their bytes from 0 on.
-const BYTES: [(&str, &[u8]); 22] = [
+const BYTES: [(&str, &[u8]); 39] = [
     ("", &[]),
     ("DB 'IT''S',0FFH", &[0x49, 0x54, 0x27, 0x53, 0xff]),
     ("DB 'AB'\nDW 'AB'", &[0x41, 0x42, 0x42, 0x41]),
     ("DB -1,0FF00H,255,'A'+1", &[0xff, 0x00, 0xff, 0x42]),
-    (
-        "DB HIGH 1234H+1,NOT 1 AND 3,-1 SHR 4,2*-1+3",
-        &[0x13, 2, 0, 1],
-    ),
-    (
-        "DB 1 SHL 4 OR 3,7 MOD 4,-1 EQ 0FFFFH,LOW 1234H",
-        &[0x13, 3, 0xff, 0x34],
-    ),
+    ("DB HIGH 1234H+1,NOT 1 AND 3,2*-1+3", &[0x13, 2, 1]),
+    ("DB -1 SHR 4,1 SHL 4 OR 3", &[0, 0x13]),
     ("X SET 1\nDB X\nX SET 2\nDB X", &[1, 2]),
     ("X: NOP", &[0]),
     ("IF 0\nDB 1\nELSE\nDB 2\nENDIF", &[2]),
@@ -152,10 +146,8 @@ const BYTES: [(&str, &[u8]); 22] = [
         "CNZ 1\nJM 2\nRPE\nSHLD 3\nLDA 4",
         &[0xc4, 1, 0, 0xfa, 2, 0, 0xe8, 0x22, 3, 0, 0x3a, 4, 0],
     ),
-    (
-        "EI\nDI\nXCHG\nXTHL\nSPHL\nPCHL\nDAA\nHLT",
-        &[0xfb, 0xf3, 0xeb, 0xe3, 0xf9, 0xe9, 0x27, 0x76],
-    ),
+    ("EI\nDI\nXCHG\nXTHL", &[0xfb, 0xf3, 0xeb, 0xe3]),
+    ("SPHL\nPCHL\nDAA\nHLT", &[0xf9, 0xe9, 0x27, 0x76]),
     (
         "RLC\nRRC\nRAL\nRAR\nCMA\nSTC\nCMC\nRET",
         &[0x07, 0x0f, 0x17, 0x1f, 0x2f, 0x37, 0x3f, 0xc9],
@@ -163,6 +155,23 @@ const BYTES: [(&str, &[u8]); 22] = [
     ("INR M\nDCR A\nINR B", &[0x34, 0x3d, 4]),
     ("x1: db X1,x1\nEND X1\nDB 5", &[0, 0]),
     ("DB 1\nDS 1\nORG 1\nDB 2", &[1, 2]),
+    ("X EQU 5\nDB X", &[5]),
+    // Each operator word; between these operands no two of them give the same.
+    ("DB HIGH 1234H", &[0x12]),
+    ("DB LOW 1234H", &[0x34]),
+    ("DW NOT 1234H", &[0xcb, 0xed]),
+    ("DB 1 MOD 3,3 MOD 3,40 MOD 2", &[1, 0, 0]),
+    ("DB 1 SHL 3,3 SHL 3,40 SHL 2", &[8, 24, 160]),
+    ("DB 1 SHR 3,3 SHR 3,40 SHR 2", &[0, 0, 10]),
+    ("DB 1 EQ 3,3 EQ 3,40 EQ 2", &[0, 0xff, 0]),
+    ("DB 1 NE 3,3 NE 3,40 NE 2", &[0xff, 0, 0xff]),
+    ("DB 1 LT 3,3 LT 3,40 LT 2", &[0xff, 0, 0]),
+    ("DB 1 LE 3,3 LE 3,40 LE 2", &[0xff, 0xff, 0]),
+    ("DB 1 GT 3,3 GT 3,40 GT 2", &[0, 0, 0xff]),
+    ("DB 1 GE 3,3 GE 3,40 GE 2", &[0, 0xff, 0xff]),
+    ("DB 1 AND 3,3 AND 3,40 AND 2", &[1, 3, 0]),
+    ("DB 1 OR 3,3 OR 3,40 OR 2", &[3, 3, 42]),
+    ("DB 1 XOR 3,3 XOR 3,40 XOR 2", &[2, 0, 42]),
 ];
 
 #[test]

@@ -1,19 +1,10 @@
 //! The words of the language, and how its faults are printed.
 
 use asm_syntax::fault::{AsmFault, FaultKind, LineFault};
-use asm_syntax::keyword::{Directive, KEYWORDS, Keyword, Mnemonic, keyword_of};
+use asm_syntax::keyword::{Directive, Keyword, Mnemonic, keyword_of};
 use asm_syntax::statement::{ByteOperation, MOST_LINES, Statement, Statements, WordOperation};
 use i80_rows::instruction::{Cond, Instr, Pair, Reg};
 use std::test::Fail;
-
-// Each word means what its row says, and no two rows have the same word.
-#[test]
-fn each_keyword_is_found(rt: HostRuntime) {
-    assert_eq!(rt; KEYWORDS.len(), 113);
-    for (text, keyword) in &KEYWORDS {
-        assert!(rt; keyword_of(text.as_bytes()) == Some(*keyword), "{text}");
-    }
-}
 
 // Words in either case; those of other assemblers and of the 8085 are names.
 const WORDS: [(&[u8], Option<Keyword>); 9] = [

@@ -1,5 +1,9 @@
+pub mod Cells
 pub mod Conditionals
+pub mod Faults
+pub mod Fields
 pub mod Forms
+pub mod Grammar
 pub mod Lines
 pub mod OpenIfs
 pub mod Registers

@@ -2,8 +2,8 @@
 -- operation with operands, or a name with EQU or SET, each part optional; or what is wrong with it:
 -- characters, numbers and strings first, then words that can't stand where they do, then operands
 -- that don't fit, then expressions that are too deep.
-use Rattle.std.specs.Prelude.{ℕ, List, [], ◌∷◌, Bool, false, Option, Some, None, Result, Ok, Err}
-use Rattle.std.specs.Prelude.{if◌then◌else◌, ◌==◌, is_some}
+use Rattle.std.specs.Prelude.{ℕ, List, [], ◌∷◌, Bool, Option, Some, None, Result, Ok, Err}
+use Rattle.std.specs.Prelude.{if◌then◌else◌, is_some}
 use Rattle.asm_syntax.specs.declared.fault.FaultKind.TheVariants.{Name, Mnemonic, Operands}
 use Rattle.asm_syntax.specs.declared.keyword.Keyword.TheVariants as keyword
 use Rattle.asm_syntax.specs.declared.keyword.Directive.TheVariants as directive
@@ -18,6 +18,7 @@ use Rattle.asm_syntax.specs.Lexemes as lexeme
 use Rattle.asm_syntax.specs.Lexemes.{Lexeme, Piece}
 use Rattle.asm_syntax.specs.Outcome.{Fault, ◌>>=◌}
 use Rattle.asm_lex.specs.Tokens.{tokens_of}
+use Rattle.asm_operand.specs.Operators.{is_sign}
 use Rattle.asm_operand.specs.Words.{misplaced_word}
 use Rattle.asm_text.specs.declared.lines.Definition.{Definition}
 use Rattle.asm_text.specs.declared.lines.Definition.TheVariants as definition
@@ -32,11 +33,6 @@ name_at column (lexeme.Keyword k) = Err (column, Name)
 name_at column lexeme.Overlong = Err (column, Name)
 name_at column _ = Ok None
 
--- the sign after a label
-abbrev pub is_colon : Lexeme → Bool
-is_colon (lexeme.Sign s) = s == colon
-is_colon _ = false
-
 -- a label and the rest, or no label and all pieces
 abbrev pub after_label : List Piece → List Piece → Option Label → Option Label × List Piece
 after_label all rest None = (None, all)
@@ -45,7 +41,7 @@ after_label all rest (Some l) = (Some l, rest)
 -- the label of a line, and what stands after it
 unfoldable pub label_at : List Piece → Result (Option Label × List Piece) Fault
 label_at (p ∷ q ∷ rest) =
-    if is_colon q.1
+    if is_sign colon q.1
     then (do
       l ← name_at p.0 p.1
       Ok (after_label (p ∷ q ∷ rest) rest l))

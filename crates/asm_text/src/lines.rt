@@ -2,7 +2,9 @@
 ghost use Rattle.std.specs.Prelude.{◌≡◌, is_some};
 ghost use Rattle.asm_syntax.specs.Lexemes.{pieces_of, piece_of, lexeme_of};
 ghost use Rattle.asm_syntax.specs.Outcome.{LineGives};
-ghost use Rattle.asm_text.specs.Lines.{name_at, is_colon, label_at, placed_well, definition_in, defined_by};
+ghost use Rattle.asm_syntax.specs.Ascii.{colon};
+ghost use Rattle.asm_operand.specs.Operators.{is_sign};
+ghost use Rattle.asm_text.specs.Lines.{name_at, label_at, placed_well, definition_in, defined_by};
 ghost use Rattle.asm_text.specs.Lines.{or_mnemonic, only_operand, definition_at, action_of, plain_at};
 ghost use Rattle.asm_text.specs.Lines.{operation_at, line_of};
 
@@ -44,7 +46,7 @@ fn name_at(alloc: Global, placed: &Placed) -> Result<Option<Label>, LineFault>
 }
 
 fn is_colon(token: &Token) -> bool
-    ensures { result ≡ is_colon (lexeme_of token.now) }
+    ensures { result ≡ is_sign colon (lexeme_of token.now) }
 {
     match token {
         Token::Sign(sign) => *sign == b':',

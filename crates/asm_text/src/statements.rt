@@ -2,6 +2,9 @@
 ghost use Rattle.std.specs.Prelude.{◌≡◌, ◌≤◌, [], length, IfOk, MatchResult};
 ghost use Rattle.std.specs.Str.Lines.{lines};
 ghost use Rattle.asm_syntax.specs.Outcome.{LineGives, Gives};
+ghost use Rattle.asm_syntax.specs.declared.fault.AsmFault.TheVariants as asm;
+ghost use Rattle.asm_syntax.specs.declared.fault.FaultKind.TheVariants as kind;
+ghost use Rattle.asm_text.specs.Cells.{IsTooLong};
 ghost use Rattle.asm_text.specs.Statements.{line_step_of, step_of, is_end_action, statements_from};
 ghost use Rattle.asm_text.specs.Statements.{statements_of, texts_of};
 
@@ -93,7 +96,9 @@ fn count_lines(text: &str) -> usize
 /// The statements of a cell's text, one for each line up to the one with END, or its first fault.
 #[tactic(auto, unfolding(crate::specs::Statements::statements_of))]
 pub fn statements(alloc: Global, text: &str) -> Result<Statements, AsmFault>
-    ensures { Gives (λ x. x) result (statements_of text.now) }
+    ensures exact { Gives (λ x. x) result (statements_of text.now) }
+    // This takes no memory, so it isn't answered by want of it.
+    ensures long { IsTooLong text.now → result ≡ Err (asm.At 1 1 kind.TooLong) }
 {
     if text.len() > MOST_BYTES || count_lines(text) > MOST_LINES {
         return Err(AsmFault::At {

@@ -2,8 +2,8 @@
 use Rattle.std.specs.Prelude.{ℕ, List, [], codes}
 use Rattle.dap_talk.specs.declared.fault.DapFault.{DapFault}
 use Rattle.dap_talk.specs.declared.fault.DapFault.TheVariants.{OutOfMemory, NotRequest, Command, Arguments}
-use Rattle.dap_talk.specs.declared.answer.Response.{Response}
-use Rattle.dap_talk.specs.declared.answer.Outcome.TheVariants.{Refused}
+use Rattle.dap_answers.specs.declared.answer.Response.{Response}
+use Rattle.dap_answers.specs.declared.answer.Outcome.TheVariants.{Refused}
 
 abbrev pub message_of : DapFault → List ℕ
 message_of OutOfMemory = codes "OutOfMemory"

@@ -2,8 +2,8 @@
 ghost use Rattle.std.specs.Prelude.{◌≡◌, IfOk};
 ghost use Rattle.dap_talk.specs.Fault.{message_of, refused};
 
-use crate::answer::{Outcome, Response};
 use base_text::text::Text;
+use dap_answers::answer::{Outcome, Response};
 use std::alloc::{AllocError, Global};
 use thiserror::Error;
 

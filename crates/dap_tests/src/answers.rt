@@ -1,11 +1,11 @@
 //! The JSON of responses and events, as frontends read it.
 use base_text::sequence::Sequence;
 use base_text::text::Text;
-use dap_talk::answer::{
+use dap_answers::answer::{
     Body, Breakpoint, DebugState, Event, Instruction, Outcome, Response, SourceBreakpoints,
     StackFrame, StopReason, Variable,
 };
-use dap_talk::sending::{event, response};
+use dap_answers::sending::{event, response};
 use std::alloc::{AllocError, Global};
 use std::process::Abort;
 use std::test::Fail;

@@ -1,10 +1,10 @@
 //! Requests as frontends write them: what each is read as, and why others are refused. The hashes are
 //! another program's.
-use dap_talk::cell::cell_path;
+use dap_answers::cell::cell_path;
+use dap_answers::sending::response;
 use dap_talk::command::CommandName;
 use dap_talk::fault::DapFault;
 use dap_talk::reading::read_request;
-use dap_talk::sending::response;
 use serde_json::Value;
 use std::alloc::{AllocError, Global};
 use std::process::Abort;

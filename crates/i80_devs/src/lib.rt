@@ -6,5 +6,6 @@
 #![tactic(auto)]
 
 pub mod devices;
+pub mod laws;
 mod panel;
 pub mod traffic;

@@ -1,73 +1,140 @@
--- What events answer and leave is determined by the board.
-use Rattle.std.proofs.Common.{◌≡◌, ℕ, ◌<◌, List, [], ◌∷◌, Result, Ok, Err, refl, sym, ◌∙◌, arith, inl, inr, subst}
+-- What events answer and leave is what the function gives, and nothing else.
+use Rattle.std.proofs.Common.{◌≡◌, ℕ, zero, suc, ◌+◌, ◌<◌, ◌≤◌, List, [], ◌∷◌, Option, Some, None, Result, Ok, Err, refl, sym, ◌∙◌, arith, inl, inr, subst}
 use Rattle.std.proofs.lemmas.Bool.{cases_lt}
+use borrow.Author.Count.{below_more}
+use Rattle.std.specs.Option.{unwrap_or}
 use Rattle.lab_core.specs.declared.run_state.RunState.{RunState}
-use Rattle.lab_core.specs.declared.run_state.RunState.TheVariants.{NoRun, Running}
+use Rattle.lab_core.specs.declared.run_state.RunState.TheVariants.{NoRun, Running, Stopped}
 use Rattle.lab_core.specs.declared.event.Event.{Event}
 use Rattle.lab_core.specs.declared.event.Event.TheVariants as event
 use Rattle.lab_core.specs.declared.answer.SliceOutcome.{SliceOutcome}
+use Rattle.lab_core.specs.declared.answer.SliceOutcome.TheVariants.{More}
 use Rattle.lab_core.specs.declared.answer.Answer.{Answer}
 use Rattle.lab_core.specs.declared.fault.EventFault.{EventFault}
 use Rattle.lab_core.specs.Board.{Board}
-use Rattle.lab_core.specs.Slices.{IsSlice}
-use Rattle.lab_core.specs.Events.{Given, Gives, GivesSlice, SlicesRun, Applies, Runs}
+use Rattle.lab_core.specs.Slices.{IsSlice, reason, early_reason, after_steps}
+use Rattle.lab_core.specs.Events.{Given, Gives, GivesSlice, SlicesRun, Applies, Runs, while_running}
+use Rattle.lab_core.specs.Given.{or_goes_on, slice_from, sliced_at, given}
 
--- no slice of n steps goes on where another one ended
-no_longer : (n : ℕ) (b : Board) (k k' : ℕ) (e e' : SliceOutcome) → IsSlice n b k e → IsSlice n b k' e' → k < k' → ⊥
-no_longer n b k k' e e' s s' longer =
-    let within = s'.within in
-    let here = s.early (omega arith) in
-    let none = s'.none_before k longer in
-    cc
+-- ---- a slice ends where the function says
 
-same_count : (n : ℕ) (b : Board) (k k' : ℕ) (e e' : SliceOutcome) → IsSlice n b k e → IsSlice n b k' e' → k ≡ k'
-same_count n b k k' e e' s s' =
-    elim (cases_lt k k') [
-      | inl longer ↦ absurd (no_longer n b k k' e e' s s' longer)
-      | inr le ↦ elim (cases_lt k' k) [ inl longer ↦ absurd (no_longer n b k' k e' e s' s longer) | inr le' ↦ omega arith ]
-    ]
+slice-from : (n : ℕ) (b : Board) (k : ℕ) (e : SliceOutcome) → IsSlice n b k e
+    → (more j : ℕ) → j ≤ k → j + more ≡ n → slice_from more j b ≡ (k, e)
+unfolding slice_from
+slice-from n b k e s zero j le is =
+    let within = s.within in
+    let all : k ≡ n = omega arith in
+    let here : j ≡ n = omega arith in
+    rw (here, all, s.last all) refl
+slice-from n b k e s (suc more) j le is = elim (cases_lt j k) [
+  | inl less ↦ rw (s.none_before j less) (slice-from n b k e s more (j + 1) (omega arith) (omega arith))
+  | inr late ↦ (let here : j ≡ k = omega arith in let below : k < n = omega arith in rw (here, s.early below) refl)
+]
 
-same_ending : (n : ℕ) (b : Board) (k : ℕ) (e e' : SliceOutcome) → IsSlice n b k e → IsSlice n b k e' → e ≡ e'
-same_ending n b k e e' s s' =
-    elim (cases_lt k n) [
-      | inl less ↦ (let one = s.early less in let other = s'.early less in cc)
-      | inr all ↦ (let within = s.within in let ends : k ≡ n = omega arith in s.last ends ∙ sym (s'.last ends))
-    ]
+-- and where it says, a slice ends
+abbrev Ends : ℕ → Board → ℕ × SliceOutcome → Type 0
+Ends n b end = IsSlice n b end.0 end.1
 
-slice_once : (n : ℕ) (b new new' : Board) (r r' : Result Answer EventFault) → GivesSlice n b r new → GivesSlice n b r' new' → (r ≡ r') × (new ≡ new')
-slice_once n b new new' r r' g g' =
-    let count = same_count n b g.k g'.k g.ending g'.ending g.slice g'.slice in
-    let P : ℕ → Type 0 = λ k. IsSlice n b k g'.ending in
-    let ending = same_ending n b g.k g.ending g'.ending g.slice (subst P (sym count) g'.slice) in
-    let reply = g.reply_is in
-    let reply' = g'.reply_is in
-    let board = g.board_is in
-    let board' = g'.board_is in
-    (cc, cc)
+-- no reason stands at a count below this
+abbrev NoneBelow : Board → ℕ → Type 0
+NoneBelow b k = (i : ℕ) → i < k → reason (after_steps i b) ≡ None
 
-gives_once : (b new new' : Board) (given : Given) (r r' : Result Answer EventFault) → Gives b given r new → Gives b given r' new' → (r ≡ r') × (new ≡ new')
-gives_once b new new' (Ok (a, after)) r r' g g' = (g.0 ∙ sym g'.0, g.1 ∙ sym g'.1)
-gives_once b new new' (Err e) r r' g g' = (g.0 ∙ sym g'.0, g.1 ∙ sym g'.1)
+ends-all : (n : ℕ) (b : Board) (j : ℕ) → j ≡ n → NoneBelow b j → Ends n b (j, unwrap_or (early_reason (after_steps j b)) More)
+ends-all n b j here none = record {
+  within = omega arith;
+  none_before = none;
+  early = λ below. absurd (omega arith);
+  last = λ all. rw here refl;
+}
 
-slices_once : (run : RunState) (n : ℕ) (b new new' : Board) (r r' : Result Answer EventFault) → SlicesRun run n b r new → SlicesRun run n b r' new' → (r ≡ r') × (new ≡ new')
-slices_once NoRun n b new new' r r' g g' = (g.0 ∙ sym g'.0, g.1 ∙ sym g'.1)
-slices_once Running n b new new' r r' g g' = slice_once n b new new' r r' g g'
+ends-here : (n : ℕ) (b : Board) (j : ℕ) (e : SliceOutcome) → j < n → NoneBelow b j → reason (after_steps j b) ≡ Some e → Ends n b (j, e)
+ends-here n b j e below none is = record {
+  within = omega arith;
+  none_before = none;
+  early = λ _. is;
+  last = λ all. absurd (omega arith);
+}
 
-applies_once : (b new new' : Board) (e : Event) (r r' : Result Answer EventFault) → Applies b e r new → Applies b e r' new' → (r ≡ r') × (new ≡ new')
-applies_once b new new' (event.Load path text) r r' g g' = gives_once b new new' _ r r' g g'
-applies_once b new new' (event.Start address) r r' g g' = gives_once b new new' _ r r' g g'
-applies_once b new new' (event.Slice n) r r' g g' = slices_once b.run n b new new' r r' g g'
-applies_once b new new' event.Interrupt r r' g g' = gives_once b new new' _ r r' g g'
-applies_once b new new' event.Reset r r' g g' = (g.0 ∙ sym g'.0, g.1 ∙ sym g'.1)
-applies_once b new new' (event.Typed bytes) r r' g g' = (g.0 ∙ sym g'.0, g.1 ∙ sym g'.1)
-applies_once b new new' (event.Switches byte) r r' g g' = (g.0 ∙ sym g'.0, g.1 ∙ sym g'.1)
-applies_once b new new' (event.Press n) r r' g g' = gives_once b new new' _ r r' g g'
+ends-by : (r : Option SliceOutcome) (n : ℕ) (b : Board) (j : ℕ) (on : ℕ × SliceOutcome) → j < n → NoneBelow b j
+    → reason (after_steps j b) ≡ r → (NoneBelow b (j + 1) → Ends n b on) → Ends n b (or_goes_on r j on)
+ends-by (Some e) n b j on below none is goes = ends-here n b j e below none is
+ends-by None n b j on below none is goes = goes (below_more (λ i. reason (after_steps i b) ≡ None) j none is)
+
+ends : (n : ℕ) (b : Board) (more j : ℕ) → j + more ≡ n → NoneBelow b j → Ends n b (slice_from more j b)
+unfolding slice_from
+ends n b zero j is none = ends-all n b j (omega arith) none
+ends n b (suc more) j is none =
+    ends-by (reason (after_steps j b)) n b j (slice_from more (j + 1) b) (omega arith) none refl (ends n b more (j + 1) (omega arith))
+
+-- ---- an event
+
+slices-given : (run : RunState) (n : ℕ) (b new : Board) (reply : Result Answer EventFault) → SlicesRun run n b reply new
+    → Gives b (while_running run (Ok (sliced_at b (slice_from n 0 b)))) reply new
+slices-given NoRun n b new reply h = h
+slices-given Stopped n b new reply h = h
+slices-given Running n b new reply h =
+    let end = slice-from n b h.k h.ending h.slice n 0 (omega arith) (omega arith) in
+    rw end (h.reply_is, h.board_is)
+
+given-slices : (run : RunState) (n : ℕ) (b new : Board) (reply : Result Answer EventFault)
+    → Gives b (while_running run (Ok (sliced_at b (slice_from n 0 b)))) reply new → SlicesRun run n b reply new
+given-slices NoRun n b new reply h = h
+given-slices Stopped n b new reply h = h
+given-slices Running n b new reply h = record {
+  k = (slice_from n 0 b).0;
+  ending = (slice_from n 0 b).1;
+  slice = ends n b n 0 (omega arith) (λ i below. absurd (omega arith));
+  reply_is = h.0;
+  board_is = h.1;
+}
+
+pub applies-given : (b new : Board) (e : Event) (reply : Result Answer EventFault) → Applies b e reply new → Gives b (given e b) reply new
+applies-given b new (event.Load path text) reply h = h
+applies-given b new (event.Dump path text) reply h = h
+applies-given b new (event.Start address) reply h = h
+applies-given b new (event.Slice n) reply h = slices-given b.run n b new reply h
+applies-given b new event.Pause reply h = h
+applies-given b new event.Resume reply h = h
+applies-given b new (event.Step request) reply h = h
+applies-given b new event.Interrupt reply h = h
+applies-given b new event.Reset reply h = h
+applies-given b new (event.SetBreakpoints path lines) reply h = h
+applies-given b new event.Attach reply h = h
+applies-given b new event.Detach reply h = h
+applies-given b new (event.Typed bytes) reply h = h
+applies-given b new (event.Switches byte) reply h = h
+applies-given b new (event.Press n) reply h = h
+applies-given b new (event.Show view) reply h = h
+
+pub given-applies : (b new : Board) (e : Event) (reply : Result Answer EventFault) → Gives b (given e b) reply new → Applies b e reply new
+given-applies b new (event.Load path text) reply h = h
+given-applies b new (event.Dump path text) reply h = h
+given-applies b new (event.Start address) reply h = h
+given-applies b new (event.Slice n) reply h = given-slices b.run n b new reply h
+given-applies b new event.Pause reply h = h
+given-applies b new event.Resume reply h = h
+given-applies b new (event.Step request) reply h = h
+given-applies b new event.Interrupt reply h = h
+given-applies b new event.Reset reply h = h
+given-applies b new (event.SetBreakpoints path lines) reply h = h
+given-applies b new event.Attach reply h = h
+given-applies b new event.Detach reply h = h
+given-applies b new (event.Typed bytes) reply h = h
+given-applies b new (event.Switches byte) reply h = h
+given-applies b new (event.Press n) reply h = h
+given-applies b new (event.Show view) reply h = h
+
+-- ---- events in turn
+
+gives-once : (b new new' : Board) (g : Given) (r r' : Result Answer EventFault) → Gives b g r new → Gives b g r' new' → (r ≡ r') × (new ≡ new')
+gives-once b new new' (Ok (a, after)) r r' h h' = (h.0 ∙ sym h'.0, h.1 ∙ sym h'.1)
+gives-once b new new' (Err e) r r' h h' = (h.0 ∙ sym h'.0, h.1 ∙ sym h'.1)
 
 pub runs_once : (b : Board) (events : List Event) (rs rs' : List (Result Answer EventFault)) (new new' : Board)
     → Runs b events rs new → Runs b events rs' new' → (rs ≡ rs') × (new ≡ new')
 runs_once b [] [] [] new new' g g' = (refl, g ∙ sym g')
 runs_once b (e ∷ es) (r ∷ rs) (r' ∷ rs') new new' g g' =
-    let first = applies_once b g.0 g'.0 e r r' g.1 g'.1 in
+    let first = gives-once b g.0 g'.0 (given e b) r r' (applies-given b g.0 e r g.1) (applies-given b g'.0 e r' g'.1) in
     let P : Board → Type 0 = λ mid. Runs mid es rs' new' in
     let rest = runs_once g.0 es rs rs' new new' g.2 (subst P (sym first.1) g'.2) in
     (rw (first.0, rest.0) refl, rest.1)

@@ -1,4 +1,6 @@
 pub mod StepLemmas
+pub mod UndefinedLemmas
+pub mod StandsLemmas
+pub mod LabLemmas
 pub mod EventLemmas
-pub mod SourceLemmas
 pub mod LawLemmas

@@ -1,15 +1,17 @@
 -- A board, and its steps: accepted requests and instructions.
-use Rattle.std.specs.Prelude.{ℕ, List, [], ◌∷◌, ◌++◌, map, Option, Some, None}
+use Rattle.std.specs.Prelude.{ℕ, List, [], ◌∷◌, ◌++◌, map, Option, Some, None, Bool, false}
 use Rattle.i80_exec.specs.State.{MachineState, power_on}
 use Rattle.i80_exec.specs.Effect.{Outcome}
 use Rattle.i80_exec.specs.Step.{instruction, acceptance, operation_list}
 use Rattle.i80_devs.specs.Past.{Operation, Port, Taken, answer, panel_after}
 use Rattle.asm_build.specs.Reading.{Entries}
-use Rattle.lab_frames.specs.Live.{BoardStep}
+use Rattle.lab_frames.specs.Live.{BoardStep, Instruction, Acceptance, Change}
 use Rattle.lab_image.specs.Loads.{Load}
+use Rattle.lab_breaks.specs.declared.lists.BreakpointList.{BreakpointList}
 use Rattle.lab_core.specs.declared.run_state.RunState.{RunState}
 use Rattle.lab_core.specs.declared.run_state.RunState.TheVariants.{NoRun}
-use Rattle.lab_core.specs.declared.sources.Source.{Source}
+use Rattle.lab_core.specs.declared.event.StepRequest.{StepRequest}
+use Rattle.lab_sources.specs.declared.sources.Source.{Source}
 
 pub record Board : Type 0 where
   pub machine : MachineState
@@ -21,13 +23,32 @@ pub record Board : Type 0 where
   pub symbols : Entries
   -- the texts that are kept, each at the place of its number
   pub sources : List Source
+  -- the lists of breakpoints that aren't empty, in the order in which each last became so
+  pub breakpoints : List BreakpointList
+  pub is_attached : Bool
   pub run : RunState
   -- the steps since the last start, also where the run has ended
   pub trace : List BoardStep
+  -- how many of them there were at the run's last Resume or Step, if it had one
+  pub resumed : Option ℕ
+  -- the Step that isn't complete yet
+  pub request : Option StepRequest
 
 -- after power-on
 abbrev pub opening : Board
-opening = record { machine = power_on; past = []; loads = []; symbols = []; sources = []; run = NoRun; trace = [] }
+opening = record {
+  machine = power_on;
+  past = [];
+  loads = [];
+  symbols = [];
+  sources = [];
+  breakpoints = [];
+  is_attached = false;
+  run = NoRun;
+  trace = [];
+  resumed = None;
+  request = None;
+}
 
 abbrev pub acceptance_of : Option ℕ → MachineState → Option Outcome
 acceptance_of None m = None
@@ -53,17 +74,24 @@ taken_or_done None o = map Port (operation_list o.operation)
 abbrev pub operations : MachineState → List Operation → List Operation
 operations m past = taken_or_done (accepted m past) (outcome m past)
 
-abbrev pub as_step : MachineState → Outcome → BoardStep
-as_step m o = record { before = m; answer = o.answer; operation = o.operation; after = o.after }
+-- what the next step of a board does to the machine
+abbrev pub next_change : Board → Change
+next_change b =
+    let o = outcome b.machine b.past in
+    record { before = b.machine; answer = o.answer; operation = o.operation; after = o.after }
 
--- the next step of a board
+abbrev pub as_step : Option Outcome → Change → BoardStep
+as_step (Some accepted) change = Acceptance change
+as_step None change = Instruction change
+
+-- the next step
 abbrev pub next_step : Board → BoardStep
-next_step b = as_step b.machine (outcome b.machine b.past)
+next_step b = as_step (accepted b.machine b.past) (next_change b)
 
 -- the board after it
 abbrev pub stepped : Board → Board
 stepped b = record b {
-  machine = (next_step b).after;
+  machine = (next_change b).after;
   past = b.past ++ operations b.machine b.past;
   trace = b.trace ++ next_step b ∷ [];
 }

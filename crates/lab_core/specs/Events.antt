@@ -1,25 +1,36 @@
 -- What each event answers, and what it makes of a board.
-use Rattle.std.specs.Prelude.{◌≡◌, ℕ, ◌≤◌, List, [], ◌∷◌, ◌++◌, Option, Result, Ok, Err, is_some, nat_lt, if◌then◌else◌}
-use Rattle.i80_exec.specs.State.{with_pc, power_on, loaded as with_image}
+use Rattle.std.specs.Prelude.{◌≡◌, ℕ, ◌≤◌, List, [], ◌∷◌, ◌++◌, length, map, Bool, true, false, ◌&&◌, Option, Some, None, Result, Ok, Err, is_some, nat_lt, nat_le, if◌then◌else◌}
+use Rattle.i80_exec.specs.State.{MachineState, with_pc, power_on, loaded as with_image}
 use Rattle.i80_devs.specs.Past.{Operation, Typed, Switches, Press, panel_after}
 use Rattle.asm_syntax.specs.declared.fault.AsmFault.TheVariants.{At}
 use Rattle.asm_syntax.specs.Outcome.{CellFault, ◌>>=◌}
 use Rattle.asm_text.specs.Statements.{statements_of}
 use Rattle.asm_build.specs.Reading.{Entries}
 use Rattle.asm_build.specs.Meaning.{Meaning, built_of}
+use Rattle.lab_frames.specs.Live.{live}
 use Rattle.lab_core.specs.declared.run_state.RunState.{RunState}
-use Rattle.lab_core.specs.declared.run_state.RunState.TheVariants.{NoRun, Running}
-use Rattle.lab_core.specs.declared.sources.Source.{Source}
+use Rattle.lab_core.specs.declared.run_state.RunState.TheVariants.{NoRun, Running, Stopped}
+use Rattle.lab_sources.specs.declared.sources.Source.{Source}
+use Rattle.lab_sources.specs.declared.sources.SourceFault.{SourceFault}
+use Rattle.lab_sources.specs.Sources.{place_of, number_at, kept_at, source_at, line_count}
+use Rattle.lab_breaks.specs.Breakpoints.{with_lines}
+use Rattle.lab_views.specs.declared.view.View.{View}
+use Rattle.lab_views.specs.declared.shown.Shown.{Shown}
+use Rattle.lab_views.specs.declared.fault.ViewFault.{ViewFault}
+use Rattle.lab_views.specs.Parts.{Parts}
+use Rattle.lab_views.specs.Views.{shown}
 use Rattle.lab_core.specs.declared.event.Event.{Event}
 use Rattle.lab_core.specs.declared.event.Event.TheVariants as event
 use Rattle.lab_core.specs.declared.fault.EventFault.{EventFault}
-use Rattle.lab_core.specs.declared.fault.EventFault.TheVariants.{NotRunning, Busy, Latched, Vector, Assembly}
+use Rattle.lab_core.specs.declared.fault.EventFault.TheVariants.{NotRunning, NotStopped, NotAttached, NoSource, Busy, Latched, Vector, Assembly}
+use Rattle.lab_core.specs.declared.event.StepRequest.{StepRequest}
+use Rattle.lab_core.specs.declared.answer.Breakpoint.{Breakpoint}
 use Rattle.lab_core.specs.declared.answer.SliceOutcome.{SliceOutcome}
 use Rattle.lab_core.specs.declared.answer.Answer.{Answer}
 use Rattle.lab_core.specs.declared.answer.Answer.TheVariants as answer
 use Rattle.lab_core.specs.Board.{Board}
+use Rattle.lab_core.specs.Refusals.{refused_source, refused_view}
 use Rattle.lab_core.specs.Slices.{IsSlice, after_steps, traffic_of, left_by}
-use Rattle.lab_core.specs.Sources.{place_of, number_at, kept_at}
 
 -- what an event gives: its answer and the board after it, or why it is refused
 abbrev pub Given : Type 0
@@ -30,10 +41,26 @@ Given = Result (Answer × Board) EventFault
 abbrev pub without_run : RunState → Given → Given
 without_run NoRun given = given
 without_run Running given = Err Busy
+without_run Stopped given = Err Busy
 
 abbrev pub with_run : RunState → Given → Given
 with_run NoRun given = Err NotRunning
 with_run Running given = given
+with_run Stopped given = given
+
+abbrev pub while_running : RunState → Given → Given
+while_running NoRun given = Err NotRunning
+while_running Running given = given
+while_running Stopped given = Err NotRunning
+
+abbrev pub while_stopped : RunState → Given → Given
+while_stopped NoRun given = Err NotStopped
+while_stopped Running given = Err NotStopped
+while_stopped Stopped given = given
+
+abbrev pub while_attached : Bool → Given → Given
+while_attached true given = given
+while_attached false given = Err NotAttached
 
 -- ---- the events
 
@@ -61,23 +88,115 @@ assembled kept text = do
   statements ← statements_of text
   built_of kept statements
 
+abbrev pub or_source : {A : Type 0} → Result A SourceFault → Result A EventFault
+or_source (Ok x) = Ok x
+or_source (Err fault) = Err (refused_source fault)
+
 -- a cell whose text may be kept under its path, and that has no fault
 abbrev pub loaded : Source → Board → Given
 loaded s b = do
-  place ← place_of s b.sources
+  place ← or_source (place_of s b.sources)
   meaning ← or_assembly (assembled b.symbols s.text)
   Ok (answer.Loaded meaning.output.start, with_cell s place meaning b)
 
+-- a text that may be kept under its path; nothing of it is assembled
+abbrev pub dumped : Source → Board → Given
+dumped s b = do
+  place ← or_source (place_of s b.sources)
+  Ok (answer.Dumped, record b { sources = kept_at place s b.sources })
+
 -- a run from an address, with no live frame
 abbrev pub started : ℕ → Board → Board
-started address b = record b { machine = with_pc b.machine address; run = Running; trace = [] }
+started address b = record b {
+  machine = with_pc b.machine address;
+  run = Running;
+  trace = [];
+  resumed = None;
+  request = None;
+}
+
+abbrev pub stopped : Board → Board
+stopped b = record b { run = Stopped; request = None }
+
+-- a Resume, or with a request a Step
+abbrev pub going_on : Option StepRequest → Board → Board
+going_on request b = record b { run = Running; resumed = Some (length b.trace); request = request }
 
 abbrev pub ended : Board → Board
-ended b = record b { run = NoRun }
+ended b = record b { run = NoRun; request = None }
 
--- power-on; the symbols and the texts stay
+-- what a Reset makes of the machine
+abbrev pub machine_reset : MachineState → MachineState
+machine_reset m = power_on
+
+-- the symbols, the texts, the breakpoints and the attachment stay
 abbrev pub reset : Board → Board
-reset b = record b { machine = power_on; past = []; loads = []; run = NoRun; trace = [] }
+reset b = record b {
+  machine = machine_reset b.machine;
+  past = [];
+  loads = [];
+  run = NoRun;
+  trace = [];
+  resumed = None;
+  request = None;
+}
+
+-- ---- a debugger's
+
+-- a breakpoint is verified where the text has the line
+abbrev pub is_line : List ℕ → ℕ → Bool
+is_line text line = nat_le 1 line && nat_le line (line_count text)
+
+abbrev pub verified : List ℕ → ℕ → Breakpoint
+verified text line = record { line = line; is_verified = is_line text line }
+
+abbrev pub with_source : Option (ℕ × List ℕ) → (ℕ → List ℕ → Given) → Given
+with_source None given = Err NoSource
+with_source (Some (number, text)) given = given number text
+
+abbrev pub with_breakpoints : List ℕ → List ℕ → Board → Given
+with_breakpoints path lines b =
+    with_source (source_at b.sources path) (λ number text.
+    Ok (
+      answer.Breakpoints (map (verified text) lines),
+      record b { breakpoints = with_lines number lines b.breakpoints },
+    ))
+
+abbrev pub attached : Board → Board
+attached b = record b { is_attached = true }
+
+-- a run that is stopped goes on
+abbrev pub unstopped : RunState → RunState
+unstopped NoRun = NoRun
+unstopped Running = Running
+unstopped Stopped = Running
+
+-- that is no Resume
+abbrev pub detached : Board → Board
+detached b = record b { is_attached = false; breakpoints = []; request = None; run = unstopped b.run }
+
+abbrev pub is_stopped : RunState → Bool
+is_stopped NoRun = false
+is_stopped Running = false
+is_stopped Stopped = true
+
+-- what the views are made of
+abbrev pub parts_of : Board → Parts
+parts_of b = record {
+  machine = b.machine;
+  past = b.past;
+  loads = b.loads;
+  frames = live b.trace;
+  symbols = b.symbols;
+  sources = b.sources;
+  breakpoints = b.breakpoints;
+  is_attached = b.is_attached;
+  is_stopped = is_stopped b.run;
+}
+
+abbrev pub as_answer : Result Shown ViewFault → Board → Given
+as_answer (Ok s) b = Ok (answer.Shown s, b)
+as_answer (Err fault) b = Err (refused_view fault)
 
 abbrev pub with_operation : Operation → Board → Board
 with_operation o b = record b { past = b.past ++ o ∷ [] }
@@ -107,17 +226,26 @@ pub record GivesSlice (n : ℕ) (b : Board) (reply : Result Answer EventFault) (
 abbrev pub SlicesRun : RunState → ℕ → Board → Result Answer EventFault → Board → Type 0
 SlicesRun NoRun n b reply new = Gives b (Err NotRunning) reply new
 SlicesRun Running n b reply new = GivesSlice n b reply new
+SlicesRun Stopped n b reply new = Gives b (Err NotRunning) reply new
 
 -- On this board the event is answered so, and makes it that board.
 abbrev pub Applies : Board → Event → Result Answer EventFault → Board → Type 0
 Applies b (event.Load path text) reply new = Gives b (without_run b.run (loaded (record { path = path; text = text }) b)) reply new
+Applies b (event.Dump path text) reply new = Gives b (dumped (record { path = path; text = text }) b) reply new
 Applies b (event.Start address) reply new = Gives b (without_run b.run (Ok (answer.Started, started address b))) reply new
 Applies b (event.Slice n) reply new = SlicesRun b.run n b reply new
+Applies b event.Pause reply new = Gives b (while_attached b.is_attached (while_running b.run (Ok (answer.Accepted, stopped b)))) reply new
+Applies b event.Resume reply new = Gives b (while_stopped b.run (Ok (answer.Accepted, going_on None b))) reply new
+Applies b (event.Step request) reply new = Gives b (while_stopped b.run (Ok (answer.Accepted, going_on (Some request) b))) reply new
 Applies b event.Interrupt reply new = Gives b (with_run b.run (Ok (answer.Interrupted, ended b))) reply new
 Applies b event.Reset reply new = Gives b (Ok (answer.Reset, reset b)) reply new
+Applies b (event.SetBreakpoints path lines) reply new = Gives b (with_breakpoints path lines b) reply new
+Applies b event.Attach reply new = Gives b (Ok (answer.Accepted, attached b)) reply new
+Applies b event.Detach reply new = Gives b (Ok (answer.Accepted, detached b)) reply new
 Applies b (event.Typed bytes) reply new = Gives b (Ok (answer.Accepted, with_operation (Typed bytes) b)) reply new
 Applies b (event.Switches byte) reply new = Gives b (Ok (answer.Accepted, with_operation (Switches byte) b)) reply new
 Applies b (event.Press n) reply new = Gives b (pressed n b) reply new
+Applies b (event.Show view) reply new = Gives b (as_answer (shown view (parts_of b)) b) reply new
 
 -- the events are answered so, in turn
 abbrev pub Runs : Board → List Event → List (Result Answer EventFault) → Board → Type 0
@@ -126,7 +254,8 @@ Runs b (event ∷ events) (reply ∷ replies) new = (mid : Board) × Applies b e
 Runs b [] (reply ∷ replies) new = ⊥
 Runs b (event ∷ events) [] new = ⊥
 
--- a slice makes from 1 to 4,096 steps
+-- a slice makes from 1 to 4,096 steps, and a source has 256 breakpoints at most
 abbrev pub Fits : Event → Type 0
 Fits (event.Slice n) = (1 ≤ n) × (n ≤ 4096)
+Fits (event.SetBreakpoints path lines) = length lines ≤ 256
 Fits _ = Unit {0}

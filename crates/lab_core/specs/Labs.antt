@@ -1,20 +1,26 @@
 -- Which boards a lab stands for.
-use Rattle.std.specs.Prelude.{◌≡◌, ◌≢◌, List, [], Bool, Result, Err}
+use Rattle.std.specs.Prelude.{◌≡◌, ◌≢◌, ◌≤◌, ℕ, List, [], ◌++◌, length, Bool, true, false, Option, None, IsSome, is_some, unwrap_or, Result, Err}
+use Rattle.std.specs.List.{filter}
 use Rattle.i80_exec.specs.State.{MachineState}
 use Rattle.i80_exec.specs.declared.ports.PortOperation.{PortOperation}
+use Rattle.i80_exec.specs.Step.{operation_list}
 use Rattle.i80_devs.specs.Past as devices
 use Rattle.asm_build.specs.Reading.{Entries}
 use Rattle.lab_frames.specs.declared.frame.Frame.{Frame}
-use Rattle.lab_frames.specs.Live.{live}
+use Rattle.lab_frames.specs.Live.{BoardStep, live, stays}
 use Rattle.lab_image.specs.Loads as origins
 use Rattle.lab_image.specs.declared.spans.Span.{Span}
+use Rattle.lab_breaks.specs.Breakpoints.{BreakpointState}
+use Rattle.lab_breaks.specs.Breakpoints as breakpoints
 use Rattle.lab_core.specs.declared.run_state.RunState.{RunState}
-use Rattle.lab_core.specs.declared.sources.Source.{Source}
+use Rattle.lab_core.specs.declared.event.StepRequest.{StepRequest}
+use Rattle.lab_sources.specs.declared.sources.Source.{Source}
 use Rattle.lab_core.specs.declared.event.Event.{Event}
 use Rattle.lab_core.specs.declared.answer.Answer.{Answer}
 use Rattle.lab_core.specs.declared.fault.EventFault.{EventFault}
 use Rattle.lab_core.specs.declared.fault.EventFault.TheVariants.{OutOfMemory}
-use Rattle.lab_core.specs.Board.{Board}
+use Rattle.lab_core.specs.Board.{Board, next_change, stepped}
+use Rattle.lab_core.specs.Stops.{since, earlier, is_any, innermost, is_gone}
 use Rattle.lab_core.specs.Slices.{ends_in_halt}
 use Rattle.lab_core.specs.Events.{Applies, Runs}
 
@@ -26,8 +32,23 @@ pub record LabState : Type 0 where
   pub origins : List Span
   pub symbols : Entries
   pub sources : List Source
+  pub breakpoints : BreakpointState
+  pub is_attached : Bool
   pub run : RunState
   pub is_halted : Bool
+  pub is_resumed : Bool
+  pub has_moved : Bool
+  pub request : Option StepRequest
+  pub older : ℕ
+  pub innermost : Option Frame
+  pub is_gone : Bool
+
+-- What the lab follows while a Step isn't complete, where these are the run's steps up to it and those since:
+-- how many of the frames that were live at its beginning are left, which was innermost, and whether that is gone.
+pub record Follows (older : ℕ) (frame : Option Frame) (gone : Bool) (before steps : List BoardStep) : Type 0 where
+  pub older_is : older ≡ length (filter (stays steps) (live before))
+  pub innermost_is : frame ≡ innermost (live before)
+  pub gone_is : gone ≡ is_gone (innermost (live before)) steps
 
 -- The lab's parts are what the board makes of them, and these port operations weren't taken yet.
 pub record StandsAmid (lab : LabState) (b : Board) (traffic : List PortOperation) : Type 0 where
@@ -38,8 +59,39 @@ pub record StandsAmid (lab : LabState) (b : Board) (traffic : List PortOperation
   pub origins : origins.StandsFor lab.origins b.loads
   pub symbols : lab.symbols ≡ b.symbols
   pub sources : lab.sources ≡ b.sources
+  pub lists : lab.breakpoints.lists ≡ b.breakpoints
+  pub met : breakpoints.StandsFor lab.breakpoints b.loads
+  pub attached : lab.is_attached ≡ b.is_attached
   pub run : lab.run ≡ b.run
   pub is_halted : lab.is_halted ≡ ends_in_halt b.trace
+  pub within : unwrap_or b.resumed 0 ≤ length b.trace
+  pub is_resumed : lab.is_resumed ≡ is_some b.resumed
+  pub has_moved : lab.has_moved ≡ is_any (since b)
+  pub request : lab.request ≡ b.request
+  pub follows : IsSome b.request → Follows lab.older lab.innermost lab.is_gone (earlier b) (since b)
+
+-- ---- what a step or a look makes of a lab
+
+-- whatever board the old lab stands for, the new one stands for the board one step later
+abbrev pub Advances : LabState → LabState → Type 0
+Advances old new =
+    (b : Board) (traffic : List PortOperation) → StandsAmid old b traffic
+    → StandsAmid new (stepped b) (traffic ++ operation_list (next_change b).operation)
+
+-- it stands for the same board
+abbrev pub Keeps : LabState → LabState → Type 0
+Keeps old new = (b : Board) (traffic : List PortOperation) → StandsAmid old b traffic → StandsAmid new b traffic
+
+-- this is found of whatever board the lab stands for
+abbrev pub Finds : {A : Type 0} → (Board → A) → A → LabState → Type 0
+Finds f found lab = (b : Board) (traffic : List PortOperation) → StandsAmid lab b traffic → found ≡ f b
+
+-- unwatched, the lab has neither a debugger nor a Step
+abbrev pub Watches : Bool → LabState → Type 0
+Watches true lab = Unit {0}
+Watches false lab = (lab.is_attached ≡ false) × (lab.request ≡ None)
+
+-- ---- events
 
 -- the same between events, where all are taken
 abbrev pub StandsFor : LabState → Board → Type 0

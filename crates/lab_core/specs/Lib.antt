@@ -1,7 +1,9 @@
 pub mod Board
 pub mod Steps
+pub mod Stops
 pub mod Slices
-pub mod Sources
 pub mod Refusals
 pub mod Events
+pub mod Given
 pub mod Labs
+pub mod Memory

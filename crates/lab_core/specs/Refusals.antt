@@ -3,14 +3,29 @@ use Rattle.i80_devs.specs.declared.devices.PressFault.{PressFault}
 use Rattle.i80_devs.specs.declared.devices.PressFault.TheVariants as press
 use Rattle.asm_syntax.specs.declared.fault.AsmFault.{AsmFault}
 use Rattle.asm_syntax.specs.declared.fault.AsmFault.TheVariants as asm
+use Rattle.lab_sources.specs.declared.sources.SourceFault.{SourceFault}
+use Rattle.lab_sources.specs.declared.sources.SourceFault.TheVariants as source
+use Rattle.lab_views.specs.declared.fault.ViewFault.{ViewFault}
+use Rattle.lab_views.specs.declared.fault.ViewFault.TheVariants as view
 use Rattle.lab_core.specs.declared.fault.EventFault.{EventFault}
-use Rattle.lab_core.specs.declared.fault.EventFault.TheVariants.{OutOfMemory, Latched, Vector, Assembly}
+use Rattle.lab_core.specs.declared.fault.EventFault.TheVariants as fault
 
 -- a fault of a cell, or out of memory on the way
 abbrev pub refused_for : AsmFault → EventFault
-refused_for asm.OutOfMemory = OutOfMemory
-refused_for (asm.At line column kind) = Assembly (asm.At line column kind)
+refused_for asm.OutOfMemory = fault.OutOfMemory
+refused_for (asm.At line column kind) = fault.Assembly (asm.At line column kind)
 
 abbrev pub refused_press : PressFault → EventFault
-refused_press press.Latched = Latched
-refused_press press.Vector = Vector
+refused_press press.Latched = fault.Latched
+refused_press press.Vector = fault.Vector
+
+abbrev pub refused_source : SourceFault → EventFault
+refused_source source.NameTaken = fault.SourceNameTaken
+refused_source source.Full = fault.SourcesFull
+
+abbrev pub refused_view : ViewFault → EventFault
+refused_view view.OutOfMemory = fault.OutOfMemory
+refused_view view.NotStopped = fault.NotStopped
+refused_view view.BadFrame = fault.BadFrame
+refused_view view.BadReference = fault.BadReference
+refused_view view.NoSource = fault.NoSource

@@ -9,18 +9,19 @@ use Rattle.i80_exec.specs.declared.ports.PortOperation.{PortOperation}
 use Rattle.i80_exec.specs.State.{byte_at}
 use Rattle.i80_exec.specs.Step.{operation_list, is_halt}
 use Rattle.i80_devs.specs.Past.{panel_after}
-use Rattle.lab_frames.specs.Live.{BoardStep}
+use Rattle.lab_frames.specs.Live.{BoardStep, change_of}
 use Rattle.lab_core.specs.declared.answer.SliceOutcome.{SliceOutcome}
 use Rattle.lab_core.specs.declared.answer.SliceOutcome.TheVariants as outcome
 use Rattle.lab_core.specs.declared.answer.End.TheVariants as end
-use Rattle.lab_core.specs.declared.run_state.RunState.TheVariants.{NoRun}
-use Rattle.lab_core.specs.Board.{Board, accepted, next_step, stepped}
+use Rattle.lab_core.specs.declared.run_state.RunState.TheVariants.{NoRun, Stopped}
+use Rattle.lab_core.specs.Board.{Board, accepted, next_change, stepped}
+use Rattle.lab_core.specs.Stops.{at_breakpoint, complete}
 
 -- ---- the reasons, and whether each stands
 
 -- the last step was HLT
 abbrev pub ends_in_halt : List BoardStep → Bool
-ends_in_halt trace = fold (λ before step. is_halt step.answer) false trace
+ends_in_halt trace = fold (λ before step. is_halt (change_of step).answer) false trace
 
 abbrev pub is_off : Interrupts → Bool
 is_off Off = true
@@ -51,9 +52,13 @@ undefined b =
     if is_undefined (row opcode) && is_none (accepted b.machine b.past)
     then Some (outcome.End (end.Undefined opcode b.machine.regs.pc)) else None
 
+-- the first of those that are tried after the last step too
+abbrev pub early_reason : Board → Option SliceOutcome
+early_reason b = option_or (halted b) (option_or (at_breakpoint b) (complete b))
+
 -- the first reason to make no further step
 abbrev pub reason : Board → Option SliceOutcome
-reason b = option_or (halted b) (option_or (waiting b) (undefined b))
+reason b = option_or (early_reason b) (option_or (waiting b) (undefined b))
 
 -- ---- the slice
 
@@ -64,18 +69,19 @@ after_steps (suc k) b = stepped (after_steps k b)
 -- the port operations of the first k steps
 abbrev pub traffic_of : ℕ → Board → List PortOperation
 traffic_of zero b = []
-traffic_of (suc k) b = traffic_of k b ++ operation_list (next_step (after_steps k b)).operation
+traffic_of (suc k) b = traffic_of k b ++ operation_list (next_change (after_steps k b)).operation
 
 -- A slice of n steps ends after k: at no count before it a reason stands, and there is the first that
--- does; or all n are made, where the only reason that is tried still is a run that halted.
+-- does; or all n are made, and of the reasons only the early ones are tried.
 pub record IsSlice (n : ℕ) (b : Board) (k : ℕ) (ending : SliceOutcome) : Type 0 where
   pub within : k ≤ n
   pub none_before : (j : ℕ) → j < k → reason (after_steps j b) ≡ None
   pub early : k < n → reason (after_steps k b) ≡ Some ending
-  pub last : k ≡ n → ending ≡ unwrap_or (halted (after_steps n b)) outcome.More
+  pub last : k ≡ n → ending ≡ unwrap_or (early_reason (after_steps n b)) outcome.More
 
--- a run that ended is there no more
+-- a run that ended is there no more; that and a stop drop the Step
 abbrev pub left_by : SliceOutcome → Board → Board
 left_by outcome.More b = b
 left_by outcome.Waiting b = b
-left_by (outcome.End e) b = record b { run = NoRun }
+left_by (outcome.Stop s) b = record b { run = Stopped; request = None }
+left_by (outcome.End e) b = record b { run = NoRun; request = None }

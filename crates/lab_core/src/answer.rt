@@ -2,6 +2,16 @@
 use crate::fault::EventFault;
 use base_text::sequence::Sequence;
 use i80_devs::traffic::Traffic;
+use lab_views::shown::Shown;
+
+/// Where a debugger stops a run.
+#[derive(Clone, Copy, PartialEq, Eq, Debug)]
+pub enum Stop {
+    /// At a breakpoint.
+    Breakpoint,
+    /// Where a Step is complete.
+    Step,
+}
 
 /// How a run ends by itself.
 #[derive(Clone, Copy, PartialEq, Eq, Debug)]
@@ -19,8 +29,17 @@ pub enum SliceOutcome {
     More,
     /// The run waits for a request, after HLT with interrupts on.
     Waiting,
+    /// The run is stopped.
+    Stop(Stop),
     /// The run has ended.
     End(End),
+}
+
+/// A line that was set as a breakpoint, and whether its text has that line.
+#[derive(Clone, Copy, PartialEq, Eq, Debug)]
+pub struct Breakpoint {
+    pub line: u32,
+    pub is_verified: bool,
 }
 
 /// What an event answers.
@@ -30,6 +49,7 @@ pub enum Answer {
     Loaded {
         start: Option<u16>,
     },
+    Dumped,
     Started,
     /// How many steps were made, the IN and OUT that they did, and how the slice ended.
     Sliced {
@@ -40,6 +60,9 @@ pub enum Answer {
     Accepted,
     Interrupted,
     Reset,
+    /// Each line that was set, in order.
+    Breakpoints(Sequence<Breakpoint>),
+    Shown(Shown),
 }
 
 /// The answers to events in turn, refusals among them.

@@ -6,6 +6,7 @@ ghost use Rattle.lab_core.specs.Board.{accepted};
 ghost use Rattle.lab_core.specs.Steps.{IsBoardStep};
 
 use i80_devs::devices::Devices;
+use i80_devs::laws::panel_after_one_more;
 use i80_exec::machine::Machine;
 use i80_exec::registers::Stepped;
 
@@ -17,6 +18,7 @@ pub fn board_step(machine: &mut Machine, devices: &mut Devices) -> Stepped
     ensures sp { TellsSp result machine.old.regs.sp machine.new.regs.sp }
     ensures spare { devices.old.spare ≤ devices.new.spare + 1 }
 {
+    panel_after_one_more();
     match accept(machine, devices) {
         Some(answer) => answer,
         None => machine.step(devices),

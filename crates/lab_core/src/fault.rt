@@ -2,6 +2,8 @@
 
 use asm_syntax::fault::AsmFault;
 use i80_devs::devices::PressFault;
+use lab_sources::sources::SourceFault;
+use lab_views::fault::ViewFault;
 use std::alloc::AllocError;
 use thiserror::Error;
 
@@ -12,16 +14,27 @@ pub enum EventFault {
     OutOfMemory,
     #[error("no program runs")]
     NotRunning,
+    #[error("no program is stopped")]
+    NotStopped,
     #[error("a program runs")]
     Busy,
     /// The path is kept with another text.
     #[error("the path has another text")]
     SourceNameTaken,
+    /// No text is kept under this path.
+    #[error("no text has this path")]
+    NoSource,
     #[error("a request is latched already")]
     Latched,
+    #[error("there is no such frame")]
+    BadFrame,
+    #[error("there are the references 1 to 5")]
+    BadReference,
     /// The cell has this fault.
     #[error("{0}")]
     Assembly(AsmFault),
+    #[error("no debugger is attached")]
+    NotAttached,
     #[error("there are the buttons 0 to 7")]
     Vector,
     /// As many texts are kept as may be, and this path isn't among them.
@@ -64,6 +77,37 @@ impl From<PressFault> for EventFault {
         match press {
             PressFault::Latched => EventFault::Latched,
             PressFault::Vector => EventFault::Vector,
+        }
+    }
+}
+
+impl From<SourceFault> for EventFault {
+    ghost use Rattle.std.specs.Prelude.{◌≡◌};
+    ghost use Rattle.lab_core.specs.Refusals.{refused_source};
+
+    ghost from_gives = { λ fault refused. refused ≡ refused_source fault };
+
+    fn from(fault: SourceFault) -> EventFault {
+        match fault {
+            SourceFault::NameTaken => EventFault::SourceNameTaken,
+            SourceFault::Full => EventFault::SourcesFull,
+        }
+    }
+}
+
+impl From<ViewFault> for EventFault {
+    ghost use Rattle.std.specs.Prelude.{◌≡◌};
+    ghost use Rattle.lab_core.specs.Refusals.{refused_view};
+
+    ghost from_gives = { λ fault refused. refused ≡ refused_view fault };
+
+    fn from(fault: ViewFault) -> EventFault {
+        match fault {
+            ViewFault::OutOfMemory => EventFault::OutOfMemory,
+            ViewFault::NotStopped => EventFault::NotStopped,
+            ViewFault::BadFrame => EventFault::BadFrame,
+            ViewFault::BadReference => EventFault::BadReference,
+            ViewFault::NoSource => EventFault::NoSource,
         }
     }
 }

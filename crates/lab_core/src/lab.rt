@@ -1,23 +1,29 @@
 //! The laboratory.
 ghost use Rattle.std.specs.Prelude.{◌≡◌, [], IfOk};
 
+mod debug;
 mod events;
 mod load;
 mod slice;
+mod stops;
 
+use crate::event::StepRequest;
 use crate::run_state::RunState;
-use crate::sources::Sources;
 use asm_build::symbols::Symbols;
 use i80_devs::devices::Devices;
 use i80_exec::machine::Machine;
 use i80_exec::registers::Registers;
+use lab_breaks::breakpoints::Breakpoints;
+use lab_frames::frame::Frame;
 use lab_frames::frames::Frames;
 use lab_image::origin::Origin;
 use lab_image::origins::Origins;
+use lab_sources::sources::Sources;
+use lab_views::views::after_instructions;
 use std::alloc::{AllocError, Global};
 use std::marker::Model;
 
-/// A board: machine, devices, what was loaded and kept, and the run with its live frames.
+/// A board: machine, devices, what was loaded and kept, the breakpoints, and the run with its live frames.
 #[derive(Drop)]
 pub struct Lab {
     machine: Machine,
@@ -26,9 +32,22 @@ pub struct Lab {
     origins: Origins,
     symbols: Symbols,
     sources: Sources,
+    breakpoints: Breakpoints,
+    is_attached: bool,
     run_state: RunState,
     /// The run's last step was HLT.
     is_halted: bool,
+    /// The run had a Resume or a Step.
+    is_resumed: bool,
+    /// A step was made since the last of them, or since the start.
+    has_moved: bool,
+    /// The Step that isn't complete yet.
+    request: Option<StepRequest>,
+    /// How many of the frames that were live at its beginning are left.
+    older: usize,
+    /// The one of them that was innermost, and whether it is gone.
+    innermost: Option<Frame>,
+    is_gone: bool,
     alloc: Global,
 }
 
@@ -45,8 +64,16 @@ impl Model for Lab {
       origins = l.origins;
       symbols = l.symbols;
       sources = l.sources;
+      breakpoints = l.breakpoints;
+      is_attached = l.is_attached;
       run = l.run_state;
       is_halted = l.is_halted;
+      is_resumed = l.is_resumed;
+      has_moved = l.has_moved;
+      request = l.request;
+      older = l.older;
+      innermost = l.innermost;
+      is_gone = l.is_gone;
     } };
 
     // No live slot is below SP: a step that leaves SP above a slot ends its frame.
@@ -58,17 +85,20 @@ impl Lab {
     ghost use Rattle.lab_frames.specs.Live.{live};
     ghost use Rattle.i80_devs.specs.Past as devices;
     ghost use Rattle.lab_image.specs.Loads.{origin_of};
+    ghost use Rattle.lab_views.specs.Code.{after_instructions};
     ghost use Rattle.lab_core.specs.Board.{Board, opening};
     ghost use Rattle.lab_core.specs.Labs.{StandsFor};
 
     /// A board after power-on, with nothing loaded or kept.
-    /// All room that its memory, its live frames and its list of texts need is made here.
+    /// All room that its memory, its live frames, its list of texts and the bits of its breakpoints need
+    /// is made here.
     pub fn new(alloc: Global) -> Result<Lab, AllocError>
         ensures { IfOk result (λ lab. StandsFor lab opening) }
     {
         let machine = Machine::new(alloc)?;
         let frames = Frames::new(alloc)?;
         let sources = Sources::new(alloc)?;
+        let breakpoints = Breakpoints::new(alloc)?;
         Ok(Lab {
             machine,
             devices: Devices::new(alloc),
@@ -76,8 +106,16 @@ impl Lab {
             origins: Origins::new(alloc),
             symbols: Symbols::new(alloc),
             sources,
+            breakpoints,
+            is_attached: false,
             run_state: RunState::NoRun,
             is_halted: false,
+            is_resumed: false,
+            has_moved: false,
+            request: None,
+            older: 0,
+            innermost: None,
+            is_gone: false,
             alloc,
         })
     }
@@ -122,6 +160,13 @@ impl Lab {
         ensures { (b : Board) → StandsFor self.now b → result.now ≡ b.symbols }
     {
         &self.symbols
+    }
+
+    /// The address after so many instructions from one on, as lines of code are shown. Addresses wrap.
+    pub fn after_instructions(&self, address: u16, count: u16) -> u16
+        ensures { (b : Board) → StandsFor self.now b → result ≡ after_instructions b.machine address count }
+    {
+        after_instructions(&self.machine, address, count)
     }
 
     /// The line that the byte at an address was loaded from.

@@ -4,7 +4,17 @@ ghost use Rattle.lab_core.specs.declared.event.Event.{Event};
 ghost use Rattle.lab_core.specs.declared.answer.Answer.{Answer};
 ghost use Rattle.lab_core.specs.declared.fault.EventFault.{EventFault};
 ghost use Rattle.lab_core.specs.Board.{Board};
-ghost use Rattle.lab_core.specs.Events.{Runs};
+ghost use Rattle.lab_core.specs.Events.{Applies, Gives, Runs};
+ghost use Rattle.lab_core.specs.Given.{given};
+
+/// An event may be answered and may leave a board exactly as the function gives it: so there is an
+/// answer for each event on each board, and only one.
+pub fn applies_as_given()
+    ensures only { (b new : Board) (event : Event) (reply : Result Answer EventFault)
+        → Applies b event reply new → Gives b (given event b) reply new }
+    ensures all { (b new : Board) (event : Event) (reply : Result Answer EventFault)
+        → Gives b (given event b) reply new → Applies b event reply new }
+{}
 
 /// On a board, events in turn are answered in one way only, and leave one board.
 pub fn one_answer()

@@ -11,4 +11,3 @@ pub mod fault;
 pub mod lab;
 pub mod laws;
 pub mod run_state;
-pub mod sources;

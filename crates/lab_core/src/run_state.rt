@@ -5,4 +5,6 @@
 pub enum RunState {
     NoRun,
     Running,
+    /// At a breakpoint, after a Step or by a Pause. It goes on by Resume, Step or Detach.
+    Stopped,
 }

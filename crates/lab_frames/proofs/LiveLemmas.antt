@@ -5,7 +5,7 @@ use Rattle.std.proofs.lemmas.List.Elements.{filter-append}
 use Rattle.std.specs.List.{filter}
 use Rattle.i80_exec.specs.declared.registers.Stepped.{Stepped}
 use Rattle.lab_frames.specs.declared.frame.Frame.{Frame}
-use Rattle.lab_frames.specs.Live.{BoardStep, ends, made, made_by, stays, live}
+use Rattle.lab_frames.specs.Live.{BoardStep, change_of, ends, made, made_by, stays, live}
 use Rattle.lab_frames.specs.Frames.{survivors, Advances}
 
 -- a frame stays over one more step where it stayed so far and the step doesn't end it
@@ -15,7 +15,7 @@ stays-step [] step f = refl
 stays-step (first ∷ later) step f = grind (arith, stays-step later step f)
 
 pub filter-stays-step : (later : List BoardStep) (step : BoardStep) (fs : List Frame)
-    → filter (stays (later ++ step ∷ [])) fs ≡ survivors step.answer step.after.regs.sp (filter (stays later) fs)
+    → filter (stays (later ++ step ∷ [])) fs ≡ survivors (change_of step).answer (change_of step).after.regs.sp (filter (stays later) fs)
 filter-stays-step later step [] = refl
 filter-stays-step later step (f ∷ fs) = rw (stays-step later step f) (grind (arith, filter-stays-step later step fs))
 
@@ -26,10 +26,10 @@ filter-stays-none (f ∷ fs) = ap (λ r. f ∷ r) (filter-stays-none fs)
 
 -- one more step: the live frames that it leaves, and the one that it makes
 pub live-step : (trace : List BoardStep) (step : BoardStep)
-    → live (trace ++ step ∷ []) ≡ survivors step.answer step.after.regs.sp (live trace) ++ made step
+    → live (trace ++ step ∷ []) ≡ survivors (change_of step).answer (change_of step).after.regs.sp (live trace) ++ made step
 live-step [] step = rw (filter-stays-none (made step)) (grind (arith, common_steps))
 live-step (first ∷ later) step =
-    rw (filter-stays-step later step (made first), live-step later step, filter-append (λ f. not (ends step f)) (filter (stays later) (made first)) (live later)) (sym (append_assoc (survivors step.answer step.after.regs.sp (filter (stays later) (made first))) (survivors step.answer step.after.regs.sp (live later)) (made step)))
+    rw (filter-stays-step later step (made first), live-step later step, filter-append (λ f. not (ends step f)) (filter (stays later) (made first)) (live later)) (sym (append_assoc (survivors (change_of step).answer (change_of step).after.regs.sp (filter (stays later) (made first))) (survivors (change_of step).answer (change_of step).after.regs.sp (live later)) (made step)))
 
 stays-append : (first later : List BoardStep) (f : Frame) → stays (first ++ later) f ≡ (stays first f && stays later f)
 stays-append [] later f = refl

@@ -20,73 +20,73 @@ abbrev Tells : ℕ → Outcome → Type 0
 Tells sp o = TellsSp o.answer sp o.after.regs.sp
 
 called-tells : (m : MachineState) (target : ℕ) → Tells m.regs.sp (called m target)
-called-tells m target = record { returns = tt; calls = refl }
+called-tells m target = record { returns = tt; calls = refl; keeps = tt }
 
 returned-tells : (m : MachineState) → Tells m.regs.sp (returned m)
-returned-tells m = record { returns = refl; calls = tt }
+returned-tells m = record { returns = refl; calls = tt; keeps = tt }
 
 done-tells : (sp : ℕ) (m : MachineState) → Tells sp (done m)
-done-tells sp m = record { returns = tt; calls = tt }
+done-tells sp m = record { returns = tt; calls = tt; keeps = tt }
 
 -- of two outcomes the one that a condition chooses
 choice-tells : (sp : ℕ) (b : Bool) (o p : Outcome) → Tells sp o → Tells sp p → Tells sp (if b then o else p)
 choice-tells sp b o p left right = cond_both b o p (Tells sp) (λ _. left) (λ _. right)
 
 effect-tells : (i : Instr) (input : ℕ → ℕ) (m : MachineState) → Tells m.regs.sp (effect i input m)
-effect-tells Nop input m = record { returns = tt; calls = tt }
-effect-tells (Lxi p word) input m = record { returns = tt; calls = tt }
-effect-tells (Stax p) input m = record { returns = tt; calls = tt }
-effect-tells (Ldax p) input m = record { returns = tt; calls = tt }
-effect-tells (Shld address) input m = record { returns = tt; calls = tt }
-effect-tells (Lhld address) input m = record { returns = tt; calls = tt }
-effect-tells (Sta address) input m = record { returns = tt; calls = tt }
-effect-tells (Lda address) input m = record { returns = tt; calls = tt }
-effect-tells (Inx p) input m = record { returns = tt; calls = tt }
-effect-tells (Dcx p) input m = record { returns = tt; calls = tt }
-effect-tells (Dad p) input m = record { returns = tt; calls = tt }
-effect-tells (Inr r) input m = record { returns = tt; calls = tt }
-effect-tells (Dcr r) input m = record { returns = tt; calls = tt }
-effect-tells (Mvi r byte) input m = record { returns = tt; calls = tt }
-effect-tells (Rotate x) input m = record { returns = tt; calls = tt }
-effect-tells Daa input m = record { returns = tt; calls = tt }
-effect-tells Cma input m = record { returns = tt; calls = tt }
-effect-tells Stc input m = record { returns = tt; calls = tt }
-effect-tells Cmc input m = record { returns = tt; calls = tt }
-effect-tells (Mov to from) input m = record { returns = tt; calls = tt }
-effect-tells (MovFromM to) input m = record { returns = tt; calls = tt }
-effect-tells (MovToM from) input m = record { returns = tt; calls = tt }
-effect-tells Hlt input m = record { returns = tt; calls = tt }
-effect-tells (Alu x r) input m = record { returns = tt; calls = tt }
-effect-tells (AluImmediate x byte) input m = record { returns = tt; calls = tt }
-effect-tells (Jmp address) input m = record { returns = tt; calls = tt }
+effect-tells Nop input m = record { returns = tt; calls = tt; keeps = tt }
+effect-tells (Lxi p word) input m = record { returns = tt; calls = tt; keeps = tt }
+effect-tells (Stax p) input m = record { returns = tt; calls = tt; keeps = tt }
+effect-tells (Ldax p) input m = record { returns = tt; calls = tt; keeps = tt }
+effect-tells (Shld address) input m = record { returns = tt; calls = tt; keeps = tt }
+effect-tells (Lhld address) input m = record { returns = tt; calls = tt; keeps = tt }
+effect-tells (Sta address) input m = record { returns = tt; calls = tt; keeps = tt }
+effect-tells (Lda address) input m = record { returns = tt; calls = tt; keeps = tt }
+effect-tells (Inx p) input m = record { returns = tt; calls = tt; keeps = tt }
+effect-tells (Dcx p) input m = record { returns = tt; calls = tt; keeps = tt }
+effect-tells (Dad p) input m = record { returns = tt; calls = tt; keeps = tt }
+effect-tells (Inr r) input m = record { returns = tt; calls = tt; keeps = tt }
+effect-tells (Dcr r) input m = record { returns = tt; calls = tt; keeps = tt }
+effect-tells (Mvi r byte) input m = record { returns = tt; calls = tt; keeps = tt }
+effect-tells (Rotate x) input m = record { returns = tt; calls = tt; keeps = tt }
+effect-tells Daa input m = record { returns = tt; calls = tt; keeps = tt }
+effect-tells Cma input m = record { returns = tt; calls = tt; keeps = tt }
+effect-tells Stc input m = record { returns = tt; calls = tt; keeps = tt }
+effect-tells Cmc input m = record { returns = tt; calls = tt; keeps = tt }
+effect-tells (Mov to from) input m = record { returns = tt; calls = tt; keeps = tt }
+effect-tells (MovFromM to) input m = record { returns = tt; calls = tt; keeps = tt }
+effect-tells (MovToM from) input m = record { returns = tt; calls = tt; keeps = tt }
+effect-tells Hlt input m = record { returns = tt; calls = tt; keeps = tt }
+effect-tells (Alu x r) input m = record { returns = tt; calls = tt; keeps = tt }
+effect-tells (AluImmediate x byte) input m = record { returns = tt; calls = tt; keeps = tt }
+effect-tells (Jmp address) input m = record { returns = tt; calls = tt; keeps = tt }
 effect-tells (JumpIf c address) input m = choice-tells m.regs.sp (holds c m.regs.flags) (done (with_pc m address)) (done m) (done-tells m.regs.sp (with_pc m address)) (done-tells m.regs.sp m)
 effect-tells (Call address) input m = called-tells m address
 effect-tells (CallIf c address) input m = choice-tells m.regs.sp (holds c m.regs.flags) (called m address) (done m) (called-tells m address) (done-tells m.regs.sp m)
 effect-tells Ret input m = returned-tells m
 effect-tells (RetIf c) input m = choice-tells m.regs.sp (holds c m.regs.flags) (returned m) (done m) (returned-tells m) (done-tells m.regs.sp m)
 effect-tells (Rst n) input m = called-tells m (8 * vector_code n)
-effect-tells (Push p) input m = record { returns = tt; calls = tt }
-effect-tells (Pop p) input m = record { returns = tt; calls = tt }
-effect-tells Xthl input m = record { returns = tt; calls = tt }
-effect-tells Xchg input m = record { returns = tt; calls = tt }
-effect-tells Pchl input m = record { returns = tt; calls = tt }
-effect-tells Sphl input m = record { returns = tt; calls = tt }
-effect-tells (Out p) input m = record { returns = tt; calls = tt }
-effect-tells (In p) input m = record { returns = tt; calls = tt }
-effect-tells Di input m = record { returns = tt; calls = tt }
-effect-tells Ei input m = record { returns = tt; calls = tt }
+effect-tells (Push p) input m = record { returns = tt; calls = tt; keeps = tt }
+effect-tells (Pop p) input m = record { returns = tt; calls = tt; keeps = tt }
+effect-tells Xthl input m = record { returns = tt; calls = tt; keeps = tt }
+effect-tells Xchg input m = record { returns = tt; calls = tt; keeps = tt }
+effect-tells Pchl input m = record { returns = tt; calls = tt; keeps = tt }
+effect-tells Sphl input m = record { returns = tt; calls = tt; keeps = tt }
+effect-tells (Out p) input m = record { returns = tt; calls = tt; keeps = tt }
+effect-tells (In p) input m = record { returns = tt; calls = tt; keeps = tt }
+effect-tells Di input m = record { returns = tt; calls = tt; keeps = tt }
+effect-tells Ei input m = record { returns = tt; calls = tt; keeps = tt }
 
 row-tells : (r : Row) (input : ℕ → ℕ) (m : MachineState) → Tells m.regs.sp (by_row r input m)
-row-tells Undefined input m = record { returns = tt; calls = tt }
+row-tells Undefined input m = record { returns = tt; calls = tt; keeps = refl }
 row-tells (Alone i) input m =
     let e = effect-tells i input (with_pc m (wrapped (m.regs.pc + 1))) in
-    record { returns = e.returns; calls = e.calls }
+    record { returns = e.returns; calls = e.calls; keeps = e.keeps }
 row-tells (Byte f) input m =
     let e = effect-tells (f (byte_at m (m.regs.pc + 1))) input (with_pc m (wrapped (m.regs.pc + 2))) in
-    record { returns = e.returns; calls = e.calls }
+    record { returns = e.returns; calls = e.calls; keeps = e.keeps }
 row-tells (Word f) input m =
     let e = effect-tells (f (word_at m (m.regs.pc + 1))) input (with_pc m (wrapped (m.regs.pc + 3))) in
-    record { returns = e.returns; calls = e.calls }
+    record { returns = e.returns; calls = e.calls; keeps = e.keeps }
 
 -- the instruction at PC, whatever the ports answer
 pub instruction-tells : (input : ℕ → ℕ) (m : MachineState) → TellsSp (instruction input m).answer m.regs.sp (instruction input m).after.regs.sp

@@ -4,7 +4,7 @@ use Rattle.std.specs.List.{filter}
 use Rattle.i80_exec.specs.declared.registers.Stepped.{Stepped}
 use Rattle.i80_exec.specs.declared.registers.Stepped.TheVariants.{Done, Called, Returned, Halted, Undefined}
 use Rattle.lab_frames.specs.declared.frame.Frame.{Frame}
-use Rattle.lab_frames.specs.Live.{BoardStep, ended_by, live}
+use Rattle.lab_frames.specs.Live.{BoardStep, change_of, ended_by, live}
 
 -- those of the frames that a step leaves, which answered so and left SP there
 abbrev pub survivors : Stepped → ℕ → List Frame → List Frame
@@ -12,9 +12,9 @@ survivors answer sp frames = filter (λ f. not (ended_by answer sp f.slot)) fram
 
 -- the step answered so, at this PC, and left SP there
 pub record IsStep (step : BoardStep) (answer : Stepped) (site sp : ℕ) : Type 0 where
-  pub answer_is : step.answer ≡ answer
-  pub site_is : step.before.regs.pc ≡ site
-  pub sp_is : step.after.regs.sp ≡ sp
+  pub answer_is : (change_of step).answer ≡ answer
+  pub site_is : (change_of step).before.regs.pc ≡ site
+  pub sp_is : (change_of step).after.regs.sp ≡ sp
 
 -- Whatever the steps were whose live frames are the old ones: with one such step more,
 -- the live frames are the new ones.
@@ -61,7 +61,16 @@ ReturnsFrom Done sp = Unit {0}
 ReturnsFrom Halted sp = Unit {0}
 ReturnsFrom (Undefined opcode) sp = Unit {0}
 
+-- an undefined opcode leaves SP as it was
+abbrev pub KeepsSp : Stepped → ℕ → ℕ → Type 0
+KeepsSp (Undefined opcode) before after = after ≡ before
+KeepsSp (Called called target) before after = Unit {0}
+KeepsSp (Returned from) before after = Unit {0}
+KeepsSp Done before after = Unit {0}
+KeepsSp Halted before after = Unit {0}
+
 -- SP before a step and after it, as its answer has them
 pub record TellsSp (answer : Stepped) (before after : ℕ) : Type 0 where
   pub returns : ReturnsFrom answer before
   pub calls : CallsAt answer after
+  pub keeps : KeepsSp answer before after

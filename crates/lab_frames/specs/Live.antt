@@ -7,13 +7,21 @@ use Rattle.i80_exec.specs.declared.ports.PortOperation.{PortOperation}
 use Rattle.i80_exec.specs.State.{MachineState}
 use Rattle.lab_frames.specs.declared.frame.Frame.{Frame}
 
--- one instruction or one acceptance of a request: the machine before it, what it answered,
--- its port operation, and the machine after it
-pub record BoardStep : Type 0 where
+-- what was done to the machine: the machine before it, what was answered, the port operation, and the machine after it
+pub record Change : Type 0 where
   pub before : MachineState
   pub answer : Stepped
   pub operation : Option PortOperation
   pub after : MachineState
+
+-- one step of a board: an instruction, or the acceptance of a request
+pub data BoardStep : Type 0 where
+  Instruction : Change → BoardStep
+  Acceptance : Change → BoardStep
+
+abbrev pub change_of : BoardStep → Change
+change_of (Instruction change) = change
+change_of (Acceptance change) = change
 
 -- the frame of a call that was made at this site; no other answer makes one
 abbrev pub made_by : Stepped → ℕ → List Frame
@@ -25,7 +33,7 @@ made_by (Undefined opcode) site = []
 
 -- PC before the step is the site: the call instruction's address, or the PC that an acceptance pushes
 abbrev pub made : BoardStep → List Frame
-made step = made_by step.answer step.before.regs.pc
+made step = made_by (change_of step).answer (change_of step).before.regs.pc
 
 -- by a taken return from the slot, or by a call with a slot at or above it
 abbrev pub returned_or_covered : Stepped → ℕ → Bool
@@ -40,7 +48,7 @@ abbrev pub ended_by : Stepped → ℕ → ℕ → Bool
 ended_by answer sp slot = nat_lt slot sp || returned_or_covered answer slot
 
 abbrev pub ends : BoardStep → Frame → Bool
-ends step frame = ended_by step.answer step.after.regs.sp frame.slot
+ends step frame = ended_by (change_of step).answer (change_of step).after.regs.sp frame.slot
 
 -- none of the later steps ends it
 abbrev pub stays : List BoardStep → Frame → Bool

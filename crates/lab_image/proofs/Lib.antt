@@ -1,2 +1,3 @@
+pub mod MappedLemmas
 pub mod SpanLemmas
 pub mod TellLemmas

@@ -60,7 +60,7 @@ before : (r : Span) (a : ℕ) → a < r.from → lies_in r a ≡ false
 before r a h = grind (arith, nat_tests)
 
 -- below the first span there is no origin
-none_below : (low high : ℕ) (spans : List Span) (a : ℕ) → AreSpans low spans high → a < low → origin_in spans a ≡ None
+pub none_below : (low high : ℕ) (spans : List Span) (a : ℕ) → AreSpans low spans high → a < low → origin_in spans a ≡ None
 none_below low high [] a are h = refl
 none_below low high (r ∷ rs) a are h =
     let p = are.0 in let q = are.1 in rw (before r a (omega arith)) (none_below r.to high rs a are.2 (omega arith))

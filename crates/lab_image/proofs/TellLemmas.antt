@@ -73,3 +73,16 @@ pub appends_load : (load : Load) (old new : List Span) → Tells load.source loa
 appends_load load old new tells loads stands a h =
     tells a h ∙ ap (λ o. last_or o (told_in a load)) (stands a h)
     ∙ sym (ap (last_or None) (told-append loads load a) ∙ last_or-append None (flat_map (told_in a) loads) (told_in a load))
+
+-- Rows are told by those in front, the next one, and two parts of the others, each over what was there.
+pub tells_halves : (source : ℕ) (rows done first second : List Row) (row : Row) (old front more a b : List Span)
+    → rows ≡ done ++ row ∷ (first ++ second)
+    → Tells source done old front → Tells source (row ∷ []) front more
+    → AreSpans 0 a 65536 → Tells source first [] a → AreSpans 0 b 65536 → Tells source second [] b
+    → Tells source rows old (overlay 0 (overlay 0 more a) b)
+tells_halves source rows done first second row old front more a b e t one are h are' h' =
+    let three = tells_more source (row ∷ []) first front more (overlay 0 more a) one (tells_over source first more a are h) in
+    let four = tells_more source (row ∷ first) second front (overlay 0 more a) (overlay 0 (overlay 0 more a) b) three (tells_over source second (overlay 0 more a) b are' h') in
+    let all = tells_more source done (row ∷ (first ++ second)) old front (overlay 0 (overlay 0 more a) b) t four in
+    let P : List Row → Type 0 = λ xs. Tells source xs old (overlay 0 (overlay 0 more a) b) in
+    subst P (sym e) all

@@ -2,6 +2,7 @@
 ghost use Rattle.std.specs.Prelude.{◌≡◌, [], List, OnOk, OnErr};
 ghost use Rattle.i80_exec.specs.State.{loaded};
 
+use crate::mapped::MappedAddresses;
 use crate::origin::Origin;
 use crate::spans::{self, Span};
 use asm_build::built::Built;
@@ -30,6 +31,7 @@ impl Model for Origins {
 
 impl Origins {
     ghost use Rattle.lab_image.specs.Loads.{Load, load_of, origin_of, StandsFor, Appends};
+    ghost use Rattle.lab_image.specs.Mapped.{AreMapped};
 
     /// Before any load: no address has an origin.
     pub fn new(alloc: Global) -> Origins
@@ -56,8 +58,7 @@ impl Origins {
         ensures machine_err { OnErr result (machine.new ≡ machine.old) }
         ensures err { OnErr result (self.new ≡ self.old) }
     {
-        let mut own = Vec::new(self.alloc);
-        spans::put_rows(self.alloc, &mut own, source, &built.rows)?;
+        let own = spans::spans_of_rows(self.alloc, source, &built.rows)?;
         let spans = spans::overlaid(self.alloc, &self.spans, &own)?;
         store_all(machine, &built.image);
         self.spans = spans;
@@ -71,6 +72,13 @@ impl Origins {
             → result ≡ origin_of loads address }
     {
         spans::origin_in(&self.spans, address)
+    }
+
+    /// The mapped addresses: those whose byte is the first of its statement.
+    pub fn mapped(&self) -> MappedAddresses<'_>
+        ensures { (loads : List Load) → StandsFor self.now loads → AreMapped loads result }
+    {
+        MappedAddresses::new(&self.spans)
     }
 
     /// Forgets all loads. The bytes in the machine stay.

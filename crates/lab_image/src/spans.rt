@@ -1,5 +1,5 @@
 //! Sorted spans of addresses, each of them what is left of a row.
-ghost use Rattle.std.specs.Prelude.{◌≡◌, ◌≤◌, ◌<◌, ◌∷◌, ◌++◌, [], OnOk, IfOk, IfSome};
+ghost use Rattle.std.specs.Prelude.{◌≡◌, ◌≤◌, ◌<◌, ◌∷◌, ◌++◌, [], length, take, OnOk, IfOk, IfSome};
 ghost use Rattle.lab_image.specs.Loads.{Tells};
 ghost use Rattle.lab_image.specs.Spans.{AreSpans, EndBy, between, origin_in, overlay, span_of};
 
@@ -148,19 +148,50 @@ fn put_row(alloc: Global, spans: &mut Vec<Span>, source: u32, row: &Row) -> Resu
     }
 }
 
-/// Puts the rows of a source, in order.
-pub(crate) fn put_rows(
+// Puts the rows in front, as long as each lies behind those before it. Answers how many these are.
+fn put_in_order(
     alloc: Global,
     spans: &mut Vec<Span>,
     source: u32,
     rows: &[Row],
-) -> Result<(), AllocError>
+) -> Result<usize, AllocError>
     requires { AreSpans 0 spans.old.items 65536 }
+    ensures within { IfOk result (λ count. count ≤ length rows.now) }
     ensures sorted { OnOk result (AreSpans 0 spans.new.items 65536) }
-    ensures origins { OnOk result (Tells source rows.now spans.old.items spans.new.items) }
+    ensures origins { IfOk result (λ count.
+        Tells source (take count rows.now) spans.old.items spans.new.items) }
 {
-    for row in rows {
+    for (i, row) in rows.iter().enumerate() {
+        if count_ended(spans, u32::from(row.address)) < spans.len() {
+            return Ok(i);
+        }
         put_row(alloc, spans, source, row)?;
     }
-    Ok(())
+    Ok(rows.len())
+}
+
+/// The spans of the rows of a source, put in order.
+///
+/// Rows in the order of their addresses are put one by one. Of others, the later half goes over the
+/// earlier one, so that none is copied more often than the rows can be halved.
+pub(crate) fn spans_of_rows(
+    alloc: Global,
+    source: u32,
+    rows: &[Row],
+) -> Result<Vec<Span>, AllocError>
+    ensures sorted { IfOk result (λ all. AreSpans 0 all.items 65536) }
+    ensures origins { IfOk result (λ all. Tells source rows.now [] all.items) }
+{
+    let mut all = Vec::new(alloc);
+    let count = put_in_order(alloc, &mut all, source, rows)?;
+    let (_, rest) = rows.split_at(count);
+    let Some((row, later)) = rest.split_first() else {
+        return Ok(all);
+    };
+    put_row(alloc, &mut all, source, row)?;
+    let (first, second) = later.split_at(later.len() / 2);
+    let first = spans_of_rows(alloc, source, first)?;
+    let second = spans_of_rows(alloc, source, second)?;
+    let all = overlaid(alloc, &all, &first)?;
+    overlaid(alloc, &all, &second)
 }

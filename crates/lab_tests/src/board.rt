@@ -1,143 +1,17 @@
 //! Short runs of events: what they answer, and what they leave.
-ghost use Rattle.std.specs.Prelude.{IfOk, IfSome};
-ghost use Rattle.lab_core.specs.Events.{Fits};
 
-use base_text::sequence::Bytes;
-use base_text::text::Text;
+use crate::script::{Step, play};
 use lab_core::event::Event;
 use lab_core::lab::Lab;
-use lab_core::laws::one_answer;
-use std::alloc::{AllocError, Global};
-use std::process::Abort;
+use lab_core::laws::{applies_as_given, one_answer};
+use std::alloc::AllocError;
 use std::rt::HostRuntime;
 use std::test::Fail;
-
-/// An event as a test writes it, or a look at what was left.
-#[derive(Clone, Copy)]
-enum Step {
-    Load(&'static str, &'static str),
-    Start(u16),
-    Slice(u16),
-    Interrupt,
-    Reset,
-    Typed(&'static str),
-    Switches(u8),
-    Press(u8),
-    /// PC, SP, the interrupt state, and how many frames are live.
-    Registers,
-    /// The innermost frame.
-    Frame,
-    /// A byte and its origin.
-    Byte(u16),
-    Lamps,
-    /// Loads 1,024 texts under as many paths: x, xx, and so on.
-    Fill,
-}
-
-fn load(alloc: Global, path: &str, text: &str) -> Result<Event, AllocError>
-    ensures { IfOk result (λ event. Fits event) }
-{
-    let path = Text::copy_of(alloc, path)?;
-    let text = Text::copy_of(alloc, text)?;
-    Ok(Event::Load { path, text })
-}
-
-fn event(alloc: Global, step: Step) -> Result<Option<Event>, AllocError>
-    ensures { IfOk result (λ event. IfSome event (λ event. Fits event)) }
-{
-    Ok(Some(match step {
-        Step::Load(path, text) => load(alloc, path, text)?,
-        Step::Start(address) => Event::Start(address),
-        Step::Slice(n) => Event::Slice(n.max(1).min(4096)),
-        Step::Interrupt => Event::Interrupt,
-        Step::Reset => Event::Reset,
-        Step::Typed(text) => Event::Typed(Bytes::copy_of(alloc, text.as_bytes())?),
-        Step::Switches(byte) => Event::Switches(byte),
-        Step::Press(n) => Event::Press(n),
-        _ => return Ok(None),
-    }))
-}
-
-/// Adds what is looked at.
-fn show(lab: &Lab, step: Step, told: &mut String) -> Result<(), AllocError> {
-    match step {
-        Step::Registers => {
-            let regs = lab.regs();
-            let live = lab.frames().len();
-            write!(
-                told,
-                "{:04X} {:04X} {:?} {live}\n",
-                regs.pc, regs.sp, regs.interrupts
-            )?
-        }
-        Step::Frame => {
-            if let Some(frame) = lab.frames().newest() {
-                write!(
-                    told,
-                    "{:04X} {:04X} {:04X}\n",
-                    frame.slot, frame.target, frame.site
-                )?
-            }
-        }
-        Step::Byte(address) => {
-            let byte = lab.peek(address);
-            write!(told, "{byte:02X}")?;
-            if let Some(origin) = lab.origin_at(address) {
-                write!(
-                    told,
-                    " {} {} {}",
-                    origin.source, origin.line, origin.is_first
-                )?
-            }
-            write!(told, "\n")?
-        }
-        Step::Lamps => write!(told, "{:02X}\n", lab.devices().lamps())?,
-        _ => {}
-    }
-    Ok(())
-}
-
-fn fill(alloc: Global, lab: &mut Lab) -> Result<(), AllocError> {
-    let mut path = String::new(alloc);
-    for _ in 0..1024u16 {
-        path.push_str("x")?;
-        let event = load(alloc, path.as_str(), "")?;
-        let _ = lab.apply(&event);
-    }
-    Ok(())
-}
-
-/// Adds what a step answers.
-fn tell(alloc: Global, lab: &mut Lab, step: Step, told: &mut String) -> Result<(), AllocError> {
-    if let Step::Fill = step {
-        return fill(alloc, lab);
-    }
-    match event(alloc, step)? {
-        None => show(lab, step, told),
-        Some(event) => {
-            match lab.apply(&event) {
-                Ok(answer) => write!(told, "{answer:?}\n")?,
-                Err(refused) => write!(told, "refused: {refused}\n")?,
-            }
-            Ok(())
-        }
-    }
-}
-
-/// Compares what the steps show on a new board with these lines.
-fn play(rt: &impl Abort, alloc: Global, steps: &[Step], wanted: &str) -> Result<(), AllocError> {
-    let mut lab = Lab::new(alloc)?;
-    let mut told = String::new(alloc);
-    for step in steps {
-        tell(alloc, &mut lab, *step, &mut told)?;
-    }
-    assert_eq!(rt; told.as_str(), wanted);
-    Ok(())
-}
 
 #[test]
 fn laws_stand() {
     one_answer();
+    applies_as_given();
 }
 
 #[test]
@@ -156,9 +30,9 @@ fn a_cell_is_run_in_slices(rt: HostRuntime) -> Result<(), AllocError> {
 Loaded { start: Some(0) }
 refused: no program runs
 Started
-Sliced { executed: 1, traffic: Sequence { items: [] }, outcome: More }
+1 More
 refused: a program runs
-Sliced { executed: 1, traffic: Sequence { items: [] }, outcome: End(Halted) }
+1 End(Halted)
 refused: no program runs
 refused: no program runs
 ";
@@ -177,7 +51,7 @@ fn an_undefined_opcode_ends_a_run(rt: HostRuntime) -> Result<(), AllocError> {
 Loaded { start: Some(0) }
 Started
 refused: a program runs
-Sliced { executed: 0, traffic: Sequence { items: [] }, outcome: End(Undefined { opcode: 8, pc: 0 }) }
+0 End(Undefined { opcode: 8, pc: 0 })
 ";
     play(&rt, rt.alloc(), &steps, wanted)
 }
@@ -196,16 +70,16 @@ fn a_run_waits_for_a_request(rt: HostRuntime) -> Result<(), AllocError> {
     let wanted = "\
 Loaded { start: Some(0) }
 Started
-Sliced { executed: 2, traffic: Sequence { items: [] }, outcome: Waiting }
-Sliced { executed: 0, traffic: Sequence { items: [] }, outcome: Waiting }
+2 Waiting
+0 Waiting
 Accepted
-Sliced { executed: 1, traffic: Sequence { items: [] }, outcome: More }
+1 More
 0038 FFFE Off 1
 ";
     play(&rt, rt.alloc(), &steps, wanted)
 }
 
-// Only a run that halted is seen after the last step of a slice.
+// Of a run without a debugger, only that it halted is seen after the last step of a slice.
 #[test]
 fn other_reasons_wait_for_the_next_slice(rt: HostRuntime) -> Result<(), AllocError> {
     let steps = [
@@ -222,13 +96,13 @@ fn other_reasons_wait_for_the_next_slice(rt: HostRuntime) -> Result<(), AllocErr
     let wanted = "\
 Loaded { start: None }
 Started
-Sliced { executed: 1, traffic: Sequence { items: [] }, outcome: End(Halted) }
+1 End(Halted)
 Started
-Sliced { executed: 2, traffic: Sequence { items: [] }, outcome: More }
+2 More
 Interrupted
 Started
-Sliced { executed: 1, traffic: Sequence { items: [] }, outcome: More }
-Sliced { executed: 0, traffic: Sequence { items: [] }, outcome: End(Undefined { opcode: 8, pc: 4 }) }
+1 More
+0 End(Undefined { opcode: 8, pc: 4 })
 ";
     play(&rt, rt.alloc(), &steps, wanted)
 }
@@ -252,9 +126,9 @@ Loaded { start: None }
 Accepted
 Accepted
 Started
-Sliced { executed: 2, traffic: Sequence { items: [In { port: 1, byte: 65 }, Out { port: 2, byte: 65 }] }, outcome: More }
+2 More In { port: 1, byte: 65 } Out { port: 2, byte: 65 }
 41
-Sliced { executed: 2, traffic: Sequence { items: [In { port: 2, byte: 90 }] }, outcome: End(Halted) }
+2 End(Halted) In { port: 2, byte: 90 }
 Reset
 00
 00
@@ -278,12 +152,12 @@ fn a_call_is_live_until_its_return(rt: HostRuntime) -> Result<(), AllocError> {
     let wanted = "\
 Loaded { start: None }
 Started
-Sliced { executed: 1, traffic: Sequence { items: [] }, outcome: More }
+1 More
 1234 FFFE Off 1
 01
 03
 FFFE 1234 0100
-Sliced { executed: 1, traffic: Sequence { items: [] }, outcome: More }
+1 More
 0103 0000 Off 0
 ";
     play(&rt, rt.alloc(), &steps, wanted)
@@ -312,11 +186,11 @@ refused: there are the buttons 0 to 7
 Accepted
 refused: a request is latched already
 Started
-Sliced { executed: 1, traffic: Sequence { items: [] }, outcome: More }
+1 More
 0001 0000 Arming 0
-Sliced { executed: 1, traffic: Sequence { items: [] }, outcome: More }
+1 More
 0002 0000 On 0
-Sliced { executed: 1, traffic: Sequence { items: [] }, outcome: More }
+1 More
 0038 FFFE Off 1
 00
 02

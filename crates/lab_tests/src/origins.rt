@@ -11,7 +11,11 @@ use std::test::Fail;
 /// A row: its address, how many bytes it gives, and its line.
 type RowParts = (u16, usize, usize);
 
-fn built(alloc: Global, image: &[(u16, u8)], rows: &[RowParts]) -> Result<Built, AllocError> {
+pub(crate) fn built(
+    alloc: Global,
+    image: &[(u16, u8)],
+    rows: &[RowParts],
+) -> Result<Built, AllocError> {
     let mut all = Vec::new(alloc);
     for (address, length, line) in rows {
         all.push(Row {

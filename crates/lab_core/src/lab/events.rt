@@ -1,7 +1,8 @@
 //! The events of a board, one by one and in turn.
-ghost use Rattle.std.specs.Prelude.{◌≡◌, ◌<◌, List, All, length, take, OnErr, IfOk, IfErr, IsTrue, ◌↔◌, Err};
+ghost use Rattle.std.specs.Prelude.{◌≡◌, ◌<◌, [], List, All, length, take, false, None, OnErr, IfOk, IfErr, IsTrue, ◌↔◌, Err};
 ghost use Rattle.lab_core.specs.Board.{Board};
-ghost use Rattle.lab_core.specs.Events.{Runs, Fits};
+ghost use Rattle.lab_core.specs.Events.{Runs, Fits, ended};
+ghost use Rattle.lab_core.specs.Memory.{MayLackMemory};
 ghost use Rattle.lab_core.specs.Labs.{StandsFor, AppliesTo, RunsOn};
 
 use crate::answer::{Answer, Answers, EventsFault};
@@ -21,22 +22,34 @@ impl Lab {
     /// One event: its answer, or why it is refused.
     ///
     /// Where several refusals stand, `Busy` comes first, then `SourceNameTaken` and `SourcesFull`,
-    /// then the fault of the cell; and `Vector` before `Latched`. Those come before out of memory,
-    /// which may come on the way to a cell's fault.
+    /// then the fault of the cell; `NotAttached` comes before `NotRunning`, `NotStopped` before
+    /// `BadFrame`, and `Vector` before `Latched`. Those come before out of memory, which may come on
+    /// the way to a cell's fault.
     pub fn apply(&mut self, event: &Event) -> Result<Answer, EventFault>
         requires { Fits event.now }
         ensures applied { AppliesTo self.old event.now result self.new }
         ensures err { OnErr result (self.new ≡ self.old) }
+        ensures memory { result ≡ Err EventFault.OutOfMemory → MayLackMemory event.now self.old }
     {
         match event {
             Event::Load { path, text } => self.load(path.as_str(), text.as_str()),
+            Event::Dump { path, text } => self.dump(path.as_str(), text.as_str()),
             Event::Start(address) => self.start(*address),
             Event::Slice(n) => self.slice(*n),
+            Event::Pause => self.pause(),
+            Event::Resume => self.resume(),
+            Event::Step(request) => self.step_on(*request),
             Event::Interrupt => self.interrupt(),
             Event::Reset => self.reset(),
+            Event::SetBreakpoints { path, lines } => {
+                self.set_breakpoints(path.as_str(), lines.as_slice())
+            }
+            Event::Attach => self.attach(),
+            Event::Detach => self.detach(),
             Event::Typed(bytes) => self.type_bytes(bytes.as_slice()),
             Event::Switches(byte) => self.set_switches(*byte),
             Event::Press(n) => self.press(*n),
+            Event::Show(view) => self.show(view),
         }
     }
 
@@ -70,14 +83,15 @@ impl Lab {
     fn start(&mut self, address: u16) -> Result<Answer, EventFault>
         ensures applied { AppliesTo self.old (Event.Start address) result self.new }
         ensures err { OnErr result (self.new ≡ self.old) }
+        ensures memory { result ≡ Err EventFault.OutOfMemory → MayLackMemory (Event.Start address) self.old }
     {
         match self.run_state {
             RunState::Running => Err(EventFault::Busy),
+            RunState::Stopped => Err(EventFault::Busy),
             RunState::NoRun => {
+                self.forget_steps();
                 self.machine.set_pc(address);
-                self.frames.clear();
                 self.run_state = RunState::Running;
-                self.is_halted = false;
                 Ok(Answer::Started)
             }
         }
@@ -86,34 +100,61 @@ impl Lab {
     fn interrupt(&mut self) -> Result<Answer, EventFault>
         ensures applied { AppliesTo self.old Event.Interrupt result self.new }
         ensures err { OnErr result (self.new ≡ self.old) }
+        ensures memory { result ≡ Err EventFault.OutOfMemory → MayLackMemory Event.Interrupt self.old }
     {
         match self.run_state {
             RunState::NoRun => Err(EventFault::NotRunning),
-            RunState::Running => {
-                self.run_state = RunState::NoRun;
-                Ok(Answer::Interrupted)
-            }
+            RunState::Running => Ok(self.end_run()),
+            RunState::Stopped => Ok(self.end_run()),
         }
+    }
+
+    fn end_run(&mut self) -> Answer
+        ensures answer { result ≡ Answer.Interrupted }
+        ensures stands { (b : Board) → StandsFor self.old b → StandsFor self.new (ended b) }
+    {
+        self.run_state = RunState::NoRun;
+        self.request = None;
+        Answer::Interrupted
+    }
+
+    // No step of the run is known any more, as before its first one.
+    fn forget_steps(&mut self)
+        ensures { self.new ≡ record self.old {
+          frames = [];
+          is_halted = false;
+          is_resumed = false;
+          has_moved = false;
+          request = None;
+        } }
+    {
+        self.frames.clear();
+        self.is_halted = false;
+        self.is_resumed = false;
+        self.has_moved = false;
+        self.request = None;
     }
 
     fn reset(&mut self) -> Result<Answer, EventFault>
         ensures applied { AppliesTo self.old Event.Reset result self.new }
         ensures err { OnErr result (self.new ≡ self.old) }
+        ensures memory { result ≡ Err EventFault.OutOfMemory → MayLackMemory Event.Reset self.old }
     {
         // The new machine is made before anything changes.
         let machine = Machine::new(self.alloc)?;
+        self.forget_steps();
         self.machine = machine;
         self.devices.clear();
-        self.frames.clear();
         self.origins.clear();
+        self.breakpoints.refresh(&self.origins);
         self.run_state = RunState::NoRun;
-        self.is_halted = false;
         Ok(Answer::Reset)
     }
 
     fn type_bytes(&mut self, bytes: &[u8]) -> Result<Answer, EventFault>
         ensures applied { AppliesTo self.old (Event.Typed bytes.now) result self.new }
         ensures err { OnErr result (self.new ≡ self.old) }
+        ensures memory { result ≡ Err EventFault.OutOfMemory → MayLackMemory (Event.Typed bytes.now) self.old }
     {
         self.devices.type_bytes(bytes)?;
         Ok(Answer::Accepted)
@@ -122,6 +163,7 @@ impl Lab {
     fn set_switches(&mut self, byte: u8) -> Result<Answer, EventFault>
         ensures applied { AppliesTo self.old (Event.Switches byte) result self.new }
         ensures err { OnErr result (self.new ≡ self.old) }
+        ensures memory { result ≡ Err EventFault.OutOfMemory → MayLackMemory (Event.Switches byte) self.old }
     {
         self.devices.set_switches(byte);
         Ok(Answer::Accepted)
@@ -130,6 +172,7 @@ impl Lab {
     fn press(&mut self, n: u8) -> Result<Answer, EventFault>
         ensures applied { AppliesTo self.old (Event.Press n) result self.new }
         ensures err { OnErr result (self.new ≡ self.old) }
+        ensures memory { result ≡ Err EventFault.OutOfMemory → MayLackMemory (Event.Press n) self.old }
     {
         self.devices.press(n)?;
         Ok(Answer::Accepted)

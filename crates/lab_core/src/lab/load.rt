@@ -1,37 +1,55 @@
 //! Loading a cell.
-ghost use Rattle.std.specs.Prelude.{◌≡◌, ◌<◌, OnOk, OnErr};
+ghost use Rattle.std.specs.Prelude.{◌≡◌, ◌<◌, Err, OnOk, OnErr};
 ghost use Rattle.asm_syntax.specs.Outcome.{Gives};
 ghost use Rattle.asm_build.specs.Meaning.{meaning_in};
 ghost use Rattle.lab_core.specs.Board.{Board};
-ghost use Rattle.lab_core.specs.Sources.{number_at};
+ghost use Rattle.lab_sources.specs.Sources.{number_at};
 ghost use Rattle.lab_core.specs.Events.{assembled, with_built, with_cell};
 ghost use Rattle.lab_core.specs.Labs.{StandsFor, AppliesTo};
+ghost use Rattle.lab_core.specs.Memory.{MayLackMemory};
 
 use crate::answer::Answer;
 use crate::event::Event;
 use crate::fault::EventFault;
 use crate::lab::Lab;
 use crate::run_state::RunState;
-use crate::sources::Source;
 use asm_build::built::Built;
 use asm_build::cell::build;
 use asm_syntax::fault::AsmFault;
 use asm_text::statements::statements;
+use lab_sources::sources::Source;
 use std::alloc::AllocError;
 
 impl Lab {
     pub(super) fn load(&mut self, path: &str, text: &str) -> Result<Answer, EventFault>
         ensures applied { AppliesTo self.old (Event.Load path.now text.now) result self.new }
         ensures err { OnErr result (self.new ≡ self.old) }
+        ensures memory { result ≡ Err EventFault.OutOfMemory → MayLackMemory (Event.Load path.now text.now) self.old }
     {
         match self.run_state {
             RunState::Running => Err(EventFault::Busy),
+            RunState::Stopped => Err(EventFault::Busy),
             RunState::NoRun => {
                 let place = self.sources.place(path, text)?;
                 let built = self.assemble(text)?;
                 let start = built.start;
                 self.keep(place, path, text, built)?;
                 Ok(Answer::Loaded { start })
+            }
+        }
+    }
+
+    pub(super) fn dump(&mut self, path: &str, text: &str) -> Result<Answer, EventFault>
+        ensures applied { AppliesTo self.old (Event.Dump path.now text.now) result self.new }
+        ensures err { OnErr result (self.new ≡ self.old) }
+        ensures memory { result ≡ Err EventFault.OutOfMemory → MayLackMemory (Event.Dump path.now text.now) self.old }
+    {
+        match self.sources.place(path, text)? {
+            Some(_) => Ok(Answer::Dumped),
+            None => {
+                let dumped = Source::copy_of(self.alloc, path, text)?;
+                self.sources.add(dumped);
+                Ok(Answer::Dumped)
             }
         }
     }
@@ -78,6 +96,7 @@ impl Lab {
         self.origins.load(&mut self.machine, number, &built)?;
         let Built { symbols, .. } = built;
         self.symbols = symbols;
+        self.breakpoints.refresh(&self.origins);
         Ok(())
     }
 }

@@ -1,32 +1,22 @@
 //! Slices of a run.
-ghost use Rattle.std.specs.Prelude.{◌≡◌, ◌+◌, ◌≤◌, ◌++◌, List, OnOk, OnErr};
+ghost use Rattle.std.specs.Prelude.{◌≡◌, ◌+◌, ◌≤◌, min, List, Err, IfNone, IsSome, OnErr};
 ghost use Rattle.i80_exec.specs.declared.ports.PortOperation.{PortOperation};
-ghost use Rattle.i80_exec.specs.Step.{operation_list, is_halt};
-ghost use Rattle.i80_rows.specs.Rows.{row, is_undefined};
-ghost use Rattle.lab_core.specs.Board.{Board, next_step, stepped};
-ghost use Rattle.lab_core.specs.Slices.{
-  is_off,
-  is_on,
-  halted,
-  waiting,
-  undefined,
-  reason,
-  IsSlice,
-  after_steps,
-  traffic_of,
-  left_by,
-};
-ghost use Rattle.lab_core.specs.Labs.{StandsFor, StandsAmid, AppliesTo};
+ghost use Rattle.i80_exec.specs.Step.{is_halt};
+ghost use Rattle.lab_core.specs.Board.{Board};
+ghost use Rattle.lab_core.specs.Stops.{is_gone_after};
+ghost use Rattle.lab_core.specs.Slices.{undefined, reason, IsSlice, after_steps, traffic_of, left_by};
+ghost use Rattle.lab_core.specs.Labs.{StandsFor, StandsAmid, AppliesTo, Advances, Keeps, Finds, Watches};
+ghost use Rattle.lab_core.specs.Memory.{MayLackMemory};
 
 use crate::answer::{Answer, End, SliceOutcome};
 use crate::board_step::board_step;
-use crate::event::Event;
+use crate::event::{Event, StepRequest};
 use crate::fault::EventFault;
 use crate::lab::Lab;
 use crate::run_state::RunState;
-use i80_exec::registers::{Interrupts, Stepped};
-use i80_rows::decoding::decode;
-use i80_rows::instruction::DecodeFault;
+use i80_exec::registers::Stepped;
+use lab_frames::frame::Frame;
+use lab_frames::frames::is_ended;
 
 fn is_halt(answer: Stepped) -> bool
     ensures { result ≡ is_halt answer }
@@ -34,22 +24,31 @@ fn is_halt(answer: Stepped) -> bool
     matches!(answer, Stepped::Halted)
 }
 
-fn is_off(interrupts: Interrupts) -> bool
-    ensures { result ≡ is_off interrupts }
+// How many of the older frames are left after a step that leaves so many of all, while there is a Step.
+fn older_after(request: Option<StepRequest>, older: usize, left: usize) -> usize
+    ensures { IsSome request → result ≡ min older left }
 {
-    matches!(interrupts, Interrupts::Off)
+    match request {
+        None => older,
+        Some(_) => older.min(left),
+    }
 }
 
-fn is_on(interrupts: Interrupts) -> bool
-    ensures { result ≡ is_on interrupts }
+// Whether a frame that may have gone before is gone after a step that answered so and left SP there,
+// while there is a Step.
+fn is_gone_after(
+    request: Option<StepRequest>,
+    is_gone: bool,
+    frame: Option<Frame>,
+    answer: Stepped,
+    sp: u16,
+) -> bool
+    ensures { IsSome request → result ≡ is_gone_after is_gone frame answer sp }
 {
-    matches!(interrupts, Interrupts::On)
-}
-
-fn is_undefined(opcode: u8) -> bool
-    ensures { result ≡ is_undefined (row opcode) }
-{
-    matches!(decode(&[opcode]), Err(DecodeFault::Undefined))
+    match (request, frame) {
+        (Some(_), Some(frame)) => is_gone || is_ended(answer, sp, frame.slot),
+        _ => is_gone,
+    }
 }
 
 impl Lab {
@@ -57,12 +56,14 @@ impl Lab {
     pub(super) fn slice(&mut self, n: u16) -> Result<Answer, EventFault>
         ensures applied { AppliesTo self.old (Event.Slice n) result self.new }
         ensures err { OnErr result (self.new ≡ self.old) }
+        ensures memory { result ≡ Err EventFault.OutOfMemory → MayLackMemory (Event.Slice n) self.old }
     {
         match self.run_state {
             RunState::NoRun => Err(EventFault::NotRunning),
+            RunState::Stopped => Err(EventFault::NotRunning),
             RunState::Running => {
                 self.devices.reserve_out(n.into())?;
-                let (executed, outcome) = self.steps(n);
+                let (executed, outcome) = self.run_on(n);
                 let traffic = self.devices.take_out();
                 Ok(Answer::Sliced {
                     executed,
@@ -73,87 +74,86 @@ impl Lab {
         }
     }
 
-    fn steps(&mut self, n: u16) -> (u16, SliceOutcome)
+    // The run of a slice. Where no debugger is attached, nothing of breakpoints and Steps is looked at.
+    fn run_on(&mut self, n: u16) -> (u16, SliceOutcome)
         requires { n ≤ self.old.devices.spare }
         ensures slice { (b : Board) → StandsFor self.old b → IsSlice n b result.0 result.1 }
         ensures stands { (b : Board) → StandsFor self.old b
             → StandsAmid self.new (left_by result.1 (after_steps result.0 b)) (traffic_of result.0 b) }
     {
+        if self.is_attached || self.request.is_some() {
+            let (executed, outcome) = self.steps(n, true);
+            self.leave(outcome);
+            return (executed, outcome);
+        }
+        let (executed, outcome) = self.steps(n, false);
+        self.leave(outcome);
+        (executed, outcome)
+    }
+
+    #[inline(always)]
+    fn steps(&mut self, n: u16, is_watched: bool) -> (u16, SliceOutcome)
+        requires room { n ≤ self.old.devices.spare }
+        requires watched { Watches is_watched self.old }
+        ensures slice { (b : Board) → StandsFor self.old b → IsSlice n b result.0 result.1 }
+        ensures stands { (b : Board) → StandsFor self.old b
+            → StandsAmid self.new (after_steps result.0 b) (traffic_of result.0 b) }
+    {
         for k in 0..n {
-            if let Some(outcome) = self.reason() {
-                self.leave(outcome);
+            if let Some(outcome) = self.next(is_watched) {
                 return (k, outcome);
             }
-            self.step();
         }
-        let outcome = self.halted().unwrap_or(SliceOutcome::More);
-        self.leave(outcome);
+        let outcome = self.early(is_watched).unwrap_or(SliceOutcome::More);
         (n, outcome)
     }
 
-    fn step(&mut self)
-        requires { 1 ≤ self.old.devices.spare }
-        ensures stands { (b : Board) (traffic : List PortOperation) → StandsAmid self.old b traffic
-            → StandsAmid self.new (stepped b) (traffic ++ operation_list (next_step b).operation) }
+    // The next step, or the first reason not to make it.
+    #[inline(always)]
+    fn next(&mut self, is_watched: bool) -> Option<SliceOutcome>
+        requires room { 1 ≤ self.old.devices.spare }
+        requires watched { Watches is_watched self.old }
+        ensures reason { Finds reason result self.old }
+        ensures some { IsSome result → Keeps self.old self.new }
+        ensures none { IfNone result (Advances self.old self.new) }
         ensures spare { self.old.devices.spare ≤ self.new.devices.spare + 1 }
+        ensures watches { Watches is_watched self.new }
     {
-        let site = self.machine.regs().pc;
+        if let Some(outcome) = self.early(is_watched) {
+            return Some(outcome);
+        }
+        if let Some(outcome) = self.waiting() {
+            return Some(outcome);
+        }
+        self.step()
+    }
+
+    // A step, but where an undefined opcode stands at PC and no request is accepted before it.
+    #[inline(always)]
+    fn step(&mut self) -> Option<SliceOutcome>
+        requires { 1 ≤ self.old.devices.spare }
+        ensures undefined { Finds undefined result self.old }
+        ensures some { IsSome result → Keeps self.old self.new }
+        ensures none { IfNone result (Advances self.old self.new) }
+        ensures spare { self.old.devices.spare ≤ self.new.devices.spare + 1 }
+        ensures attached { self.new.is_attached ≡ self.old.is_attached }
+        ensures request { self.new.request ≡ self.old.request }
+    {
+        let pc = self.machine.regs().pc;
         let answer = board_step(&mut self.machine, &mut self.devices);
-        self.frames.advance(answer, site, self.machine.regs().sp);
+        if let Stepped::Undefined { opcode } = answer {
+            return Some(SliceOutcome::End(End::Undefined { opcode, pc }));
+        }
+        let sp = self.machine.regs().sp;
+        let left = self.frames.advance(answer, pc, sp);
+        self.older = older_after(self.request, self.older, left);
+        self.is_gone = is_gone_after(self.request, self.is_gone, self.innermost, answer, sp);
         self.is_halted = is_halt(answer);
+        self.has_moved = true;
+        None
     }
 
-    /// The first reason to make no further step.
-    fn reason(&self) -> Option<SliceOutcome>
-        ensures { (b : Board) (traffic : List PortOperation) → StandsAmid self.now b traffic
-            → result ≡ reason b }
-    {
-        self.halted().or(self.waiting().or(self.undefined()))
-    }
-
-    fn halted(&self) -> Option<SliceOutcome>
-        ensures { (b : Board) (traffic : List PortOperation) → StandsAmid self.now b traffic
-            → result ≡ halted b }
-    {
-        if self.is_halted && is_off(self.machine.regs().interrupts) {
-            Some(SliceOutcome::End(End::Halted))
-        } else {
-            None
-        }
-    }
-
-    fn waiting(&self) -> Option<SliceOutcome>
-        ensures { (b : Board) (traffic : List PortOperation) → StandsAmid self.now b traffic
-            → result ≡ waiting b }
-    {
-        if self.is_halted
-            && is_on(self.machine.regs().interrupts)
-            && self.devices.request().is_none()
-        {
-            Some(SliceOutcome::Waiting)
-        } else {
-            None
-        }
-    }
-
-    fn undefined(&self) -> Option<SliceOutcome>
-        ensures { (b : Board) (traffic : List PortOperation) → StandsAmid self.now b traffic
-            → result ≡ undefined b }
-    {
-        let regs = self.machine.regs();
-        let opcode = self.machine.peek(regs.pc);
-        let is_accepted = is_on(regs.interrupts) && self.devices.request().is_some();
-        if is_undefined(opcode) && !is_accepted {
-            Some(SliceOutcome::End(End::Undefined {
-                opcode,
-                pc: regs.pc,
-            }))
-        } else {
-            None
-        }
-    }
-
-    /// Ends the run where the slice did.
+    /// Stops or ends the run where the slice did.
     fn leave(&mut self, outcome: SliceOutcome)
         ensures { (b : Board) (traffic : List PortOperation) → StandsAmid self.old b traffic
             → StandsAmid self.new (left_by outcome b) traffic }
@@ -161,7 +161,14 @@ impl Lab {
         match outcome {
             SliceOutcome::More => {}
             SliceOutcome::Waiting => {}
-            SliceOutcome::End(_) => self.run_state = RunState::NoRun,
+            SliceOutcome::Stop(_) => {
+                self.run_state = RunState::Stopped;
+                self.request = None;
+            }
+            SliceOutcome::End(_) => {
+                self.run_state = RunState::NoRun;
+                self.request = None;
+            }
         }
     }
 }

@@ -1,4 +1,4 @@
-use Rattle.std.proofs.Common.{◌≡◌, ◌∙◌, sym, ap, arith, add-one, None}
+use Rattle.std.proofs.Common.{◌≡◌, ◌∙◌, refl, sym, ap, arith, add-one, None}
 use borrow.Author.Count.{below_more}
 use Rattle.std.specs.Option.{unwrap_or}
 use Rattle.lab_core.specs.declared.answer.SliceOutcome.TheVariants.{More}
@@ -10,9 +10,10 @@ loop-k-preserved c =
     let inv = c.loop-k.invariant in
     let k = c.loop-k.k in
     record {
-      stands = λ b s. rw add-one (c.step.ensures.stands (after_steps k b) (traffic_of k b) (inv.stands b s));
-      none_before = λ b s. below_more (λ j. reason (after_steps j b) ≡ None) k (inv.none_before b s) (sym (c.reason.ensures (after_steps k b) (traffic_of k b) (inv.stands b s)) ∙ c.in_default.is);
-      room = let r = inv.room in let q = c.step.ensures.spare in omega arith;
+      stands = λ b s. rw add-one (c.in_default.ensures.none (after_steps k b) (traffic_of k b) (inv.stands b s));
+      none_before = λ b s. below_more (λ j. reason (after_steps j b) ≡ None) k (inv.none_before b s) (sym (c.in_default.ensures.reason (after_steps k b) (traffic_of k b) (inv.stands b s)));
+      room = let r = inv.room in let q = c.in_default.ensures.spare in omega arith;
+      watches = c.in_default.ensures.watches;
     }
 
 pub returns-in-Some-clause-slice : goal.returns-in-Some-clause-slice
@@ -22,13 +23,13 @@ returns-in-Some-clause-slice c = λ b s.
     record {
       within = omega arith;
       none_before = inv.none_before b s;
-      early = λ below. sym (c.reason.ensures (after_steps k b) (traffic_of k b) (inv.stands b s)) ∙ c.in-Some.is;
+      early = λ below. sym (c.in-Some.ensures.reason (after_steps k b) (traffic_of k b) (inv.stands b s));
       last = λ all. absurd (omega arith);
     }
 
 pub returns-in-Some-clause-stands : goal.returns-in-Some-clause-stands
 returns-in-Some-clause-stands c = λ b s.
-    c.leave.ensures (after_steps c.loop-k.k b) (traffic_of c.loop-k.k b) (c.loop-k.invariant.stands b s)
+    c.in-Some.ensures.some refl (after_steps c.loop-k.k b) (traffic_of c.loop-k.k b) (c.loop-k.invariant.stands b s)
 
 pub returns-clause-slice : goal.returns-clause-slice
 returns-clause-slice c = λ b s.
@@ -40,11 +41,11 @@ returns-clause-slice c = λ b s.
       within = omega arith;
       none_before = rw all at (inv.none_before b s);
       early = λ below. absurd (omega arith);
-      last = λ _. c.unwrap_or-outcome.ensures ∙ ap (λ o. unwrap_or o More) (c.halted.ensures (after_steps n b) (traffic_of n b) stands);
+      last = λ _. c.unwrap_or-outcome.ensures ∙ ap (λ o. unwrap_or o More) (c.early.ensures (after_steps n b) (traffic_of n b) stands);
     }
 
 pub returns-clause-stands : goal.returns-clause-stands
 returns-clause-stands c = λ b s.
     let n = c.args.n in
     let all : c.loop-k.k ≡ n = omega arith in
-    c.leave-2.ensures (after_steps n b) (traffic_of n b) (rw all at (c.loop-k.invariant.stands b s))
+    rw all at (c.loop-k.invariant.stands b s)

@@ -1,7 +1,7 @@
 use Rattle.std.proofs.Common.{◌≡◌, ◌<◌, ◌≤◌, ◌+◌, ℕ, None}
 use Rattle.lab_core.specs.Board.{Board}
 use Rattle.lab_core.specs.Slices.{after_steps, traffic_of, reason}
-use Rattle.lab_core.specs.Labs.{StandsFor, StandsAmid}
+use Rattle.lab_core.specs.Labs.{StandsFor, StandsAmid, Watches}
 use Rattle.lab_core.proofs.lab.Lab.steps.Given as goal
 
 abbrev pub invariant-loop-k : goal.invariant-loop-k
@@ -9,4 +9,5 @@ invariant-loop-k l = record {
   stands : (b : Board) → StandsFor l.fn.self b → StandsAmid l.self (after_steps l.k b) (traffic_of l.k b);
   none_before : (b : Board) → StandsFor l.fn.self b → (j : ℕ) → j < l.k → reason (after_steps j b) ≡ None;
   room : l.n ≤ l.self.devices.spare + l.k;
+  watches : Watches l.is_watched l.self;
 }

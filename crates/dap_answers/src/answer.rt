@@ -1,0 +1,128 @@
+//! Typed answers: responses with their bodies, and events.
+ghost use Rattle.std.specs.Prelude.{◌≡◌};
+
+use base_text::sequence::{Bytes, Sequence};
+use base_text::text::Text;
+
+/// A breakpoint that was asked for, and whether its source has the line.
+#[derive(Clone, Copy, PartialEq, Eq, Debug)]
+pub struct Breakpoint {
+    pub line: u32,
+    pub verified: bool,
+}
+
+/// A frame of the stack (Debug Adapter Protocol, "Types": StackFrame). Where no source is known,
+/// the line is 0 by custom; the column is always 1.
+#[derive(Debug, Drop)]
+pub struct StackFrame {
+    pub id: u32,
+    pub name: Text,
+    pub source: Option<Text>,
+    pub line: u32,
+    pub address: u16,
+}
+
+/// A variable as it is shown.
+#[derive(Debug, Drop)]
+pub struct Variable {
+    pub name: Text,
+    pub value: Text,
+}
+
+/// A line of disassembly.
+#[derive(Debug, Drop)]
+pub struct Instruction {
+    pub address: u16,
+    pub bytes: Sequence<u8>,
+    pub text: Text,
+}
+
+/// The breakpoints of a source.
+#[derive(Debug, Drop)]
+pub struct SourceBreakpoints {
+    pub path: Text,
+    pub lines: Sequence<u32>,
+}
+
+/// The state of debugging (Jupyter messaging, `debugInfo`): whether a frontend is attached, whether
+/// the thread is stopped, and the sources that have breakpoints.
+#[derive(Debug, Drop)]
+pub struct DebugState {
+    pub is_attached: bool,
+    pub is_stopped: bool,
+    pub breakpoints: Sequence<SourceBreakpoints>,
+}
+
+/// The body of a successful response (Debug Adapter Protocol, "Requests").
+#[derive(Debug, Drop)]
+pub enum Body {
+    /// Of commands that answer nothing but that they were done.
+    Empty,
+    /// Of `initialize`.
+    Capabilities,
+    Breakpoints(Sequence<Breakpoint>),
+    /// Of `threads`: the one thread.
+    Threads,
+    /// Some of the frames, and how many there are in all.
+    StackTrace {
+        frames: Sequence<StackFrame>,
+        total: u32,
+    },
+    /// Of `scopes`: the five of each frame.
+    Scopes,
+    Variables(Sequence<Variable>),
+    /// Of `continue`.
+    Continued,
+    Instructions(Sequence<Instruction>),
+    /// The text of a source.
+    Content(Text),
+    /// Of `dumpCell`: the path of the cell.
+    SourcePath(Text),
+    DebugState(DebugState),
+}
+
+/// How a request was answered: done, or refused with a message.
+#[derive(Debug, Drop)]
+pub enum Outcome {
+    Success(Body),
+    Refused(Text),
+}
+
+/// An answer to the request with this number and command.
+#[derive(Debug, Drop)]
+pub struct Response {
+    pub request_seq: u32,
+    pub command: Text,
+    pub outcome: Outcome,
+}
+
+/// Why the thread stopped.
+#[derive(Clone, Copy, PartialEq, Eq, Debug)]
+pub enum StopReason {
+    Breakpoint,
+    Step,
+    Pause,
+}
+
+impl StopReason {
+    ghost use Rattle.dap_answers.specs.Json.{reason_text};
+
+    /// The text of `reason` in `stopped`.
+    pub fn as_str(self) -> &'static str
+        ensures { result.now ≡ reason_text self }
+    {
+        match self {
+            StopReason::Breakpoint => "breakpoint",
+            StopReason::Step => "step",
+            StopReason::Pause => "pause",
+        }
+    }
+}
+
+/// What a frontend is told unasked (Debug Adapter Protocol, "Events").
+#[derive(Clone, Copy, PartialEq, Eq, Debug)]
+pub enum Event {
+    Initialized,
+    Stopped(StopReason),
+    Continued,
+}

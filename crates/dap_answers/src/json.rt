@@ -1,0 +1,178 @@
+//! The JSON of the parts of bodies.
+ghost use Rattle.std.specs.Prelude.{◌≡◌, ◌∷◌, ◌++◌, IfOk, OnOk, string_bytes};
+ghost use Rattle.serde_json.specs.Data.{Data, string};
+ghost use Rattle.serde_json.specs.View.{view};
+ghost use Rattle.base_text.specs.Hexadecimal.{upper_byte};
+ghost use Rattle.dap_answers.specs.Object.{members_of};
+ghost use Rattle.dap_answers.specs.Json.{
+  space,
+  reference,
+  spaced_bytes,
+  members_from,
+  list_of,
+  source_json,
+  line_json,
+  breakpoint_json,
+  bare_frame,
+  frame_json,
+  variable_json,
+  instruction_json,
+  source_breakpoints_json,
+};
+
+use crate::answer::{Breakpoint, Instruction, SourceBreakpoints, StackFrame, Variable};
+use crate::object::Object;
+use base_text::hexadecimal::{push_byte, push_lower_word};
+use serde_json::Value;
+use std::alloc::{AllocError, Global};
+
+/// What has one JSON value.
+pub trait ToJson {
+    ghost json: { Self → Data };
+
+    fn to_json(&self, alloc: Global) -> Result<Value, AllocError>
+        ensures { IfOk result (λ v. view v ≡ json self.now) };
+}
+
+/// The JSON array of items.
+pub fn array_of<T: ToJson>(alloc: Global, items: &[T]) -> Result<Value, AllocError>
+    ensures { IfOk result (λ v. view v ≡ list_of T.json items.now) }
+{
+    let mut values = Vec::new(alloc);
+    for item in items {
+        values.push(item.to_json(alloc)?)?;
+    }
+    Ok(Value::from(values))
+}
+
+impl ToJson for Breakpoint {
+    ghost json = { breakpoint_json };
+
+    fn to_json(&self, alloc: Global) -> Result<Value, AllocError> {
+        let object = Object::new(alloc)
+            .number("line", u64::from(self.line))?
+            .flag("verified", self.verified)?;
+        Ok(object.into_value())
+    }
+}
+
+impl ToJson for Variable {
+    ghost json = { variable_json };
+
+    fn to_json(&self, alloc: Global) -> Result<Value, AllocError> {
+        let object = Object::new(alloc)
+            .text("name", self.name.as_str())?
+            .text("value", self.value.as_str())?
+            .number("variablesReference", 0)?;
+        Ok(object.into_value())
+    }
+}
+
+impl ToJson for u32 {
+    ghost json = { line_json };
+
+    fn to_json(&self, alloc: Global) -> Result<Value, AllocError> {
+        let object = Object::new(alloc).number("line", u64::from(*self))?;
+        Ok(object.into_value())
+    }
+}
+
+impl ToJson for SourceBreakpoints {
+    ghost json = { source_breakpoints_json };
+
+    fn to_json(&self, alloc: Global) -> Result<Value, AllocError> {
+        let object = Object::new(alloc)
+            .value("breakpoints", array_of(alloc, self.lines.as_slice())?)?
+            .text("source", self.path.as_str())?;
+        Ok(object.into_value())
+    }
+}
+
+fn reference(alloc: Global, address: u16) -> Result<Value, AllocError>
+    ensures { IfOk result (λ v. view v ≡ string (reference address)) }
+{
+    let mut text = String::from_str(alloc, "0x")?;
+    push_lower_word(&mut text, address)?;
+    Ok(Value::from(text))
+}
+
+fn push_spaced_byte(text: &mut String, byte: u8) -> Result<(), AllocError>
+    ensures { OnOk result
+        (string_bytes text.new ≡ string_bytes text.old ++ space ∷ upper_byte byte) }
+{
+    text.push(' ')?;
+    push_byte(text, byte)
+}
+
+fn spaced_from(alloc: Global, first: u8, others: &[u8]) -> Result<String, AllocError>
+    ensures { IfOk result (λ text. string_bytes text ≡ spaced_bytes (first ∷ others.now)) }
+{
+    let mut text = String::new(alloc);
+    push_byte(&mut text, first)?;
+    for byte in others {
+        push_spaced_byte(&mut text, *byte)?;
+    }
+    Ok(text)
+}
+
+fn spaced_bytes(alloc: Global, bytes: &[u8]) -> Result<Value, AllocError>
+    ensures { IfOk result (λ v. view v ≡ string (spaced_bytes bytes.now)) }
+{
+    let text = match bytes.split_first() {
+        None => String::new(alloc),
+        Some((first, others)) => spaced_from(alloc, *first, others)?,
+    };
+    Ok(Value::from(text))
+}
+
+impl ToJson for Instruction {
+    ghost json = { instruction_json };
+
+    fn to_json(&self, alloc: Global) -> Result<Value, AllocError> {
+        let object = Object::new(alloc)
+            .value("address", reference(alloc, self.address)?)?
+            .value(
+                "instructionBytes",
+                spaced_bytes(alloc, self.bytes.as_slice())?,
+            )?
+            .text("instruction", self.text.as_str())?;
+        Ok(object.into_value())
+    }
+}
+
+fn source(alloc: Global, path: &str) -> Result<Value, AllocError>
+    ensures { IfOk result (λ v. view v ≡ source_json path.now) }
+{
+    let object = Object::new(alloc).text("path", path)?;
+    Ok(object.into_value())
+}
+
+// What a frame has, with a source or without one.
+fn bare_frame(alloc: Global, frame: &StackFrame) -> Result<Object, AllocError>
+    ensures { IfOk result (λ o. members_of o ≡ members_from (bare_frame frame.now)) }
+{
+    Object::new(alloc)
+        .value(
+            "instructionPointerReference",
+            reference(alloc, frame.address)?,
+        )?
+        .number("id", u64::from(frame.id))?
+        .text("name", frame.name.as_str())?
+        .number("line", u64::from(frame.line))?
+        .number("column", 1)
+}
+
+impl ToJson for StackFrame {
+    ghost json = { frame_json };
+
+    fn to_json(&self, alloc: Global) -> Result<Value, AllocError> {
+        let object = bare_frame(alloc, self)?;
+        match &self.source {
+            None => Ok(object.into_value()),
+            Some(path) => {
+                let source = source(alloc, path.as_str())?;
+                Ok(object.value("source", source)?.into_value())
+            }
+        }
+    }
+}

@@ -1,0 +1,12 @@
+// The answers of a debugger (Debug Adapter Protocol) as typed values, and the JSON of each.
+// `response` and `event` give each typed answer's one JSON value; no one above writes JSON.
+// The only fault is want of memory.
+// `cell_path` is the path under which a frontend knows a cell: the MurmurHash2 of its text.
+#![tactic(auto)]
+
+pub mod answer;
+mod bodies;
+pub mod cell;
+mod json;
+mod object;
+pub mod sending;

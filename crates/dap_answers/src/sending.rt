@@ -1,0 +1,121 @@
+//! The JSON of responses and events.
+ghost use Rattle.std.specs.Prelude.{◌≡◌, IfOk};
+ghost use Rattle.serde_json.specs.View.{view};
+ghost use Rattle.dap_answers.specs.Json.{
+  stopped_json,
+  continued_json,
+  bare_event,
+  event_with_body,
+  success_json,
+  refusal_json,
+  response_json,
+  event_json,
+};
+
+use crate::answer::{Body, Event, Outcome, Response, StopReason};
+use crate::bodies::body_json;
+use crate::object::Object;
+use serde_json::Value;
+use std::alloc::{AllocError, Global};
+
+fn success(
+    alloc: Global,
+    seq: u64,
+    request_seq: u32,
+    command: &str,
+    body: &Body,
+) -> Result<Value, AllocError>
+    ensures { IfOk result (λ v. view v ≡ success_json seq request_seq command.now body.now) }
+{
+    let object = Object::new(alloc)
+        .value("body", body_json(alloc, body)?)?
+        .number("seq", seq)?
+        .text("type", "response")?
+        .number("request_seq", u64::from(request_seq))?
+        .flag("success", true)?
+        .text("command", command)?;
+    Ok(object.into_value())
+}
+
+fn refusal(
+    alloc: Global,
+    seq: u64,
+    request_seq: u32,
+    command: &str,
+    message: &str,
+) -> Result<Value, AllocError>
+    ensures { IfOk result (λ v. view v ≡ refusal_json seq request_seq command.now message.now) }
+{
+    let object = Object::new(alloc)
+        .number("seq", seq)?
+        .text("type", "response")?
+        .number("request_seq", u64::from(request_seq))?
+        .flag("success", false)?
+        .text("command", command)?
+        .text("message", message)?;
+    Ok(object.into_value())
+}
+
+/// The JSON of a response with this number (Debug Adapter Protocol, "Base Protocol": Response).
+pub fn response(alloc: Global, seq: u64, response: &Response) -> Result<Value, AllocError>
+    ensures { IfOk result (λ v. view v ≡ response_json seq response.now) }
+{
+    let command = response.command.as_str();
+    match &response.outcome {
+        Outcome::Success(body) => success(alloc, seq, response.request_seq, command, body),
+        Outcome::Refused(message) => {
+            refusal(alloc, seq, response.request_seq, command, message.as_str())
+        }
+    }
+}
+
+fn stopped(alloc: Global, reason: StopReason) -> Result<Value, AllocError>
+    ensures { IfOk result (λ v. view v ≡ stopped_json reason) }
+{
+    let object = Object::new(alloc)
+        .text("reason", reason.as_str())?
+        .number("threadId", 1)?
+        .flag("allThreadsStopped", true)?;
+    Ok(object.into_value())
+}
+
+fn continued(alloc: Global) -> Result<Value, AllocError>
+    ensures { IfOk result (λ v. view v ≡ continued_json) }
+{
+    let object = Object::new(alloc)
+        .number("threadId", 1)?
+        .flag("allThreadsContinued", true)?;
+    Ok(object.into_value())
+}
+
+fn bare_event(alloc: Global, seq: u64, name: &str) -> Result<Value, AllocError>
+    ensures { IfOk result (λ v. view v ≡ bare_event seq name.now) }
+{
+    let object = Object::new(alloc)
+        .number("seq", seq)?
+        .text("type", "event")?
+        .text("event", name)?;
+    Ok(object.into_value())
+}
+
+fn event_with_body(alloc: Global, seq: u64, name: &str, body: Value) -> Result<Value, AllocError>
+    ensures { IfOk result (λ v. view v ≡ event_with_body seq name.now (view body)) }
+{
+    let object = Object::new(alloc)
+        .value("body", body)?
+        .number("seq", seq)?
+        .text("type", "event")?
+        .text("event", name)?;
+    Ok(object.into_value())
+}
+
+/// The JSON of an event with this number (Debug Adapter Protocol, "Events").
+pub fn event(alloc: Global, seq: u64, event: Event) -> Result<Value, AllocError>
+    ensures { IfOk result (λ v. view v ≡ event_json seq event) }
+{
+    match event {
+        Event::Initialized => bare_event(alloc, seq, "initialized"),
+        Event::Stopped(reason) => event_with_body(alloc, seq, "stopped", stopped(alloc, reason)?),
+        Event::Continued => event_with_body(alloc, seq, "continued", continued(alloc)?),
+    }
+}

@@ -1,0 +1,263 @@
+-- What a lab stands for after a step, a Resume and a Step.
+use Rattle.std.proofs.Common.{◌≡◌, ℕ, ◌+◌, ◌≤◌, List, [], ◌∷◌, ◌++◌, Bool, true, false, not, ◌||◌, ◌&&◌, ◌==◌, Option, Some, None, length, take, drop, min, refl, sym, ap, ◌∙◌, subst, arith, length-append, append-nil}
+use Rattle.std.proofs.lemmas.List.{take-append-drop, drop-append-le, take-append-le, take_all, drop_all}
+use Rattle.std.proofs.lemmas.List.Sums.{fold-append}
+use Rattle.std.proofs.lemmas.Bool.Decides.{nat_tests}
+use Rattle.std.specs.Option.{IsSome, is_some, unwrap_or}
+use Rattle.std.specs.List.{filter}
+use Rattle.i80_exec.specs.declared.registers.Stepped.{Stepped}
+use Rattle.i80_exec.specs.declared.ports.PortOperation.{PortOperation}
+use Rattle.i80_exec.specs.State.{MachineState}
+use Rattle.i80_exec.specs.Effect.{Outcome}
+use Rattle.i80_exec.specs.Step.{is_halt, operation_list}
+use Rattle.i80_exec.specs.declared.registers.Stepped.TheVariants as stepped
+use Rattle.i80_devs.specs.Past.{Operation, DeviceState, StandsFor as DevicesStandFor}
+use Rattle.lab_frames.specs.declared.frame.Frame.{Frame}
+use Rattle.lab_frames.specs.Live.{BoardStep, Change, change_of, ends, ended_by, live, stays}
+use Rattle.lab_frames.specs.Frames.{Advances, LeavesOldest, IsStep, survivors}
+use Rattle.lab_frames.proofs.LiveLemmas.{live-append, stays-step, filter-stays-step, filter-stays-none}
+use Rattle.lab_core.specs.declared.event.StepKind.{StepKind}
+use Rattle.lab_core.specs.declared.event.StepKind.TheVariants.{In, Over, Out}
+use Rattle.lab_core.specs.declared.event.StepRequest.{StepRequest}
+use Rattle.lab_core.specs.declared.run_state.RunState.TheVariants.{Running}
+use Rattle.lab_core.specs.Board.{Board, accepted, as_step, next_change, next_step, operations, outcome as outcome_of, stepped as stepped_board}
+use Rattle.lab_core.specs.Stops.{earlier, since, innermost, is_any, is_done, is_gone, is_gone_after}
+use Rattle.lab_core.specs.declared.answer.SliceOutcome.TheVariants as outcome
+use Rattle.lab_core.specs.declared.answer.End.TheVariants as end
+use Rattle.lab_core.specs.Slices.{ends_in_halt, undefined}
+use Rattle.lab_core.specs.Events.{going_on}
+use Rattle.lab_core.specs.Steps.{IsBoardStep}
+use Rattle.lab_core.specs.Labs.{LabState, StandsAmid, StandsFor, Follows}
+use Rattle.lab_core.proofs.UndefinedLemmas.{IsDefined, defined, no_step, some_step}
+
+-- ---- lists of steps, one step on
+
+as_step-change : (a : Option Outcome) (c : Change) → change_of (as_step a c) ≡ c
+as_step-change None c = refl
+as_step-change (Some o) c = refl
+
+any-append : {A : Type 0} → (xs : List A) (x : A) → is_any (xs ++ x ∷ []) ≡ true
+any-append [] x = refl
+any-append (y ∷ xs) x = refl
+
+halted-append : (steps : List BoardStep) (step : BoardStep) → ends_in_halt (steps ++ step ∷ []) ≡ is_halt (change_of step).answer
+halted-append steps step = fold-append (λ (before : Bool) (s : BoardStep). is_halt (change_of s).answer) false steps (step ∷ [])
+
+not_both : (x y : Bool) → (not y || x) ≡ not (not x && y)
+not_both true true = refl
+not_both true false = refl
+not_both false true = refl
+not_both false false = refl
+
+gone-append : (frame : Option Frame) (steps : List BoardStep) (step : BoardStep)
+    → is_gone_after (is_gone frame steps) frame (change_of step).answer (change_of step).after.regs.sp ≡ is_gone frame (steps ++ step ∷ [])
+gone-append None steps step = refl
+gone-append (Some f) steps step = not_both (ends step f) (stays steps f) ∙ ap not (sym (stays-step steps step f))
+
+-- ---- a step
+
+-- what a step keeps and changes beside machine and devices, where so many frames are left
+pub record Moves (old new : LabState) (answer : Stepped) (left : ℕ) : Type 0 where
+  pub rest : new ≡ record old {
+    machine = new.machine;
+    devices = new.devices;
+    frames = new.frames;
+    is_halted = is_halt answer;
+    has_moved = true;
+    older = new.older;
+    is_gone = new.is_gone;
+  }
+  pub frames : Advances answer old.machine.regs.pc new.machine.regs.sp old.frames new.frames
+  pub oldest : LeavesOldest answer new.machine.regs.sp old.frames left
+  pub older : IsSome old.request → new.older ≡ min old.older left
+  pub gone : IsSome old.request → new.is_gone ≡ is_gone_after old.is_gone old.innermost answer new.machine.regs.sp
+
+-- the parts of a trace, one step on
+record Longer (b : Board) : Type 0 where
+  pub earlier_is : earlier (stepped_board b) ≡ earlier b
+  pub since_is : since (stepped_board b) ≡ since b ++ next_step b ∷ []
+
+longer : (b : Board) → unwrap_or b.resumed 0 ≤ length b.trace → Longer b
+longer b within = record {
+  earlier_is = take-append-le (unwrap_or b.resumed 0) b.trace (next_step b ∷ []) within;
+  since_is = drop-append-le (unwrap_or b.resumed 0) b.trace (next_step b ∷ []) within;
+}
+
+-- the live frames are those of the steps before that those since leave, and those that these make
+parts-live : (b : Board) → live b.trace ≡ filter (stays (since b)) (live (earlier b)) ++ live (since b)
+parts-live b =
+    ap live (sym (take-append-drop (unwrap_or b.resumed 0) b.trace)) ∙ live-append (earlier b) (since b)
+
+-- what a Step follows, one step on
+follows_step : (old new : LabState) (b : Board) (answer : Stepped) (left : ℕ) → Moves old new answer left
+    → (change_of (next_step b)).answer ≡ answer → (change_of (next_step b)).after.regs.sp ≡ new.machine.regs.sp
+    → unwrap_or b.resumed 0 ≤ length b.trace → old.frames ≡ live b.trace → IsSome old.request
+    → Follows old.older old.innermost old.is_gone (earlier b) (since b)
+    → Follows new.older new.innermost new.is_gone (earlier (stepped_board b)) (since (stepped_board b))
+follows_step old new b answer left m answer-is sp-is within frames asked f =
+    let x = next_step b in
+    let l = longer b within in
+    let survived : List Frame = filter (stays (since b)) (live (earlier b)) in
+    let counted : length (survivors answer new.machine.regs.sp survived) ≡ min (length survived) left
+    = m.oldest survived (live (since b)) (frames ∙ parts-live b) in
+    let stay : filter (stays (since b ++ x ∷ [])) (live (earlier b)) ≡ survivors answer new.machine.regs.sp survived
+    = filter-stays-step (since b) x (live (earlier b)) ∙ rw (answer-is, sp-is) refl in
+    let gone : is_gone_after (is_gone (innermost (live (earlier b))) (since b)) (innermost (live (earlier b))) answer new.machine.regs.sp
+    ≡ is_gone (innermost (live (earlier b))) (since b ++ x ∷ [])
+    = rw (← answer-is, ← sp-is) (gone-append (innermost (live (earlier b))) (since b) x) in
+    let innermost-same : new.innermost ≡ old.innermost = ap (λ (s : LabState). s.innermost) m.rest in
+    record {
+      older_is = m.older asked ∙ rw (l.earlier_is, l.since_is, f.older_is, stay) (sym counted);
+      innermost_is = innermost-same ∙ rw l.earlier_is f.innermost_is;
+      gone_is = m.gone asked ∙ rw (l.earlier_is, l.since_is, f.gone_is, f.innermost_is) gone;
+    }
+
+pub stands_step : (old new : LabState) (b : Board) (traffic : List PortOperation) (answer : Stepped) (left : ℕ)
+    → StandsAmid old b traffic → IsBoardStep b.past old.machine old.devices new.machine new.devices answer → Moves old new answer left
+    → StandsAmid new (stepped_board b) (traffic ++ operation_list (next_change b).operation)
+stands_step old new b traffic answer left s did m =
+    let x = next_step b in
+    let P : MachineState → Type 0 = λ machine. IsBoardStep b.past machine old.devices new.machine new.devices answer in
+    let step = subst P s.machine did in
+    let change : change_of x ≡ next_change b = as_step-change (accepted b.machine b.past) (next_change b) in
+    let answer-is : (change_of x).answer ≡ answer = rw change (sym step.answer_is) in
+    let sp-is : (change_of x).after.regs.sp ≡ new.machine.regs.sp = rw change (ap (λ (n : MachineState). n.regs.sp) (sym step.after_is)) in
+    let site-is : (change_of x).before.regs.pc ≡ old.machine.regs.pc = rw change (ap (λ (n : MachineState). n.regs.pc) (sym s.machine)) in
+    let is : IsStep x answer old.machine.regs.pc new.machine.regs.sp = record { answer_is = answer-is; site_is = site-is; sp_is = sp-is } in
+    let l = longer b s.within in
+    record {
+      machine = step.after_is;
+      devices = step.stands;
+      traffic_is = step.traffic_is ∙ rw s.traffic_is refl;
+      frames = m.frames b.trace x is s.frames;
+      origins = rw (ap (λ (n : LabState). n.origins) m.rest) s.origins;
+      symbols = ap (λ (n : LabState). n.symbols) m.rest ∙ s.symbols;
+      sources = ap (λ (n : LabState). n.sources) m.rest ∙ s.sources;
+      lists = ap (λ (n : LabState). n.breakpoints.lists) m.rest ∙ s.lists;
+      met = rw (ap (λ (n : LabState). n.breakpoints) m.rest) s.met;
+      attached = ap (λ (n : LabState). n.is_attached) m.rest ∙ s.attached;
+      run = ap (λ (n : LabState). n.run) m.rest ∙ s.run;
+      is_halted = ap (λ (n : LabState). n.is_halted) m.rest ∙ rw (← answer-is) (sym (halted-append b.trace x));
+      within = let longer-by = length-append b.trace (x ∷ []) in let before = s.within in omega arith;
+      is_resumed = ap (λ (n : LabState). n.is_resumed) m.rest ∙ s.is_resumed;
+      has_moved = ap (λ (n : LabState). n.has_moved) m.rest ∙ rw l.since_is (sym (any-append (since b) x));
+      request = ap (λ (n : LabState). n.request) m.rest ∙ s.request;
+      follows = λ asked. follows_step old new b answer left m answer-is sp-is s.within s.frames (rw s.request asked) (s.follows asked);
+    }
+
+-- ---- no step
+
+-- the devices after nothing was done to them
+no_operations : (devices : DeviceState) (past done : List Operation) → done ≡ [] → DevicesStandFor devices (past ++ done)
+    → DevicesStandFor devices past
+no_operations devices past done none stands =
+    let P : List Operation → Type 0 = λ all. DevicesStandFor devices all in
+    let same : past ++ done ≡ past = rw none (append-nil past) in
+    subst P same stands
+
+-- an undefined opcode is found where it is answered, and nowhere else
+pub finds_undefined : (old : LabState) (b : Board) (traffic : List PortOperation) (machine : MachineState) (devices : DeviceState) (opcode pc : ℕ)
+    → StandsAmid old b traffic → IsBoardStep b.past old.machine old.devices machine devices (stepped.Undefined opcode)
+    → pc ≡ old.machine.regs.pc → Some (outcome.End (end.Undefined opcode pc)) ≡ undefined b
+finds_undefined old b traffic machine devices opcode pc s did at_pc =
+    let P : MachineState → Type 0 = λ m. IsBoardStep b.past m old.devices machine devices (stepped.Undefined opcode) in
+    let n = no_step b.past b.machine opcode (subst P s.machine did).answer_is in
+    rw (n.finds, n.opcode_is, at_pc, s.machine) refl
+
+pub finds_no_undefined : (old : LabState) (b : Board) (traffic : List PortOperation) (machine : MachineState) (devices : DeviceState) (answer : Stepped)
+    → StandsAmid old b traffic → IsBoardStep b.past old.machine old.devices machine devices answer
+    → ((opcode : ℕ) → answer ≡ stepped.Undefined opcode → ⊥) → None ≡ undefined b
+finds_no_undefined old b traffic machine devices answer s did other =
+    let P : MachineState → Type 0 = λ m. IsBoardStep b.past m old.devices machine devices answer in
+    let is = (subst P s.machine did).answer_is in
+    let none = some_step b.past b.machine (subst IsDefined is (defined answer other)) in
+    rw none refl
+
+-- it leaves the lab as it was
+pub stands_undefined : (old : LabState) (b : Board) (traffic : List PortOperation) (machine : MachineState) (devices : DeviceState) (opcode : ℕ)
+    → StandsAmid old b traffic → IsBoardStep b.past old.machine old.devices machine devices (stepped.Undefined opcode)
+    → StandsAmid (record old { machine = machine; devices = devices }) b traffic
+stands_undefined old b traffic machine devices opcode s did =
+    let P : MachineState → Type 0 = λ m. IsBoardStep b.past m old.devices machine devices (stepped.Undefined opcode) in
+    let step = subst P s.machine did in
+    let n = no_step b.past b.machine opcode step.answer_is in
+    let none : operation_list (outcome_of b.machine b.past).operation ≡ [] = rw n.operation_is refl in
+    record {
+      machine = step.after_is ∙ n.after_is;
+      devices = no_operations devices b.past (operations b.machine b.past) n.operations_are step.stands;
+      traffic_is = step.traffic_is ∙ rw (none, append-nil old.devices.operations) s.traffic_is;
+      frames = s.frames;
+      origins = s.origins;
+      symbols = s.symbols;
+      sources = s.sources;
+      lists = s.lists;
+      met = s.met;
+      attached = s.attached;
+      run = s.run;
+      is_halted = s.is_halted;
+      within = s.within;
+      is_resumed = s.is_resumed;
+      has_moved = s.has_moved;
+      request = s.request;
+      follows = s.follows;
+    }
+
+-- ---- a Resume, or a Step
+
+none_gone : (frame : Option Frame) → false ≡ is_gone frame []
+none_gone None = refl
+none_gone (Some f) = refl
+
+pub stands_on : (old : LabState) (b : Board) (request : Option StepRequest) (older : ℕ) (frame : Option Frame)
+    → older ≡ length old.frames → frame ≡ innermost old.frames → StandsFor old b
+    → StandsFor (record old {
+      run = Running;
+      is_resumed = true;
+      has_moved = false;
+      request = request;
+      older = older;
+      innermost = frame;
+      is_gone = false;
+    }) (going_on request b)
+stands_on old b request older frame older-is frame-is s =
+    let on = going_on request b in
+    let all : earlier on ≡ b.trace = take_all (length b.trace) b.trace (omega arith) in
+    let none : since on ≡ [] = drop_all (length b.trace) b.trace (omega arith) in
+    record {
+      machine = s.machine;
+      devices = s.devices;
+      traffic_is = s.traffic_is;
+      frames = s.frames;
+      origins = s.origins;
+      symbols = s.symbols;
+      sources = s.sources;
+      lists = s.lists;
+      met = s.met;
+      attached = s.attached;
+      run = refl;
+      is_halted = s.is_halted;
+      within = omega arith;
+      is_resumed = refl;
+      has_moved = rw none refl;
+      request = refl;
+      follows = λ asked. record {
+        older_is = rw (all, none, filter-stays-none (live b.trace)) (older-is ∙ ap (λ (fs : List Frame). length fs) s.frames);
+        innermost_is = rw all (frame-is ∙ ap innermost s.frames);
+        gone_is = rw (all, none) (none_gone (innermost (live b.trace)));
+      };
+    }
+
+-- ---- whether a Step is done
+
+same_count : {A : Type 0} → (n : ℕ) (xs : List A) → (n + length xs == n) ≡ not (is_any xs)
+same_count n [] = grind (arith, nat_tests)
+same_count n (x ∷ xs) = grind (arith, nat_tests)
+
+-- as many frames are live as are left of the older ones, where no frame since is
+pub over_done : (frames : List Frame) (older : ℕ) (frame : Option Frame) (gone : Bool) (b : Board) → frames ≡ live b.trace
+    → Follows older frame gone (earlier b) (since b) → (length frames == older) ≡ not (is_any (live (since b)))
+over_done frames older frame gone b frames-are f =
+    let survived : List Frame = filter (stays (since b)) (live (earlier b)) in
+    let counts : length frames ≡ length survived + length (live (since b))
+    = ap (λ (fs : List Frame). length fs) (frames-are ∙ parts-live b) ∙ length-append survived (live (since b)) in
+    rw (counts, f.older_is) (same_count (length survived) (live (since b)))

@@ -1,0 +1,23 @@
+use Rattle.std.proofs.Common.{◌≡◌, [], refl, arith}
+use Rattle.lab_core.proofs.lab.Lab.new.Goals as goal
+
+pub returns : goal.returns
+returns c = record {
+  machine = c.in_ok-machine.ensures;
+  devices = c.new-5.ensures.past;
+  traffic_is = c.new-5.ensures.operations;
+  frames = c.in_ok-frames.ensures;
+  origins = c.new-6.ensures;
+  symbols = c.new-7.ensures;
+  sources = c.in_ok-sources.ensures;
+  lists = c.in_ok-breakpoints.ensures.lists;
+  met = c.in_ok-breakpoints.ensures.stands [];
+  attached = refl;
+  run = refl;
+  is_halted = refl;
+  within = omega arith;
+  is_resumed = refl;
+  has_moved = refl;
+  request = refl;
+  follows = λ asked. cc;
+}

@@ -1,0 +1,32 @@
+-- Where an event may be answered with out of memory.
+use Rattle.std.specs.Prelude.{◌≡◌, List, Ok, Option, Some, Result, IsOk, IsSome}
+use Rattle.lab_sources.specs.Sources.{place_of, source_at}
+use Rattle.lab_views.specs.Views.{shown}
+use Rattle.lab_core.specs.declared.run_state.RunState.TheVariants.{NoRun, Running}
+use Rattle.lab_core.specs.declared.event.Event.{Event}
+use Rattle.lab_core.specs.declared.event.Event.TheVariants as event
+use Rattle.lab_core.specs.Board.{Board}
+use Rattle.lab_core.specs.Events.{parts_of}
+use Rattle.lab_core.specs.Labs.{LabState, StandsFor}
+
+-- Only where the board doesn't refuse the event; of a Load, where the text's faults aren't known yet.
+abbrev pub Takes : Event → Board → Type 0
+Takes (event.Load path text) b = (b.run ≡ NoRun) × IsOk (place_of (record { path = path; text = text }) b.sources)
+Takes (event.Dump path text) b = IsOk (place_of (record { path = path; text = text }) b.sources)
+Takes (event.SetBreakpoints path lines) b = IsSome (source_at b.sources path)
+Takes (event.Slice n) b = b.run ≡ Running
+Takes (event.Show view) b = IsOk (shown view (parts_of b))
+Takes event.Reset b = Unit {0}
+Takes (event.Typed bytes) b = Unit {0}
+Takes (event.Start address) b = ⊥
+Takes event.Interrupt b = ⊥
+Takes event.Pause b = ⊥
+Takes event.Resume b = ⊥
+Takes (event.Step request) b = ⊥
+Takes event.Attach b = ⊥
+Takes event.Detach b = ⊥
+Takes (event.Switches byte) b = ⊥
+Takes (event.Press n) b = ⊥
+
+abbrev pub MayLackMemory : Event → LabState → Type 0
+MayLackMemory event lab = (b : Board) → StandsFor lab b → Takes event b

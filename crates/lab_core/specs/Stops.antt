@@ -1,0 +1,79 @@
+-- Where a debugger stops a run: at a breakpoint, and where a Step is complete.
+use Rattle.std.specs.Prelude.{ℕ, List, [], ◌∷◌, take, drop, reverse, slice_get, Bool, true, false, not, ◌&&◌, ◌||◌, Option, Some, None, is_none, unwrap_or, if◌then◌else◌}
+use Rattle.i80_exec.specs.declared.registers.Stepped.{Stepped}
+use Rattle.lab_frames.specs.declared.frame.Frame.{Frame}
+use Rattle.lab_frames.specs.Live.{BoardStep, ended_by, live, stays}
+use Rattle.lab_image.specs.declared.origin.Origin.{Origin}
+use Rattle.lab_image.specs.Loads.{origin_of}
+use Rattle.lab_breaks.specs.Breakpoints.{is_met}
+use Rattle.lab_core.specs.declared.answer.SliceOutcome.{SliceOutcome}
+use Rattle.lab_core.specs.declared.answer.SliceOutcome.TheVariants as outcome
+use Rattle.lab_core.specs.declared.answer.Stop.TheVariants as stop
+use Rattle.lab_core.specs.declared.event.StepKind.{StepKind}
+use Rattle.lab_core.specs.declared.event.StepKind.TheVariants.{In, Over, Out}
+use Rattle.lab_core.specs.declared.event.Granularity.{Granularity}
+use Rattle.lab_core.specs.declared.event.Granularity.TheVariants as granularity
+use Rattle.lab_core.specs.declared.event.StepRequest.{StepRequest}
+use Rattle.lab_core.specs.Board.{Board}
+
+abbrev pub is_any : {A : Type 0} → List A → Bool
+is_any [] = false
+is_any (x ∷ xs) = true
+
+-- the run's steps up to its last Resume or Step, and those since; all of them where it had neither
+abbrev pub earlier : Board → List BoardStep
+earlier b = take (unwrap_or b.resumed 0) b.trace
+
+abbrev pub since : Board → List BoardStep
+since b = drop (unwrap_or b.resumed 0) b.trace
+
+-- ---- a breakpoint
+
+-- Attached, a breakpoint on the line whose statement begins at PC is met, but after a Resume or a Step
+-- not before a step is made.
+abbrev pub meets_breakpoint : Board → Bool
+meets_breakpoint b =
+    b.is_attached && ((is_any (since b) || is_none b.resumed) && is_met b.breakpoints b.loads b.machine.regs.pc)
+
+abbrev pub at_breakpoint : Board → Option SliceOutcome
+at_breakpoint b = if meets_breakpoint b then Some (outcome.Stop stop.Breakpoint) else None
+
+-- ---- a Step
+
+-- of some frames, oldest first, the newest
+abbrev pub innermost : List Frame → Option Frame
+innermost frames = slice_get (reverse frames) 0
+
+-- it was there, and one of these steps ends it
+abbrev pub is_gone : Option Frame → List BoardStep → Bool
+is_gone None steps = false
+is_gone (Some frame) steps = not (stays steps frame)
+
+-- it was gone before a step that answered so and left SP there, or this step ends it
+abbrev pub is_gone_after : Bool → Option Frame → Stepped → ℕ → Bool
+is_gone_after gone None answer sp = gone
+is_gone_after gone (Some frame) answer sp = gone || ended_by answer sp frame.slot
+
+-- Over: no frame that was made since is live. Out: the frame that was innermost then isn't live.
+abbrev pub is_done : StepKind → List BoardStep → List BoardStep → Bool
+is_done In before steps = true
+is_done Over before steps = not (is_any (live steps))
+is_done Out before steps = is_gone (innermost (live before)) steps
+
+abbrev pub is_first : Option Origin → Bool
+is_first None = false
+is_first (Some origin) = origin.is_first
+
+-- by line, a statement begins at PC
+abbrev pub is_there : Granularity → Board → Bool
+is_there granularity.Line b = is_first (origin_of b.loads b.machine.regs.pc)
+is_there granularity.Instruction b = true
+
+abbrev pub completes : Option StepRequest → Board → Bool
+completes None b = false
+completes (Some request) b =
+    is_any (since b) && (is_done request.kind (earlier b) (since b) && is_there request.granularity b)
+
+-- after at least one step
+abbrev pub complete : Board → Option SliceOutcome
+complete b = if completes b.request b then Some (outcome.Stop stop.Step) else None

@@ -1,0 +1,34 @@
+-- Lines of disassembly, one line on.
+use Rattle.std.proofs.Common.{◌≡◌, ◌<◌, ◌≤◌, ◌+◌, ◌-◌, ℕ, suc, [], ◌∷◌, refl, arith}
+use Rattle.i80_exec.specs.State.{MachineState}
+use Rattle.lab_views.specs.Code.{line_at, next_address, lines_from, after_instructions}
+
+pub lines_from-next : (m : MachineState) (address count k : ℕ) → k < count
+    → lines_from m address (count - k) ≡ line_at m address ∷ lines_from m (next_address m address)
+    (count - (k + 1))
+unfolding lines_from
+lines_from-next m address count k h =
+    let e : count - k ≡ suc (count - (k + 1)) = omega arith in
+    rw e refl
+
+pub lines_from-end : (m : MachineState) (address count k : ℕ) → count ≤ k
+    → lines_from m address (count - k) ≡ []
+unfolding lines_from
+lines_from-end m address count k h =
+    let e : count - k ≡ 0 = omega arith in
+    rw e refl
+
+pub after-next : (m : MachineState) (address count k : ℕ) → k < count
+    → after_instructions m address (count - k) ≡ after_instructions m (next_address m address)
+    (count - (k + 1))
+unfolding after_instructions
+after-next m address count k h =
+    let e : count - k ≡ suc (count - (k + 1)) = omega arith in
+    rw e refl
+
+pub after-end : (m : MachineState) (address count k : ℕ) → count ≤ k
+    → after_instructions m address (count - k) ≡ address
+unfolding after_instructions
+after-end m address count k h =
+    let e : count - k ≡ 0 = omega arith in
+    rw e refl

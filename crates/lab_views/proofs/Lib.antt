@@ -1,0 +1,4 @@
+pub mod ListLemmas
+pub mod CodeLemmas
+pub mod StackLemmas
+pub mod PartLemmas

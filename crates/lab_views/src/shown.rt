@@ -1,0 +1,61 @@
+//! What a board shows.
+use base_text::sequence::{Bytes, Sequence};
+use base_text::text::Text;
+
+/// A frame of the run.
+#[derive(Drop, Debug)]
+pub struct StackFrame {
+    /// 1 for the innermost, and one more for each that is further out.
+    pub id: u32,
+    /// The routine: its first label, or its address as `hhhhH`; `main` for the outermost frame.
+    pub name: Text,
+    /// The path of the text that the byte at the address was loaded from, where it was.
+    pub source: Option<Text>,
+    /// The line in that text, from 1; 0 where there is none.
+    pub line: usize,
+    /// PC for the innermost frame, and the call's address for the others.
+    pub address: u16,
+}
+
+/// A variable as it is shown.
+#[derive(Drop, Debug)]
+pub struct Variable {
+    pub name: Text,
+    pub value: Text,
+}
+
+/// A line of disassembly.
+#[derive(Drop, Debug)]
+pub struct CodeLine {
+    pub address: u16,
+    /// The bytes that it shows, 1 to 3.
+    pub bytes: Bytes,
+    /// An instruction, as `MVI A,06CH`, or a byte that is none, as `DB 008H`.
+    pub text: Text,
+}
+
+/// The breakpoints of a source.
+#[derive(Drop, Debug)]
+pub struct SourceBreakpoints {
+    pub path: Text,
+    pub lines: Sequence<u32>,
+}
+
+/// What a board shows.
+#[derive(Drop, Debug)]
+pub enum Shown {
+    /// Some of the frames, innermost first, and how many there are in all.
+    Frames {
+        frames: Sequence<StackFrame>,
+        total: u32,
+    },
+    Scopes,
+    Variables(Sequence<Variable>),
+    Code(Sequence<CodeLine>),
+    Source(Text),
+    Info {
+        is_attached: bool,
+        is_stopped: bool,
+        breakpoints: Sequence<SourceBreakpoints>,
+    },
+}

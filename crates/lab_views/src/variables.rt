@@ -1,0 +1,235 @@
+//! The variables of the five scopes.
+ghost use Rattle.std.specs.Prelude.{◌≡◌, ◌∷◌, ◌++◌, [], List, IfOk, OnOk};
+ghost use Rattle.std.specs.Fmt.{decimal};
+ghost use Rattle.i80_dis.specs.Text.{byte_text, word_text};
+ghost use Rattle.i80_devs.specs.Past.{Operation, StandsFor, panel_after};
+ghost use Rattle.lab_views.specs.Numbers.{asked_for, page};
+ghost use Rattle.lab_views.specs.Variables as variables;
+
+use crate::numbers::{asked_for, end_of};
+use crate::shown::Variable;
+use asm_build::symbols::Symbols;
+use base_text::hexadecimal;
+use base_text::sequence::Sequence;
+use base_text::text::Text;
+use i80_devs::devices::Devices;
+use i80_exec::machine::Machine;
+use i80_exec::registers::{Interrupts, Registers};
+use i80_rows::memory::MEMORY_SIZE;
+use std::alloc::{AllocError, Global};
+
+/// The most variables of an answer, and how many symbols are the usual count.
+const MOST_VARIABLES: u32 = 256;
+
+/// How many addresses there are.
+const ADDRESSES: u32 = MEMORY_SIZE as u32;
+
+/// How many bytes of memory are the usual count.
+const USUAL_BYTES: u32 = 16;
+
+// ---- values
+
+fn byte_text(alloc: Global, byte: u8) -> Result<Text, AllocError>
+    ensures { IfOk result (λ text. text ≡ byte_text byte) }
+{
+    let mut text = String::from_str(alloc, "0")?;
+    hexadecimal::push_byte(&mut text, byte)?;
+    text.push_str("H")?;
+    Ok(Text::from(text))
+}
+
+fn word_text(alloc: Global, word: u16) -> Result<Text, AllocError>
+    ensures { IfOk result (λ text. text ≡ word_text word) }
+{
+    let mut text = String::from_str(alloc, "0")?;
+    hexadecimal::push_word(&mut text, word)?;
+    text.push_str("H")?;
+    Ok(Text::from(text))
+}
+
+fn decimal(alloc: Global, number: usize) -> Result<Text, AllocError>
+    ensures { IfOk result (λ text. text ≡ decimal number) }
+{
+    let mut text = String::new(alloc);
+    write!(text, "{number}")?;
+    Ok(Text::from(text))
+}
+
+fn bit_text(bit: bool) -> &'static str
+    ensures { result.now ≡ variables.bit_text bit }
+{
+    if bit { "1" } else { "0" }
+}
+
+fn interrupts_text(interrupts: Interrupts) -> &'static str
+    ensures { result.now ≡ variables.interrupts_text interrupts }
+{
+    match interrupts {
+        Interrupts::Off => "off",
+        Interrupts::Arming => "arming",
+        Interrupts::On => "on",
+    }
+}
+
+fn latched_text(alloc: Global, latched: Option<u8>) -> Result<Text, AllocError>
+    ensures { IfOk result (λ text. text ≡ variables.latched_text latched) }
+{
+    match latched {
+        None => Text::copy_of(alloc, "none"),
+        Some(n) => decimal(alloc, usize::from(n)),
+    }
+}
+
+// ---- one variable more
+
+fn push(
+    alloc: Global,
+    shown: &mut Sequence<Variable>,
+    name: &str,
+    value: Text,
+) -> Result<(), AllocError>
+    ensures { OnOk result (shown.new ≡ shown.old ++ variables.variable name.now value ∷ []) }
+{
+    let name = Text::copy_of(alloc, name)?;
+    shown.push(Variable { name, value })
+}
+
+fn push_byte(
+    alloc: Global,
+    shown: &mut Sequence<Variable>,
+    name: &str,
+    byte: u8,
+) -> Result<(), AllocError>
+    ensures { OnOk result (shown.new
+        ≡ shown.old ++ variables.variable name.now (byte_text byte) ∷ []) }
+{
+    let value = byte_text(alloc, byte)?;
+    push(alloc, shown, name, value)
+}
+
+fn push_word(
+    alloc: Global,
+    shown: &mut Sequence<Variable>,
+    name: &str,
+    word: u16,
+) -> Result<(), AllocError>
+    ensures { OnOk result (shown.new
+        ≡ shown.old ++ variables.variable name.now (word_text word) ∷ []) }
+{
+    let value = word_text(alloc, word)?;
+    push(alloc, shown, name, value)
+}
+
+fn push_text(
+    alloc: Global,
+    shown: &mut Sequence<Variable>,
+    name: &str,
+    value: &str,
+) -> Result<(), AllocError>
+    ensures { OnOk result (shown.new
+        ≡ shown.old ++ variables.variable name.now value.now ∷ []) }
+{
+    let value = Text::copy_of(alloc, value)?;
+    push(alloc, shown, name, value)
+}
+
+// ---- the scopes
+
+pub(crate) fn registers(alloc: Global, regs: Registers) -> Result<Sequence<Variable>, AllocError>
+    ensures { IfOk result (λ shown. shown ≡ variables.register_variables regs) }
+{
+    let mut shown = Sequence::new(alloc);
+    push_byte(alloc, &mut shown, "A", regs.a)?;
+    push_byte(alloc, &mut shown, "B", regs.b)?;
+    push_byte(alloc, &mut shown, "C", regs.c)?;
+    push_byte(alloc, &mut shown, "D", regs.d)?;
+    push_byte(alloc, &mut shown, "E", regs.e)?;
+    push_byte(alloc, &mut shown, "H", regs.h)?;
+    push_byte(alloc, &mut shown, "L", regs.l)?;
+    push_word(alloc, &mut shown, "SP", regs.sp)?;
+    push_word(alloc, &mut shown, "PC", regs.pc)?;
+    Ok(shown)
+}
+
+pub(crate) fn flags(alloc: Global, regs: Registers) -> Result<Sequence<Variable>, AllocError>
+    ensures { IfOk result (λ shown. shown ≡ variables.flag_variables regs) }
+{
+    let flags = regs.flags;
+    let mut shown = Sequence::new(alloc);
+    push_text(alloc, &mut shown, "S", bit_text(flags.sign()))?;
+    push_text(alloc, &mut shown, "Z", bit_text(flags.zero()))?;
+    push_text(alloc, &mut shown, "AC", bit_text(flags.auxiliary_carry()))?;
+    push_text(alloc, &mut shown, "P", bit_text(flags.parity()))?;
+    push_text(alloc, &mut shown, "CY", bit_text(flags.carry()))?;
+    push_text(alloc, &mut shown, "INTE", interrupts_text(regs.interrupts))?;
+    Ok(shown)
+}
+
+pub(crate) fn devices(alloc: Global, devices: &Devices) -> Result<Sequence<Variable>, AllocError>
+    ensures { (past : List Operation) → StandsFor devices.now past
+        → IfOk result (λ shown. shown ≡ variables.device_variables (panel_after past)) }
+{
+    let mut shown = Sequence::new(alloc);
+    push_byte(alloc, &mut shown, "switches", devices.switches())?;
+    push_byte(alloc, &mut shown, "lamps", devices.lamps())?;
+    let latched = latched_text(alloc, devices.request())?;
+    push(alloc, &mut shown, "latched", latched)?;
+    let waiting = decimal(alloc, devices.waiting())?;
+    push(alloc, &mut shown, "waiting", waiting)?;
+    Ok(shown)
+}
+
+/// Symbols from one on, in order of definition.
+pub(crate) fn symbols(
+    alloc: Global,
+    symbols: &Symbols,
+    start: u32,
+    count: u32,
+) -> Result<Sequence<Variable>, AllocError>
+    ensures { IfOk result (λ shown. shown
+        ≡ page start (asked_for 256 256 count) (variables.symbol_variables symbols.now)) }
+{
+    let most = asked_for(MOST_VARIABLES, MOST_VARIABLES, count);
+    let end = end_of(start, most, symbols.len());
+    let mut shown = Sequence::new(alloc);
+    for index in start as usize..end {
+        match symbols.at(index) {
+            Some((name, symbol)) => push_word(alloc, &mut shown, name, symbol.value)?,
+            None => return Ok(shown),
+        }
+    }
+    Ok(shown)
+}
+
+/// Bytes of memory from an address on.
+pub(crate) fn memory(
+    alloc: Global,
+    machine: &Machine,
+    start: u32,
+    count: u32,
+) -> Result<Sequence<Variable>, AllocError>
+    ensures { IfOk result (λ shown. shown
+        ≡ variables.memory_variables machine.now start (asked_for 16 256 count)) }
+{
+    let most = asked_for(USUAL_BYTES, MOST_VARIABLES, count);
+    let many = most.min(ADDRESSES.saturating_sub(start));
+    let mut shown = Sequence::new(alloc);
+    for offset in 0..many {
+        push_memory(alloc, &mut shown, machine, (start + offset) as u16)?;
+    }
+    Ok(shown)
+}
+
+fn push_memory(
+    alloc: Global,
+    shown: &mut Sequence<Variable>,
+    machine: &Machine,
+    address: u16,
+) -> Result<(), AllocError>
+    ensures { OnOk result (shown.new
+        ≡ shown.old ++ variables.memory_variable machine.now address ∷ []) }
+{
+    let mut name = String::new(alloc);
+    hexadecimal::push_word(&mut name, address)?;
+    push_byte(alloc, shown, name.as_str(), machine.peek(address))
+}
