@@ -1,12 +1,12 @@
 // lab80, an Intel 8080 laboratory: `lab80 step` runs a program's bytes and prints what each
 // instruction did, `lab80 asm` assembles and runs a cell, `lab80 dis` lists bytes as assembler text.
 // The engines of these words stand in lab_engines, each with the contract that what it writes is
-// the stated text of what it reads. This file maps words to engines, and what they answer to exit
-// statuses.
+// the stated text of what it reads; what the words ask for and the number of each exit status are
+// stated too. This file calls the one with the other.
 #![tactic(auto)]
 
-use base_text::hexadecimal::read_word;
 use lab_engines::asm::run_asm;
+use lab_engines::command::{Command, read_command};
 use lab_engines::dis::run_dis;
 use lab_engines::step::run_step;
 use lab_io::status::Status;
@@ -18,7 +18,7 @@ use std::{env, io};
 const USAGE: &str = "usage: lab80 step | asm | dis ORIGIN | kernel FILE | term FILE";
 
 fn main(rt: HostRuntime) -> ExitCode {
-    ExitCode::from(run(&rt) as u8)
+    ExitCode::from(run(&rt).number())
 }
 
 fn run(rt: &(impl Env + Input + Print + Eprint + AllocGlobal)) -> Status {
@@ -27,18 +27,13 @@ fn run(rt: &(impl Env + Input + Print + Eprint + AllocGlobal)) -> Status {
         Err(error) if error.kind() == io::ErrorKind::OutOfMemory => return Status::OutOfMemory,
         Err(_) => return usage(rt),
     };
-    match words.as_slice() {
-        [word] if word.as_str() == "step" => {
-            run_step(rt.alloc(), &mut rt.reader(), &mut io::writer(rt))
+    match read_command(&words) {
+        Some(Command::Step) => run_step(rt.alloc(), &mut rt.reader(), &mut io::writer(rt)),
+        Some(Command::Asm) => run_asm(rt.alloc(), &mut rt.reader(), &mut io::writer(rt)),
+        Some(Command::Dis(origin)) => {
+            run_dis(rt.alloc(), origin, &mut rt.reader(), &mut io::writer(rt))
         }
-        [word] if word.as_str() == "asm" => {
-            run_asm(rt.alloc(), &mut rt.reader(), &mut io::writer(rt))
-        }
-        [word, origin] if word.as_str() == "dis" => match read_word(origin.as_bytes()) {
-            Some(origin) => run_dis(rt.alloc(), origin, &mut rt.reader(), &mut io::writer(rt)),
-            None => usage(rt),
-        },
-        _ => usage(rt),
+        None => usage(rt),
     }
 }
 

@@ -10,7 +10,6 @@ use Rattle.asm_text.specs.Statements.{statements_of}
 use Rattle.asm_build.specs.Meaning.{Meaning, built_of}
 use Rattle.lab_io.specs.declared.status.Status.{Status}
 use Rattle.lab_io.specs.declared.status.Status.TheVariants.{Success, Refused}
-use Rattle.lab_engines.specs.declared.asm.TheConstants.{RUN_LIMIT}
 use Rattle.base_text.specs.Hexadecimal.{upper_word}
 use Rattle.lab_io.specs.Report.{line}
 use Rattle.lab_engines.specs.Printed.{register_line}
@@ -28,11 +27,11 @@ run_end_text limit start =
 abbrev pub begun_at : ℕ → List (ℕ × ℕ) → Computer
 begun_at address image = fresh (with_pc (loaded power_on image) address)
 
--- where the program starts and how it ends, if the cell says where
+-- where the program starts and how it ends after 100,000 steps at most, if the cell says where
 abbrev pub start_text : List (ℕ × ℕ) → Option ℕ → List ℕ
 start_text image None = []
 start_text image (Some address) =
-    line (codes "start " ++ upper_word address) ++ run_end_text RUN_LIMIT (begun_at address image)
+    line (codes "start " ++ upper_word address) ++ run_end_text 100000 (begun_at address image)
 
 abbrev pub built_text : List (ℕ × ℕ) → Option ℕ → List ℕ
 built_text image start = image_text image ++ start_text image start

@@ -5,3 +5,4 @@ pub mod Runner
 pub mod StepText
 pub mod AsmText
 pub mod DisText
+pub mod Command

@@ -6,7 +6,6 @@ use Rattle.lab_io.specs.declared.status.Status.TheVariants.{Success}
 use Rattle.lab_io.specs.HexInput.{Input}
 use Rattle.lab_engines.specs.declared.ending.Ending.{Ending}
 use Rattle.lab_engines.specs.declared.ending.Ending.TheVariants.{Halted, Waiting, Undefined, Limit}
-use Rattle.lab_engines.specs.declared.step.TheConstants.{STEP_LIMIT}
 use Rattle.lab_io.specs.Report.{line, text_for, status_for}
 use Rattle.lab_engines.specs.Printed.{register_line}
 use Rattle.lab_engines.specs.Computer.{Computer, programmed, after, end_at, run_length}
@@ -32,9 +31,9 @@ run_text limit start =
     let steps = run_length limit start in
     lines_of steps start ++ end_line (end_at limit start steps)
 
--- what a program's bytes print, stored from address 0 on and run from there
+-- what a program's bytes print, stored from address 0 on and run from there for 1,000 steps at most
 abbrev pub program_text : List ℕ → List ℕ
-program_text bytes = run_text STEP_LIMIT (programmed bytes)
+program_text bytes = run_text 1000 (programmed bytes)
 
 abbrev pub step_text : Input → List ℕ
 step_text input = text_for program_text input

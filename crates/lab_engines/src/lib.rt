@@ -6,6 +6,7 @@
 #![tactic(auto)]
 
 pub mod asm;
+pub mod command;
 pub mod dis;
 mod ending;
 mod image;

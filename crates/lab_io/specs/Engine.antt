@@ -27,3 +27,12 @@ IsFailure Refused = ⊥
 IsFailure Usage = ⊥
 IsFailure OutOfMemory = Unit {0}
 IsFailure Failed = Unit {0}
+
+-- the program exits with 0, with 1 for refused input, with 2 for a wrong command line, with 3 where it ran out
+-- of memory and with 4 where a read or a write failed
+abbrev pub exit_status : Status → ℕ
+exit_status Success = 0
+exit_status Refused = 1
+exit_status Usage = 2
+exit_status OutOfMemory = 3
+exit_status Failed = 4

@@ -1,14 +1,32 @@
 //! What an engine answers, which is the program's exit status.
+ghost use Rattle.std.specs.Prelude.{◌≡◌};
+ghost use Rattle.lab_io.specs.Engine.{exit_status};
+
 #[derive(Clone, Copy, PartialEq, Eq, Debug)]
 pub enum Status {
     /// The text is whole.
-    Success = 0,
+    Success,
     /// The input is refused; the text says why.
-    Refused = 1,
+    Refused,
     /// The words on the command line are none that the program knows.
-    Usage = 2,
+    Usage,
     /// Out of memory.
-    OutOfMemory = 3,
+    OutOfMemory,
     /// A read or a write failed, or a reader didn't end.
-    Failed = 4,
+    Failed,
+}
+
+impl Status {
+    /// The number that the program exits with.
+    pub fn number(self) -> u8
+        ensures { result ≡ exit_status self }
+    {
+        match self {
+            Status::Success => 0,
+            Status::Refused => 1,
+            Status::Usage => 2,
+            Status::OutOfMemory => 3,
+            Status::Failed => 4,
+        }
+    }
 }

@@ -16,7 +16,7 @@ fn laws_stand() {
 
 #[test]
 fn a_cell_is_run_in_slices(rt: HostRuntime) -> Result<(), AllocError> {
-    let steps = [
+    const STEPS: [Step; 8] = [
         Step::Load("a", "X: MVI A,5\nHLT\nEND X"),
         Step::Slice(1),
         Step::Start(0),
@@ -36,12 +36,12 @@ refused: a program runs
 refused: no program runs
 refused: no program runs
 ";
-    play(&rt, rt.alloc(), &steps, wanted)
+    play(&rt, rt.alloc(), &STEPS, wanted)
 }
 
 #[test]
 fn an_undefined_opcode_ends_a_run(rt: HostRuntime) -> Result<(), AllocError> {
-    let steps = [
+    const STEPS: [Step; 4] = [
         Step::Load("a", "DB 8\nEND 0"),
         Step::Start(0),
         Step::Start(0),
@@ -53,12 +53,12 @@ Started
 refused: a program runs
 0 End(Undefined { opcode: 8, pc: 0 })
 ";
-    play(&rt, rt.alloc(), &steps, wanted)
+    play(&rt, rt.alloc(), &STEPS, wanted)
 }
 
 #[test]
 fn a_run_waits_for_a_request(rt: HostRuntime) -> Result<(), AllocError> {
-    let steps = [
+    const STEPS: [Step; 7] = [
         Step::Load("a", "EI\nHLT\nEND 0"),
         Step::Start(0),
         Step::Slice(10),
@@ -76,13 +76,13 @@ Accepted
 1 More
 0038 FFFE Off 1
 ";
-    play(&rt, rt.alloc(), &steps, wanted)
+    play(&rt, rt.alloc(), &STEPS, wanted)
 }
 
 // Of a run without a debugger, only that it halted is seen after the last step of a slice.
 #[test]
 fn other_reasons_wait_for_the_next_slice(rt: HostRuntime) -> Result<(), AllocError> {
-    let steps = [
+    const STEPS: [Step; 9] = [
         Step::Load("a", "HLT\nEI\nHLT\nNOP\nDB 8"),
         Step::Start(0),
         Step::Slice(1),
@@ -104,12 +104,12 @@ Started
 1 More
 0 End(Undefined { opcode: 8, pc: 4 })
 ";
-    play(&rt, rt.alloc(), &steps, wanted)
+    play(&rt, rt.alloc(), &STEPS, wanted)
 }
 
 #[test]
 fn a_slice_tells_its_traffic(rt: HostRuntime) -> Result<(), AllocError> {
-    let steps = [
+    const STEPS: [Step; 10] = [
         Step::Load("a", "IN 1\nOUT 2\nIN 2\nHLT"),
         Step::Typed("A"),
         Step::Switches(0x5a),
@@ -133,12 +133,12 @@ Reset
 00
 00
 ";
-    play(&rt, rt.alloc(), &steps, wanted)
+    play(&rt, rt.alloc(), &STEPS, wanted)
 }
 
 #[test]
 fn a_call_is_live_until_its_return(rt: HostRuntime) -> Result<(), AllocError> {
-    let steps = [
+    const STEPS: [Step; 9] = [
         Step::Load("a", "ORG 0100H\nCALL 01234H\nORG 01234H\nRET"),
         Step::Start(0x0100),
         Step::Slice(1),
@@ -160,12 +160,12 @@ FFFE 1234 0100
 1 More
 0103 0000 Off 0
 ";
-    play(&rt, rt.alloc(), &steps, wanted)
+    play(&rt, rt.alloc(), &STEPS, wanted)
 }
 
 #[test]
 fn a_request_waits_for_the_instruction_behind_ei(rt: HostRuntime) -> Result<(), AllocError> {
-    let steps = [
+    const STEPS: [Step; 13] = [
         Step::Load("a", "EI\nNOP\nNOP"),
         Step::Press(8),
         Step::Press(7),
@@ -195,12 +195,12 @@ Started
 00
 02
 ";
-    play(&rt, rt.alloc(), &steps, wanted)
+    play(&rt, rt.alloc(), &STEPS, wanted)
 }
 
 #[test]
 fn texts_are_kept_under_their_paths(rt: HostRuntime) -> Result<(), AllocError> {
-    let steps = [
+    const STEPS: [Step; 9] = [
         Step::Reset,
         Step::Load("b", "FOO"),
         Step::Load("a", "NOP"),
@@ -222,14 +222,14 @@ refused: the path has another text
 00 1 1 false
 00
 ";
-    play(&rt, rt.alloc(), &steps, wanted)
+    play(&rt, rt.alloc(), &STEPS, wanted)
 }
 
 #[test]
 fn as_many_texts_as_may_be_are_kept(rt: HostRuntime) -> Result<(), AllocError> {
-    let steps = [Step::Fill, Step::Load("y", ""), Step::Load("xx", "")];
+    const STEPS: [Step; 3] = [Step::Fill, Step::Load("y", ""), Step::Load("xx", "")];
     let wanted = "refused: there are 1,024 sources\nLoaded { start: None }\n";
-    play(&rt, rt.alloc(), &steps, wanted)
+    play(&rt, rt.alloc(), &STEPS, wanted)
 }
 
 #[test]

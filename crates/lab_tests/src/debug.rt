@@ -31,7 +31,7 @@ fn with_cell(
 
 #[test]
 fn a_breakpoint_in_a_routine_and_a_step_out(rt: HostRuntime) -> Result<(), AllocError> {
-    let steps = [
+    const STEPS: [Step; 7] = [
         Step::Lines("p", &[3]),
         Step::Start(0),
         Step::Slice(10),
@@ -52,12 +52,12 @@ Accepted
 1 main 2 p 0003
 of 1
 ";
-    with_cell(&rt, rt.alloc(), CALL, &steps, wanted)
+    with_cell(&rt, rt.alloc(), CALL, &STEPS, wanted)
 }
 
 #[test]
 fn a_step_over_a_call(rt: HostRuntime) -> Result<(), AllocError> {
-    let steps = [
+    const STEPS: [Step; 6] = [
         Step::Lines("p", &[1]),
         Step::Start(0),
         Step::Slice(10),
@@ -73,13 +73,13 @@ Accepted
 2 Stop(Step)
 0003 0000 Off 0
 ";
-    with_cell(&rt, rt.alloc(), CALL, &steps, wanted)
+    with_cell(&rt, rt.alloc(), CALL, &STEPS, wanted)
 }
 
 #[test]
 fn a_step_in_by_instruction_and_by_line(rt: HostRuntime) -> Result<(), AllocError> {
     let cell = "MAIN: LXI H,1\nDB 0,0\nHLT\nEND MAIN";
-    let steps = [
+    const STEPS: [Step; 11] = [
         Step::Lines("p", &[1]),
         Step::Start(0),
         Step::Slice(10),
@@ -106,12 +106,12 @@ Accepted
 1 Stop(Step)
 0005 0000 Off 0
 ";
-    with_cell(&rt, rt.alloc(), cell, &steps, wanted)
+    with_cell(&rt, rt.alloc(), cell, &STEPS, wanted)
 }
 
 #[test]
 fn a_breakpoint_in_a_recursion(rt: HostRuntime) -> Result<(), AllocError> {
-    let steps = [
+    const STEPS: [Step; 10] = [
         Step::Lines("p", &[5]),
         Step::Start(0),
         Step::Slice(10),
@@ -147,13 +147,13 @@ Accepted
 1 REC 6 p 000A
 of 2
 ";
-    with_cell(&rt, rt.alloc(), RECURSION, &steps, wanted)
+    with_cell(&rt, rt.alloc(), RECURSION, &STEPS, wanted)
 }
 
 // The routine's inner call is on the line where the Step begins, and isn't stopped in.
 #[test]
 fn a_step_over_a_recursive_call(rt: HostRuntime) -> Result<(), AllocError> {
-    let steps = [
+    const STEPS: [Step; 7] = [
         Step::Lines("p", &[5]),
         Step::Start(0),
         Step::Slice(10),
@@ -171,13 +171,13 @@ Accepted
 1 REC 6 p 000A
 of 2
 ";
-    with_cell(&rt, rt.alloc(), RECURSION, &steps, wanted)
+    with_cell(&rt, rt.alloc(), RECURSION, &STEPS, wanted)
 }
 
 // A load changes where a line begins: the bits follow it.
 #[test]
 fn breakpoints_follow_the_loads(rt: HostRuntime) -> Result<(), AllocError> {
-    let steps = [
+    const STEPS: [Step; 9] = [
         Step::Lines("p", &[1]),
         Step::Load("q", RECURSION),
         Step::Start(0),
@@ -199,12 +199,12 @@ Started
 0 Stop(Breakpoint)
 refused: a program runs
 ";
-    with_cell(&rt, rt.alloc(), CALL, &steps, wanted)
+    with_cell(&rt, rt.alloc(), CALL, &STEPS, wanted)
 }
 
 #[test]
 fn a_stop_after_the_last_step_is_told_by_that_slice(rt: HostRuntime) -> Result<(), AllocError> {
-    let steps = [
+    const STEPS: [Step; 6] = [
         Step::Lines("p", &[3]),
         Step::Start(0),
         Step::Slice(1),
@@ -220,13 +220,13 @@ Accepted
 1 Stop(Step)
 0003 0000 Off 0
 ";
-    with_cell(&rt, rt.alloc(), CALL, &steps, wanted)
+    with_cell(&rt, rt.alloc(), CALL, &STEPS, wanted)
 }
 
 // A Detach lets the run go on, which is no Resume: the breakpoint is met again where it stood.
 #[test]
 fn a_detach_is_no_resume(rt: HostRuntime) -> Result<(), AllocError> {
-    let steps = [
+    const STEPS: [Step; 10] = [
         Step::Lines("p", &[3]),
         Step::Start(0),
         Step::Slice(10),
@@ -250,13 +250,13 @@ line 3 true
 Accepted
 2 End(Halted)
 ";
-    with_cell(&rt, rt.alloc(), CALL, &steps, wanted)
+    with_cell(&rt, rt.alloc(), CALL, &STEPS, wanted)
 }
 
 // What drops a Step: a Detach, a Pause, the run's end.
 #[test]
 fn a_step_is_dropped(rt: HostRuntime) -> Result<(), AllocError> {
-    let steps = [
+    const STEPS: [Step; 12] = [
         Step::Lines("p", &[1]),
         Step::Start(0),
         Step::Slice(10),
@@ -284,12 +284,12 @@ Accepted
 Accepted
 2 End(Halted)
 ";
-    with_cell(&rt, rt.alloc(), CALL, &steps, wanted)
+    with_cell(&rt, rt.alloc(), CALL, &STEPS, wanted)
 }
 
 #[test]
 fn a_step_out_with_no_frame_never_ends(rt: HostRuntime) -> Result<(), AllocError> {
-    let steps = [
+    const STEPS: [Step; 5] = [
         Step::Lines("p", &[1]),
         Step::Start(0),
         Step::Slice(10),
@@ -297,12 +297,12 @@ fn a_step_out_with_no_frame_never_ends(rt: HostRuntime) -> Result<(), AllocError
         Step::Slice(10),
     ];
     let wanted = "line 1 true\nStarted\n0 Stop(Breakpoint)\nAccepted\n3 End(Halted)\n";
-    with_cell(&rt, rt.alloc(), CALL, &steps, wanted)
+    with_cell(&rt, rt.alloc(), CALL, &STEPS, wanted)
 }
 
 #[test]
 fn a_run_is_paused_and_resumed(rt: HostRuntime) -> Result<(), AllocError> {
-    let steps = [
+    const STEPS: [Step; 22] = [
         Step::Load("p", "X: JMP X\nEND X"),
         Step::Pause,
         Step::Attach,
@@ -351,14 +351,14 @@ Accepted
 7 More
 Interrupted
 ";
-    play(&rt, rt.alloc(), &steps, wanted)
+    play(&rt, rt.alloc(), &STEPS, wanted)
 }
 
 // Halted comes before a breakpoint, a breakpoint before a Step, and both before the wait.
 #[test]
 fn reasons_come_by_rank(rt: HostRuntime) -> Result<(), AllocError> {
     let cell = "MAIN: HLT\nEI\nHLT\nNOP\nEND MAIN";
-    let steps = [
+    const STEPS: [Step; 11] = [
         Step::Lines("p", &[2, 4]),
         Step::Start(0),
         Step::Slice(10),
@@ -385,14 +385,14 @@ Accepted
 Accepted
 0 Waiting
 ";
-    with_cell(&rt, rt.alloc(), cell, &steps, wanted)
+    with_cell(&rt, rt.alloc(), cell, &STEPS, wanted)
 }
 
 // An accepted request is a call for a Step over and for the frames.
 #[test]
 fn a_step_over_an_accepted_request(rt: HostRuntime) -> Result<(), AllocError> {
     let cell = "MAIN: EI\nNOP\nNOP\nHLT\nORG 8\nRET\nEND MAIN";
-    let steps = [
+    const STEPS: [Step; 9] = [
         Step::Lines("p", &[3]),
         Step::Start(0),
         Step::Slice(10),
@@ -413,12 +413,12 @@ Accepted
 1 Stop(Step)
 0002 0000 Off 0
 ";
-    with_cell(&rt, rt.alloc(), cell, &steps, wanted)
+    with_cell(&rt, rt.alloc(), cell, &STEPS, wanted)
 }
 
 #[test]
 fn lists_keep_their_order(rt: HostRuntime) -> Result<(), AllocError> {
-    let steps = [
+    const STEPS: [Step; 15] = [
         Step::Lines("x", &[1]),
         Step::Dump("a", "NOP\nNOP\n"),
         Step::Dump("b", "FOO"),
@@ -460,12 +460,12 @@ a [4294967295]
 FOO
 refused: no text has this path
 ";
-    play(&rt, rt.alloc(), &steps, wanted)
+    play(&rt, rt.alloc(), &STEPS, wanted)
 }
 
 #[test]
 fn no_debugger_meets_no_breakpoint(rt: HostRuntime) -> Result<(), AllocError> {
-    let steps = [
+    const STEPS: [Step; 4] = [
         Step::Load("p", CALL),
         Step::Lines("p", &[1, 2, 3]),
         Step::Start(0),
@@ -479,14 +479,14 @@ line 3 true
 Started
 3 End(Halted)
 ";
-    play(&rt, rt.alloc(), &steps, wanted)
+    play(&rt, rt.alloc(), &STEPS, wanted)
 }
 
 // Code that writes over itself keeps its origin, and its breakpoint is met.
 #[test]
 fn an_overwritten_statement_keeps_its_breakpoint(rt: HostRuntime) -> Result<(), AllocError> {
     let cell = "MAIN: MVI A,76H\nSTA X\nX: NOP\nEND MAIN";
-    let steps = [
+    const STEPS: [Step; 6] = [
         Step::Lines("p", &[3]),
         Step::Start(0),
         Step::Slice(10),
@@ -502,13 +502,13 @@ Started
 Accepted
 1 End(Halted)
 ";
-    with_cell(&rt, rt.alloc(), cell, &steps, wanted)
+    with_cell(&rt, rt.alloc(), cell, &STEPS, wanted)
 }
 
 #[test]
 fn views_at_their_ends(rt: HostRuntime) -> Result<(), AllocError> {
     let cell = "ORG 0FFFFH\nDB 0C3H\nEND 0";
-    let steps = [
+    const STEPS: [Step; 5] = [
         Step::Variables(5, 0xffff, 5),
         Step::Variables(5, 65_536, 0),
         Step::Variables(6, 0, 0),
@@ -522,5 +522,5 @@ refused: there are the references 1 to 5
 FFFF C3 00 00 JMP 00000H
 0002 00 NOP
 ";
-    with_cell(&rt, rt.alloc(), cell, &steps, wanted)
+    with_cell(&rt, rt.alloc(), cell, &STEPS, wanted)
 }

@@ -69,17 +69,19 @@ fn dump(alloc: Global, path: &str, text: &str) -> Result<Event, AllocError>
     Ok(Event::Dump { path, text })
 }
 
-// No more lines than a source may have.
-fn set_breakpoints(alloc: Global, path: &str, lines: &[u32]) -> Result<Event, AllocError>
-    ensures { IfOk result (λ event. Fits event) }
+// No event, where there are more lines than a source may have.
+fn set_breakpoints(alloc: Global, path: &str, lines: &[u32]) -> Result<Option<Event>, AllocError>
+    ensures { IfOk result (λ event. IfSome event (λ event. Fits event)) }
 {
     let path = Text::copy_of(alloc, path)?;
     let mut all = Sequence::new(alloc);
     for line in lines {
         all.push(*line)?;
     }
-    all.truncate(256);
-    Ok(Event::SetBreakpoints { path, lines: all })
+    if all.len() > 256 {
+        return Ok(None);
+    }
+    Ok(Some(Event::SetBreakpoints { path, lines: all }))
 }
 
 fn view(alloc: Global, step: Step) -> Result<Option<View>, AllocError> {
@@ -118,7 +120,7 @@ fn event(alloc: Global, step: Step) -> Result<Option<Event>, AllocError>
         }),
         Step::Interrupt => Event::Interrupt,
         Step::Reset => Event::Reset,
-        Step::Lines(path, lines) => set_breakpoints(alloc, path, lines)?,
+        Step::Lines(path, lines) => return set_breakpoints(alloc, path, lines),
         Step::Attach => Event::Attach,
         Step::Detach => Event::Detach,
         Step::Typed(text) => Event::Typed(Bytes::copy_of(alloc, text.as_bytes())?),
