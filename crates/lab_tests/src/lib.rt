@@ -1,4 +1,4 @@
-// The tests of lab_frames, lab_image, lab_breaks, lab_views and lab_core, apart from them: a crate is
+// The tests of lab_frames, lab_image, lab_breaks and lab_core, apart from them: a crate is
 // proved once more with the tests that stand in it. Live frames over a few steps, origins after a few
 // loads, boards over a few events, and what a debugger is answered.
 #![tactic(auto)]
@@ -15,5 +15,3 @@ mod frames;
 mod origins;
 #[cfg(test)]
 mod script;
-#[cfg(test)]
-mod views;
