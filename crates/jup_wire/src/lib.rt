@@ -6,6 +6,7 @@
 // ones are.
 #![tactic(auto)]
 
+pub mod channel;
 pub mod message;
 pub mod opening;
 pub mod sealing;

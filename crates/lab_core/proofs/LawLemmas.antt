@@ -66,6 +66,10 @@ ends n b zero j is none = ends-all n b j (omega arith) none
 ends n b (suc more) j is none =
     ends-by (reason (after_steps j b)) n b j (slice_from more (j + 1) b) (omega arith) none refl (ends n b more (j + 1) (omega arith))
 
+-- it makes no more steps than it may
+pub slice_within : (n : ℕ) (b : Board) → (slice_from n 0 b).0 ≤ n
+slice_within n b = (ends n b n 0 (omega arith) (λ i below. absurd (omega arith))).within
+
 -- ---- an event
 
 slices-given : (run : RunState) (n : ℕ) (b new : Board) (reply : Result Answer EventFault) → SlicesRun run n b reply new

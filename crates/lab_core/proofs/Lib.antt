@@ -4,3 +4,4 @@ pub mod StandsLemmas
 pub mod LabLemmas
 pub mod EventLemmas
 pub mod LawLemmas
+pub mod GivenLemmas

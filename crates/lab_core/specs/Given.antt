@@ -1,5 +1,6 @@
 -- The one answer to an event, and the board after it, as a function.
-use Rattle.std.specs.Prelude.{◌≡◌, ℕ, zero, suc, ◌+◌, Option, Some, None, Ok, unwrap_or}
+use Rattle.std.specs.Prelude.{◌≡◌, ℕ, zero, suc, ◌+◌, List, [], Option, Some, None, Ok, unwrap_or}
+use Rattle.i80_exec.specs.declared.ports.PortOperation.{PortOperation}
 use Rattle.i80_devs.specs.Past.{Typed, Switches}
 use Rattle.lab_views.specs.Views.{shown}
 use Rattle.lab_core.specs.declared.event.Event.{Event}
@@ -24,6 +25,7 @@ slice_from (suc more) k b = or_goes_on (reason (after_steps k b)) k (slice_from 
 abbrev pub sliced_at : Board → ℕ × SliceOutcome → Answer × Board
 sliced_at b (k, ending) = (answer.Sliced k (traffic_of k b) ending, left_by ending (after_steps k b))
 
+-- what each event gives
 abbrev pub given : Event → Board → Given
 given (event.Load path text) b = without_run b.run (loaded (record { path = path; text = text }) b)
 given (event.Dump path text) b = dumped (record { path = path; text = text }) b
@@ -41,3 +43,8 @@ given (event.Typed bytes) b = Ok (answer.Accepted, with_operation (Typed bytes) 
 given (event.Switches byte) b = Ok (answer.Accepted, with_operation (Switches byte) b)
 given (event.Press n) b = pressed n b
 given (event.Show view) b = as_answer (shown view (parts_of b)) b
+
+-- the port operations that an answer tells
+abbrev pub traffic_in : Answer → List PortOperation
+traffic_in (answer.Sliced k traffic ending) = traffic
+traffic_in _ = []

@@ -1,5 +1,5 @@
 -- Which boards a lab stands for.
-use Rattle.std.specs.Prelude.{◌≡◌, ◌≢◌, ◌≤◌, ℕ, List, [], ◌++◌, length, Bool, true, false, Option, None, IsSome, is_some, unwrap_or, Result, Err}
+use Rattle.std.specs.Prelude.{◌≡◌, ◌≢◌, ◌≤◌, ℕ, List, [], ◌++◌, length, Bool, true, false, Option, None, IsSome, is_some, unwrap_or, Result, Ok, Err}
 use Rattle.std.specs.List.{filter}
 use Rattle.i80_exec.specs.State.{MachineState}
 use Rattle.i80_exec.specs.declared.ports.PortOperation.{PortOperation}
@@ -106,3 +106,13 @@ AppliesTo old event reply new =
 abbrev pub RunsOn : LabState → List Event → List (Result Answer EventFault) → LabState → Type 0
 RunsOn old events replies new =
     (b : Board) → StandsFor old b → (b' : Board) × Runs b events replies b' × StandsFor new b'
+
+-- What a function gives of a board is answered, and the lab stands for the board that it gives, or where it refuses
+-- for the one before.
+abbrev pub Did : {A : Type 0} → Board → Result (A × Board) EventFault → Result A EventFault → LabState → Type 0
+Did b (Ok (x, b')) result new = (result ≡ Ok x) × StandsFor new b'
+Did b (Err fault) result new = (result ≡ Err fault) × StandsFor new b
+
+-- so for whatever board the old lab stands for, but where memory was wanting
+abbrev pub Does : {A : Type 0} → (Board → Result (A × Board) EventFault) → LabState → Result A EventFault → LabState → Type 0
+Does f old result new = (b : Board) → StandsFor old b → result ≢ Err OutOfMemory → Did b (f b) result new

@@ -3,7 +3,7 @@ use base_text::sequence::{Bytes, Sequence};
 use base_text::text::Text;
 
 /// A frame of the run.
-#[derive(Drop, Debug)]
+#[derive(Clone, Drop, Debug)]
 pub struct StackFrame {
     /// 1 for the innermost, and one more for each that is further out.
     pub id: u32,
@@ -18,14 +18,14 @@ pub struct StackFrame {
 }
 
 /// A variable as it is shown.
-#[derive(Drop, Debug)]
+#[derive(Clone, Drop, Debug)]
 pub struct Variable {
     pub name: Text,
     pub value: Text,
 }
 
 /// A line of disassembly.
-#[derive(Drop, Debug)]
+#[derive(Clone, Drop, Debug)]
 pub struct CodeLine {
     pub address: u16,
     /// The bytes that it shows, 1 to 3.
@@ -35,7 +35,7 @@ pub struct CodeLine {
 }
 
 /// The breakpoints of a source.
-#[derive(Drop, Debug)]
+#[derive(Clone, Drop, Debug)]
 pub struct SourceBreakpoints {
     pub path: Text,
     pub lines: Sequence<u32>,

@@ -1,9 +1,10 @@
 //! The events of a board, one by one and in turn.
-ghost use Rattle.std.specs.Prelude.{◌≡◌, ◌<◌, [], List, All, length, take, false, None, OnErr, IfOk, IfErr, IsTrue, ◌↔◌, Err};
+ghost use Rattle.std.specs.Prelude.{◌≡◌, ◌<◌, ◌≤◌, ℕ, [], List, All, length, take, false, None, OnErr, IfOk, IfErr, IsTrue, ◌↔◌, Err};
 ghost use Rattle.lab_core.specs.Board.{Board};
 ghost use Rattle.lab_core.specs.Events.{Runs, Fits, ended};
 ghost use Rattle.lab_core.specs.Memory.{MayLackMemory};
-ghost use Rattle.lab_core.specs.Labs.{StandsFor, AppliesTo, RunsOn};
+ghost use Rattle.lab_core.specs.Given.{given, traffic_in};
+ghost use Rattle.lab_core.specs.Labs.{StandsFor, AppliesTo, Does, RunsOn};
 
 use crate::answer::{Answer, Answers, EventsFault};
 use crate::event::Event;
@@ -26,6 +27,18 @@ impl Lab {
     /// `BadFrame`, and `Vector` before `Latched`. Those come before out of memory, which may come on
     /// the way to a cell's fault.
     pub fn apply(&mut self, event: &Event) -> Result<Answer, EventFault>
+        requires { Fits event.now }
+        ensures applied { AppliesTo self.old event.now result self.new }
+        ensures given { Does (given event.now) self.old result self.new }
+        ensures few { (n : ℕ) (b : Board) → event.now ≡ Event.Slice n → StandsFor self.old b
+            → IfOk result (λ answer. length (traffic_in answer) ≤ n) }
+        ensures err { OnErr result (self.new ≡ self.old) }
+        ensures memory { result ≡ Err EventFault.OutOfMemory → MayLackMemory event.now self.old }
+    {
+        self.apply_one(event)
+    }
+
+    fn apply_one(&mut self, event: &Event) -> Result<Answer, EventFault>
         requires { Fits event.now }
         ensures applied { AppliesTo self.old event.now result self.new }
         ensures err { OnErr result (self.new ≡ self.old) }

@@ -1,4 +1,10 @@
+use Rattle.lab_core.proofs.GivenLemmas.{does_given, few_operations}
 use Rattle.lab_core.proofs.lab.Lab.apply.Goals as goal
 
-pub returns-in-Load-clause-applied : goal.returns-in-Load-clause-applied
-returns-in-Load-clause-applied c = rw (c.in-Load.is, ← c.as_str.ensures, ← c.as_str-in-Load.ensures) c.load.ensures.applied
+pub returns-clause-given : goal.returns-clause-given
+returns-clause-given c =
+    does_given c.args.self.now c.apply_one.new.self c.args.event.now c.apply_one.result c.apply_one.ensures.applied
+
+pub returns-clause-few : goal.returns-clause-few
+returns-clause-few c =
+    few_operations c.args.self.now c.apply_one.new.self c.args.event.now c.apply_one.result c.apply_one.ensures.applied
