@@ -17,11 +17,11 @@ use Rattle.serde_json.specs.Data.{
   member,
 }
 use Rattle.serde_json.specs.View.{items_of}
-use Rattle.dap_answers.specs.declared.answer.Breakpoint.{Breakpoint}
-use Rattle.dap_answers.specs.declared.answer.StackFrame.{StackFrame}
-use Rattle.dap_answers.specs.declared.answer.Variable.{Variable}
-use Rattle.dap_answers.specs.declared.answer.Instruction.{Instruction}
-use Rattle.dap_answers.specs.declared.answer.SourceBreakpoints.{SourceBreakpoints}
+use Rattle.lab_core.specs.declared.answer.Breakpoint.{Breakpoint}
+use Rattle.lab_views.specs.declared.shown.StackFrame.{StackFrame}
+use Rattle.lab_views.specs.declared.shown.Variable.{Variable}
+use Rattle.lab_views.specs.declared.shown.CodeLine.{CodeLine}
+use Rattle.lab_views.specs.declared.shown.SourceBreakpoints.{SourceBreakpoints}
 use Rattle.dap_answers.specs.declared.answer.DebugState.{DebugState}
 use Rattle.dap_answers.specs.declared.answer.Body.{Body}
 use Rattle.dap_answers.specs.declared.answer.Body.TheVariants as body
@@ -69,7 +69,7 @@ source_json path = object_of ((codes "path", string path) ∷ [])
 abbrev pub breakpoint_json : Breakpoint → Data
 breakpoint_json b = object_of (
     (codes "line", whole_number b.line) ∷
-    (codes "verified", boolean b.verified) ∷ [])
+    (codes "verified", boolean b.is_verified) ∷ [])
 
 -- what a frame has, with a source or without one
 abbrev pub bare_frame : StackFrame → List (List ℕ × Data)
@@ -94,7 +94,7 @@ variable_json v = object_of (
     (codes "value", string v.value) ∷
     (codes "variablesReference", whole_number 0) ∷ [])
 
-abbrev pub instruction_json : Instruction → Data
+abbrev pub instruction_json : CodeLine → Data
 instruction_json i = object_of (
     (codes "address", string (reference i.address)) ∷
     (codes "instruction", string i.text) ∷

@@ -1,52 +1,14 @@
 //! Typed answers: responses with their bodies, and events.
 ghost use Rattle.std.specs.Prelude.{◌≡◌};
 
-use base_text::sequence::{Bytes, Sequence};
+use base_text::sequence::Sequence;
 use base_text::text::Text;
-
-/// A breakpoint that was asked for, and whether its source has the line.
-#[derive(Clone, Copy, PartialEq, Eq, Debug)]
-pub struct Breakpoint {
-    pub line: u32,
-    pub verified: bool,
-}
-
-/// A frame of the stack (Debug Adapter Protocol, "Types": StackFrame). Where no source is known,
-/// the line is 0 by custom; the column is always 1.
-#[derive(Debug, Drop)]
-pub struct StackFrame {
-    pub id: u32,
-    pub name: Text,
-    pub source: Option<Text>,
-    pub line: u32,
-    pub address: u16,
-}
-
-/// A variable as it is shown.
-#[derive(Debug, Drop)]
-pub struct Variable {
-    pub name: Text,
-    pub value: Text,
-}
-
-/// A line of disassembly.
-#[derive(Debug, Drop)]
-pub struct Instruction {
-    pub address: u16,
-    pub bytes: Sequence<u8>,
-    pub text: Text,
-}
-
-/// The breakpoints of a source.
-#[derive(Debug, Drop)]
-pub struct SourceBreakpoints {
-    pub path: Text,
-    pub lines: Sequence<u32>,
-}
+use lab_core::answer::Breakpoint;
+use lab_views::shown::{CodeLine, SourceBreakpoints, StackFrame, Variable};
 
 /// The state of debugging (Jupyter messaging, `debugInfo`): whether a frontend is attached, whether
 /// the thread is stopped, and the sources that have breakpoints.
-#[derive(Debug, Drop)]
+#[derive(Clone, Debug, Drop)]
 pub struct DebugState {
     pub is_attached: bool,
     pub is_stopped: bool,
@@ -54,7 +16,7 @@ pub struct DebugState {
 }
 
 /// The body of a successful response (Debug Adapter Protocol, "Requests").
-#[derive(Debug, Drop)]
+#[derive(Clone, Debug, Drop)]
 pub enum Body {
     /// Of commands that answer nothing but that they were done.
     Empty,
@@ -73,7 +35,7 @@ pub enum Body {
     Variables(Sequence<Variable>),
     /// Of `continue`.
     Continued,
-    Instructions(Sequence<Instruction>),
+    Instructions(Sequence<CodeLine>),
     /// The text of a source.
     Content(Text),
     /// Of `dumpCell`: the path of the cell.
@@ -82,14 +44,14 @@ pub enum Body {
 }
 
 /// How a request was answered: done, or refused with a message.
-#[derive(Debug, Drop)]
+#[derive(Clone, Debug, Drop)]
 pub enum Outcome {
     Success(Body),
     Refused(Text),
 }
 
 /// An answer to the request with this number and command.
-#[derive(Debug, Drop)]
+#[derive(Clone, Debug, Drop)]
 pub struct Response {
     pub request_seq: u32,
     pub command: Text,

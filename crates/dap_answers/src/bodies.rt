@@ -16,10 +16,11 @@ ghost use Rattle.dap_answers.specs.Json.{
   body_json,
 };
 
-use crate::answer::{Body, DebugState, StackFrame};
+use crate::answer::{Body, DebugState};
 use crate::cell::{PREFIX, SUFFIX};
 use crate::json::{ToJson, array_of};
 use crate::object::Object;
+use lab_views::shown::StackFrame;
 use serde_json::Value;
 use std::alloc::{AllocError, Global};
 

@@ -20,9 +20,10 @@ ghost use Rattle.dap_answers.specs.Json.{
   source_breakpoints_json,
 };
 
-use crate::answer::{Breakpoint, Instruction, SourceBreakpoints, StackFrame, Variable};
 use crate::object::Object;
 use base_text::hexadecimal::{push_byte, push_lower_word};
+use lab_core::answer::Breakpoint;
+use lab_views::shown::{CodeLine, SourceBreakpoints, StackFrame, Variable};
 use serde_json::Value;
 use std::alloc::{AllocError, Global};
 
@@ -51,7 +52,7 @@ impl ToJson for Breakpoint {
     fn to_json(&self, alloc: Global) -> Result<Value, AllocError> {
         let object = Object::new(alloc)
             .number("line", u64::from(self.line))?
-            .flag("verified", self.verified)?;
+            .flag("verified", self.is_verified)?;
         Ok(object.into_value())
     }
 }
@@ -125,7 +126,7 @@ fn spaced_bytes(alloc: Global, bytes: &[u8]) -> Result<Value, AllocError>
     Ok(Value::from(text))
 }
 
-impl ToJson for Instruction {
+impl ToJson for CodeLine {
     ghost json = { instruction_json };
 
     fn to_json(&self, alloc: Global) -> Result<Value, AllocError> {
@@ -158,7 +159,7 @@ fn bare_frame(alloc: Global, frame: &StackFrame) -> Result<Object, AllocError>
         )?
         .number("id", u64::from(frame.id))?
         .text("name", frame.name.as_str())?
-        .number("line", u64::from(frame.line))?
+        .number("line", frame.line as u64)?
         .number("column", 1)
 }
 

@@ -1,11 +1,10 @@
 //! The JSON of responses and events, as frontends read it.
 use base_text::sequence::Sequence;
 use base_text::text::Text;
-use dap_answers::answer::{
-    Body, Breakpoint, DebugState, Event, Instruction, Outcome, Response, SourceBreakpoints,
-    StackFrame, StopReason, Variable,
-};
+use dap_answers::answer::{Body, DebugState, Event, Outcome, Response, StopReason};
 use dap_answers::sending::{event, response};
+use lab_core::answer::Breakpoint;
+use lab_views::shown::{CodeLine, SourceBreakpoints, StackFrame, Variable};
 use std::alloc::{AllocError, Global};
 use std::process::Abort;
 use std::test::Fail;
@@ -18,7 +17,7 @@ enum Shape {
     Breakpoints(&'static [Breakpoint]),
     Threads,
     // Number, name, path or an empty text, line and address; and how many there are in all.
-    StackTrace(&'static [(u32, &'static str, &'static str, u32, u16)], u32),
+    StackTrace(&'static [(u32, &'static str, &'static str, usize, u16)], u32),
     Scopes,
     // Name and value.
     Variables(&'static [(&'static str, &'static str)]),
@@ -33,7 +32,7 @@ enum Shape {
 
 fn frames(
     alloc: Global,
-    rows: &[(u32, &str, &str, u32, u16)],
+    rows: &[(u32, &str, &str, usize, u16)],
 ) -> Result<Sequence<StackFrame>, AllocError> {
     let mut frames = Sequence::new(alloc);
     for (id, name, path, line, address) in rows {
@@ -67,10 +66,10 @@ fn variables(alloc: Global, rows: &[(&str, &str)]) -> Result<Sequence<Variable>,
 fn instructions(
     alloc: Global,
     rows: &[(u16, &[u8], &str)],
-) -> Result<Sequence<Instruction>, AllocError> {
+) -> Result<Sequence<CodeLine>, AllocError> {
     let mut instructions = Sequence::new(alloc);
     for (address, bytes, text) in rows {
-        instructions.push(Instruction {
+        instructions.push(CodeLine {
             address: *address,
             bytes: Sequence::copy_of(alloc, *bytes)?,
             text: Text::copy_of(alloc, *text)?,
@@ -147,11 +146,11 @@ const BODIES: [(Shape, &str); 14] = [
         Shape::Breakpoints(&[
             Breakpoint {
                 line: 3,
-                verified: true,
+                is_verified: true,
             },
             Breakpoint {
                 line: 90,
-                verified: false,
+                is_verified: false,
             },
         ]),
         "{\"breakpoints\":[{\"line\":3,\"verified\":true},{\"line\":90,\"verified\":false}]}",

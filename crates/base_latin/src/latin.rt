@@ -1,0 +1,36 @@
+//! The two ways between a text and its bytes in ISO 8859-1.
+ghost use Rattle.std.specs.Prelude.{◌≡◌, IfOk, string_bytes};
+ghost use Rattle.base_latin.specs.Latin.{latin_byte, latin_bytes, latin_text};
+
+use base_text::sequence::Bytes;
+use std::alloc::{AllocError, Global};
+
+/// The byte of a character.
+fn byte_of(character: char) -> u8
+    ensures { result ≡ latin_byte character }
+{
+    u8::try_from(u32::from(character)).unwrap_or(b'?')
+}
+
+/// Each character as the byte of its number, or as `?` above U+00FF.
+pub fn to_bytes(alloc: Global, text: &str) -> Result<Bytes, AllocError>
+    ensures { IfOk result (λ bytes. bytes ≡ latin_bytes text.now) }
+{
+    let mut bytes = Vec::new(alloc);
+    for character in text.chars() {
+        bytes.push(byte_of(character))?;
+    }
+    Ok(Bytes::from(bytes))
+}
+
+/// Each byte as the character of that number.
+#[tactic(auto, using(crate::proofs::LatinLemmas::one_more), unfolding(crate::specs::Latin::latin_text))]
+pub fn to_text(alloc: Global, bytes: &[u8]) -> Result<String, AllocError>
+    ensures { IfOk result (λ text. string_bytes text ≡ latin_text bytes.now) }
+{
+    let mut text = String::new(alloc);
+    for byte in bytes {
+        text.push(char::from(*byte))?;
+    }
+    Ok(text)
+}

@@ -1,0 +1,15 @@
+-- Debug requests that are refused.
+use Rattle.std.proofs.Common.{◌≡◌, ◌≢◌, Err, refl}
+use Rattle.dap_talk.specs.declared.fault.DapFault.{DapFault}
+use Rattle.dap_talk.specs.declared.fault.DapFault.TheVariants as fault
+use Rattle.dap_talk.specs.Fault.{refused}
+use Rattle.dap_talk.specs.Reading.{Reading, Answers}
+use Rattle.kern_ask.specs.declared.ask.Ask.TheVariants.{BadDebug}
+use Rattle.kern_ask.specs.Asks.{debug_asked}
+
+pub bad_debug : (reading : Reading) (f : DapFault) → f ≢ fault.OutOfMemory → Answers reading (Err f)
+    → debug_asked reading ≡ BadDebug (refused f)
+bad_debug reading fault.OutOfMemory other answers = absurd (other refl)
+bad_debug reading fault.NotRequest other answers = rw answers refl
+bad_debug reading (fault.Command seq command) other answers = rw answers refl
+bad_debug reading (fault.Arguments seq command) other answers = rw answers refl

@@ -1,0 +1,171 @@
+//! From a message to what it asks for.
+ghost use Rattle.std.specs.Prelude.{◌≡◌, IfOk};
+ghost use Rattle.serde_json.specs.View.{view};
+ghost use Rattle.dap_talk.specs.Reading.{reading};
+ghost use Rattle.kern_ask.specs.declared.ask.NeedyRequest.{NeedyRequest};
+ghost use Rattle.kern_ask.specs.Asks.{
+  needed,
+  execute_asked,
+  is_complete_asked,
+  complete_asked,
+  comm_open_asked,
+  shutdown_asked,
+  input_reply_asked,
+  debug_asked,
+  asked_by,
+  ask_of,
+  request_of,
+};
+
+use crate::ask::{Ask, ExecuteRequest, NeedyRequest, Request};
+use crate::content::{text_at, truth_or, whole_at};
+use crate::message_type::MessageType;
+use base_latin::latin::to_bytes;
+use base_text::text::Text;
+use dap_talk::fault::DapFault;
+use dap_talk::reading::read_request;
+use jup_wire::channel::Channel;
+use jup_wire::message::{Message, Parts};
+use serde_json::Value;
+use std::alloc::{AllocError, Global};
+
+fn execute(alloc: Global, content: &Value) -> Result<Ask, AllocError>
+    ensures { IfOk result (λ ask. ask ≡ needed NeedyRequest.Execute (execute_asked (view content.now))) }
+{
+    let Some(code) = text_at(content, "code") else {
+        return Ok(Ask::BadContent(NeedyRequest::Execute));
+    };
+    let Some(is_silent) = truth_or(content, "silent", false) else {
+        return Ok(Ask::BadContent(NeedyRequest::Execute));
+    };
+    let Some(stores_history) = truth_or(content, "store_history", true) else {
+        return Ok(Ask::BadContent(NeedyRequest::Execute));
+    };
+    let Some(allows_stdin) = truth_or(content, "allow_stdin", true) else {
+        return Ok(Ask::BadContent(NeedyRequest::Execute));
+    };
+    let code = Text::copy_of(alloc, code)?;
+    Ok(Ask::Execute(ExecuteRequest {
+        code,
+        is_silent,
+        stores_history,
+        allows_stdin,
+    }))
+}
+
+fn is_complete(alloc: Global, content: &Value) -> Result<Ask, AllocError>
+    ensures { IfOk result
+        (λ ask. ask ≡ needed NeedyRequest.IsComplete (is_complete_asked (view content.now))) }
+{
+    let Some(code) = text_at(content, "code") else {
+        return Ok(Ask::BadContent(NeedyRequest::IsComplete));
+    };
+    let code = Text::copy_of(alloc, code)?;
+    Ok(Ask::IsComplete { code })
+}
+
+fn complete(content: &Value) -> Ask
+    ensures { result ≡ needed NeedyRequest.Complete (complete_asked (view content.now)) }
+{
+    match whole_at(content, "cursor_pos") {
+        Some(cursor_pos) => Ask::Complete { cursor_pos },
+        None => Ask::BadContent(NeedyRequest::Complete),
+    }
+}
+
+fn comm_open(alloc: Global, content: &Value) -> Result<Ask, AllocError>
+    ensures { IfOk result
+        (λ ask. ask ≡ needed NeedyRequest.CommOpen (comm_open_asked (view content.now))) }
+{
+    let Some(comm_id) = text_at(content, "comm_id") else {
+        return Ok(Ask::BadContent(NeedyRequest::CommOpen));
+    };
+    let comm_id = Text::copy_of(alloc, comm_id)?;
+    Ok(Ask::CommOpen { comm_id })
+}
+
+fn shutdown(content: &Value) -> Ask
+    ensures { result ≡ needed NeedyRequest.Shutdown (shutdown_asked (view content.now)) }
+{
+    match truth_or(content, "restart", false) {
+        Some(restarts) => Ask::Shutdown { restarts },
+        None => Ask::BadContent(NeedyRequest::Shutdown),
+    }
+}
+
+fn input_reply(alloc: Global, content: &Value) -> Result<Ask, AllocError>
+    ensures { IfOk result
+        (λ ask. ask ≡ needed NeedyRequest.InputReply (input_reply_asked (view content.now))) }
+{
+    let Some(value) = text_at(content, "value") else {
+        return Ok(Ask::BadContent(NeedyRequest::InputReply));
+    };
+    let mut typed = to_bytes(alloc, value)?;
+    typed.push(b'\n')?;
+    Ok(Ask::InputReply { typed })
+}
+
+#[tactic(auto, using(crate::proofs::DebugLemmas::bad_debug))]
+fn debug(alloc: Global, content: &Value) -> Result<Ask, AllocError>
+    ensures { IfOk result (λ ask. ask ≡ debug_asked (reading (view content.now))) }
+{
+    match read_request(alloc, content) {
+        Ok(request) => Ok(Ask::Debug(request)),
+        Err(DapFault::OutOfMemory) => Err(AllocError),
+        Err(fault) => {
+            let response = fault.to_response(alloc)?;
+            Ok(Ask::BadDebug(response))
+        }
+    }
+}
+
+fn asked_by(alloc: Global, message_type: MessageType, content: &Value) -> Result<Ask, AllocError>
+    ensures { IfOk result (λ ask. ask ≡ asked_by message_type (view content.now)) }
+{
+    match message_type {
+        MessageType::KernelInfo => Ok(Ask::KernelInfo),
+        MessageType::Execute => execute(alloc, content),
+        MessageType::IsComplete => is_complete(alloc, content),
+        MessageType::Complete => Ok(complete(content)),
+        MessageType::Inspect => Ok(Ask::Inspect),
+        MessageType::History => Ok(Ask::History),
+        MessageType::CommInfo => Ok(Ask::CommInfo),
+        MessageType::CommOpen => comm_open(alloc, content),
+        MessageType::Shutdown => Ok(shutdown(content)),
+        MessageType::Interrupt => Ok(Ask::Interrupt),
+        MessageType::Debug => debug(alloc, content),
+        MessageType::InputReply => input_reply(alloc, content),
+    }
+}
+
+/// What a message asks for on its channel (Jupyter messaging 5.4, "Messages on the shell channel" and
+/// the sections that follow it). The content is looked at only as far as the request needs it; then
+/// it must be an object.
+#[tactic(auto, unfolding(crate::specs::Asks::ask_of))]
+pub fn ask_of(alloc: Global, channel: Channel, message: &Message) -> Result<Ask, AllocError>
+    ensures { IfOk result
+        (λ ask. ask ≡ ask_of channel message.now.header.msg_type (view message.now.content)) }
+{
+    match MessageType::named(channel, message.header.msg_type.as_str()) {
+        Some(message_type) => asked_by(alloc, message_type, &message.content),
+        None => Ok(Ask::Unknown),
+    }
+}
+
+/// The request of a message: what it asks for, and its identities and header frame, which are moved
+/// out of it.
+pub fn request_of(alloc: Global, channel: Channel, message: Message) -> Result<Request, AllocError>
+    ensures { IfOk result (λ request. request ≡ request_of channel message) }
+{
+    let ask = ask_of(alloc, channel, &message)?;
+    let Parts {
+        identities,
+        header,
+        ..
+    } = message.parts;
+    Ok(Request {
+        ask,
+        identities,
+        header,
+    })
+}

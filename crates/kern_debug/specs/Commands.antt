@@ -1,0 +1,111 @@
+-- What each debug command makes of a board (Debug Adapter Protocol, "Requests"; Jupyter messaging,
+-- "Debug request").
+use Rattle.std.specs.Prelude.{ℕ, ◌+◌, List, Result, Ok, Err}
+use Rattle.base_latin.specs.Latin.{latin_bytes}
+use Rattle.i80_exec.specs.State.{MachineState, wrapped}
+use Rattle.lab_views.specs.declared.view.View.TheVariants as view
+use Rattle.lab_views.specs.Code.{after_instructions}
+use Rattle.lab_core.specs.declared.answer.Answer.{Answer}
+use Rattle.lab_core.specs.declared.event.Event.{Event}
+use Rattle.lab_core.specs.declared.event.Event.TheVariants as event
+use Rattle.lab_core.specs.declared.event.StepKind.{StepKind as BoardStepKind}
+use Rattle.lab_core.specs.declared.event.StepKind.TheVariants as board_kind
+use Rattle.lab_core.specs.declared.event.Granularity.{Granularity as BoardGranularity}
+use Rattle.lab_core.specs.declared.event.Granularity.TheVariants as board_granularity
+use Rattle.lab_core.specs.declared.event.StepRequest.{StepRequest}
+use Rattle.lab_core.specs.declared.fault.EventFault.{EventFault}
+use Rattle.lab_core.specs.Board.{Board}
+use Rattle.lab_core.specs.Events.{Given}
+use Rattle.lab_core.specs.Given.{given}
+use Rattle.dap_answers.specs.declared.answer.Body.{Body}
+use Rattle.dap_answers.specs.declared.answer.Body.TheVariants as body
+use Rattle.dap_answers.specs.Murmur.{cell_path}
+use Rattle.dap_talk.specs.declared.command.StepKind.{StepKind}
+use Rattle.dap_talk.specs.declared.command.StepKind.TheVariants.{Over, In, Out}
+use Rattle.dap_talk.specs.declared.command.Granularity.{Granularity}
+use Rattle.dap_talk.specs.declared.command.Granularity.TheVariants.{Line, Instruction}
+use Rattle.dap_talk.specs.declared.command.DapCommand.{DapCommand}
+use Rattle.dap_talk.specs.declared.command.DapCommand.TheVariants as command
+use Rattle.kern_debug.specs.Bodies.{body_of}
+
+abbrev pub Performed : Type 0
+Performed = Result (Body × Board) EventFault
+
+-- what an event gives, with a body in place of the answer
+abbrev pub with_body : (Answer → Body) → Given → Performed
+with_body to_body (Ok (answer, b)) = Ok (to_body answer, b)
+with_body to_body (Err fault) = Err fault
+
+-- the event is done, and the body carries its answer
+abbrev pub answered : Event → Board → Performed
+answered event b = with_body body_of (given event b)
+
+-- the event is done, and the body is this one
+abbrev pub done : Event → Body → Board → Performed
+done event body b = with_body (λ _. body) (given event b)
+
+abbrev pub step_kind : StepKind → BoardStepKind
+step_kind Over = board_kind.Over
+step_kind In = board_kind.In
+step_kind Out = board_kind.Out
+
+abbrev pub step_granularity : Granularity → BoardGranularity
+step_granularity Line = board_granularity.Line
+step_granularity Instruction = board_granularity.Instruction
+
+abbrev pub step_request : StepKind → Granularity → StepRequest
+step_request kind granularity = record {
+  kind = step_kind kind;
+  granularity = step_granularity granularity;
+}
+
+-- where the first line of a disassembly stands: so many instructions behind so many bytes behind an address
+abbrev pub first_line : MachineState → ℕ → ℕ → ℕ → ℕ
+first_line m address offset instruction_offset =
+    after_instructions m (wrapped (address + offset)) (wrapped instruction_offset)
+
+abbrev pub disassembled : ℕ → ℕ → ℕ → ℕ → Board → Performed
+disassembled address offset instruction_offset count b =
+    answered (event.Show (view.Code (first_line b.machine address offset instruction_offset) count)) b
+
+-- a cell's text is kept under the path by which a frontend knows it
+abbrev pub dumped : List ℕ → Board → Performed
+dumped code b = done (event.Dump (cell_path code) code) (body.SourcePath (cell_path code)) b
+
+-- what a command makes of a board: the body of its response and the board after it, or why it is refused
+unfoldable pub performed : DapCommand → Board → Performed
+performed command.Initialize b = Ok (body.Capabilities, b)
+performed command.Attach b = done event.Attach body.Empty b
+performed command.Disconnect b = done event.Detach body.Empty b
+performed command.ConfigurationDone b = Ok (body.Empty, b)
+performed (command.SetBreakpoints path lines) b = answered (event.SetBreakpoints path lines) b
+performed command.Threads b = Ok (body.Threads, b)
+performed (command.StackTrace start levels) b = answered (event.Show (view.Frames start levels)) b
+performed (command.Scopes frame) b = answered (event.Show (view.Scopes frame)) b
+performed (command.Variables reference start count) b =
+    answered (event.Show (view.Variables reference start count)) b
+performed command.Continue b = done event.Resume body.Continued b
+performed (command.Step kind granularity) b =
+    done (event.Step (step_request kind granularity)) body.Empty b
+performed command.Pause b = done event.Pause body.Empty b
+performed (command.Disassemble address offset instruction_offset count) b =
+    disassembled address offset instruction_offset count b
+performed (command.Source path) b = answered (event.Show (view.Source path)) b
+performed (command.DumpCell code) b = dumped code b
+performed command.DebugInfo b = answered (event.Show view.Info) b
+performed command.InspectVariables b = answered (event.Show (view.Variables 1 0 0)) b
+performed (command.BoardSwitches value) b = done (event.Switches value) body.Empty b
+performed (command.BoardPress vector) b = done (event.Press vector) body.Empty b
+performed (command.BoardType text) b = done (event.Typed (latin_bytes text)) body.Empty b
+performed command.BoardReset b = done event.Reset body.Empty b
+
+-- the commands that look at the board
+abbrev pub IsLook : DapCommand → Type 0
+IsLook (command.StackTrace start levels) = Unit {0}
+IsLook (command.Scopes frame) = Unit {0}
+IsLook (command.Variables reference start count) = Unit {0}
+IsLook (command.Disassemble address offset instruction_offset count) = Unit {0}
+IsLook (command.Source path) = Unit {0}
+IsLook command.DebugInfo = Unit {0}
+IsLook command.InspectVariables = Unit {0}
+IsLook other = ⊥

@@ -1,0 +1,122 @@
+//! The commands that look at a board and change nothing.
+ghost use Rattle.std.specs.Prelude.{◌≡◌, ◌+◌, OnErr};
+ghost use Rattle.i80_exec.specs.State.{wrapped};
+ghost use Rattle.lab_core.specs.Labs.{Does};
+ghost use Rattle.kern_debug.specs.Commands.{performed, answered, disassembled, IsLook};
+
+use crate::event::answered;
+use base_text::text::Text;
+use dap_answers::answer::Body;
+use dap_talk::command::DapCommand;
+use lab_core::event::Event;
+use lab_core::fault::EventFault;
+use lab_core::lab::Lab;
+use lab_views::view::View;
+
+/// The variables of a frontend's inspector are the registers.
+const REGISTERS: u32 = 1;
+
+/// What a view shows.
+fn show(lab: &mut Lab, view: View) -> Result<Body, EventFault>
+    ensures done { Does (answered (Event.Show view)) lab.old result lab.new }
+    ensures err { OnErr result (lab.new ≡ lab.old) }
+{
+    answered(lab, &Event::Show(view))
+}
+
+fn source(lab: &mut Lab, path: &Text) -> Result<Body, EventFault>
+    ensures done { Does (answered (Event.Show (View.Source path.now))) lab.old result lab.new }
+    ensures err { OnErr result (lab.new ≡ lab.old) }
+{
+    let path = path.clone()?;
+    show(lab, View::Source(path))
+}
+
+fn stack_trace(lab: &mut Lab, start: u32, levels: u32) -> Result<Body, EventFault>
+    ensures done { Does (answered (Event.Show (View.Frames start levels))) lab.old result lab.new }
+    ensures err { OnErr result (lab.new ≡ lab.old) }
+{
+    show(lab, View::Frames { start, levels })
+}
+
+fn variables(lab: &mut Lab, reference: u32, start: u32, count: u32) -> Result<Body, EventFault>
+    ensures done { Does (answered (Event.Show (View.Variables reference start count))) lab.old result lab.new }
+    ensures err { OnErr result (lab.new ≡ lab.old) }
+{
+    show(
+        lab,
+        View::Variables {
+            reference,
+            start,
+            count,
+        },
+    )
+}
+
+/// The address so many bytes behind another. Addresses wrap.
+fn address_after(address: u16, offset: u32) -> u16
+    ensures { result ≡ wrapped (address + offset) }
+{
+    ((u64::from(address) + u64::from(offset)) % 65_536) as u16
+}
+
+fn disassemble(
+    lab: &mut Lab,
+    address: u16,
+    offset: u32,
+    instruction_offset: u32,
+    count: u16,
+) -> Result<Body, EventFault>
+    ensures done { Does (disassembled address offset instruction_offset count) lab.old result lab.new }
+    ensures err { OnErr result (lab.new ≡ lab.old) }
+{
+    // Counted modulo 65,536, so that no offset takes long.
+    let instructions = (instruction_offset % 65_536) as u16;
+    let first = lab.after_instructions(address_after(address, offset), instructions);
+    show(
+        lab,
+        View::Code {
+            address: first,
+            count: u32::from(count),
+        },
+    )
+}
+
+/// The body of a command that looks at the board, or why the board refuses it.
+#[tactic(auto, unfolding(crate::specs::Commands::performed))]
+pub fn look(lab: &mut Lab, command: &DapCommand) -> Result<Body, EventFault>
+    requires { IsLook command.now }
+    ensures done { Does (performed command.now) lab.old result lab.new }
+    ensures err { OnErr result (lab.new ≡ lab.old) }
+{
+    match command {
+        DapCommand::StackTrace {
+            start_frame,
+            levels,
+        } => stack_trace(lab, *start_frame, *levels),
+        DapCommand::Scopes { frame_id } => show(lab, View::Scopes(*frame_id)),
+        DapCommand::Variables {
+            reference,
+            start,
+            count,
+        } => variables(lab, *reference, *start, *count),
+        DapCommand::Disassemble {
+            address,
+            offset,
+            instruction_offset,
+            instruction_count,
+        } => {
+            disassemble(
+                lab,
+                *address,
+                *offset,
+                *instruction_offset,
+                *instruction_count,
+            )
+        }
+        DapCommand::Source { path } => source(lab, path),
+        DapCommand::DebugInfo => show(lab, View::Info),
+        DapCommand::InspectVariables => variables(lab, REGISTERS, 0, 0),
+        _ => unreachable!(),
+    }
+}

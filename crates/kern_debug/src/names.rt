@@ -1,0 +1,52 @@
+//! The names of refusals, and the events that follow commands.
+ghost use Rattle.std.specs.Prelude.{◌≡◌, IfOk};
+ghost use Rattle.kern_debug.specs.Names.{refusal_name, event_after};
+
+use base_text::text::Text;
+use dap_answers::answer::{Event, Outcome, StopReason};
+use dap_talk::command::DapCommand;
+use lab_core::fault::EventFault;
+use std::alloc::{AllocError, Global};
+
+/// The message of a response that refuses a command (Debug Adapter Protocol, "Base Protocol").
+pub fn refusal_name(refusal: EventFault) -> &'static str
+    ensures { result.now ≡ refusal_name refusal }
+{
+    match refusal {
+        EventFault::OutOfMemory => "OutOfMemory",
+        EventFault::NotRunning => "NotRunning",
+        EventFault::NotStopped => "NotStopped",
+        EventFault::Busy => "Busy",
+        EventFault::SourceNameTaken => "SourceNameTaken",
+        EventFault::NoSource => "NoSource",
+        EventFault::Latched => "Latched",
+        EventFault::BadFrame => "BadFrame",
+        EventFault::BadReference => "BadReference",
+        EventFault::Assembly(_) => "Assembly",
+        EventFault::NotAttached => "NotAttached",
+        EventFault::Vector => "Vector",
+        EventFault::SourcesFull => "SourcesFull",
+    }
+}
+
+/// The outcome of a command that is refused so.
+pub fn outcome_of(alloc: Global, refusal: EventFault) -> Result<Outcome, AllocError>
+    ensures { IfOk result (λ outcome. outcome ≡ Outcome.Refused (refusal_name refusal)) }
+{
+    let message = Text::copy_of(alloc, refusal_name(refusal))?;
+    Ok(Outcome::Refused(message))
+}
+
+/// What a frontend is told once a command is done, besides the response (Debug Adapter Protocol,
+/// "Events").
+pub fn event_after(command: &DapCommand) -> Option<Event>
+    ensures { result ≡ event_after command.now }
+{
+    match command {
+        DapCommand::Initialize => Some(Event::Initialized),
+        DapCommand::Continue => Some(Event::Continued),
+        DapCommand::Step { .. } => Some(Event::Continued),
+        DapCommand::Pause => Some(Event::Stopped(StopReason::Pause)),
+        _ => None,
+    }
+}

@@ -1,0 +1,93 @@
+//! Debug commands, each carried out on a board.
+ghost use Rattle.std.specs.Prelude.{◌≡◌, ◌≤◌, length, OnErr};
+ghost use Rattle.lab_core.specs.Labs.{Does};
+ghost use Rattle.dap_talk.specs.Table.{IsBounded};
+ghost use Rattle.base_latin.specs.Latin.{latin_bytes};
+ghost use Rattle.kern_debug.specs.Commands.{performed, answered, done, dumped, step_request};
+
+use crate::event::{answered, done};
+use crate::look::look;
+use crate::step::step_request;
+use base_latin::latin::to_bytes;
+use base_text::sequence::Sequence;
+use base_text::text::Text;
+use dap_answers::answer::Body;
+use dap_answers::cell::cell_path;
+use dap_talk::command::{DapCommand, Granularity, StepKind};
+use lab_core::event::Event;
+use lab_core::fault::EventFault;
+use lab_core::lab::Lab;
+use std::alloc::Global;
+
+fn set_breakpoints(lab: &mut Lab, path: &Text, lines: &Sequence<u32>) -> Result<Body, EventFault>
+    requires { length lines.now ≤ 256 }
+    ensures done { Does (answered (Event.SetBreakpoints path.now lines.now)) lab.old result lab.new }
+    ensures err { OnErr result (lab.new ≡ lab.old) }
+{
+    let path = path.clone()?;
+    let lines = lines.clone()?;
+    answered(lab, &Event::SetBreakpoints { path, lines })
+}
+
+fn step(lab: &mut Lab, kind: StepKind, granularity: Granularity) -> Result<Body, EventFault>
+    ensures done { Does (done (Event.Step (step_request kind granularity)) Body.Empty) lab.old result lab.new }
+    ensures err { OnErr result (lab.new ≡ lab.old) }
+{
+    let request = step_request(kind, granularity);
+    done(lab, &Event::Step(request), Body::Empty)
+}
+
+/// Keeps a cell's text under the path by which a frontend knows it, and answers the path. The copies
+/// are made first, so that want of memory can't come once the text is kept.
+fn dump_cell(alloc: Global, lab: &mut Lab, code: &Text) -> Result<Body, EventFault>
+    ensures done { Does (dumped code.now) lab.old result lab.new }
+    ensures err { OnErr result (lab.new ≡ lab.old) }
+{
+    let path = cell_path(alloc, code.as_str())?;
+    let text = code.clone()?;
+    let answer = path.clone()?;
+    done(lab, &Event::Dump { path, text }, Body::SourcePath(answer))
+}
+
+/// Types a text at the console: each character as its byte in ISO 8859-1, `?` where it has none.
+fn type_text(alloc: Global, lab: &mut Lab, text: &Text) -> Result<Body, EventFault>
+    ensures done { Does (done (Event.Typed (latin_bytes text.now)) Body.Empty) lab.old result lab.new }
+    ensures err { OnErr result (lab.new ≡ lab.old) }
+{
+    let bytes = to_bytes(alloc, text.as_str())?;
+    done(lab, &Event::Typed(bytes), Body::Empty)
+}
+
+/// Carries out a command on a board (Debug Adapter Protocol, "Requests"; Jupyter messaging, "Debug
+/// request"): the body of its response, or why the board refuses it. Where memory is wanting the board
+/// is as it was too.
+#[tactic(auto, unfolding(crate::specs::Commands::performed))]
+pub fn perform(alloc: Global, lab: &mut Lab, command: &DapCommand) -> Result<Body, EventFault>
+    requires { IsBounded command.now }
+    ensures done { Does (performed command.now) lab.old result lab.new }
+    ensures err { OnErr result (lab.new ≡ lab.old) }
+{
+    match command {
+        DapCommand::Initialize => Ok(Body::Capabilities),
+        DapCommand::Attach => done(lab, &Event::Attach, Body::Empty),
+        DapCommand::Disconnect => done(lab, &Event::Detach, Body::Empty),
+        DapCommand::ConfigurationDone => Ok(Body::Empty),
+        DapCommand::SetBreakpoints { path, lines } => set_breakpoints(lab, path, lines),
+        DapCommand::Threads => Ok(Body::Threads),
+        DapCommand::Continue => done(lab, &Event::Resume, Body::Continued),
+        DapCommand::Step { kind, granularity } => step(lab, *kind, *granularity),
+        DapCommand::Pause => done(lab, &Event::Pause, Body::Empty),
+        DapCommand::DumpCell { code } => dump_cell(alloc, lab, code),
+        DapCommand::BoardSwitches { value } => done(lab, &Event::Switches(*value), Body::Empty),
+        DapCommand::BoardPress { vector } => done(lab, &Event::Press(*vector), Body::Empty),
+        DapCommand::BoardType { text } => type_text(alloc, lab, text),
+        DapCommand::BoardReset => done(lab, &Event::Reset, Body::Empty),
+        DapCommand::StackTrace { .. }
+        | DapCommand::Scopes { .. }
+        | DapCommand::Variables { .. }
+        | DapCommand::Disassemble { .. }
+        | DapCommand::Source { .. }
+        | DapCommand::DebugInfo
+        | DapCommand::InspectVariables => look(lab, command),
+    }
+}

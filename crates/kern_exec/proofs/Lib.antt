@@ -1,0 +1,2 @@
+pub mod KitLemmas
+pub mod BoardLemmas

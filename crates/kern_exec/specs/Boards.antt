@@ -1,0 +1,62 @@
+-- What executions ask of the board.
+use Rattle.std.specs.Prelude.{◌≡◌, ℕ, List, Bool, true, false, Option, Some, None, Result, Ok, Err, if◌then◌else◌}
+use Rattle.lab_core.specs.declared.run_state.RunState.{RunState}
+use Rattle.lab_core.specs.declared.run_state.RunState.TheVariants.{NoRun, Running, Stopped}
+use Rattle.lab_core.specs.declared.event.Event.TheVariants.{Load}
+use Rattle.lab_core.specs.declared.answer.Answer.{Answer}
+use Rattle.lab_core.specs.declared.answer.Answer.TheVariants.{Loaded}
+use Rattle.lab_core.specs.declared.answer.SliceOutcome.{SliceOutcome}
+use Rattle.lab_core.specs.declared.fault.EventFault.{EventFault}
+use Rattle.lab_core.specs.declared.fault.EventFault.TheVariants as fault
+use Rattle.lab_core.specs.Board.{Board}
+use Rattle.lab_core.specs.Slices.{after_steps, left_by}
+use Rattle.lab_core.specs.Events.{Given, ended as run_ended}
+use Rattle.lab_core.specs.Given.{given, slice_from}
+use Rattle.dap_answers.specs.Murmur.{cell_path}
+use Rattle.kern_post.specs.declared.content.Cause.{Cause}
+use Rattle.kern_post.specs.declared.content.Cause.TheVariants as cause
+use Rattle.kern_post.specs.declared.content.Ending.TheVariants.{Done, Failed}
+use Rattle.kern_exec.specs.declared.loading.Loading.{Loading}
+use Rattle.kern_exec.specs.declared.loading.Loading.TheVariants.{Starts, Ends}
+
+abbrev pub is_run : RunState → Bool
+is_run NoRun = false
+is_run Running = true
+is_run Stopped = true
+
+abbrev pub board_after : Board → Given → Board
+board_after b (Ok (a, b')) = b'
+board_after b (Err f) = b
+
+-- ---- a cell
+
+-- a cell is kept and loaded under the path by which frontends know it
+abbrev pub cell_given : List ℕ → Board → Given
+cell_given text b = given (Load (cell_path text) text) b
+
+-- the other refusals don't come where there is no run
+abbrev pub cause_of : EventFault → Cause
+cause_of (fault.Assembly f) = cause.Assembly f
+cause_of fault.SourceNameTaken = cause.SourceNameTaken
+cause_of _ = cause.SourcesFull
+
+abbrev pub loading_by : Answer → Loading
+loading_by (Loaded (Some address)) = Starts address
+loading_by _ = Ends Done
+
+abbrev pub loading_of : Given → Loading
+loading_of (Ok (a, b)) = loading_by a
+loading_of (Err f) = Ends (Failed (cause_of f))
+
+-- ---- a run
+
+-- where a slice of 4,096 steps ends, and how
+abbrev pub slice_end : Board → ℕ × SliceOutcome
+slice_end b = slice_from 4096 0 b
+
+abbrev pub after_slice : Board → Board
+after_slice b = left_by (slice_end b).1 (after_steps (slice_end b).0 b)
+
+-- a run ends, where there is one
+abbrev pub interrupted : Board → Board
+interrupted b = if is_run b.run then run_ended b else b

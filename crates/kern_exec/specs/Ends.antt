@@ -1,0 +1,104 @@
+-- What an execution posts: when it is loaded, for each slice of its run, and when it ends.
+use Rattle.std.specs.Prelude.{ℕ, ◌==◌, List, [], ◌∷◌, ◌++◌, Bool, true, false, ◌&&◌, Option, Some, None, if◌then◌else◌}
+use Rattle.std.specs.List.{filter_map, list_any}
+use Rattle.i80_exec.specs.declared.ports.PortOperation.{PortOperation}
+use Rattle.i80_exec.specs.declared.ports.PortOperation.TheVariants.{In, Out}
+use Rattle.lab_core.specs.declared.answer.SliceOutcome.{SliceOutcome}
+use Rattle.lab_core.specs.declared.answer.SliceOutcome.TheVariants as outcome
+use Rattle.lab_core.specs.declared.answer.End.{End}
+use Rattle.lab_core.specs.declared.answer.End.TheVariants as end
+use Rattle.lab_core.specs.declared.answer.Stop.{Stop}
+use Rattle.lab_core.specs.declared.answer.Stop.TheVariants as stop
+use Rattle.dap_answers.specs.declared.answer.StopReason.{StopReason}
+use Rattle.dap_answers.specs.declared.answer.StopReason.TheVariants as reason
+use Rattle.dap_answers.specs.declared.answer.Event.TheVariants.{Stopped}
+use Rattle.kern_post.specs.declared.content.Content.TheVariants as content
+use Rattle.kern_post.specs.declared.content.ExecutionState.TheVariants.{Busy, Idle}
+use Rattle.kern_post.specs.declared.content.Ending.{Ending}
+use Rattle.kern_post.specs.declared.content.Ending.TheVariants.{Done, Failed}
+use Rattle.kern_post.specs.declared.content.Cause.TheVariants.{UndefinedOpcode}
+use Rattle.kern_post.specs.declared.post.Letter.{Letter}
+use Rattle.kern_peers.specs.Present.{Present, stdin_of}
+use Rattle.kern_exec.specs.declared.execution.Execution.{Execution}
+use Rattle.kern_exec.specs.declared.execution.Current.{Current}
+use Rattle.kern_exec.specs.declared.loading.Loading.{Loading}
+use Rattle.kern_exec.specs.declared.loading.Loading.TheVariants.{Starts, Ends}
+use Rattle.kern_exec.specs.Letters.{heard, replied}
+
+-- ---- the end
+
+-- where the execution isn't silent and failed
+abbrev pub error_letters : Bool → Present → List ℕ → Ending → List Letter
+error_letters true who parent ending = []
+error_letters false who parent Done = []
+error_letters false who parent (Failed cause) = heard who parent (content.Error cause) ∷ []
+
+abbrev pub end_letters : Present → Current → Ending → List Letter
+end_letters who c ending =
+    error_letters c.execution.request.is_silent who c.execution.header ending ++
+    replied c.execution.connection c.execution.identities c.execution.header (content.ExecuteReply c.count ending) ∷
+    heard who c.execution.header (content.Status Idle) ∷ []
+
+-- ---- the beginning
+
+abbrev pub input_letters : Present → Current → List Letter
+input_letters who c =
+    if c.execution.request.is_silent then [] else
+    heard who c.execution.header (content.ExecuteInput c.execution.request.code c.count) ∷ []
+
+-- a cell without a start ends when it is loaded, and so does one that can't be
+abbrev pub end_of_loading : Present → Current → Loading → List Letter
+end_of_loading who c (Starts address) = []
+end_of_loading who c (Ends ending) = end_letters who c ending
+
+abbrev pub loading_letters : Present → Current → Loading → List Letter
+loading_letters who c loading =
+    heard who c.execution.header (content.Status Busy) ∷ (input_letters who c ++ end_of_loading who c loading)
+
+-- ---- a slice of the run
+
+-- the bytes that were written to the console
+abbrev pub printed : PortOperation → Option ℕ
+printed (In port byte) = None
+printed (Out port byte) = if port == 1 then Some byte else None
+
+abbrev pub stream_letters : Present → Current → List ℕ → List Letter
+stream_letters who c [] = []
+stream_letters who c (byte ∷ bytes) =
+    if c.execution.request.is_silent then [] else
+    heard who c.execution.header (content.Stream (byte ∷ bytes)) ∷ []
+
+-- a line was asked for
+abbrev pub is_asking : PortOperation → Bool
+is_asking (In port byte) = false
+is_asking (Out port byte) = port == 3
+
+abbrev pub input_request_to : Option ℕ → Current → List Letter
+input_request_to None c = []
+input_request_to (Some n) c = replied n c.execution.identities c.execution.header content.InputRequest ∷ []
+
+-- of the stdin connection that has the identity with which the requester joined, where the request allows it
+abbrev pub input_request_letters : Present → Current → Bool → List Letter
+input_request_letters who c asks =
+    if asks && c.execution.request.allows_stdin then input_request_to (stdin_of c.execution.identity who.peers) c else []
+
+abbrev pub reason_of : Stop → StopReason
+reason_of stop.Breakpoint = reason.Breakpoint
+reason_of stop.Step = reason.Step
+
+abbrev pub ending_of : End → Ending
+ending_of end.Halted = Done
+ending_of (end.Undefined opcode pc) = Failed (UndefinedOpcode opcode pc)
+
+abbrev pub outcome_letters : Present → Current → SliceOutcome → List Letter
+outcome_letters who c outcome.More = []
+outcome_letters who c outcome.Waiting = []
+outcome_letters who c (outcome.Stop s) = heard who c.execution.header (content.DebugEvent (Stopped (reason_of s))) ∷ []
+outcome_letters who c (outcome.End e) = end_letters who c (ending_of e)
+
+-- what a slice with this traffic posts that ended so
+abbrev pub slice_letters : Present → Current → List PortOperation → SliceOutcome → List Letter
+slice_letters who c traffic ending =
+    stream_letters who c (filter_map printed traffic) ++
+    (input_request_letters who c (list_any is_asking traffic) ++
+    outcome_letters who c ending)

@@ -1,0 +1,64 @@
+-- Executions: those that wait, and the one that is under way.
+use Rattle.std.specs.Prelude.{ℕ, ◌+◌, List, [], ◌∷◌, ◌++◌, Bool, not, ◌&&◌, Option, Some, None, if◌then◌else◌}
+use Rattle.kern_ask.specs.declared.ask.Request.{Request}
+use Rattle.kern_ask.specs.declared.ask.ExecuteRequest.{ExecuteRequest}
+use Rattle.kern_exec.specs.declared.execution.Execution.{Execution}
+use Rattle.kern_exec.specs.declared.execution.Current.{Current}
+use Rattle.kern_exec.specs.declared.loading.Loading.{Loading}
+use Rattle.kern_exec.specs.declared.loading.Loading.TheVariants.{Starts, Ends}
+
+pub record Work : Type 0 where
+  pub queue : List Execution
+  pub current : Option Current
+  -- where its run is to start
+  pub pending : Option ℕ
+  -- executions so far that were not silent and stored history
+  pub count : ℕ
+
+abbrev pub nothing : Work
+nothing = record { queue = []; current = None; pending = None; count = 0 }
+
+-- what a connection asked for that joined with this identity
+abbrev pub execution_of : ℕ → List ℕ → Request → ExecuteRequest → Execution
+execution_of n identity r x = record {
+  connection = n;
+  identity = identity;
+  identities = r.identities;
+  header = r.header;
+  request = x;
+}
+
+abbrev pub queued : Execution → Work → Work
+queued x w = record w { queue = w.queue ++ x ∷ [] }
+
+-- the number of an execution that is taken after so many
+abbrev pub count_with : Execution → ℕ → ℕ
+count_with x n = if not x.request.is_silent && x.request.stores_history then n + 1 else n
+
+abbrev pub current_of : Execution → ℕ → Current
+current_of x n = record { execution = x; count = count_with x n }
+
+abbrev pub under_way : Execution → ℕ → Loading → Option Current
+under_way x n (Starts address) = Some (current_of x n)
+under_way x n (Ends ending) = None
+
+abbrev pub start_of : Loading → Option ℕ
+start_of (Starts address) = Some address
+start_of (Ends ending) = None
+
+-- the first that waits was loaded
+abbrev pub taken : Execution → List Execution → Loading → Work → Work
+taken x rest loading w = record w {
+  queue = rest;
+  current = under_way x w.count loading;
+  pending = start_of loading;
+  count = count_with x w.count;
+}
+
+-- its run was started
+abbrev pub begun : Work → Work
+begun w = record w { pending = None }
+
+-- its run has ended
+abbrev pub ended : Work → Work
+ended w = record w { current = None }

@@ -1,0 +1,24 @@
+//! Events of the board.
+ghost use Rattle.std.specs.Prelude.{◌≡◌, ◌≤◌, ℕ, length, IfOk, OnErr, Err};
+ghost use Rattle.lab_core.specs.Board.{Board};
+ghost use Rattle.lab_core.specs.Events.{Fits};
+ghost use Rattle.lab_core.specs.Given.{given, traffic_in};
+ghost use Rattle.lab_core.specs.Memory.{MayLackMemory};
+ghost use Rattle.lab_core.specs.Labs.{StandsFor, Does};
+
+use lab_core::answer::Answer;
+use lab_core::event::Event;
+use lab_core::fault::EventFault;
+use lab_core::lab::Lab;
+
+// One event. It has many parts to drop, which is done here once.
+pub(crate) fn ask(lab: &mut Lab, event: Event) -> Result<Answer, EventFault>
+    requires { Fits event }
+    ensures given { Does (given event) lab.old result lab.new }
+    ensures few { (n : ℕ) (b : Board) → event ≡ Event.Slice n → StandsFor lab.old b
+        → IfOk result (λ answer. length (traffic_in answer) ≤ n) }
+    ensures err { OnErr result (lab.new ≡ lab.old) }
+    ensures memory { result ≡ Err EventFault.OutOfMemory → MayLackMemory event lab.old }
+{
+    lab.apply(&event)
+}

@@ -1,0 +1,116 @@
+//! How an execution ends.
+ghost use Rattle.std.specs.Prelude.{◌≡◌, ◌<◌, ◌≤◌, ◌+◌, ◌++◌, length, ◌∷◌, [], IfOk};
+ghost use Rattle.kern_post.specs.declared.content.Ending.{Ending};
+ghost use Rattle.kern_exec.specs.declared.execution.Current.{Current};
+ghost use Rattle.kern_peers.specs.Present.{Present};
+ghost use Rattle.kern_exec.specs.Kits.{end_kit_of, told_error, told_end, told_cut};
+
+use crate::execution::{Current, Execution};
+use crate::letters::{BusyIdle, addressed, heard_under};
+use kern_peers::peers::Peers;
+use kern_post::content::{Cause, Content, Ending, ExecutionState};
+use kern_post::letters::Letters;
+use kern_post::post::{Envelope, Letter};
+use std::alloc::{AllocError, Global};
+
+/// The envelopes of an end, made before anything changes, so that the end itself takes no memory.
+#[derive(Debug, Drop)]
+pub struct EndKit {
+    pub error: Envelope,
+    pub reply: Envelope,
+    pub idle: Envelope,
+    pub is_silent: bool,
+    pub count: u64,
+}
+
+/// The envelopes for the end of an execution with this number.
+pub fn end_kit(
+    alloc: Global,
+    peers: &Peers,
+    execution: &Execution,
+    count: u64,
+) -> Result<EndKit, AllocError>
+    ensures { IfOk result (λ kit. kit ≡ end_kit_of peers.now (record { execution = execution.now; count = count })) }
+{
+    let error = heard_under(alloc, peers, &execution.header, "error")?;
+    let reply = addressed(
+        alloc,
+        execution.connection,
+        &execution.identities,
+        &execution.header,
+    )?;
+    let idle = heard_under(alloc, peers, &execution.header, "status")?;
+    Ok(EndKit {
+        error,
+        reply,
+        idle,
+        is_silent: execution.request.is_silent,
+        count,
+    })
+}
+
+fn push_error(letters: &mut Letters, envelope: Envelope, is_silent: bool, ending: Ending)
+    requires { length letters.old < 8 }
+    ensures said { letters.new ≡ letters.old ++ told_error is_silent envelope ending }
+    ensures few { length letters.new ≤ length letters.old + 1 }
+{
+    if is_silent {
+        return;
+    }
+    match ending {
+        Ending::Done => {}
+        Ending::Failed(cause) => letters.push(Letter {
+            envelope,
+            content: Content::Error(cause),
+        }),
+    }
+}
+
+/// What an end posts: the error where it failed and isn't silent, the reply, and idle.
+pub fn push_end(letters: &mut Letters, kit: EndKit, ending: Ending)
+    requires { length letters.old + 3 ≤ 8 }
+    ensures said { letters.new ≡ letters.old ++ told_end kit ending }
+    ensures few { length letters.new ≤ length letters.old + 3 }
+{
+    let EndKit {
+        error,
+        reply,
+        idle,
+        is_silent,
+        count,
+    } = kit;
+    push_error(letters, error, is_silent, ending);
+    letters.push(Letter {
+        envelope: reply,
+        content: Content::ExecuteReply { count, ending },
+    });
+    letters.push(Letter {
+        envelope: idle,
+        content: Content::Status(ExecutionState::Idle),
+    });
+}
+
+fn push_cut(letters: &mut Letters, kit: Option<EndKit>, cause: Cause)
+    requires { length letters.old + 3 ≤ 8 }
+    ensures said { letters.new ≡ letters.old ++ told_cut kit cause }
+    ensures few { length letters.new ≤ length letters.old + 3 }
+{
+    match kit {
+        None => {}
+        Some(kit) => push_end(letters, kit, Ending::Failed(cause)),
+    }
+}
+
+/// What a request posts that ends a run from outside: between busy and idle the end of the execution,
+/// if there is a run, and the reply.
+#[tactic(auto, using(crate::proofs::KitLemmas::grouped))]
+pub fn cut_letters(around: BusyIdle, kit: Option<EndKit>, cause: Cause, reply: Letter) -> Letters
+    requires { length around.letters ≤ 1 }
+    ensures { result ≡ around.letters ++ ((told_cut kit cause ++ reply ∷ []) ++ around.idle ∷ []) }
+{
+    let BusyIdle { mut letters, idle } = around;
+    push_cut(&mut letters, kit, cause);
+    letters.push(reply);
+    letters.push(idle);
+    letters
+}

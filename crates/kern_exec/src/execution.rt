@@ -1,0 +1,81 @@
+//! One execution.
+ghost use Rattle.std.specs.Prelude.{◌≡◌, IfOk};
+ghost use Rattle.kern_exec.specs.Executions.{execution_of};
+
+use base_text::sequence::{Bytes, Frames};
+use base_text::text::Text;
+use kern_ask::ask::{ExecuteRequest, Request};
+use std::alloc::{AllocError, Global};
+
+/// An execution that was asked for, and what its posts repeat of the request.
+#[derive(Debug, Drop)]
+pub struct Execution {
+    pub connection: u32,
+    /// With which the connection joined.
+    pub identity: Bytes,
+    pub identities: Frames,
+    pub header: Bytes,
+    pub request: ExecuteRequest,
+}
+
+/// An execution that was taken from the queue, and its number: how many were counted up to it.
+#[derive(Debug, Drop)]
+pub struct Current {
+    pub execution: Execution,
+    pub count: u64,
+}
+
+/// A copy.
+pub fn copy_bytes(bytes: &Bytes) -> Result<Bytes, AllocError>
+    ensures { IfOk result (λ copy. copy ≡ bytes.now) }
+{
+    bytes.clone()
+}
+
+pub(crate) fn copy_frames(frames: &Frames) -> Result<Frames, AllocError>
+    ensures { IfOk result (λ copy. copy ≡ frames.now) }
+{
+    frames.clone()
+}
+
+pub(crate) fn copy_text(alloc: Global, text: &Text) -> Result<Text, AllocError>
+    ensures { IfOk result (λ copy. copy ≡ text.now) }
+{
+    Text::copy_of(alloc, text.as_str())
+}
+
+fn copy_request(alloc: Global, request: &ExecuteRequest) -> Result<ExecuteRequest, AllocError>
+    ensures { IfOk result (λ copy. copy ≡ request.now) }
+{
+    let code = copy_text(alloc, &request.code)?;
+    Ok(ExecuteRequest {
+        code,
+        is_silent: request.is_silent,
+        stores_history: request.stores_history,
+        allows_stdin: request.allows_stdin,
+    })
+}
+
+impl Execution {
+    /// What a connection asks for that joined with this identity, in copies.
+    pub fn copy_of(
+        alloc: Global,
+        connection: u32,
+        identity: Bytes,
+        request: &Request,
+        execute: &ExecuteRequest,
+    ) -> Result<Execution, AllocError>
+        ensures { IfOk result (λ x. x ≡ execution_of connection identity request.now execute.now) }
+    {
+        let identities = copy_frames(&request.identities)?;
+        let header = copy_bytes(&request.header)?;
+        let request = copy_request(alloc, execute)?;
+        Ok(Execution {
+            connection,
+            identity,
+            identities,
+            header,
+            request,
+        })
+    }
+}

@@ -1,0 +1,169 @@
+//! The executions of a kernel: those that wait, and the one that is under way.
+ghost use Rattle.std.specs.Prelude.{◌≡◌, ◌<◌, ◌+◌, ◌^◌, [], ◌∷◌, List, length, drop, nat_lt, IfOk, None, option_map, MatchOption};
+ghost use Rattle.kern_exec.specs.declared.execution.Execution.{Execution};
+ghost use Rattle.kern_exec.specs.Executions.{nothing, queued, taken, begun, ended, count_with, under_way, start_of};
+
+use crate::execution::{Current, Execution};
+use crate::loading::Loading;
+use std::alloc::{AllocError, Global};
+use std::collections::VecDeque;
+use std::marker::Model;
+
+/// The most executions that wait.
+pub const MOST_QUEUED: usize = 64;
+
+/// Executions that wait, in order, the one that is under way, where its run is to start, and how many
+/// were counted so far.
+#[derive(Drop)]
+pub struct Executions {
+    queue: VecDeque<Execution>,
+    current: Option<Current>,
+    pending: Option<u16>,
+    count: u64,
+}
+
+impl Model for Executions {
+    ghost use Rattle.std.specs.Prelude.{◌≤◌, length};
+    ghost use Rattle.std.specs.VecDeque.{deque_capacity};
+    ghost use Rattle.kern_exec.specs.Executions.{Work};
+
+    ghost Value = { Work };
+
+    ghost view = { λ e. record {
+      queue = e.queue.items;
+      current = e.current;
+      pending = e.pending;
+      count = e.count;
+    } };
+
+    // Room for all that may wait is made at the start.
+    ghost invariant = { λ e. (length e.queue.items ≤ 64) × (64 ≤ deque_capacity e.queue) };
+}
+
+/// The number of an execution that is taken after so many.
+pub fn count_with(execution: &Execution, count: u64) -> u64
+    requires { count + 1 < 2 ^ 63 }
+    ensures { result ≡ count_with execution.now count }
+{
+    if !execution.request.is_silent && execution.request.stores_history {
+        count + 1
+    } else {
+        count
+    }
+}
+
+// A function of its own, since an execution has many parts to drop.
+fn set_none(current: &mut Option<Current>)
+    ensures { current.new ≡ None }
+{
+    *current = None;
+}
+
+fn under_way(execution: Execution, count: u64, loading: Loading) -> Option<Current>
+    requires { count + 1 < 2 ^ 63 }
+    ensures { result ≡ under_way execution count loading }
+{
+    match loading {
+        Loading::Starts(_) => {
+            let count = count_with(&execution, count);
+            Some(Current { execution, count })
+        }
+        Loading::Ends(_) => None,
+    }
+}
+
+fn start_of(loading: Loading) -> Option<u16>
+    ensures { result ≡ start_of loading }
+{
+    match loading {
+        Loading::Starts(address) => Some(address),
+        Loading::Ends(_) => None,
+    }
+}
+
+impl Executions {
+    /// None, with room for all that may wait.
+    pub fn new(alloc: Global) -> Result<Executions, AllocError>
+        ensures { IfOk result (λ e. e ≡ nothing) }
+    {
+        let queue = VecDeque::with_capacity(alloc, MOST_QUEUED)?;
+        Ok(Executions {
+            queue,
+            current: None,
+            pending: None,
+            count: 0,
+        })
+    }
+
+    /// Whether one more may wait.
+    pub fn has_place(&self) -> bool
+        ensures { result ≡ nat_lt (length self.now.queue) 64 }
+    {
+        self.queue.len() < MOST_QUEUED
+    }
+
+    /// The first that waits.
+    pub fn first(&self) -> Option<&Execution>
+        ensures { MatchOption result (self.now.queue ≡ []) (λ x. self.now.queue ≡ x.now ∷ drop 1 self.now.queue) }
+    {
+        self.queue.front()
+    }
+
+    /// Where a run is to start.
+    pub fn pending(&self) -> Option<u16>
+        ensures { result ≡ self.now.pending }
+    {
+        self.pending
+    }
+
+    /// How many executions were counted.
+    pub fn count(&self) -> u64
+        ensures { result ≡ self.now.count }
+    {
+        self.count
+    }
+
+    /// The one that is under way.
+    pub fn current(&self) -> Option<&Current>
+        ensures { option_map (λ c. c.now) result ≡ self.now.current }
+    {
+        self.current.as_ref()
+    }
+
+    /// One more waits.
+    pub fn push(&mut self, execution: Execution)
+        requires { length self.old.queue < 64 }
+        ensures { self.new ≡ queued execution self.old }
+    {
+        self.queue.push_back_reserved(execution);
+    }
+
+    /// The first that waits was loaded; there is one.
+    pub fn take(&mut self, loading: Loading)
+        requires some { 0 < length self.old.queue }
+        requires room { self.old.count + 1 < 2 ^ 63 }
+        ensures { (x : Execution) (rest : List Execution) → self.old.queue ≡ x ∷ rest → self.new ≡ taken x rest loading self.old }
+    {
+        let Some(execution) = self.queue.pop_front() else {
+            return;
+        };
+        let count = count_with(&execution, self.count);
+        self.current = under_way(execution, self.count, loading);
+        self.pending = start_of(loading);
+        self.count = count;
+    }
+
+    /// The run of the one that is under way was started.
+    pub fn begin(&mut self)
+        ensures { self.new ≡ begun self.old }
+    {
+        self.pending = None;
+    }
+
+    /// It has ended.
+    pub fn end(&mut self)
+        ensures { self.new ≡ ended self.old }
+    {
+        set_none(&mut self.current);
+    }
+}

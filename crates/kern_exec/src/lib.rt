@@ -1,0 +1,16 @@
+// Executions: those that wait, the one that is under way, and all that they post.
+// Each letter is the stated one: to whom it goes, what stands round it and what it says. Envelopes
+// and room are made before the board goes on, so that what follows takes no memory.
+// `load` and `slice` are what executions ask of the board, and leave it as it was where they ran out
+// of memory.
+#![tactic(auto)]
+
+mod board;
+pub mod cells;
+pub mod ends;
+pub mod execution;
+pub mod executions;
+pub mod letters;
+pub mod loading;
+pub mod runs;
+pub mod slices;

@@ -1,0 +1,64 @@
+//! The beginning of a run, its end from outside, and what is typed.
+ghost use Rattle.std.specs.Prelude.{◌≡◌, is_ok, OnErr, OnOk};
+ghost use Rattle.i80_devs.specs.Past.{Typed};
+ghost use Rattle.lab_core.specs.declared.run_state.RunState.TheVariants.{NoRun};
+ghost use Rattle.lab_core.specs.Board.{Board};
+ghost use Rattle.lab_core.specs.Events.{started, reset, with_operation};
+ghost use Rattle.lab_core.specs.Labs.{StandsFor};
+ghost use Rattle.kern_exec.specs.Boards.{interrupted};
+
+use crate::board::ask;
+use crate::execution::copy_bytes;
+use base_text::sequence::Bytes;
+use lab_core::answer::Answer;
+use lab_core::event::Event;
+use lab_core::fault::EventFault;
+use lab_core::lab::Lab;
+use std::alloc::AllocError;
+
+// An answer has many parts to drop, and so these two are functions of their own.
+fn forget(_answer: Result<Answer, EventFault>) {}
+
+fn is_done(answer: Result<Answer, EventFault>) -> bool
+    ensures { result ≡ is_ok answer }
+{
+    answer.is_ok()
+}
+
+/// Begins a run at an address; there is none.
+pub fn start(lab: &mut Lab, address: u16)
+    ensures { (b : Board) → StandsFor lab.old b → b.run ≡ NoRun → StandsFor lab.new (started address b) }
+{
+    forget(ask(lab, Event::Start(address)));
+}
+
+/// Ends the run, where there is one.
+pub fn interrupt(lab: &mut Lab)
+    ensures { (b : Board) → StandsFor lab.old b → StandsFor lab.new (interrupted b) }
+{
+    forget(ask(lab, Event::Interrupt));
+}
+
+/// Machine and devices as at power-on, and no run.
+pub fn reset(lab: &mut Lab) -> Result<(), AllocError>
+    ensures ok { OnOk result ((b : Board) → StandsFor lab.old b → StandsFor lab.new (reset b)) }
+    ensures err { OnErr result (lab.new ≡ lab.old) }
+{
+    if is_done(ask(lab, Event::Reset)) {
+        return Ok(());
+    }
+    Err(AllocError)
+}
+
+/// Bytes typed at the console.
+pub fn type_bytes(lab: &mut Lab, bytes: &Bytes) -> Result<(), AllocError>
+    ensures ok { OnOk result ((b : Board) → StandsFor lab.old b
+        → StandsFor lab.new (with_operation (Typed bytes.now) b)) }
+    ensures err { OnErr result (lab.new ≡ lab.old) }
+{
+    let bytes = copy_bytes(bytes)?;
+    if is_done(ask(lab, Event::Typed(bytes))) {
+        return Ok(());
+    }
+    Err(AllocError)
+}

@@ -1,0 +1,227 @@
+//! Slices of a run, and what they post.
+ghost use Rattle.std.specs.Prelude.{◌≡◌, ◌<◌, ◌≤◌, ◌+◌, ◌++◌, ◌∷◌, [], length, IfOk, OnErr, vec_capacity, vec_len};
+ghost use Rattle.std.specs.List.{filter_map, list_any};
+ghost use Rattle.lab_core.specs.declared.run_state.RunState.TheVariants.{Running};
+ghost use Rattle.lab_core.specs.Board.{Board};
+ghost use Rattle.lab_core.specs.Slices.{traffic_of};
+ghost use Rattle.lab_core.specs.Labs.{StandsFor};
+ghost use Rattle.kern_peers.specs.Present.{Present, stdin_of};
+ghost use Rattle.kern_exec.specs.declared.execution.Current.{Current};
+ghost use Rattle.kern_exec.specs.Boards.{slice_end, after_slice};
+ghost use Rattle.kern_exec.specs.Ends.{printed, is_asking, reason_of, ending_of, slice_letters};
+ghost use Rattle.kern_exec.specs.Kits.{IsSliceKit, asked_of, streamed, asked_line, told_outcome, told_slice};
+
+use crate::board::ask;
+use crate::ends::{EndKit, end_kit, push_end};
+use crate::execution::Current;
+use crate::letters::{addressed, heard_under};
+use base_text::sequence::Bytes;
+use dap_answers::answer::{Event as DebugEvent, StopReason};
+use i80_devs::traffic::Traffic;
+use i80_exec::ports::PortOperation;
+use kern_peers::peers::Peers;
+use kern_post::content::{Cause, Content, Ending};
+use kern_post::letters::Letters;
+use kern_post::post::{Envelope, Letter};
+use lab_core::answer::{Answer, End, SliceOutcome, Stop};
+use lab_core::event::Event;
+use lab_core::lab::Lab;
+use std::alloc::{AllocError, Global};
+
+/// The steps of a slice, at most.
+pub const STEPS: u16 = 4096;
+
+/// All that a slice of an execution may post, made before its first step.
+#[derive(Drop)]
+pub struct SliceKit {
+    pub letters: Letters,
+    /// Room for what is written to the console.
+    pub text: Vec<u8>,
+    pub stream: Envelope,
+    /// Of a request for a line, where one may be asked for.
+    pub line: Option<Envelope>,
+    pub stopped: Envelope,
+    pub end: EndKit,
+}
+
+fn line_envelope(
+    alloc: Global,
+    peers: &Peers,
+    current: &Current,
+) -> Result<Option<Envelope>, AllocError>
+    ensures { IfOk result (λ e. e ≡ asked_of peers.now current.now) }
+{
+    let execution = &current.execution;
+    if !execution.request.allows_stdin {
+        return Ok(None);
+    }
+    match peers.stdin_of(execution.identity.as_slice()) {
+        None => Ok(None),
+        Some(connection) => {
+            let envelope = addressed(alloc, connection, &execution.identities, &execution.header)?;
+            Ok(Some(envelope))
+        }
+    }
+}
+
+/// All that a slice of an execution may post.
+pub fn slice_kit(alloc: Global, peers: &Peers, current: &Current) -> Result<SliceKit, AllocError>
+    ensures { IfOk result (IsSliceKit peers.now current.now) }
+{
+    let header = &current.execution.header;
+    let letters = Letters::new(alloc)?;
+    let text = Vec::with_capacity(alloc, STEPS.into())?;
+    let stream = heard_under(alloc, peers, header, "stream")?;
+    let line = line_envelope(alloc, peers, current)?;
+    let stopped = heard_under(alloc, peers, header, "debug_event")?;
+    let end = end_kit(alloc, peers, &current.execution, current.count)?;
+    Ok(SliceKit {
+        letters,
+        text,
+        stream,
+        line,
+        stopped,
+        end,
+    })
+}
+
+fn push_printed(text: &mut Vec<u8>, operation: &PortOperation)
+    requires { vec_len text.old < vec_capacity text.old }
+    ensures items { text.new.items ≡ text.old.items ++ filter_map printed (operation.now ∷ []) }
+    ensures capacity { vec_capacity text.new ≡ vec_capacity text.old }
+    ensures len { vec_len text.new ≤ vec_len text.old + 1 }
+{
+    match operation {
+        PortOperation::Out { port: 1, byte } => text.push_reserved(*byte),
+        _ => {}
+    }
+}
+
+fn print_all(mut text: Vec<u8>, traffic: &[PortOperation]) -> Vec<u8>
+    requires empty { text.items ≡ [] }
+    requires room { length traffic.now ≤ vec_capacity text }
+    ensures { result.items ≡ filter_map printed traffic.now }
+{
+    for operation in traffic {
+        push_printed(&mut text, operation);
+    }
+    text
+}
+
+fn is_asking(operation: &PortOperation) -> bool
+    ensures { result ≡ is_asking operation.now }
+{
+    matches!(operation, PortOperation::Out { port: 3, .. })
+}
+
+fn asks_for_line(traffic: &[PortOperation]) -> bool
+    ensures { result ≡ list_any is_asking traffic.now }
+{
+    traffic.iter().any(is_asking)
+}
+
+fn push_stream(letters: &mut Letters, envelope: Envelope, is_silent: bool, text: Vec<u8>)
+    requires { length letters.old < 8 }
+    ensures said { letters.new ≡ letters.old ++ streamed is_silent envelope text.items }
+    ensures few { length letters.new ≤ length letters.old + 1 }
+{
+    if is_silent || text.is_empty() {
+        return;
+    }
+    letters.push(Letter {
+        envelope,
+        content: Content::Stream(Bytes::from(text)),
+    });
+}
+
+fn push_line(letters: &mut Letters, envelope: Option<Envelope>, asks: bool)
+    requires { length letters.old < 8 }
+    ensures said { letters.new ≡ letters.old ++ asked_line envelope asks }
+    ensures few { length letters.new ≤ length letters.old + 1 }
+{
+    let Some(envelope) = envelope else {
+        return;
+    };
+    if !asks {
+        return;
+    }
+    letters.push(Letter {
+        envelope,
+        content: Content::InputRequest,
+    });
+}
+
+fn reason_of(stop: Stop) -> StopReason
+    ensures { result ≡ reason_of stop }
+{
+    match stop {
+        Stop::Breakpoint => StopReason::Breakpoint,
+        Stop::Step => StopReason::Step,
+    }
+}
+
+fn ending_of(end: End) -> Ending
+    ensures { result ≡ ending_of end }
+{
+    match end {
+        End::Halted => Ending::Done,
+        End::Undefined { opcode, pc } => Ending::Failed(Cause::UndefinedOpcode { opcode, pc }),
+    }
+}
+
+fn push_outcome(letters: &mut Letters, stopped: Envelope, end: EndKit, outcome: SliceOutcome)
+    requires { length letters.old + 3 ≤ 8 }
+    ensures { letters.new ≡ letters.old ++ told_outcome stopped end outcome }
+{
+    match outcome {
+        SliceOutcome::More | SliceOutcome::Waiting => {}
+        SliceOutcome::Stop(stop) => letters.push(Letter {
+            envelope: stopped,
+            content: Content::DebugEvent(DebugEvent::Stopped(reason_of(stop))),
+        }),
+        SliceOutcome::End(ending) => push_end(letters, end, ending_of(ending)),
+    }
+}
+
+/// What a slice with this traffic posts that ended so.
+pub fn letters_of(kit: SliceKit, traffic: &[PortOperation], outcome: SliceOutcome) -> Letters
+    requires room { length traffic.now ≤ vec_capacity kit.text }
+    requires empty { (kit.text.items ≡ []) × (kit.letters ≡ []) }
+    ensures told { result ≡ told_slice kit traffic.now outcome }
+    ensures letters { (who : Present) (c : Current) → IsSliceKit who c kit
+        → result ≡ slice_letters who c traffic.now outcome }
+{
+    let SliceKit {
+        mut letters,
+        text,
+        stream,
+        line,
+        stopped,
+        end,
+    } = kit;
+    let text = print_all(text, traffic);
+    push_stream(&mut letters, stream, end.is_silent, text);
+    push_line(&mut letters, line, asks_for_line(traffic));
+    push_outcome(&mut letters, stopped, end, outcome);
+    letters
+}
+
+/// A slice of the run: the port operations of its steps, and how it ended. Out of memory leaves the
+/// board as it was.
+pub fn slice(lab: &mut Lab) -> Result<(Traffic, SliceOutcome), AllocError>
+    ensures made { (b : Board) → StandsFor lab.old b → b.run ≡ Running → IfOk result (λ made.
+        (made.0 ≡ traffic_of (slice_end b).0 b) × ((made.1 ≡ (slice_end b).1) × StandsFor lab.new (after_slice b))) }
+    ensures few { (b : Board) → StandsFor lab.old b → IfOk result (λ made. length made.0 ≤ 4096) }
+    ensures err { (b : Board) → StandsFor lab.old b → OnErr result (lab.new ≡ lab.old) }
+{
+    match ask(lab, Event::Slice(STEPS)) {
+        Ok(
+            Answer::Sliced {
+                traffic,
+                outcome,
+                ..
+            },
+        ) => Ok((traffic, outcome)),
+        _ => Err(AllocError),
+    }
+}

@@ -1,0 +1,64 @@
+-- What is said of a cause (Jupyter messaging, "Request-reply", "Execution errors"): its name, its
+-- value, and a traceback of one line.
+use Rattle.std.specs.Prelude.{ℕ, List, [], ◌∷◌, ◌++◌, codes, decimal}
+use Rattle.serde_json.specs.Data.{Data, string}
+use Rattle.base_text.specs.Hexadecimal.{upper_byte, upper_word}
+use Rattle.asm_syntax.specs.declared.fault.FaultKind.{FaultKind}
+use Rattle.asm_syntax.specs.declared.fault.FaultKind.TheVariants as fault
+use Rattle.asm_syntax.specs.declared.fault.AsmFault.{AsmFault}
+use Rattle.asm_syntax.specs.declared.fault.AsmFault.TheVariants as asm
+use Rattle.kern_post.specs.declared.content.Cause.{Cause}
+use Rattle.kern_post.specs.declared.content.Cause.TheVariants as cause
+use Rattle.dap_answers.specs.Json.{list_of}
+
+abbrev pub ename_of : Cause → List ℕ
+ename_of (cause.Assembly f) = codes "AssemblyError"
+ename_of (cause.UndefinedOpcode opcode pc) = codes "UndefinedOpcode"
+ename_of cause.Interrupted = codes "Interrupted"
+ename_of cause.Reset = codes "Reset"
+ename_of cause.QueueFull = codes "QueueFull"
+ename_of cause.BadContent = codes "BadContent"
+ename_of cause.SourceNameTaken = codes "SourceNameTaken"
+ename_of cause.SourcesFull = codes "SourcesFull"
+
+abbrev pub fault_name : FaultKind → List ℕ
+fault_name fault.Character = codes "Character"
+fault_name fault.Number = codes "Number"
+fault_name fault.Text = codes "Text"
+fault_name fault.Name = codes "Name"
+fault_name fault.Mnemonic = codes "Mnemonic"
+fault_name fault.Operands = codes "Operands"
+fault_name (fault.Conditional is_missing_endif) = codes "Conditional"
+fault_name fault.TooLong = codes "TooLong"
+fault_name fault.Undefined = codes "Undefined"
+fault_name fault.Divisor = codes "Divisor"
+fault_name fault.Nesting = codes "Nesting"
+fault_name fault.Twice = codes "Twice"
+fault_name fault.Early = codes "Early"
+fault_name fault.ByteRange = codes "ByteRange"
+fault_name fault.Overlap = codes "Overlap"
+fault_name fault.PastEnd = codes "PastEnd"
+
+-- the line and the column, from 1, and what is wrong there
+abbrev pub fault_text : AsmFault → List ℕ
+fault_text asm.OutOfMemory = codes "OutOfMemory"
+fault_text (asm.At line column kind) =
+    decimal line ++ codes ":" ++ decimal column ++ codes " " ++ fault_name kind
+
+-- empty where the name says all
+abbrev pub evalue_of : Cause → List ℕ
+evalue_of (cause.Assembly f) = fault_text f
+evalue_of (cause.UndefinedOpcode opcode pc) = upper_byte opcode ++ codes " at " ++ upper_word pc
+evalue_of cause.Interrupted = []
+evalue_of cause.Reset = []
+evalue_of cause.QueueFull = []
+evalue_of cause.BadContent = []
+evalue_of cause.SourceNameTaken = []
+evalue_of cause.SourcesFull = []
+
+-- the blank stands also before an empty value
+abbrev pub error_line : Cause → List ℕ
+error_line c = ename_of c ++ codes ": " ++ evalue_of c
+
+abbrev pub traceback_of : Cause → Data
+traceback_of c = list_of string (error_line c ∷ [])

@@ -1,0 +1,262 @@
+//! The connections that are there.
+ghost use Rattle.std.specs.Prelude.{◌≡◌, ◌<◌, ◌+◌, ◌^◌, ◌++◌, ◌∷◌, [], IfOk, OnOk, OnErr, option_map, count_by};
+ghost use Rattle.std.specs.List.{list_any, find, position};
+ghost use Rattle.std.specs.Str.{bytes_eq};
+ghost use Rattle.jup_wire.specs.declared.channel.Channel.TheVariants.{Stdin};
+ghost use Rattle.kern_peers.specs.Present.{
+  nobody,
+  is_empty,
+  is_number,
+  is_on,
+  is_same,
+  is_taken,
+  has_no_place,
+  peer_at,
+  stdin_of,
+  begins,
+  hears,
+  hearers,
+  joined_by,
+  without,
+  without_first,
+  subscribed_by,
+  cancelled,
+};
+
+use crate::peer::Peer;
+use base_text::sequence::{Bytes, Sequence};
+use jup_wire::channel::Channel;
+use std::alloc::{AllocError, Global};
+use std::marker::Model;
+use std::mem;
+
+/// The most connections that a channel has.
+pub const MOST_CONNECTIONS: usize = 16;
+
+/// The connections that are there, in order of their numbers, and how many ever joined.
+#[derive(Drop)]
+pub struct Peers {
+    peers: Vec<Peer>,
+    joined: u32,
+    alloc: Global,
+}
+
+impl Model for Peers {
+    ghost use Rattle.kern_peers.specs.Present.{Present};
+
+    ghost Value = { Present };
+
+    ghost view = { λ p. record { peers = p.peers.items; joined = p.joined } };
+}
+
+impl Peers {
+    /// Nobody.
+    pub fn new(alloc: Global) -> Peers
+        ensures { result ≡ nobody }
+    {
+        Peers {
+            peers: Vec::new(alloc),
+            joined: 0,
+            alloc,
+        }
+    }
+
+    /// The connection of a number.
+    pub fn get(&self, number: u32) -> Option<&Peer>
+        ensures { option_map (λ p. p.now) result ≡ peer_at number self.now.peers }
+    {
+        self.peers.iter().find(|p| p.number == number)
+    }
+
+    /// Whether a channel has no place for one more with this identity: it is full, or the identity
+    /// isn't empty and another connection on it has the same.
+    pub fn has_no_place(&self, channel: Channel, identity: &[u8]) -> bool
+        ensures { result ≡ has_no_place channel identity.now self.now.peers }
+    {
+        MOST_CONNECTIONS <= self.count(channel) || self.is_taken(channel, identity)
+    }
+
+    /// One more, with the next number, which it answers. It has no subscription yet.
+    pub fn join(&mut self, channel: Channel, identity: Bytes) -> Result<u32, AllocError>
+        requires { self.old.joined + 1 < 2 ^ 32 }
+        ensures ok { OnOk result (self.new ≡ joined_by channel identity self.old) }
+        ensures number { IfOk result (λ number. number ≡ self.old.joined + 1) }
+        ensures err { OnErr result (self.new ≡ self.old) }
+    {
+        self.peers.reserve(1)?;
+        let number = self.joined + 1;
+        let peer = Peer {
+            number,
+            channel,
+            identity,
+            prefixes: Sequence::new(self.alloc),
+        };
+        self.peers.push_reserved(peer);
+        self.joined = number;
+        Ok(number)
+    }
+
+    /// The connection of this number is no longer there.
+    pub fn leave(&mut self, number: u32)
+        ensures { self.new ≡ without number self.old }
+    {
+        self.peers.retain(move |p| p.number != number);
+    }
+
+    /// One more subscription of the connection of this number, if it is there.
+    pub fn subscribe(&mut self, number: u32, prefix: Bytes) -> Result<(), AllocError>
+        ensures ok { OnOk result (self.new ≡ subscribed_by number prefix self.old) }
+        ensures err { OnErr result (self.new ≡ self.old) }
+    {
+        if let Some(place) = place_of(&self.peers, number) {
+            self.peers[place].prefixes.push(prefix)?;
+        }
+        Ok(())
+    }
+
+    /// The first subscription of that connection with this prefix ends. Without one nothing changes.
+    pub fn cancel(&mut self, number: u32, prefix: &[u8])
+        ensures { self.new ≡ cancelled number prefix.now self.old }
+    {
+        if let Some(place) = place_of(&self.peers, number) {
+            take_out(self.alloc, &mut self.peers[place].prefixes, prefix);
+        }
+    }
+
+    /// The numbers of those on iopub that have a subscription to a prefix of this topic, in order.
+    pub fn hearers(&self, alloc: Global, topic: &str) -> Result<Sequence<u32>, AllocError>
+        ensures { IfOk result (λ numbers. numbers ≡ hearers topic.now self.now.peers) }
+    {
+        let mut numbers = Sequence::new(alloc);
+        for peer in &self.peers {
+            push_if_hears(&mut numbers, peer, topic)?;
+        }
+        Ok(numbers)
+    }
+
+    /// The number of the connection on stdin that has this identity, where it isn't empty.
+    pub fn stdin_of(&self, identity: &[u8]) -> Option<u32>
+        ensures { result ≡ stdin_of identity.now self.now.peers }
+    {
+        if is_empty(identity) {
+            return None;
+        }
+        let peer = self.on_stdin(identity)?;
+        Some(peer.number)
+    }
+
+    // The connection on stdin that has an identity.
+    fn on_stdin(&self, identity: &[u8]) -> Option<&Peer>
+        ensures { option_map (λ p. p.now) result ≡ find (is_same Stdin identity.now) self.now.peers }
+    {
+        self.peers
+            .iter()
+            .find(|p| is_same(p, Channel::Stdin, identity))
+    }
+
+    // How many there are on a channel.
+    fn count(&self, channel: Channel) -> usize
+        ensures { result ≡ count_by (is_on channel) self.now.peers }
+    {
+        self.peers.iter().filter(|p| is_on(p, channel)).count()
+    }
+
+    // Whether an identity isn't empty, and one on a channel has it.
+    fn is_taken(&self, channel: Channel, identity: &[u8]) -> bool
+        ensures { result ≡ is_taken channel identity.now self.now.peers }
+    {
+        !is_empty(identity) && self.has(channel, identity)
+    }
+
+    fn has(&self, channel: Channel, identity: &[u8]) -> bool
+        ensures { result ≡ list_any (is_same channel identity.now) self.now.peers }
+    {
+        self.peers.iter().any(|p| is_same(p, channel, identity))
+    }
+}
+
+// The place of the connection of a number.
+fn place_of(peers: &[Peer], number: u32) -> Option<usize>
+    ensures { result ≡ position (is_number number) peers.now }
+{
+    peers.iter().position(|p| p.number == number)
+}
+
+fn is_empty(identity: &[u8]) -> bool
+    ensures { result ≡ is_empty identity.now }
+{
+    match identity {
+        [] => true,
+        _ => false,
+    }
+}
+
+fn is_on(peer: &Peer, channel: Channel) -> bool
+    ensures { result ≡ is_on channel peer.now }
+{
+    match (peer.channel, channel) {
+        (Channel::Shell, Channel::Shell) => true,
+        (Channel::Control, Channel::Control) => true,
+        (Channel::Stdin, Channel::Stdin) => true,
+        (Channel::Iopub, Channel::Iopub) => true,
+        _ => false,
+    }
+}
+
+fn is_same(peer: &Peer, channel: Channel, identity: &[u8]) -> bool
+    ensures { result ≡ is_same channel identity.now peer.now }
+{
+    is_on(peer, channel) && peer.identity.as_slice() == identity
+}
+
+// Takes out the first of these prefixes that is this one.
+fn take_out(alloc: Global, prefixes: &mut Sequence<Bytes>, prefix: &[u8])
+    ensures { prefixes.new ≡ without_first prefix.now prefixes.old }
+{
+    let mut kept = mem::replace(prefixes, Sequence::new(alloc)).into_vec();
+    remove_first(&mut kept, prefix);
+    *prefixes = Sequence::from(kept);
+}
+
+fn remove_first(prefixes: &mut Vec<Bytes>, prefix: &[u8])
+    ensures { prefixes.new.items ≡ without_first prefix.now prefixes.old.items }
+{
+    if let Some(place) = first_of(prefixes, prefix) {
+        let _ = prefixes.remove(place);
+    }
+}
+
+// The place of the first of these prefixes that is this one.
+fn first_of(prefixes: &[Bytes], prefix: &[u8]) -> Option<usize>
+    ensures { result ≡ position (λ p. bytes_eq p prefix.now) prefixes.now }
+{
+    prefixes.iter().position(|p| p.as_slice() == prefix)
+}
+
+fn begins_topic(prefix: &Bytes, topic: &[u8]) -> bool
+    ensures { result ≡ begins topic.now prefix.now }
+{
+    topic.starts_with(prefix.as_slice())
+}
+
+fn is_subscribed(prefixes: &[Bytes], topic: &[u8]) -> bool
+    ensures { result ≡ list_any (begins topic.now) prefixes.now }
+{
+    prefixes.iter().any(|prefix| begins_topic(prefix, topic))
+}
+
+fn hears(peer: &Peer, topic: &str) -> bool
+    ensures { result ≡ hears topic.now peer.now }
+{
+    is_on(peer, Channel::Iopub) && is_subscribed(peer.prefixes.as_slice(), topic.as_bytes())
+}
+
+fn push_if_hears(numbers: &mut Sequence<u32>, peer: &Peer, topic: &str) -> Result<(), AllocError>
+    ensures { OnOk result (numbers.new ≡ numbers.old ++ hearers topic.now (peer.now ∷ [])) }
+{
+    if hears(peer, topic) {
+        numbers.push(peer.number)?;
+        return Ok(());
+    }
+    Ok(())
+}

@@ -1,0 +1,101 @@
+//! Posts.
+ghost use Rattle.std.specs.Prelude.{◌≡◌, IfOk};
+
+use crate::content::Content;
+use base_text::sequence::{Bytes, Frames, Sequence};
+use std::alloc::AllocError;
+
+/// What stands before the delimiter: the topic, which is the type, or the identities of a request.
+#[derive(Clone, Debug, Drop)]
+pub enum Head {
+    Topic,
+    Identities(Frames),
+}
+
+/// To which connections, and what stands round the content.
+#[derive(Debug, Drop)]
+pub struct Envelope {
+    pub to: Sequence<u32>,
+    pub head: Head,
+    /// The header frame of the request, or `{}`.
+    pub parent: Bytes,
+}
+
+/// What is sent.
+#[derive(Debug, Drop)]
+pub struct Letter {
+    pub envelope: Envelope,
+    pub content: Content,
+}
+
+/// A letter with its number, from 1, and the moment at which it was made, in seconds since 1970.
+#[derive(Debug, Drop)]
+pub struct Post {
+    pub number: u64,
+    pub moment: u64,
+    pub letter: Letter,
+}
+
+/// Posts in their order.
+pub type Posts = Sequence<Post>;
+
+impl Envelope {
+    /// A copy.
+    pub fn copy(&self) -> Result<Envelope, AllocError>
+        ensures { IfOk result (λ copy. copy ≡ self.now) }
+    {
+        let to = copy_connections(&self.to)?;
+        let head = copy_head(&self.head)?;
+        let parent = copy_bytes(&self.parent)?;
+        Ok(Envelope { to, head, parent })
+    }
+}
+
+impl Letter {
+    /// A copy.
+    pub fn copy(&self) -> Result<Letter, AllocError>
+        ensures { IfOk result (λ copy. copy ≡ self.now) }
+    {
+        let envelope = self.envelope.copy()?;
+        let content = copy_content(&self.content)?;
+        Ok(Letter { envelope, content })
+    }
+}
+
+impl Post {
+    /// A copy.
+    pub fn copy(&self) -> Result<Post, AllocError>
+        ensures { IfOk result (λ copy. copy ≡ self.now) }
+    {
+        let letter = self.letter.copy()?;
+        Ok(Post {
+            number: self.number,
+            moment: self.moment,
+            letter,
+        })
+    }
+}
+
+fn copy_connections(connections: &Sequence<u32>) -> Result<Sequence<u32>, AllocError>
+    ensures { IfOk result (λ copy. copy ≡ connections.now) }
+{
+    connections.clone()
+}
+
+fn copy_head(head: &Head) -> Result<Head, AllocError>
+    ensures { IfOk result (λ copy. copy ≡ head.now) }
+{
+    head.clone()
+}
+
+fn copy_bytes(bytes: &Bytes) -> Result<Bytes, AllocError>
+    ensures { IfOk result (λ copy. copy ≡ bytes.now) }
+{
+    bytes.clone()
+}
+
+fn copy_content(content: &Content) -> Result<Content, AllocError>
+    ensures { IfOk result (λ copy. copy ≡ content.now) }
+{
+    content.clone()
+}
