@@ -1,0 +1,4 @@
+pub mod Dates
+pub mod Names
+pub mod Rendering
+pub mod Drafts

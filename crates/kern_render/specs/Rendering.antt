@@ -1,0 +1,52 @@
+-- The frames of a post (Jupyter messaging, "The Wire Protocol", "Message header").
+use Rattle.std.specs.Prelude.{◌≡◌, ℕ, List, [], ◌∷◌, ◌++◌, codes, decimal, min}
+use Rattle.serde_json.specs.Data.{Data, string}
+use Rattle.serde_json.specs.Written.{compact_text}
+use Rattle.dap_answers.specs.Json.{object_of}
+use Rattle.jup_wire.specs.declared.message.Parts.{Parts}
+use Rattle.jup_wire.specs.Seal.{frames_of, signature_frame}
+use Rattle.kern_post.specs.declared.content.Content.{Content}
+use Rattle.kern_post.specs.declared.post.Head.{Head}
+use Rattle.kern_post.specs.declared.post.Head.TheVariants.{Topic, Identities}
+use Rattle.kern_post.specs.declared.post.Post.{Post}
+use Rattle.kern_post.specs.Topics.{topic_of}
+use Rattle.kern_json.specs.Json.{empty_object, content_json}
+use Rattle.kern_render.specs.Dates.{IsDate, last_moment}
+
+-- no two posts of a session have the same
+abbrev pub message_id : List ℕ → ℕ → List ℕ
+message_id session number = session ++ codes "_" ++ decimal number
+
+abbrev pub header_json : List ℕ → List ℕ → ℕ → Content → Data
+header_json date session number content = object_of (
+    (codes "date", string date) ∷
+    (codes "msg_id", string (message_id session number)) ∷
+    (codes "msg_type", string (topic_of content)) ∷
+    (codes "session", string session) ∷
+    (codes "username", string (codes "kernel")) ∷
+    (codes "version", string (codes "5.4")) ∷ [])
+
+-- what stands before the delimiter
+abbrev pub head_frames : Head → Content → List (List ℕ)
+head_frames Topic content = topic_of content ∷ []
+head_frames (Identities frames) content = frames
+
+-- the JSON parts are the compact texts of their values
+abbrev pub parts_of : List ℕ → List ℕ → Post → Parts
+parts_of date session post = record {
+  identities = head_frames post.letter.envelope.head post.letter.content;
+  header = compact_text (header_json date session post.number post.letter.content);
+  parent_header = post.letter.envelope.parent;
+  metadata = compact_text empty_object;
+  content = compact_text (content_json post.number post.letter.content);
+}
+
+-- the frames under a key, with this date in the header
+abbrev pub rendered : List ℕ → List ℕ → List ℕ → Post → List (List ℕ)
+rendered date key session post =
+    frames_of (parts_of date session post) (signature_frame key (parts_of date session post))
+
+-- these are the frames; a later moment counts as the last one that is written
+abbrev pub IsRendered : List ℕ → List ℕ → Post → List (List ℕ) → Type 0
+IsRendered key session post frames =
+    (date : List ℕ) × IsDate (min post.moment last_moment) date × (frames ≡ rendered date key session post)

@@ -1,0 +1,111 @@
+//! The frames of posts.
+ghost use Rattle.std.specs.Prelude.{◌≡◌, [], ◌∷◌, ◌++◌, IfOk, codes, decimal, min, string_bytes};
+ghost use Rattle.serde_json.specs.View.{view};
+ghost use Rattle.kern_json.specs.Json.{empty_object};
+ghost use Rattle.kern_render.specs.Dates.{IsDate, last_moment};
+ghost use Rattle.kern_render.specs.Rendering.{header_json, head_frames, IsRendered};
+ghost use Rattle.kern_render.specs.Drafts.{IsDraftOf};
+
+use crate::date::{LAST_MOMENT, date_text};
+use base_text::sequence::{Bytes, Frames};
+use base_text::text::Text;
+use jup_wire::sealing::{Draft, seal_message};
+use kern_json::content::content_json;
+use kern_post::content::Content;
+use kern_post::post::{Head, Post};
+use serde_json::{Value, json};
+use std::alloc::{AllocError, Global};
+
+fn message_id(alloc: Global, session: &str, number: u64) -> Result<String, AllocError>
+    ensures { IfOk result (λ id. string_bytes id ≡ session.now ++ codes "_" ++ decimal number) }
+{
+    format!(in alloc; "{session}_{number}")
+}
+
+fn header_json(
+    alloc: Global,
+    date: &str,
+    session: &str,
+    number: u64,
+    content: &Content,
+) -> Result<Value, AllocError>
+    ensures { IfOk result
+        (λ v. view v ≡ header_json date.now session.now number content.now) }
+{
+    let id = message_id(alloc, session, number)?;
+    json!(in alloc; {
+        "date": date,
+        "msg_id": id,
+        "msg_type": content.topic(),
+        "session": session,
+        "username": "kernel",
+        "version": "5.4"
+    })
+}
+
+fn empty_object(alloc: Global) -> Result<Value, AllocError>
+    ensures { IfOk result (λ v. view v ≡ empty_object) }
+{
+    json!(in alloc; {})
+}
+
+fn one_frame(alloc: Global, text: &str) -> Result<Frames, AllocError>
+    ensures { IfOk result (λ frames. frames ≡ text.now ∷ []) }
+{
+    let frame = Bytes::copy_of(alloc, text.as_bytes())?;
+    let mut frames = Frames::new(alloc);
+    frames.push(frame)?;
+    Ok(frames)
+}
+
+fn head_frames(alloc: Global, head: &Head, content: &Content) -> Result<Frames, AllocError>
+    ensures { IfOk result (λ frames. frames ≡ head_frames head.now content.now) }
+{
+    match head {
+        Head::Topic => one_frame(alloc, content.topic()),
+        Head::Identities(frames) => frames.clone(),
+    }
+}
+
+fn copy_bytes(bytes: &Bytes) -> Result<Bytes, AllocError>
+    ensures { IfOk result (λ copy. copy ≡ bytes.now) }
+{
+    bytes.clone()
+}
+
+fn draft_of(alloc: Global, post: &Post, date: &str, session: &str) -> Result<Draft, AllocError>
+    ensures { IfOk result (IsDraftOf date.now session.now post.now) }
+{
+    let content = &post.letter.content;
+    let identities = head_frames(alloc, &post.letter.envelope.head, content)?;
+    let header = header_json(alloc, date, session, post.number, content)?;
+    let parent_header = copy_bytes(&post.letter.envelope.parent)?;
+    let metadata = empty_object(alloc)?;
+    let content = content_json(alloc, post.number, content)?;
+    Ok(Draft {
+        identities,
+        header,
+        parent_header,
+        metadata,
+        content,
+    })
+}
+
+fn date_of(alloc: Global, post: &Post) -> Result<Text, AllocError>
+    ensures { IfOk result (IsDate (min post.now.moment last_moment)) }
+{
+    date_text(alloc, post.moment.min(LAST_MOMENT))
+}
+
+/// The frames of a post under a key, in the session of this name: the type of the content, which is
+/// the topic, or the identities of the request; the delimiter, the signature, the header, the header
+/// of the request, empty metadata, and the content (Jupyter messaging, "The Wire Protocol", "Message
+/// header"). With an empty key the signature is empty. The `msg_id` is the name of the session, `_`
+/// and the number of the post. A moment after 2100-01-01T00:00:00Z is dated as that one.
+pub fn render(alloc: Global, post: &Post, key: &[u8], session: &str) -> Result<Frames, AllocError>
+    ensures { IfOk result (IsRendered key.now session.now post.now) }
+{
+    let date = date_of(alloc, post)?;
+    let draft = draft_of(alloc, post, date.as_str(), session)?;
+    seal_message(alloc, draft, key)
+}
