@@ -1,2 +1,3 @@
 pub mod EventLemmas
 pub mod CommandLemmas
+pub mod FarLemmas

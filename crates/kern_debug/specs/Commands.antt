@@ -59,10 +59,11 @@ step_request kind granularity = record {
   granularity = step_granularity granularity;
 }
 
--- where the first line of a disassembly stands: so many instructions behind so many bytes behind an address
+-- Where the first line of a disassembly stands: so many instructions behind so many bytes behind an address.
+-- Addresses wrap, and the count of instructions does not.
 abbrev pub first_line : MachineState → ℕ → ℕ → ℕ → ℕ
 first_line m address offset instruction_offset =
-    after_instructions m (wrapped (address + offset)) (wrapped instruction_offset)
+    after_instructions m (wrapped (address + offset)) instruction_offset
 
 abbrev pub disassembled : ℕ → ℕ → ℕ → ℕ → Board → Performed
 disassembled address offset instruction_offset count b =

@@ -7,6 +7,7 @@
 
 mod body;
 mod event;
+mod far;
 mod look;
 pub mod names;
 pub mod perform;

@@ -5,6 +5,7 @@ ghost use Rattle.lab_core.specs.Labs.{Does};
 ghost use Rattle.kern_debug.specs.Commands.{performed, answered, disassembled, IsLook};
 
 use crate::event::answered;
+use crate::far::after_instructions;
 use base_text::text::Text;
 use dap_answers::answer::Body;
 use dap_talk::command::DapCommand;
@@ -70,9 +71,7 @@ fn disassemble(
     ensures done { Does (disassembled address offset instruction_offset count) lab.old result lab.new }
     ensures err { OnErr result (lab.new ≡ lab.old) }
 {
-    // Counted modulo 65,536, so that no offset takes long.
-    let instructions = (instruction_offset % 65_536) as u16;
-    let first = lab.after_instructions(address_after(address, offset), instructions);
+    let first = after_instructions(lab, address_after(address, offset), instruction_offset);
     show(
         lab,
         View::Code {
