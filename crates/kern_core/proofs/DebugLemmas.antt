@@ -1,0 +1,124 @@
+-- A reset of the board, asked by a debugger.
+use Rattle.std.proofs.Common.{◌≡◌, ◌≢◌, ◌∙◌, ℕ, List, [], ◌∷◌, ◌++◌, Bool, true, false, Option, None, Result, Ok, Err, refl, sym, ap, subst, option_to_list}
+use Rattle.std.proofs.lemmas.Bool.{false≢true}
+use Rattle.lab_core.specs.Events.{reset}
+use Rattle.dap_talk.specs.declared.command.DapCommand.{DapCommand}
+use Rattle.dap_talk.specs.declared.command.DapCommand.TheVariants as command
+use Rattle.dap_talk.specs.declared.command.DapRequest.{DapRequest}
+use Rattle.dap_answers.specs.declared.answer.Body.{Body}
+use Rattle.dap_answers.specs.declared.answer.Body.TheVariants.{Empty}
+use Rattle.dap_answers.specs.declared.answer.Outcome.{Outcome}
+use Rattle.dap_answers.specs.declared.answer.Outcome.TheVariants.{Success, Refused}
+use Rattle.lab_core.specs.declared.fault.EventFault.{EventFault}
+use Rattle.lab_core.specs.declared.fault.EventFault.TheVariants.{OutOfMemory}
+use Rattle.lab_core.specs.Board.{Board}
+use Rattle.lab_core.specs.Labs.{LabState, StandsFor as LabStandsFor, Did, Does}
+use Rattle.kern_debug.specs.Names.{refusal_name, event_after}
+use Rattle.kern_post.specs.declared.post.Letter.{Letter}
+use Rattle.kern_post.specs.declared.post.Post.{Post}
+use Rattle.kern_post.specs.Posts.{StoreState, Keeps, posted}
+use Rattle.kern_peers.specs.Present.{Present}
+use Rattle.kern_ask.specs.declared.ask.Request.{Request}
+use Rattle.kern_debug.specs.Commands.{performed}
+use Rattle.kern_exec.specs.Letters.{around}
+use Rattle.kern_post.specs.declared.content.Cause.TheVariants as cause
+use Rattle.kern_core.specs.declared.call.Reply.{Reply}
+use Rattle.kern_core.specs.declared.call.Reply.TheVariants.{Arrived}
+use Rattle.kern_core.specs.declared.fault.KernFault.{KernFault}
+use Rattle.kern_core.specs.declared.session.debug.DebugKit.{DebugKit}
+use Rattle.kern_core.specs.Sessions.{Session, Turn, after, posting}
+use Rattle.kern_core.specs.Asks.{is_reset, ended_by, work_by, cut_letters, cut_work, with_board, debug_reply, after_letter, answering, performing}
+use Rattle.kern_core.specs.Debugging.{IsDebugKit, told_debug, told_by}
+use Rattle.kern_core.specs.Stands.{SessionState, StandsFor}
+
+abbrev request_with : ℕ → DapCommand → DapRequest
+request_with seq c = record { seq = seq; command = c }
+
+abbrev pub resetting : ℕ → Request → DapRequest → ℕ → Session → Turn
+resetting n r d moment s = posting Arrived moment
+    (around s.present r.header (cut_letters cause.Reset s ++ debug_reply n r d (Success Empty) ∷ []))
+    (with_board (reset s.board) (cut_work s) s)
+
+by_command : (n : ℕ) (r : Request) (seq : ℕ) (c : DapCommand) (moment : ℕ) (s : Session) → is_reset c ≡ true
+    → performing n r (request_with seq c) moment s ≡ resetting n r (request_with seq c) moment s
+unfolding performed
+by_command n r seq command.BoardReset moment s is = refl
+by_command n r seq command.Initialize moment s is = absurd (false≢true is)
+by_command n r seq command.Attach moment s is = absurd (false≢true is)
+by_command n r seq command.Disconnect moment s is = absurd (false≢true is)
+by_command n r seq command.ConfigurationDone moment s is = absurd (false≢true is)
+by_command n r seq (command.SetBreakpoints path lines) moment s is = absurd (false≢true is)
+by_command n r seq command.Threads moment s is = absurd (false≢true is)
+by_command n r seq (command.StackTrace start levels) moment s is = absurd (false≢true is)
+by_command n r seq (command.Scopes frame) moment s is = absurd (false≢true is)
+by_command n r seq (command.Variables reference start count) moment s is = absurd (false≢true is)
+by_command n r seq command.Continue moment s is = absurd (false≢true is)
+by_command n r seq (command.Step kind granularity) moment s is = absurd (false≢true is)
+by_command n r seq command.Pause moment s is = absurd (false≢true is)
+by_command n r seq (command.Disassemble address offset instruction_offset count) moment s is = absurd (false≢true is)
+by_command n r seq (command.Source path) moment s is = absurd (false≢true is)
+by_command n r seq (command.DumpCell code) moment s is = absurd (false≢true is)
+by_command n r seq command.DebugInfo moment s is = absurd (false≢true is)
+by_command n r seq command.InspectVariables moment s is = absurd (false≢true is)
+by_command n r seq (command.BoardSwitches value) moment s is = absurd (false≢true is)
+by_command n r seq (command.BoardPress vector) moment s is = absurd (false≢true is)
+by_command n r seq (command.BoardType text) moment s is = absurd (false≢true is)
+
+pub by_reset : (n : ℕ) (r : Request) (d : DapRequest) (moment : ℕ) (s : Session) → is_reset d.command ≡ true
+    → performing n r d moment s ≡ resetting n r d moment s
+by_reset n r d moment s is = by_command n r d.seq d.command moment s is
+
+-- ---- the other commands
+
+told_is : (who : Present) (n : ℕ) (r : Request) (d : DapRequest) (k : DebugKit) (outcome : Outcome) (letter : Option Letter)
+    → IsDebugKit who n r d k
+    → told_debug k outcome letter ≡ around who r.header (debug_reply n r d outcome ∷ option_to_list letter)
+told_is who n r d k outcome letter kit = rw (kit.around.letters, kit.around.idle, kit.envelope, kit.request_seq, kit.command) refl
+
+abbrev Stood : Turn → SessionState → Type 0
+Stood t new = (Ok Arrived ≡ t.answer) × StandsFor new (after t)
+
+-- the fields stand for a session with this board and these letters
+stood : (moment : ℕ) (s : Session) (old new : SessionState) (b : Board) (letters : List Letter) → StandsFor old s → LabStandsFor new.lab b
+    → new ≡ record old { lab = new.lab; store = new.store } → Keeps (posted moment letters s.posts) new.store
+    → Stood (posting Arrived moment letters (with_board b s.work s)) new
+stood moment s old new b letters stands board same kept = (
+  refl,
+  record {
+    board = board;
+    present = ap (λ (v : SessionState). v.present) same ∙ stands.present;
+    work = ap (λ (v : SessionState). v.work) same ∙ stands.work;
+    posts = kept;
+    is_shut = ap (λ (v : SessionState). v.is_shut) same ∙ stands.is_shut;
+  },
+)
+
+by_performed : (g : Result (Body × Board) EventFault) (n : ℕ) (r : Request) (d : DapRequest) (moment : ℕ) (s : Session) (old new : SessionState)
+    (res : Result Body EventFault) (k : DebugKit) (letters : List Letter)
+    → StandsFor old s → is_reset d.command ≡ false → Did s.board g res new.lab → IsDebugKit s.present n r d k
+    → letters ≡ told_by k res (after_letter (event_after d.command) r s)
+    → new ≡ record old { lab = new.lab; store = new.store } → Keeps (posted moment letters s.posts) new.store
+    → Stood (answering n r d moment s g) new
+by_performed (Ok (body, b)) n r d moment s old new res k letters stands other did kit told same kept =
+    let letter = after_letter (event_after d.command) r s in
+    let L : Result Body EventFault → List Letter = λ x. told_by k x letter in
+    let are : letters ≡ around s.present r.header (debug_reply n r d (Success body) ∷ option_to_list letter) =
+    told ∙ (ap L did.0 ∙ told_is s.present n r d k (Success body) letter kit) in
+    let P : List Letter → Type 0 = λ ls. Keeps (posted moment ls s.posts) new.store in
+    rw other (stood moment s old new b (around s.present r.header (debug_reply n r d (Success body) ∷ option_to_list letter)) stands did.1 same (subst P are kept))
+by_performed (Err fault) n r d moment s old new res k letters stands other did kit told same kept =
+    let letter = after_letter (event_after d.command) r s in
+    let L : Result Body EventFault → List Letter = λ x. told_by k x letter in
+    let are : letters ≡ around s.present r.header (debug_reply n r d (Refused (refusal_name fault)) ∷ []) =
+    told ∙ (ap L did.0 ∙ told_is s.present n r d k (Refused (refusal_name fault)) None kit) in
+    let P : List Letter → Type 0 = λ ls. Keeps (posted moment ls s.posts) new.store in
+    stood moment s old new s.board (around s.present r.header (debug_reply n r d (Refused (refusal_name fault)) ∷ [])) stands did.1 same (subst P are kept)
+
+pub performed_stands : (n : ℕ) (r : Request) (d : DapRequest) (moment : ℕ) (s : Session) (old new : SessionState)
+    (res : Result Body EventFault) (k : DebugKit) (letters : List Letter)
+    → StandsFor old s → is_reset d.command ≡ false → Does (performed d.command) old.lab res new.lab → res ≢ Err OutOfMemory
+    → IsDebugKit s.present n r d k → letters ≡ told_by k res (after_letter (event_after d.command) r s)
+    → new ≡ record old { lab = new.lab; store = new.store } → Keeps (posted moment letters s.posts) new.store
+    → (Ok Arrived ≡ (performing n r d moment s).answer) × StandsFor new (after (performing n r d moment s))
+performed_stands n r d moment s old new res k letters stands other does want kit told same kept =
+    by_performed (performed d.command s.board) n r d moment s old new res k letters stands other (does s.board stands.board want) kit told same kept

@@ -1,0 +1,9 @@
+pub mod Sessions
+pub mod Connections
+pub mod Asks
+pub mod Debugging
+pub mod Slices
+pub mod Turns
+pub mod Stands
+pub mod Kernels
+pub mod Running

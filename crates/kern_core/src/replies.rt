@@ -1,0 +1,72 @@
+//! Replies that neither ask the board nor change anything.
+ghost use Rattle.std.specs.Prelude.{◌≡◌, IfOk, MatchResult, Ok, Err};
+ghost use Rattle.asm_text.specs.Statements.{statements_of};
+ghost use Rattle.kern_core.specs.Asks.{completeness_by, completeness_of, plain_reply};
+
+use asm_syntax::fault::{AsmFault, FaultKind};
+use asm_text::statements::statements;
+use base_text::text::Text;
+use kern_ask::ask::{Ask, NeedyRequest};
+use kern_post::content::{Cause, Completeness, Content, Ending, RefusedRequest};
+use std::alloc::{AllocError, Global};
+
+fn completeness_by(kind: FaultKind) -> Completeness
+    ensures { result ≡ completeness_by kind }
+{
+    match kind {
+        FaultKind::Conditional {
+            is_missing_endif: true,
+        } => Completeness::Incomplete,
+        _ => Completeness::Invalid,
+    }
+}
+
+fn completeness_of(alloc: Global, code: &Text) -> Result<Completeness, AllocError>
+    ensures { IfOk result (λ c. c ≡ completeness_of (statements_of code.now)) }
+{
+    match statements(alloc, code.as_str()) {
+        Ok(_) => Ok(Completeness::Complete),
+        Err(AsmFault::At { kind, .. }) => Ok(completeness_by(kind)),
+        Err(AsmFault::OutOfMemory) => Err(AllocError),
+    }
+}
+
+fn bad_content(request: NeedyRequest, count: u64) -> Option<Content>
+    ensures { result ≡ plain_reply count (Ask.BadContent request) }
+{
+    match request {
+        NeedyRequest::Execute => Some(Content::ExecuteReply {
+            count,
+            ending: Ending::Failed(Cause::BadContent),
+        }),
+        NeedyRequest::IsComplete => Some(Content::BadContentReply(RefusedRequest::IsComplete)),
+        NeedyRequest::Complete => Some(Content::BadContentReply(RefusedRequest::Complete)),
+        NeedyRequest::Shutdown => Some(Content::BadContentReply(RefusedRequest::Shutdown)),
+        NeedyRequest::CommOpen | NeedyRequest::InputReply => None,
+    }
+}
+
+/// The one reply to a request that is answered by one, after so many executions were counted.
+pub fn plain_reply(alloc: Global, ask: &Ask, count: u64) -> Result<Option<Content>, AllocError>
+    ensures { IfOk result (λ content. content ≡ plain_reply count ask.now) }
+{
+    match ask {
+        Ask::KernelInfo => Ok(Some(Content::KernelInfoReply)),
+        Ask::IsComplete { code } => {
+            let completeness = completeness_of(alloc, code)?;
+            Ok(Some(Content::IsCompleteReply(completeness)))
+        }
+        Ask::Complete { cursor_pos } => Ok(Some(Content::CompleteReply {
+            cursor_pos: *cursor_pos,
+        })),
+        Ask::Inspect => Ok(Some(Content::InspectReply)),
+        Ask::History => Ok(Some(Content::HistoryReply)),
+        Ask::CommInfo => Ok(Some(Content::CommInfoReply)),
+        Ask::BadDebug(response) => {
+            let response = response.clone()?;
+            Ok(Some(Content::DebugReply(response)))
+        }
+        Ask::BadContent(request) => Ok(bad_content(*request, count)),
+        _ => Ok(None),
+    }
+}
