@@ -1,0 +1,115 @@
+//! A kernel with the seat of each entry.
+ghost use Rattle.std.specs.Prelude.{◌≡◌, [], option_map, slice_get};
+ghost use Rattle.kern_core.specs.Kernels.{is_entry};
+ghost use Rattle.kern_desk.specs.Seats.{calls_of};
+
+use kern_core::call::{Call, Reply};
+use kern_core::fault::KernFault;
+use kern_core::kernel::Kernel;
+use lab_turn::journaled::Journaled;
+use lab_turn::turnstile::Turnstile;
+use std::alloc::Global;
+use std::marker::Model;
+
+/// A kernel, and the seat of each of its entries.
+#[derive(Drop)]
+pub struct Seated {
+    kernel: Kernel,
+    seats: Vec<u32>,
+}
+
+impl Model for Seated {
+    ghost use Rattle.std.specs.Prelude.{◌≡◌, length};
+    ghost use Rattle.std.specs.List.{zip};
+    ghost use Rattle.kern_desk.specs.Seats.{SeatedState};
+
+    ghost Value = { SeatedState };
+
+    ghost view = { λ s. record {
+      entries = zip s.seats.items s.kernel.entries;
+      limit = s.kernel.limit;
+    } };
+
+    ghost invariant = { λ s. length s.seats.items ≡ length s.kernel.entries };
+}
+
+/// A desk: a kernel at which passes take turns.
+pub type Desk = Turnstile<Seated>;
+
+/// A seat's right to make calls at a desk.
+pub type Pass = lab_turn::pass::Pass<Seated>;
+
+fn seat_at(seats: &[u32], place: usize) -> Option<u32>
+    ensures { result ≡ slice_get seats.now place }
+{
+    seats.get(place).copied()
+}
+
+impl Seated {
+    /// A kernel on which no call was made yet, without allocating.
+    pub fn new(alloc: Global, kernel: Kernel) -> Seated
+        requires { kernel.entries ≡ [] }
+        ensures { result ≡ record { entries = []; limit = kernel.limit } }
+    {
+        Seated {
+            kernel,
+            seats: Vec::new(alloc),
+        }
+    }
+
+    /// The entry at a place, from 0: the seat that made the call, and the call.
+    pub fn entry(&self, place: usize) -> Option<(u32, &Call)>
+        ensures { option_map (λ entry. (entry.0, entry.1.now)) result
+            ≡ slice_get self.now.entries place }
+    {
+        let seat = seat_at(self.seats.as_slice(), place)?;
+        let call = self.kernel.entry(place)?;
+        Some((seat, call))
+    }
+
+    /// The kernel, without its seats.
+    pub fn into_kernel(self) -> Kernel
+        ensures { result ≡ record { entries = calls_of self.entries; limit = self.limit } }
+    {
+        let Seated { kernel, .. } = self;
+        kernel
+    }
+}
+
+fn is_entry(answer: &Result<Reply, KernFault>) -> bool
+    ensures { result ≡ is_entry answer.now }
+{
+    !matches!(answer, Err(KernFault::OutOfMemory | KernFault::JournalFull))
+}
+
+impl Journaled for Seated {
+    type Call = Call;
+
+    type Reply = Result<Reply, KernFault>;
+
+    ghost use Rattle.kern_core.specs.Kernels.{is_entry, is_full};
+    ghost use Rattle.kern_desk.specs.Seats.{seated_answer};
+
+    ghost entries = { λ s. s.entries };
+
+    ghost limit = { λ s. s.limit };
+
+    ghost answer = { seated_answer };
+
+    ghost is_entry = { is_entry };
+
+    ghost is_full = { is_full };
+
+    /// Makes the call on the kernel.
+    fn act(&mut self, seat: u32, call: Call) -> Result<Reply, KernFault> {
+        if self.seats.reserve(1).is_err() {
+            return Err(KernFault::OutOfMemory);
+        }
+        let answer = self.kernel.act(call);
+        if is_entry(&answer) {
+            self.seats.push_reserved(seat);
+            return answer;
+        }
+        answer
+    }
+}
