@@ -1,0 +1,106 @@
+//! The calls of a session.
+
+use crate::fault::SessionFault;
+use crate::members::{bytes, frames, member, number, small_number, text, truth};
+use base_text::sequence::{Bytes, Frames};
+use jup_wire::channel::Channel;
+use jup_wire::message::{DELIMITER, Message};
+use jup_wire::opening::open_message;
+use kern_ask::asking::request_of;
+use kern_core::call::Call;
+use kern_core::held::Held;
+use serde_json::Value;
+use std::alloc::Global;
+
+/// The call that a line tells.
+pub fn call_of(alloc: Global, call: &Value) -> Result<Call, SessionFault> {
+    match text(call, "kind")? {
+        "Join" => join(alloc, call),
+        "Leave" => leave(call),
+        "Subscribe" => subscribe(alloc, call),
+        "Arrive" => arrive(alloc, call),
+        "Slice" => slice(call),
+        "Fetch" => fetch(call),
+        _ => Err(SessionFault::Member("kind")),
+    }
+}
+
+fn channel_of(call: &Value) -> Result<Channel, SessionFault> {
+    match text(call, "channel")? {
+        "shell" => Ok(Channel::Shell),
+        "control" => Ok(Channel::Control),
+        "stdin" => Ok(Channel::Stdin),
+        "iopub" => Ok(Channel::Iopub),
+        _ => Err(SessionFault::Member("channel")),
+    }
+}
+
+fn join(alloc: Global, call: &Value) -> Result<Call, SessionFault> {
+    let channel = channel_of(call)?;
+    let identity = Held::new(alloc, bytes(alloc, call, "identity")?)?;
+    Ok(Call::Join { channel, identity })
+}
+
+fn leave(call: &Value) -> Result<Call, SessionFault> {
+    let connection = small_number(call, "connection")?;
+    Ok(Call::Leave { connection })
+}
+
+fn subscribe(alloc: Global, call: &Value) -> Result<Call, SessionFault> {
+    let connection = small_number(call, "connection")?;
+    let wants = truth(call, "on")?;
+    let moment = number(call, "moment")?;
+    let prefix = Held::new(alloc, bytes(alloc, call, "prefix")?)?;
+    Ok(Call::Subscribe {
+        connection,
+        wants,
+        prefix,
+        moment,
+    })
+}
+
+fn slice(call: &Value) -> Result<Call, SessionFault> {
+    let moment = number(call, "moment")?;
+    Ok(Call::Slice { moment })
+}
+
+fn fetch(call: &Value) -> Result<Call, SessionFault> {
+    let connection = small_number(call, "connection")?;
+    let from = number(call, "from")?;
+    Ok(Call::Fetch { connection, from })
+}
+
+// The message goes the whole way of one that comes over a wire.
+fn arrive(alloc: Global, call: &Value) -> Result<Call, SessionFault> {
+    let connection = small_number(call, "connection")?;
+    let moment = number(call, "moment")?;
+    let channel = channel_of(call)?;
+    let message = message_of(alloc, call)?;
+    let request = Held::new(alloc, request_of(alloc, channel, message)?)?;
+    Ok(Call::Arrive {
+        connection,
+        request,
+        moment,
+    })
+}
+
+fn message_of(alloc: Global, call: &Value) -> Result<Message, SessionFault> {
+    let frames = frames_of(alloc, call)?;
+    match open_message(alloc, frames, b"") {
+        Ok(message) => Ok(message),
+        Err(fault) => Err(SessionFault::Wire(fault)),
+    }
+}
+
+// The frames of a message without a key.
+fn frames_of(alloc: Global, call: &Value) -> Result<Frames, SessionFault> {
+    let mut frames = frames(alloc, call, "identities")?;
+    frames.push(Bytes::copy_of(alloc, DELIMITER)?)?;
+    frames.push(Bytes::new(alloc))?;
+    frames.push(Bytes::copy_of(alloc, text(call, "header")?.as_bytes())?)?;
+    frames.push(Bytes::copy_of(alloc, b"{}")?)?;
+    frames.push(Bytes::copy_of(alloc, b"{}")?)?;
+    let content = member(call, "content")?.to_vec(alloc)?;
+    frames.push(Bytes::from(content))?;
+    Ok(frames)
+}

@@ -1,0 +1,89 @@
+//! The posts of a session.
+
+use crate::fault::SessionFault;
+use crate::members::{are_frames, list, member, number, text};
+use base_text::sequence::Frames;
+use kern_json::content::content_json;
+use kern_post::post::{Head, Post};
+use serde_json::Value;
+use std::alloc::Global;
+
+/// Whether a post that a line tells is addressed to a connection.
+pub fn is_to(told: &Value, connection: u32) -> Result<bool, SessionFault> {
+    for other in list(told, "to")? {
+        if other.as_u64() == Some(u64::from(connection)) {
+            return Ok(true);
+        }
+    }
+    Ok(false)
+}
+
+/// Compares a post with what a line tells of it. The moment is that of the line's call.
+pub fn compare_post(
+    alloc: Global,
+    told: &Value,
+    moment: u64,
+    post: &Post,
+) -> Result<(), SessionFault> {
+    if let Some(part) = other_part(alloc, told, moment, post)? {
+        return Err(SessionFault::Post {
+            number: post.number,
+            part,
+        });
+    }
+    Ok(())
+}
+
+// The first part of a post that isn't as it is told, if there is one.
+fn other_part(
+    alloc: Global,
+    told: &Value,
+    moment: u64,
+    post: &Post,
+) -> Result<Option<&'static str>, SessionFault> {
+    if number(told, "number")? != post.number {
+        return Ok(Some("number"));
+    }
+    if moment != post.moment {
+        return Ok(Some("moment"));
+    }
+    if text(told, "msg_type")? != post.letter.content.topic() {
+        return Ok(Some("type"));
+    }
+    if !is_head(alloc, told, post)? {
+        return Ok(Some("head"));
+    }
+    if text(told, "parent")?.as_bytes() != post.letter.envelope.parent.as_slice() {
+        return Ok(Some("parent"));
+    }
+    if !is_content(alloc, told, post)? {
+        return Ok(Some("content"));
+    }
+    Ok(None)
+}
+
+fn is_head(alloc: Global, told: &Value, post: &Post) -> Result<bool, SessionFault> {
+    match &post.letter.envelope.head {
+        Head::Topic => is_topic(told, post.letter.content.topic()),
+        Head::Identities(identities) => are_identities(alloc, told, identities),
+    }
+}
+
+fn is_topic(told: &Value, topic: &str) -> Result<bool, SessionFault> {
+    if told.get("topic").is_none() {
+        return Ok(false);
+    }
+    Ok(text(told, "topic")? == topic)
+}
+
+fn are_identities(alloc: Global, told: &Value, identities: &Frames) -> Result<bool, SessionFault> {
+    if told.get("reply_to").is_none() {
+        return Ok(false);
+    }
+    are_frames(alloc, told, "reply_to", identities)
+}
+
+fn is_content(alloc: Global, told: &Value, post: &Post) -> Result<bool, SessionFault> {
+    let content = content_json(alloc, post.number, &post.letter.content)?;
+    Ok(*member(told, "content")? == content)
+}

@@ -1,0 +1,216 @@
+//! One session.
+
+use crate::calls::call_of;
+use crate::fault::SessionFault;
+use crate::members::{list, member, number, small_number};
+use crate::posts::{compare_post, is_to};
+use crate::replies::{are_numbers, compare_reply};
+use kern_core::call::{Call, Reply};
+use kern_core::fault::KernFault;
+use kern_core::kernel::Kernel;
+use kern_post::post::{Post, Posts};
+use serde_json::Value;
+use std::alloc::{AllocError, Global};
+
+/// The greatest limit of a journal. Only under it are fetches put in that the session doesn't have.
+const MOST_ENTRIES: u32 = 4_194_304;
+
+/// How much a session did.
+#[derive(Clone, Copy, Debug)]
+pub struct Made {
+    pub calls: u64,
+    pub posts: u64,
+}
+
+/// A kernel with what was told of it so far.
+#[derive(Drop)]
+struct Session {
+    kernel: Kernel,
+    // The lines so far, but for the repeated ones.
+    lines: Vec<Value>,
+    present: Vec<u32>,
+    sees_posts: bool,
+    made: Made,
+}
+
+/// Makes the calls of a session, a line each, and compares what they give. The fault of the first line
+/// that isn't kept to comes with the number of the line, from 1.
+pub fn run_session(alloc: Global, text: &str) -> Result<Made, (usize, SessionFault)> {
+    let mut session = match open_session(alloc, text) {
+        Ok(session) => session,
+        Err(fault) => return Err((1, fault)),
+    };
+    for (at, line) in text.lines().enumerate() {
+        if let Err(fault) = session.line(alloc, line) {
+            return Err((at.saturating_add(1), fault));
+        }
+    }
+    Ok(session.made)
+}
+
+// A new kernel with the limit that the first line tells.
+fn open_session(alloc: Global, text: &str) -> Result<Session, SessionFault> {
+    let first = text.lines().next().unwrap_or("");
+    let line = read_line(alloc, first)?;
+    let limit = small_number(&line, "limit")?;
+    if limit == 0 || limit > MOST_ENTRIES {
+        return Err(SessionFault::Member("limit"));
+    }
+    Ok(Session {
+        kernel: Kernel::new(alloc, limit)?,
+        lines: Vec::new(alloc),
+        present: Vec::new(alloc),
+        sees_posts: limit == MOST_ENTRIES,
+        made: Made { calls: 0, posts: 0 },
+    })
+}
+
+fn read_line(alloc: Global, text: &str) -> Result<Value, SessionFault> {
+    match Value::from_str(alloc, text) {
+        Ok(line) => Ok(line),
+        Err(e) if e.is_memory() => Err(SessionFault::OutOfMemory),
+        Err(_) => Err(SessionFault::Json),
+    }
+}
+
+// A line of repeated calls, for one of them.
+fn numbered(alloc: Global, text: &str, number: u64) -> Result<String, AllocError> {
+    let digits = format!(in alloc; "{number}")?;
+    text.replace(alloc, '#', digits.as_str())
+}
+
+impl Session {
+    fn line(&mut self, alloc: Global, text: &str) -> Result<(), SessionFault> {
+        let line = read_line(alloc, text)?;
+        if line.get("repeat").is_some() {
+            return self.repeat(alloc, text, &line);
+        }
+        self.call(alloc, &line)?;
+        self.see_posts(alloc, &line)?;
+        self.lines.push(line)?;
+        Ok(())
+    }
+
+    // The posts of repeated calls aren't told, but for how many they are.
+    fn repeat(&mut self, alloc: Global, text: &str, line: &Value) -> Result<(), SessionFault> {
+        let posts = number(line, "made")?;
+        for k in 0..number(line, "repeat")? {
+            let text = numbered(alloc, text, k)?;
+            let line = read_line(alloc, text.as_str())?;
+            self.call(alloc, &line)?;
+            self.made.posts = self.made.posts.saturating_add(posts);
+        }
+        Ok(())
+    }
+
+    fn call(&mut self, alloc: Global, line: &Value) -> Result<(), SessionFault> {
+        let call = call_of(alloc, member(line, "call")?)?;
+        let answer = self.kernel.act(call);
+        compare_reply(alloc, member(line, "reply")?, &answer)?;
+        self.made.calls = self.made.calls.saturating_add(1);
+        self.follow(alloc, line, &answer)
+    }
+
+    // What an answer says of who is there and of earlier posts.
+    fn follow(
+        &mut self,
+        alloc: Global,
+        line: &Value,
+        answer: &Result<Reply, KernFault>,
+    ) -> Result<(), SessionFault> {
+        match answer {
+            Ok(Reply::Joined { connection, .. }) => {
+                self.present.push(*connection)?;
+                Ok(())
+            }
+            Ok(Reply::Left) => self.leave(small_number(member(line, "call")?, "connection")?),
+            Ok(Reply::Fetched { posts, .. }) => compare_posts(alloc, self.lines.as_slice(), posts),
+            _ => Ok(()),
+        }
+    }
+
+    fn leave(&mut self, connection: u32) -> Result<(), SessionFault> {
+        self.present.retain(|other| *other != connection);
+        Ok(())
+    }
+
+    // The posts of a line, by a fetch for each connection that is there.
+    fn see_posts(&mut self, alloc: Global, line: &Value) -> Result<(), SessionFault> {
+        let told = list(line, "posts")?;
+        let Some(first) = told.first() else {
+            return Ok(());
+        };
+        self.made.posts = self.made.posts.saturating_add(told.len() as u64);
+        if !self.sees_posts {
+            return Ok(());
+        }
+        let from = number(first, "number")?;
+        for connection in self.present.iter() {
+            see_posts_of(alloc, &mut self.kernel, line, *connection, from)?;
+        }
+        Ok(())
+    }
+}
+
+fn see_posts_of(
+    alloc: Global,
+    kernel: &mut Kernel,
+    line: &Value,
+    connection: u32,
+    from: u64,
+) -> Result<(), SessionFault> {
+    let answer = kernel.act(Call::Fetch { connection, from });
+    let posts = match &answer {
+        Ok(Reply::Fetched { posts, .. }) => posts,
+        _ => return Err(SessionFault::Fetch(connection)),
+    };
+    if !are_those_to(alloc, connection, list(line, "posts")?, posts)? {
+        return Err(SessionFault::Numbers(connection));
+    }
+    for post in posts.as_slice() {
+        compare_with(alloc, line, post)?;
+    }
+    Ok(())
+}
+
+// Whether posts are those of the told ones that are addressed to a connection, by their numbers.
+fn are_those_to(
+    alloc: Global,
+    connection: u32,
+    told: &[Value],
+    posts: &Posts,
+) -> Result<bool, SessionFault> {
+    let mut numbers = Vec::new(alloc);
+    for post in told {
+        if is_to(post, connection)? {
+            numbers.push(number(post, "number")?)?;
+        }
+    }
+    Ok(are_numbers(numbers.as_slice(), posts))
+}
+
+// Compares posts with what lines tell of them; of those of repeated calls nothing is told.
+fn compare_posts(alloc: Global, lines: &[Value], posts: &Posts) -> Result<(), SessionFault> {
+    for post in posts.as_slice() {
+        compare_told(alloc, lines, post)?;
+    }
+    Ok(())
+}
+
+fn compare_told(alloc: Global, lines: &[Value], post: &Post) -> Result<(), SessionFault> {
+    for line in lines {
+        compare_with(alloc, line, post)?;
+    }
+    Ok(())
+}
+
+// Compares a post with what a line tells of it, if it does.
+fn compare_with(alloc: Global, line: &Value, post: &Post) -> Result<(), SessionFault> {
+    for told in list(line, "posts")? {
+        if number(told, "number")? == post.number {
+            let moment = number(member(line, "call")?, "moment")?;
+            compare_post(alloc, told, moment, post)?;
+        }
+    }
+    Ok(())
+}
