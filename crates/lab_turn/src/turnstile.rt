@@ -14,7 +14,7 @@ use std::alloc::Global;
 use std::fmt;
 use std::marker::Model;
 use std::snapshot::Snapshot;
-use std::sync::Wait;
+use std::sync::{Mutex, Wait};
 
 /// A journaled value that the holders of its passes take turns on, from any thread.
 ///
@@ -23,6 +23,9 @@ use std::sync::Wait;
 pub struct Turnstile<J: Journaled> {
     table: Table<Option<J>, View<J::Call>, Opening<J>, Turns<J>, Global>,
     seats: u32,
+    // Tickets are served in order, so one waiter that isn't running would hold up all that spin behind
+    // it. Here those that wait for their turn sleep.
+    door: Mutex<()>,
 }
 
 impl<J: Journaled> Model for Turnstile<J> {
@@ -159,7 +162,8 @@ impl<J: Journaled> Turnstile<J> {
                 let Ok(()) = passes.insert(0, Pass { seat: 0, token }) else {
                     unreachable!()
                 };
-                Ok((Turnstile { table, seats }, passes))
+                let door = Mutex::new(());
+                Ok((Turnstile { table, seats, door }, passes))
             }
             Err(value) => Err(OpenFault::OutOfMemory(value)),
         }
@@ -181,7 +185,10 @@ impl<J: Journaled> Turnstile<J> {
             Turned J.answer J.is_entry J.is_full pass.old call reply pass.new) }
         ensures worn { OnErr result (pass.new ≡ record pass.old { worn = true }) }
     {
-        take_turn(rt, &self.table.shared, pass.seat, &mut pass.token, call)
+        let inside = self.door.lock(rt);
+        let reply = take_turn(rt, &self.table.shared, pass.seat, &mut pass.token, call);
+        drop(inside);
+        reply
     }
 
     /// Closes the turnstile with all its passes, in any order, and gives the value back. It needs
@@ -204,7 +211,11 @@ impl<J: Journaled> Turnstile<J> {
             unreachable!()
         };
         let mut token = last.into_token();
-        let Turnstile { table, seats: _ } = self;
+        let Turnstile {
+            table,
+            seats: _,
+            door: _,
+        } = self;
         gather(&table.shared, &mut token, passes);
         let mut closed = table.close_with(token);
         let taken = closed.take(VALUE);

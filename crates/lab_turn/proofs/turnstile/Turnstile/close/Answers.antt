@@ -23,7 +23,7 @@ unreachable-requires-in_default-taken g c =
     c.in_default-taken.not-Some h.0 top
 
 -- the value that was taken out, with the whole history
-closed_value : (g : Over) (c : goal.In-Some-taken g) → (g.J.Journaled.limit c.in-Some-taken.value ≡ c.args.self.limit) × IsHistoryOf c.args.self c.args.passes.items (g.J.Journaled.entries c.in-Some-taken.value)
+closed_value : (g : Over) (c : goal.After-drop-self-inside g) → (g.J.Journaled.limit c.in-Some-taken.value ≡ c.args.self.limit) × IsHistoryOf c.args.self c.args.passes.items (g.J.Journaled.entries c.in-Some-taken.value)
 closed_value g c =
     let E = g.J.Journaled.entries in
     let L = g.J.Journaled.limit in
