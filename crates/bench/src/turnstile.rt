@@ -1,4 +1,4 @@
-//! Turns on a turnstile: how many a second 1, 2 and 4 threads make.
+//! Turns on a turnstile: how many a second 1, 2, 4 and 16 threads make.
 ghost use Rattle.std.specs.Prelude.{◌≡◌, ◌<◌, ◌≤◌};
 
 use anyhow::{Result, bail};
@@ -79,9 +79,9 @@ pub fn check<R: Threads + Wait + Sync + Print>(rt: &R, alloc: Global) -> Result<
     Ok(())
 }
 
-/// Prints how many turns a second 1, 2 and 4 threads make.
+/// Prints how many turns a second 1, 2, 4 and 16 threads make.
 pub fn time<R: Threads + Wait + Sync + Clock + Print>(rt: &R, alloc: Global) -> Result<()> {
-    for threads in [1, 2, 4] {
+    for threads in [1, 2, 4, 16] {
         rate(rt, alloc, threads)?;
     }
     Ok(())

@@ -3,4 +3,6 @@
 #![tactic(auto)]
 
 #[cfg(test)]
+mod connection_files;
+#[cfg(test)]
 mod messages;

@@ -13,8 +13,8 @@ use Rattle.kern_core.specs.Slices.{slicing}
 unfoldable pub turn : Call → Session → Turn
 turn (call.Join channel identity) s = joined channel identity s
 turn (call.Leave n) s = left n s
-turn (call.Subscribe n wants prefix moment) s = subscribing n wants prefix moment s
-turn (call.Arrive n request moment) s = arriving n request moment s
+turn (call.Subscribe n c) s = subscribing n c.wants c.prefix c.moment s
+turn (call.Arrive n c) s = arriving n c.request c.moment s
 turn (call.Slice moment) s = slicing moment s
 turn (call.Fetch n from) s = fetched n from s
 

@@ -6,10 +6,25 @@ use jup_wire::channel::Channel;
 use kern_ask::ask::Request;
 use kern_post::post::Posts;
 
+/// What a connection wants or no longer wants: the posts whose topic begins with the prefix.
+#[derive(Debug, Drop)]
+pub struct Subscription {
+    pub wants: bool,
+    pub prefix: Bytes,
+    pub moment: u64,
+}
+
+/// A request, and when it came.
+#[derive(Debug, Drop)]
+pub struct Arrival {
+    pub request: Request,
+    pub moment: u64,
+}
+
 /// A call, as it is journaled. Moments are seconds since 1970.
 ///
-/// A running cell makes tens of thousands of slices a second, so what a call carries lies behind a
-/// pointer.
+/// A running cell makes tens of thousands of slices a second, so a call takes 24 bytes: what is longer
+/// lies behind a pointer.
 #[derive(Debug, Drop)]
 pub enum Call {
     /// A connection comes, with an identity or an empty one.
@@ -21,18 +36,15 @@ pub enum Call {
     Leave {
         connection: u32,
     },
-    /// It wants the posts whose topic begins with a prefix, or no longer wants them.
+    /// It wants posts, or no longer wants them.
     Subscribe {
         connection: u32,
-        wants: bool,
-        prefix: Held<Bytes>,
-        moment: u64,
+        subscription: Held<Subscription>,
     },
     /// A request arrives on it.
     Arrive {
         connection: u32,
-        request: Held<Request>,
-        moment: u64,
+        arrival: Held<Arrival>,
     },
     /// The kernel goes on: with the run, its start or the next cell.
     Slice {

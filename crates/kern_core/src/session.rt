@@ -12,7 +12,7 @@ mod connections;
 mod debug;
 mod slices;
 
-use crate::call::{Call, Reply};
+use crate::call::{Arrival, Call, Reply, Subscription};
 use crate::fault::KernFault;
 use kern_exec::executions::Executions;
 use kern_peers::peers::Peers;
@@ -81,15 +81,22 @@ impl Session {
             Call::Leave { connection } => self.leave(*connection),
             Call::Subscribe {
                 connection,
-                wants,
-                prefix,
-                moment,
-            } => self.subscribe(*connection, *wants, prefix.get(), *moment),
+                subscription,
+            } => {
+                let Subscription {
+                    wants,
+                    prefix,
+                    moment,
+                } = subscription.get();
+                self.subscribe(*connection, *wants, prefix, *moment)
+            }
             Call::Arrive {
                 connection,
-                request,
-                moment,
-            } => self.arrive(*connection, request.get(), *moment),
+                arrival,
+            } => {
+                let Arrival { request, moment } = arrival.get();
+                self.arrive(*connection, request, *moment)
+            }
             Call::Slice { moment } => self.slice(*moment),
             Call::Fetch { connection, from } => self.fetch(*connection, *from),
         }

@@ -10,10 +10,10 @@ use Rattle.jup_wire.specs.Seal.{IsSealed, frames_of, signature_frame}
 use Rattle.kern_post.specs.declared.post.Post.{Post}
 use Rattle.kern_json.specs.Json.{empty_object, content_json}
 use Rattle.kern_json.proofs.FloatLemmas.{content_has_no_float}
-use Rattle.kern_render.specs.Dates.{IsDate, last_moment}
+use Rattle.jup_date.specs.Dates.{IsDate, last_moment}
 use Rattle.kern_render.specs.Rendering.{header_json, parts_of, rendered, IsRendered}
 use Rattle.kern_render.specs.Drafts.{IsDraftOf}
-use Rattle.kern_render.proofs.DateLemmas.{one_date}
+use Rattle.jup_date.proofs.DateLemmas.{one_date}
 
 -- parts are equal where each of the five is
 same_parts : (p q : Parts) → p.identities ≡ q.identities → p.header ≡ q.header

@@ -1,4 +1,3 @@
-pub mod Dates
 pub mod Names
 pub mod Rendering
 pub mod Drafts

@@ -11,7 +11,7 @@ use Rattle.kern_post.specs.declared.post.Head.TheVariants.{Topic, Identities}
 use Rattle.kern_post.specs.declared.post.Post.{Post}
 use Rattle.kern_post.specs.Topics.{topic_of}
 use Rattle.kern_json.specs.Json.{empty_object, content_json}
-use Rattle.kern_render.specs.Dates.{IsDate, last_moment}
+use Rattle.jup_date.specs.Dates.{IsDate, last_moment}
 
 -- no two posts of a session have the same
 abbrev pub message_id : List ℕ → ℕ → List ℕ

@@ -2,13 +2,13 @@
 ghost use Rattle.std.specs.Prelude.{◌≡◌, [], ◌∷◌, ◌++◌, IfOk, codes, decimal, min, string_bytes};
 ghost use Rattle.serde_json.specs.View.{view};
 ghost use Rattle.kern_json.specs.Json.{empty_object};
-ghost use Rattle.kern_render.specs.Dates.{IsDate, last_moment};
+ghost use Rattle.jup_date.specs.Dates.{IsDate, last_moment};
 ghost use Rattle.kern_render.specs.Rendering.{header_json, head_frames, IsRendered};
 ghost use Rattle.kern_render.specs.Drafts.{IsDraftOf};
 
-use crate::date::{LAST_MOMENT, date_text};
 use base_text::sequence::{Bytes, Frames};
 use base_text::text::Text;
+use jup_date::date::{LAST_MOMENT, date_text};
 use jup_wire::sealing::{Draft, seal_message};
 use kern_json::content::content_json;
 use kern_post::content::Content;

@@ -7,7 +7,7 @@ use jup_wire::channel::Channel;
 use jup_wire::message::{DELIMITER, Message};
 use jup_wire::opening::open_message;
 use kern_ask::asking::request_of;
-use kern_core::call::Call;
+use kern_core::call::{Arrival, Call, Subscription};
 use kern_core::held::Held;
 use serde_json::Value;
 use std::alloc::Global;
@@ -50,12 +50,15 @@ fn subscribe(alloc: Global, call: &Value) -> Result<Call, SessionFault> {
     let connection = small_number(call, "connection")?;
     let wants = truth(call, "on")?;
     let moment = number(call, "moment")?;
-    let prefix = Held::new(alloc, bytes(alloc, call, "prefix")?)?;
-    Ok(Call::Subscribe {
-        connection,
+    let prefix = bytes(alloc, call, "prefix")?;
+    let subscription = Subscription {
         wants,
         prefix,
         moment,
+    };
+    Ok(Call::Subscribe {
+        connection,
+        subscription: Held::new(alloc, subscription)?,
     })
 }
 
@@ -76,11 +79,11 @@ fn arrive(alloc: Global, call: &Value) -> Result<Call, SessionFault> {
     let moment = number(call, "moment")?;
     let channel = channel_of(call)?;
     let message = message_of(alloc, call)?;
-    let request = Held::new(alloc, request_of(alloc, channel, message)?)?;
+    let request = request_of(alloc, channel, message)?;
+    let arrival = Held::new(alloc, Arrival { request, moment })?;
     Ok(Call::Arrive {
         connection,
-        request,
-        moment,
+        arrival,
     })
 }
 

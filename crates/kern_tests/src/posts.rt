@@ -5,6 +5,7 @@ use crate::members::{are_frames, list, member, number, text};
 use base_text::sequence::Frames;
 use kern_json::content::content_json;
 use kern_post::post::{Head, Post};
+use kern_render::rendering::render;
 use serde_json::Value;
 use std::alloc::Global;
 
@@ -59,6 +60,9 @@ fn other_part(
     if !is_content(alloc, told, post)? {
         return Ok(Some("content"));
     }
+    if !is_rendered(alloc, told, post)? {
+        return Ok(Some("frames"));
+    }
     Ok(None)
 }
 
@@ -86,4 +90,13 @@ fn are_identities(alloc: Global, told: &Value, identities: &Frames) -> Result<bo
 fn is_content(alloc: Global, told: &Value, post: &Post) -> Result<bool, SessionFault> {
     let content = content_json(alloc, post.number, &post.letter.content)?;
     Ok(*member(told, "content")? == content)
+}
+
+// Where the frames are told, they are those under the empty key in the session `S`.
+fn is_rendered(alloc: Global, told: &Value, post: &Post) -> Result<bool, SessionFault> {
+    if told.get("frames").is_none() {
+        return Ok(true);
+    }
+    let frames = render(alloc, post, b"", "S")?;
+    are_frames(alloc, told, "frames", &frames)
 }

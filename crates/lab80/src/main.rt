@@ -1,9 +1,14 @@
 // lab80, an Intel 8080 laboratory: `lab80 step` runs a program's bytes and prints what each
-// instruction did, `lab80 asm` assembles and runs a cell, `lab80 dis` lists bytes as assembler text.
-// The engines of these words stand in lab_engines, each with the contract that what it writes is
-// the stated text of what it reads; what the words ask for and the number of each exit status are
-// stated too. This file calls the one with the other.
+// instruction did, `lab80 asm` assembles and runs a cell, `lab80 dis` lists bytes as assembler text;
+// `lab80 kernel` serves as a Jupyter kernel, and `lab80 term` runs a cell on one.
+// What each word does stands in crates of its own, with its contract: lab_engines, kern_serve, lab_term.
+// This file calls them with the files, sockets and streams of the system.
 #![tactic(auto)]
+
+mod file;
+mod kernel;
+mod line;
+mod term;
 
 use lab_engines::asm::run_asm;
 use lab_engines::command::{Command, read_command};
@@ -18,23 +23,24 @@ use std::{env, io};
 const USAGE: &str = "usage: lab80 step | asm | dis ORIGIN | kernel FILE | term FILE";
 
 fn main(rt: HostRuntime) -> ExitCode {
-    ExitCode::from(run(&rt).number())
-}
-
-fn run(rt: &(impl Env + Input + Print + Eprint + AllocGlobal)) -> Status {
-    let words = match words(rt) {
+    let words = match words(&rt) {
         Ok(words) => words,
-        Err(error) if error.kind() == io::ErrorKind::OutOfMemory => return Status::OutOfMemory,
-        Err(_) => return usage(rt),
-    };
-    match read_command(&words) {
-        Some(Command::Step) => run_step(rt.alloc(), &mut rt.reader(), &mut io::writer(rt)),
-        Some(Command::Asm) => run_asm(rt.alloc(), &mut rt.reader(), &mut io::writer(rt)),
-        Some(Command::Dis(origin)) => {
-            run_dis(rt.alloc(), origin, &mut rt.reader(), &mut io::writer(rt))
+        Err(error) if error.kind() == io::ErrorKind::OutOfMemory => {
+            return ExitCode::from(Status::OutOfMemory.number());
         }
-        None => usage(rt),
-    }
+        Err(_) => return ExitCode::from(usage(&rt).number()),
+    };
+    let status = match read_command(&words) {
+        Some(Command::Step) => run_step(rt.alloc(), &mut rt.reader(), &mut io::writer(&rt)),
+        Some(Command::Asm) => run_asm(rt.alloc(), &mut rt.reader(), &mut io::writer(&rt)),
+        Some(Command::Dis(origin)) => {
+            run_dis(rt.alloc(), origin, &mut rt.reader(), &mut io::writer(&rt))
+        }
+        Some(Command::Kernel(file)) => kernel::run_kernel(&rt, file),
+        Some(Command::Term(file)) => term::run_term(&rt, file),
+        None => usage(&rt),
+    };
+    ExitCode::from(status.number())
 }
 
 /// The words after the program's name.

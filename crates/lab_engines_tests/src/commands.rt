@@ -7,7 +7,7 @@ use std::io;
 use std::io::{ErrorKind, Write};
 
 /// Words with a blank between them, and what they ask for.
-const ROWS: [(&str, Option<Command>); 11] = [
+const ROWS: [(&str, Option<Command<'static>>); 17] = [
     ("step", Some(Command::Step)),
     ("asm", Some(Command::Asm)),
     ("dis 00F0", Some(Command::Dis(0x00f0))),
@@ -19,6 +19,12 @@ const ROWS: [(&str, Option<Command>); 11] = [
     ("asm 0000", None),
     ("STEP", None),
     ("dis 0000 0000", None),
+    ("kernel k.json", Some(Command::Kernel("k.json"))),
+    ("term k.json", Some(Command::Term("k.json"))),
+    ("kernel", None),
+    ("term", None),
+    ("kernel k.json x", None),
+    ("Kernel k.json", None),
 ];
 
 fn words_of(alloc: Global, text: &str) -> Result<Vec<String>, AllocError> {

@@ -36,7 +36,12 @@ fn push_hex(bytes: &mut Vec<u8>, digits: &str) -> Result<(), Fail> {
 }
 
 // The bytes of three parts.
-fn bytes_of(alloc: Global, greeting: &str, ready: &str, traffic: &str) -> Result<Vec<u8>, Fail> {
+pub(crate) fn bytes_of(
+    alloc: Global,
+    greeting: &str,
+    ready: &str,
+    traffic: &str,
+) -> Result<Vec<u8>, Fail> {
     let mut bytes = Vec::new(alloc);
     push_hex(&mut bytes, greeting)?;
     push_hex(&mut bytes, ready)?;

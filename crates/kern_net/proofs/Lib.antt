@@ -1,0 +1,12 @@
+pub mod AnswerLemmas
+pub mod AskLemmas
+pub mod CallLemmas
+pub mod FetchLemmas
+pub mod GrowLemmas
+pub mod LagLemmas
+pub mod OutLemmas
+pub mod ReadLemmas
+pub mod ReadTurnLemmas
+pub mod StreamLemmas
+pub mod TurnLemmas
+pub mod WorkLemmas

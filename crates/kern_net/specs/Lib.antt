@@ -1,0 +1,10 @@
+pub mod Asking
+pub mod Calls
+pub mod Ends
+pub mod Gates
+pub mod Out
+pub mod ReadEnds
+pub mod Reading
+pub mod Rounds
+pub mod Streams
+pub mod Work

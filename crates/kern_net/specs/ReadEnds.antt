@@ -1,0 +1,70 @@
+-- Why reading from a connection ends.
+use Rattle.std.specs.Prelude.{◌≡◌, ◌≤◌, ◌⊎◌, ℕ, Bool, true, false, List, [], ◌∷◌, ◌++◌, length, Some, Result, Err}
+use Rattle.lab_turn.specs.History.{PassState}
+use Rattle.zmtp_wire.specs.Stream.{SideState}
+use Rattle.kern_core.specs.declared.call.Call.{Call}
+use Rattle.kern_core.specs.declared.call.Call.TheVariants.{Join, Leave, Subscribe, Arrive, Slice, Fetch}
+use Rattle.kern_core.specs.declared.call.Reply.{Reply}
+use Rattle.kern_core.specs.declared.fault.KernFault.{KernFault}
+use Rattle.kern_desk.specs.Seats.{seated_answer}
+use Rattle.kern_net.specs.declared.end.PumpEnd.{PumpEnd}
+use Rattle.kern_net.specs.declared.end.PumpEnd.TheVariants as pump
+
+-- the calls that reading makes
+abbrev pub IsReaderCall : Call → Type 0
+IsReaderCall (Subscribe connection subscription) = Unit {0}
+IsReaderCall (Arrive connection arrival) = Unit {0}
+IsReaderCall (Join channel identity) = ⊥
+IsReaderCall (Leave connection) = ⊥
+IsReaderCall (Slice moment) = ⊥
+IsReaderCall (Fetch connection from) = ⊥
+
+-- the last call in the history that the pass has seen is its own and comes after these, and this is the answer to it
+pub record LastAnswer (old : List Call) (pass : PassState Call) (answer : Result Reply KernFault) : Type 0 where
+  pub before : List (ℕ × Call)
+  pub call : Call
+  pub earlier : List Call
+  pub history : pass.seen ≡ before ++ (pass.seat, call) ∷ []
+  pub own : pass.calls ≡ old ++ (earlier ++ call ∷ [])
+  pub answered : seated_answer before call ≡ answer
+
+-- an end by a turn, which comes after these calls, or for want of memory
+abbrev pub StopsBy : PumpEnd → List Call → PassState Call → Type 0
+StopsBy pump.OutOfMemory old pass = Unit {0}
+StopsBy pump.JournalFull old pass = length pass.seen ≡ pass.turnstile.limit
+StopsBy (pump.Refused fault) old pass = LastAnswer old pass (Err fault)
+StopsBy pump.Worn old pass = pass.worn ≡ true
+StopsBy pump.PeerEnded old pass = ⊥
+StopsBy pump.ReadFailed old pass = ⊥
+StopsBy pump.WriteFailed old pass = ⊥
+StopsBy (pump.Wire cause) old pass = ⊥
+StopsBy pump.Lagged old pass = ⊥
+StopsBy pump.Ended old pass = ⊥
+
+-- or the stream broke
+abbrev pub StopsPiece : PumpEnd → List Call → PassState Call → SideState → Type 0
+StopsPiece (pump.Wire cause) old pass side = side.fault ≡ Some cause
+StopsPiece e old pass side = StopsBy e old pass
+
+-- no reader is asked more often
+unfoldable pub most_reads : ℕ
+most_reads = 4294967295
+
+-- each read but the last gave a byte at least
+abbrev pub IsWornOut : List ℕ → Type 0
+IsWornOut bytes = most_reads ≤ length bytes
+
+-- why it ended, as the pass, the reader, the bytes that were read and the side after them show it; a reader
+-- ends or fails only where reading ends so
+abbrev pub EndsBy : PumpEnd → List Call → PassState Call → Bool → Bool → List ℕ → SideState → Type 0
+EndsBy pump.PeerEnded old pass ended failed bytes side = (ended ≡ true) × (failed ≡ false)
+EndsBy pump.ReadFailed old pass ended failed bytes side =
+    (ended ≡ false) × ((failed ≡ true) ⊎ ((failed ≡ false) × IsWornOut bytes))
+EndsBy e old pass ended failed bytes side = (ended ≡ false) × (failed ≡ false) × StopsPiece e old pass side
+
+-- at these ends all was asked for
+abbrev pub asks_all : PumpEnd → Bool
+asks_all pump.PeerEnded = true
+asks_all pump.ReadFailed = true
+asks_all (pump.Wire cause) = true
+asks_all _ = false

@@ -1,0 +1,259 @@
+//! Asking for one message.
+ghost use Rattle.std.specs.Prelude.{◌≡◌, ◌≤◌, ◌⊎◌, ◌++◌, ◌∷◌, [], true, false, OnOk, OnErr, Err, IfOk, IfErr, IfSome, IfNone};
+ghost use Rattle.serde_json.specs.View.{view};
+ghost use Rattle.jup_wire.specs.declared.channel.Channel.TheVariants.{Iopub};
+ghost use Rattle.jup_wire.specs.Wire.{IsMessage};
+ghost use Rattle.kern_ask.specs.Asks.{request_of as request_in};
+ghost use Rattle.kern_core.specs.declared.call.Call.TheVariants.{Arrive, Subscribe};
+ghost use Rattle.kern_core.specs.Kernels.{is_entry};
+ghost use Rattle.kern_net.specs.Asking.{subscription_frames, IsUnopened, IsNoSubscription};
+ghost use Rattle.kern_net.specs.ReadEnds.{IsReaderCall, StopsBy};
+ghost use Rattle.kern_net.specs.Reading.{AsksFront};
+
+use crate::end::PumpEnd;
+use crate::gate::Gate;
+use crate::pump_in::Place;
+use base_text::sequence::{Bytes, Frames};
+use jup_wire::channel::Channel;
+use jup_wire::message::{Message, WireFault};
+use jup_wire::opening::open_message;
+use kern_ask::asking::request_of;
+use kern_core::call::{Arrival, Call, Reply, Subscription};
+use kern_core::fault::KernFault;
+use kern_core::held::Held;
+use kern_desk::seated::{Desk, Pass};
+use std::alloc::{AllocError, Global};
+use std::sync::Wait;
+
+// Why a call was refused, if it was.
+fn refusal(answer: Result<Reply, KernFault>) -> Result<(), KernFault>
+    ensures ok { OnOk result (is_entry answer ≡ true) }
+    ensures err { IfErr result (λ fault. answer ≡ Err fault) }
+{
+    match answer {
+        Ok(_) => Ok(()),
+        Err(fault) => Err(fault),
+    }
+}
+
+// Makes one turn, and wakes those that wait for what it may have changed.
+#[tactic(auto, using(crate::proofs::ReadTurnLemmas::stops_full, crate::proofs::ReadTurnLemmas::stops_unknown, crate::proofs::ReadTurnLemmas::stops_journal_full, crate::proofs::ReadTurnLemmas::never_lagged, crate::proofs::ReadTurnLemmas::counted))]
+fn make_call<R: Wait, G: Gate>(
+    rt: &R,
+    desk: &Desk,
+    pass: &mut Pass,
+    gate: &mut G,
+    call: Call,
+) -> Result<(), PumpEnd>
+    requires own { pass.old.turnstile ≡ desk.now }
+    requires read { IsReaderCall call }
+    ensures same { (pass.new.turnstile ≡ desk.now) × (pass.new.seat ≡ pass.old.seat) }
+    ensures gate { G.asked gate.new ≡ G.asked gate.old }
+    ensures ok { OnOk result (pass.new.calls ≡ pass.old.calls ++ call ∷ []) }
+    ensures err { IfErr result (λ e. StopsBy e pass.old.calls pass.new) }
+    ensures counted { OnErr result
+        ((pass.new.calls ≡ pass.old.calls ++ call ∷ []) ⊎ (pass.new.calls ≡ pass.old.calls)) }
+{
+    let Ok(answer) = desk.turn(rt, pass, call) else {
+        return Err(PumpEnd::Worn);
+    };
+    gate.wake(rt);
+    match refusal(answer) {
+        Ok(()) => Ok(()),
+        Err(KernFault::OutOfMemory) => Err(PumpEnd::OutOfMemory),
+        Err(KernFault::JournalFull) => Err(PumpEnd::JournalFull),
+        Err(KernFault::Full) => Err(PumpEnd::Refused(KernFault::Full)),
+        Err(KernFault::NoConnection) => Err(PumpEnd::Refused(KernFault::NoConnection)),
+        Err(KernFault::Lagged { .. }) => Err(PumpEnd::Lagged),
+    }
+}
+
+/// A subscription, or the end of one.
+struct Wanted<'a> {
+    wants: bool,
+    prefix: &'a [u8],
+}
+
+// What the frames want, if they are those of a subscription or of the end of one.
+fn wanted_in(frames: &Frames) -> Option<Wanted<'_>>
+    ensures some { IfSome result (λ w. frames.now ≡ subscription_frames w.wants w.prefix.now) }
+    ensures none { IfNone result (IsNoSubscription frames.now) }
+{
+    let [frame] = frames.as_slice() else {
+        return None;
+    };
+    let Some((mark, prefix)) = frame.as_slice().split_first() else {
+        return None;
+    };
+    match *mark {
+        1 => Some(Wanted {
+            wants: true,
+            prefix,
+        }),
+        0 => Some(Wanted {
+            wants: false,
+            prefix,
+        }),
+        _ => None,
+    }
+}
+
+fn subscribe_call(
+    alloc: Global,
+    connection: u32,
+    wants: bool,
+    prefix: &[u8],
+    moment: u64,
+) -> Result<Call, AllocError>
+    ensures { IfOk result (λ call. call
+        ≡ Subscribe connection (record { wants = wants; prefix = prefix.now; moment = moment })) }
+{
+    let prefix = Bytes::copy_of(alloc, prefix)?;
+    let subscription = Held::new(
+        alloc,
+        Subscription {
+            wants,
+            prefix,
+            moment,
+        },
+    )?;
+    Ok(Call::Subscribe {
+        connection,
+        subscription,
+    })
+}
+
+fn arrive_call(
+    alloc: Global,
+    place: &Place<'_>,
+    message: Message,
+    moment: u64,
+) -> Result<Call, AllocError>
+    ensures { IfOk result (λ call. call ≡ Arrive place.now.connection
+        (record { request = request_in place.now.channel message; moment = moment })) }
+{
+    let request = request_of(alloc, place.channel, message)?;
+    let arrival = Held::new(alloc, Arrival { request, moment })?;
+    Ok(Call::Arrive {
+        connection: place.connection,
+        arrival,
+    })
+}
+
+// The message that these frames are, if they are one.
+#[tactic(auto, using(crate::proofs::AskLemmas::refused_message))]
+fn opened(alloc: Global, frames: Frames, key: &[u8]) -> Result<Option<Message>, AllocError>
+    ensures some { IfOk result (λ found.
+        IfSome found (λ m. IsMessage key.now frames m.parts m.header (view m.content))) }
+    ensures none { IfOk result (λ found. IfNone found (IsUnopened key.now frames)) }
+{
+    match open_message(alloc, frames, key) {
+        Ok(message) => Ok(Some(message)),
+        Err(fault) => {
+            if fault == WireFault::OutOfMemory {
+                return Err(AllocError);
+            }
+            Ok(None)
+        }
+    }
+}
+
+#[tactic(auto, using(crate::proofs::AskLemmas::subscribed, crate::proofs::AskLemmas::subscription_refused, crate::proofs::AskLemmas::no_subscription, crate::proofs::AskLemmas::asks_not))]
+fn subscribe<R: Wait, G: Gate>(
+    rt: &R,
+    alloc: Global,
+    desk: &Desk,
+    pass: &mut Pass,
+    gate: &mut G,
+    place: &Place<'_>,
+    frames: &Frames,
+) -> Result<(), PumpEnd>
+    requires own { pass.old.turnstile ≡ desk.now }
+    requires iopub { place.now.channel ≡ Iopub }
+    ensures same { (pass.new.turnstile ≡ desk.now) × (pass.new.seat ≡ pass.old.seat) }
+    ensures gate { G.asked gate.new ≡ G.asked gate.old }
+    ensures ok { OnOk result
+        (AsksFront place.now.key.now Iopub place.now.connection (frames.now ∷ [])
+        pass.old.calls pass.new.calls true) }
+    ensures err { IfErr result (λ e. StopsBy e pass.old.calls pass.new) }
+    ensures front { OnErr result
+        (AsksFront place.now.key.now Iopub place.now.connection (frames.now ∷ [])
+        pass.old.calls pass.new.calls false) }
+{
+    let Some(Wanted { wants, prefix }) = wanted_in(frames) else {
+        return Ok(());
+    };
+    let moment = gate.moment(rt);
+    match subscribe_call(alloc, place.connection, wants, prefix, moment) {
+        Ok(call) => match make_call(rt, desk, pass, gate, call) {
+            Ok(()) => Ok(()),
+            Err(end) => Err(end),
+        },
+        Err(_) => Err(PumpEnd::OutOfMemory),
+    }
+}
+
+#[tactic(auto, using(crate::proofs::AskLemmas::arrived, crate::proofs::AskLemmas::arrival_refused, crate::proofs::AskLemmas::unopened, crate::proofs::AskLemmas::asks_not))]
+fn arrive<R: Wait, G: Gate>(
+    rt: &R,
+    alloc: Global,
+    desk: &Desk,
+    pass: &mut Pass,
+    gate: &mut G,
+    place: &Place<'_>,
+    frames: Frames,
+) -> Result<(), PumpEnd>
+    requires own { pass.old.turnstile ≡ desk.now }
+    requires other { place.now.channel ≡ Iopub → ⊥ }
+    ensures same { (pass.new.turnstile ≡ desk.now) × (pass.new.seat ≡ pass.old.seat) }
+    ensures gate { G.asked gate.new ≡ G.asked gate.old }
+    ensures ok { OnOk result
+        (AsksFront place.now.key.now place.now.channel place.now.connection (frames ∷ [])
+        pass.old.calls pass.new.calls true) }
+    ensures err { IfErr result (λ e. StopsBy e pass.old.calls pass.new) }
+    ensures front { OnErr result
+        (AsksFront place.now.key.now place.now.channel place.now.connection (frames ∷ [])
+        pass.old.calls pass.new.calls false) }
+{
+    match opened(alloc, frames, place.key) {
+        Ok(Some(message)) => {
+            let moment = gate.moment(rt);
+            match arrive_call(alloc, place, message, moment) {
+                Ok(call) => match make_call(rt, desk, pass, gate, call) {
+                    Ok(()) => Ok(()),
+                    Err(end) => Err(end),
+                },
+                Err(_) => Err(PumpEnd::OutOfMemory),
+            }
+        }
+        Ok(None) => Ok(()),
+        Err(_) => Err(PumpEnd::OutOfMemory),
+    }
+}
+
+/// Asks for one message, if it asks for anything.
+pub(crate) fn ask_for<R: Wait, G: Gate>(
+    rt: &R,
+    alloc: Global,
+    desk: &Desk,
+    pass: &mut Pass,
+    gate: &mut G,
+    place: &Place<'_>,
+    frames: Frames,
+) -> Result<(), PumpEnd>
+    requires { pass.old.turnstile ≡ desk.now }
+    ensures same { (pass.new.turnstile ≡ desk.now) × (pass.new.seat ≡ pass.old.seat) }
+    ensures gate { G.asked gate.new ≡ G.asked gate.old }
+    ensures ok { OnOk result
+        (AsksFront place.now.key.now place.now.channel place.now.connection (frames ∷ [])
+        pass.old.calls pass.new.calls true) }
+    ensures err { IfErr result (λ e. StopsBy e pass.old.calls pass.new) }
+    ensures front { OnErr result
+        (AsksFront place.now.key.now place.now.channel place.now.connection (frames ∷ [])
+        pass.old.calls pass.new.calls false) }
+{
+    if place.channel == Channel::Iopub {
+        return subscribe(rt, alloc, desk, pass, gate, place, &frames);
+    }
+    arrive(rt, alloc, desk, pass, gate, place, frames)
+}

@@ -1,0 +1,150 @@
+//! Reading from a connection to its end.
+ghost use Rattle.std.specs.Prelude.{◌≡◌, ◌++◌, ◌∷◌, ◌<◌, ◌≤◌, [], ℕ, length, true, false, OnOk, OnErr, IfErr};
+ghost use Rattle.zmtp_wire.specs.declared.fault.StreamFault.{StreamFault};
+ghost use Rattle.kern_net.specs.declared.end.PumpEnd.TheVariants as pump;
+ghost use Rattle.kern_net.specs.Gates.{IsOpen};
+ghost use Rattle.kern_net.specs.ReadEnds.{StopsBy, StopsPiece, asks_all};
+ghost use Rattle.kern_net.specs.Reading.{AsksFront, Hears, ReadOut};
+
+use crate::asking::ask_for;
+use crate::end::PumpEnd;
+use crate::gate::Gate;
+use base_streams::ports::Inlet;
+use jup_wire::channel::Channel;
+use kern_desk::seated::{Desk, Pass};
+use std::alloc::Global;
+use std::sync::Wait;
+use zmtp_peer::feeding::{Fed, feed};
+use zmtp_peer::handshake::Peer;
+use zmtp_wire::incomings::Incomings;
+use zmtp_wire::side::Side;
+
+/// Where messages come from, and how they are signed.
+#[derive(Clone, Copy)]
+pub struct Place<'a> {
+    /// The connection's number, as its Join was answered.
+    pub connection: u32,
+    /// The channel of its Join.
+    pub channel: Channel,
+    /// With an empty key no signature is checked.
+    pub key: &'a [u8],
+}
+
+#[tactic(auto, using(crate::proofs::ReadLemmas::coming_first, crate::proofs::ReadLemmas::coming_on, crate::proofs::ReadLemmas::coming_refused, crate::proofs::ReadLemmas::coming_end))]
+fn ask_for_all<R: Wait, G: Gate>(
+    rt: &R,
+    alloc: Global,
+    desk: &Desk,
+    pass: &mut Pass,
+    gate: &mut G,
+    place: &Place<'_>,
+    messages: Incomings,
+) -> Result<(), PumpEnd>
+    requires { pass.old.turnstile ≡ desk.now }
+    ensures same { (pass.new.turnstile ≡ desk.now) × (pass.new.seat ≡ pass.old.seat) }
+    ensures gate { G.asked gate.new ≡ G.asked gate.old }
+    ensures ok { OnOk result
+        (AsksFront place.now.key.now place.now.channel place.now.connection messages
+        pass.old.calls pass.new.calls true) }
+    ensures err { IfErr result (λ e. StopsBy e pass.old.calls pass.new) }
+    ensures front { OnErr result
+        (AsksFront place.now.key.now place.now.channel place.now.connection messages
+        pass.old.calls pass.new.calls false) }
+{
+    for frames in messages.into_vec() {
+        match ask_for(rt, alloc, desk, pass, gate, place, frames) {
+            Ok(()) => {}
+            Err(end) => return Err(end),
+        }
+    }
+    Ok(())
+}
+
+#[tactic(auto, using(crate::proofs::ReadLemmas::hears_piece, crate::proofs::ReadLemmas::hears_refused, crate::proofs::ReadLemmas::hears_not, crate::proofs::ReadLemmas::stops_piece))]
+fn take_piece<R: Wait, G: Gate>(
+    rt: &R,
+    alloc: Global,
+    desk: &Desk,
+    pass: &mut Pass,
+    gate: &mut G,
+    place: &Place<'_>,
+    side: &mut Side,
+    piece: &[u8],
+) -> Result<(), PumpEnd>
+    requires { pass.old.turnstile ≡ desk.now }
+    ensures same { (pass.new.turnstile ≡ desk.now) × (pass.new.seat ≡ pass.old.seat) }
+    ensures gate { G.asked gate.new ≡ G.asked gate.old }
+    ensures ok { OnOk result
+        (Hears place.now.key.now place.now.channel place.now.connection side.old side.new [] piece.now
+        pass.old.calls pass.new.calls true) }
+    ensures hears { IfErr result (λ e.
+        Hears place.now.key.now place.now.channel place.now.connection side.old side.new [] piece.now
+        pass.old.calls pass.new.calls (asks_all e)) }
+    ensures err { IfErr result (λ e. StopsPiece e pass.old.calls pass.new side.new) }
+{
+    match feed(alloc, side, piece) {
+        Ok(Fed { messages, broken }) => {
+            match ask_for_all(rt, alloc, desk, pass, gate, place, messages) {
+                Ok(()) => match broken {
+                    None => Ok(()),
+                    Some(cause) => Err(PumpEnd::Wire(cause)),
+                },
+                Err(end) => Err(end),
+            }
+        }
+        Err(_) => Err(PumpEnd::OutOfMemory),
+    }
+}
+
+/// Reads from a peer, and makes one call for each of its messages that asks for something: those that
+/// came with its READY first, then those of the bytes that are read. Messages that don't open under
+/// the key, and what isn't a subscription on iopub, are dropped.
+///
+/// It reads until the stream ends, fails or breaks, 4,294,967,295 times at most, or until a call is
+/// refused.
+#[tactic(auto, using(crate::proofs::ReadLemmas::held_refused, crate::proofs::ReadLemmas::stopped_first, crate::proofs::ReadLemmas::stopped, crate::proofs::ReadLemmas::under_way, crate::proofs::ReadLemmas::under_way_on, crate::proofs::ReadLemmas::ended_there, crate::proofs::ReadLemmas::failed_there, crate::proofs::ReadLemmas::read_enough))]
+pub fn pump_in<R: Wait, I: Inlet, G: Gate>(
+    rt: &R,
+    alloc: Global,
+    desk: &Desk,
+    pass: &mut Pass,
+    gate: &mut G,
+    from: &mut I,
+    peer: Peer,
+    place: &Place<'_>,
+) -> PumpEnd
+    requires own { pass.old.turnstile ≡ desk.now }
+    requires open { IsOpen (G.asked gate.old) }
+    requires ended { I.ended from.old ≡ false }
+    requires failed { I.failed from.old ≡ false }
+    ensures same { (pass.new.turnstile ≡ desk.now) × (pass.new.seat ≡ pass.old.seat) }
+    ensures gate { G.asked gate.new ≡ G.asked gate.old }
+    ensures read { ReadOut place.now.key.now place.now.channel place.now.connection peer.side peer.messages
+        (I.given from.old) (I.given from.new) (I.ended from.new) (I.failed from.new)
+        pass.old pass.new result }
+{
+    let Peer { mut side, messages } = peer;
+    match ask_for_all(rt, alloc, desk, pass, gate, place, messages) {
+        Ok(()) => {}
+        Err(end) => return end,
+    }
+    // The side may have met a fault behind READY.
+    match take_piece(rt, alloc, desk, pass, gate, place, &mut side, &[]) {
+        Ok(()) => {}
+        Err(end) => return end,
+    }
+    let mut buffer = [0u8; 8192];
+    for reads in 0..u32::MAX {
+        let count = match from.read(&mut buffer) {
+            Ok(0) => return PumpEnd::PeerEnded,
+            Ok(count) => count,
+            Err(_) => return PumpEnd::ReadFailed,
+        };
+        let piece = &buffer[..count];
+        match take_piece(rt, alloc, desk, pass, gate, place, &mut side, piece) {
+            Ok(()) => {}
+            Err(end) => return end,
+        }
+    }
+    PumpEnd::ReadFailed
+}

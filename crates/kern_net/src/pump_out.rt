@@ -1,0 +1,179 @@
+//! Writing the posts that go to a connection.
+ghost use Rattle.std.specs.Prelude.{◌≡◌, ◌≤◌, ◌+◌, length, IfOk, IfErr, OnOk, Ok, true, false};
+ghost use Rattle.kern_core.specs.declared.call.Call.TheVariants.{Fetch};
+ghost use Rattle.kern_core.specs.declared.call.Reply.TheVariants.{Fetched};
+ghost use Rattle.kern_net.specs.Calls.{TurnedBy};
+ghost use Rattle.kern_net.specs.Gates.{idles, SameBefore, IsOpen};
+ghost use Rattle.kern_net.specs.Out.{WroteAll, WroteOut, OutEnds};
+ghost use Rattle.kern_net.specs.Rounds.{IsFetchAnswer, Answers, Denied, Cut, Went, Halted};
+
+use crate::end::PumpEnd;
+use crate::gate::Gate;
+use crate::stream::stream_of;
+use base_streams::ports::Outlet;
+use base_streams::writing::write_all;
+use kern_core::call::{Call, Reply};
+use kern_core::fault::KernFault;
+use kern_desk::seated::{Desk, Pass};
+use kern_post::post::{Post, Posts};
+use std::alloc::Global;
+use std::sync::Wait;
+
+/// Which posts go out, and how they are sealed.
+#[derive(Clone, Copy, Debug)]
+pub struct Line<'a> {
+    /// The connection's number, as its Join answered it.
+    pub connection: u32,
+    /// The key of the signatures; an empty one leaves them empty.
+    pub key: &'a [u8],
+    /// The session's name in the headers.
+    pub session: &'a str,
+}
+
+// What a Fetch gave: posts, where to go on, and whether a shutdown came.
+struct Batch {
+    posts: Posts,
+    next: u64,
+    ended: bool,
+}
+
+// What the answer to a Fetch gives, or how it ends the work.
+fn batch_of(answer: Result<Reply, KernFault>) -> Result<Batch, PumpEnd>
+    requires { IsFetchAnswer answer }
+    ensures { Answers answer result }
+{
+    match answer {
+        Ok(Reply::Fetched { posts, next, ended }) => Ok(Batch { posts, next, ended }),
+        Err(fault) => Err(PumpEnd::from(fault)),
+        Ok(
+            Reply::Joined { .. }
+            | Reply::Left
+            | Reply::Subscribed
+            | Reply::Arrived
+            | Reply::More
+            | Reply::Idle
+            | Reply::Ended,
+        ) => unreachable!(),
+    }
+}
+
+// Fetches the posts from a number on.
+fn fetch<R: Wait>(
+    rt: &R,
+    desk: &Desk,
+    pass: &mut Pass,
+    connection: u32,
+    from: u64,
+) -> Result<Batch, PumpEnd>
+    requires { pass.old.turnstile ≡ desk.now }
+    ensures same { (pass.new.turnstile ≡ desk.now) × (pass.new.seat ≡ pass.old.seat) }
+    ensures ok { IfOk result (λ batch. TurnedBy pass.old (Fetch connection from)
+        (Ok (Fetched batch.posts batch.next batch.ended)) pass.new) }
+    ensures err { IfErr result (Denied connection pass.old pass.new from) }
+{
+    match desk.turn(rt, pass, Call::Fetch { connection, from }) {
+        Ok(answer) => batch_of(answer),
+        Err(_) => Err(PumpEnd::Worn),
+    }
+}
+
+// Writes the messages of posts, all of them or a front.
+fn write_posts<W: Outlet>(
+    alloc: Global,
+    to: &mut W,
+    line: &Line<'_>,
+    posts: &[Post],
+) -> Result<(), PumpEnd>
+    requires { W.failed to.old ≡ false }
+    ensures ok { OnOk result (WroteAll line.now.key.now line.now.session.now
+        (W.taken to.old) (W.taken to.new) posts.now) }
+    ensures good { OnOk result (W.failed to.new ≡ false) }
+    ensures err { IfErr result (Cut line.now.key.now line.now.session.now
+        (W.taken to.old) (W.taken to.new) (W.failed to.new) posts.now) }
+{
+    let Ok(bytes) = stream_of(alloc, posts, line.key, line.session) else {
+        return Err(PumpEnd::OutOfMemory);
+    };
+    match write_all(to, bytes.as_slice()) {
+        Ok(()) => Ok(()),
+        Err(_) => Err(PumpEnd::WriteFailed),
+    }
+}
+
+// Fetches the posts from a number on and writes them; answers where to go on, and whether a shutdown
+// came.
+fn fetch_on<R: Wait, W: Outlet>(
+    rt: &R,
+    alloc: Global,
+    desk: &Desk,
+    pass: &mut Pass,
+    to: &mut W,
+    line: &Line<'_>,
+    from: u64,
+) -> Result<(u64, bool), PumpEnd>
+    requires pass { pass.old.turnstile ≡ desk.now }
+    requires good { W.failed to.old ≡ false }
+    ensures same { (pass.new.turnstile ≡ desk.now) × (pass.new.seat ≡ pass.old.seat) }
+    ensures ok { IfOk result (λ r. Went line.now.key.now line.now.session.now line.now.connection
+        pass.old pass.new (W.taken to.old) (W.taken to.new) from r.0 r.1) }
+    ensures good { OnOk result (W.failed to.new ≡ false) }
+    ensures err { IfErr result (Halted line.now.key.now line.now.session.now line.now.connection
+        pass.old pass.new (W.taken to.old) (W.taken to.new) (W.failed to.new) from) }
+{
+    match fetch(rt, desk, pass, line.connection, from) {
+        Ok(Batch { posts, next, ended }) => {
+            match write_posts(alloc, to, line, posts.as_slice()) {
+                Ok(()) => Ok((next, ended)),
+                Err(end) => Err(end),
+            }
+        }
+        Err(end) => Err(end),
+    }
+}
+
+/// Writes the posts that go to a connection, from a number on, each once and in order, until the gate
+/// says no, a shutdown was seen and all is written, a turn is refused, the writer fails or memory is
+/// wanting. Where a Fetch moved nothing it asks `idle`; it never asks `before`.
+///
+/// It may wait, or never end, as its gate does.
+pub fn pump_out<R: Wait, W: Outlet, G: Gate>(
+    rt: &R,
+    alloc: Global,
+    desk: &Desk,
+    pass: &mut Pass,
+    gate: &mut G,
+    to: &mut W,
+    line: &Line<'_>,
+    from: u64,
+) -> PumpEnd
+    requires pass { pass.old.turnstile ≡ desk.now }
+    requires good { W.failed to.old ≡ false }
+    requires gate { IsOpen (G.asked gate.old) }
+    ensures same { (pass.new.turnstile ≡ desk.now) × (pass.new.seat ≡ pass.old.seat) }
+    ensures wrote { WroteOut line.now.key.now line.now.session.now line.now.connection
+        (W.taken to.old) (W.taken to.new) from pass.old pass.new result }
+    ensures idle { idles (G.asked gate.new) + length pass.old.calls
+        ≤ idles (G.asked gate.old) + length pass.new.calls }
+    ensures before { SameBefore (G.asked gate.old) (G.asked gate.new) }
+    ensures ends { OutEnds line.now.connection pass.new (W.failed to.new)
+        (G.asked gate.new) result }
+{
+    let mut next = from;
+    for _ in rt.forever() {
+        match fetch_on(rt, alloc, desk, pass, to, line, next) {
+            Err(end) => return end,
+            Ok((after, ended)) => {
+                if after == next {
+                    if ended {
+                        return PumpEnd::Ended;
+                    }
+                    if !gate.idle(rt) {
+                        return PumpEnd::Ended;
+                    }
+                }
+                next = after;
+            }
+        }
+    }
+    unreachable!()
+}

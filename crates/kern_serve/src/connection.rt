@@ -1,0 +1,249 @@
+//! One connection, from its handshake to its Leave.
+ghost use Rattle.std.specs.Prelude.{◌≡◌};
+
+use crate::bell::Bell;
+use crate::gates::{Counts, InGate, OutGate};
+use crate::listeners::Listeners;
+use crate::outlet::CountedOutlet;
+use crate::socket::{Met, close, meet};
+use base_streams::std_io::{StdInlet, StdOutlet};
+use base_text::sequence::Bytes;
+use base_text::text::Text;
+use jup_wire::channel::Channel;
+use kern_core::call::{Call, Reply};
+use kern_core::fault::KernFault;
+use kern_core::held::Held;
+use kern_desk::seated::{Desk, Pass};
+use kern_net::end::PumpEnd;
+use kern_net::pump_in::{Place, pump_in};
+use kern_net::pump_out::{Line, pump_out};
+use std::alloc::{AllocError, Global};
+use std::net::TcpStream;
+use std::rt::Clock;
+use std::sync::Wait;
+use std::sync::atomic::{AtomicBool, Ordering};
+use std::thread;
+use std::thread::Threads;
+use zmtp_peer::handshake::Peer;
+
+/// What the threads of a server share.
+#[derive(Drop)]
+pub struct Shared {
+    pub desk: Desk,
+    pub bell: Bell,
+    /// The key of the signatures.
+    pub key: Text,
+    /// The session's name in the headers of what the kernel sends.
+    pub session: Text,
+    pub listeners: Listeners,
+}
+
+/// A connection at the kernel.
+#[derive(Clone, Copy)]
+struct Joined {
+    connection: u32,
+    // The number of the first post that may be for it.
+    from: u64,
+}
+
+// The two ends of a connection: its socket, and whether its reader has closed it.
+#[derive(Drop)]
+struct Ends {
+    stream: TcpStream,
+    is_closed: AtomicBool,
+}
+
+// Reads until the end, and then closes both halves: but a full journal leaves its writer what was posted.
+fn read_on<R: Wait + Clock>(
+    rt: &R,
+    alloc: Global,
+    shared: &Shared,
+    mut pass: Pass,
+    peer: &mut Option<Peer>,
+    place: &Place<'_>,
+    ends: &Ends,
+) -> Pass
+    requires { pass.turnstile ≡ shared.now.desk }
+    ensures { result.turnstile ≡ shared.now.desk }
+{
+    let Some(peer) = peer.take() else {
+        return pass;
+    };
+    let bell = &shared.bell;
+    let mut gate = InGate {
+        bell,
+        clock: rt,
+        counts: Counts::new(),
+    };
+    let mut from = StdInlet::new(&ends.stream);
+    let end = pump_in(
+        rt,
+        alloc,
+        &shared.desk,
+        &mut pass,
+        &mut gate,
+        &mut from,
+        peer,
+        place,
+    );
+    if end == PumpEnd::JournalFull {
+        bell.ask(rt);
+        return pass;
+    }
+    ends.is_closed.store(true, Ordering::SeqCst);
+    close(&ends.stream);
+    bell.tell(rt);
+    pass
+}
+
+// Writes until the end, and then closes both halves.
+fn write_on<R: Wait + Clock>(
+    rt: &R,
+    alloc: Global,
+    shared: &Shared,
+    mut pass: Pass,
+    joined: Joined,
+    ends: &Ends,
+) -> Pass
+    requires { pass.turnstile ≡ shared.now.desk }
+    ensures { result.turnstile ≡ shared.now.desk }
+{
+    let bell = &shared.bell;
+    let mut gate = OutGate {
+        bell,
+        clock: rt,
+        is_closed: &ends.is_closed,
+        heard: 0,
+        is_closing: false,
+        counts: Counts::new(),
+    };
+    let mut to = CountedOutlet {
+        outlet: StdOutlet::new(&ends.stream),
+        bell,
+    };
+    let line = Line {
+        connection: joined.connection,
+        key: shared.key.as_str().as_bytes(),
+        session: shared.session.as_str(),
+    };
+    bell.begin_writer(rt);
+    let _ = pump_out(
+        rt,
+        alloc,
+        &shared.desk,
+        &mut pass,
+        &mut gate,
+        &mut to,
+        &line,
+        joined.from,
+    );
+    close(&ends.stream);
+    bell.end_writer(rt);
+    pass
+}
+
+// Reads and writes, each in a thread of its own, until both have ended.
+fn pump<R: Wait + Clock + Threads + Sync>(
+    rt: &R,
+    alloc: Global,
+    shared: &Shared,
+    channel: Channel,
+    joined: Joined,
+    met: Met,
+    first: Pass,
+    second: Pass,
+) -> (Pass, Pass)
+    requires first { first.turnstile ≡ shared.now.desk }
+    requires second { second.turnstile ≡ shared.now.desk }
+    ensures first { result.0.turnstile ≡ shared.now.desk }
+    ensures second { result.1.turnstile ≡ shared.now.desk }
+{
+    let Met { peer, stream } = met;
+    // The reader takes the peer out of here.
+    let mut peer = Some(peer);
+    let place = Place {
+        connection: joined.connection,
+        channel,
+        key: shared.key.as_str().as_bytes(),
+    };
+    let ends = Ends {
+        stream,
+        is_closed: AtomicBool::new(false),
+    };
+    thread::join(
+        rt,
+        || -> Pass
+            requires { first.turnstile ≡ shared.now.desk }
+            ensures { result.turnstile ≡ shared.entry.now.desk }
+        { read_on(rt, alloc, shared, first, &mut peer, &place, &ends) },
+        || -> Pass
+            requires { second.turnstile ≡ shared.now.desk }
+            ensures { result.turnstile ≡ shared.entry.now.desk }
+        { write_on(rt, alloc, shared, second, joined, &ends) },
+    )
+}
+
+// The Join of a peer with its identity, or an empty one.
+fn join_call(alloc: Global, channel: Channel, peer: &Peer) -> Result<Call, AllocError> {
+    let identity = match peer.side.identity() {
+        Some(identity) => Bytes::copy_of(alloc, identity.as_slice())?,
+        None => Bytes::new(alloc),
+    };
+    let identity = Held::new(alloc, identity)?;
+    Ok(Call::Join { channel, identity })
+}
+
+// Joins, if the kernel lets it.
+fn join<R: Wait>(rt: &R, shared: &Shared, pass: &mut Pass, call: Call) -> Option<Joined>
+    requires { pass.old.turnstile ≡ shared.now.desk }
+    ensures { pass.new.turnstile ≡ shared.now.desk }
+{
+    shared.bell.count_entries(1);
+    match shared.desk.turn(rt, pass, call) {
+        Ok(Ok(Reply::Joined { connection, from })) => Some(Joined { connection, from }),
+        Ok(Err(KernFault::JournalFull)) => {
+            shared.bell.ask(rt);
+            None
+        }
+        _ => None,
+    }
+}
+
+// Leaves. A refused Leave needs nothing more: the journal is full, or memory is wanting for an entry.
+fn leave<R: Wait>(rt: &R, shared: &Shared, pass: &mut Pass, connection: u32)
+    requires { pass.old.turnstile ≡ shared.now.desk }
+    ensures { pass.new.turnstile ≡ shared.now.desk }
+{
+    shared.bell.count_entries(1);
+    let _ = shared.desk.turn(rt, pass, Call::Leave { connection });
+}
+
+/// Serves a connection of a channel until it ends, and gives its passes back. One that makes no handshake
+/// or for which the kernel has no place is closed.
+pub fn serve_connection<R: Wait + Clock + Threads + Sync>(
+    rt: &R,
+    alloc: Global,
+    shared: &Shared,
+    channel: Channel,
+    stream: TcpStream,
+    mut first: Pass,
+    second: Pass,
+) -> (Pass, Pass)
+    requires first { first.turnstile ≡ shared.now.desk }
+    requires second { second.turnstile ≡ shared.now.desk }
+    ensures first { result.0.turnstile ≡ shared.now.desk }
+    ensures second { result.1.turnstile ≡ shared.now.desk }
+{
+    let Ok(Some(met)) = meet(alloc, stream, channel) else {
+        return (first, second);
+    };
+    let Ok(call) = join_call(alloc, channel, &met.peer) else {
+        return (first, second);
+    };
+    let Some(joined) = join(rt, shared, &mut first, call) else {
+        return (first, second);
+    };
+    let (mut first, second) = pump(rt, alloc, shared, channel, joined, met, first, second);
+    leave(rt, shared, &mut first, joined.connection);
+    (first, second)
+}

@@ -1,0 +1,313 @@
+//! The gates of a server: where its threads wait, and what they wake others by.
+ghost use Rattle.std.specs.Prelude.{◌≡◌, ◌≤◌, ◌+◌, ◌<◌, ◌↔◌, IsTrue};
+ghost use Rattle.kern_net.specs.Gates.{Asked, before_said, idle_said};
+
+use crate::bell::Bell;
+use crate::pace::{JOURNAL_LIMIT, RESERVE, SHORTEST_GAP, SLICES_AT_FULL_SPEED, next_gap, pause};
+use crate::system::moment;
+use kern_net::gate::Gate;
+use std::marker::Model;
+use std::rt::Clock;
+use std::sync::Wait;
+use std::sync::atomic::{AtomicBool, Ordering};
+use std::time::{Duration, Instant};
+
+/// What a gate was asked and said.
+#[derive(Drop)]
+pub struct Counts {
+    before_yes: u64,
+    before_no: u64,
+    idle_yes: u64,
+    idle_no: u64,
+}
+
+impl Model for Counts {
+    ghost use Rattle.kern_net.specs.Gates.{Asked};
+
+    ghost Value = { Asked };
+
+    ghost view = { λ c. record {
+      before_yes = c.before_yes;
+      before_no = c.before_no;
+      idle_yes = c.idle_yes;
+      idle_no = c.idle_no;
+    } };
+}
+
+// One more; more than can be counted have no answer.
+fn one_more<R: Wait>(rt: &R, count: u64) -> u64
+    ensures { result ≡ count + 1 }
+{
+    if count == u64::MAX {
+        for _ in rt.forever() {}
+        unreachable!()
+    }
+    count + 1
+}
+
+impl Counts {
+    /// Of a gate that wasn't asked yet.
+    pub fn new() -> Counts
+        ensures { result ≡ record { before_yes = 0; before_no = 0; idle_yes = 0; idle_no = 0 } }
+    {
+        Counts {
+            before_yes: 0,
+            before_no: 0,
+            idle_yes: 0,
+            idle_no: 0,
+        }
+    }
+
+    /// `before` said this.
+    pub fn before<R: Wait>(&mut self, rt: &R, said: bool)
+        ensures { self.new ≡ before_said said self.old }
+    {
+        if said {
+            self.before_yes = one_more(rt, self.before_yes);
+        } else {
+            self.before_no = one_more(rt, self.before_no);
+        }
+    }
+
+    /// `idle` said this.
+    pub fn idle<R: Wait>(&mut self, rt: &R, said: bool)
+        ensures { self.new ≡ idle_said said self.old }
+    {
+        if said {
+            self.idle_yes = one_more(rt, self.idle_yes);
+        } else {
+            self.idle_no = one_more(rt, self.idle_no);
+        }
+    }
+
+    /// Whether the gate has said no.
+    pub fn is_closed(&self) -> bool
+        ensures { IsTrue result ↔ (0 < self.now.before_no + self.now.idle_no) }
+    {
+        self.before_no > 0 || self.idle_no > 0
+    }
+}
+
+/// A reader's gate, which is never waited at.
+#[derive(Drop)]
+pub struct InGate<'a, C: Clock> {
+    pub bell: &'a Bell,
+    pub clock: &'a C,
+    pub counts: Counts,
+}
+
+impl<'a, C: Clock> Gate for InGate<'a, C> {
+    ghost asked = { λ g. g.counts };
+
+    fn before<R: Wait>(&mut self, rt: &R, _slices: u64) -> bool {
+        self.counts.before(rt, true);
+        true
+    }
+
+    fn idle<R: Wait>(&mut self, rt: &R) -> bool {
+        self.counts.idle(rt, true);
+        true
+    }
+
+    fn wake<R: Wait>(&mut self, rt: &R) {
+        self.bell.count_entries(1);
+        self.bell.ask(rt);
+    }
+
+    fn moment<R: Wait>(&mut self, _rt: &R) -> u64 {
+        moment(self.clock)
+    }
+}
+
+/// A writer's gate. It waits until something may have been posted; it says no once its connection is closed,
+/// or once all is written that was posted before the worker ended.
+#[derive(Drop)]
+pub struct OutGate<'a, C: Clock> {
+    pub bell: &'a Bell,
+    pub clock: &'a C,
+    pub is_closed: &'a AtomicBool,
+    pub heard: u64,
+    pub is_closing: bool,
+    pub counts: Counts,
+}
+
+impl<'a, C: Clock> OutGate<'a, C> {
+    // Waits for the next ring, and tells whether to go on.
+    fn next<R: Wait>(&mut self, rt: &R) -> bool
+        ensures { self.new.counts ≡ self.old.counts }
+    {
+        if self.is_closing {
+            return false;
+        }
+        let news = self.bell.next_told(rt, self.heard);
+        self.heard = news.told;
+        self.is_closing = news.is_closing;
+        !self.is_closed.load(Ordering::SeqCst)
+    }
+}
+
+impl<'a, C: Clock> Gate for OutGate<'a, C> {
+    ghost asked = { λ g. g.counts };
+
+    fn before<R: Wait>(&mut self, rt: &R, _slices: u64) -> bool {
+        self.counts.before(rt, true);
+        true
+    }
+
+    // It is asked after a Fetch that moved nothing, before which one may have moved something.
+    fn idle<R: Wait>(&mut self, rt: &R) -> bool {
+        self.bell.count_entries(2);
+        let goes_on = self.next(rt);
+        self.counts.idle(rt, goes_on);
+        goes_on
+    }
+
+    fn wake<R: Wait>(&mut self, _rt: &R) {}
+
+    fn moment<R: Wait>(&mut self, _rt: &R) -> u64 {
+        moment(self.clock)
+    }
+}
+
+/// The worker's gate. It waits until something was asked; it says no once the journal is full but for a
+/// reserve. It holds a long run back so that the journal lasts, and rings for its posts.
+#[derive(Drop)]
+pub struct WorkGate<'a, C: Wait + Clock> {
+    bell: &'a Bell,
+    clock: &'a C,
+    begun: Option<Instant>,
+    heard: u64,
+    // How many slices may be made at full speed yet.
+    free: u64,
+    // How many entries there were before the last slice.
+    entries: u64,
+    slices: u64,
+    // When it rang last, in microseconds since it began, how long not to ring again, and how much was
+    // written by then.
+    rung: u128,
+    gap: u64,
+    writes: u64,
+    counts: Counts,
+    ghost gap_bound: { gap ≤ 100000 },
+}
+
+impl<'a, C: Wait + Clock> WorkGate<'a, C> {
+    ghost use Rattle.kern_net.specs.Gates.{IsOpen};
+
+    /// A gate that wasn't asked yet.
+    pub fn new(bell: &'a Bell, clock: &'a C) -> WorkGate<'a, C>
+        ensures { IsOpen result.counts }
+    {
+        WorkGate {
+            bell,
+            clock,
+            begun: Instant::now(clock).ok(),
+            heard: 0,
+            free: SLICES_AT_FULL_SPEED,
+            entries: 0,
+            slices: 0,
+            rung: 0,
+            gap: SHORTEST_GAP,
+            writes: 0,
+            counts: Counts::new(),
+        }
+    }
+
+    /// Whether it has said no, which it does only where the journal is full.
+    pub fn is_closed(&self) -> bool
+        ensures { IsTrue result ↔ (0 < self.now.counts.before_no + self.now.counts.idle_no) }
+    {
+        self.counts.is_closed()
+    }
+
+    // How many entries there may be by now.
+    fn count(&self) -> u64 {
+        self.slices.saturating_add(self.bell.entries())
+    }
+
+    // Whether the rest of the journal is for the writers.
+    fn is_full(&self) -> bool {
+        self.count() >= u64::from(JOURNAL_LIMIT) - RESERVE
+    }
+
+    // Waits so that the journal lasts, unless something is asked meanwhile.
+    fn hold(&mut self)
+        ensures { self.new.counts ≡ self.old.counts }
+    {
+        let entries = self.count();
+        let spent = entries
+            .saturating_sub(self.entries)
+            .min(u64::from(JOURNAL_LIMIT));
+        self.entries = entries;
+        let rest = u64::from(JOURNAL_LIMIT).saturating_sub(entries).max(1);
+        let most = Duration::from_micros(pause(spent, rest));
+        self.heard = self.bell.next_asked_within(self.clock, self.heard, most);
+    }
+
+    // Lets the next slice through.
+    fn pass(&mut self)
+        ensures { self.new.counts ≡ self.old.counts }
+    {
+        if self.free > 0 {
+            self.free -= 1;
+            self.entries = self.count();
+            return;
+        }
+        self.hold();
+    }
+
+    // Rings, if the time for it has come.
+    fn ring<R: Wait>(&mut self, rt: &R)
+        ensures { self.new.counts ≡ self.old.counts }
+    {
+        let Some(begun) = &self.begun else {
+            self.bell.tell(rt);
+            return;
+        };
+        let Ok(since) = begun.elapsed(self.clock) else {
+            self.bell.tell(rt);
+            return;
+        };
+        let now = since.as_micros();
+        if now < self.rung.saturating_add(u128::from(self.gap)) {
+            return;
+        }
+        let writes = self.bell.writes();
+        self.gap = next_gap(self.gap, writes != self.writes);
+        self.writes = writes;
+        self.rung = now;
+        self.bell.tell(rt);
+    }
+}
+
+impl<'a, C: Wait + Clock> Gate for WorkGate<'a, C> {
+    ghost asked = { λ g. g.counts };
+
+    fn before<R: Wait>(&mut self, rt: &R, slices: u64) -> bool {
+        self.slices = slices;
+        let goes_on = !self.is_full();
+        if goes_on {
+            self.pass();
+        }
+        self.counts.before(rt, goes_on);
+        goes_on
+    }
+
+    fn idle<R: Wait>(&mut self, rt: &R) -> bool {
+        self.bell.tell(rt);
+        self.heard = self.bell.next_asked(rt, self.heard);
+        self.free = SLICES_AT_FULL_SPEED;
+        self.gap = SHORTEST_GAP;
+        let goes_on = !self.is_full();
+        self.counts.idle(rt, goes_on);
+        goes_on
+    }
+
+    fn wake<R: Wait>(&mut self, rt: &R) {
+        self.ring(rt);
+    }
+
+    fn moment<R: Wait>(&mut self, _rt: &R) -> u64 {
+        moment(self.clock)
+    }
+}

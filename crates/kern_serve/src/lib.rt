@@ -1,0 +1,18 @@
+// The kernel as a server on five TCP ports (Jupyter messaging 5.4): `Listeners::bind` takes the ports of
+// a connection file, `serve` serves them until a shutdown comes or the journal is full.
+// Sixteen connections a channel are served at once, each by a reader and a writer with passes of their
+// own, for good; the thread that calls `serve` is the worker. Further connections wait for a free place.
+// Contracts say that each thread has passes of this kernel alone, that gates count what they say, and how
+// the journal is paced so that a loop lasts for hours. That threads wake one another is only tested.
+#![tactic(auto)]
+
+mod bell;
+mod connection;
+pub mod fault;
+mod gates;
+pub mod listeners;
+mod outlet;
+mod pace;
+pub mod server;
+mod socket;
+pub mod system;

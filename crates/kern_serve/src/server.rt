@@ -1,0 +1,253 @@
+//! The server: its threads, and the worker.
+ghost use Rattle.std.specs.Prelude.{◌≡◌, All, IfOk};
+ghost use Rattle.std.specs.Arc.{arc_value};
+ghost use Rattle.kern_serve.specs.Ends.{served};
+
+use crate::bell::Bell;
+use crate::connection::{Shared, serve_connection};
+use crate::fault::ServerFault;
+use crate::gates::WorkGate;
+use crate::listeners::Listeners;
+use crate::pace::JOURNAL_LIMIT;
+use crate::socket::beat;
+use crate::system::new_session;
+use base_text::text::Text;
+use jup_connection::connection_file::ConnectionFile;
+use jup_wire::channel::Channel;
+use kern_core::kernel::Kernel;
+use kern_desk::seated::{Pass, Seated};
+use kern_net::end::PumpEnd;
+use kern_net::worker::worker;
+use lab_turn::turnstile::Turnstile;
+use std::alloc::Global;
+use std::net::{TcpListener, TcpStream};
+use std::random::RandomSource;
+use std::rt::Clock;
+use std::sync::{Arc, Wait};
+use std::thread;
+use std::thread::Threads;
+use std::time::Duration;
+
+/// How a server ends.
+#[derive(Clone, Copy, PartialEq, Eq, Debug)]
+pub enum ServerEnd {
+    /// A client asked for a shutdown.
+    ShutDown,
+    /// The kernel takes no more calls.
+    JournalFull,
+}
+
+// How many connections of a channel are served at once.
+const PLACES: u8 = 16;
+
+// Two passes for each place of four channels, and the worker's.
+const PASSES: u32 = 129;
+
+// How long the writers have to write what was posted, once the worker has ended.
+const FAREWELL_MILLIS: u64 = 400;
+
+// How long to wait after a connection couldn't be accepted, as where too many files are open.
+const RETRY_MILLIS: u64 = 50;
+
+// Serves one connection of a channel after another.
+fn lane<R: Wait + Clock + Threads + Sync>(
+    rt: &R,
+    alloc: Global,
+    shared: &Shared,
+    channel: Channel,
+    mut first: Pass,
+    mut second: Pass,
+)
+    requires first { first.turnstile ≡ shared.now.desk }
+    requires second { second.turnstile ≡ shared.now.desk }
+{
+    let listener = shared.listeners.of(channel);
+    for _ in rt.forever() {
+        match listener.accept() {
+            Ok((stream, _)) => {
+                (first, second) = serve_connection(
+                    rt, alloc, shared, channel, stream, first, second,
+                );
+            }
+            Err(_) => thread::sleep(rt, Duration::from_millis(RETRY_MILLIS)),
+        }
+    }
+}
+
+// Serves one connection of the heartbeat after another.
+fn beats<R: Wait + Clock>(rt: &R, alloc: Global, listener: &TcpListener) {
+    for _ in rt.forever() {
+        match listener.accept() {
+            Ok((stream, _)) => {
+                let _ = beat(alloc, stream);
+            }
+            Err(_) => thread::sleep(rt, Duration::from_millis(RETRY_MILLIS)),
+        }
+    }
+}
+
+fn start_lane<R: Wait + Clock + Threads + Clone + Send + Sync + Drop + 'static>(
+    rt: &R,
+    alloc: Global,
+    shared: Arc<Shared>,
+    channel: Channel,
+    first: Pass,
+    second: Pass,
+) -> Result<(), ServerFault>
+    requires first { first.turnstile ≡ (arc_value shared).desk }
+    requires second { second.turnstile ≡ (arc_value shared).desk }
+{
+    let Ok(host) = rt.clone() else {
+        return Err(ServerFault::OutOfMemory);
+    };
+    let started = thread::Builder::new().spawn(
+        rt,
+        move ||
+            requires first { first.turnstile ≡ (arc_value shared).desk }
+            requires second { second.turnstile ≡ (arc_value shared).desk }
+        { lane(&host, alloc, &shared, channel, first, second) },
+    );
+    match started {
+        Ok(_) => Ok(()),
+        Err(_) => Err(ServerFault::System),
+    }
+}
+
+// Starts the lanes of a channel, each with two of the passes.
+fn start_lanes<R: Wait + Clock + Threads + Clone + Send + Sync + Drop + 'static>(
+    rt: &R,
+    alloc: Global,
+    shared: &Arc<Shared>,
+    channel: Channel,
+    passes: &mut Vec<Pass>,
+) -> Result<(), ServerFault>
+    requires { All (λ p. p.turnstile ≡ (arc_value shared.now).desk) passes.old.items }
+    ensures { All (λ p. p.turnstile ≡ (arc_value shared.now).desk) passes.new.items }
+{
+    for _ in 0..PLACES {
+        let (Some(first), Some(second)) = (passes.pop(), passes.pop()) else {
+            return Err(ServerFault::System);
+        };
+        let Ok(mine) = Arc::try_clone(shared) else {
+            return Err(ServerFault::OutOfMemory);
+        };
+        start_lane(rt, alloc, mine, channel, first, second)?;
+    }
+    Ok(())
+}
+
+fn start_beats<R: Wait + Clock + Threads + Clone + Send + Sync + Drop + 'static>(
+    rt: &R,
+    alloc: Global,
+    shared: &Arc<Shared>,
+) -> Result<(), ServerFault> {
+    for _ in 0..PLACES {
+        let Ok(host) = rt.clone() else {
+            return Err(ServerFault::OutOfMemory);
+        };
+        let Ok(mine) = Arc::try_clone(shared) else {
+            return Err(ServerFault::OutOfMemory);
+        };
+        let started = thread::Builder::new().spawn(rt, move || {
+            beats(&host, alloc, mine.listeners.heartbeat())
+        });
+        if started.is_err() {
+            return Err(ServerFault::System);
+        }
+    }
+    Ok(())
+}
+
+// What the worker's end is for the server. Its gate says no only where the journal is full.
+fn end_of(end: PumpEnd, is_closed: bool) -> Result<ServerEnd, ServerFault>
+    ensures { result ≡ served is_closed end }
+{
+    match end {
+        PumpEnd::Ended if !is_closed => Ok(ServerEnd::ShutDown),
+        PumpEnd::Ended | PumpEnd::JournalFull | PumpEnd::Worn => Ok(ServerEnd::JournalFull),
+        PumpEnd::OutOfMemory => Err(ServerFault::OutOfMemory),
+        PumpEnd::PeerEnded
+        | PumpEnd::ReadFailed
+        | PumpEnd::WriteFailed
+        | PumpEnd::Wire(_)
+        | PumpEnd::Lagged
+        | PumpEnd::Refused(_) => Err(ServerFault::System),
+    }
+}
+
+// Works until a shutdown came or the journal is full, and lets the writers end.
+fn work<R: Wait + Clock>(rt: &R, shared: &Shared, mut pass: Pass) -> Result<ServerEnd, ServerFault>
+    requires { pass.turnstile ≡ shared.now.desk }
+{
+    let mut gate = WorkGate::new(&shared.bell, rt);
+    let end = worker(rt, &shared.desk, &mut pass, &mut gate);
+    shared
+        .bell
+        .finish(rt, Duration::from_millis(FAREWELL_MILLIS));
+    end_of(end, gate.is_closed())
+}
+
+// A kernel, its desk and the passes, and what else the threads share.
+fn open(
+    alloc: Global,
+    listeners: Listeners,
+    key: Text,
+    session: Text,
+) -> Result<(Shared, Vec<Pass>), ServerFault>
+    ensures { IfOk result (λ opened. All (λ p. p.turnstile ≡ opened.0.desk) opened.1.items) }
+{
+    let Ok(kernel) = Kernel::new(alloc, JOURNAL_LIMIT) else {
+        return Err(ServerFault::OutOfMemory);
+    };
+    let seated = Seated::new(alloc, kernel);
+    let Ok((desk, passes)) = Turnstile::open(alloc, seated, PASSES) else {
+        return Err(ServerFault::OutOfMemory);
+    };
+    let shared = Shared {
+        desk,
+        bell: Bell::new(),
+        key,
+        session,
+        listeners,
+    };
+    Ok((shared, passes))
+}
+
+// Starts all threads, and gives the pass that is left, the worker's.
+fn start<R: Wait + Clock + Threads + Clone + Send + Sync + Drop + 'static>(
+    rt: &R,
+    alloc: Global,
+    shared: &Arc<Shared>,
+    mut passes: Vec<Pass>,
+) -> Result<Pass, ServerFault>
+    requires { All (λ p. p.turnstile ≡ (arc_value shared.now).desk) passes.items }
+    ensures { IfOk result (λ pass. pass.turnstile ≡ (arc_value shared.now).desk) }
+{
+    start_lanes(rt, alloc, shared, Channel::Shell, &mut passes)?;
+    start_lanes(rt, alloc, shared, Channel::Iopub, &mut passes)?;
+    start_lanes(rt, alloc, shared, Channel::Stdin, &mut passes)?;
+    start_lanes(rt, alloc, shared, Channel::Control, &mut passes)?;
+    start_beats(rt, alloc, shared)?;
+    passes.pop().ok_or(ServerFault::System)
+}
+
+/// Serves bound ports until a client asks for a shutdown or the journal is full. By then what was posted has
+/// been written to each client that reads, or half a second has passed. The threads that serve connections
+/// aren't joined: the program is to end.
+///
+/// A connection that breaks the protocol, is silent for ten seconds before its handshake is made, or doesn't
+/// read for ten seconds, ends alone.
+pub fn serve<R: Wait + Clock + Threads + RandomSource + Clone + Send + Sync + Drop + 'static>(
+    rt: &R,
+    alloc: Global,
+    listeners: Listeners,
+    file: ConnectionFile,
+) -> Result<ServerEnd, ServerFault> {
+    let session = new_session(alloc, rt)?;
+    let (shared, passes) = open(alloc, listeners, file.key, session)?;
+    let Ok(shared) = Arc::new(alloc, shared) else {
+        return Err(ServerFault::OutOfMemory);
+    };
+    let pass = start(rt, alloc, &shared, passes)?;
+    work(rt, &shared, pass)
+}

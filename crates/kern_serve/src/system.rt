@@ -1,0 +1,37 @@
+//! What is asked of the system: the time, and the name of a session.
+ghost use Rattle.std.specs.Prelude.{◌≤◌};
+
+use crate::fault::ServerFault;
+use base_text::text::Text;
+use kern_render::name::session_name;
+use std::alloc::Global;
+use std::random::RandomSource;
+use std::rt::Clock;
+use std::time::{SystemTime, UNIX_EPOCH};
+
+const LAST_MOMENT: u64 = 4_102_444_800;
+
+/// Whole seconds since 1970, at most those of 2100-01-01T00:00:00Z; 0 where no clock can be read.
+pub fn moment<C: Clock>(clock: &C) -> u64
+    ensures { result ≤ 4102444800 }
+{
+    let Ok(now) = SystemTime::now(clock) else {
+        return 0;
+    };
+    match now.duration_since(UNIX_EPOCH) {
+        Ok(since) => since.as_secs().min(LAST_MOMENT),
+        Err(_) => 0,
+    }
+}
+
+/// A name for a session, of random bytes.
+pub fn new_session(alloc: Global, rt: &impl RandomSource) -> Result<Text, ServerFault> {
+    let mut random = [0u8; 16];
+    if rt.fill_bytes(&mut random).is_err() {
+        return Err(ServerFault::System);
+    }
+    match session_name(alloc, random) {
+        Ok(name) => Ok(name),
+        Err(_) => Err(ServerFault::OutOfMemory),
+    }
+}

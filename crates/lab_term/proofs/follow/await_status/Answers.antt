@@ -1,0 +1,23 @@
+use Rattle.std.proofs.Common.{refl}
+use Rattle.lab_term.specs.declared.subscriber.Subscriber.{Subscriber}
+use Rattle.lab_term.proofs.CourseLemmas.{waited, waiting_first, waiting_on}
+use Rattle.lab_term.proofs.follow.await_status.Goals as goal
+
+pub loop-init : goal.loop-init
+loop-init g c = record {
+  ended = c.requires.ended;
+  failed = c.requires.failed;
+  waiting = λ before h. waiting_first _ before _ c.args.subscriber.now 0 h;
+}
+
+pub loop-preserved : goal.loop-preserved
+loop-preserved g c = record {
+  ended = c.in-Ok-refill.ensures.good.0;
+  failed = c.in-Ok-refill.ensures.good.1;
+  waiting = λ before h. waiting_on _ before _ _ c.loop.subscriber _ c.refill.new.subscriber c.loop.counter c.in-Ok.found c.if-found.false c.in-Ok.ensures.passes refl refl c.in-Ok-refill.ensures.holds (c.loop.invariant.waiting before h);
+}
+
+pub returns-then-found-clause-waited : goal.returns-then-found-clause-waited
+returns-then-found-clause-waited g c = λ before h.
+    let new : Subscriber = record { side = c.loop.subscriber.side; queue = c.pass_status.new.queue; broken = c.loop.subscriber.broken } in
+    waited _ before _ c.loop.subscriber new c.loop.counter c.in-Ok.found c.if-found.true c.in-Ok.ensures.passes refl refl (c.loop.invariant.waiting before h)

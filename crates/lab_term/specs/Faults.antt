@@ -1,0 +1,14 @@
+-- Why a cell wasn't run to its end.
+use Rattle.zmtp_peer.specs.declared.fault.PeerFault.{PeerFault}
+use Rattle.zmtp_peer.specs.declared.fault.PeerFault.TheVariants as peer
+use Rattle.lab_term.specs.declared.fault.TermFault.{TermFault}
+use Rattle.lab_term.specs.declared.fault.TermFault.TheVariants as term
+use Rattle.lab_term.specs.declared.fault.WireCause.TheVariants.{Stream}
+
+-- the fault of a conversation with a peer, as the client tells it
+abbrev pub term_fault_of : PeerFault → TermFault
+term_fault_of peer.OutOfMemory = term.OutOfMemory
+term_fault_of peer.PeerEnded = term.Ended
+term_fault_of peer.ReadFailed = term.ReadFailed
+term_fault_of peer.WriteFailed = term.WriteFailed
+term_fault_of (peer.Wire cause) = term.Wire (Stream cause)

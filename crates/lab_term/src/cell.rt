@@ -1,0 +1,110 @@
+//! A cell, and the request that runs it.
+ghost use Rattle.std.specs.Prelude.{◌≡◌, ◌≤◌, [], slice_index_or, string_bytes, IfOk};
+ghost use Rattle.serde_json.specs.View.{view};
+ghost use Rattle.jup_date.specs.Dates.{last_moment};
+ghost use Rattle.lab_term.specs.Requests.{empty_object, message_id, request_header, request_content, request_frames, IsDraftOf, IsRequest};
+
+use base_text::sequence::{Bytes, Frames};
+use base_text::text::Text;
+use jup_date::date::date_text;
+use jup_wire::sealing::{Draft, seal_message};
+use serde_json::{Value, json};
+use std::alloc::{AllocError, Global};
+
+/// A cell to be run.
+#[derive(Clone, Copy)]
+pub struct Cell<'a> {
+    /// What the cell says.
+    pub code: &'a str,
+    /// The key of the connection file.
+    pub key: &'a [u8],
+    /// The name of the client's session.
+    pub session: &'a str,
+    /// When the request is made, in seconds since 1970.
+    pub moment: u64,
+}
+
+/// A request as it is sent, and the header in it.
+#[derive(Drop)]
+pub(crate) struct Request {
+    pub header: Bytes,
+    pub frames: Frames,
+}
+
+fn message_id(alloc: Global, session: &str) -> Result<String, AllocError>
+    ensures { IfOk result (λ id. string_bytes id ≡ message_id session.now) }
+{
+    format!(in alloc; "{session}_1")
+}
+
+fn header_json(alloc: Global, date: &str, session: &str) -> Result<Value, AllocError>
+    ensures { IfOk result (λ v. view v ≡ request_header date.now session.now) }
+{
+    let id = message_id(alloc, session)?;
+    json!(in alloc; {
+        "date": date,
+        "msg_id": id,
+        "msg_type": "execute_request",
+        "session": session,
+        "username": "kernel",
+        "version": "5.4"
+    })
+}
+
+fn empty_object(alloc: Global) -> Result<Value, AllocError>
+    ensures { IfOk result (λ v. view v ≡ empty_object) }
+{
+    json!(in alloc; {})
+}
+
+fn content_json(alloc: Global, code: &str) -> Result<Value, AllocError>
+    ensures { IfOk result (λ v. view v ≡ request_content code.now) }
+{
+    json!(in alloc; { "code": code })
+}
+
+fn draft_of(alloc: Global, date: &str, session: &str, code: &str) -> Result<Draft, AllocError>
+    ensures { IfOk result (IsDraftOf date.now session.now code.now) }
+{
+    let header = header_json(alloc, date, session)?;
+    let parent_header = Bytes::copy_of(alloc, b"{}")?;
+    let metadata = empty_object(alloc)?;
+    let content = content_json(alloc, code)?;
+    Ok(Draft {
+        identities: Frames::new(alloc),
+        header,
+        parent_header,
+        metadata,
+        content,
+    })
+}
+
+// The frames of the request of this date.
+fn dated_frames(alloc: Global, cell: &Cell<'_>, date: &str) -> Result<Frames, AllocError>
+    ensures { IfOk result (λ frames. frames ≡ request_frames cell.now.key.now date.now cell.now.session.now cell.now.code.now) }
+{
+    let draft = draft_of(alloc, date, cell.session, cell.code)?;
+    seal_message(alloc, draft, cell.key)
+}
+
+// The header's bytes, as they stand in each message of this session and date.
+fn header_of(alloc: Global, frames: &Frames) -> Result<Bytes, AllocError>
+    ensures { IfOk result (λ header. header ≡ slice_index_or frames.now 2 []) }
+{
+    match frames.as_slice().get(2) {
+        Some(header) => header.clone(),
+        None => Ok(Bytes::new(alloc)),
+    }
+}
+
+/// The request that runs a cell (Jupyter messaging 5.4, "Execute").
+pub(crate) fn request_of(alloc: Global, cell: &Cell<'_>) -> Result<Request, AllocError>
+    requires { cell.now.moment ≤ last_moment }
+    ensures { IfOk result (λ request. IsRequest cell.now.code.now cell.now.key.now cell.now.session.now
+        cell.now.moment request.header request.frames) }
+{
+    let date = date_text(alloc, cell.moment)?;
+    let frames = dated_frames(alloc, cell, date.as_str())?;
+    let header = header_of(alloc, &frames)?;
+    Ok(Request { header, frames })
+}

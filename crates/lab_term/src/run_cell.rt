@@ -1,0 +1,153 @@
+//! Running a cell in a kernel.
+ghost use Rattle.std.specs.Prelude.{◌≡◌, ◌≤◌, false, IfOk, OnOk};
+ghost use Rattle.zmtp_wire.specs.Writing.{message_bytes};
+ghost use Rattle.base_streams.specs.Told.{Told, ToldFront};
+ghost use Rattle.jup_date.specs.Dates.{last_moment};
+ghost use Rattle.zmtp_peer.specs.Hearing.{Heard};
+ghost use Rattle.zmtp_peer.specs.Sending.{WroteFront, WroteWhole};
+ghost use Rattle.lab_term.specs.Running.{subscription, Asked, Ran};
+
+use crate::cell::{Cell, Request, request_of};
+use crate::fault::{TermFault, term_fault_of};
+use crate::follow::{await_status, follow};
+use crate::subscriber::subscriber_of;
+use base_streams::ports::{Inlet, Outlet};
+use base_streams::writing::write_all;
+use base_text::sequence::{Bytes, Frames};
+use std::alloc::{AllocError, Global};
+use zmtp_peer::handshake::{Peer, handshake};
+use zmtp_wire::role::Role;
+use zmtp_wire::writing::put_message;
+
+/// The two ways of a connection.
+#[derive(Drop)]
+pub struct Connection<I: Inlet + Drop, W: Outlet + Drop> {
+    pub from: I,
+    pub to: W,
+}
+
+// Makes the handshake of a connection.
+fn greet<I: Inlet + Drop, W: Outlet + Drop>(
+    alloc: Global,
+    connection: &mut Connection<I, W>,
+    role: Role,
+) -> Result<Peer, TermFault>
+    requires ended { I.ended connection.old.from ≡ false }
+    requires failed { I.failed connection.old.from ≡ false }
+    requires refused { W.failed connection.old.to ≡ false }
+    ensures heard { IfOk result (λ peer.
+        Heard (I.given connection.old.from) (I.given connection.new.from) peer.side peer.messages 0) }
+    ensures good { OnOk result ((I.ended connection.new.from ≡ false) × (I.failed connection.new.from ≡ false)
+        × (W.failed connection.new.to ≡ false)) }
+    ensures whole { OnOk result (WroteWhole (W.taken connection.old.to) (W.taken connection.new.to) role) }
+    ensures front { WroteFront (W.taken connection.old.to) (W.taken connection.new.to) role }
+{
+    match handshake(alloc, &mut connection.from, &mut connection.to, role) {
+        Ok(peer) => Ok(peer),
+        Err(fault) => Err(term_fault_of(fault)),
+    }
+}
+
+// The message that subscribes to everything (RFC 23, "The Publish-Subscribe Pattern").
+fn subscription(alloc: Global) -> Result<Frames, AllocError>
+    ensures { IfOk result (λ frames. frames ≡ subscription) }
+{
+    let frame = Bytes::copy_of(alloc, &[1])?;
+    let mut frames = Frames::new(alloc);
+    frames.push(frame)?;
+    Ok(frames)
+}
+
+// Writes a message.
+fn send<W: Outlet>(alloc: Global, to: &mut W, frames: &Frames) -> Result<(), TermFault>
+    ensures whole { OnOk result (Told (W.taken to.old) (W.taken to.new) (message_bytes frames.now)) }
+    ensures front { ToldFront (W.taken to.old) (W.taken to.new) (message_bytes frames.now) }
+{
+    if frames.len() == 0 {
+        return Ok(());
+    }
+    let Ok(bytes) = put_message(alloc, frames.as_slice()) else {
+        return Err(TermFault::OutOfMemory);
+    };
+    match write_all(to, bytes.as_slice()) {
+        Ok(()) => Ok(()),
+        Err(_) => Err(TermFault::WriteFailed),
+    }
+}
+
+// Subscribes to everything.
+fn subscribe<W: Outlet>(alloc: Global, to: &mut W) -> Result<(), TermFault>
+    ensures whole { OnOk result (Told (W.taken to.old) (W.taken to.new) (message_bytes subscription)) }
+    ensures front { ToldFront (W.taken to.old) (W.taken to.new) (message_bytes subscription) }
+{
+    let Ok(frames) = subscription(alloc) else {
+        return Err(TermFault::OutOfMemory);
+    };
+    send(alloc, to, &frames)
+}
+
+// Sends the request of a cell, and gives its header.
+fn request<W: Outlet>(alloc: Global, to: &mut W, cell: &Cell<'_>) -> Result<Bytes, TermFault>
+    requires { cell.now.moment ≤ last_moment }
+    ensures whole { IfOk result (λ header. Asked cell.now.code.now cell.now.key.now cell.now.session.now
+        cell.now.moment header (W.taken to.old) (W.taken to.new)) }
+{
+    let Ok(Request { header, frames }) = request_of(alloc, cell) else {
+        return Err(TermFault::OutOfMemory);
+    };
+    match send(alloc, to, &frames) {
+        Ok(()) => Ok(header),
+        Err(fault) => Err(fault),
+    }
+}
+
+/// Runs a cell in the kernel behind two connections, prints what it streams and its error, and reports
+/// whether it ran without one. After its handshake nothing is read from shell: the reply stays there.
+pub fn run_cell<I: Inlet + Drop, W: Outlet + Drop, O: Outlet>(
+    alloc: Global,
+    shell: &mut Connection<I, W>,
+    iopub: &mut Connection<I, W>,
+    output: &mut O,
+    cell: &Cell<'_>,
+) -> Result<bool, TermFault>
+    requires moment { cell.now.moment ≤ last_moment }
+    requires shell { (I.ended shell.old.from ≡ false) × (I.failed shell.old.from ≡ false) × (W.failed shell.old.to ≡ false) }
+    requires iopub { (I.ended iopub.old.from ≡ false) × (I.failed iopub.old.from ≡ false) × (W.failed iopub.old.to ≡ false) }
+    requires output { O.failed output.old ≡ false }
+    ensures ran { IfOk result (Ran cell.now.code.now cell.now.key.now cell.now.session.now cell.now.moment
+        (W.taken shell.old.to) (W.taken shell.new.to) (W.taken iopub.old.to) (W.taken iopub.new.to)
+        (I.given iopub.old.from) (I.given iopub.new.from) (O.taken output.old) (O.taken output.new)) }
+{
+    match greet(alloc, shell, Role::Dealer) {
+        Ok(_) => {}
+        Err(fault) => return Err(fault),
+    }
+    let peer = match greet(alloc, iopub, Role::Sub) {
+        Ok(peer) => peer,
+        Err(fault) => return Err(fault),
+    };
+    match subscribe(alloc, &mut iopub.to) {
+        Ok(()) => {}
+        Err(fault) => return Err(fault),
+    }
+    let mut subscriber = match subscriber_of(alloc, peer) {
+        Ok(subscriber) => subscriber,
+        Err(fault) => return Err(fault),
+    };
+    match await_status(alloc, &mut iopub.from, &mut subscriber, cell.key) {
+        Ok(()) => {}
+        Err(fault) => return Err(fault),
+    }
+    let header = match request(alloc, &mut shell.to, cell) {
+        Ok(header) => header,
+        Err(fault) => return Err(fault),
+    };
+    follow(
+        alloc,
+        &mut iopub.from,
+        output,
+        &mut subscriber,
+        cell.key,
+        header.as_slice(),
+    )
+}

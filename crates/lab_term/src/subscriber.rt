@@ -1,0 +1,105 @@
+//! The messages of iopub, as they come.
+ghost use Rattle.std.specs.Prelude.{◌≡◌, ◌<◌, ◌≤◌, ◌+◌, ℕ, List, [], Option, false, take, length, IfOk, IfErr, OnOk};
+ghost use Rattle.base_streams.specs.Told.{Told};
+ghost use Rattle.lab_term.specs.declared.subscriber.Subscriber.{Subscriber};
+ghost use Rattle.zmtp_peer.specs.Hearing.{Heard};
+ghost use Rattle.lab_term.specs.Reading.{Holds, Starves};
+ghost use Rattle.lab_term.specs.declared.fault.TermFault.{TermFault};
+
+use crate::fault::{TermFault, WireCause};
+use base_streams::ports::Inlet;
+use base_text::sequence::Frames;
+use std::alloc::Global;
+use std::collections::VecDeque;
+use zmtp_peer::feeding::{Fed, feed};
+use zmtp_peer::handshake::Peer;
+use zmtp_wire::fault::StreamFault;
+use zmtp_wire::side::Side;
+
+/// How much is read at once, in bytes.
+const PIECE_SIZE: usize = 8192;
+
+/// A side that reads, and the messages that came and weren't looked at yet.
+#[derive(Drop)]
+pub(crate) struct Subscriber {
+    pub side: Side,
+    pub queue: VecDeque<Frames>,
+    /// What is wrong with the stream after these messages.
+    pub broken: Option<StreamFault>,
+}
+
+/// Begins with the messages that came with READY.
+pub(crate) fn subscriber_of(alloc: Global, peer: Peer) -> Result<Subscriber, TermFault>
+    ensures holds { IfOk result (λ subscriber. (before given : Option (List ℕ)) (least : ℕ)
+        → Heard before given peer.side peer.messages least → Holds before given subscriber [] least) }
+    ensures err { IfErr result (λ fault. fault ≡ TermFault.OutOfMemory) }
+{
+    let Peer { mut side, messages } = peer;
+    // What came with READY may have broken the stream.
+    let Ok(
+        Fed {
+            messages: others,
+            broken,
+        },
+    ) = feed(alloc, &mut side, &[])
+    else {
+        return Err(TermFault::OutOfMemory);
+    };
+    let mut queue = messages.into_vec();
+    if queue.append(&mut others.into_vec()).is_err() {
+        return Err(TermFault::OutOfMemory);
+    }
+    Ok(Subscriber {
+        side,
+        queue: VecDeque::from(queue),
+        broken,
+    })
+}
+
+// Reads a piece, which isn't empty, to the front of the buffer, and reports its length.
+fn read_piece<I: Inlet>(from: &mut I, buffer: &mut [u8; PIECE_SIZE]) -> Result<usize, TermFault>
+    requires ended { I.ended from.old ≡ false }
+    requires failed { I.failed from.old ≡ false }
+    ensures count { IfOk result (λ n. (0 < n) × (n ≤ length buffer.new)) }
+    ensures given { IfOk result (λ n. Told (I.given from.old) (I.given from.new) (take n buffer.new)) }
+    ensures good { OnOk result ((I.ended from.new ≡ false) × (I.failed from.new ≡ false)) }
+    ensures starves { IfErr result (λ fault. (s : Subscriber)
+        → Starves fault (I.ended from.new) (I.failed from.new) s) }
+{
+    match from.read(buffer) {
+        Ok(0) => Err(TermFault::Ended),
+        Ok(count) => Ok(count),
+        Err(_) => Err(TermFault::ReadFailed),
+    }
+}
+
+/// Reads a piece, once all messages were looked at.
+pub(crate) fn refill<I: Inlet>(
+    alloc: Global,
+    from: &mut I,
+    subscriber: &mut Subscriber,
+) -> Result<(), TermFault>
+    requires ended { I.ended from.old ≡ false }
+    requires failed { I.failed from.old ≡ false }
+    requires empty { subscriber.old.queue.items ≡ [] }
+    ensures good { OnOk result ((I.ended from.new ≡ false) × (I.failed from.new ≡ false)) }
+    ensures holds { OnOk result ((before : Option (List ℕ)) (passed : List (List (List ℕ))) (least : ℕ)
+        → Holds before (I.given from.old) subscriber.old passed least
+        → Holds before (I.given from.new) subscriber.new passed (least + 1)) }
+    ensures starves { IfErr result (λ fault. Starves fault (I.ended from.new) (I.failed from.new) subscriber.new) }
+{
+    if let Some(cause) = subscriber.broken {
+        return Err(TermFault::Wire(WireCause::Stream(cause)));
+    }
+    let mut buffer = [0u8; PIECE_SIZE];
+    let count = match read_piece(from, &mut buffer) {
+        Ok(count) => count,
+        Err(fault) => return Err(fault),
+    };
+    let Ok(Fed { messages, broken }) = feed(alloc, &mut subscriber.side, &buffer[..count]) else {
+        return Err(TermFault::OutOfMemory);
+    };
+    subscriber.queue = VecDeque::from(messages.into_vec());
+    subscriber.broken = broken;
+    Ok(())
+}

@@ -1,0 +1,4 @@
+pub mod Beating
+pub mod Ends
+pub mod Hearing
+pub mod Sending

@@ -1,0 +1,42 @@
+-- What is written to a peer (RFC 23).
+use Rattle.std.specs.Prelude.{◌≡◌, ℕ, List, ◌++◌, Option, flat_map}
+use Rattle.zmtp_wire.specs.declared.role.Role.{Role}
+use Rattle.zmtp_wire.specs.declared.role.Role.TheVariants.{Rep}
+use Rattle.zmtp_wire.specs.declared.head.Stage.TheVariants.{Traffic}
+use Rattle.zmtp_wire.specs.Stream.{SideState}
+use Rattle.zmtp_wire.specs.Writing.{written_greeting, IsReadyOf, message_bytes}
+use Rattle.base_streams.specs.Told.{Told, ToldFront}
+use Rattle.zmtp_peer.specs.declared.fault.PeerFault.{PeerFault}
+use Rattle.zmtp_peer.specs.Ends.{EndsReading}
+
+-- what a side of this role writes before any message: its greeting, and its READY
+pub record IsHandshakeOf (bytes : List ℕ) (role : Role) : Type 0 where
+  pub ready : List ℕ
+  pub is_ready : IsReadyOf ready role
+  pub spelled : bytes ≡ written_greeting ++ ready
+
+-- a front of the role's handshake was written
+pub record WroteFront (taken taken' : Option (List ℕ)) (role : Role) : Type 0 where
+  pub handshake : List ℕ
+  pub is : IsHandshakeOf handshake role
+  pub told : ToldFront taken taken' handshake
+
+-- the role's handshake was written whole
+pub record WroteWhole (taken taken' : Option (List ℕ)) (role : Role) : Type 0 where
+  pub handshake : List ℕ
+  pub is : IsHandshakeOf handshake role
+  pub told : Told taken taken' handshake
+
+-- messages as they are written, one after the other
+abbrev pub messages_bytes : List (List (List ℕ)) → List ℕ
+messages_bytes messages = flat_map message_bytes messages
+
+-- a front of the handshake and these messages was written; all of it where the peer was accepted and
+-- reading came to this end
+pub record Echoes (taken taken' : Option (List ℕ)) (side : SideState) (messages : List (List (List ℕ)))
+    (fault : PeerFault) : Type 0 where
+  pub handshake : List ℕ
+  pub is : IsHandshakeOf handshake Rep
+  pub front : ToldFront taken taken' (handshake ++ messages_bytes messages)
+  pub whole : EndsReading fault → side.stage ≡ Traffic
+      → Told taken taken' (handshake ++ messages_bytes messages)

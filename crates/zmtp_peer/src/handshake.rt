@@ -1,0 +1,146 @@
+//! The handshake of a connection (RFC 23, "The NULL Security Mechanism").
+ghost use Rattle.std.specs.Prelude.{◌≡◌, ◌+◌, ◌<◌, ℕ, List, Option, false, IfOk, IfErr, OnOk};
+ghost use Rattle.zmtp_wire.specs.declared.head.Stage.TheVariants.{Traffic};
+ghost use Rattle.zmtp_peer.specs.Ends.{Blames, NoPeer};
+ghost use Rattle.zmtp_peer.specs.Hearing.{Heard};
+ghost use Rattle.zmtp_peer.specs.Sending.{WroteFront, WroteWhole};
+
+use crate::fault::PeerFault;
+use crate::feeding::{Fed, feed};
+use crate::hearing::{PIECE_SIZE, read_piece};
+use crate::sending::send;
+use base_streams::ports::{Inlet, Outlet};
+use std::alloc::Global;
+use zmtp_wire::incomings::Incomings;
+use zmtp_wire::role::Role;
+use zmtp_wire::side::Side;
+use zmtp_wire::writing::{greeting, ready};
+
+// The size of a greeting, in bytes.
+const GREETING_SIZE: usize = 64;
+
+// The bytes, and so the reads, after which a handshake is given up.
+const MOST_BYTES: usize = 4_294_967_295;
+
+/// A peer whose READY was accepted, and the messages that came with it. The stream may be broken after
+/// them: then the next feed, of no bytes too, says so.
+#[derive(Drop)]
+pub struct Peer {
+    pub side: Side,
+    pub messages: Incomings,
+}
+
+// Reads a piece before READY, and reports its length.
+fn listen_once<I: Inlet>(alloc: Global, from: &mut I, peer: &mut Peer) -> Result<usize, PeerFault>
+    requires ended { I.ended from.old ≡ false }
+    requires failed { I.failed from.old ≡ false }
+    requires unready { peer.old.side.stage ≡ Traffic → ⊥ }
+    ensures some { IfOk result (λ count. 0 < count) }
+    ensures role { peer.new.side.role ≡ peer.old.side.role }
+    ensures good { OnOk result ((I.ended from.new ≡ false) × (I.failed from.new ≡ false)) }
+    ensures heard { IfOk result (λ count. (before : Option (List ℕ)) (least : ℕ)
+        → Heard before (I.given from.old) peer.old.side peer.old.messages least
+        → Heard before (I.given from.new) peer.new.side peer.new.messages (least + count)) }
+    ensures blames { IfErr result (λ fault. Blames fault (I.ended from.new) (I.failed from.new) false) }
+    ensures lost { IfErr result (λ fault. (before : Option (List ℕ)) (least : ℕ)
+        → Heard before (I.given from.old) peer.old.side peer.old.messages least
+        → NoPeer peer.old.side.role before (I.given from.new) (I.failed from.new) fault) }
+{
+    let mut buffer = [0u8; PIECE_SIZE];
+    let count = match read_piece(from, &mut buffer) {
+        Ok(count) => count,
+        Err(fault) => return Err(fault),
+    };
+    let Ok(Fed { messages, broken }) = feed(alloc, &mut peer.side, &buffer[..count]) else {
+        return Err(PeerFault::OutOfMemory);
+    };
+    peer.messages = messages;
+    match broken {
+        Some(cause) if !peer.side.is_ready() => Err(PeerFault::Wire(cause)),
+        Some(_) | None => Ok(count),
+    }
+}
+
+// Reads until READY was accepted, or so many bytes have come. Each read gives one at least.
+fn listen<I: Inlet>(
+    alloc: Global,
+    from: &mut I,
+    peer: &mut Peer,
+    bytes: usize,
+) -> Result<(), PeerFault>
+    requires ended { I.ended from.old ≡ false }
+    requires failed { I.failed from.old ≡ false }
+    ensures role { peer.new.side.role ≡ peer.old.side.role }
+    ensures stays { peer.old.side.stage ≡ Traffic → peer.new.side.stage ≡ Traffic }
+    ensures good { OnOk result ((I.ended from.new ≡ false) × (I.failed from.new ≡ false)) }
+    ensures heard { OnOk result ((before : Option (List ℕ)) (least : ℕ)
+        → Heard before (I.given from.old) peer.old.side peer.old.messages least
+        → Heard before (I.given from.new) peer.new.side peer.new.messages least
+        × ((peer.new.side.stage ≡ Traffic → ⊥)
+        → Heard before (I.given from.new) peer.new.side peer.new.messages (least + bytes))) }
+    ensures blames { IfErr result (λ fault. Blames fault (I.ended from.new) (I.failed from.new) false) }
+    ensures lost { IfErr result (λ fault. (before : Option (List ℕ)) (least : ℕ)
+        → Heard before (I.given from.old) peer.old.side peer.old.messages least
+        → NoPeer peer.old.side.role before (I.given from.new) (I.failed from.new) fault) }
+{
+    let mut count = 0usize;
+    while count < bytes && !peer.side.is_ready() {
+        match listen_once(alloc, from, peer) {
+            Ok(more) => count = count.saturating_add(more),
+            Err(fault) => return Err(fault),
+        }
+    }
+    Ok(())
+}
+
+/// Makes the handshake: writes the greeting, and READY once the peer's greeting came; then reads until the
+/// peer's READY was accepted. It never waits before it has written the greeting.
+pub fn handshake<I: Inlet, W: Outlet>(
+    alloc: Global,
+    from: &mut I,
+    to: &mut W,
+    role: Role,
+) -> Result<Peer, PeerFault>
+    requires ended { I.ended from.old ≡ false }
+    requires failed { I.failed from.old ≡ false }
+    requires refused { W.failed to.old ≡ false }
+    // The peer has read what the reader gave, and holds the messages in it.
+    ensures heard { IfOk result (λ peer.
+        Heard (I.given from.old) (I.given from.new) peer.side peer.messages 0) }
+    ensures ready { IfOk result (λ peer. peer.side.stage ≡ Traffic) }
+    ensures role { IfOk result (λ peer. peer.side.role ≡ role) }
+    ensures front { WroteFront (W.taken to.old) (W.taken to.new) role }
+    ensures whole { OnOk result (WroteWhole (W.taken to.old) (W.taken to.new) role) }
+    ensures good { OnOk result ((I.ended from.new ≡ false) × (I.failed from.new ≡ false)
+        × (W.failed to.new ≡ false)) }
+    ensures blames { IfErr result (λ fault.
+        Blames fault (I.ended from.new) (I.failed from.new) (W.failed to.new)) }
+    ensures lost { IfErr result (λ fault.
+        NoPeer role (I.given from.old) (I.given from.new) (I.failed from.new) fault) }
+{
+    let (greeting, ready) = (greeting(), ready(role));
+    let mut peer = Peer {
+        side: Side::new(alloc, role),
+        messages: Incomings::new(alloc),
+    };
+    match send(to, greeting) {
+        Ok(()) => {}
+        Err(fault) => return Err(fault),
+    }
+    match listen(alloc, from, &mut peer, GREETING_SIZE) {
+        Ok(()) => {}
+        Err(fault) => return Err(fault),
+    }
+    match send(to, ready) {
+        Ok(()) => {}
+        Err(fault) => return Err(fault),
+    }
+    match listen(alloc, from, &mut peer, MOST_BYTES - GREETING_SIZE) {
+        Ok(()) => {}
+        Err(fault) => return Err(fault),
+    }
+    if !peer.side.is_ready() {
+        return Err(PeerFault::ReadFailed);
+    }
+    Ok(peer)
+}

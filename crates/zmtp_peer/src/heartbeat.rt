@@ -1,0 +1,140 @@
+//! The heartbeat (Jupyter messaging 5.4, "Heartbeat for kernels"), which sends back what it reads.
+ghost use Rattle.std.specs.Prelude.{◌≡◌, ℕ, List, false, length, IfErr, OnOk};
+ghost use Rattle.zmtp_wire.specs.declared.role.Role.TheVariants.{Rep};
+ghost use Rattle.zmtp_wire.specs.Stream.{SideState, Completes};
+ghost use Rattle.zmtp_wire.specs.Writing.{message_bytes};
+ghost use Rattle.base_streams.specs.Told.{Told, ToldFront};
+ghost use Rattle.zmtp_peer.specs.Ends.{Blames, Ends, Refuses};
+ghost use Rattle.zmtp_peer.specs.Sending.{Echoes, messages_bytes};
+ghost use Rattle.zmtp_peer.specs.Beating.{EchoedPiece, EchoedRound, LostPiece, LostRound};
+
+use crate::fault::PeerFault;
+use crate::feeding::{Fed, feed};
+use crate::handshake::handshake;
+use crate::hearing::{PIECE_SIZE, read_piece};
+use crate::sending::send;
+use base_streams::ports::{Inlet, Outlet};
+use base_text::sequence::Frames;
+use std::alloc::Global;
+use zmtp_wire::incomings::Incomings;
+use zmtp_wire::role::Role;
+use zmtp_wire::side::Side;
+use zmtp_wire::writing::put_message;
+
+// Writes a message; one of no frames has no bytes.
+fn echo_message<W: Outlet>(alloc: Global, to: &mut W, message: &Frames) -> Result<(), PeerFault>
+    requires { W.failed to.old ≡ false }
+    ensures front { ToldFront (W.taken to.old) (W.taken to.new) (message_bytes message.now) }
+    ensures all { OnOk result (Told (W.taken to.old) (W.taken to.new) (message_bytes message.now)) }
+    ensures good { OnOk result (W.failed to.new ≡ false) }
+    ensures err { IfErr result (λ fault. Refuses fault (W.failed to.new)) }
+{
+    if message.len() == 0 {
+        return Ok(());
+    }
+    match put_message(alloc, message.as_slice()) {
+        Ok(bytes) => send(to, bytes.as_slice()),
+        Err(_) => Err(PeerFault::OutOfMemory),
+    }
+}
+
+// Writes messages in their order.
+fn echo<W: Outlet>(alloc: Global, to: &mut W, messages: &Incomings) -> Result<(), PeerFault>
+    requires { W.failed to.old ≡ false }
+    ensures front { ToldFront (W.taken to.old) (W.taken to.new) (messages_bytes messages.now) }
+    ensures all { OnOk result (Told (W.taken to.old) (W.taken to.new) (messages_bytes messages.now)) }
+    ensures good { OnOk result (W.failed to.new ≡ false) }
+    ensures err { IfErr result (λ fault. Refuses fault (W.failed to.new)) }
+{
+    for message in messages.as_slice() {
+        match echo_message(alloc, to, message) {
+            Ok(()) => {}
+            Err(fault) => return Err(fault),
+        }
+    }
+    Ok(())
+}
+
+// Feeds a piece, and writes the messages that it completes.
+fn echo_piece<W: Outlet>(
+    alloc: Global,
+    to: &mut W,
+    side: &mut Side,
+    piece: &[u8],
+) -> Result<(), PeerFault>
+    requires { W.failed to.old ≡ false }
+    ensures ok { OnOk result (EchoedPiece piece.now side.old side.new (W.taken to.old) (W.taken to.new)) }
+    ensures good { OnOk result (W.failed to.new ≡ false) }
+    ensures err { IfErr result (λ fault. LostPiece piece.now side.old side.new (W.taken to.old) (W.taken to.new) false fault) }
+    ensures blames { IfErr result (λ fault. Blames fault false false (W.failed to.new)) }
+{
+    let Ok(Fed { messages, broken }) = feed(alloc, side, piece) else {
+        return Err(PeerFault::OutOfMemory);
+    };
+    match echo(alloc, to, &messages) {
+        Ok(()) => {}
+        Err(fault) => return Err(fault),
+    }
+    match broken {
+        Some(cause) => Err(PeerFault::Wire(cause)),
+        None => Ok(()),
+    }
+}
+
+// Reads a piece, and writes the messages that it completes.
+fn beat<I: Inlet, W: Outlet>(
+    alloc: Global,
+    from: &mut I,
+    to: &mut W,
+    side: &mut Side,
+) -> Result<(), PeerFault>
+    requires ended { I.ended from.old ≡ false }
+    requires failed { I.failed from.old ≡ false }
+    requires refused { W.failed to.old ≡ false }
+    ensures ok { OnOk result (EchoedRound (I.given from.old) (I.given from.new) side.old side.new (W.taken to.old) (W.taken to.new)) }
+    ensures good { OnOk result ((I.ended from.new ≡ false) × (I.failed from.new ≡ false)
+        × (W.failed to.new ≡ false)) }
+    ensures blames { IfErr result (λ fault.
+        Blames fault (I.ended from.new) (I.failed from.new) (W.failed to.new)) }
+    ensures lost { IfErr result (λ fault. LostRound (I.given from.old) (I.given from.new) side.old side.new (W.taken to.old) (W.taken to.new) (I.failed from.new) fault) }
+{
+    let mut buffer = [0u8; PIECE_SIZE];
+    match read_piece(from, &mut buffer) {
+        Ok(count) => echo_piece(alloc, to, side, &buffer[..count]),
+        Err(fault) => Err(fault),
+    }
+}
+
+/// Makes the handshake as REP, and sends each message back as it came, until the reader, the writer or the
+/// stream ends it.
+pub fn heartbeat<I: Inlet, W: Outlet>(alloc: Global, from: &mut I, to: &mut W) -> PeerFault
+    requires ended { I.ended from.old ≡ false }
+    requires failed { I.failed from.old ≡ false }
+    requires refused { W.failed to.old ≡ false }
+    ensures blames { Blames result (I.ended from.new) (I.failed from.new) (W.failed to.new) }
+    // What was read of the stream, the messages in it, and what was written of them.
+    ensures echoes { (side : SideState) × (messages : List (List (List ℕ)))
+        × Ends Rep (I.given from.old) (I.given from.new) (I.failed from.new) result side messages
+        × Echoes (W.taken to.old) (W.taken to.new) side messages result }
+{
+    let mut peer = match handshake(alloc, from, to, Role::Rep) {
+        Ok(peer) => peer,
+        Err(fault) => return fault,
+    };
+    match echo(alloc, to, &peer.messages) {
+        Ok(()) => {}
+        Err(fault) => return fault,
+    }
+    // What came with READY may have broken the stream.
+    match echo_piece(alloc, to, &mut peer.side, &[]) {
+        Ok(()) => {}
+        Err(fault) => return fault,
+    }
+    for _ in 0..u32::MAX {
+        match beat(alloc, from, to, &mut peer.side) {
+            Ok(()) => {}
+            Err(fault) => return fault,
+        }
+    }
+    PeerFault::ReadFailed
+}
