@@ -1,0 +1,55 @@
+"""What frontends ask while a cell runs, and how a kernel ends and begins anew."""
+import time
+
+from lab80_client import ENDLESS, HELLO, PATIENCE, Lab, streams
+
+
+class Control(Lab):
+    def test_an_interrupt_ends_a_running_cell(self):
+        number = self.client.execute(ENDLESS)
+        self.wait_for("execute_input")
+        began = time.monotonic()
+        self.manager.interrupt_kernel()
+        reply = self.reply(number)["content"]
+        self.assertLess(time.monotonic() - began, 1)
+        self.assertEqual((reply["status"], reply["ename"]), ("error", "Interrupted"))
+        self.assertEqual(self.execute(HELLO)[0]["status"], "ok")
+
+    def test_control_is_answered_while_a_cell_runs(self):
+        number = self.client.execute(ENDLESS)
+        self.wait_for("execute_input")
+        info = self.control("kernel_info")
+        self.assertEqual(info["implementation"], "lab80")
+        self.assertEqual(self.control("interrupt"), {"status": "ok"})
+        self.assertEqual(self.reply(number)["content"]["ename"], "Interrupted")
+
+    def test_is_complete(self):
+        for code, status in (
+            (HELLO, "complete"),
+            ("IF 1\nNOP\n", "incomplete"),
+            ("FOO\n", "invalid"),
+        ):
+            number = self.client.is_complete(code)
+            self.assertEqual(self.reply(number)["content"]["status"], status)
+
+    def test_a_restarted_kernel_is_new(self):
+        self.execute("KEPT EQU 1")
+        self.manager.restart_kernel(now=False)
+        self.client.wait_for_ready(timeout=PATIENCE)
+        reply, _ = self.execute("DB KEPT")
+        self.assertEqual(reply["evalue"], "1:4 Undefined")
+
+    def test_a_shutdown_ends_the_process(self):
+        self.assertEqual(self.control("shutdown", {"restart": False})["status"], "ok")
+        until = time.monotonic() + 2
+        while self.manager.is_alive() and time.monotonic() < until:
+            time.sleep(0.02)
+        self.assertFalse(self.manager.is_alive())
+
+    def test_a_second_frontend_sees_what_the_first_one_does(self):
+        other = self.new_client()
+        try:
+            number = self.client.execute(HELLO)
+            self.assertEqual(streams(self.posts(number, other)), "hello, world\n")
+        finally:
+            other.stop_channels()
