@@ -1,12 +1,11 @@
-// Times the parts of lab80 that have to be fast: `bench assembler`, `bench listing`, `bench turnstile`,
-// `bench frames` and `bench kernel` print rates; `bench core WORKLOAD COUNT` runs one of three workloads
-// on the machine, for the script bench/core, which times it; `bench journal` fills a kernel's journal.
-// With no word each part does a little work, and prints what it came to, which the gate compares.
+// Times the parts of lab80 that have to be fast: `bench assembler`, `bench listing`, `bench turnstile`
+// and `bench frames` print rates; `bench core WORKLOAD COUNT` runs one of three workloads on the machine,
+// for the script bench/core, which times it. With no word each part does a little work, and prints what
+// it came to, which the gate compares.
 #![tactic(auto)]
 
 mod assembler;
 mod frames;
-mod kernel;
 mod listing;
 mod slot;
 mod turnstile;
@@ -22,8 +21,7 @@ fn check<R: Threads + Wait + Sync + Print + AllocGlobal>(rt: &R) -> Result<()> {
     assembler::check(rt)?;
     listing::check(rt)?;
     turnstile::check(rt, rt.alloc())?;
-    frames::check(rt)?;
-    kernel::check(rt, rt.alloc())
+    frames::check(rt)
 }
 
 fn main(rt: HostRuntime) -> Result<()> {
@@ -38,10 +36,6 @@ fn main(rt: HostRuntime) -> Result<()> {
         [word] if word.as_str() == "listing" => listing::time(&rt, alloc),
         [word] if word.as_str() == "turnstile" => turnstile::time(&rt, alloc),
         [word] if word.as_str() == "frames" => frames::time(&rt, alloc),
-        [word] if word.as_str() == "kernel" => kernel::time(&rt, alloc),
-        [word] if word.as_str() == "journal" => kernel::fill(&rt, alloc),
-        _ => bail!(
-            "usage: bench [assembler | listing | turnstile | frames | kernel | journal | core WORKLOAD COUNT]"
-        ),
+        _ => bail!("usage: bench [assembler | listing | turnstile | frames | core WORKLOAD COUNT]"),
     }
 }
