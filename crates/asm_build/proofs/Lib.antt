@@ -3,7 +3,12 @@ pub mod ListLemmas
 pub mod UseLemmas
 pub mod LayoutLemmas
 pub mod BytesLemmas
-pub mod EncodingLemmas
 pub mod ImageLemmas
 pub mod ValueLemmas
 pub mod ReadingLemmas
+pub mod DefinitionFaults
+pub mod LayoutFaults
+pub mod LayoutRounds
+pub mod OperandFaults
+pub mod ByteFaults
+pub mod CellFaults

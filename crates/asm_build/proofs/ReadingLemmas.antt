@@ -27,7 +27,7 @@ line_ok : {A : Type 0} (n : ℕ) (r : Result A Fault) (x : A) → at_line n r �
 line_ok n (Ok y) x e = let same : y ≡ x = cc in ap (λ z. Ok z) same
 line_ok n (Err f) x e = absurd cc
 
-abbrev done : {A : Type 0} → A → Result A Fault
+abbrev pub done : {A : Type 0} → A → Result A Fault
 done x = Ok x
 
 -- ---- what the layout gives is a consistent reading
@@ -37,10 +37,10 @@ early_ok column v (Ok w) e = let same : w ≡ v = cc in ap (λ z. Ok z) same
 early_ok column v (Err expr.Undefined) e = absurd cc
 early_ok column v (Err expr.Divisor) e = absurd cc
 
-abbrev row : ℕ → Bool → ℕ → Laid
+abbrev pub row : ℕ → Bool → ℕ → Laid
 row p b v = record { place = p; is_assembled = b; value = v }
 
-early_is : (kept : Entries) (earlier : Lines) (p v : ℕ) (b : Bool) (o : Option Operand)
+pub early_is : (kept : Entries) (earlier : Lines) (p v : ℕ) (b : Bool) (o : Option Operand)
     → early (past kept earlier) (p % 65536) o ≡ Ok v → EarlyIs kept earlier (row p b v) o
 early_is kept earlier p v b None e = let same : 0 ≡ v = cc in sym same
 early_is kept earlier p v b (Some o) e =
@@ -119,7 +119,7 @@ one_value : (kept : Entries) (earlier : Lines) (p v w : ℕ) (b : Bool) (o : Opt
 one_value kept earlier p v w true o h k = one_early kept earlier p v w true o h k
 one_value kept earlier p v w false o h k = h ∙ sym k
 
-one_row : (kept : Entries) (earlier : Lines) (s : Statement) (q r : Laid) → Fits kept earlier s q
+pub one_row : (kept : Entries) (earlier : Lines) (s : Statement) (q r : Laid) → Fits kept earlier s q
     → Fits kept earlier s r → q ≡ r
 one_row kept earlier s q r a b =
     let o = on_action early_in None s in
@@ -133,7 +133,7 @@ one_row kept earlier s q r a b =
     ap (λ (x : ℕ). row x q.is_assembled q.value) (sym p) ∙ ap (λ (x : Bool). row r.place x q.value) (sym on)
     ∙ ap (λ (x : ℕ). row r.place r.is_assembled x) v
 
-one_reading : (ss : List Statement) (kept : Entries) (earlier l m : Lines) → Reads kept earlier ss l
+pub one_reading : (ss : List Statement) (kept : Entries) (earlier l m : Lines) → Reads kept earlier ss l
     → Reads kept earlier ss m → l ≡ m
 one_reading [] kept earlier l m a b = a ∙ sym b
 one_reading (s ∷ ss) kept earlier l m a b =

@@ -10,6 +10,7 @@ use Rattle.asm_expr.specs.declared.evaluation.ExprFault.TheVariants as expr
 use Rattle.i80_rows.specs.declared.instruction.Instr.TheVariants.{Rst}
 use Rattle.i80_rows.specs.declared.instruction.Vector.{Vector}
 use Rattle.i80_rows.specs.declared.instruction.Vector.TheVariants.{V0, V1, V2, V3, V4, V5, V6, V7}
+use Rattle.i80_rows.specs.Encoding.{encoding_of}
 use Rattle.asm_syntax.specs.declared.fault.FaultKind.TheVariants as fault
 use Rattle.asm_syntax.specs.declared.statement.Label.{Label}
 use Rattle.asm_syntax.specs.declared.statement.Operand.{Operand}
@@ -28,7 +29,6 @@ use Rattle.asm_build.specs.declared.symbols.Symbol.{Symbol}
 use Rattle.asm_build.specs.declared.laid.Laid.{Laid}
 use Rattle.asm_build.specs.declared.built.Row.{Row}
 use Rattle.asm_build.specs.declared.built.Built.{Built}
-use Rattle.asm_build.specs.Encodings.{encoding_of}
 use Rattle.asm_build.specs.Images.{has}
 use Rattle.asm_build.specs.Statements.{definition_of}
 use Rattle.asm_build.specs.Reading.{Entries, Lines, IsReading, given_as, late_value}

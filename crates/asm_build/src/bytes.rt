@@ -1,8 +1,7 @@
 //! The bytes of actions.
 ghost use Rattle.std.specs.Prelude.{◌≡◌, IfOk};
-ghost use Rattle.i80_rows.specs.Encoding.{Encodes};
+ghost use Rattle.i80_rows.specs.Encoding.{encoding_of};
 ghost use Rattle.asm_syntax.specs.Outcome.{LineGives};
-ghost use Rattle.asm_build.specs.Encodings.{encoding_of};
 ghost use Rattle.asm_build.specs.Meaning.{as_byte, vector, number, byte, restart};
 ghost use Rattle.asm_build.specs.Meaning.{instruction_bytes, datum_bytes, word_bytes, all_bytes};
 ghost use Rattle.asm_build.specs.Meaning.{bytes_of, start_of};
@@ -70,18 +69,10 @@ fn restart<E: Env>(names: &E, here: u16, operand: &Operand) -> Result<Vector, Li
     }
 }
 
-// The bytes that encode an instruction, in a `Vec`.
-fn encoded(alloc: Global, instr: Instr, bytes: &[u8]) -> Result<Vec<u8>, AllocError>
-    requires { Encodes instr bytes.now }
-    ensures { IfOk result (λ v. v.items ≡ encoding_of instr) }
-{
-    Vec::from_slice(alloc, bytes)
-}
-
 fn encoding(alloc: Global, instr: Instr) -> Result<Vec<u8>, AllocError>
     ensures { IfOk result (λ v. v.items ≡ encoding_of instr) }
 {
-    encoded(alloc, instr, encode(instr).as_slice())
+    Vec::from_slice(alloc, encode(instr).as_slice())
 }
 
 fn instruction_bytes<E: Env>(

@@ -1,15 +1,16 @@
 -- A listing is a cell: its lines, and their statements.
-use Rattle.std.proofs.Common.{◌≡◌, ℕ, zero, suc, ◌-◌, ◌<◌, ◌≤◌, inl, inr, List, [], ◌∷◌, ◌++◌, Bool, true, false, cond, length, map, get_or, refl, sym, ap, subst, ◌∙◌, arith, eqb, append_assoc}
+use Rattle.std.proofs.Common.{◌≡◌, ℕ, zero, suc, ◌-◌, ◌<◌, ◌≤◌, inl, inr, List, [], ◌∷◌, ◌++◌, Bool, true}
+use Rattle.std.proofs.Common.{false, cond, length, map, get_or, refl, sym, ap, subst, ◌∙◌, arith, eqb}
+use Rattle.std.proofs.Common.{append_assoc}
 use Rattle.std.specs.Prelude.{codes, nat_lt, slice_index}
 use Rattle.std.specs.List.{list_all, slice_split, onto_first}
 use Rattle.std.specs.Str.Lines.{lines, lines_of_parts, strip_carriage_return}
 use Rattle.std.proofs.lemmas.Bool.{and_parts, ltb-true, ne_eqb}
 use Rattle.std.proofs.lemmas.List.{length-append}
 use Rattle.i80_rows.specs.declared.instruction.Instr.{Instr}
-use Rattle.i80_rows.specs.Encoding.{Encodes}
+use Rattle.i80_rows.specs.Encoding.{Encodes, encoding_of}
+use Rattle.i80_rows.proofs.OnlyEncoding.{encoding_is}
 use Rattle.asm_syntax.specs.declared.statement.Statement.{Statement}
-use Rattle.asm_build.specs.Encodings.{encoding_of}
-use Rattle.asm_build.proofs.EncodingLemmas.{encoding_is}
 use Rattle.i80_dis.specs.declared.line.Shown.{Shown}
 use Rattle.i80_dis.specs.declared.line.Shown.TheVariants.{Instruction, Datum}
 use Rattle.i80_dis.specs.Shown.{Lists}
@@ -26,7 +27,8 @@ above_ends c h = let lt : 13 < c = ltb-true 13 c h in ne_eqb c 10 (λ e. absurd 
 above_return : (c : ℕ) → nat_lt 13 c ≡ true → eqb c 13 ≡ false
 above_return c h = let lt : 13 < c = ltb-true 13 c h in ne_eqb c 13 (λ e. absurd (omega (arith, lt, e)))
 
-parts_first : (t rest : List ℕ) → list_all (nat_lt 13) t ≡ true → slice_split (λ b. eqb b 10) (t ++ 10 ∷ rest) ≡ t ∷ slice_split (λ b. eqb b 10) rest
+parts_first : (t rest : List ℕ) → list_all (nat_lt 13) t ≡ true
+    → slice_split (λ b. eqb b 10) (t ++ 10 ∷ rest) ≡ t ∷ slice_split (λ b. eqb b 10) rest
 parts_first [] rest h = refl
 parts_first (c ∷ t) rest h =
     let p = and_parts (nat_lt 13 c) (list_all (nat_lt 13) t) h in
@@ -35,7 +37,8 @@ parts_first (c ∷ t) rest h =
 abbrev Some_parts : List (List ℕ) → Type 0
 Some_parts ps = (y : List ℕ) × (more : List (List ℕ)) × (ps ≡ y ∷ more)
 
-parts_some_by : (b : Bool) (x : ℕ) (ps : List (List ℕ)) → Some_parts ps → Some_parts (cond b ([] ∷ ps) (onto_first x ps))
+parts_some_by : (b : Bool) (x : ℕ) (ps : List (List ℕ)) → Some_parts ps
+    → Some_parts (cond b ([] ∷ ps) (onto_first x ps))
 parts_some_by true x ps h = ([], ps, refl)
 parts_some_by false x ps (y, more, is) = (x ∷ y, more, ap (onto_first x) is)
 
@@ -51,7 +54,8 @@ no_return (c ∷ t) (suc i) h = let p = and_parts (nat_lt 13 c) (list_all (nat_l
 strips_nothing : (t : List ℕ) → list_all (nat_lt 13) t ≡ true → strip_carriage_return t ≡ t
 strips_nothing t h = rw (no_return t (length t - 1) h) refl
 
-first_part : (t : List ℕ) (ps : List (List ℕ)) → Some_parts ps → lines_of_parts (t ∷ ps) ≡ strip_carriage_return t ∷ lines_of_parts ps
+first_part : (t : List ℕ) (ps : List (List ℕ)) → Some_parts ps
+    → lines_of_parts (t ∷ ps) ≡ strip_carriage_return t ∷ lines_of_parts ps
 first_part t ps (y, more, is) = rw is refl
 
 pub first_line : (t rest : List ℕ) → list_all (nat_lt 13) t ≡ true → lines (ended t ++ rest) ≡ t ∷ lines rest
@@ -90,7 +94,7 @@ pub record AreGiven (bytes : List ℕ) (shown : List Shown) : Type 0 where
   pub all : bytes_given given ≡ bytes
   pub most : length given ≤ length bytes
 
-front_bytes : (xs ys : List ℕ) → AreBytes (xs ++ ys) → AreBytes xs
+pub front_bytes : (xs ys : List ℕ) → AreBytes (xs ++ ys) → AreBytes xs
 front_bytes [] ys h = tt
 front_bytes (x ∷ xs) ys h = (h.0, front_bytes xs ys h.1)
 
@@ -98,7 +102,7 @@ back_bytes : (xs ys : List ℕ) → AreBytes (xs ++ ys) → AreBytes ys
 back_bytes [] ys h = h
 back_bytes (x ∷ xs) ys h = back_bytes xs ys h.1
 
-second_small : (xs : List ℕ) → AreBytes xs → get_or xs 1 0 < 256
+pub second_small : (xs : List ℕ) → AreBytes xs → get_or xs 1 0 < 256
 second_small [] h = omega arith
 second_small (x ∷ []) h = omega arith
 second_small (x ∷ (y ∷ xs)) h = h.1.0
@@ -107,7 +111,8 @@ some_encoded : (i : Instr) (code : List ℕ) → Encodes i code → 0 < length c
 some_encoded i [] h = absurd h
 some_encoded i (b ∷ code) h = omega arith
 
-instruction_given : (i : Instr) (code rest : List ℕ) (shown : List Shown) → Encodes i code → AreBytes code → AreGiven rest shown → AreGiven (code ++ rest) (Instruction i ∷ shown)
+instruction_given : (i : Instr) (code rest : List ℕ) (shown : List Shown) → Encodes i code → AreBytes code
+    → AreGiven rest shown → AreGiven (code ++ rest) (Instruction i ∷ shown)
 instruction_given i code rest shown encodes are more =
     let is : code ≡ encoding_of i = encoding_is i code encodes (second_small code are) in
     let line = instruction_is i (subst AreBytes is are) in
@@ -122,7 +127,8 @@ instruction_given i code rest shown encodes are more =
       most = omega (arith, most, some, long);
     }
 
-datum_given : (b : ℕ) (rest : List ℕ) (shown : List Shown) → b < 256 → AreGiven rest shown → AreGiven (b ∷ rest) (Datum b ∷ shown)
+datum_given : (b : ℕ) (rest : List ℕ) (shown : List Shown) → b < 256 → AreGiven rest shown
+    → AreGiven (b ∷ rest) (Datum b ∷ shown)
 datum_given b rest shown lt more =
     let most = more.most in
     record {
@@ -136,16 +142,22 @@ data_given : (bytes : List ℕ) → AreBytes bytes → AreGiven bytes (map Datum
 data_given [] are = record { given = []; text = refl; all = refl; most = omega arith }
 data_given (b ∷ bytes) are = datum_given b bytes (map Datum bytes) are.0 (data_given bytes are.1)
 
-pub lines_given : (shown : List Shown) (bytes : List ℕ) → AreBytes bytes → Lists bytes shown → AreGiven bytes shown
-lines_given [] bytes are is = subst (λ (bs : List ℕ). AreGiven bs []) (sym is) (record { given = []; text = refl; all = refl; most = omega arith })
+pub lines_given : (shown : List Shown) (bytes : List ℕ) → AreBytes bytes → Lists bytes shown
+    → AreGiven bytes shown
+lines_given [] bytes are is =
+    subst (λ (bs : List ℕ). AreGiven bs []) (sym is)
+    (record { given = []; text = refl; all = refl; most = omega arith })
 lines_given (Instruction i ∷ shown) bytes are (code, rest, is, encodes, more) =
     let both = subst AreBytes is are in
     subst (λ (bs : List ℕ). AreGiven bs (Instruction i ∷ shown)) (sym is)
-    (instruction_given i code rest shown encodes (front_bytes code rest both) (lines_given shown rest (back_bytes code rest both) more))
+    (instruction_given i code rest shown encodes (front_bytes code rest both)
+    (lines_given shown rest (back_bytes code rest both) more))
 lines_given (Datum b ∷ shown) bytes are (rest, is, inl (undefined, more)) =
     let both = subst AreBytes is are in
-    subst (λ (bs : List ℕ). AreGiven bs (Datum b ∷ shown)) (sym is) (datum_given b rest shown both.0 (lines_given shown rest both.1 more))
+    subst (λ (bs : List ℕ). AreGiven bs (Datum b ∷ shown)) (sym is)
+    (datum_given b rest shown both.0 (lines_given shown rest both.1 more))
 lines_given (Datum b ∷ shown) bytes are (rest, is, inr (cut, others)) =
     let both = subst AreBytes is are in
     subst (λ (bs : List ℕ). AreGiven bs (Datum b ∷ shown)) (sym is)
-    (subst (λ (ls : List Shown). AreGiven (b ∷ rest) (Datum b ∷ ls)) (sym others) (datum_given b rest (map Datum rest) both.0 (data_given rest both.1)))
+    (subst (λ (ls : List Shown). AreGiven (b ∷ rest) (Datum b ∷ ls)) (sym others)
+    (datum_given b rest (map Datum rest) both.0 (data_given rest both.1)))

@@ -31,7 +31,8 @@ use Rattle.asm_operand.specs.Climb.{made, operand_at, chain, expr_at, expression
 use Rattle.asm_operand.specs.Commas.{operands_of}
 use Rattle.asm_operand.specs.Shape.{shape}
 use Rattle.asm_operand.specs.Words.{misplaced_from}
-use Rattle.asm_text.specs.Forms.{register_instruction, pair_instruction, index_instruction, stack_instruction, move_between, instruction_of, each_of, directive_of}
+use Rattle.asm_text.specs.Forms.{register_instruction, pair_instruction, index_instruction, stack_instruction}
+use Rattle.asm_text.specs.Forms.{move_between, instruction_of, each_of, directive_of}
 use Rattle.asm_text.specs.Lines.{label_at, action_of, operation_at, line_of}
 use Rattle.asm_text.specs.Registers as word
 
@@ -65,36 +66,47 @@ number_read column c n = refl
 
 -- ---- mnemonics
 
-pub alone_says : (line : List ℕ) (i : Instr) → Spelled line (means (mnemonic.Alone i) ∷ []) → Says line (action.Instruction (instruction.Alone i))
+pub alone_says : (line : List ℕ) (i : Instr) → Spelled line (means (mnemonic.Alone i) ∷ [])
+    → Says line (action.Instruction (instruction.Alone i))
 unfolding line_of label_at operation_at action_of misplaced_from instruction_of
 alone_says line i e = rw e refl
 
-pub register_says : (line : List ℕ) (op : RegisterOperation) (c : ℕ) (w : RegisterWord) (r : Reg) → word.reg_of w ≡ Some r
-    → Spelled line (means (mnemonic.Register op) ∷ names c w ∷ []) → Says line (action.Instruction (instruction.Alone (register_instruction op r)))
+pub register_says : (line : List ℕ) (op : RegisterOperation) (c : ℕ) (w : RegisterWord) (r : Reg)
+    → word.reg_of w ≡ Some r
+    → Spelled line (means (mnemonic.Register op) ∷ names c w ∷ [])
+    → Says line (action.Instruction (instruction.Alone (register_instruction op r)))
 unfolding line_of label_at operation_at action_of misplaced_from instruction_of operands_of
 register_says line op c w r is e = rw (e, is) refl
 
-pub pair_says : (line : List ℕ) (op : PairOperation) (c : ℕ) (w : RegisterWord) (p : Pair) → word.pair_of w ≡ Some p
-    → Spelled line (means (mnemonic.Pair op) ∷ names c w ∷ []) → Says line (action.Instruction (instruction.Alone (pair_instruction op p)))
+pub pair_says : (line : List ℕ) (op : PairOperation) (c : ℕ) (w : RegisterWord) (p : Pair)
+    → word.pair_of w ≡ Some p
+    → Spelled line (means (mnemonic.Pair op) ∷ names c w ∷ [])
+    → Says line (action.Instruction (instruction.Alone (pair_instruction op p)))
 unfolding line_of label_at operation_at action_of misplaced_from instruction_of operands_of
 pair_says line op c w p is e = rw (e, is) refl
 
-pub index_says : (line : List ℕ) (op : IndexOperation) (c : ℕ) (w : RegisterWord) (p : IndexPair) → word.index_of w ≡ Some p
-    → Spelled line (means (mnemonic.Index op) ∷ names c w ∷ []) → Says line (action.Instruction (instruction.Alone (index_instruction op p)))
+pub index_says : (line : List ℕ) (op : IndexOperation) (c : ℕ) (w : RegisterWord) (p : IndexPair)
+    → word.index_of w ≡ Some p
+    → Spelled line (means (mnemonic.Index op) ∷ names c w ∷ [])
+    → Says line (action.Instruction (instruction.Alone (index_instruction op p)))
 unfolding line_of label_at operation_at action_of misplaced_from instruction_of operands_of
 index_says line op c w p is e = rw (e, is) refl
 
-pub stack_says : (line : List ℕ) (op : StackOperation) (c : ℕ) (w : RegisterWord) (p : StackPair) → word.stack_of w ≡ Some p
-    → Spelled line (means (mnemonic.Stack op) ∷ names c w ∷ []) → Says line (action.Instruction (instruction.Alone (stack_instruction op p)))
+pub stack_says : (line : List ℕ) (op : StackOperation) (c : ℕ) (w : RegisterWord) (p : StackPair)
+    → word.stack_of w ≡ Some p
+    → Spelled line (means (mnemonic.Stack op) ∷ names c w ∷ [])
+    → Says line (action.Instruction (instruction.Alone (stack_instruction op p)))
 unfolding line_of label_at operation_at action_of misplaced_from instruction_of operands_of
 stack_says line op c w p is e = rw (e, is) refl
 
-pub byte_says : (line : List ℕ) (op : ByteOperation) (c n : ℕ) → Spelled line (means (mnemonic.Byte op) ∷ (c, Number n) ∷ [])
+pub byte_says : (line : List ℕ) (op : ByteOperation) (c n : ℕ)
+    → Spelled line (means (mnemonic.Byte op) ∷ (c, Number n) ∷ [])
     → Says line (action.Instruction (instruction.Byte op (number_at c n)))
 unfolding line_of label_at operation_at action_of misplaced_from instruction_of operands_of
 byte_says line op c n e = rw (e, number_read 1 c n) refl
 
-pub word_says : (line : List ℕ) (op : WordOperation) (c n : ℕ) → Spelled line (means (mnemonic.Word op) ∷ (c, Number n) ∷ [])
+pub word_says : (line : List ℕ) (op : WordOperation) (c n : ℕ)
+    → Spelled line (means (mnemonic.Word op) ∷ (c, Number n) ∷ [])
     → Says line (action.Instruction (instruction.Word op (number_at c n)))
 unfolding line_of label_at operation_at action_of misplaced_from instruction_of operands_of
 word_says line op c n e = rw (e, number_read 1 c n) refl
@@ -104,9 +116,11 @@ pub restart_says : (line : List ℕ) (c n : ℕ) → Spelled line (means mnemoni
 unfolding line_of label_at operation_at action_of misplaced_from instruction_of operands_of
 restart_says line c n e = rw (e, number_read 1 c n) refl
 
-pub move_says : (line : List ℕ) (b c d : ℕ) (v w : RegisterWord) (r s : Reg) (i : Instr) → word.reg_of v ≡ Some r → word.reg_of w ≡ Some s
+pub move_says : (line : List ℕ) (b c d : ℕ) (v w : RegisterWord) (r s : Reg) (i : Instr)
+    → word.reg_of v ≡ Some r → word.reg_of w ≡ Some s
     → move_between (word.register_of r) (word.register_of s) ≡ Some i
-    → Spelled line (means mnemonic.Move ∷ names b v ∷ (c, Sign 44) ∷ names d w ∷ []) → Says line (action.Instruction (instruction.Alone i))
+    → Spelled line (means mnemonic.Move ∷ names b v ∷ (c, Sign 44) ∷ names d w ∷ [])
+    → Says line (action.Instruction (instruction.Alone i))
 unfolding line_of label_at operation_at action_of misplaced_from instruction_of operands_of
 move_says line b c d v w r s i to from is e = rw (e, to, from, is) refl
 
@@ -124,12 +138,14 @@ load_says line b c d n w p to e = rw (e, to, number_read 1 d n) refl
 
 -- ---- directives
 
-pub datum_says : (line : List ℕ) (c n : ℕ) → Spelled line ((1, Keyword (keyword.Directive directive.Bytes)) ∷ (c, Number n) ∷ [])
+pub datum_says : (line : List ℕ) (c n : ℕ)
+    → Spelled line ((1, Keyword (keyword.Directive directive.Bytes)) ∷ (c, Number n) ∷ [])
     → Says line (action.Bytes (datum.Byte (number_at c n) ∷ []))
 unfolding line_of label_at operation_at action_of misplaced_from directive_of operands_of shape each_of
 datum_says line c n e = rw (e, number_read 1 c n) refl
 
-pub origin_says : (line : List ℕ) (c n : ℕ) → Spelled line ((1, Keyword (keyword.Directive directive.Origin)) ∷ (c, Number n) ∷ [])
+pub origin_says : (line : List ℕ) (c n : ℕ)
+    → Spelled line ((1, Keyword (keyword.Directive directive.Origin)) ∷ (c, Number n) ∷ [])
     → Says line (action.Origin (number_at c n))
 unfolding line_of label_at operation_at action_of misplaced_from directive_of operands_of
 origin_says line c n e = rw (e, number_read 1 c n) refl

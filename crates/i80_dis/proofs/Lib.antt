@@ -8,3 +8,4 @@ pub mod Instructions
 pub mod Cells
 pub mod Statements
 pub mod Layouts
+pub mod FirstLine

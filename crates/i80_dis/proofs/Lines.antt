@@ -1,5 +1,7 @@
 -- The lines of bytes, one behind the other.
-use Rattle.std.proofs.Common.{◌≡◌, ℕ, zero, suc, ◌+◌, ◌-◌, ◌*◌, ◌<◌, ◌≤◌, List, [], ◌∷◌, ◌++◌, length, drop, map, get_or, drop-cons, add-one, append_assoc, Option, Some, None, Result, Ok, Err, refl, sym, ap, ◌∙◌, arith}
+use Rattle.std.proofs.Common.{◌≡◌, ℕ, zero, suc, ◌+◌, ◌-◌, ◌*◌, ◌<◌, ◌≤◌, List, [], ◌∷◌, ◌++◌, length, drop}
+use Rattle.std.proofs.Common.{map, get_or, drop-cons, add-one, append_assoc, Option, Some, None, Result, Ok}
+use Rattle.std.proofs.Common.{Err, refl, sym, ap, ◌∙◌, arith}
 use Rattle.std.proofs.lemmas.List.{drop_all, append-nil}
 use Rattle.i80_rows.specs.declared.instruction.Instr.{Instr}
 use Rattle.i80_rows.specs.declared.instruction.DecodeFault.{DecodeFault}
@@ -29,17 +31,29 @@ next_is p = Some p
 some_is : (p q : Shown × ℕ) → next_is p ≡ next_is q → p ≡ q
 some_is p q e = cc
 
+same_shown : (p q : Shown × ℕ) → next_is p ≡ next_is q → p.0 ≡ q.0
+same_shown p q e = ap (λ (r : Shown × ℕ). r.0) (some_is p q e)
+
+same_count : (p q : Shown × ℕ) → next_is p ≡ next_is q → p.1 ≡ q.1
+same_count p q e = ap (λ (r : Shown × ℕ). r.1) (some_is p q e)
+
 long : (i j : Instr) (n m : ℕ) → was_read (j, m) ≡ was_read (i, n) → m ≡ n
 long i j n m e = ap (λ (p : Instr × ℕ). p.1) (read_is (j, m) (i, n) e)
 
-row_within : (w : Row) (i : Instr) (n opcode : ℕ) (rest : List ℕ) → read_row w rest ≡ Ok (i, n) → Within n (opcode ∷ rest)
+row_within : (w : Row) (i : Instr) (n opcode : ℕ) (rest : List ℕ) → read_row w rest ≡ Ok (i, n)
+    → Within n (opcode ∷ rest)
 row_within Undefined i n opcode rest e = absurd cc
-row_within (Alone j) i n opcode rest e = let n_is : 1 ≡ n = long i j n 1 e in record { some = omega (arith, n_is); most = omega (arith, n_is) }
+row_within (Alone j) i n opcode rest e =
+    let n_is : 1 ≡ n = long i j n 1 e in record { some = omega (arith, n_is); most = omega (arith, n_is) }
 row_within (Byte f) i n opcode [] e = absurd cc
-row_within (Byte f) i n opcode (b ∷ rest) e = let n_is : 2 ≡ n = long i (f b) n 2 e in record { some = omega (arith, n_is); most = omega (arith, n_is) }
+row_within (Byte f) i n opcode (b ∷ rest) e =
+    let n_is : 2 ≡ n = long i (f b) n 2 e in record { some = omega (arith, n_is); most = omega (arith, n_is) }
 row_within (Word f) i n opcode [] e = absurd cc
 row_within (Word f) i n opcode (low ∷ []) e = absurd cc
-row_within (Word f) i n opcode (low ∷ (high ∷ rest)) e = let n_is : 3 ≡ n = long i (f (low + 256 * high)) n 3 e in record { some = omega (arith, n_is); most = omega (arith, n_is) }
+row_within (Word f) i n opcode (low ∷ (high ∷ rest)) e =
+    let n_is : 3 ≡ n =
+    long i (f (low + 256 * high)) n 3 e in
+    record { some = omega (arith, n_is); most = omega (arith, n_is) }
 
 pub read_within : (i : Instr) (n : ℕ) (bytes : List ℕ) → read bytes ≡ Ok (i, n) → Within n bytes
 read_within i n [] e = absurd cc
@@ -56,27 +70,31 @@ skips (suc k) (b ∷ bytes) = skips k bytes
 not_some : {A : Type 0} (x : A) → None ≡ Some x → ⊥
 not_some x e = cc
 
+none_skipped : (n : ℕ) → 1 ≡ suc n → 0 ≡ n
+none_skipped n e = omega (arith, e)
+
+others_skipped : (m n : ℕ) → m ≡ suc n → m - 1 ≡ n
+others_skipped m n e = omega (arith, e)
+
 -- the first line, and those behind it
-next_line : (read_is : Result (Instr × ℕ) DecodeFault) (s : Shown) (n b : ℕ) (bytes : List ℕ) → read (b ∷ bytes) ≡ read_is
+next_line : (read_is : Result (Instr × ℕ) DecodeFault) (s : Shown) (n b : ℕ) (bytes : List ℕ)
+    → read (b ∷ bytes) ≡ read_is
     → next_shown (b ∷ bytes) ≡ Some (s, suc n) → lines_of (b ∷ bytes) ≡ s ∷ lines_of (drop n bytes)
 unfolding lines_from
 next_line (Err (fault.Short k)) s n b bytes e h = absurd (not_some (s, suc n) (rw e at h))
 next_line (Err fault.Undefined) s n b bytes e h =
     let h1 : next_is (Datum b, 1) ≡ next_is (s, suc n) = rw e at h in
-    let pair_is : (Datum b, 1) ≡ (s, suc n) = some_is (Datum b, 1) (s, suc n) h1 in
-    let s_is : Datum b ≡ s = ap (λ (p : Shown × ℕ). p.0) pair_is in
-    let n_is : 1 ≡ suc n = ap (λ (p : Shown × ℕ). p.1) pair_is in
-    let k_is : 0 ≡ n = omega (arith, n_is) in
-    rw (e, s_is) (ap (λ ls. s ∷ ls) (ap (λ k. lines_from k bytes) k_is ∙ skips n bytes))
+    let s_is : Datum b ≡ s = same_shown (Datum b, 1) (s, suc n) h1 in
+    let n_is : 1 ≡ suc n = same_count (Datum b, 1) (s, suc n) h1 in
+    rw (e, s_is) (ap (λ ls. s ∷ ls) (ap (λ k. lines_from k bytes) (none_skipped n n_is) ∙ skips n bytes))
 next_line (Ok (i, m)) s n b bytes e h =
     let h1 : next_is (Instruction i, m) ≡ next_is (s, suc n) = rw e at h in
-    let pair_is : (Instruction i, m) ≡ (s, suc n) = some_is (Instruction i, m) (s, suc n) h1 in
-    let s_is : Instruction i ≡ s = ap (λ (p : Shown × ℕ). p.0) pair_is in
-    let m_is : m ≡ suc n = ap (λ (p : Shown × ℕ). p.1) pair_is in
-    let k_is : m - 1 ≡ n = omega (arith, m_is) in
-    rw (e, s_is) (ap (λ ls. s ∷ ls) (ap (λ k. lines_from k bytes) k_is ∙ skips n bytes))
+    let s_is : Instruction i ≡ s = same_shown (Instruction i, m) (s, suc n) h1 in
+    let m_is : m ≡ suc n = same_count (Instruction i, m) (s, suc n) h1 in
+    rw (e, s_is) (ap (λ ls. s ∷ ls) (ap (λ k. lines_from k bytes) (others_skipped m n m_is) ∙ skips n bytes))
 
-pub line_goes : (s : Shown) (n : ℕ) (bytes : List ℕ) → 0 < length bytes → 0 < n → next_shown bytes ≡ Some (s, n) → lines_of bytes ≡ s ∷ lines_of (drop n bytes)
+pub line_goes : (s : Shown) (n : ℕ) (bytes : List ℕ) → 0 < length bytes → 0 < n
+    → next_shown bytes ≡ Some (s, n) → lines_of bytes ≡ s ∷ lines_of (drop n bytes)
 line_goes s n [] lt pos e = absurd (omega (arith, lt))
 line_goes s zero (b ∷ bytes) lt pos e = absurd (omega (arith, pos))
 line_goes s (suc n) (b ∷ bytes) lt pos e = next_line (read (b ∷ bytes)) s n b bytes refl e
@@ -88,7 +106,8 @@ cut_off (Err (fault.Short k)) b bytes e h = rw e refl
 cut_off (Err fault.Undefined) b bytes e h = absurd (not_some (Datum b, 1) (sym (rw e at h)))
 cut_off (Ok (i, m)) b bytes e h = absurd (not_some (Instruction i, m) (sym (rw e at h)))
 
-pub cut_off_lines : (bytes : List ℕ) → 0 < length bytes → next_shown bytes ≡ None → lines_of bytes ≡ map Datum bytes
+pub cut_off_lines : (bytes : List ℕ) → 0 < length bytes → next_shown bytes ≡ None
+    → lines_of bytes ≡ map Datum bytes
 cut_off_lines [] lt h = absurd (omega (arith, lt))
 cut_off_lines (b ∷ bytes) lt h = cut_off (read (b ∷ bytes)) b bytes refl h
 
@@ -97,16 +116,19 @@ cut_off_lines (b ∷ bytes) lt h = cut_off (read (b ∷ bytes)) b bytes refl h
 abbrev with_lines : List ℕ → List Shown → List ℕ
 with_lines text lines = text ++ text_of_lines lines
 
-one_more : (text new : List ℕ) (line : Shown) (lines : List Shown) (total : List ℕ) → new ≡ text ++ ended (text_of line)
+one_more : (text new : List ℕ) (line : Shown) (lines : List Shown) (total : List ℕ)
+    → new ≡ text ++ ended (text_of line)
     → with_lines text (line ∷ lines) ≡ total → with_lines new lines ≡ total
 one_more text new line lines total e h =
     ap (λ t. with_lines t lines) e ∙ append_assoc text (ended (text_of line)) (text_of_lines lines) ∙ h
 
-pub line_added : (text new total : List ℕ) (s : Shown) (n : ℕ) (bytes : List ℕ) → 0 < length bytes → 0 < n → next_shown bytes ≡ Some (s, n)
+pub line_added : (text new total : List ℕ) (s : Shown) (n : ℕ) (bytes : List ℕ) → 0 < length bytes → 0 < n
+    → next_shown bytes ≡ Some (s, n)
     → new ≡ text ++ ended (text_of s)
     → text ++ text_of_lines (lines_of bytes) ≡ total → new ++ text_of_lines (lines_of (drop n bytes)) ≡ total
 line_added text new total s n bytes lt pos is e h =
-    one_more text new s (lines_of (drop n bytes)) total e (ap (with_lines text) (sym (line_goes s n bytes lt pos is)) ∙ h)
+    one_more text new s (lines_of (drop n bytes)) total e
+    (ap (with_lines text) (sym (line_goes s n bytes lt pos is)) ∙ h)
 
 pub on_ok : {A E : Type 0} {P Q : Type 0} (r : Result A E) → (P → Q) → OnOk r P → OnOk r Q
 on_ok (Ok x) f p = f p
@@ -117,7 +139,8 @@ pub data_added : (text new total : List ℕ) (bytes : List ℕ) → 0 < length b
     → text ++ text_of_lines (lines_of bytes) ≡ total → new ≡ total
 data_added text new total bytes lt is e h = e ∙ ap (with_lines text) (sym (cut_off_lines bytes lt is)) ∙ h
 
-pub none_left : (text total : List ℕ) (bytes : List ℕ) → length bytes ≡ 0 → text ++ text_of_lines (lines_of bytes) ≡ total → text ≡ total
+pub none_left : (text total : List ℕ) (bytes : List ℕ) → length bytes ≡ 0
+    → text ++ text_of_lines (lines_of bytes) ≡ total → text ≡ total
 unfolding lines_from
 none_left text total [] e h = sym (append-nil text) ∙ h
 none_left text total (b ∷ bytes) e h = absurd (omega (arith, e))
@@ -126,9 +149,11 @@ none_left text total (b ∷ bytes) e h = absurd (omega (arith, e))
 
 pub datum_added : (text new total : List ℕ) (i : ℕ) (bytes : List ℕ) → i < length bytes
     → new ≡ text ++ ended (text_of (Datum (get_or bytes i 0)))
-    → text ++ text_of_lines (map Datum (drop i bytes)) ≡ total → new ++ text_of_lines (map Datum (drop (i + 1) bytes)) ≡ total
+    → text ++ text_of_lines (map Datum (drop i bytes)) ≡ total
+    → new ++ text_of_lines (map Datum (drop (i + 1) bytes)) ≡ total
 datum_added text new total i bytes lt e h =
-    let next : drop i bytes ≡ get_or bytes i 0 ∷ drop (i + 1) bytes = drop-cons bytes i 0 lt ∙ ap (λ k. get_or bytes i 0 ∷ drop k bytes) (sym (add-one i)) in
+    let next : drop i bytes ≡ get_or bytes i 0 ∷ drop (i + 1) bytes =
+    drop-cons bytes i 0 lt ∙ ap (λ k. get_or bytes i 0 ∷ drop k bytes) (sym (add-one i)) in
     one_more text new (Datum (get_or bytes i 0)) (map Datum (drop (i + 1) bytes)) total e
     (ap (λ bs. with_lines text (map Datum bs)) (sym next) ∙ h)
 
@@ -142,7 +167,8 @@ no_data_left text total i bytes le h =
 joined : (t a b c : List ℕ) → ((t ++ a) ++ b) ++ c ≡ t ++ ((a ++ b) ++ c)
 joined t a b c = simp append_assoc
 
-pub origin_added : (text : List ℕ) (address : ℕ) → ((text ++ codes "ORG ") ++ word_text address) ++ codes "\n" ≡ text ++ origin_line address
+pub origin_added : (text : List ℕ) (address : ℕ)
+    → ((text ++ codes "ORG ") ++ word_text address) ++ codes "\n" ≡ text ++ origin_line address
 origin_added text address = joined text (codes "ORG ") (word_text address) (codes "\n")
 
 -- ---- the whole text
@@ -152,7 +178,8 @@ unfolding listing_of
 listing_none address [] e = refl
 listing_none address (b ∷ bytes) e = absurd (omega (arith, e))
 
-pub listing_some : (address : ℕ) (bytes : List ℕ) → 0 < length bytes → listing_of address bytes ≡ origin_line address ++ text_of_lines (lines_of bytes)
+pub listing_some : (address : ℕ) (bytes : List ℕ) → 0 < length bytes
+    → listing_of address bytes ≡ origin_line address ++ text_of_lines (lines_of bytes)
 unfolding listing_of
 listing_some address [] lt = absurd (omega (arith, lt))
 listing_some address (b ∷ bytes) lt = refl

@@ -1,5 +1,6 @@
 -- Printed numbers are read as the numbers that they show.
-use Rattle.std.proofs.Common.{◌≡◌, ℕ, zero, suc, ◌/◌, ◌%◌, ◌<◌, inl, inr, List, [], ◌∷◌, Bool, true, false, cond, Some, None, refl, ap, ◌∙◌, arith, eqb}
+use Rattle.std.proofs.Common.{◌≡◌, ℕ, zero, suc, ◌/◌, ◌%◌, ◌<◌, inl, inr, List, [], ◌∷◌, Bool, true, false}
+use Rattle.std.proofs.Common.{cond, Some, None, refl, ap, ◌∙◌, arith, eqb}
 use Rattle.std.specs.Prelude.{◌&&◌, nat_lt}
 use Rattle.std.specs.List.{list_all}
 use Rattle.std.proofs.lemmas.Bool.{and_parts, eqb-true, cases_lt, lt-ltb}
@@ -23,7 +24,8 @@ pub at_below : (p : ℕ → Bool) (n d : ℕ) → all_below p n ≡ true → d <
 at_below p zero d all lt = absurd (omega (arith, lt))
 at_below p (suc n) d all lt =
     let h = and_parts (p n) (all_below p n) all in
-    elim (cases_lt d n) [ inl less ↦ at_below p n d h.1 less | inr le ↦ (let e : d ≡ n = omega arith in ap p e ∙ h.0) ]
+    elim (cases_lt d n)
+    [ inl less ↦ at_below p n d h.1 less | inr le ↦ (let e : d ≡ n = omega arith in ap p e ∙ h.0) ]
 
 -- ---- one digit
 
@@ -58,7 +60,9 @@ byte_numeral n lt =
     record {
       begins = refl;
       all = rw (hex_part (n / 16) hi, hex_part (n % 16) lo) refl;
-      value = some_if (list_all (λ d. nat_lt (digit_value d) 16) digits) (nat_lt (spelled 16 0 digits) 65536) (spelled 16 0 digits) n
+      value =
+          some_if (list_all (λ d. nat_lt (digit_value d) 16) digits) (nat_lt (spelled 16 0 digits) 65536)
+          (spelled 16 0 digits) n
           (rw (hex_small (n / 16) hi, hex_small (n % 16) lo) refl)
           (rw value (lt-ltb n 65536 (omega (arith, lt))))
           value;
@@ -70,13 +74,34 @@ word_numeral n lt =
     let h2 : n / 256 % 16 < 16 = omega arith in
     let h1 : n % 256 / 16 < 16 = omega arith in
     let h0 : n % 256 % 16 < 16 = omega arith in
-    let digits = 48 ∷ upper_digit (n / 256 / 16) ∷ upper_digit (n / 256 % 16) ∷ upper_digit (n % 256 / 16) ∷ upper_digit (n % 256 % 16) ∷ [] in
-    let value : spelled 16 0 digits ≡ n = rw (hex_value (n / 256 / 16) h3, hex_value (n / 256 % 16) h2, hex_value (n % 256 / 16) h1, hex_value (n % 256 % 16) h0) (omega arith) in
+    let digits =
+    48 ∷ upper_digit (n / 256 / 16) ∷ upper_digit (n / 256 % 16) ∷ upper_digit (n % 256 / 16)
+    ∷ upper_digit (n % 256 % 16) ∷ [] in
+    let value : spelled 16 0 digits ≡ n =
+    rw (
+      hex_value (n / 256 / 16) h3,
+      hex_value (n / 256 % 16) h2,
+      hex_value (n % 256 / 16) h1,
+      hex_value (n % 256 % 16) h0,
+    ) (omega arith) in
     record {
       begins = refl;
-      all = rw (hex_part (n / 256 / 16) h3, hex_part (n / 256 % 16) h2, hex_part (n % 256 / 16) h1, hex_part (n % 256 % 16) h0) refl;
-      value = some_if (list_all (λ d. nat_lt (digit_value d) 16) digits) (nat_lt (spelled 16 0 digits) 65536) (spelled 16 0 digits) n
-          (rw (hex_small (n / 256 / 16) h3, hex_small (n / 256 % 16) h2, hex_small (n % 256 / 16) h1, hex_small (n % 256 % 16) h0) refl)
+      all =
+          rw (
+            hex_part (n / 256 / 16) h3,
+            hex_part (n / 256 % 16) h2,
+            hex_part (n % 256 / 16) h1,
+            hex_part (n % 256 % 16) h0,
+          ) refl;
+      value =
+          some_if (list_all (λ d. nat_lt (digit_value d) 16) digits) (nat_lt (spelled 16 0 digits) 65536)
+          (spelled 16 0 digits) n
+          (rw (
+            hex_small (n / 256 / 16) h3,
+            hex_small (n / 256 % 16) h2,
+            hex_small (n % 256 / 16) h1,
+            hex_small (n % 256 % 16) h0,
+          ) refl)
           (rw value (lt-ltb n 65536 lt))
           value;
     }

@@ -1,5 +1,6 @@
 -- The tokens of a printed line.
-use Rattle.std.proofs.Common.{◌≡◌, ℕ, ◌+◌, ◌-◌, ◌<◌, ◌≤◌, inl, inr, List, [], ◌∷◌, ◌++◌, true, false, length, Ok, refl, ap, ◌∙◌, arith}
+use Rattle.std.proofs.Common.{◌≡◌, ℕ, ◌+◌, ◌-◌, ◌<◌, ◌≤◌, inl, inr, List, [], ◌∷◌, ◌++◌, true, false, length}
+use Rattle.std.proofs.Common.{Ok, refl, ap, ◌∙◌, arith}
 use Rattle.std.specs.Prelude.{nat_lt, not}
 use Rattle.std.specs.List.{list_all}
 use Rattle.std.proofs.lemmas.Bool.{and_parts, and_from, both_ways, not-true, cases_lt, lt-ltb}
@@ -29,7 +30,11 @@ control c lt = not-true (is_word_part c) (at_below (λ k. not (is_word_part k)) 
 
 word_plain : (c : ℕ) → is_word_part c ≡ true → nat_lt 13 c ≡ true
 word_plain c part =
-    elim (cases_lt 13 c) [ inl more ↦ lt-ltb 13 c more | inr less ↦ (let low : c < 14 = omega (arith, less) in absurd (both_ways (is_word_part c) (control c low) part)) ]
+    elim (cases_lt 13 c) [
+      | inl more ↦ lt-ltb 13 c more
+      | inr less ↦ (let low : c < 14 = omega (arith, less) in
+          absurd (both_ways (is_word_part c) (control c low) part))
+    ]
 
 all_plain : (text : List ℕ) → list_all is_word_part text ≡ true → list_all (nat_lt 13) text ≡ true
 all_plain [] all = refl
@@ -48,16 +53,25 @@ stops : (rest : List ℕ) → Stops is_word_part rest → Stops is_ascii_alphanu
 stops [] h = tt
 stops (c ∷ rest) h = let o = or_false (is_ascii_alphanumeric c) _ h in o.0
 
-pub word_printed : (k : Keyword) (text : List ℕ) (most : ℕ) → IsNamed text k most → IsPrinted (lexeme.Keyword k) text most
+pub word_printed : (k : Keyword) (text : List ℕ) (most : ℕ) → IsNamed text k most
+    → IsPrinted (lexeme.Keyword k) text most
 word_printed k text most named = record {
-  token = λ rest ends. record { begins = named.begins; span = record { all = named.all; ends = ends }; says = named.says };
+  token =
+      λ rest ends. record
+      { begins = named.begins; span = record { all = named.all; ends = ends }; says = named.says };
   plain = all_plain text named.all;
   short = named.short;
 }
 
-pub number_printed : (n : ℕ) (text : List ℕ) (most : ℕ) → IsNumeral n text → length text ≤ most → IsPrinted (Number n) text most
+pub number_printed : (n : ℕ) (text : List ℕ) (most : ℕ) → IsNumeral n text → length text ≤ most
+    → IsPrinted (Number n) text most
 number_printed n text most numeral short = record {
-  token = λ rest ends. (record { begins = numeral.begins; span = record { all = numeral.all; ends = stops rest ends } }, numeral.value);
+  token =
+      λ rest ends. (
+        record
+            { begins = numeral.begins; span = record { all = numeral.all; ends = stops rest ends } },
+        numeral.value,
+      );
   plain = digits_plain text numeral.all;
   short = short;
 }
@@ -67,11 +81,14 @@ number_printed n text most numeral short = record {
 pub done : (column : ℕ) → Spells column [] []
 done column = (column, [], ([], refl, refl, omega arith), tt)
 
-pub piece : (column : ℕ) (l : Lexeme) (text more : List ℕ) (ps : List Piece) → IsToken l text more → Spells (column + length text) ps more
+pub piece : (column : ℕ) (l : Lexeme) (text more : List ℕ) (ps : List Piece) → IsToken l text more
+    → Spells (column + length text) ps more
     → Spells column ((column, l) ∷ ps) (text ++ more)
-piece column l text more ps token (last, rest, upto, tail) = (last, rest, ([], text, more, refl, refl, omega arith, token, upto), tail)
+piece column l text more ps token (last, rest, upto, tail) =
+    (last, rest, ([], text, more, refl, refl, omega arith, token, upto), tail)
 
-pub blank : (column : ℕ) (p : Piece) (ps : List Piece) (line : List ℕ) → Spells (column + 1) (p ∷ ps) line → Spells column (p ∷ ps) (32 ∷ line)
+pub blank : (column : ℕ) (p : Piece) (ps : List Piece) (line : List ℕ) → Spells (column + 1) (p ∷ ps) line
+    → Spells column (p ∷ ps) (32 ∷ line)
 blank column p ps line (last, rest, (blanks, text, more, is, all, at, token, upto), tail) =
     (last, rest, (32 ∷ blanks, text, more, ap (λ cs. 32 ∷ cs) is, all, at ∙ omega arith, token, upto), tail)
 
@@ -80,8 +97,10 @@ comma rest = (refl, refl)
 
 -- ---- a line with no, one or two operands
 
-pub none_read : (k : Lexeme) (w : List ℕ) (m : ℕ) → IsPrinted k w m → tokens_of (w ++ operand_field []) ≡ Ok ((1, k) ∷ [])
-none_read k w m word = spells_read ((1, k) ∷ []) 1 (w ++ []) (piece 1 k w [] [] (word.token [] tt) (done (1 + length w)))
+pub none_read : (k : Lexeme) (w : List ℕ) (m : ℕ) → IsPrinted k w m
+    → tokens_of (w ++ operand_field []) ≡ Ok ((1, k) ∷ [])
+none_read k w m word =
+    spells_read ((1, k) ∷ []) 1 (w ++ []) (piece 1 k w [] [] (word.token [] tt) (done (1 + length w)))
 
 -- where the first operand stands
 abbrev pub behind : List ℕ → ℕ
@@ -99,15 +118,25 @@ one_read k l w o m n word operand =
 abbrev pub behind_two : List ℕ → List ℕ → ℕ
 behind_two w o = behind w + length o + 1
 
-pub two_read : (k l m : Lexeme) (w o p : List ℕ) (a b c : ℕ) → IsPrinted k w a → IsPrinted l o b → IsPrinted m p c
-    → tokens_of (w ++ operand_field (o ∷ p ∷ [])) ≡ Ok ((1, k) ∷ (behind w, l) ∷ (behind w + length o, Sign 44) ∷ (behind_two w o, m) ∷ [])
+pub two_read : (k l m : Lexeme) (w o p : List ℕ) (a b c : ℕ) → IsPrinted k w a → IsPrinted l o b
+    → IsPrinted m p c
+    → tokens_of (w ++ operand_field (o ∷ p ∷ []))
+    ≡ Ok ((1, k) ∷ (behind w, l) ∷ (behind w + length o, Sign 44) ∷ (behind_two w o, m) ∷ [])
 two_read k l m w o p a b c word first second =
     let third = piece (behind_two w o) m p [] [] (second.token [] tt) (done (behind_two w o + length p)) in
-    let sign = piece (behind w + length o) (Sign 44) (44 ∷ []) (p ++ []) ((behind_two w o, m) ∷ []) (comma (p ++ [])) third in
-    let operand = piece (behind w) l o (44 ∷ (p ++ [])) ((behind w + length o, Sign 44) ∷ (behind_two w o, m) ∷ []) (first.token (44 ∷ (p ++ [])) refl) sign in
-    spells_read ((1, k) ∷ (behind w, l) ∷ (behind w + length o, Sign 44) ∷ (behind_two w o, m) ∷ []) 1 (w ++ (32 ∷ (o ++ (44 ∷ (p ++ [])))))
-    (piece 1 k w (32 ∷ (o ++ (44 ∷ (p ++ [])))) ((behind w, l) ∷ (behind w + length o, Sign 44) ∷ (behind_two w o, m) ∷ []) (word.token (32 ∷ (o ++ (44 ∷ (p ++ [])))) refl)
-    (blank (1 + length w) (behind w, l) ((behind w + length o, Sign 44) ∷ (behind_two w o, m) ∷ []) (o ++ (44 ∷ (p ++ []))) operand))
+    let sign =
+    piece (behind w + length o) (Sign 44) (44 ∷ []) (p ++ []) ((behind_two w o, m) ∷ []) (comma (p ++ []))
+    third in
+    let operand =
+    piece (behind w) l o (44 ∷ (p ++ [])) ((behind w + length o, Sign 44) ∷ (behind_two w o, m) ∷ [])
+    (first.token (44 ∷ (p ++ [])) refl) sign in
+    spells_read ((1, k) ∷ (behind w, l) ∷ (behind w + length o, Sign 44) ∷ (behind_two w o, m) ∷ []) 1
+    (w ++ (32 ∷ (o ++ (44 ∷ (p ++ [])))))
+    (piece 1 k w (32 ∷ (o ++ (44 ∷ (p ++ []))))
+    ((behind w, l) ∷ (behind w + length o, Sign 44) ∷ (behind_two w o, m) ∷ [])
+    (word.token (32 ∷ (o ++ (44 ∷ (p ++ [])))) refl)
+    (blank (1 + length w) (behind w, l) ((behind w + length o, Sign 44) ∷ (behind_two w o, m) ∷ [])
+    (o ++ (44 ∷ (p ++ []))) operand))
 
 -- ---- what else is to be known of such a line: it has no line end, and few characters
 
@@ -115,7 +144,8 @@ pub record IsShort (line : List ℕ) : Type 0 where
   pub plain : list_all (nat_lt 13) line ≡ true
   pub most : length line ≤ 13
 
-joined_plain : (xs ys : List ℕ) → list_all (nat_lt 13) xs ≡ true → list_all (nat_lt 13) ys ≡ true → list_all (nat_lt 13) (xs ++ ys) ≡ true
+joined_plain : (xs ys : List ℕ) → list_all (nat_lt 13) xs ≡ true → list_all (nat_lt 13) ys ≡ true
+    → list_all (nat_lt 13) (xs ++ ys) ≡ true
 joined_plain [] ys h k = k
 joined_plain (x ∷ xs) ys h k =
     let p = and_parts (nat_lt 13 x) (list_all (nat_lt 13) xs) h in
@@ -134,7 +164,8 @@ none_short k w word =
     let few = joined_short w [] 4 0 word.short (omega arith) in
     record { plain = joined_plain w [] word.plain refl; most = omega (arith, few) }
 
-pub one_short : (k l : Lexeme) (w o : List ℕ) → IsPrinted k w 4 → IsPrinted l o 6 → IsShort (w ++ operand_field (o ∷ []))
+pub one_short : (k l : Lexeme) (w o : List ℕ) → IsPrinted k w 4 → IsPrinted l o 6
+    → IsShort (w ++ operand_field (o ∷ []))
 one_short k l w o word operand =
     let tail = joined_short o [] 6 0 operand.short (omega arith) in
     let all = joined_short w (32 ∷ (o ++ [])) 4 7 word.short (omega (arith, tail)) in
@@ -143,15 +174,19 @@ one_short k l w o word operand =
       most = omega (arith, all);
     }
 
-pub two_short : (k l m : Lexeme) (w o p : List ℕ) → IsPrinted k w 3 → IsPrinted l o 2 → IsPrinted m p 6 → IsShort (w ++ operand_field (o ∷ p ∷ []))
+pub two_short : (k l m : Lexeme) (w o p : List ℕ) → IsPrinted k w 3 → IsPrinted l o 2 → IsPrinted m p 6
+    → IsShort (w ++ operand_field (o ∷ p ∷ []))
 two_short k l m w o p word first second =
     let third = joined_short p [] 6 0 second.short (omega arith) in
     let tail = joined_short o (44 ∷ (p ++ [])) 2 7 first.short (omega (arith, third)) in
     let all = joined_short w (32 ∷ (o ++ (44 ∷ (p ++ [])))) 3 10 word.short (omega (arith, tail)) in
     record {
-      plain = joined_plain w (32 ∷ (o ++ (44 ∷ (p ++ [])))) word.plain (joined_plain o (44 ∷ (p ++ [])) first.plain (joined_plain p [] second.plain refl));
+      plain =
+          joined_plain w (32 ∷ (o ++ (44 ∷ (p ++ [])))) word.plain
+          (joined_plain o (44 ∷ (p ++ [])) first.plain (joined_plain p [] second.plain refl));
       most = omega (arith, all);
     }
 
 pub weaker : (l : Lexeme) (text : List ℕ) (m n : ℕ) → IsPrinted l text m → m ≤ n → IsPrinted l text n
-weaker l text m n p le = let s = p.short in record { token = p.token; plain = p.plain; short = omega (arith, s, le) }
+weaker l text m n p le =
+    let s = p.short in record { token = p.token; plain = p.plain; short = omega (arith, s, le) }

@@ -1,5 +1,6 @@
 -- The statements of a listing.
-use Rattle.std.proofs.Common.{◌≡◌, ℕ, suc, ◌+◌, ◌*◌, ◌<◌, ◌≤◌, inl, inr, List, [], ◌∷◌, ◌++◌, length, Ok, refl, ap, ◌∙◌, arith}
+use Rattle.std.proofs.Common.{◌≡◌, ℕ, suc, ◌+◌, ◌*◌, ◌<◌, ◌≤◌, inl, inr, List, [], ◌∷◌, ◌++◌, length, Ok}
+use Rattle.std.proofs.Common.{refl, ap, ◌∙◌, arith}
 use Rattle.std.specs.Prelude.{codes}
 use Rattle.std.specs.Str.Lines.{lines}
 use Rattle.std.proofs.lemmas.Bool.{le-ltb}
@@ -38,7 +39,9 @@ origin_is address lt =
     let p = word_printed d w 4 (record { begins = refl; all = refl; says = refl; short = omega arith }) in
     let q = number_printed address (word_text address) 6 (word_numeral address lt) (omega arith) in
     record {
-      says = origin_says (origin_text address) 5 address (one_read (Keyword d) (Number address) w (word_text address) 4 6 p q);
+      says =
+          origin_says (origin_text address) 5 address
+          (one_read (Keyword d) (Number address) w (word_text address) 4 6 p q);
       short = one_short (Keyword d) (Number address) w (word_text address) p q;
     }
 
@@ -46,17 +49,21 @@ origin_is address lt =
 
 pub given_lines : (gs : List Given) → lines (text_given gs) ≡ texts_given gs
 given_lines [] = refl
-given_lines (g ∷ gs) = first_line g.text (text_given gs) g.line.short.plain ∙ ap (λ ts. g.text ∷ ts) (given_lines gs)
+given_lines (g ∷ gs) =
+    first_line g.text (text_given gs) g.line.short.plain ∙ ap (λ ts. g.text ∷ ts) (given_lines gs)
 
 -- ---- statements
 
-giving_step : (a : Giving) (n : ℕ) (line : List ℕ) → Says line (action_by a) → step_of n [] line ≡ Ok (does (action_by a), [])
+giving_step : (a : Giving) (n : ℕ) (line : List ℕ) → Says line (action_by a)
+    → step_of n [] line ≡ Ok (does (action_by a), [])
 unfolding step_of
 giving_step (inl i) n line says = rw says refl
 giving_step (inr ds) n line says = rw says refl
 
-giving_goes : (a : Giving) (n : ℕ) (line : List ℕ) (rest : List (List ℕ)) (ss : List Statement) → Says line (action_by a)
-    → statements_from (n + 1) [] rest ≡ Ok ss → statements_from n [] (line ∷ rest) ≡ Ok (does (action_by a) ∷ ss)
+giving_goes : (a : Giving) (n : ℕ) (line : List ℕ) (rest : List (List ℕ)) (ss : List Statement)
+    → Says line (action_by a)
+    → statements_from (n + 1) [] rest ≡ Ok ss
+    → statements_from n [] (line ∷ rest) ≡ Ok (does (action_by a) ∷ ss)
 unfolding statements_from
 giving_goes (inl i) n line rest ss says more = rw (giving_step (inl i) n line says, more) refl
 giving_goes (inr ds) n line rest ss says more = rw (giving_step (inr ds) n line says, more) refl
@@ -65,11 +72,15 @@ none_left : (n : ℕ) → statements_from n [] [] ≡ Ok []
 unfolding statements_from
 none_left n = refl
 
-given_statements : (gs : List Given) (n : ℕ) → statements_from n [] (texts_given gs) ≡ Ok (statements_given gs)
+given_statements : (gs : List Given) (n : ℕ)
+    → statements_from n [] (texts_given gs) ≡ Ok (statements_given gs)
 given_statements [] n = none_left n
-given_statements (g ∷ gs) n = giving_goes g.line.acts n g.text (texts_given gs) (statements_given gs) g.line.says (given_statements gs (n + 1))
+given_statements (g ∷ gs) n =
+    giving_goes g.line.acts n g.text (texts_given gs) (statements_given gs) g.line.says
+    (given_statements gs (n + 1))
 
-origin_goes : (address n : ℕ) (line : List ℕ) (rest : List (List ℕ)) (ss : List Statement) → Says line (action.Origin (number_at 5 address))
+origin_goes : (address n : ℕ) (line : List ℕ) (rest : List (List ℕ)) (ss : List Statement)
+    → Says line (action.Origin (number_at 5 address))
     → statements_from (n + 1) [] rest ≡ Ok ss → statements_from n [] (line ∷ rest) ≡ Ok (origin address ∷ ss)
 unfolding statements_from step_of
 origin_goes address n line rest ss says more = rw (says, more) refl
@@ -98,16 +109,21 @@ pub statements_are : (address : ℕ) (gs : List Given) → address < 65536 → l
 unfolding statements_of
 statements_are address gs lt few =
     let o = origin_is address lt in
-    let all : lines (origin_line address ++ text_given gs) ≡ origin_text address ∷ texts_given gs = first_line (origin_text address) (text_given gs) o.short.plain ∙ ap (λ ts. origin_text address ∷ ts) (given_lines gs) in
+    let all : lines (origin_line address ++ text_given gs) ≡ origin_text address ∷ texts_given gs =
+    first_line (origin_text address) (text_given gs) o.short.plain
+    ∙ ap (λ ts. origin_text address ∷ ts) (given_lines gs) in
     let e = length-append (origin_line address) (text_given gs) in
     let first = ended_short (origin_text address) o.short in
     let rest = given_short gs in
-    let short : length (origin_line address ++ text_given gs) ≤ 1048576 = omega (arith, e, first, rest, few) in
-    let count : length (origin_text address ∷ texts_given gs) ≤ 65537 = let n = texts_length gs in omega (arith, n, few) in
+    let short : length (origin_line address ++ text_given gs) ≤ 1048576 =
+    omega (arith, e, first, rest, few) in
+    let count : length (origin_text address ∷ texts_given gs) ≤ 65537 =
+    let n = texts_length gs in omega (arith, n, few) in
     let in_bytes = le-ltb 1048576 (length (origin_line address ++ text_given gs)) short in
     let in_lines = le-ltb 65537 (length (origin_text address ∷ texts_given gs)) count in
     rw (in_bytes, all, in_lines)
-    (origin_goes address 1 (origin_text address) (texts_given gs) (statements_given gs) o.says (given_statements gs (1 + 1)))
+    (origin_goes address 1 (origin_text address) (texts_given gs) (statements_given gs) o.says
+    (given_statements gs (1 + 1)))
 
 pub nothing_said : statements_of [] ≡ Ok []
 unfolding statements_of statements_from

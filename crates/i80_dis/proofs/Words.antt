@@ -34,7 +34,8 @@ use Rattle.std.specs.Char.{is_ascii_digit}
 use Rattle.asm_lex.specs.Characters.{is_word_part}
 use Rattle.asm_lex.specs.Spelling.{Begins}
 use Rattle.asm_text.specs.Registers.{reg_of, pair_of, index_of, stack_of}
-use Rattle.i80_dis.specs.Text.{register_word, pair_word, index_word, stack_word, condition_word, operation_word, immediate_word, rotation_word}
+use Rattle.i80_dis.specs.Text.{register_word, pair_word, index_word, stack_word, condition_word}
+use Rattle.i80_dis.specs.Text.{operation_word, immediate_word, rotation_word}
 use Rattle.std.specs.Prelude.{codes, ◌++◌}
 
 -- a word of at most so many characters is a keyword

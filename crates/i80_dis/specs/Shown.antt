@@ -1,10 +1,11 @@
 -- What the lines of a listing show: each an instruction, or a byte that begins none.
-use Rattle.std.specs.Prelude.{◌≡◌, ◌<◌, ◌⊎◌, ℕ, zero, suc, ◌-◌, List, [], ◌∷◌, ◌++◌, length, map, Bool, true, false, Option, Some, None, Result, Ok, Err, if◌then◌else◌}
+use Rattle.std.specs.Prelude.{◌≡◌, ◌<◌, ◌⊎◌, ℕ, zero, suc, ◌-◌, List, [], ◌∷◌, ◌++◌, length, map, Bool, true}
+use Rattle.std.specs.Prelude.{false, Option, Some, None, Result, Ok, Err, if◌then◌else◌}
 use Rattle.i80_rows.specs.declared.instruction.Instr.{Instr}
 use Rattle.i80_rows.specs.declared.instruction.DecodeFault.{DecodeFault}
 use Rattle.i80_rows.specs.declared.instruction.DecodeFault.TheVariants as fault
 use Rattle.i80_rows.specs.Rows.{Row, Undefined, Alone, Byte, Word, row, read}
-use Rattle.i80_rows.specs.Encoding.{Encodes}
+use Rattle.i80_rows.specs.Encoding.{Encodes, encoding_of}
 use Rattle.i80_dis.specs.declared.line.Shown.{Shown}
 use Rattle.i80_dis.specs.declared.line.Shown.TheVariants.{Instruction, Datum}
 
@@ -31,6 +32,11 @@ Lists bytes (Instruction i ∷ lines) =
 Lists bytes (Datum b ∷ lines) =
     (rest : List ℕ) × (bytes ≡ b ∷ rest)
     × (((row b ≡ Undefined) × Lists rest lines) ⊎ (IsCutOff bytes × (lines ≡ map Datum rest)))
+
+-- the bytes that a line shows
+abbrev pub bytes_shown : Shown → List ℕ
+bytes_shown (Instruction i) = encoding_of i
+bytes_shown (Datum b) = b ∷ []
 
 -- ---- the same, read off the table
 

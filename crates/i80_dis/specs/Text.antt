@@ -1,13 +1,18 @@
 -- How a listing is written: mnemonics and operands of the 8080/8085 Assembly Language Programming
 -- Manual, chapter 3; numbers in hexadecimal, of two digits for a byte and four for a word.
-use Rattle.std.specs.Prelude.{ℕ, ◌+◌, ◌/◌, ◌%◌, List, [], ◌∷◌, ◌++◌, nat_lt, codes, if◌then◌else◌}
+use Rattle.std.specs.Prelude.{ℕ, List, [], ◌∷◌, ◌++◌, codes}
 use Rattle.base_text.specs.Hexadecimal.{upper_byte, upper_word}
 use Rattle.i80_rows.specs.declared.instruction.Cond.{Cond}
 use Rattle.i80_rows.specs.declared.instruction.Cond.TheVariants as cond
 use Rattle.i80_rows.specs.declared.instruction.IndexPair.{IndexPair}
 use Rattle.i80_rows.specs.declared.instruction.IndexPair.TheVariants as index
 use Rattle.i80_rows.specs.declared.instruction.Instr.{Instr}
-use Rattle.i80_rows.specs.declared.instruction.Instr.TheVariants.{Nop, Lxi, Stax, Ldax, Shld, Lhld, Sta, Lda, Inx, Dcx, Dad, Inr, Dcr, Mvi, Rotate, Daa, Cma, Stc, Cmc, Mov, MovFromM, MovToM, Hlt, Alu, AluImmediate, Jmp, JumpIf, Call, CallIf, Ret, RetIf, Rst, Push, Pop, Xthl, Xchg, Pchl, Sphl, Out, In, Di, Ei}
+use Rattle.i80_rows.specs.declared.instruction.Instr.TheVariants.{Nop, Lxi, Stax, Ldax, Shld, Lhld, Sta, Lda}
+use Rattle.i80_rows.specs.declared.instruction.Instr.TheVariants.{Inx, Dcx, Dad, Inr, Dcr, Mvi, Rotate, Daa}
+use Rattle.i80_rows.specs.declared.instruction.Instr.TheVariants.{Cma, Stc, Cmc, Mov, MovFromM, MovToM, Hlt}
+use Rattle.i80_rows.specs.declared.instruction.Instr.TheVariants.{Alu, AluImmediate, Jmp, JumpIf, Call}
+use Rattle.i80_rows.specs.declared.instruction.Instr.TheVariants.{CallIf, Ret, RetIf, Rst, Push, Pop, Xthl}
+use Rattle.i80_rows.specs.declared.instruction.Instr.TheVariants.{Xchg, Pchl, Sphl, Out, In, Di, Ei}
 use Rattle.i80_rows.specs.declared.instruction.Operation.{Operation}
 use Rattle.i80_rows.specs.declared.instruction.Operation.TheVariants as operation
 use Rattle.i80_rows.specs.declared.instruction.Pair.{Pair}

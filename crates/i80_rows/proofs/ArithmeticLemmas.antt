@@ -1,55 +1,15 @@
 -- The bit operations of the code are the sums and digits of the definitions.
-use Rattle.std.proofs.Common.{
-  ◌≡◌,
-  ℕ,
-  ◌+◌,
-  ◌-◌,
-  ◌*◌,
-  ◌/◌,
-  ◌%◌,
-  ◌^◌,
-  ◌<◌,
-  ◌≤◌,
-  Bool,
-  true,
-  false,
-  not,
-  ◌||◌,
-  ◌==◌,
-  nat_eq,
-  nat_lt,
-  nat_le,
-  refl,
-  sym,
-  ap,
-  ◌∙◌,
-  bit_and,
-  bit_or,
-  bit_xor,
-  arith,
-  List,
-  max,
-}
+use Rattle.std.proofs.Common.{◌≡◌, ℕ, ◌+◌, ◌-◌, ◌*◌, ◌/◌, ◌%◌, ◌<◌, ◌≤◌, Bool, true, false, not, ◌||◌, ◌==◌}
+use Rattle.std.proofs.Common.{nat_eq, nat_lt, refl, ap, ◌∙◌, bit_and, bit_or, bit_xor, arith, max}
 use Rattle.std.proofs.lemmas.Nat.{and_mask}
 use Rattle.std.proofs.lemmas.Nat.Bits.{and_pow, bit_at_xor, bit_at_or, bit_at-lt}
 use Rattle.std.specs.Int.{bit_at, from_bool}
 use Rattle.std.proofs.lemmas.Bool.Decides.{nat_tests}
 use Rattle.i80_rows.specs.declared.instruction.Rotation.TheVariants.{Rlc, Rrc, Ral, Rar}
 use Rattle.i80_rows.specs.declared.arithmetic.AluResult.{AluResult}
-use Rattle.i80_rows.specs.FlagValues.{FlagValues, digit, is_set}
-use Rattle.i80_rows.specs.Arithmetic.{
-  is_even,
-  by_digits,
-  with_flags,
-  sum,
-  increment,
-  decrement,
-  exclusive,
-  conjunction,
-  adjusted,
-  rotated,
-  turned,
-}
+use Rattle.i80_rows.specs.FlagValues.{FlagValues, is_set}
+use Rattle.i80_rows.specs.Arithmetic.{by_digits, with_flags, sum, increment, decrement, adjusted, rotated}
+use Rattle.i80_rows.specs.Arithmetic.{turned}
 use Rattle.i80_rows.proofs.Tables.{agree, table}
 
 pub carry_by_mask : (x : ℕ) → x < 512 → not (nat_eq (bit_and x 256) 0) ≡ nat_lt 255 x

@@ -1,26 +1,8 @@
 -- What the flag byte is, by computation over its 256 values and over the 32 flags.
-use Rattle.std.proofs.Common.{
-  ◌≡◌,
-  ℕ,
-  ◌+◌,
-  ◌*◌,
-  ◌%◌,
-  ◌^◌,
-  ◌<◌,
-  ◌≤◌,
-  Bool,
-  true,
-  false,
-  refl,
-  bit_and,
-  bit_or,
-  nat_eq,
-  not,
-  arith,
-}
+use Rattle.std.proofs.Common.{◌≡◌, ℕ, ◌*◌, ◌%◌, ◌<◌, ◌≤◌, Bool, true, false, refl, bit_and, bit_or, arith}
 use Rattle.std.specs.Int.{from_bool}
 use mir.Val.{bool_byte}
-use Rattle.i80_rows.specs.FlagValues.{FlagValues, flag_byte, flags_of}
+use Rattle.i80_rows.specs.FlagValues.{flag_byte, flags_of}
 use Rattle.i80_rows.proofs.Tables.{agree}
 
 pub masked_flags : (x : ℕ) → x < 256 → flags_of (bit_or (bit_and x 215) 2) ≡ flags_of x

@@ -1,6 +1,7 @@
 pub mod Tables
 pub mod FlagLemmas
 pub mod ArithmeticLemmas
-pub mod EncodeLemmas
+pub mod Encoded
+pub mod OnlyEncoding
 pub mod DecodeLemmas
 pub mod TableLemmas

@@ -1,8 +1,8 @@
 -- What the table of S, Z and P holds.
-use Rattle.std.proofs.Common.{◌≡◌, ℕ, ◌+◌, ◌*◌, ◌%◌, ◌<◌, Bool, true, false, refl, bit_or, get_or}
+use Rattle.std.proofs.Common.{◌≡◌, ℕ, ◌*◌, ◌%◌, ◌<◌, Bool, true, false, refl, bit_or, get_or}
 use Rattle.std.specs.Int.{from_bool}
 use Rattle.i80_rows.specs.declared.flags.TheConstants.{SHOWN}
-use Rattle.i80_rows.specs.FlagValues.{FlagValues, flag_byte, flags_of}
+use Rattle.i80_rows.specs.FlagValues.{flag_byte, flags_of}
 use Rattle.i80_rows.specs.Arithmetic.{shown_by}
 use Rattle.i80_rows.proofs.Tables.{agree, table}
 

@@ -1,5 +1,5 @@
 //! Writing an instruction as bytes, opcode first and words low byte first.
-ghost use Rattle.std.specs.Prelude.{◌≡◌, ◌+◌, ◌*◌, ◌/◌, ◌%◌, ◌<◌, ◌≤◌, ◌∷◌, [], List, ℕ, length};
+ghost use Rattle.std.specs.Prelude.{◌≡◌, ◌<◌, ◌≤◌, ◌∷◌, [], length};
 ghost use Rattle.i80_rows.specs.Codes.{
   reg_of,
   reg_code,
@@ -11,7 +11,7 @@ ghost use Rattle.i80_rows.specs.Codes.{
   vector_code,
   index_pair_code,
 };
-ghost use Rattle.i80_rows.specs.Encoding.{Encodes};
+ghost use Rattle.i80_rows.specs.Encoding.{Encodes, with_word, encoding_of};
 
 use crate::instruction::{
     Cond, IndexPair, Instr, Operation, Pair, Reg, Register, Rotation, StackPair, Vector,
@@ -55,7 +55,7 @@ impl Encoded {
     }
 
     fn three(opcode: u8, word: u16) -> Encoded
-        ensures { result ≡ opcode ∷ (word % 256 ∷ (word / 256 ∷ [])) }
+        ensures { result ≡ with_word opcode word }
     {
         let [low, high] = word.to_le_bytes();
         Encoded {
@@ -75,7 +75,8 @@ impl Encoded {
 }
 
 fn reg_code(reg: Reg) -> u8
-    ensures { result ≡ reg_code reg }
+    ensures code { result ≡ reg_code reg }
+    ensures few { result < 8 }
 {
     match reg {
         Reg::B => 0,
@@ -90,13 +91,15 @@ fn reg_code(reg: Reg) -> u8
 }
 
 fn register_code(register: Register) -> u8
-    ensures { result ≡ reg_code (reg_of register) }
+    ensures code { result ≡ reg_code (reg_of register) }
+    ensures few { result < 8 }
 {
     reg_code(Reg::from(register))
 }
 
 fn pair_code(pair: Pair) -> u8
-    ensures { result ≡ pair_code pair }
+    ensures code { result ≡ pair_code pair }
+    ensures few { result < 4 }
 {
     match pair {
         Pair::B => 0,
@@ -107,7 +110,8 @@ fn pair_code(pair: Pair) -> u8
 }
 
 fn stack_pair_code(pair: StackPair) -> u8
-    ensures { result ≡ stack_pair_code pair }
+    ensures code { result ≡ stack_pair_code pair }
+    ensures few { result < 4 }
 {
     match pair {
         StackPair::B => 0,
@@ -118,7 +122,8 @@ fn stack_pair_code(pair: StackPair) -> u8
 }
 
 fn index_pair_code(pair: IndexPair) -> u8
-    ensures { result ≡ index_pair_code pair }
+    ensures code { result ≡ index_pair_code pair }
+    ensures few { result < 2 }
 {
     match pair {
         IndexPair::B => 0,
@@ -127,7 +132,8 @@ fn index_pair_code(pair: IndexPair) -> u8
 }
 
 fn cond_code(cond: Cond) -> u8
-    ensures { result ≡ cond_code cond }
+    ensures code { result ≡ cond_code cond }
+    ensures few { result < 8 }
 {
     match cond {
         Cond::NotZero => 0,
@@ -142,7 +148,8 @@ fn cond_code(cond: Cond) -> u8
 }
 
 fn operation_code(operation: Operation) -> u8
-    ensures { result ≡ operation_code operation }
+    ensures code { result ≡ operation_code operation }
+    ensures few { result < 8 }
 {
     match operation {
         Operation::Add => 0,
@@ -157,7 +164,8 @@ fn operation_code(operation: Operation) -> u8
 }
 
 fn rotation_code(rotation: Rotation) -> u8
-    ensures { result ≡ rotation_code rotation }
+    ensures code { result ≡ rotation_code rotation }
+    ensures few { result < 4 }
 {
     match rotation {
         Rotation::Rlc => 0,
@@ -170,7 +178,8 @@ fn rotation_code(rotation: Rotation) -> u8
 impl Vector {
     /// The n of RST n.
     pub fn number(self) -> u8
-        ensures { result ≡ vector_code self }
+        ensures code { result ≡ vector_code self }
+        ensures few { result < 8 }
     {
         match self {
             Vector::V0 => 0,
@@ -186,57 +195,78 @@ impl Vector {
 }
 
 /// The bytes of an instruction.
-#[tactic(auto, unfolding(crate::specs::Rows::row))]
+#[tactic(auto, using(crate::proofs::Encoded::encoded))]
 pub fn encode(instr: Instr) -> Encoded
-    ensures { Encodes instr result }
+    // The first byte names the instruction's row, and the others are its operand, low byte first.
+    ensures row { Encodes instr result }
+    // In numbers, the first is the opcode with the codes of its register, pair or condition.
+    ensures bytes { result ≡ encoding_of instr }
+{
+    opcode_and_operand(instr)
+}
+
+// What `encode` answers, by the mnemonic.
+#[tactic(auto, unfolding(crate::specs::Encoding::encoding_of))]
+fn opcode_and_operand(instr: Instr) -> Encoded
+    ensures { result ≡ encoding_of instr }
 {
     match instr {
-        Instr::Nop => Encoded::one(0x00),
-        Instr::Lxi(pair, word) => Encoded::three(pair_code(pair) << 4 | 0x01, word),
-        Instr::Stax(pair) => Encoded::one(index_pair_code(pair) << 4 | 0x02),
-        Instr::Ldax(pair) => Encoded::one(index_pair_code(pair) << 4 | 0x0a),
+        Instr::Lxi(pair, word) => Encoded::three(16 * pair_code(pair) + 0x01, word),
         Instr::Shld(address) => Encoded::three(0x22, address),
         Instr::Lhld(address) => Encoded::three(0x2a, address),
         Instr::Sta(address) => Encoded::three(0x32, address),
         Instr::Lda(address) => Encoded::three(0x3a, address),
-        Instr::Inx(pair) => Encoded::one(pair_code(pair) << 4 | 0x03),
-        Instr::Dcx(pair) => Encoded::one(pair_code(pair) << 4 | 0x0b),
-        Instr::Dad(pair) => Encoded::one(pair_code(pair) << 4 | 0x09),
-        Instr::Inr(reg) => Encoded::one(reg_code(reg) << 3 | 0x04),
-        Instr::Dcr(reg) => Encoded::one(reg_code(reg) << 3 | 0x05),
-        Instr::Mvi(reg, byte) => Encoded::two(reg_code(reg) << 3 | 0x06, byte),
-        Instr::Rotate(rotation) => Encoded::one(rotation_code(rotation) << 3 | 0x07),
-        Instr::Daa => Encoded::one(0x27),
-        Instr::Cma => Encoded::one(0x2f),
-        Instr::Stc => Encoded::one(0x37),
-        Instr::Cmc => Encoded::one(0x3f),
-        Instr::Mov(to, from) => Encoded::one(0x40 | register_code(to) << 3 | register_code(from)),
-        Instr::MovFromM(to) => Encoded::one(0x46 | register_code(to) << 3),
-        Instr::MovToM(from) => Encoded::one(0x70 | register_code(from)),
-        Instr::Hlt => Encoded::one(0x76),
-        Instr::Alu(operation, reg) => Encoded::one(
-            0x80 | operation_code(operation) << 3 | reg_code(reg),
-        ),
+        Instr::Mvi(reg, byte) => Encoded::two(8 * reg_code(reg) + 0x06, byte),
         Instr::AluImmediate(operation, byte) => Encoded::two(
-            0xc6 | operation_code(operation) << 3,
+            0xc6 + 8 * operation_code(operation),
             byte,
         ),
         Instr::Jmp(address) => Encoded::three(0xc3, address),
-        Instr::JumpIf(cond, address) => Encoded::three(0xc2 | cond_code(cond) << 3, address),
+        Instr::JumpIf(cond, address) => Encoded::three(0xc2 + 8 * cond_code(cond), address),
         Instr::Call(address) => Encoded::three(0xcd, address),
-        Instr::CallIf(cond, address) => Encoded::three(0xc4 | cond_code(cond) << 3, address),
-        Instr::Ret => Encoded::one(0xc9),
-        Instr::RetIf(cond) => Encoded::one(0xc0 | cond_code(cond) << 3),
-        Instr::Rst(vector) => Encoded::one(0xc7 | vector.number() << 3),
-        Instr::Push(pair) => Encoded::one(0xc5 | stack_pair_code(pair) << 4),
-        Instr::Pop(pair) => Encoded::one(0xc1 | stack_pair_code(pair) << 4),
-        Instr::Xthl => Encoded::one(0xe3),
-        Instr::Xchg => Encoded::one(0xeb),
-        Instr::Pchl => Encoded::one(0xe9),
-        Instr::Sphl => Encoded::one(0xf9),
+        Instr::CallIf(cond, address) => Encoded::three(0xc4 + 8 * cond_code(cond), address),
         Instr::Out(port) => Encoded::two(0xd3, port),
         Instr::In(port) => Encoded::two(0xdb, port),
-        Instr::Di => Encoded::one(0xf3),
-        Instr::Ei => Encoded::one(0xfb),
+        _ => Encoded::one(opcode_alone(instr)),
+    }
+}
+
+// The opcode of an instruction without an operand.
+#[tactic(auto, unfolding(crate::specs::Encoding::encoding_of))]
+fn opcode_alone(instr: Instr) -> u8
+    requires { length (encoding_of instr) ≡ 1 }
+    ensures { result ∷ [] ≡ encoding_of instr }
+{
+    match instr {
+        Instr::Nop => 0x00,
+        Instr::Stax(pair) => 16 * index_pair_code(pair) + 0x02,
+        Instr::Ldax(pair) => 16 * index_pair_code(pair) + 0x0a,
+        Instr::Inx(pair) => 16 * pair_code(pair) + 0x03,
+        Instr::Dcx(pair) => 16 * pair_code(pair) + 0x0b,
+        Instr::Dad(pair) => 16 * pair_code(pair) + 0x09,
+        Instr::Inr(reg) => 8 * reg_code(reg) + 0x04,
+        Instr::Dcr(reg) => 8 * reg_code(reg) + 0x05,
+        Instr::Rotate(rotation) => 8 * rotation_code(rotation) + 0x07,
+        Instr::Daa => 0x27,
+        Instr::Cma => 0x2f,
+        Instr::Stc => 0x37,
+        Instr::Cmc => 0x3f,
+        Instr::Mov(to, from) => 0x40 + 8 * register_code(to) + register_code(from),
+        Instr::MovFromM(to) => 0x46 + 8 * register_code(to),
+        Instr::MovToM(from) => 0x70 + register_code(from),
+        Instr::Hlt => 0x76,
+        Instr::Alu(operation, reg) => 0x80 + 8 * operation_code(operation) + reg_code(reg),
+        Instr::Ret => 0xc9,
+        Instr::RetIf(cond) => 0xc0 + 8 * cond_code(cond),
+        Instr::Rst(vector) => 0xc7 + 8 * vector.number(),
+        Instr::Push(pair) => 0xc5 + 16 * stack_pair_code(pair),
+        Instr::Pop(pair) => 0xc1 + 16 * stack_pair_code(pair),
+        Instr::Xthl => 0xe3,
+        Instr::Xchg => 0xeb,
+        Instr::Pchl => 0xe9,
+        Instr::Sphl => 0xf9,
+        Instr::Di => 0xf3,
+        Instr::Ei => 0xfb,
+        _ => unreachable!(),
     }
 }

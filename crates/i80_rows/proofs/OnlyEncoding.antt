@@ -1,13 +1,14 @@
--- The bytes of an instruction are those that the table of 256 rows gives it.
-use Rattle.std.proofs.Common.{◌≡◌, ℕ, zero, suc, ◌+◌, ◌*◌, ◌/◌, ◌%◌, ◌<◌, List, [], ◌∷◌, ◌++◌, get_or, refl}
-use Rattle.std.proofs.Common.{sym, ap, subst, ◌∙◌, arith, zero-add}
+-- What encodes an instruction by the table of 256 rows is its encoding in numbers.
+use Rattle.std.proofs.Common.{◌≡◌, ◌↔◌, ℕ, zero, suc, ◌+◌, ◌*◌, ◌/◌, ◌%◌, ◌<◌, List, [], ◌∷◌, ◌++◌, get_or}
+use Rattle.std.proofs.Common.{refl, sym, ap, subst, ◌∙◌, arith, zero-add}
+use Rattle.std.specs.List.{All}
 use Rattle.std.specs.Prelude.{slice_index_or}
 use Rattle.i80_rows.specs.declared.instruction.Instr.{Instr}
 use Rattle.i80_rows.specs.Rows.{Row, Undefined, Alone, Byte, Word, row, rows, row_0, row_1, row_2, row_3}
 use Rattle.i80_rows.specs.Rows.{row_4, row_5, row_6, row_7, row_8, row_9, row_a, row_b, row_c, row_d, row_e}
 use Rattle.i80_rows.specs.Rows.{row_f}
-use Rattle.i80_rows.specs.Encoding.{Encodes, IsOperand}
-use Rattle.asm_build.specs.Encodings.{with_word, encoding_of}
+use Rattle.i80_rows.specs.Encoding.{Encodes, IsOperand, with_word, encoding_of}
+use Rattle.i80_rows.proofs.Encoded.{encoded}
 
 -- the encoding of what a row holds begins with the row's opcode
 abbrev Fits : ℕ → Row → Type 0
@@ -206,3 +207,15 @@ pub encoding_is : (i : Instr) (bytes : List ℕ) → Encodes i bytes → get_or 
     → bytes ≡ encoding_of i
 encoding_is i [] h small = absurd h
 encoding_is i (opcode ∷ operand) h small = by_row (row opcode) i opcode operand (fits opcode) small h
+
+-- ---- of bytes there is no other
+
+second_small : (bytes : List ℕ) → All (λ b. b < 256) bytes → get_or bytes 1 0 < 256
+second_small [] all = omega arith
+second_small (a ∷ []) all = omega arith
+second_small (a ∷ (b ∷ bytes)) all = all 1 0 (omega arith)
+
+pub encoding_only : (i : Instr) (bytes : List ℕ) → All (λ b. b < 256) bytes
+    → Encodes i bytes ↔ (bytes ≡ encoding_of i)
+encoding_only i bytes all =
+    (λ h. encoding_is i bytes h (second_small bytes all), λ e. subst (Encodes i) (sym e) (encoded i))
