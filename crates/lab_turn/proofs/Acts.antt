@@ -21,7 +21,7 @@ module _ {J C Y : Type 0} (E : J → List (ℕ × C)) (L : J → ℕ) (answer : 
     pub entered : is_entry reply ≡ true → E y ≡ E x ++ (seat, call) ∷ []
     pub answered : is_entry reply ≡ true → reply ≡ answer (E x) call
     pub room : is_entry reply ≡ true → length (E x) < L x
-    pub refused : is_entry reply ≡ false → E y ≡ E x
+    pub refused : is_entry reply ≡ false → y ≡ x
     pub full : is_full reply ≡ true → (is_entry reply ≡ false) × (length (E x) ≡ L x)
 
   pub record Goes (x y : J) (seat : ℕ) : Type 0 where
@@ -35,7 +35,7 @@ module _ {J C Y : Type 0} (E : J → List (ℕ × C)) (L : J → ℕ) (answer : 
     others = λ k far. ap (calls_of k) e ∙ calls_other k seat (E x) call far;
     legal = omega (arith, ap length e, length-append (E x) ((seat, call) ∷ []));
   }
-  goes x y seat call reply a legal false is = let e = a.refused is in let lim = a.limit in record {
+  goes x y seat call reply a legal false is = let e = ap E (a.refused is) in let lim = a.limit in record {
     more = subst (IsPrefix (E x)) (sym e) (prefix_self (E x));
     others = λ k far. ap (calls_of k) e;
     legal = omega (arith, ap length e);
@@ -61,8 +61,8 @@ module _ {J C Y : Type 0} (E : J → List (ℕ × C)) (L : J → ℕ) (answer : 
           answered = a.answered is;
           counted = ap (calls_of v.seat) e ∙ (calls_own v.seat (E x) call ∙ ap (λ l. l ++ call ∷ []) s.calls);
         };
-        refused = λ is. let e = a.refused is in record { onward = subst (IsPrefix v.seen) (sym e) s.seen; counted = ap (calls_of v.seat) e ∙ s.calls };
-        full = λ is. let f = a.full is in (f.0, ap length (a.refused f.0) ∙ (f.1 ∙ s.limit));
+        refused = λ is. let e = ap E (a.refused is) in record { onward = subst (IsPrefix v.seen) (sym e) s.seen; counted = ap (calls_of v.seat) e ∙ s.calls };
+        full = λ is. let f = a.full is in (f.0, ap (λ v. length (E v)) (a.refused f.0) ∙ (f.1 ∙ s.limit));
       }
 
   -- the token's part after the value was taken out of the slot and put back

@@ -22,15 +22,15 @@ pub trait Journaled {
     // Whether a reply says that the journal is full.
     ghost is_full: { Self.Reply → Bool };
 
-    /// Makes a call for a seat. It becomes the last entry, or nothing changes: out of memory,
-    /// or because the journal is at its limit.
+    /// Makes a call for a seat. It becomes the last entry; or it is refused, out of memory or
+    /// because the journal is at its limit, and then nothing of the value changes.
     fn act(&mut self, seat: u32, call: Self::Call) -> Self::Reply
         ensures limit { limit self.new ≡ limit self.old }
         ensures entered { is_entry result ≡ true
             → entries self.new ≡ entries self.old ++ (seat, call) ∷ [] }
         ensures answered { is_entry result ≡ true → result ≡ answer (entries self.old) call }
         ensures room { is_entry result ≡ true → length (entries self.old) < limit self.old }
-        ensures refused { is_entry result ≡ false → entries self.new ≡ entries self.old }
+        ensures refused { is_entry result ≡ false → self.new ≡ self.old }
         ensures full { is_full result ≡ true
             → (is_entry result ≡ false) × (length (entries self.old) ≡ limit self.old) };
 }

@@ -3,10 +3,11 @@ use Rattle.std.specs.Prelude.{ℕ, ◌+◌, Bool, true, false, List, length, Res
 use Rattle.lab_turn_tests.specs.declared.CountFault.{CountFault}
 use Rattle.lab_turn_tests.specs.declared.CountFault.TheVariants.{OutOfMemory, Full}
 
--- the seat and the mark of each call that was counted, and how many there may be
+-- the seat and the mark of each call that was counted, how many there may be, and the counter's label
 pub record CounterState : Type 0 where
   pub entries : List (ℕ × ℕ)
   pub limit : ℕ
+  pub label : ℕ
 
 -- after these entries a call makes the count one more than their number
 abbrev pub answer_of : List (ℕ × ℕ) → ℕ → Result ℕ CountFault

@@ -24,11 +24,13 @@ pub enum CountFault {
     Full,
 }
 
-/// A counter with a limit, and the seat and mark of each call that it counted.
+/// A counter with a limit, the seat and mark of each call that it counted, and a label, which is no
+/// part of its journal.
 #[derive(Debug, Drop)]
 pub struct Counter {
     entries: Vec<(u32, u32)>,
     limit: u64,
+    label: u32,
 }
 
 impl Model for Counter {
@@ -37,20 +39,38 @@ impl Model for Counter {
 
     ghost Value = { CounterState };
 
-    ghost view = { λ c. record { entries = c.entries.items; limit = c.limit } };
+    ghost view = { λ c. record {
+      entries = c.entries.items;
+      limit = c.limit;
+      label = c.label;
+    } };
 
     ghost invariant = { λ c. length c.entries.items ≤ c.limit };
 }
 
 impl Counter {
-    /// A counter that counts to the limit.
+    /// A counter that counts to the limit, with label 0.
     pub fn new(alloc: Global, limit: u64) -> Counter
-        ensures { result ≡ record { entries = []; limit = limit } }
+        ensures { result ≡ record { entries = []; limit = limit; label = 0 } }
     {
         Counter {
             entries: Vec::new(alloc),
             limit,
+            label: 0,
         }
+    }
+
+    /// The same with another label.
+    pub fn labeled(self, label: u32) -> Counter
+        ensures { result ≡ record { entries = self.entries; limit = self.limit; label = label } }
+    {
+        Counter { label, ..self }
+    }
+
+    pub fn label(&self) -> u32
+        ensures { result ≡ self.now.label }
+    {
+        self.label
     }
 
     /// How many calls were counted.

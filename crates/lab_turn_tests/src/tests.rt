@@ -15,7 +15,7 @@ use std::thread::Threads;
 fn opened(alloc: Global, limit: u64) -> Option<(Turnstile<Counter>, Pass<Counter>, Pass<Counter>)>
     ensures { IfSome result (λ t. (t.1.turnstile ≡ t.0) × (t.2.turnstile ≡ t.0)) }
 {
-    let counter = Counter::new(alloc, limit);
+    let counter = Counter::new(alloc, limit).labeled(80);
     let Ok((desk, mut passes)) = Turnstile::open(alloc, counter, 2) else {
         return None;
     };
@@ -112,6 +112,7 @@ fn calls_of_two_seats(rt: HostRuntime) -> Result<(), Fail> {
     let counter = turnstile.close(passes)?;
     assert_eq!(rt; counter.value(), 3);
     assert_eq!(rt; counter.entries(), [(0, 7), (1, 8), (0, 9)].as_slice());
+    assert_eq!(rt; counter.label(), 80);
     Ok(())
 }
 
