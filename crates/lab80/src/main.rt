@@ -10,10 +10,12 @@ mod kernel;
 mod line;
 mod term;
 
+use base_streams::std_io::{StdInlet, StdOutlet};
 use lab_engines::asm::run_asm;
 use lab_engines::command::{Command, read_command};
 use lab_engines::dis::run_dis;
 use lab_engines::step::run_step;
+use lab_io::report::flushed;
 use lab_io::status::Status;
 use std::process::ExitCode;
 use std::rt::Env;
@@ -30,17 +32,17 @@ fn main(rt: HostRuntime) -> ExitCode {
         }
         Err(_) => return ExitCode::from(usage(&rt).number()),
     };
+    let mut input = StdInlet::new(rt.reader());
+    let mut output = StdOutlet::new(io::writer(&rt));
     let status = match read_command(&words) {
-        Some(Command::Step) => run_step(rt.alloc(), &mut rt.reader(), &mut io::writer(&rt)),
-        Some(Command::Asm) => run_asm(rt.alloc(), &mut rt.reader(), &mut io::writer(&rt)),
-        Some(Command::Dis(origin)) => {
-            run_dis(rt.alloc(), origin, &mut rt.reader(), &mut io::writer(&rt))
-        }
+        Some(Command::Step) => run_step(rt.alloc(), &mut input, &mut output),
+        Some(Command::Asm) => run_asm(rt.alloc(), &mut input, &mut output),
+        Some(Command::Dis(origin)) => run_dis(rt.alloc(), origin, &mut input, &mut output),
         Some(Command::Kernel(file)) => kernel::run_kernel(&rt, file),
         Some(Command::Term(file)) => term::run_term(&rt, file),
         None => usage(&rt),
     };
-    ExitCode::from(status.number())
+    ExitCode::from(flushed(status, &mut output.into_inner()).number())
 }
 
 /// The words after the program's name.

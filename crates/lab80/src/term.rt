@@ -88,7 +88,7 @@ pub fn run_term<
         Ok(file) => file,
         Err(status) => return status,
     };
-    let input = match read_all(rt.alloc(), &mut rt.reader()) {
+    let input = match read_all(rt.alloc(), &mut StdInlet::new(rt.reader())) {
         Ok(input) => input,
         Err(status) => return status,
     };

@@ -2,3 +2,4 @@ pub mod ImageLemmas
 pub mod PrintedLemmas
 pub mod RunLemmas
 pub mod RunnerLemmas
+pub mod AsmLemmas

@@ -1,10 +1,11 @@
 //! The word `asm`: the image of a cell, and how the program in it ends.
-ghost use Rattle.std.specs.Prelude.{◌≡◌, ◌++◌, List, ℕ, OnOk, IfOk, IfErr, IfSome, Some, None, option_map, if◌then◌else◌, string_bytes};
-ghost use Rattle.std.specs.Str.{is_utf8};
+ghost use Rattle.std.specs.Prelude.{◌≡◌, ◌++◌, ◌⊎◌, true, List, ℕ, Ok, OnOk, IfOk, IfErr, IfSome, Some, MatchResult, string_bytes};
 ghost use Rattle.asm_syntax.specs.Outcome.{Gives};
 ghost use Rattle.asm_build.specs.Meaning.{meaning_in};
-ghost use Rattle.lab_io.specs.Engine.{Answers, IsFailure};
+ghost use Rattle.lab_io.specs.Engine.{Answers, IsFailure, IfFailed};
 ghost use Rattle.lab_io.specs.Report.{IsReport};
+ghost use Rattle.lab_io.specs.Streams.{IsEndless};
+ghost use Rattle.lab_io.specs.TextState.{IsText};
 ghost use Rattle.lab_engines.specs.AsmText.{
   start_text,
   built_text,
@@ -25,15 +26,14 @@ use asm_build::built::Built;
 use asm_build::cell::build;
 use asm_build::symbols::Symbols;
 use asm_syntax::fault::{AsmFault, FaultKind};
-use asm_text::statements::statements;
+use asm_text::statements::{MOST_BYTES, statements};
+use base_streams::ports::{Inlet, Outlet};
 use base_text::hexadecimal::push_word;
 use i80_exec::machine::Machine;
-use lab_io::reading::read_all;
-use lab_io::report::{Report, deliver, refusal};
+use lab_io::reading::read_text;
+use lab_io::report::{Report, deliver, text_refusal};
 use lab_io::status::Status;
 use std::alloc::{AllocError, Global};
-use std::io::{Read, Write};
-use std::str;
 
 /// How many steps a run may have.
 pub const RUN_LIMIT: u64 = 100_000;
@@ -42,13 +42,21 @@ pub const RUN_LIMIT: u64 = 100_000;
 /// gives in order of address; where the cell says where to start, also how the program ends on a
 /// machine after power-on that has those bytes.
 /// What is refused is answered by one line: `bad text` where the input isn't UTF-8, else the line,
-/// the column and the name of the cell's first fault. Nothing is written before all is read.
-pub fn run_asm<R: Read, W: Write>(alloc: Global, reader: &mut R, writer: &mut W) -> Status
+/// the column and the name of the cell's first fault. Of a text longer than a cell's may be no more is
+/// kept than of the longest cell.
+/// Nothing is written before all is read.
+pub fn run_asm<R: Inlet, W: Outlet>(alloc: Global, reader: &mut R, writer: &mut W) -> Status
     // For every input that the reader has: the text and the status of that input, or a front of
     // the text where it ran out of memory or a read or a write failed.
-    ensures { IfSome (R.remaining reader.old) (λ input.
+    ensures answers { IfSome (R.left reader.old) (λ input.
         Answers (asm_status input) (asm_text input) result
-        (W.contents writer.old) (W.contents writer.new)) }
+        (W.taken writer.old) (W.taken writer.new)) }
+    // It answers that a read or a write failed where one did, or where the input didn't end, and only
+    // there: any other status says that none failed.
+    ensures blame { IfFailed result
+        ((R.failed reader.new ≡ true) ⊎ (W.failed writer.new ≡ true) ⊎ IsEndless (R.left reader.old))
+        ((R.failed reader.new ≡ R.failed reader.old)
+        × (W.failed writer.new ≡ W.failed writer.old)) }
 {
     match asm_report(alloc, reader) {
         Ok(report) => deliver(writer, &report),
@@ -56,23 +64,39 @@ pub fn run_asm<R: Read, W: Write>(alloc: Global, reader: &mut R, writer: &mut W)
     }
 }
 
-fn asm_report<R: Read>(alloc: Global, reader: &mut R) -> Result<Report, Status>
-    ensures report { IfSome (R.remaining reader.old) (λ input.
+fn asm_report<R: Inlet>(alloc: Global, reader: &mut R) -> Result<Report, Status>
+    ensures report { IfSome (R.left reader.old) (λ input.
         IfOk result (λ report. IsReport report (asm_status input) (asm_text input))) }
     ensures failure { IfErr result IsFailure }
+    ensures blame { MatchResult result
+        (λ _. R.failed reader.new ≡ R.failed reader.old)
+        (λ status. IfFailed status
+        ((R.failed reader.new ≡ true) ⊎ IsEndless (R.left reader.old))
+        (R.failed reader.new ≡ R.failed reader.old)) }
 {
-    let bytes = read_all(alloc, reader)?;
-    input_report(alloc, &bytes).map_err(|_| Status::OutOfMemory)
+    match read_text(alloc, MOST_BYTES, reader) {
+        Ok(text) => text_report(alloc, text).map_err(|_| Status::OutOfMemory),
+        Err(fault) => text_refusal(alloc, fault),
+    }
 }
 
-fn input_report(alloc: Global, bytes: &[u8]) -> Result<Report, AllocError>
-    ensures { IfOk result (λ report.
-        IsReport report (asm_status bytes.now) (asm_text bytes.now)) }
+/// The report of an input that is a text; none was kept where it is longer than a cell's may be.
+fn text_report(alloc: Global, text: Option<String>) -> Result<Report, AllocError>
+    ensures { IfOk result (λ report. (input : List ℕ) → IsText MOST_BYTES (Ok text) input
+        → IsReport report (asm_status input) (asm_text input)) }
 {
-    match decoded(bytes) {
-        Some(text) => cell_report(alloc, text),
-        None => refusal(alloc, "bad text\n"),
+    match text {
+        Some(text) => cell_report(alloc, text.as_str()),
+        None => long_report(alloc),
     }
+}
+
+/// The report of a text that is longer than a cell's may be.
+fn long_report(alloc: Global) -> Result<Report, AllocError>
+    ensures { IfOk result (λ report.
+        IsReport report Status.Refused (fault_line 1 1 (fault_name FaultKind.TooLong))) }
+{
+    fault_report(alloc, 1, 1, name_of(FaultKind::TooLong))
 }
 
 /// The report of what a cell gives, or of its first fault.
@@ -157,17 +181,6 @@ fn fault_report(alloc: Global, line: usize, column: usize, name: &str) -> Result
         is_refused: true,
         text,
     })
-}
-
-/// The text whose UTF-8 the bytes are, if they are any.
-fn decoded(bytes: &[u8]) -> Option<&str>
-    ensures { option_map (λ text. text.now) result
-        ≡ (if is_utf8 bytes.now then Some bytes.now else None) }
-{
-    match str::from_utf8(bytes) {
-        Ok(text) => Some(text),
-        Err(_) => None,
-    }
 }
 
 /// The name of what is wrong, which is how it is displayed.

@@ -1,6 +1,6 @@
-// The engines of the program's words, each over any reader and any writer: what it writes is the
+// The engines of the program's words, each over any inlet and any outlet: what it writes is the
 // stated text of what it reads (StepText.antt, AsmText.antt, DisText.antt), or a front of it, where it
-// answers that it ran out of memory or that a read or a write failed.
+// answers that it ran out of memory, or that a read or a write failed, which it answers where one did.
 // `run_step` and `run_asm` run a program on a computer of their own, a machine with its devices, up to
 // its end or a limit of steps; `run_dis` lists bytes.
 #![tactic(auto)]

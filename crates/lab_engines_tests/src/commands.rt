@@ -1,6 +1,8 @@
 //! What the words of the command line ask for, the exit numbers, and a writer that can't be flushed.
+use base_streams::std_io::{StdInlet, StdOutlet};
 use lab_engines::command::{Command, read_command};
 use lab_engines::step::run_step;
+use lab_io::report::flushed;
 use lab_io::status::Status;
 use std::alloc::{AllocError, Global};
 use std::io;
@@ -71,7 +73,9 @@ impl Write for Unflushed {
 
 #[test]
 fn a_writer_that_cannot_be_flushed_has_failed(rt: HostRuntime) {
-    let mut input = b"76".as_slice();
-    let status = run_step(rt.alloc(), &mut input, &mut Unflushed);
-    assert!(rt; status == Status::Failed);
+    let mut input = StdInlet::new(b"76".as_slice());
+    let mut output = StdOutlet::new(Unflushed);
+    let status = run_step(rt.alloc(), &mut input, &mut output);
+    assert!(rt; status == Status::Success);
+    assert!(rt; flushed(status, &mut output.into_inner()) == Status::Failed);
 }

@@ -143,8 +143,8 @@ const REFUSALS: [(Word, &str, &str); 24] = [
 #[test]
 fn each_input_has_its_text(rt: HostRuntime) {
     for (word, input, text) in ANSWERS {
-        let mut written = Vec::new(rt.alloc());
-        let status = word.run(rt.alloc(), &mut input.as_bytes(), &mut written);
+        let written = Vec::new(rt.alloc());
+        let (status, written) = word.run(rt.alloc(), input.as_bytes(), written);
         assert_eq!(rt; status, Status::Success, "{input}");
         assert_eq!(rt; written.as_slice(), text.as_bytes(), "{input}");
     }
@@ -153,8 +153,8 @@ fn each_input_has_its_text(rt: HostRuntime) {
 #[test]
 fn a_refused_input_has_one_line(rt: HostRuntime) {
     for (word, input, line) in REFUSALS {
-        let mut written = Vec::new(rt.alloc());
-        let status = word.run(rt.alloc(), &mut input.as_bytes(), &mut written);
+        let written = Vec::new(rt.alloc());
+        let (status, written) = word.run(rt.alloc(), input.as_bytes(), written);
         assert_eq!(rt; status, Status::Refused, "{input}");
         assert_eq!(rt; written.as_slice(), line.as_bytes(), "{input}");
     }
@@ -163,8 +163,8 @@ fn a_refused_input_has_one_line(rt: HostRuntime) {
 #[test]
 fn what_is_not_utf8_is_bad_text(rt: HostRuntime) {
     for input in [b"\xff", b"\x80", b"\xc3"] {
-        let mut written = Vec::new(rt.alloc());
-        let status = Word::Asm.run(rt.alloc(), &mut input.as_slice(), &mut written);
+        let written = Vec::new(rt.alloc());
+        let (status, written) = Word::Asm.run(rt.alloc(), input.as_slice(), written);
         assert_eq!(rt; status, Status::Refused);
         assert_eq!(rt; written.as_slice(), b"bad text\n".as_slice());
     }
@@ -173,7 +173,7 @@ fn what_is_not_utf8_is_bad_text(rt: HostRuntime) {
 /// A word, a piece of input and how often it comes, what follows; the answer's status, how many lines
 /// it has, and how it ends.
 #[rattlefmt::skip]
-const LONG: [(Word, &[u8], u32, &[u8], Status, usize, &str); 12] = [
+const LONG: [(Word, &[u8], u32, &[u8], Status, usize, &str); 17] = [
     (
         Word::Step,
         b"",
@@ -240,6 +240,15 @@ const LONG: [(Word, &[u8], u32, &[u8], Status, usize, &str); 12] = [
     (
         Word::Asm,
         b";",
+        1_048_576,
+        b"",
+        Status::Success,
+        0,
+        "",
+    ),
+    (
+        Word::Asm,
+        b";",
         1_048_577,
         b"",
         Status::Refused,
@@ -251,6 +260,43 @@ const LONG: [(Word, &[u8], u32, &[u8], Status, usize, &str); 12] = [
         b";",
         1_048_577,
         b"\xff",
+        Status::Refused,
+        1,
+        "bad text\n",
+    ),
+    // Characters of three bytes, which pieces cut.
+    (
+        Word::Asm,
+        b"\xe2\x82\xac",
+        349_526,
+        b"",
+        Status::Refused,
+        1,
+        "1:1 TooLong\n",
+    ),
+    (
+        Word::Asm,
+        b"\xe2\x82\xac",
+        349_526,
+        b"\xe2\x82",
+        Status::Refused,
+        1,
+        "bad text\n",
+    ),
+    (
+        Word::Asm,
+        b"\xe2\x82\xac",
+        349_526,
+        b"\xed\xa0\x80",
+        Status::Refused,
+        1,
+        "bad text\n",
+    ),
+    (
+        Word::Asm,
+        b"\xff",
+        1,
+        b"",
         Status::Refused,
         1,
         "bad text\n",
@@ -284,6 +330,11 @@ const LONG: [(Word, &[u8], u32, &[u8], Status, usize, &str); 12] = [
     ),
 ];
 
+// 128 bytes of input, which are blanks, and which are bytes of a program.
+const BLANKS: [u8; 128] = [b' '; 128];
+
+const NOPS: [u8; 128] = [b'0'; 128];
+
 fn repeated(alloc: Global, piece: &[u8], count: u32, tail: &[u8]) -> Result<Vec<u8>, AllocError> {
     let mut bytes = Vec::new(alloc);
     for _ in 0..count {
@@ -293,16 +344,93 @@ fn repeated(alloc: Global, piece: &[u8], count: u32, tail: &[u8]) -> Result<Vec<
     Ok(bytes)
 }
 
+fn is_answered(
+    alloc: Global,
+    row: (Word, &[u8], u32, &[u8], Status, usize, &str),
+) -> Result<bool, AllocError> {
+    let (word, piece, count, tail, status, lines, end) = row;
+    let input = repeated(alloc, piece, count, tail)?;
+    let (answer, written) = word.run(alloc, input.as_slice(), Vec::new(alloc));
+    let ends = written.iter().filter(|byte| **byte == b'\n').count();
+    Ok(answer == status && ends == lines && written.ends_with(end.as_bytes()))
+}
+
 #[test]
 fn long_inputs_are_answered_up_to_their_limits(rt: HostRuntime) -> Result<(), Fail> {
-    for (word, piece, count, tail, status, lines, end) in LONG {
-        let input = repeated(rt.alloc(), piece, count, tail)?;
-        let mut written = Vec::new(rt.alloc());
-        let answer = word.run(rt.alloc(), &mut input.as_slice(), &mut written);
-        assert_eq!(rt; answer, status, "{end}");
-        let ends = written.iter().filter(|byte| **byte == b'\n').count();
-        assert_eq!(rt; ends, lines, "{end}");
-        assert!(rt; written.ends_with(end.as_bytes()), "{end}");
+    for row in LONG {
+        assert!(rt; is_answered(rt.alloc(), row)?, "{row:?}");
+    }
+    Ok(())
+}
+
+#[test]
+fn blanks_of_five_mebibytes_are_passed_over(rt: HostRuntime) -> Result<(), Fail> {
+    let end = "PC=0001 A=00 F=02 B=00 C=00 D=00 E=00 H=00 L=00 SP=0000\nhalted\n";
+    let row = (
+        Word::Step,
+        BLANKS.as_slice(),
+        40_960,
+        b"76".as_slice(),
+        Status::Success,
+        2,
+        end,
+    );
+    assert!(rt; is_answered(rt.alloc(), row)?);
+    Ok(())
+}
+
+#[test]
+fn bytes_of_five_mebibytes_are_past_the_end(rt: HostRuntime) -> Result<(), Fail> {
+    let row = (
+        Word::Step,
+        NOPS.as_slice(),
+        40_960,
+        b"".as_slice(),
+        Status::Refused,
+        1,
+        "past end\n",
+    );
+    assert!(rt; is_answered(rt.alloc(), row)?);
+    let row = (
+        Word::Step,
+        NOPS.as_slice(),
+        40_960,
+        b"0".as_slice(),
+        Status::Refused,
+        1,
+        "bad hex\n",
+    );
+    assert!(rt; is_answered(rt.alloc(), row)?);
+    Ok(())
+}
+
+// The reader would fail behind the first byte that no text has there.
+#[test]
+fn bad_text_past_the_limit_is_told_at_once(rt: HostRuntime) -> Result<(), Fail> {
+    for (tail, status) in [
+        (b";".as_slice(), Status::Failed),
+        (b"\xe2\x82", Status::Failed),
+        (b"\xff", Status::Refused),
+        (b"\xe2\x28", Status::Refused),
+        (b"\xe0\x9f", Status::Refused),
+        (b"\xf4\x90", Status::Refused),
+    ] {
+        let input = repeated(rt.alloc(), b";", 1_048_577, tail)?;
+        let reader = Slow {
+            rest: input.as_slice(),
+            piece: 4096,
+            is_interrupted: false,
+            fails: true,
+        };
+        let written = Vec::new(rt.alloc());
+        let (answer, written) = Word::Asm.run(rt.alloc(), reader, written);
+        assert_eq!(rt; answer, status);
+        let line = if status == Status::Refused {
+            "bad text\n"
+        } else {
+            ""
+        };
+        assert_eq!(rt; written.as_slice(), line.as_bytes());
     }
     Ok(())
 }
@@ -315,14 +443,14 @@ fn pieces_and_interruptions_change_nothing(rt: HostRuntime) {
         (AT_100H, BYTES, LISTING),
     ] {
         for piece in [1usize, 2, 7, 4096] {
-            let mut reader = Slow {
+            let reader = Slow {
                 rest: input.as_bytes(),
                 piece,
                 is_interrupted: false,
                 fails: false,
             };
-            let mut written = Vec::new(rt.alloc());
-            let status = word.run(rt.alloc(), &mut reader, &mut written);
+            let written = Vec::new(rt.alloc());
+            let (status, written) = word.run(rt.alloc(), reader, written);
             assert_eq!(rt; status, Status::Success, "{piece}");
             assert_eq!(rt; written.as_slice(), text.as_bytes(), "{piece}");
         }
@@ -338,14 +466,14 @@ fn a_failed_read_writes_nothing(rt: HostRuntime) {
         (Word::Asm, ""),
         (AT_100H, BYTES),
     ] {
-        let mut reader = Slow {
+        let reader = Slow {
             rest: input.as_bytes(),
             piece: 2,
             is_interrupted: false,
             fails: true,
         };
-        let mut written = Vec::new(rt.alloc());
-        let status = word.run(rt.alloc(), &mut reader, &mut written);
+        let written = Vec::new(rt.alloc());
+        let (status, written) = word.run(rt.alloc(), reader, written);
         assert_eq!(rt; status, Status::Failed, "{input}");
         assert!(rt; written.is_empty(), "{input}");
     }
@@ -374,11 +502,11 @@ const ROOMS: [(Word, &str, &str, usize); 16] = [
 #[test]
 fn a_failed_write_leaves_a_front_of_the_text(rt: HostRuntime) {
     for (word, input, text, room) in ROOMS {
-        let mut writer = Narrow {
+        let writer = Narrow {
             bytes: Vec::new(rt.alloc()),
             room,
         };
-        let status = word.run(rt.alloc(), &mut input.as_bytes(), &mut writer);
+        let (status, writer) = word.run(rt.alloc(), input.as_bytes(), writer);
         let wanted = if room == text.len() {
             Status::Success
         } else {

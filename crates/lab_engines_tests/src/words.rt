@@ -1,4 +1,5 @@
 //! The words of the program, so that tables can name them.
+use base_streams::std_io::{StdInlet, StdOutlet};
 use lab_engines::asm::run_asm;
 use lab_engines::dis::run_dis;
 use lab_engines::step::run_step;
@@ -15,12 +16,20 @@ pub enum Word {
 }
 
 impl Word {
-    /// Runs the word's engine.
-    pub fn run<R: Read, W: Write>(self, alloc: Global, reader: &mut R, writer: &mut W) -> Status {
-        match self {
-            Word::Step => run_step(alloc, reader, writer),
-            Word::Asm => run_asm(alloc, reader, writer),
-            Word::Dis(origin) => run_dis(alloc, origin, reader, writer),
-        }
+    /// Runs the word's engine, and gives its status and the writer.
+    pub fn run<R: Read + Drop, W: Write + Drop>(
+        self,
+        alloc: Global,
+        reader: R,
+        writer: W,
+    ) -> (Status, W) {
+        let mut from = StdInlet::new(reader);
+        let mut to = StdOutlet::new(writer);
+        let status = match self {
+            Word::Step => run_step(alloc, &mut from, &mut to),
+            Word::Asm => run_asm(alloc, &mut from, &mut to),
+            Word::Dis(origin) => run_dis(alloc, origin, &mut from, &mut to),
+        };
+        (status, to.into_inner())
     }
 }

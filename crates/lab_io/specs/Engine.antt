@@ -1,22 +1,17 @@
 -- What every engine promises of what it writes.
-use Rattle.std.specs.Prelude.{◌≡◌, ℕ, List, Option, Bool, take, if◌then◌else◌}
-use Rattle.std.specs.Io.KnownBytes.{Appends}
+use Rattle.std.specs.Prelude.{◌≡◌, ℕ, List, Option, Bool, if◌then◌else◌}
+use Rattle.base_streams.specs.Told.{Told, ToldFront}
 use Rattle.lab_io.specs.declared.status.Status.{Status}
 use Rattle.lab_io.specs.declared.status.Status.TheVariants.{Success, Refused, Usage, OutOfMemory, Failed}
-
--- a front of the text, which may be all of it, was written
-pub record WritesFront (text : List ℕ) (old new : Option (List ℕ)) : Type 0 where
-  pub count : ℕ
-  pub written : Appends old new (take count text)
 
 -- The status is the text's and all of the text was written; where it ran out of memory or a read or a write failed,
 -- a front of it.
 abbrev pub Answers : Status → List ℕ → Status → Option (List ℕ) → Option (List ℕ) → Type 0
-Answers status text Success old new = (status ≡ Success) × Appends old new text
-Answers status text Refused old new = (status ≡ Refused) × Appends old new text
+Answers status text Success old new = (status ≡ Success) × Told old new text
+Answers status text Refused old new = (status ≡ Refused) × Told old new text
 Answers status text Usage old new = ⊥
-Answers status text OutOfMemory old new = WritesFront text old new
-Answers status text Failed old new = WritesFront text old new
+Answers status text OutOfMemory old new = ToldFront old new text
+Answers status text Failed old new = ToldFront old new text
 
 abbrev pub answered : Bool → Status
 answered is_refused = if is_refused then Refused else Success
@@ -27,6 +22,14 @@ IsFailure Refused = ⊥
 IsFailure Usage = ⊥
 IsFailure OutOfMemory = Unit {0}
 IsFailure Failed = Unit {0}
+
+-- the one where the status is that a read or a write failed, else the other
+abbrev pub IfFailed : Status → Type 0 → Type 0 → Type 0
+IfFailed Failed some none = some
+IfFailed Success some none = none
+IfFailed Refused some none = none
+IfFailed Usage some none = none
+IfFailed OutOfMemory some none = none
 
 -- the program exits with 0, with 1 for refused input, with 2 for a wrong command line, with 3 where it ran out
 -- of memory and with 4 where a read or a write failed

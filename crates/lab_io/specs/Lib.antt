@@ -3,3 +3,4 @@ pub mod HexState
 pub mod Engine
 pub mod Report
 pub mod Streams
+pub mod TextState

@@ -5,15 +5,17 @@ use Rattle.lab_io.specs.Engine.{answered}
 use Rattle.lab_io.specs.HexInput.{Input, BadHex, PastEnd, Bytes}
 use Rattle.lab_io.specs.declared.hex_input.HexFault.{HexFault}
 use Rattle.lab_io.specs.declared.hex_input.HexFault.TheVariants as fault
+use Rattle.lab_io.specs.declared.text_input.TextFault.{TextFault}
+use Rattle.lab_io.specs.declared.text_input.TextFault.TheVariants as text
 use Rattle.lab_io.specs.declared.report.Report.{Report}
-use Rattle.lab_io.specs.declared.status.Status.TheVariants.{Refused}
+use Rattle.lab_io.specs.declared.status.Status.TheVariants.{Refused, OutOfMemory, Failed}
 
 pub record IsReport (report : Report) (status : Status) (text : List ℕ) : Type 0 where
   pub status_is : answered report.is_refused ≡ status
   pub text_is : string_bytes report.text ≡ text
 
 abbrev pub line : List ℕ → List ℕ
-line text = text ++ 10 ∷ []
+line words = words ++ 10 ∷ []
 
 -- refused hexadecimal input has a line; out of memory and a failed read have none
 abbrev pub Refuses : HexFault → Report → Type 0
@@ -21,6 +23,24 @@ Refuses fault.BadHex report = IsReport report Refused (line (codes "bad hex"))
 Refuses fault.PastEnd report = IsReport report Refused (line (codes "past end"))
 Refuses fault.OutOfMemory report = ⊥
 Refuses fault.Read report = ⊥
+
+-- the status in place of a report: a failed read is reported as one, and nothing else is
+abbrev pub IsToldBy : HexFault → Status → Type 0
+IsToldBy fault.Read status = status ≡ Failed
+IsToldBy fault.BadHex status = status ≡ OutOfMemory
+IsToldBy fault.PastEnd status = status ≡ OutOfMemory
+IsToldBy fault.OutOfMemory status = status ≡ OutOfMemory
+
+-- the same of refused text
+abbrev pub RefusesText : TextFault → Report → Type 0
+RefusesText text.BadText report = IsReport report Refused (line (codes "bad text"))
+RefusesText text.OutOfMemory report = ⊥
+RefusesText text.Read report = ⊥
+
+abbrev pub IsToldByText : TextFault → Status → Type 0
+IsToldByText text.Read status = status ≡ Failed
+IsToldByText text.BadText status = status ≡ OutOfMemory
+IsToldByText text.OutOfMemory status = status ≡ OutOfMemory
 
 -- the text of an input: bytes have their own, refused input has its line
 abbrev pub text_for : (List ℕ → List ℕ) → Input → List ℕ

@@ -1,10 +1,32 @@
 -- What was found in all that a reader had.
-use Rattle.std.specs.Prelude.{◌≡◌, ℕ, List, Result, Ok, Err}
+use Rattle.std.specs.Prelude.{◌≡◌, ◌≤◌, ℕ, List, length, Option, IfSome, Result, Ok, Err}
 use Rattle.std.specs.Global.{Vec}
 use Rattle.lab_io.specs.HexInput.{input_of, BadHex, PastEnd, Bytes}
 use Rattle.lab_io.specs.HexState.{HexState, StandsFor}
 use Rattle.lab_io.specs.declared.hex_input.HexFault.{HexFault}
 use Rattle.lab_io.specs.declared.hex_input.HexFault.TheVariants as fault
+use Rattle.lab_io.specs.declared.text_input.TextFault.{TextFault}
+use Rattle.lab_io.specs.declared.text_input.TextFault.TheVariants as text
+
+-- a reader is asked no more often
+unfoldable pub most_reads : ℕ
+most_reads = 4294967295
+
+-- so many reads, of which each gave a byte at least, didn't come to the end of the input, if that is known
+abbrev pub IsEndless : Option (List ℕ) → Type 0
+IsEndless left = IfSome left (λ input. most_reads ≤ length input)
+
+-- the one where the fault is that a read failed, else the other
+abbrev pub IfReadFailed : HexFault → Type 0 → Type 0 → Type 0
+IfReadFailed fault.Read some none = some
+IfReadFailed fault.BadHex some none = none
+IfReadFailed fault.PastEnd some none = none
+IfReadFailed fault.OutOfMemory some none = none
+
+abbrev pub IfTextFailed : TextFault → Type 0 → Type 0 → Type 0
+IfTextFailed text.Read some none = some
+IfTextFailed text.BadText some none = none
+IfTextFailed text.OutOfMemory some none = none
 
 -- the digits of an input, or that one of its characters is bad
 abbrev pub IsReading : Result HexState HexFault → List ℕ → Type 0

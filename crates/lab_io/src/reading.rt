@@ -1,14 +1,16 @@
 //! Reading all that a reader has: hexadecimal text as the bytes that it means, or bytes as they are.
-ghost use Rattle.std.specs.Prelude.{◌≡◌, ◌<◌, IfSome, IfOk, IfErr, length, vec_len};
-ghost use Rattle.lab_io.specs.Engine.{IsFailure};
-ghost use Rattle.lab_io.specs.Streams.{IsReading, IsHex};
+ghost use Rattle.std.specs.Prelude.{◌≡◌, ◌<◌, ◌⊎◌, true, [], IfSome, IfOk, IfErr, MatchResult, length, vec_len};
+ghost use Rattle.lab_io.specs.Engine.{IsFailure, IfFailed};
+ghost use Rattle.lab_io.specs.Streams.{IsReading, IsHex, IsEndless, IfReadFailed, IfTextFailed};
+ghost use Rattle.lab_io.specs.TextState.{StandsFor, IsText, IsTextReading};
 
 pub use crate::hex_input::HexFault;
 use crate::hex_input::{HexInput, paired};
 use crate::status::Status;
-use base_streams::std_io::read_some;
+pub use crate::text_input::TextFault;
+use crate::text_input::TextInput;
+use base_streams::ports::Inlet;
 use std::alloc::{AllocError, Global};
-use std::io::Read;
 
 /// How many bytes are asked for at a time.
 const PIECE_SIZE: usize = 4096;
@@ -21,8 +23,15 @@ fn new_buffer(alloc: Global) -> Result<Vec<u8>, AllocError>
 
 /// Reads hexadecimal text to its end, piece by piece, and gives the bytes that it means. What
 /// follows a character that is neither a digit nor a blank isn't read.
-pub fn read_hex<R: Read>(alloc: Global, reader: &mut R) -> Result<Vec<u8>, HexFault>
-    ensures { IfSome (R.remaining reader.old) (IsHex result) }
+pub fn read_hex<R: Inlet>(alloc: Global, reader: &mut R) -> Result<Vec<u8>, HexFault>
+    ensures bytes { IfSome (R.left reader.old) (IsHex result) }
+    // A failed read is reported where one failed, or where the input didn't end; any other answer says
+    // that none failed.
+    ensures blame { MatchResult result
+        (λ _. R.failed reader.new ≡ R.failed reader.old)
+        (λ fault. IfReadFailed fault
+        ((R.failed reader.new ≡ true) ⊎ IsEndless (R.left reader.old))
+        (R.failed reader.new ≡ R.failed reader.old)) }
 {
     let mut buffer = new_buffer(alloc)?;
     let input = read_digits(alloc, reader, &mut buffer)?;
@@ -32,17 +41,22 @@ pub fn read_hex<R: Read>(alloc: Global, reader: &mut R) -> Result<Vec<u8>, HexFa
     }
 }
 
-fn read_digits<R: Read>(
+fn read_digits<R: Inlet>(
     alloc: Global,
     reader: &mut R,
     buffer: &mut [u8],
 ) -> Result<HexInput, HexFault>
     requires { 0 < length buffer.old }
-    ensures { IfSome (R.remaining reader.old) (IsReading result) }
+    ensures digits { IfSome (R.left reader.old) (IsReading result) }
+    ensures blame { MatchResult result
+        (λ _. R.failed reader.new ≡ R.failed reader.old)
+        (λ fault. IfReadFailed fault
+        ((R.failed reader.new ≡ true) ⊎ IsEndless (R.left reader.old))
+        (R.failed reader.new ≡ R.failed reader.old)) }
 {
     let mut input = HexInput::new(alloc);
-    for _ in 0..u32::MAX {
-        match read_some(reader, buffer) {
+    for reads in 0..u32::MAX {
+        match reader.read(buffer) {
             Ok(0) => return Ok(input),
             Ok(count) => {
                 let (piece, _) = buffer.split_at(count);
@@ -58,19 +72,83 @@ fn read_digits<R: Read>(
     Err(HexFault::Read)
 }
 
-/// Reads all bytes to the end, piece by piece. An `Err` reports that it ran out of memory, that a
-/// read failed, or that 4,294,967,295 reads didn't come to the end.
-pub fn read_all<R: Read>(alloc: Global, reader: &mut R) -> Result<Vec<u8>, Status>
-    ensures all { IfSome (R.remaining reader.old) (λ input.
+/// Reads text to its end, piece by piece: the text, or none where it is longer than so many bytes. Past
+/// those nothing is kept, and what isn't UTF-8 is reported at the first byte that shows it.
+pub fn read_text<R: Inlet>(
+    alloc: Global,
+    limit: usize,
+    reader: &mut R,
+) -> Result<Option<String>, TextFault>
+    ensures text { IfSome (R.left reader.old) (IsText limit result) }
+    // A failed read is reported where one failed, or where the input didn't end; any other answer says
+    // that none failed.
+    ensures blame { MatchResult result
+        (λ _. R.failed reader.new ≡ R.failed reader.old)
+        (λ fault. IfTextFailed fault
+        ((R.failed reader.new ≡ true) ⊎ IsEndless (R.left reader.old))
+        (R.failed reader.new ≡ R.failed reader.old)) }
+{
+    let Ok(mut buffer) = new_buffer(alloc) else {
+        return Err(TextFault::OutOfMemory);
+    };
+    let input = TextInput::new(alloc, limit);
+    match read_pieces(reader, &mut buffer, input)?.into_text() {
+        Ok(text) => Ok(text),
+        Err(fault) => Err(fault),
+    }
+}
+
+fn read_pieces<R: Inlet>(
+    reader: &mut R,
+    buffer: &mut [u8],
+    mut input: TextInput,
+) -> Result<TextInput, TextFault>
+    requires buffer { 0 < length buffer.old }
+    requires input { StandsFor input [] }
+    ensures limit { IfOk result (λ read. read.limit ≡ input.limit) }
+    ensures text { IfSome (R.left reader.old) (IsTextReading result) }
+    ensures blame { MatchResult result
+        (λ _. R.failed reader.new ≡ R.failed reader.old)
+        (λ fault. IfTextFailed fault
+        ((R.failed reader.new ≡ true) ⊎ IsEndless (R.left reader.old))
+        (R.failed reader.new ≡ R.failed reader.old)) }
+{
+    for reads in 0..u32::MAX {
+        match reader.read(buffer) {
+            Ok(0) => return Ok(input),
+            Ok(count) => {
+                let (piece, _) = buffer.split_at(count);
+                match input.feed(piece) {
+                    Ok(()) => continue,
+                    Err(TextFault::BadText) => return Err(TextFault::BadText),
+                    Err(_) => return Err(TextFault::OutOfMemory),
+                }
+            }
+            Err(_) => return Err(TextFault::Read),
+        }
+    }
+    Err(TextFault::Read)
+}
+
+/// Reads all bytes to the end, piece by piece.
+pub fn read_all<R: Inlet>(alloc: Global, reader: &mut R) -> Result<Vec<u8>, Status>
+    ensures all { IfSome (R.left reader.old) (λ input.
         IfOk result (λ bytes. bytes.items ≡ input)) }
     ensures failure { IfErr result IsFailure }
+    // A failed read is reported where one failed, or where the input didn't end; any other answer says
+    // that none failed.
+    ensures blame { MatchResult result
+        (λ _. R.failed reader.new ≡ R.failed reader.old)
+        (λ status. IfFailed status
+        ((R.failed reader.new ≡ true) ⊎ IsEndless (R.left reader.old))
+        (R.failed reader.new ≡ R.failed reader.old)) }
 {
     let Ok(mut buffer) = new_buffer(alloc) else {
         return Err(Status::OutOfMemory);
     };
     let mut bytes = Vec::new(alloc);
-    for _ in 0..u32::MAX {
-        match read_some(reader, &mut buffer) {
+    for reads in 0..u32::MAX {
+        match reader.read(&mut buffer) {
             Ok(0) => return Ok(bytes),
             Ok(count) => {
                 let (piece, _) = buffer.split_at(count);

@@ -1,13 +1,13 @@
 //! What an engine has to say, and its way to the writer.
-ghost use Rattle.std.specs.Prelude.{◌≡◌, IfOk, IfErr, OnOk, OnErr, string_bytes};
-ghost use Rattle.std.specs.Io.KnownBytes.{Appends};
-ghost use Rattle.lab_io.specs.Engine.{Answers, answered, WritesFront, IsFailure};
-ghost use Rattle.lab_io.specs.Report.{IsReport, Refuses};
+ghost use Rattle.std.specs.Prelude.{◌≡◌, ◌⊎◌, true, IfOk, IfErr, string_bytes};
+ghost use Rattle.std.specs.Io.KnownBytes.{Keeps};
+ghost use Rattle.lab_io.specs.Engine.{Answers, answered, IfFailed};
+ghost use Rattle.lab_io.specs.Report.{IsReport, Refuses, RefusesText, IsToldBy, IsToldByText};
 
-use crate::reading::HexFault;
+use crate::reading::{HexFault, TextFault};
 use crate::status::Status;
-use base_streams::ports::IoFault;
-use base_streams::std_io::write_some;
+use base_streams::ports::Outlet;
+use base_streams::writing::write_all;
 use std::alloc::{AllocError, Global};
 use std::io::Write;
 
@@ -32,7 +32,7 @@ pub fn refusal(alloc: Global, line: &str) -> Result<Report, AllocError>
 /// The report that hexadecimal input is refused; or the status, where there is no more to say.
 pub fn hex_refusal(alloc: Global, fault: HexFault) -> Result<Report, Status>
     ensures report { IfOk result (Refuses fault) }
-    ensures failure { IfErr result IsFailure }
+    ensures failure { IfErr result (IsToldBy fault) }
 {
     match fault {
         HexFault::BadHex => refusal(alloc, "bad hex\n").map_err(|_| Status::OutOfMemory),
@@ -42,34 +42,43 @@ pub fn hex_refusal(alloc: Global, fault: HexFault) -> Result<Report, Status>
     }
 }
 
-fn write_text<W: Write>(writer: &mut W, text: &[u8]) -> Result<(), IoFault>
-    ensures ok { OnOk result (Appends (W.contents writer.old) (W.contents writer.new) text.now) }
-    ensures err { OnErr result (WritesFront text.now (W.contents writer.old) (W.contents writer.new)) }
+/// The report that text is refused; or the status, where there is no more to say.
+pub fn text_refusal(alloc: Global, fault: TextFault) -> Result<Report, Status>
+    ensures report { IfOk result (RefusesText fault) }
+    ensures failure { IfErr result (IsToldByText fault) }
 {
-    let mut rest = text;
-    while !rest.is_empty() {
-        match write_some(writer, rest) {
-            Ok(count) => rest = rest.split_at(count).1,
-            Err(fault) => return Err(fault),
-        }
+    match fault {
+        TextFault::BadText => refusal(alloc, "bad text\n").map_err(|_| Status::OutOfMemory),
+        TextFault::OutOfMemory => Err(Status::OutOfMemory),
+        TextFault::Read => Err(Status::Failed),
     }
-    Ok(())
 }
 
 /// Writes the report's text, and answers its status where that went well.
-pub fn deliver<W: Write>(writer: &mut W, report: &Report) -> Status
-    ensures { Answers (answered report.now.is_refused) (string_bytes report.now.text) result
-        (W.contents writer.old) (W.contents writer.new) }
+pub fn deliver<W: Outlet>(writer: &mut W, report: &Report) -> Status
+    ensures answers { Answers (answered report.now.is_refused) (string_bytes report.now.text) result
+        (W.taken writer.old) (W.taken writer.new) }
+    ensures blame { IfFailed result
+        (W.failed writer.new ≡ true)
+        (W.failed writer.new ≡ W.failed writer.old) }
 {
-    if write_text(writer, report.text.as_bytes()).is_err() {
-        return Status::Failed;
-    }
-    if writer.flush().is_err() {
+    if write_all(writer, report.text.as_bytes()).is_err() {
         return Status::Failed;
     }
     if report.is_refused {
         Status::Refused
     } else {
         Status::Success
+    }
+}
+
+/// The status after a writer has written out what it kept back: where it can't, the write has failed.
+pub fn flushed<W: Write>(status: Status, writer: &mut W) -> Status
+    ensures status { (result ≡ status) ⊎ (result ≡ Status.Failed) }
+    ensures kept { Keeps (W.contents writer.old) (W.contents writer.new) }
+{
+    match writer.flush() {
+        Ok(()) => status,
+        Err(_) => Status::Failed,
     }
 }
