@@ -178,6 +178,7 @@ impl Devices {
     }
 
     /// The request that is latched: n of 0 to 7, for RST n.
+    #[inline]
     pub fn request(&self) -> Option<u8>
         ensures value { (past : List Operation) → StandsFor self.now past
             → result ≡ (panel_after past).latched }

@@ -105,6 +105,7 @@ impl Panel {
         self.lamps = byte;
     }
 
+    #[inline]
     pub fn latched(&self) -> Option<u8>
         ensures value { result ≡ self.now.latched }
         ensures vector { IfSome result (λ n. n ≤ 7) }

@@ -239,6 +239,25 @@ fn refuses_what_is_no_json_or_no_header(rt: HostRuntime) -> Result<(), Fail> {
     Ok(())
 }
 
+// A header whose msg_id has so many bytes.
+fn header_with_id_of(alloc: Global, length: usize) -> Result<String, AllocError> {
+    let mut text = String::from_str(alloc, "{\"msg_id\":\"")?;
+    for _ in 0..length {
+        text.push('x')?;
+    }
+    text.push_str("\",\"msg_type\":\"t\",\"session\":\"s\"}")?;
+    Ok(text)
+}
+
+#[test]
+fn a_header_text_may_be_long(rt: HostRuntime) -> Result<(), Fail> {
+    for length in [300, 70_000] {
+        let header = header_with_id_of(rt.alloc(), length)?;
+        expect_unsigned(&rt, header.as_str(), "{}", None)?;
+    }
+    Ok(())
+}
+
 fn nested(alloc: Global, depth: usize) -> Result<String, AllocError> {
     let mut text = String::new(alloc);
     for _ in 0..depth {

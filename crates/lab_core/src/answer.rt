@@ -68,8 +68,18 @@ pub enum Answer {
 /// The answers to events in turn, refusals among them.
 pub type Answers = Sequence<Result<Answer, EventFault>>;
 
-/// A list of events that ended where it ran out of memory: the answers to those before.
+/// What memory was wanted for.
+#[derive(Clone, Copy, PartialEq, Eq, Debug)]
+pub enum Wanted {
+    /// Room for one more answer.
+    Answer,
+    /// The event that follows those that were answered.
+    Event,
+}
+
+/// A list of events that ended where it ran out of memory: the answers to those before, and what for.
 #[derive(Drop, Debug)]
 pub struct EventsFault {
     pub answers: Answers,
+    pub wanted: Wanted,
 }

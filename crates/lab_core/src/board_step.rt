@@ -11,6 +11,7 @@ use i80_exec::machine::Machine;
 use i80_exec::registers::Stepped;
 
 /// The acceptance of the latched request, or else the instruction at PC.
+#[inline(always)]
 pub fn board_step(machine: &mut Machine, devices: &mut Devices) -> Stepped
     requires { 1 ≤ devices.old.spare }
     ensures step { (past : List Operation) → StandsFor devices.old past
@@ -26,6 +27,7 @@ pub fn board_step(machine: &mut Machine, devices: &mut Devices) -> Stepped
 }
 
 /// Accepts the latched request, if there is one and interrupts are on.
+#[inline]
 fn accept(machine: &mut Machine, devices: &mut Devices) -> Option<Stepped>
     ensures taken { IfSome result (λ answer. (past : List Operation) → StandsFor devices.old past
         → IsBoardStep past machine.old devices.old machine.new devices.new answer) }

@@ -51,6 +51,7 @@ impl Frames {
     /// One more step, which answered so, with PC at `site` before it and SP at `sp` after it:
     /// the frames that it ends go, and the one that it makes comes.
     /// Answers how many of the frames before it are left.
+    #[inline]
     pub fn advance(&mut self, answer: Stepped, site: u16, sp: u16) -> usize
         // Both hold of each instruction and each accepted request where no live slot is below SP
         // before it (proofs/StepLemmas.antt), and `above` is that fact for the next step.
@@ -106,6 +107,7 @@ impl Frames {
 
 /// Whether a step that answered so and left SP at `sp` ends a frame of this slot: it is a return
 /// from the slot, it is a call with a slot at or above it, or it leaves SP above it.
+#[inline]
 pub fn is_ended(answer: Stepped, sp: u16, slot: u16) -> bool
     ensures { result ≡ ended_by answer sp slot }
 {
@@ -118,6 +120,7 @@ pub fn is_ended(answer: Stepped, sp: u16, slot: u16) -> bool
 }
 
 /// Since slots fall, the frames that a step ends are the newest ones.
+#[inline]
 fn pop_ended(frames: &mut Vec<Frame>, answer: Stepped, sp: u16)
     requires falls { Falls 65536 frames.old.items }
     requires returns { ReturnsBelow answer frames.old.items }
@@ -132,6 +135,7 @@ fn pop_ended(frames: &mut Vec<Frame>, answer: Stepped, sp: u16)
     }
 }
 
+#[inline]
 fn push_made(frames: &mut Vec<Frame>, answer: Stepped, site: u16)
     requires { vec_len frames.old + length (made_by answer site) ≤ vec_capacity frames.old }
     ensures pushed { frames.new.items ≡ frames.old.items ++ made_by answer site }

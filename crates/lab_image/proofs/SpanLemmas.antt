@@ -203,6 +203,13 @@ between_none first last low high (r ∷ rs) are h =
     let p = are.0 in let q = are.1 in
     rw (part_none low high r (omega arith)) (between_none r.to last low high rs are.2 (omega arith))
 
+-- where the first one begins there or beyond, they are such
+pub between_beyond : (spans : List Span) (high : ℕ) → AreSpans 0 spans 65536
+    → high ≤ (slice_index_or spans 0 no_span).from → (low : ℕ) → between low high spans ≡ []
+between_beyond [] high are h low = refl
+between_beyond (r ∷ rs) high are h low =
+    between_none r.from 65536 low high (r ∷ rs) (omega arith, are.1, are.2) (omega arith)
+
 -- nor have those that end below
 between-drop : (low high : ℕ) (spans : List Span) (i : ℕ) → ((k : ℕ) → k < i → (slice_index_or spans k no_span).to ≤ low)
     → between low high (drop i spans) ≡ between low high spans

@@ -1,5 +1,5 @@
 //! Sorted spans of addresses, each of them what is left of a row.
-ghost use Rattle.std.specs.Prelude.{◌≡◌, ◌≤◌, ◌<◌, ◌∷◌, ◌++◌, [], length, take, OnOk, IfOk, IfSome};
+ghost use Rattle.std.specs.Prelude.{◌≡◌, ◌≤◌, ◌<◌, ◌∷◌, ◌++◌, ℕ, [], length, take, IsTrue, OnOk, IfOk, IfSome};
 ghost use Rattle.lab_image.specs.Loads.{Tells};
 ghost use Rattle.lab_image.specs.Spans.{AreSpans, EndBy, between, origin_in, overlay, span_of};
 
@@ -62,11 +62,26 @@ pub(crate) fn origin_in(spans: &[Span], address: u16) -> Option<Origin>
     })
 }
 
+// Whether all of the spans lie beyond an address.
+fn lie_beyond(spans: &[Span], address: u32) -> bool
+    requires { AreSpans 0 spans.now 65536 }
+    ensures { IsTrue result → (low : ℕ) → between low address spans.now ≡ [] }
+{
+    if spans.is_empty() {
+        return true;
+    }
+    address <= spans[0].from
+}
+
 // Appends what the spans have of the addresses from `low` on and below `high`.
 fn push_between(all: &mut Vec<Span>, spans: &[Span], low: u32, high: u32) -> Result<(), AllocError>
     requires { AreSpans 0 spans.now 65536 }
     ensures { OnOk result (all.new.items ≡ all.old.items ++ between low high spans.now) }
 {
+    // New spans below all old ones need no search.
+    if lie_beyond(spans, high) {
+        return Ok(());
+    }
     let (_, rest) = spans.split_at(count_ended(spans, low));
     for span in rest {
         let from = low.max(span.from);
@@ -90,7 +105,7 @@ pub(crate) fn overlaid(alloc: Global, old: &[Span], new: &[Span]) -> Result<Vec<
     requires { AreSpans 0 old.now 65536 }
     ensures { IfOk result (λ all. all.items ≡ overlay 0 old.now new.now) }
 {
-    let mut all = Vec::new(alloc);
+    let mut all = Vec::with_capacity(alloc, old.len().saturating_add(new.len()))?;
     let mut low = 0;
     for span in new {
         push_between(&mut all, old, low, span.from)?;

@@ -15,3 +15,5 @@ mod frames;
 mod origins;
 #[cfg(test)]
 mod script;
+#[cfg(test)]
+mod size;

@@ -1,12 +1,12 @@
 //! The events of a board, one by one and in turn.
-ghost use Rattle.std.specs.Prelude.{◌≡◌, ◌<◌, ◌≤◌, ℕ, [], List, All, length, take, false, None, OnErr, IfOk, IfErr, IsTrue, ◌↔◌, Err};
+ghost use Rattle.std.specs.Prelude.{◌≡◌, ◌<◌, ◌≤◌, ℕ, [], List, All, length, take, slice_get, false, None, OnErr, IfOk, IfErr, IfSome, IsTrue, ◌↔◌, Err};
 ghost use Rattle.lab_core.specs.Board.{Board};
 ghost use Rattle.lab_core.specs.Events.{Runs, Fits, ended};
 ghost use Rattle.lab_core.specs.Memory.{MayLackMemory};
 ghost use Rattle.lab_core.specs.Given.{given, traffic_in};
 ghost use Rattle.lab_core.specs.Labs.{StandsFor, AppliesTo, Does, RunsOn};
 
-use crate::answer::{Answer, Answers, EventsFault};
+use crate::answer::{Answer, Answers, EventsFault, Wanted};
 use crate::event::Event;
 use crate::fault::EventFault;
 use crate::lab::Lab;
@@ -68,24 +68,29 @@ impl Lab {
 
     /// Events in turn, whose answers hold the refusals too. It ends where it first runs out of
     /// memory, with the answers so far; later events are not done. Room for an answer is made before its event.
+    /// Where the event itself ran out of memory, it isn't refused for another reason.
     pub fn run(&mut self, events: &[Event]) -> Result<Answers, EventsFault>
         requires { All Fits events.now }
         ensures ok { IfOk result (λ answers. RunsOn self.old events.now answers self.new) }
         ensures stopped { IfErr result (λ stopped.
             RunsOn self.old (take (length stopped.answers) events.now) stopped.answers self.new) }
         ensures fewer { IfErr result (λ stopped. length stopped.answers < length events.now) }
+        ensures wanted { IfErr result (λ stopped. stopped.wanted ≡ Wanted.Event
+            → IfSome (slice_get events.now (length stopped.answers)) (λ event. MayLackMemory event self.new)) }
     {
         let mut answers = Vec::new(self.alloc);
         for event in events {
             if answers.reserve(1).is_err() {
                 return Err(EventsFault {
                     answers: Answers::from(answers),
+                    wanted: Wanted::Answer,
                 });
             }
             let answer = self.apply(event);
             if is_out_of_memory(&answer) {
                 return Err(EventsFault {
                     answers: Answers::from(answers),
+                    wanted: Wanted::Event,
                 });
             }
             answers.push_reserved(answer);

@@ -18,36 +18,20 @@ use i80_exec::registers::Stepped;
 use lab_frames::frame::Frame;
 use lab_frames::frames::is_ended;
 
+#[inline]
 fn is_halt(answer: Stepped) -> bool
     ensures { result ≡ is_halt answer }
 {
     matches!(answer, Stepped::Halted)
 }
 
-// How many of the older frames are left after a step that leaves so many of all, while there is a Step.
-fn older_after(request: Option<StepRequest>, older: usize, left: usize) -> usize
-    ensures { IsSome request → result ≡ min older left }
+// Whether a frame that may have gone before is gone after a step that answered so and left SP there.
+fn is_gone_after(is_gone: bool, frame: Option<Frame>, answer: Stepped, sp: u16) -> bool
+    ensures { result ≡ is_gone_after is_gone frame answer sp }
 {
-    match request {
-        None => older,
-        Some(_) => older.min(left),
-    }
-}
-
-// Whether a frame that may have gone before is gone after a step that answered so and left SP there,
-// while there is a Step.
-fn is_gone_after(
-    request: Option<StepRequest>,
-    is_gone: bool,
-    frame: Option<Frame>,
-    answer: Stepped,
-    sp: u16,
-) -> bool
-    ensures { IsSome request → result ≡ is_gone_after is_gone frame answer sp }
-{
-    match (request, frame) {
-        (Some(_), Some(frame)) => is_gone || is_ended(answer, sp, frame.slot),
-        _ => is_gone,
+    match frame {
+        Some(frame) => is_gone || is_ended(answer, sp, frame.slot),
+        None => is_gone,
     }
 }
 
@@ -81,17 +65,20 @@ impl Lab {
         ensures stands { (b : Board) → StandsFor self.old b
             → StandsAmid self.new (left_by result.1 (after_steps result.0 b)) (traffic_of result.0 b) }
     {
-        if self.is_attached || self.request.is_some() {
-            let (executed, outcome) = self.steps(n, true);
-            self.leave(outcome);
-            return (executed, outcome);
-        }
-        let (executed, outcome) = self.steps(n, false);
+        let (executed, outcome) = self.steps(n, self.is_watched());
         self.leave(outcome);
         (executed, outcome)
     }
 
-    #[inline(always)]
+    // Whether a debugger is attached or a Step isn't complete.
+    fn is_watched(&self) -> bool
+        ensures { Watches result self.now }
+    {
+        self.is_attached || self.request.is_some()
+    }
+
+    // The one place that makes steps, so that all of a step is part of its loop.
+    #[inline(never)]
     fn steps(&mut self, n: u16, is_watched: bool) -> (u16, SliceOutcome)
         requires room { n ≤ self.old.devices.spare }
         requires watched { Watches is_watched self.old }
@@ -146,11 +133,23 @@ impl Lab {
         }
         let sp = self.machine.regs().sp;
         let left = self.frames.advance(answer, pc, sp);
-        self.older = older_after(self.request, self.older, left);
-        self.is_gone = is_gone_after(self.request, self.is_gone, self.innermost, answer, sp);
         self.is_halted = is_halt(answer);
         self.has_moved = true;
+        self.follow(answer, sp, left);
         None
+    }
+
+    // What a Step looks at, after a step that answered so, left SP there and so many frames of those before it.
+    #[inline(always)]
+    fn follow(&mut self, answer: Stepped, sp: u16, left: usize)
+        ensures rest { self.new ≡ record self.old { older = self.new.older; is_gone = self.new.is_gone } }
+        ensures older { IsSome self.old.request → self.new.older ≡ min self.old.older left }
+        ensures gone { IsSome self.old.request → self.new.is_gone ≡ is_gone_after self.old.is_gone self.old.innermost answer sp }
+    {
+        if self.request.is_some() {
+            self.older = self.older.min(left);
+            self.is_gone = is_gone_after(self.is_gone, self.innermost, answer, sp);
+        }
     }
 
     /// Stops or ends the run where the slice did.

@@ -11,12 +11,14 @@ use crate::lab::Lab;
 use i80_exec::registers::Interrupts;
 use lab_image::origin::Origin;
 
+#[inline]
 fn is_off(interrupts: Interrupts) -> bool
     ensures { result ≡ is_off interrupts }
 {
     matches!(interrupts, Interrupts::Off)
 }
 
+#[inline]
 fn is_on(interrupts: Interrupts) -> bool
     ensures { result ≡ is_on interrupts }
 {
@@ -45,6 +47,7 @@ impl Lab {
         }
     }
 
+    #[inline(always)]
     fn halted(&self) -> Option<SliceOutcome>
         ensures { Finds halted result self.now }
     {
@@ -68,6 +71,7 @@ impl Lab {
         }
     }
 
+    #[inline]
     fn is_at_breakpoint(&self) -> bool
         ensures { Finds meets_breakpoint result self.now }
     {

@@ -1,5 +1,7 @@
-use Rattle.std.proofs.Common.{◌≡◌, refl, sym, ap, subst}
+use Rattle.std.proofs.Common.{◌≡◌, ◌++◌, refl, sym, ap, subst}
 use Rattle.i80_exec.specs.declared.registers.Registers.{Registers}
+use Rattle.i80_exec.specs.Step.{operation_list}
+use Rattle.lab_core.specs.Board.{next_change, stepped}
 use Rattle.lab_core.specs.Labs.{LabState, StandsAmid}
 use Rattle.lab_core.proofs.StandsLemmas.{stands_step, finds_undefined, finds_no_undefined, stands_undefined}
 use Rattle.lab_core.proofs.lab.Lab.step.Goals as goal
@@ -28,10 +30,11 @@ pub returns-clause-none : goal.returns-clause-none
 returns-clause-none c = λ b traffic s-now.
     let P : LabState → Type 0 = λ lab. StandsAmid lab b traffic in
     let s = subst P (sym c.self.view_is) s-now in
-    stands_step _ _ b traffic c.board_step-answer.result c.advance-left.result s (c.board_step-answer.ensures.step b.past s.devices) (record {
+    let Q : LabState → Type 0 = λ lab. StandsAmid lab (stepped b) (traffic ++ operation_list (next_change b).operation) in
+    subst Q (sym c.follow.ensures.rest) (stands_step _ _ b traffic c.board_step-answer.result c.advance-left.result s (c.board_step-answer.ensures.step b.past s.devices) (record {
       rest = rw c.is_halt-self-inside.ensures refl;
       frames = rw (← c.regs-sp.ensures, ← c.regs-pc.ensures) c.advance-left.ensures.live;
       oldest = rw (← c.regs-sp.ensures) c.advance-left.ensures.oldest;
-      older = c.older_after-self-inside.ensures;
-      gone = rw (← c.regs-sp.ensures) c.is_gone_after-self-inside.ensures;
-    })
+      older = c.follow.ensures.older;
+      gone = rw (← c.regs-sp.ensures) c.follow.ensures.gone;
+    }))
