@@ -1,21 +1,53 @@
 """Runs the tests: a line for each, and last how many passed and failed."""
+import concurrent.futures
 import glob
 import os
 import re
+import signal
 import subprocess
 import sys
+import tempfile
+import time
 import unittest
+
+# The longest that a test may take, in seconds, where its class says nothing else.
+SECONDS = 90
+
+# The longest that a file's tests may take together.
+SECONDS_OF_A_FILE = 420
+
+# What takes longest begins first.
+FIRST = ("test_patience", "test_hostile")
+
+
+class Late(Exception):
+    """A test took too long."""
+
+
+def give_up(*_):
+    raise Late("took too long")
 
 
 class Lines(unittest.TestResult):
     """One line for each test; what went wrong goes to standard error."""
 
+    passed = 0
+
     def startTest(self, test):
         super().startTest(test)
-        self.passed = getattr(self, "passed", 0)
+        signal.signal(signal.SIGALRM, give_up)
+        signal.alarm(getattr(test, "seconds", SECONDS))
+
+    def stopTest(self, test):
+        super().stopTest(test)
+        signal.alarm(0)
 
     def say(self, test, how):
         print(f"{how}: {test.id()}", flush=True)
+
+    def fail(self, test, told):
+        self.say(test, "failed")
+        print(told, file=sys.stderr, flush=True)
 
     def addSuccess(self, test):
         self.passed += 1
@@ -23,41 +55,99 @@ class Lines(unittest.TestResult):
 
     def addError(self, test, error):
         super().addError(test, error)
-        self.say(test, "failed")
-        print(self.errors[-1][1], file=sys.stderr, flush=True)
+        self.fail(test, self.errors[-1][1])
 
     def addFailure(self, test, error):
         super().addFailure(test, error)
-        self.say(test, "failed")
-        print(self.failures[-1][1], file=sys.stderr, flush=True)
+        self.fail(test, self.failures[-1][1])
+
+    def addSubTest(self, test, subtest, error):
+        super().addSubTest(test, subtest, error)
+        if error is not None:
+            told = self.failures if issubclass(error[0], test.failureException) else self.errors
+            self.fail(subtest, told[-1][1])
 
     def addSkip(self, test, reason):
         super().addSkip(test, reason)
-        self.say(test, f"not for this language ({reason})")
+        self.say(test, f"not for this language ({reason})" if reason else "not for this language")
 
 
 def run(name):
     """The tests of one file, in this process: how many passed and failed."""
     result = Lines()
     unittest.defaultTestLoader.loadTestsFromName(name).run(result)
-    return getattr(result, "passed", 0), len(result.failures) + len(result.errors)
+    return result.passed, len(result.failures) + len(result.errors)
 
 
 def run_apart(name):
-    """The same in a process of its own, so that no file's event loop meets another's."""
-    done = subprocess.run([sys.executable, "-B", __file__, name], stdout=subprocess.PIPE, text=True, check=False)
-    lines = done.stdout.splitlines()
-    print("\n".join(lines[:-1]), flush=True)
-    count = re.fullmatch(r"(\d+) passed, (\d+) failed", lines[-1] if lines else "")
-    return (int(count[1]), int(count[2])) if count else (0, 1)
+    """The same in a process of its own, so that no file's event loop meets another's: its lines, and the counts.
+    What kernels say of themselves at their start is left out of what went wrong."""
+    words = [sys.executable, "-B", __file__, "--here", name]
+    with tempfile.TemporaryFile("w+") as wrong, subprocess.Popen(
+            words, stdout=subprocess.PIPE, stderr=wrong, text=True) as tests:
+        try:
+            told, _ = tests.communicate(timeout=SECONDS_OF_A_FILE)
+        except subprocess.TimeoutExpired:
+            tests.kill()
+            told = tests.communicate()[0]
+        wrong.seek(0)
+        sys.stderr.writelines(line for line in wrong if line != "listening\n")
+    *lines, last = told.rstrip("\n").split("\n")
+    count = re.fullmatch(r"(\d+) passed, (\d+) failed", last)
+    if count is None:
+        return lines + [last, f"failed: {name} came to no end"], 0, 1
+    return lines, int(count[1]), int(count[2])
+
+
+def run_all(names):
+    """Several files side by side, two on two processors; each file's lines come together."""
+    sums = [0, 0]
+    with concurrent.futures.ThreadPoolExecutor(max(2, (os.cpu_count() or 1) // 2)) as pool:
+        ends = [pool.submit(run_apart, name) for name in names]
+        for end in concurrent.futures.as_completed(ends):
+            lines, *counts = end.result()
+            print("\n".join(lines), flush=True)
+            sums = [sum(pair) for pair in zip(sums, counts)]
+    return sums
+
+
+def kernels():
+    """The processes of the installed program."""
+    folder = os.environ["JUPYTER_PATH"]
+    found = []
+    for process in glob.glob("/proc/[0-9]*"):
+        try:
+            if os.readlink(process + "/exe").startswith(folder):
+                found.append(os.path.basename(process))
+        except OSError:
+            pass
+    return found
+
+
+def has_left_none():
+    """Whether all kernels have ended, some time after the tests."""
+    for _ in range(30):
+        if not kernels():
+            return True
+        time.sleep(0.1)
+    return False
+
+
+def run_here(name):
+    passed, failed = run(name)
+    print(f"{passed} passed, {failed} failed")
 
 
 def main():
-    names = sys.argv[1:] or sorted(os.path.basename(path)[:-3] for path in glob.glob("test_*.py"))
-    counts = [run(names[0])] if len(names) == 1 else [run_apart(name) for name in names]
-    passed, failed = (sum(count) for count in zip(*counts))
-    print(f"{passed} passed, {failed} failed")
-    sys.exit(1 if failed or not passed else 0)
+    found = sorted(os.path.basename(path)[:-len(".py")] for path in glob.glob("test_*.py"))
+    passed, failed = run_all(sys.argv[1:] or sorted(found, key=lambda name: name not in FIRST))
+    is_clean = has_left_none()
+    print(f"{'passed' if is_clean else 'failed'}: no kernel is left running")
+    print(f"{passed + is_clean} passed, {failed + (not is_clean)} failed")
+    sys.exit(0 if is_clean and not failed else 1)
 
 
-main()
+if sys.argv[1:2] == ["--here"]:
+    run_here(sys.argv[2])
+else:
+    main()

@@ -1,9 +1,16 @@
 """What the tests share: a kernel started as a frontend starts one, and messages collected from it."""
+import glob
+import json
+import os
 import queue
+import subprocess
 import time
 import unittest
 
 from jupyter_client import BlockingKernelClient, KernelManager
+from jupyter_client.kernelspec import get_kernel_spec
+
+import dap_schema
 
 # How long a test waits for a message, in seconds.
 PATIENCE = 10
@@ -23,6 +30,9 @@ TEXT:   DB 'hello, world',0AH,0
 
 ENDLESS = "X: JMP X\nEND X\n"
 
+# Asks for a line by port 3, waits until it has come, and prints its first character.
+ASKS = "OUT 3\nWAIT: IN 0\nANI 1\nJZ WAIT\nIN 1\nOUT 1\nHLT\nEND 0\n"
+
 
 def printing(text):
     """A cell that prints a text, character by character."""
@@ -36,20 +46,28 @@ class Lab(unittest.TestCase):
     def setUp(self):
         self.manager = KernelManager(kernel_name="lab80")
         self.manager.start_kernel()
+        self.addCleanup(self.end)
+        with open(self.manager.connection_file, encoding="ascii") as file:
+            self.connection = json.load(file)
         self.client = self.new_client()
 
-    def tearDown(self):
-        self.client.stop_channels()
+    def end(self):
         if self.manager.has_kernel:
             self.manager.shutdown_kernel(now=True)
 
     def new_client(self):
         """One more frontend, with a session and so an identity of its own, which hears all that is posted
         from now on."""
+        client = self.connect()
+        client.wait_for_ready(timeout=PATIENCE)
+        return client
+
+    def connect(self):
+        """The same, but nothing is asked or heard of yet."""
         client = BlockingKernelClient(connection_file=self.manager.connection_file)
         client.load_connection_file()
         client.start_channels()
-        client.wait_for_ready(timeout=PATIENCE)
+        self.addCleanup(client.stop_channels)
         return client
 
     def execute(self, code, client=None, **options):
@@ -117,21 +135,29 @@ class Lab(unittest.TestCase):
         return reply["content"]
 
     def debug(self, command, arguments=None, client=None):
-        """A debug request: its response, which must be a success."""
+        """A debug request: the body of its response, which must be a success."""
         response = self.debug_any(command, arguments, client)
         self.assertTrue(response["success"], response)
         return response.get("body")
 
     def debug_any(self, command, arguments=None, client=None):
+        """A debug request: its response. Both must be as the protocol's schema has them."""
         self.sequence = getattr(self, "sequence", 0) + 1
         request = {"type": "request", "seq": self.sequence, "command": command}
         if arguments is not None:
             request["arguments"] = arguments
+        self.assertEqual(dap_schema.faults(request), [])
         response = self.control("debug", request, client)
+        self.assertEqual(dap_schema.faults(response), [])
         self.assertEqual(response["type"], "response")
-        self.assertEqual(response["command"], command)
-        self.assertEqual(response["request_seq"], self.sequence)
+        self.assertEqual((response["command"], response["request_seq"]), (command, self.sequence))
         return response
+
+    def event(self, client=None):
+        """The next debug event's name and body. It must be as the schema has it."""
+        event = self.wait_for("debug_event", client)["content"]
+        self.assertEqual(dap_schema.faults(event), [])
+        return event["event"], event.get("body")
 
     def is_quiet(self, client=None, seconds=0.3):
         """Whether nothing more is posted for a while."""
@@ -141,6 +167,45 @@ class Lab(unittest.TestCase):
         except queue.Empty:
             return True
         return False
+
+
+def program():
+    """Where the program is installed."""
+    return os.path.join(get_kernel_spec("lab80").resource_dir, "lab80")
+
+
+def start_alone(path):
+    """Starts the kernel of a connection file as the kernelspec says. A KernelManager would be its client too."""
+    words = [word.format(connection_file=path) for word in get_kernel_spec("lab80").argv]
+    environment = os.environ | {"JPY_PARENT_PID": str(os.getpid())}
+    kernel = subprocess.Popen(words, stderr=subprocess.PIPE, text=True, env=environment)
+    if kernel.stderr.readline() != "listening\n":
+        raise RuntimeError(kernel.stderr.read())
+    return kernel
+
+
+def processes(beginning):
+    """The numbers of the processes with a word that begins so, such as a connection file's path."""
+    found = []
+    for path in glob.glob("/proc/[0-9]*/cmdline"):
+        try:
+            with open(path, "rb") as file:
+                words = file.read().split(b"\0")
+        except OSError:
+            continue
+        if any(word.startswith(beginning.encode()) for word in words):
+            found.append(int(path.split("/")[2]))
+    return found
+
+
+def are_gone(beginning, seconds=5):
+    """Whether these processes end within the time."""
+    until = time.monotonic() + seconds
+    while processes(beginning):
+        if time.monotonic() > until:
+            return False
+        time.sleep(0.05)
+    return True
 
 
 def streams(posts):

@@ -1,7 +1,7 @@
 """What frontends ask while a cell runs, and how a kernel ends and begins anew."""
 import time
 
-from lab80_client import ENDLESS, HELLO, PATIENCE, Lab, streams
+from lab80_client import ENDLESS, HELLO, PATIENCE, Lab
 
 
 class Control(Lab):
@@ -45,11 +45,3 @@ class Control(Lab):
         while self.manager.is_alive() and time.monotonic() < until:
             time.sleep(0.02)
         self.assertFalse(self.manager.is_alive())
-
-    def test_a_second_frontend_sees_what_the_first_one_does(self):
-        other = self.new_client()
-        try:
-            number = self.client.execute(HELLO)
-            self.assertEqual(streams(self.posts(number, other)), "hello, world\n")
-        finally:
-            other.stop_channels()

@@ -1,4 +1,4 @@
-"""A debugger, in the order in which JupyterLab asks, and two of them on one board."""
+"""Debuggers, in the order in which JupyterLab asks; each message is checked against the protocol's schema."""
 from lab80_client import ENDLESS, Lab
 
 # Two routines, of which the first calls the second.
@@ -12,77 +12,152 @@ TWICE:  MOV A,B
         END MAIN
 """
 
+# What JupyterLab says of itself.
+CLIENT = {
+    "clientID": "jupyterlab",
+    "clientName": "JupyterLab",
+    "adapterID": "lab80",
+    "pathFormat": "path",
+    "linesStartAt1": True,
+    "columnsStartAt1": True,
+    "supportsVariableType": True,
+    "supportsVariablePaging": True,
+    "supportsRunInTerminalRequest": True,
+    "locale": "en",
+}
+
+SCOPES = ["Registers", "Flags", "Devices", "Symbols", "Memory"]
+
 
 class Debugger(Lab):
-    def attach(self, client=None):
-        self.debug("initialize", {"clientID": "test", "adapterID": ""}, client)
+    def start(self, client=None):
+        """As where somebody switches the debugger on: what debugInfo says before."""
+        info = self.debug("debugInfo", {}, client)
+        capabilities = self.debug("initialize", CLIENT, client)
+        self.assertTrue(capabilities["supportsConfigurationDoneRequest"])
         self.debug("attach", {}, client)
+        self.debug("debugInfo", {}, client)
+        return info
 
-    def event(self, client=None):
-        """The next debug event's name and body."""
-        content = self.wait_for("debug_event", client)["content"]
-        return content["event"], content.get("body")
+    def set_breakpoints(self, code, lines, client=None):
+        """As where somebody clicks beside lines of a cell: its path."""
+        path = self.debug("dumpCell", {"code": code}, client)["sourcePath"]
+        self.debug("debugInfo", {}, client)
+        wanted = {"breakpoints": [{"line": line} for line in lines], "source": {"path": path}, "sourceModified": False}
+        shown = self.debug("setBreakpoints", wanted, client)["breakpoints"]
+        self.assertEqual(shown, [{"line": line, "verified": True} for line in lines])
+        self.debug("configurationDone", {}, client)
+        return path
 
-    def names(self, frames):
+    def look(self, client=None):
+        """As where a stop is shown: the frames, and all variables by the scope's name."""
+        frames = self.debug("stackTrace", {"threadId": 1}, client)["stackFrames"]
+        scopes = self.debug("scopes", {"frameId": frames[0]["id"]}, client)["scopes"]
+        self.assertEqual([scope["name"] for scope in scopes], SCOPES)
+        shown = {}
+        for scope in scopes:
+            wanted = {"variablesReference": scope["variablesReference"]}
+            variables = self.debug("variables", wanted, client)["variables"]
+            shown[scope["name"]] = {item["name"]: item["value"] for item in variables}
+        return frames, shown
+
+    def places(self, frames):
         return [(frame["name"], frame["line"]) for frame in frames]
 
     def test_a_session_of_jupyterlab(self):
-        info = self.debug("debugInfo")
+        info = self.start()
         self.assertFalse(info["isStarted"])
-        self.attach()
-        self.assertEqual(self.event()[0], "initialized")
-        path = self.debug("dumpCell", {"code": CALLS})["sourcePath"]
-        self.assertTrue(path.startswith(info["tmpFilePrefix"]))
-        breakpoints = {"source": {"path": path}, "breakpoints": [{"line": 4}]}
-        self.assertEqual(self.debug("setBreakpoints", breakpoints)["breakpoints"],
-                         [{"line": 4, "verified": True}])
-        self.debug("configurationDone")
+        self.assertEqual(self.event(), ("initialized", None))
+        path = self.set_breakpoints(CALLS, [4])
+        self.assertTrue(path.startswith(info["tmpFilePrefix"]) and path.endswith(info["tmpFileSuffix"]))
         number = self.client.execute(CALLS)
-        self.assertEqual(self.event(), ("stopped", {"reason": "breakpoint", "threadId": 1,
-                                                    "allThreadsStopped": True}))
-        self.assertEqual(self.debug("threads")["threads"], [{"id": 1, "name": "8080"}])
-        frames = self.debug("stackTrace", {"threadId": 1})["stackFrames"]
-        self.assertEqual(self.names(frames), [("TWICE", 4), ("main", 2)])
+        stop = {"reason": "breakpoint", "threadId": 1, "allThreadsStopped": True}
+        self.assertEqual(self.event(), ("stopped", stop))
+        self.assertEqual(self.debug("debugInfo")["stoppedThreads"], [1])
+        frames, shown = self.look()
+        self.assertEqual(self.places(frames), [("TWICE", 4), ("main", 2)])
         self.assertEqual(frames[0]["source"]["path"], path)
-        scopes = self.debug("scopes", {"frameId": frames[0]["id"]})["scopes"]
-        self.assertEqual([scope["name"] for scope in scopes],
-                         ["Registers", "Flags", "Devices", "Symbols", "Memory"])
-        registers = self.debug("variables", {"variablesReference": scopes[0]["variablesReference"]})
-        values = {item["name"]: item["value"] for item in registers["variables"]}
-        self.assertEqual((values["B"], values["PC"]), ("002H", "00006H"))
-        self.assertEqual(self.debug("source", {"source": {"path": path}})["content"], CALLS)
+        self.assertEqual((shown["Registers"]["B"], shown["Registers"]["PC"]), ("002H", "00006H"))
+        self.assertEqual(shown["Symbols"]["TWICE"], "00006H")
+        source = {"source": {"path": path}, "sourceReference": 0}
+        self.assertEqual(self.debug("source", source)["content"], CALLS)
+        self.step_through()
+        self.debug("continue", {"threadId": 1})
+        self.assertEqual(self.reply(number)["content"]["status"], "ok")
+        self.assertEqual(self.debug("inspectVariables", {})["variables"][0]["value"], "004H")
+        self.debug("disconnect", {"restart": False, "terminateDebuggee": False})
+        self.assertFalse(self.debug("debugInfo", {})["isStarted"])
+
+    def step_through(self):
         for command, line in (("next", 5), ("stepIn", 6), ("stepOut", 3)):
             self.debug(command, {"threadId": 1})
             self.assertEqual(self.event()[0], "continued")
             self.assertEqual(self.event()[1]["reason"], "step")
-            top = self.debug("stackTrace", {"threadId": 1})["stackFrames"][0]
-            self.assertEqual(top["line"], line, command)
-        self.debug("continue", {"threadId": 1})
-        self.assertEqual(self.reply(number)["content"]["status"], "ok")
-        self.debug("disconnect", {})
-        self.assertFalse(self.debug("debugInfo")["isStarted"])
+            frames, _ = self.look()
+            self.assertEqual(frames[0]["line"], line, command)
 
-    def test_two_frontends_watch_one_board(self):
+    def test_two_frontends_on_one_board_see_the_same_stops(self):
         other = self.new_client()
-        try:
-            self.attach()
-            for client in (self.client, other):
-                self.assertEqual(self.event(client)[0], "initialized")
-            number = self.client.execute(ENDLESS)
-            self.wait_for("execute_input")
-            self.debug("pause", {"threadId": 1}, other)
-            for client in (self.client, other):
-                self.assertEqual(self.event(client)[1]["reason"], "pause")
-            frames = self.debug("stackTrace", {"threadId": 1}, other)["stackFrames"]
-            self.assertEqual(self.names(frames), [("main", 1)])
-            self.debug("continue", {"threadId": 1})
-            self.control("interrupt", client=other)
-            self.assertEqual(self.reply(number)["content"]["ename"], "Interrupted")
-        finally:
-            other.stop_channels()
+        both = (self.client, other)
+        self.start()
+        path = self.set_breakpoints(CALLS, [3, 5])
+        later = self.start(other)
+        self.assertTrue(later["isStarted"])
+        self.assertEqual(later["breakpoints"], [{"source": path, "breakpoints": [{"line": 3}, {"line": 5}]}])
+        for client in both * 2:
+            self.assertEqual(self.event(client)[0], "initialized")
+        number = self.client.execute(CALLS)
+        for line, asks in ((5, self.client), (3, other)):
+            for client in both:
+                self.assertEqual(self.event(client)[1]["reason"], "breakpoint")
+            first, second = (self.look(client) for client in both)
+            self.assertEqual(first, second)
+            self.assertEqual(first[0][0]["line"], line)
+            self.debug("continue", {"threadId": 1}, asks)
+            for client in both:
+                self.assertEqual(self.event(client)[0], "continued")
+        self.assertEqual(self.reply(number)["content"]["status"], "ok")
+
+    def test_one_frontend_pauses_what_the_other_runs(self):
+        other = self.new_client()
+        self.start()
+        for client in (self.client, other):
+            self.assertEqual(self.event(client)[0], "initialized")
+        number = self.client.execute(ENDLESS)
+        self.wait_for("execute_input")
+        self.debug("pause", {"threadId": 1}, other)
+        for client in (self.client, other):
+            self.assertEqual(self.event(client)[1]["reason"], "pause")
+        frames, _ = self.look(other)
+        self.assertEqual(self.places(frames), [("main", 1)])
+        self.debug("continue", {"threadId": 1})
+        self.control("interrupt", client=other)
+        self.assertEqual(self.reply(number)["content"]["ename"], "Interrupted")
+
+    def test_the_board_shown_and_moved(self):
+        path = self.debug("dumpCell", {"code": CALLS})["sourcePath"]
+        self.assertEqual(self.execute(CALLS)[0]["status"], "ok")
+        wanted = {"memoryReference": "0x0000", "instructionOffset": 1, "instructionCount": 2}
+        shown = self.debug("disassemble", wanted)["instructions"]
+        self.assertEqual(shown, [
+            {"address": "0x0002", "instructionBytes": "CD 06 00", "instruction": "CALL 00006H"},
+            {"address": "0x0005", "instructionBytes": "76", "instruction": "HLT"},
+        ])
+        self.assertEqual([thread["id"] for thread in self.debug("threads")["threads"]], [1])
+        self.debug("boardSwitches", {"value": 90})
+        devices = self.debug("variables", {"variablesReference": 3})["variables"]
+        self.assertIn(("switches", "05AH"), [(item["name"], item["value"]) for item in devices])
+        self.debug("boardReset", {})
+        self.assertEqual(self.debug("source", {"source": {"path": path}, "sourceReference": 0})["content"], CALLS)
 
     def test_what_a_debugger_may_not_ask_is_named(self):
-        response = self.debug_any("evaluate", {"expression": "1"})
-        self.assertEqual((response["success"], response["message"]), (False, "Command"))
-        response = self.debug_any("pause", {"threadId": 1})
-        self.assertEqual((response["success"], response["message"]), (False, "NotAttached"))
+        for command, arguments, fault in (
+            ("evaluate", {"expression": "1"}, "Command"),
+            ("modules", {}, "Command"),
+            ("setBreakpoints", {"source": {"name": "none"}}, "Arguments"),
+            ("setBreakpoints", {"source": {"path": "none"}}, "NoSource"),
+            ("pause", {"threadId": 1}, "NotAttached"),
+            ("continue", {"threadId": 1}, "NotStopped"),
+        ):
+            response = self.debug_any(command, arguments)
+            self.assertEqual((response["success"], response["message"]), (False, fault), command)

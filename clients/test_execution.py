@@ -1,5 +1,5 @@
 """Cells: what they print, how they end, how they are counted, and what is kept from one to the next."""
-from lab80_client import ENDLESS, HELLO, PATIENCE, Lab, kinds, printing, streams
+from lab80_client import ASKS, ENDLESS, HELLO, PATIENCE, Lab, kinds, printing, streams
 
 
 class Execution(Lab):
@@ -75,9 +75,7 @@ class Execution(Lab):
         self.assertEqual(streams(posts), "*")
 
     def test_a_cell_asks_for_a_line(self):
-        # Asks by port 3, waits until a character has come, and prints it.
-        code = "OUT 3\nWAIT: IN 0\nANI 1\nJZ WAIT\nIN 1\nOUT 1\nHLT\nEND 0\n"
-        number = self.client.execute(code, allow_stdin=True)
+        number = self.client.execute(ASKS, allow_stdin=True)
         request = self.client.get_stdin_msg(timeout=PATIENCE)
         self.assertEqual(request["msg_type"], "input_request")
         self.assertEqual(request["parent_header"]["msg_id"], number)

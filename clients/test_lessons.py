@@ -1,12 +1,16 @@
 """The lessons: each notebook's cells give the outputs that are stored in it."""
 import glob
 import os
+import subprocess
+import tempfile
 import unittest
 
 import nbformat
 from nbclient import NotebookClient
 
 LESSONS = os.path.join(os.path.dirname(os.path.abspath(__file__)), "..", "lessons")
+
+PATHS = sorted(glob.glob(os.path.join(LESSONS, "*.ipynb")))
 
 
 def outputs(notebook):
@@ -19,7 +23,14 @@ def outputs(notebook):
 
 
 class Lessons(unittest.TestCase):
-    pass
+    def test_all_by_nbconvert(self):
+        folder = self.enterContext(tempfile.TemporaryDirectory())
+        words = ["jupyter", "nbconvert", "--execute", "--to", "notebook", "--output-dir", folder]
+        done = subprocess.run(words + PATHS, capture_output=True, text=True, timeout=80, check=False)
+        self.assertEqual(done.returncode, 0, done.stderr)
+        for path in PATHS:
+            made = nbformat.read(os.path.join(folder, os.path.basename(path)), 4)
+            self.assertEqual(outputs(made), outputs(nbformat.read(path, 4)), path)
 
 
 def lesson(path):
@@ -32,6 +43,6 @@ def lesson(path):
     return test
 
 
-for path in sorted(glob.glob(os.path.join(LESSONS, "*.ipynb"))):
-    name = os.path.basename(path)[:-len(".ipynb")].replace("-", "_")
-    setattr(Lessons, "test_" + name, lesson(path))
+for each in PATHS:
+    name = os.path.basename(each)[:-len(".ipynb")].replace("-", "_")
+    setattr(Lessons, "test_" + name, lesson(each))

@@ -15,7 +15,10 @@ pub fn read_file<R: Files + Print + AllocGlobal>(
         Err(error) if error.kind() == io::ErrorKind::OutOfMemory => {
             return Err(Status::OutOfMemory);
         }
-        Err(_) => return Err(Status::Failed),
+        Err(error) if error.kind() == io::ErrorKind::NotFound => {
+            return Err(say(rt, "no file", Status::Failed));
+        }
+        Err(_) => return Err(say(rt, "read failed", Status::Failed)),
     };
     match ConnectionFile::read(rt.alloc(), &bytes) {
         Ok(file) => Ok(file),

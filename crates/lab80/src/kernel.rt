@@ -5,6 +5,7 @@ use kern_serve::fault::ServerFault;
 use kern_serve::listeners::Listeners;
 use kern_serve::server::{ServerEnd, serve};
 use lab_io::status::Status;
+use std::io;
 use std::net::{Net, TcpListener, TcpStream};
 use std::random::RandomSource;
 use std::rt::{Clock, Files};
@@ -31,8 +32,12 @@ pub fn run_kernel<
         Ok(file) => file,
         Err(status) => return status,
     };
-    let Ok(listeners) = Listeners::bind(rt, &file) else {
-        return Status::Failed;
+    let listeners = match Listeners::bind(rt, &file) {
+        Ok(listeners) => listeners,
+        Err(error) if error.kind() == io::ErrorKind::AddrInUse => {
+            return say(rt, "port in use", Status::Failed);
+        }
+        Err(_) => return say(rt, "bind failed", Status::Failed),
     };
     if say(rt, "listening", Status::Success) != Status::Success {
         return Status::Failed;

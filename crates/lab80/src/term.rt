@@ -18,6 +18,9 @@ use std::random::RandomSource;
 use std::rt::{Clock, Files};
 use std::{io, str};
 
+// What is printed where no connection could be made.
+const NO_KERNEL: &str = "no kernel";
+
 type Socket = Connection<StdInlet<TcpStream>, StdOutlet<TcpStream>>;
 
 // A connection to a port of the kernel.
@@ -48,10 +51,10 @@ fn run<
         Err(ServerFault::System) => return Status::Failed,
     };
     let Ok(mut shell) = connect(rt, file, file.shell_port) else {
-        return Status::Failed;
+        return say(rt, NO_KERNEL, Status::Failed);
     };
     let Ok(mut iopub) = connect(rt, file, file.iopub_port) else {
-        return Status::Failed;
+        return say(rt, NO_KERNEL, Status::Failed);
     };
     let cell = Cell {
         code,
