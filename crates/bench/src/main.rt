@@ -1,7 +1,7 @@
-// Times the parts of lab80 that have to be fast: `bench assembler`, `bench listing`, `bench turnstile`
-// and `bench frames` print rates; `bench core WORKLOAD COUNT` runs one of three workloads on the machine,
-// for the script bench/core, which times it. With no word each part does a little work, and prints what
-// it came to, which the gate compares.
+// Times the parts of lab80 that have to be fast: a word for each prints rates; `bench core WORKLOAD COUNT`
+// runs one of three workloads on the machine, and `bench plain WORKLOAD COUNT` and `bench attached WORKLOAD
+// COUNT` on a board, for the scripts bench/core and bench/board, which time them. With no word each part
+// does a little work, and prints what it came to, which the gate compares.
 #![tactic(auto)]
 
 mod assembler;
@@ -12,30 +12,55 @@ mod turnstile;
 mod workloads;
 
 use anyhow::{Result, bail};
+use std::alloc::Global;
 use std::env;
+use std::rt::Clock;
 use std::sync::Wait;
 use std::thread::Threads;
 
-fn check<R: Threads + Wait + Sync + Print + AllocGlobal>(rt: &R) -> Result<()> {
+fn check<R: Threads + Wait + Sync + Print + AllocGlobal>(rt: &R, alloc: Global) -> Result<()> {
     workloads::check(rt)?;
     assembler::check(rt)?;
     listing::check(rt)?;
-    turnstile::check(rt, rt.alloc())?;
-    frames::check(rt)
+    turnstile::check(rt, alloc)?;
+    frames::check(rt)?;
+    lab_bench::board::check(rt)?;
+    kern_bench::rates::check(rt, alloc)
+}
+
+fn time<R: Threads + Wait + Sync + Clock + Print>(rt: &R, alloc: Global, word: &str) -> Result<()> {
+    match word {
+        "assembler" => assembler::time(rt, alloc),
+        "listing" => listing::time(rt, alloc),
+        "turnstile" => turnstile::time(rt, alloc),
+        "frames" => frames::time(rt, alloc),
+        "loads" => lab_bench::loads::time(rt, alloc),
+        "kernel" => kern_bench::rates::time(rt, alloc),
+        "journal" => kern_bench::rates::fill(rt, alloc),
+        _ => bail!(
+            "the words are assembler, listing, turnstile, frames, loads, kernel and journal"
+        ),
+    }
+}
+
+fn run<R: Print + AllocGlobal>(rt: &R, word: &str, name: &str, count: u64) -> Result<()> {
+    match word {
+        "core" => workloads::report(rt, name, count),
+        "plain" => lab_bench::board::report(rt, name, false, count),
+        "attached" => lab_bench::board::report(rt, name, true, count),
+        _ => bail!("the words before a workload are core, plain and attached"),
+    }
 }
 
 fn main(rt: HostRuntime) -> Result<()> {
     let alloc = rt.alloc();
     let words: Vec<String> = env::args(&rt)?.skip(1).collect(alloc)?;
     match words.as_slice() {
-        [] => check(&rt),
-        [word, name, count] if word.as_str() == "core" => {
-            workloads::report(&rt, name.as_str(), count.as_str().parse()?)
-        }
-        [word] if word.as_str() == "assembler" => assembler::time(&rt, alloc),
-        [word] if word.as_str() == "listing" => listing::time(&rt, alloc),
-        [word] if word.as_str() == "turnstile" => turnstile::time(&rt, alloc),
-        [word] if word.as_str() == "frames" => frames::time(&rt, alloc),
-        _ => bail!("usage: bench [assembler | listing | turnstile | frames | core WORKLOAD COUNT]"),
+        [] => check(&rt, alloc),
+        [word] => time(&rt, alloc, word.as_str()),
+        [word, name, count] => run(&rt, word.as_str(), name.as_str(), count.as_str().parse()?),
+        _ => bail!(
+            "usage: bench [WORD | core WORKLOAD COUNT | plain WORKLOAD COUNT | attached WORKLOAD COUNT]"
+        ),
     }
 }

@@ -1,0 +1,99 @@
+//! Calls on a kernel, each answered by a plain value.
+use base_text::sequence::{Bytes, Frames};
+use base_text::text::Text;
+use jup_wire::channel::Channel;
+use kern_ask::ask::{Ask, ExecuteRequest, Request};
+use kern_core::call::{Arrival, Call, Reply};
+use kern_core::fault::KernFault;
+use kern_core::held::Held;
+use kern_core::kernel::Kernel;
+use kern_post::post::Post;
+use std::alloc::{AllocError, Global};
+
+/// 2026-01-01T00:00:00Z.
+const MOMENT: u64 = 1_767_225_600;
+
+const HEADER: &[u8] = b"{\"date\":\"2026-01-01T00:00:00Z\",\"msg_id\":\"c_1\",\
+    \"msg_type\":\"kernel_info_request\",\"session\":\"c\",\"username\":\"u\",\"version\":\"5.4\"}";
+
+/// What is asked.
+#[derive(Clone, Copy, PartialEq, Eq, Debug)]
+pub enum Question {
+    KernelInfo,
+    Execute(&'static str),
+}
+
+fn execution(code: Text) -> Ask {
+    Ask::Execute(ExecuteRequest {
+        code,
+        is_silent: false,
+        stores_history: true,
+        allows_stdin: false,
+    })
+}
+
+fn ask(alloc: Global, question: Question) -> Result<Ask, AllocError> {
+    match question {
+        Question::KernelInfo => Ok(Ask::KernelInfo),
+        Question::Execute(code) => Ok(execution(Text::copy_of(alloc, code)?)),
+    }
+}
+
+fn arrival(ask: Ask, header: Bytes, alloc: Global) -> Arrival {
+    Arrival {
+        request: Request {
+            ask,
+            identities: Frames::new(alloc),
+            header,
+        },
+        moment: MOMENT,
+    }
+}
+
+fn held(alloc: Global, question: Question) -> Result<Held<Arrival>, AllocError> {
+    let header = Bytes::copy_of(alloc, HEADER)?;
+    Held::new(alloc, arrival(ask(alloc, question)?, header, alloc))
+}
+
+fn is_accepted(kernel: &mut Kernel, call: Call) -> bool {
+    kernel.act(call).is_ok()
+}
+
+/// A frontend comes on shell. Whether the call was accepted.
+pub fn join(alloc: Global, kernel: &mut Kernel) -> Result<bool, AllocError> {
+    let identity = Held::new(alloc, Bytes::new(alloc))?;
+    let channel = Channel::Shell;
+    Ok(is_accepted(kernel, Call::Join { channel, identity }))
+}
+
+/// A request arrives on connection 1. Whether the call was accepted.
+pub fn arrive(alloc: Global, kernel: &mut Kernel, question: Question) -> Result<bool, AllocError> {
+    let arrival = held(alloc, question)?;
+    let connection = 1;
+    Ok(is_accepted(
+        kernel,
+        Call::Arrive {
+            connection,
+            arrival,
+        },
+    ))
+}
+
+/// The kernel goes on. Whether the call was accepted.
+pub fn slice(kernel: &mut Kernel) -> bool {
+    is_accepted(kernel, Call::Slice { moment: MOMENT })
+}
+
+/// What a fetch for connection 1 answers.
+pub fn fetch(kernel: &mut Kernel, from: u64) -> Result<Reply, KernFault> {
+    let connection = 1;
+    kernel.act(Call::Fetch { connection, from })
+}
+
+/// The posts of an answer, and the number to go on from.
+pub fn fetched(reply: &Result<Reply, KernFault>) -> Option<(&[Post], u64)> {
+    match reply {
+        Ok(Reply::Fetched { posts, next, .. }) => Some((posts.as_slice(), *next)),
+        _ => None,
+    }
+}

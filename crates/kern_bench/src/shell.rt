@@ -1,0 +1,178 @@
+//! A kernel with one frontend, and the work that is timed on it.
+use crate::calls::{Question, arrive, fetch, fetched, join, slice};
+use kern_core::call::Reply;
+use kern_core::fault::KernFault;
+use kern_core::kernel::Kernel;
+use kern_post::post::Post;
+use kern_render::rendering::render;
+use std::alloc::{AllocError, Global};
+
+/// The greatest limit of a journal.
+pub const LIMIT: u32 = 4_194_304;
+
+/// A key as long as Jupyter's are.
+const KEY: &[u8] = b"0123456789abcdef0123456789abcdef0123";
+
+const SESSION: &str = "01234567-89ab-4cde-8f01-23456789abcd";
+
+/// A cell that never ends.
+pub const ENDLESS: &str = "X: JMP X\nEND X\n";
+
+/// A cell that ends at once.
+const SHORT: &str = "HLT\nEND 0\n";
+
+/// A kernel with a frontend on shell, which is connection 1, and the number of the first post that it
+/// hasn't fetched.
+#[derive(Drop)]
+pub struct Shell {
+    kernel: Kernel,
+    from: u64,
+}
+
+/// What is timed, each with one unit of work.
+#[derive(Clone, Copy, PartialEq, Eq, Debug)]
+pub enum Work {
+    /// A kernel_info_request, the fetch of its reply, and the reply's frames.
+    Info,
+    /// An execute_request of a cell that ends at once, its slices, and the fetch of its reply.
+    Execution,
+    /// A fetch that covers 64 posts, of which 21 are to the connection.
+    Fetch,
+    /// A slice of a cell that never ends.
+    Slice,
+}
+
+impl Work {
+    pub fn name(self) -> &'static str {
+        match self {
+            Work::Info => "kernel_info with its frames",
+            Work::Execution => "executions",
+            Work::Fetch => "fetches",
+            Work::Slice => "slices",
+        }
+    }
+}
+
+fn frame_count(alloc: Global, post: &Post) -> Result<u64, AllocError> {
+    Ok(render(alloc, post, KEY, SESSION)?.len() as u64)
+}
+
+// How many frames all posts have.
+fn frame_counts(alloc: Global, posts: &[Post]) -> Result<u64, AllocError> {
+    let mut frames = 0u64;
+    for post in posts {
+        frames = frames.saturating_add(frame_count(alloc, post)?);
+    }
+    Ok(frames)
+}
+
+// How many posts were fetched, and the number to go on from.
+fn counted(reply: &Result<Reply, KernFault>, from: u64) -> (u64, u64) {
+    match fetched(reply) {
+        Some((posts, next)) => (posts.len() as u64, next),
+        None => (0, from),
+    }
+}
+
+// How many frames the posts have that were fetched, and the number to go on from.
+fn rendered(
+    alloc: Global,
+    reply: &Result<Reply, KernFault>,
+    from: u64,
+) -> Result<(u64, u64), AllocError> {
+    match fetched(reply) {
+        Some((posts, next)) => Ok((frame_counts(alloc, posts)?, next)),
+        None => Ok((0, from)),
+    }
+}
+
+impl Shell {
+    /// A kernel with the longest journal, whose frontend has come.
+    pub fn new(alloc: Global) -> Result<Shell, AllocError> {
+        let mut kernel = Kernel::new(alloc, LIMIT)?;
+        join(alloc, &mut kernel)?;
+        Ok(Shell { kernel, from: 1 })
+    }
+
+    /// Gets the kernel to where units of this work can be done.
+    pub fn prepare(&mut self, alloc: Global, work: Work) -> Result<(), AllocError> {
+        match work {
+            Work::Info | Work::Execution => {}
+            Work::Fetch => self.ask_often(alloc)?,
+            Work::Slice => {
+                arrive(alloc, &mut self.kernel, Question::Execute(ENDLESS))?;
+                self.slices(2);
+            }
+        }
+        Ok(())
+    }
+
+    fn ask_often(&mut self, alloc: Global) -> Result<(), AllocError> {
+        for _ in 0..22 {
+            arrive(alloc, &mut self.kernel, Question::KernelInfo)?;
+        }
+        Ok(())
+    }
+
+    // How many of so many slices were accepted.
+    fn slices(&mut self, count: u64) -> u64 {
+        let mut made = 0u64;
+        for _ in 0..count {
+            if slice(&mut self.kernel) {
+                made = made.saturating_add(1);
+            }
+        }
+        made
+    }
+
+    // Fetches from a number on. How many posts there were, and the number to go on from.
+    fn fetch_from(&mut self, from: u64) -> (u64, u64) {
+        counted(&fetch(&mut self.kernel, from), from)
+    }
+
+    // Fetches from the frontend's place on. How many posts there were.
+    fn fetch_next(&mut self) -> u64 {
+        let (count, next) = self.fetch_from(self.from);
+        self.from = next;
+        count
+    }
+
+    // Fetches from the frontend's place on, and renders the posts. How many frames they have.
+    fn render_next(&mut self, alloc: Global) -> Result<u64, AllocError> {
+        let (frames, next) = rendered(alloc, &fetch(&mut self.kernel, self.from), self.from)?;
+        self.from = next;
+        Ok(frames)
+    }
+
+    /// One unit of work: how many frames, posts or slices it gave.
+    pub fn unit(&mut self, alloc: Global, work: Work) -> Result<u64, AllocError> {
+        match work {
+            Work::Info => {
+                arrive(alloc, &mut self.kernel, Question::KernelInfo)?;
+                self.render_next(alloc)
+            }
+            Work::Execution => {
+                arrive(alloc, &mut self.kernel, Question::Execute(SHORT))?;
+                self.slices(3);
+                Ok(self.fetch_next())
+            }
+            Work::Fetch => Ok(self.fetch_from(1).0),
+            Work::Slice => Ok(self.slices(1)),
+        }
+    }
+
+    /// So many units: how much they gave together.
+    pub fn units(&mut self, alloc: Global, work: Work, count: u64) -> Result<u64, AllocError> {
+        let mut made = 0u64;
+        for _ in 0..count {
+            made = made.saturating_add(self.unit(alloc, work)?);
+        }
+        Ok(made)
+    }
+
+    /// So many slices, and whether the journal is full after them.
+    pub fn fill(&mut self, count: u64) -> bool {
+        self.slices(count);
+        self.kernel.full()
+    }
+}

@@ -1,0 +1,176 @@
+//! Workloads run on a board, by its events.
+ghost use Rattle.std.specs.Prelude.{◌≤◌, IfOk};
+ghost use Rattle.lab_core.specs.Events.{Fits};
+
+use crate::workloads::{Workload, workload_named};
+use anyhow::{Result, bail};
+use base_text::sequence::Sequence;
+use base_text::text::Text;
+use i80_exec::registers::Registers;
+use lab_core::answer::Answer;
+use lab_core::event::Event;
+use lab_core::fault::EventFault;
+use lab_core::lab::Lab;
+use std::alloc::{AllocError, Global};
+
+/// The steps of a slice, as many as one turn of the kernel makes.
+const SLICE: u16 = 4096;
+
+const RUNS: [(&str, bool); 6] = [
+    ("loop", false),
+    ("loop", true),
+    ("sort", false),
+    ("sort", true),
+    ("calls", false),
+    ("calls", true),
+];
+
+// Whether an event is accepted.
+pub(crate) fn is_accepted(lab: &mut Lab, event: &Event) -> bool
+    requires { Fits event.now }
+{
+    lab.apply(event).is_ok()
+}
+
+pub(crate) fn load_event(alloc: Global, text: &str) -> Result<Event, AllocError>
+    ensures { IfOk result (λ event. Fits event) }
+{
+    let path = Text::copy_of(alloc, "workload")?;
+    let text = Text::copy_of(alloc, text)?;
+    Ok(Event::Load { path, text })
+}
+
+// A breakpoint on one line.
+fn breakpoint_event(alloc: Global, line: u32) -> Result<Event, AllocError>
+    ensures { IfOk result (λ event. Fits event) }
+{
+    let path = Text::copy_of(alloc, "workload")?;
+    let lines = Sequence::from(Vec::from_slice(alloc, &[line])?);
+    Ok(Event::SetBreakpoints { path, lines })
+}
+
+fn load(alloc: Global, lab: &mut Lab, text: &str) -> Result<bool, AllocError> {
+    let event = load_event(alloc, text)?;
+    Ok(is_accepted(lab, &event))
+}
+
+fn set_breakpoint(alloc: Global, lab: &mut Lab, line: u32) -> Result<bool, AllocError> {
+    let event = breakpoint_event(alloc, line)?;
+    Ok(is_accepted(lab, &event))
+}
+
+// Attaches a debugger with a breakpoint on a line. Whether it was accepted.
+fn watch(alloc: Global, lab: &mut Lab, line: u32) -> Result<bool, AllocError> {
+    if !is_accepted(lab, &Event::Attach) {
+        return Ok(false);
+    }
+    set_breakpoint(alloc, lab, line)
+}
+
+fn executed_by(answer: &Result<Answer, EventFault>) -> Option<u16> {
+    match answer {
+        Ok(Answer::Sliced { executed, .. }) => Some(*executed),
+        _ => None,
+    }
+}
+
+/// Makes at most so many steps, and answers how many were made, or that the slice was refused.
+fn slice(lab: &mut Lab, n: u16) -> Option<u16>
+    requires some { 1 ≤ n }
+    requires few { n ≤ 4096 }
+{
+    executed_by(&lab.apply(&Event::Slice(n)))
+}
+
+// Whether a slice of so many steps makes them all.
+fn is_whole(lab: &mut Lab, n: u16) -> bool
+    requires some { 1 ≤ n }
+    requires few { n ≤ 4096 }
+{
+    slice(lab, n) == Some(n)
+}
+
+// Whether so many slices are whole.
+fn are_whole(lab: &mut Lab, count: u64) -> bool {
+    for _ in 0..count {
+        if !is_whole(lab, SLICE) {
+            return false;
+        }
+    }
+    true
+}
+
+// Makes so many steps, in slices. Whether they were made.
+fn run(lab: &mut Lab, count: u64) -> bool {
+    let last = (count % 4096) as u16;
+    are_whole(lab, count / 4096) && (last == 0 || is_whole(lab, last))
+}
+
+// Loads a workload and makes so many steps of it; attached, with a breakpoint that isn't met, or not
+// attached. Whether all was accepted.
+fn work(
+    alloc: Global,
+    lab: &mut Lab,
+    workload: Workload,
+    is_attached: bool,
+    count: u64,
+) -> Result<bool, AllocError> {
+    if !load(alloc, lab, workload.text)? {
+        return Ok(false);
+    }
+    if is_attached && !watch(alloc, lab, workload.last_line)? {
+        return Ok(false);
+    }
+    Ok(is_accepted(lab, &Event::Start(0)) && run(lab, count))
+}
+
+// What the registers come to, where all was accepted.
+fn registers_after(
+    alloc: Global,
+    workload: Workload,
+    is_attached: bool,
+    count: u64,
+) -> Result<Option<Registers>, AllocError> {
+    let mut lab = Lab::new(alloc)?;
+    let is_done = work(alloc, &mut lab, workload, is_attached, count)?;
+    Ok(if is_done { Some(lab.regs()) } else { None })
+}
+
+fn print_registers(rt: &impl Print, name: &str, regs: Registers) -> Result<()> {
+    print!(rt;
+        "{name} PC={:04X} A={:02X} F={:02X}",
+        regs.pc,
+        regs.a,
+        regs.flags.to_byte()
+    )?;
+    print!(rt;
+        " B={:02X} C={:02X} D={:02X} E={:02X}",
+        regs.b, regs.c, regs.d, regs.e
+    )?;
+    println!(rt; " H={:02X} L={:02X} SP={:04X}", regs.h, regs.l, regs.sp)?;
+    Ok(())
+}
+
+/// Runs a workload for so many instructions, and prints where it came to.
+pub fn report(
+    rt: &(impl Print + AllocGlobal),
+    name: &str,
+    is_attached: bool,
+    count: u64,
+) -> Result<()> {
+    let Some(workload) = workload_named(name) else {
+        bail!("the workloads are loop, sort and calls");
+    };
+    match registers_after(rt.alloc(), workload, is_attached, count)? {
+        Some(regs) => print_registers(rt, name, regs),
+        None => bail!("the board didn't take the workload"),
+    }
+}
+
+/// Runs each workload for ten thousand instructions, with and without a debugger.
+pub fn check(rt: &(impl Print + AllocGlobal)) -> Result<()> {
+    for (name, is_attached) in RUNS {
+        report(rt, name, is_attached, 10_000)?;
+    }
+    Ok(())
+}
