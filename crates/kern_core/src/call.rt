@@ -23,7 +23,7 @@ pub struct Arrival {
 
 /// A call, as it is journaled. Moments are seconds since 1970.
 ///
-/// A running cell makes tens of thousands of slices a second, so a call takes 24 bytes: what is longer
+/// A running cell makes tens of thousands of slices a second, so a call takes 16 bytes: what is longer
 /// lies behind a pointer.
 #[derive(Debug, Drop)]
 pub enum Call {
