@@ -6,6 +6,7 @@ use crate::slot::Slot;
 use anyhow::{Result, bail};
 use i80_exec::machine::Machine;
 use i80_exec::registers::Stepped;
+use lab_bench::board::print_registers;
 use std::alloc::{AllocError, Global};
 
 /// Two nested counters, counted down.
@@ -60,18 +61,7 @@ pub fn report(rt: &(impl Print + AllocGlobal), name: &str, count: u64) -> Result
         _ => bail!("the workloads are loop, sort and calls"),
     };
     let regs = run(loaded(rt.alloc(), code)?, &mut Slot::new(), count).regs();
-    print!(rt;
-        "{name} PC={:04X} A={:02X} F={:02X}",
-        regs.pc,
-        regs.a,
-        regs.flags.to_byte()
-    )?;
-    print!(rt;
-        " B={:02X} C={:02X} D={:02X} E={:02X}",
-        regs.b, regs.c, regs.d, regs.e
-    )?;
-    println!(rt; " H={:02X} L={:02X} SP={:04X}", regs.h, regs.l, regs.sp)?;
-    Ok(())
+    print_registers(rt, name, regs)
 }
 
 /// Runs each workload for ten thousand instructions.

@@ -136,7 +136,8 @@ fn registers_after(
     Ok(if is_done { Some(lab.regs()) } else { None })
 }
 
-fn print_registers(rt: &impl Print, name: &str, regs: Registers) -> Result<()> {
+/// Prints where a workload came to.
+pub fn print_registers(rt: &impl Print, name: &str, regs: Registers) -> Result<()> {
     print!(rt;
         "{name} PC={:04X} A={:02X} F={:02X}",
         regs.pc,

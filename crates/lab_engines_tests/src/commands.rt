@@ -79,3 +79,11 @@ fn a_writer_that_cannot_be_flushed_has_failed(rt: HostRuntime) {
     assert!(rt; status == Status::Success);
     assert!(rt; flushed(status, &mut output.into_inner()) == Status::Failed);
 }
+
+#[test]
+fn a_writer_that_is_flushed_leaves_the_status(rt: HostRuntime) {
+    for status in [Status::Success, Status::Refused, Status::OutOfMemory] {
+        let mut written = Vec::<u8>::new(rt.alloc());
+        assert!(rt; flushed(status, &mut written) == status);
+    }
+}
