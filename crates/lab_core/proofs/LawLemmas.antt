@@ -13,7 +13,7 @@ use Rattle.lab_core.specs.declared.answer.Answer.{Answer}
 use Rattle.lab_core.specs.declared.fault.EventFault.{EventFault}
 use Rattle.lab_core.specs.Board.{Board}
 use Rattle.lab_core.specs.Slices.{IsSlice, reason, early_reason, after_steps}
-use Rattle.lab_core.specs.Events.{Given, Gives, GivesSlice, SlicesRun, Applies, Runs, while_running}
+use Rattle.lab_core.specs.Events.{Given, Gives, SlicesRun, Applies, Runs, while_running}
 use Rattle.lab_core.specs.Given.{or_goes_on, slice_from, sliced_at, given}
 
 -- ---- a slice ends where the function says

@@ -1,9 +1,9 @@
 -- What a lab stands for after a step, a Resume and a Step.
-use Rattle.std.proofs.Common.{◌≡◌, ℕ, ◌+◌, ◌≤◌, List, [], ◌∷◌, ◌++◌, Bool, true, false, not, ◌||◌, ◌&&◌, ◌==◌, Option, Some, None, length, take, drop, min, refl, sym, ap, ◌∙◌, subst, arith, length-append, append-nil}
+use Rattle.std.proofs.Common.{◌≡◌, ℕ, ◌+◌, ◌≤◌, List, [], ◌∷◌, ◌++◌, Bool, true, false, not, ◌||◌, ◌&&◌, ◌==◌, Option, Some, None, length, min, refl, sym, ap, ◌∙◌, subst, arith, length-append, append-nil}
 use Rattle.std.proofs.lemmas.List.{take-append-drop, drop-append-le, take-append-le, take_all, drop_all}
 use Rattle.std.proofs.lemmas.List.Sums.{fold-append}
 use Rattle.std.proofs.lemmas.Bool.Decides.{nat_tests}
-use Rattle.std.specs.Option.{IsSome, is_some, unwrap_or}
+use Rattle.std.specs.Option.{IsSome, unwrap_or}
 use Rattle.std.specs.List.{filter}
 use Rattle.i80_exec.specs.declared.registers.Stepped.{Stepped}
 use Rattle.i80_exec.specs.declared.ports.PortOperation.{PortOperation}
@@ -13,15 +13,13 @@ use Rattle.i80_exec.specs.Step.{is_halt, operation_list}
 use Rattle.i80_exec.specs.declared.registers.Stepped.TheVariants as stepped
 use Rattle.i80_devs.specs.Past.{Operation, DeviceState, StandsFor as DevicesStandFor}
 use Rattle.lab_frames.specs.declared.frame.Frame.{Frame}
-use Rattle.lab_frames.specs.Live.{BoardStep, Change, change_of, ends, ended_by, live, stays}
+use Rattle.lab_frames.specs.Live.{BoardStep, Change, change_of, ends, live, stays}
 use Rattle.lab_frames.specs.Frames.{Advances, LeavesOldest, IsStep, survivors}
 use Rattle.lab_frames.proofs.LiveLemmas.{live-append, stays-step, filter-stays-step, filter-stays-none}
-use Rattle.lab_core.specs.declared.event.StepKind.{StepKind}
-use Rattle.lab_core.specs.declared.event.StepKind.TheVariants.{In, Over, Out}
 use Rattle.lab_core.specs.declared.event.StepRequest.{StepRequest}
 use Rattle.lab_core.specs.declared.run_state.RunState.TheVariants.{Running}
 use Rattle.lab_core.specs.Board.{Board, accepted, as_step, next_change, next_step, operations, outcome as outcome_of, stepped as stepped_board}
-use Rattle.lab_core.specs.Stops.{earlier, since, innermost, is_any, is_done, is_gone, is_gone_after}
+use Rattle.lab_core.specs.Stops.{earlier, since, innermost, is_any, is_gone, is_gone_after}
 use Rattle.lab_core.specs.declared.answer.SliceOutcome.TheVariants as outcome
 use Rattle.lab_core.specs.declared.answer.End.TheVariants as end
 use Rattle.lab_core.specs.Slices.{ends_in_halt, undefined}

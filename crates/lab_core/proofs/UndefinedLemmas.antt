@@ -1,18 +1,17 @@
 -- Undefined is answered exactly where an undefined opcode stands at PC and no request is accepted.
-use Rattle.std.proofs.Common.{◌≡◌, ℕ, ◌+◌, ◌*◌, List, [], ◌++◌, Bool, true, false, ◌&&◌, Option, Some, None, if◌then◌else◌, refl, sym, ◌∙◌, subst}
+use Rattle.std.proofs.Common.{◌≡◌, ℕ, ◌+◌, List, [], Bool, true, false, ◌&&◌, Option, Some, None, if◌then◌else◌, refl, sym, subst}
 use Rattle.std.specs.Option.{is_none, IfSome}
 use Rattle.std.proofs.lemmas.Bool.{cond_both}
 use Rattle.i80_rows.specs.declared.instruction.Instr.{Instr}
 use Rattle.i80_rows.specs.declared.instruction.Instr.TheVariants.{Nop, Lxi, Stax, Ldax, Shld, Lhld, Sta, Lda, Inx, Dcx, Dad, Inr, Dcr, Mvi, Rotate, Daa, Cma, Stc, Cmc, Mov, MovFromM, MovToM, Hlt, Alu, AluImmediate, Jmp, JumpIf, Call, CallIf, Ret, RetIf, Rst, Push, Pop, Xthl, Xchg, Pchl, Sphl, Out, In, Di, Ei}
-use Rattle.i80_rows.specs.Codes.{vector_code}
 use Rattle.i80_rows.specs.Rows.{Row, Undefined, Alone, Byte, Word, row, is_undefined}
 use Rattle.i80_exec.specs.declared.registers.Interrupts.{Interrupts}
 use Rattle.i80_exec.specs.declared.registers.Interrupts.TheVariants.{Off, Arming, On}
 use Rattle.i80_exec.specs.declared.registers.Stepped.{Stepped}
 use Rattle.i80_exec.specs.declared.registers.Stepped.TheVariants as stepped
-use Rattle.i80_exec.specs.State.{MachineState, wrapped, byte_at, word_at, with_pc, with_interrupts}
+use Rattle.i80_exec.specs.State.{MachineState, wrapped, byte_at, word_at, with_pc}
 use Rattle.i80_exec.specs.Effect.{Outcome, done, effect, called, returned, holds}
-use Rattle.i80_exec.specs.Step.{by_row, instruction, accepted_in, acceptance}
+use Rattle.i80_exec.specs.Step.{by_row, accepted_in}
 use Rattle.i80_devs.specs.Past.{Operation, answer, panel_after}
 use Rattle.lab_core.specs.Board.{accepted, acceptance_of, or_instruction, outcome, operations, taken_or_done}
 

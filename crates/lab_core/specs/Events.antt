@@ -14,7 +14,6 @@ use Rattle.lab_sources.specs.declared.sources.Source.{Source}
 use Rattle.lab_sources.specs.declared.sources.SourceFault.{SourceFault}
 use Rattle.lab_sources.specs.Sources.{place_of, number_at, kept_at, source_at, line_count}
 use Rattle.lab_breaks.specs.Breakpoints.{with_lines}
-use Rattle.lab_views.specs.declared.view.View.{View}
 use Rattle.lab_views.specs.declared.shown.Shown.{Shown}
 use Rattle.lab_views.specs.declared.fault.ViewFault.{ViewFault}
 use Rattle.lab_views.specs.Parts.{Parts}

@@ -1,5 +1,5 @@
 -- The one answer to an event, and the board after it, as a function.
-use Rattle.std.specs.Prelude.{◌≡◌, ℕ, zero, suc, ◌+◌, List, [], Option, Some, None, Ok, unwrap_or}
+use Rattle.std.specs.Prelude.{ℕ, zero, suc, ◌+◌, List, [], Option, Some, None, Ok, unwrap_or}
 use Rattle.i80_exec.specs.declared.ports.PortOperation.{PortOperation}
 use Rattle.i80_devs.specs.Past.{Typed, Switches}
 use Rattle.lab_views.specs.Views.{shown}

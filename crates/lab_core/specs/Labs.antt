@@ -12,6 +12,7 @@ use Rattle.lab_image.specs.Loads as origins
 use Rattle.lab_image.specs.declared.spans.Span.{Span}
 use Rattle.lab_breaks.specs.Breakpoints.{BreakpointState}
 use Rattle.lab_breaks.specs.Breakpoints as breakpoints
+use Rattle.lab_core.specs.declared.lab.Context.{Context}
 use Rattle.lab_core.specs.declared.run_state.RunState.{RunState}
 use Rattle.lab_core.specs.declared.event.StepRequest.{StepRequest}
 use Rattle.lab_sources.specs.declared.sources.Source.{Source}
@@ -86,10 +87,38 @@ Keeps old new = (b : Board) (traffic : List PortOperation) → StandsAmid old b 
 abbrev pub Finds : {A : Type 0} → (Board → A) → A → LabState → Type 0
 Finds f found lab = (b : Board) (traffic : List PortOperation) → StandsAmid lab b traffic → found ≡ f b
 
--- unwatched, the lab has neither a debugger nor a Step
-abbrev pub Watches : Bool → LabState → Type 0
-Watches true lab = Unit {0}
-Watches false lab = (lab.is_attached ≡ false) × (lab.request ≡ None)
+-- unwatched, there is neither a debugger nor a Step
+abbrev pub Watches : Bool → Bool → Option StepRequest → Type 0
+Watches true is_attached request = Unit {0}
+Watches false is_attached request = (is_attached ≡ false) × (request ≡ None)
+
+-- a lab with this machine and what steps look at beside it
+abbrev pub amid : LabState → MachineState → Context → LabState
+amid lab machine context = record lab {
+  machine = machine;
+  devices = context.devices;
+  frames = context.frames;
+  origins = context.origins;
+  breakpoints = context.breakpoints;
+  is_attached = context.is_attached;
+  is_halted = context.is_halted;
+  is_resumed = context.is_resumed;
+  has_moved = context.has_moved;
+  request = context.request;
+  older = context.older;
+  innermost = context.innermost;
+  is_gone = context.is_gone;
+}
+
+-- the three above, of every lab that has these
+abbrev pub AdvancesIn : MachineState → Context → MachineState → Context → Type 0
+AdvancesIn machine context machine' context' = (lab : LabState) → Advances (amid lab machine context) (amid lab machine' context')
+
+abbrev pub KeepsIn : MachineState → Context → MachineState → Context → Type 0
+KeepsIn machine context machine' context' = (lab : LabState) → Keeps (amid lab machine context) (amid lab machine' context')
+
+abbrev pub FindsIn : {A : Type 0} → (Board → A) → A → MachineState → Context → Type 0
+FindsIn f found machine context = (lab : LabState) → Finds f found (amid lab machine context)
 
 -- ---- events
 

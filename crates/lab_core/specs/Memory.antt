@@ -1,5 +1,5 @@
 -- Where an event may be answered with out of memory.
-use Rattle.std.specs.Prelude.{◌≡◌, List, Ok, Option, Some, Result, IsOk, IsSome}
+use Rattle.std.specs.Prelude.{◌≡◌, IsOk, IsSome}
 use Rattle.lab_sources.specs.Sources.{place_of, source_at}
 use Rattle.lab_views.specs.Views.{shown}
 use Rattle.lab_core.specs.declared.run_state.RunState.TheVariants.{NoRun, Running}

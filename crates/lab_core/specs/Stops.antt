@@ -69,10 +69,13 @@ abbrev pub is_there : Granularity → Board → Bool
 is_there granularity.Line b = is_first (origin_of b.loads b.machine.regs.pc)
 is_there granularity.Instruction b = true
 
+-- it is done, and the run may stop where it stands
+abbrev pub is_reached : StepRequest → Board → Bool
+is_reached request b = is_done request.kind (earlier b) (since b) && is_there request.granularity b
+
 abbrev pub completes : Option StepRequest → Board → Bool
 completes None b = false
-completes (Some request) b =
-    is_any (since b) && (is_done request.kind (earlier b) (since b) && is_there request.granularity b)
+completes (Some request) b = is_any (since b) && is_reached request b
 
 -- after at least one step
 abbrev pub complete : Board → Option SliceOutcome

@@ -1,6 +1,6 @@
 //! One step of the board.
 ghost use Rattle.std.specs.Prelude.{◌≡◌, ◌+◌, ◌≤◌, List, IfSome, IfNone, None};
-ghost use Rattle.i80_devs.specs.Past.{Operation, StandsFor};
+ghost use Rattle.i80_devs.specs.Past.{Operation, StandsFor, Taken, Appends, SamePorts};
 ghost use Rattle.lab_frames.specs.Frames.{TellsSp};
 ghost use Rattle.lab_core.specs.Board.{accepted};
 ghost use Rattle.lab_core.specs.Steps.{IsBoardStep};
@@ -38,6 +38,17 @@ fn accept(machine: &mut Machine, devices: &mut Devices) -> Option<Stepped>
 {
     let vector = devices.request()?;
     let answer = machine.accept(vector)?;
-    devices.take_request();
+    take_request(devices);
     Some(answer)
+}
+
+// Takes the request that was accepted. It is a cold function, so that the way to it is laid out apart from the
+// usual one.
+#[cold]
+#[inline(never)]
+fn take_request(devices: &mut Devices)
+    ensures past { Appends Taken devices.old devices.new }
+    ensures ports { SamePorts devices.old devices.new }
+{
+    devices.take_request();
 }

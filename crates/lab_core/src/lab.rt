@@ -5,6 +5,7 @@ mod debug;
 mod events;
 mod load;
 mod slice;
+mod steps;
 mod stops;
 
 use crate::event::StepRequest;
@@ -27,14 +28,23 @@ use std::marker::Model;
 #[derive(Drop)]
 pub struct Lab {
     machine: Machine,
+    /// Lies in the machine's place while a slice has the machine as a value of its own.
+    spare: Option<Machine>,
+    context: Context,
+    symbols: Symbols,
+    sources: Sources,
+    run_state: RunState,
+    alloc: Global,
+}
+
+/// What a run's steps look at and change beside the machine.
+#[derive(Drop)]
+struct Context {
     devices: Devices,
     frames: Frames,
     origins: Origins,
-    symbols: Symbols,
-    sources: Sources,
     breakpoints: Breakpoints,
     is_attached: bool,
-    run_state: RunState,
     /// The run's last step was HLT.
     is_halted: bool,
     /// The run had a Resume or a Step.
@@ -48,10 +58,10 @@ pub struct Lab {
     /// The one of them that was innermost, and whether it is gone.
     innermost: Option<Frame>,
     is_gone: bool,
-    alloc: Global,
 }
 
 impl Model for Lab {
+    ghost use Rattle.std.specs.Prelude.{IsSome};
     ghost use Rattle.lab_frames.specs.Frames.{AtLeast};
     ghost use Rattle.lab_core.specs.Labs.{LabState};
 
@@ -59,25 +69,25 @@ impl Model for Lab {
 
     ghost view = { λ l. record {
       machine = l.machine;
-      devices = l.devices;
-      frames = l.frames;
-      origins = l.origins;
+      devices = l.context.devices;
+      frames = l.context.frames;
+      origins = l.context.origins;
       symbols = l.symbols;
       sources = l.sources;
-      breakpoints = l.breakpoints;
-      is_attached = l.is_attached;
+      breakpoints = l.context.breakpoints;
+      is_attached = l.context.is_attached;
       run = l.run_state;
-      is_halted = l.is_halted;
-      is_resumed = l.is_resumed;
-      has_moved = l.has_moved;
-      request = l.request;
-      older = l.older;
-      innermost = l.innermost;
-      is_gone = l.is_gone;
+      is_halted = l.context.is_halted;
+      is_resumed = l.context.is_resumed;
+      has_moved = l.context.has_moved;
+      request = l.context.request;
+      older = l.context.older;
+      innermost = l.context.innermost;
+      is_gone = l.context.is_gone;
     } };
 
     // No live slot is below SP: a step that leaves SP above a slot ends its frame.
-    ghost invariant = { λ l. AtLeast l.machine.regs.sp l.frames };
+    ghost invariant = { λ l. AtLeast l.machine.regs.sp l.context.frames × IsSome l.spare };
 }
 
 impl Lab {
@@ -91,31 +101,35 @@ impl Lab {
 
     /// A board after power-on, with nothing loaded or kept.
     /// All room that its memory, its live frames, its list of texts and the bits of its breakpoints need
-    /// is made here.
+    /// is made here, and that of the machine that lies in for its own while steps are made.
     pub fn new(alloc: Global) -> Result<Lab, AllocError>
         ensures { IfOk result (λ lab. StandsFor lab opening) }
     {
         let machine = Machine::new(alloc)?;
+        let spare = Machine::new(alloc)?;
         let frames = Frames::new(alloc)?;
         let sources = Sources::new(alloc)?;
         let breakpoints = Breakpoints::new(alloc)?;
         Ok(Lab {
             machine,
-            devices: Devices::new(alloc),
-            frames,
-            origins: Origins::new(alloc),
+            spare: Some(spare),
+            context: Context {
+                devices: Devices::new(alloc),
+                frames,
+                origins: Origins::new(alloc),
+                breakpoints,
+                is_attached: false,
+                is_halted: false,
+                is_resumed: false,
+                has_moved: false,
+                request: None,
+                older: 0,
+                innermost: None,
+                is_gone: false,
+            },
             symbols: Symbols::new(alloc),
             sources,
-            breakpoints,
-            is_attached: false,
             run_state: RunState::NoRun,
-            is_halted: false,
-            is_resumed: false,
-            has_moved: false,
-            request: None,
-            older: 0,
-            innermost: None,
-            is_gone: false,
             alloc,
         })
     }
@@ -145,14 +159,14 @@ impl Lab {
     pub fn frames(&self) -> &Frames
         ensures { (b : Board) → StandsFor self.now b → result.now ≡ live b.trace }
     {
-        &self.frames
+        &self.context.frames
     }
 
     /// The console and the front panel.
     pub fn devices(&self) -> &Devices
         ensures { (b : Board) → StandsFor self.now b → devices.StandsFor result.now b.past }
     {
-        &self.devices
+        &self.context.devices
     }
 
     /// The symbols that are kept.
@@ -173,6 +187,6 @@ impl Lab {
     pub fn origin_at(&self, address: u16) -> Option<Origin>
         ensures { (b : Board) → StandsFor self.now b → result ≡ origin_of b.loads address }
     {
-        self.origins.at(address)
+        self.context.origins.at(address)
     }
 }

@@ -45,7 +45,7 @@ impl Lab {
         ensures err { OnErr result (self.new ≡ self.old) }
         ensures memory { result ≡ Err EventFault.OutOfMemory → MayLackMemory Event.Pause self.old }
     {
-        if !self.is_attached {
+        if !self.context.is_attached {
             return Err(EventFault::NotAttached);
         }
         match self.run_state {
@@ -53,7 +53,7 @@ impl Lab {
             RunState::Stopped => Err(EventFault::NotRunning),
             RunState::Running => {
                 self.run_state = RunState::Stopped;
-                self.request = None;
+                self.context.request = None;
                 Ok(Answer::Accepted)
             }
         }
@@ -94,12 +94,12 @@ impl Lab {
         ensures { (b : Board) → StandsFor self.old b → StandsFor self.new (going_on request b) }
     {
         self.run_state = RunState::Running;
-        self.is_resumed = true;
-        self.has_moved = false;
-        self.request = request;
-        self.older = self.frames.len();
-        self.innermost = self.frames.newest();
-        self.is_gone = false;
+        self.context.is_resumed = true;
+        self.context.has_moved = false;
+        self.context.request = request;
+        self.context.older = self.context.frames.len();
+        self.context.innermost = self.context.frames.newest();
+        self.context.is_gone = false;
     }
 
     pub(super) fn set_breakpoints(
@@ -115,7 +115,9 @@ impl Lab {
             None => Err(EventFault::NoSource),
             Some((number, text)) => {
                 let answer = verified(self.alloc, text, lines)?;
-                self.breakpoints.set(number as u32, lines, &self.origins)?;
+                self.context
+                    .breakpoints
+                    .set(number as u32, lines, &self.context.origins)?;
                 Ok(Answer::Breakpoints(answer))
             }
         }
@@ -126,7 +128,7 @@ impl Lab {
         ensures err { OnErr result (self.new ≡ self.old) }
         ensures memory { result ≡ Err EventFault.OutOfMemory → MayLackMemory Event.Attach self.old }
     {
-        self.is_attached = true;
+        self.context.is_attached = true;
         Ok(Answer::Accepted)
     }
 
@@ -135,9 +137,9 @@ impl Lab {
         ensures err { OnErr result (self.new ≡ self.old) }
         ensures memory { result ≡ Err EventFault.OutOfMemory → MayLackMemory Event.Detach self.old }
     {
-        self.is_attached = false;
-        self.breakpoints.clear();
-        self.request = None;
+        self.context.is_attached = false;
+        self.context.breakpoints.clear();
+        self.context.request = None;
         self.run_state = match self.run_state {
             RunState::NoRun => RunState::NoRun,
             RunState::Running => RunState::Running,
@@ -161,13 +163,13 @@ impl Lab {
     {
         Parts {
             machine: &self.machine,
-            devices: &self.devices,
-            frames: &self.frames,
-            origins: &self.origins,
+            devices: &self.context.devices,
+            frames: &self.context.frames,
+            origins: &self.context.origins,
             symbols: &self.symbols,
             sources: &self.sources,
-            breakpoints: self.breakpoints.lists(),
-            is_attached: self.is_attached,
+            breakpoints: self.context.breakpoints.lists(),
+            is_attached: self.context.is_attached,
             is_stopped: is_stopped(self.run_state),
         }
     }

@@ -132,7 +132,7 @@ impl Lab {
         ensures stands { (b : Board) → StandsFor self.old b → StandsFor self.new (ended b) }
     {
         self.run_state = RunState::NoRun;
-        self.request = None;
+        self.context.request = None;
         Answer::Interrupted
     }
 
@@ -146,11 +146,11 @@ impl Lab {
           request = None;
         } }
     {
-        self.frames.clear();
-        self.is_halted = false;
-        self.is_resumed = false;
-        self.has_moved = false;
-        self.request = None;
+        self.context.frames.clear();
+        self.context.is_halted = false;
+        self.context.is_resumed = false;
+        self.context.has_moved = false;
+        self.context.request = None;
     }
 
     fn reset(&mut self) -> Result<Answer, EventFault>
@@ -162,9 +162,9 @@ impl Lab {
         let machine = Machine::new(self.alloc)?;
         self.forget_steps();
         self.machine = machine;
-        self.devices.clear();
-        self.origins.clear();
-        self.breakpoints.refresh(&self.origins);
+        self.context.devices.clear();
+        self.context.origins.clear();
+        self.context.breakpoints.refresh(&self.context.origins);
         self.run_state = RunState::NoRun;
         Ok(Answer::Reset)
     }
@@ -174,7 +174,7 @@ impl Lab {
         ensures err { OnErr result (self.new ≡ self.old) }
         ensures memory { result ≡ Err EventFault.OutOfMemory → MayLackMemory (Event.Typed bytes.now) self.old }
     {
-        self.devices.type_bytes(bytes)?;
+        self.context.devices.type_bytes(bytes)?;
         Ok(Answer::Accepted)
     }
 
@@ -183,7 +183,7 @@ impl Lab {
         ensures err { OnErr result (self.new ≡ self.old) }
         ensures memory { result ≡ Err EventFault.OutOfMemory → MayLackMemory (Event.Switches byte) self.old }
     {
-        self.devices.set_switches(byte);
+        self.context.devices.set_switches(byte);
         Ok(Answer::Accepted)
     }
 
@@ -192,7 +192,7 @@ impl Lab {
         ensures err { OnErr result (self.new ≡ self.old) }
         ensures memory { result ≡ Err EventFault.OutOfMemory → MayLackMemory (Event.Press n) self.old }
     {
-        self.devices.press(n)?;
+        self.context.devices.press(n)?;
         Ok(Answer::Accepted)
     }
 }

@@ -93,10 +93,12 @@ impl Lab {
         ensures sources { self.new.sources ≡ self.old.sources }
         ensures err { OnErr result (self.new ≡ self.old) }
     {
-        self.origins.load(&mut self.machine, number, &built)?;
+        self.context
+            .origins
+            .load(&mut self.machine, number, &built)?;
         let Built { symbols, .. } = built;
         self.symbols = symbols;
-        self.breakpoints.refresh(&self.origins);
+        self.context.breakpoints.refresh(&self.context.origins);
         Ok(())
     }
 }

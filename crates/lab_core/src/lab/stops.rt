@@ -1,13 +1,15 @@
 //! The reasons for which a slice makes no further step.
-ghost use Rattle.std.specs.Prelude.{◌≡◌, IsSome};
+ghost use Rattle.std.specs.Prelude.{◌≡◌, ◌&&◌, if◌then◌else◌, Some, None, IsSome, is_none};
 ghost use Rattle.std.specs.Option.{option_or};
-ghost use Rattle.lab_core.specs.Stops.{at_breakpoint, meets_breakpoint, complete, completes, is_done, is_first, is_there, since, earlier};
+ghost use Rattle.i80_exec.specs.State.{MachineState};
+ghost use Rattle.lab_core.specs.Stops.{at_breakpoint, meets_breakpoint, complete, completes, is_reached, is_done, is_first, is_there, since, earlier};
 ghost use Rattle.lab_core.specs.Slices.{is_off, is_on, halted, waiting, early_reason};
-ghost use Rattle.lab_core.specs.Labs.{Finds, Watches};
+ghost use Rattle.lab_core.specs.Labs.{FindsIn, Watches};
 
 use crate::answer::{End, SliceOutcome, Stop};
-use crate::event::{Granularity, StepKind};
-use crate::lab::Lab;
+use crate::event::{Granularity, StepKind, StepRequest};
+use crate::lab::Context;
+use i80_exec::machine::Machine;
 use i80_exec::registers::Interrupts;
 use lab_image::origin::Origin;
 
@@ -25,6 +27,33 @@ fn is_on(interrupts: Interrupts) -> bool
     matches!(interrupts, Interrupts::On)
 }
 
+// After HLT the run ends where interrupts are off. What is looked at only then stands in cold functions, so that it
+// is laid out apart from the usual way of a step.
+#[cold]
+#[inline(never)]
+fn end_after_halt(interrupts: Interrupts) -> Option<SliceOutcome>
+    ensures { result ≡ (if is_off interrupts then Some (SliceOutcome.End End.Halted) else None) }
+{
+    if is_off(interrupts) {
+        Some(SliceOutcome::End(End::Halted))
+    } else {
+        None
+    }
+}
+
+// It waits where they are on and no request is latched.
+#[cold]
+#[inline(never)]
+fn wait_after_halt(interrupts: Interrupts, request: Option<u8>) -> Option<SliceOutcome>
+    ensures { result ≡ (if is_on interrupts && is_none request then Some SliceOutcome.Waiting else None) }
+{
+    if is_on(interrupts) && request.is_none() {
+        Some(SliceOutcome::Waiting)
+    } else {
+        None
+    }
+}
+
 fn is_first(origin: Option<Origin>) -> bool
     ensures { result ≡ is_first origin }
 {
@@ -34,66 +63,80 @@ fn is_first(origin: Option<Origin>) -> bool
     }
 }
 
-impl Lab {
+impl Context {
     /// The first of the reasons that are tried after the last step too.
     #[inline(always)]
-    pub(super) fn early(&self, is_watched: bool) -> Option<SliceOutcome>
-        requires { Watches is_watched self.now }
-        ensures { Finds early_reason result self.now }
+    pub(super) fn early(&self, machine: &Machine, is_watched: bool) -> Option<SliceOutcome>
+        requires { Watches is_watched self.now.is_attached self.now.request }
+        ensures { FindsIn early_reason result machine.now self.now }
     {
-        match self.halted() {
+        match self.halted(machine) {
             Some(outcome) => Some(outcome),
-            None => { if is_watched { self.debug_stop() } else { None } }
+            None => {
+                if is_watched {
+                    self.debug_stop(machine)
+                } else {
+                    None
+                }
+            }
         }
     }
 
     #[inline(always)]
-    fn halted(&self) -> Option<SliceOutcome>
-        ensures { Finds halted result self.now }
+    fn halted(&self, machine: &Machine) -> Option<SliceOutcome>
+        ensures { FindsIn halted result machine.now self.now }
     {
-        if self.is_halted && is_off(self.machine.regs().interrupts) {
-            Some(SliceOutcome::End(End::Halted))
+        if self.is_halted {
+            end_after_halt(machine.regs().interrupts)
         } else {
             None
         }
     }
 
     // A debugger's reasons.
-    fn debug_stop(&self) -> Option<SliceOutcome>
-        ensures { Finds (λ b. option_or (at_breakpoint b) (complete b)) result self.now }
+    #[inline(always)]
+    fn debug_stop(&self, machine: &Machine) -> Option<SliceOutcome>
+        ensures { FindsIn (λ b. option_or (at_breakpoint b) (complete b)) result machine.now self.now }
     {
-        if self.is_at_breakpoint() {
+        if self.is_at_breakpoint(machine) {
             Some(SliceOutcome::Stop(Stop::Breakpoint))
-        } else if self.is_complete() {
+        } else if self.is_complete(machine) {
             Some(SliceOutcome::Stop(Stop::Step))
         } else {
             None
         }
     }
 
-    #[inline]
-    fn is_at_breakpoint(&self) -> bool
-        ensures { Finds meets_breakpoint result self.now }
+    #[inline(always)]
+    fn is_at_breakpoint(&self, machine: &Machine) -> bool
+        ensures { FindsIn meets_breakpoint result machine.now self.now }
     {
         self.is_attached
             && (self.has_moved || !self.is_resumed)
-            && self.breakpoints.is_at(self.machine.regs().pc)
+            && self.breakpoints.is_at(machine.regs().pc)
     }
 
-    fn is_complete(&self) -> bool
-        ensures { Finds (λ b. completes b.request b) result self.now }
+    #[inline(always)]
+    fn is_complete(&self, machine: &Machine) -> bool
+        ensures { FindsIn (λ b. completes b.request b) result machine.now self.now }
     {
         match self.request {
             None => false,
-            Some(request) => {
-                self.has_moved && self.is_done(request.kind) && self.is_there(request.granularity)
-            }
+            Some(request) => self.has_moved && self.is_reached(machine, request),
         }
+    }
+
+    #[inline(always)]
+    fn is_reached(&self, machine: &Machine, request: StepRequest) -> bool
+        requires { IsSome self.now.request }
+        ensures { FindsIn (is_reached request) result machine.now self.now }
+    {
+        self.is_done(request.kind) && self.is_there(machine, request.granularity)
     }
 
     fn is_done(&self, kind: StepKind) -> bool
         requires { IsSome self.now.request }
-        ensures { Finds (λ b. is_done kind (earlier b) (since b)) result self.now }
+        ensures { (machine : MachineState) → FindsIn (λ b. is_done kind (earlier b) (since b)) result machine self.now }
     {
         match kind {
             StepKind::In => true,
@@ -102,25 +145,23 @@ impl Lab {
         }
     }
 
-    fn is_there(&self, granularity: Granularity) -> bool
-        ensures { Finds (is_there granularity) result self.now }
+    #[inline(always)]
+    fn is_there(&self, machine: &Machine, granularity: Granularity) -> bool
+        ensures { FindsIn (is_there granularity) result machine.now self.now }
     {
         match granularity {
-            Granularity::Line => is_first(self.origins.at(self.machine.regs().pc)),
+            Granularity::Line => is_first(self.origins.at(machine.regs().pc)),
             Granularity::Instruction => true,
         }
     }
 
     /// HLT with interrupts on, and no request is latched yet.
     #[inline(always)]
-    pub(super) fn waiting(&self) -> Option<SliceOutcome>
-        ensures { Finds waiting result self.now }
+    pub(super) fn waiting(&self, machine: &Machine) -> Option<SliceOutcome>
+        ensures { FindsIn waiting result machine.now self.now }
     {
-        if self.is_halted
-            && is_on(self.machine.regs().interrupts)
-            && self.devices.request().is_none()
-        {
-            Some(SliceOutcome::Waiting)
+        if self.is_halted {
+            wait_after_halt(machine.regs().interrupts, self.devices.request())
         } else {
             None
         }

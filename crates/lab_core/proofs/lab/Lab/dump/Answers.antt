@@ -1,4 +1,4 @@
-use Rattle.std.proofs.Common.{◌≡◌, ◌∙◌, ◌++◌, ◌∷◌, [], List, None, Ok, refl, sym, ap, subst}
+use Rattle.std.proofs.Common.{◌≡◌, ◌∙◌, ◌++◌, ◌∷◌, [], None, Ok, refl, sym, subst}
 use Rattle.lab_sources.specs.declared.sources.Source.{Source}
 use Rattle.lab_sources.specs.Sources.{place_of}
 use Rattle.lab_core.specs.Labs.{LabState, StandsFor}

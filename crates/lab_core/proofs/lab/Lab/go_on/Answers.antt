@@ -1,4 +1,4 @@
-use Rattle.std.proofs.Common.{◌≡◌, sym, subst}
+use Rattle.std.proofs.Common.{sym, subst}
 use Rattle.lab_core.specs.Labs.{LabState, StandsFor}
 use Rattle.lab_core.proofs.StandsLemmas.{stands_on}
 use Rattle.lab_core.proofs.lab.Lab.go_on.Goals as goal

@@ -1,4 +1,4 @@
-use Rattle.std.proofs.Common.{◌≡◌, List, [], ◌∷◌, ◌++◌, refl, sym, subst}
+use Rattle.std.proofs.Common.{List, [], ◌∷◌, ◌++◌, refl, sym, subst}
 use Rattle.asm_build.specs.Meaning.{meaning_in}
 use Rattle.lab_image.specs.Loads.{Load, load_of}
 use Rattle.lab_core.specs.Labs.{LabState, StandsFor}

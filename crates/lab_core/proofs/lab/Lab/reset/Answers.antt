@@ -1,4 +1,4 @@
-use Rattle.std.proofs.Common.{◌≡◌, ◌∙◌, [], refl, sym, ap, subst}
+use Rattle.std.proofs.Common.{◌∙◌, [], refl, sym, ap, subst}
 use Rattle.lab_core.specs.declared.run_state.RunState.TheVariants.{NoRun}
 use Rattle.lab_core.specs.Events.{reset}
 use Rattle.lab_core.specs.Labs.{LabState, StandsFor}

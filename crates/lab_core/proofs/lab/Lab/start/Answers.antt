@@ -1,5 +1,5 @@
 use Rattle.std.proofs.Common.{◌≡◌, ◌∙◌, sym, ap, subst}
-use Rattle.i80_exec.specs.State.{MachineState, with_pc}
+use Rattle.i80_exec.specs.State.{with_pc}
 use Rattle.lab_core.specs.declared.run_state.RunState.TheVariants.{NoRun, Running}
 use Rattle.lab_core.specs.declared.answer.Answer.TheVariants.{Started}
 use Rattle.lab_core.specs.Events.{started}

@@ -1,51 +1,30 @@
-use Rattle.std.proofs.Common.{◌≡◌, ◌∙◌, refl, sym, ap, arith, add-one, None}
-use borrow.Author.Count.{below_more}
-use Rattle.std.specs.Option.{unwrap_or}
-use Rattle.lab_core.specs.declared.answer.SliceOutcome.TheVariants.{More}
-use Rattle.lab_core.specs.Slices.{after_steps, traffic_of, reason}
+use Rattle.std.proofs.Common.{◌≡◌, refl, sym, subst}
+use Rattle.i80_exec.specs.State.{MachineState}
+use Rattle.lab_core.specs.Board.{Board}
+use Rattle.lab_core.specs.Slices.{after_steps, traffic_of}
+use Rattle.lab_core.specs.Labs.{LabState, StandsFor, StandsAmid, amid}
 use Rattle.lab_core.proofs.lab.Lab.steps.Goals as goal
 
-pub loop-k-preserved : goal.loop-k-preserved
-loop-k-preserved c =
-    let inv = c.loop-k.invariant in
-    let k = c.loop-k.k in
-    record {
-      stands = λ b s. rw add-one (c.in_default.ensures.none (after_steps k b) (traffic_of k b) (inv.stands b s));
-      none_before = λ b s. below_more (λ j. reason (after_steps j b) ≡ None) k (inv.none_before b s) (sym (c.in_default.ensures.reason (after_steps k b) (traffic_of k b) (inv.stands b s)));
-      room = let r = inv.room in let q = c.in_default.ensures.spare in omega arith;
-      watches = c.in_default.ensures.watches;
-    }
+-- the lab in parts, whose machine was moved out
+in_parts : (c : goal.Joined-self) → amid c.args.self.now c.self.inside.machine c.self.inside.context ≡ c.args.self.now
+in_parts c =
+    let P : LabState → Type 0 = λ lab. amid lab c.self.inside.machine c.self.inside.context ≡ lab in
+    subst P c.self.view_is refl
 
-pub returns-in-Some-clause-slice : goal.returns-in-Some-clause-slice
-returns-in-Some-clause-slice c = λ b s.
-    let inv = c.loop-k.invariant in
-    let k = c.loop-k.k in
-    record {
-      within = omega arith;
-      none_before = inv.none_before b s;
-      early = λ below. sym (c.in-Some.ensures.reason (after_steps k b) (traffic_of k b) (inv.stands b s));
-      last = λ all. absurd (omega arith);
-    }
-
-pub returns-in-Some-clause-stands : goal.returns-in-Some-clause-stands
-returns-in-Some-clause-stands c = λ b s.
-    c.in-Some.ensures.some refl (after_steps c.loop-k.k b) (traffic_of c.loop-k.k b) (c.loop-k.invariant.stands b s)
+-- and stands for what it stood for
+still_stands : (c : goal.Joined-self) (b : Board) → StandsFor c.args.self.now b
+    → StandsFor (amid c.args.self.now c.replace-machine.result c.self.inside.context) b
+still_stands c b s =
+    let P : LabState → Type 0 = λ lab. StandsFor lab b in
+    let M : MachineState → Type 0 = λ machine. StandsFor (amid c.args.self.now machine c.self.inside.context) b in
+    subst M (sym c.replace-machine.ensures.value) (subst P (sym (in_parts c)) s)
 
 pub returns-clause-slice : goal.returns-clause-slice
-returns-clause-slice c = λ b s.
-    let inv = c.loop-k.invariant in
-    let n = c.args.n in
-    let all : c.loop-k.k ≡ n = omega arith in
-    let stands = rw all at (inv.stands b s) in
-    record {
-      within = omega arith;
-      none_before = rw all at (inv.none_before b s);
-      early = λ below. absurd (omega arith);
-      last = λ _. c.unwrap_or-outcome.ensures ∙ ap (λ o. unwrap_or o More) (c.early.ensures (after_steps n b) (traffic_of n b) stands);
-    }
+returns-clause-slice c = λ b s. c.steps-executed.ensures.slice c.args.self.now b (still_stands c b s)
 
 pub returns-clause-stands : goal.returns-clause-stands
 returns-clause-stands c = λ b s.
-    let n = c.args.n in
-    let all : c.loop-k.k ≡ n = omega arith in
-    rw all at (c.loop-k.invariant.stands b s)
+    let executed = c.steps-executed.result.0 in
+    let N : MachineState → Type 0 = λ machine. StandsAmid (amid c.args.self.now machine c.steps-executed.new.self) (after_steps executed b) (traffic_of executed b) in
+    let Q : LabState → Type 0 = λ lab. StandsAmid (amid lab c.replace.new.dest c.steps-executed.new.self) (after_steps executed b) (traffic_of executed b) in
+    subst Q (sym c.self.view_is) (subst N (sym c.replace.ensures.after) (c.steps-executed.ensures.stands c.args.self.now b (still_stands c b s)))

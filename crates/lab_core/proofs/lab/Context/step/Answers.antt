@@ -1,38 +1,31 @@
-use Rattle.std.proofs.Common.{◌≡◌, ◌++◌, refl, sym, ap, subst}
+use Rattle.std.proofs.Common.{◌++◌, refl, sym, ap, subst}
 use Rattle.i80_exec.specs.declared.registers.Registers.{Registers}
 use Rattle.i80_exec.specs.Step.{operation_list}
+use Rattle.lab_core.specs.declared.lab.Context.{Context}
 use Rattle.lab_core.specs.Board.{next_change, stepped}
-use Rattle.lab_core.specs.Labs.{LabState, StandsAmid}
+use Rattle.lab_core.specs.Labs.{StandsAmid, amid}
 use Rattle.lab_core.proofs.StandsLemmas.{stands_step, finds_undefined, finds_no_undefined, stands_undefined}
-use Rattle.lab_core.proofs.lab.Lab.step.Goals as goal
+use Rattle.lab_core.proofs.lab.Context.step.Goals as goal
 
 pub returns-in-Undefined-clause-undefined : goal.returns-in-Undefined-clause-undefined
-returns-in-Undefined-clause-undefined c = λ b traffic s-now.
-    let P : LabState → Type 0 = λ lab. StandsAmid lab b traffic in
-    let s = subst P (sym c.self.view_is) s-now in
+returns-in-Undefined-clause-undefined c = λ lab b traffic s.
     let did = c.board_step-answer.ensures.step b.past s.devices in
     finds_undefined _ b traffic _ _ c.in-Undefined.opcode c.regs-pc.result.pc s (rw c.in-Undefined.is at did) (ap (λ (r : Registers). r.pc) c.regs-pc.ensures)
 
 pub returns-in-Undefined-clause-some : goal.returns-in-Undefined-clause-some
-returns-in-Undefined-clause-some c = λ some b traffic s-now.
-    let P : LabState → Type 0 = λ lab. StandsAmid lab b traffic in
-    let s = subst P (sym c.self.view_is) s-now in
+returns-in-Undefined-clause-some c = λ some lab b traffic s.
     let did = c.board_step-answer.ensures.step b.past s.devices in
     stands_undefined _ b traffic _ _ c.in-Undefined.opcode s (rw c.in-Undefined.is at did)
 
 pub returns-clause-undefined : goal.returns-clause-undefined
-returns-clause-undefined c = λ b traffic s-now.
-    let P : LabState → Type 0 = λ lab. StandsAmid lab b traffic in
-    let s = subst P (sym c.self.view_is) s-now in
+returns-clause-undefined c = λ lab b traffic s.
     finds_no_undefined _ b traffic _ _ c.board_step-answer.result s (c.board_step-answer.ensures.step b.past s.devices) c.in_default.not-Undefined
 
 pub returns-clause-none : goal.returns-clause-none
-returns-clause-none c = λ b traffic s-now.
-    let P : LabState → Type 0 = λ lab. StandsAmid lab b traffic in
-    let s = subst P (sym c.self.view_is) s-now in
-    let Q : LabState → Type 0 = λ lab. StandsAmid lab (stepped b) (traffic ++ operation_list (next_change b).operation) in
+returns-clause-none c = λ lab b traffic s.
+    let Q : Context → Type 0 = λ context. StandsAmid (amid lab c.board_step-answer.new.machine context) (stepped b) (traffic ++ operation_list (next_change b).operation) in
     subst Q (sym c.follow.ensures.rest) (stands_step _ _ b traffic c.board_step-answer.result c.advance-left.result s (c.board_step-answer.ensures.step b.past s.devices) (record {
-      rest = rw c.is_halt-self-inside.ensures refl;
+      rest = rw c.is_halt-self.ensures refl;
       frames = rw (← c.regs-sp.ensures, ← c.regs-pc.ensures) c.advance-left.ensures.live;
       oldest = rw (← c.regs-sp.ensures) c.advance-left.ensures.oldest;
       older = c.follow.ensures.older;
