@@ -170,8 +170,8 @@ class Lab(unittest.TestCase):
 
 
 def program():
-    """Where the program is installed."""
-    return os.path.join(get_kernel_spec("lab80").resource_dir, "lab80")
+    """What a shell calls: the repository's own lab80, with any word."""
+    return os.path.join(os.path.dirname(os.path.dirname(os.path.abspath(__file__))), "lab80")
 
 
 def start_alone(path):

@@ -1,0 +1,28 @@
+// lab80's kernel: `lab80 kernel FILE` serves as the Jupyter kernel of a connection file, `lab80 term FILE`
+// runs the cell on standard input on one, and prints what it streams.
+// What each word does stands in crates of its own, with its contract: kern_serve and lab_term.
+// This file calls them with the files, sockets and streams of the system. The words `step`, `asm` and
+// `dis` are those of the program lab80.
+#![tactic(auto)]
+
+mod file;
+mod kernel;
+mod line;
+mod term;
+
+use lab_engines::command::{Command, read_command};
+use lab_engines::words::{read_words, show_usage};
+use std::process::ExitCode;
+
+fn main(rt: HostRuntime) -> ExitCode {
+    let words = match read_words(&rt) {
+        Ok(words) => words,
+        Err(status) => return ExitCode::from(status.number()),
+    };
+    let status = match read_command(&words) {
+        Some(Command::Kernel(file)) => kernel::run_kernel(&rt, file),
+        Some(Command::Term(file)) => term::run_term(&rt, file),
+        Some(Command::Step | Command::Asm | Command::Dis(_)) | None => show_usage(&rt),
+    };
+    ExitCode::from(status.number())
+}
