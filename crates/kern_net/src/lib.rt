@@ -6,6 +6,7 @@
 #![tactic(auto)]
 
 mod asking;
+pub mod counts;
 pub mod end;
 pub mod gate;
 pub mod pump_in;

@@ -2,7 +2,7 @@
 ghost use Rattle.std.specs.Prelude.{◌≡◌};
 
 use crate::bell::Bell;
-use crate::gates::{Counts, InGate, OutGate};
+use crate::gates::{InGate, OutGate};
 use crate::listeners::Listeners;
 use crate::outlet::CountedOutlet;
 use crate::socket::{Met, close, meet};
@@ -14,6 +14,7 @@ use kern_core::call::{Call, Reply};
 use kern_core::fault::KernFault;
 use kern_core::held::Held;
 use kern_desk::seated::{Desk, Pass};
+use kern_net::counts::Counts;
 use kern_net::end::PumpEnd;
 use kern_net::pump_in::{Place, pump_in};
 use kern_net::pump_out::{Line, pump_out};
