@@ -310,19 +310,18 @@ waited key before g1 s t n found some p e b w =
     }
 
 -- the request's messages were printed up to the subscriber's queue, and its idle wasn't among them
-pub record Follows (key header : List ℕ) (before given : Option (List ℕ)) (s : Subscriber) (passed : List (List (List ℕ))) (out out' : Option (List ℕ)) (failed : Bool) : Type 0 where
+pub record Follows (key header : List ℕ) (before given : Option (List ℕ)) (s : Subscriber) (passed : List (List (List ℕ))) (least : ℕ) (out out' : Option (List ℕ)) (failed : Bool) : Type 0 where
   pub taken : List (List (List ℕ))
-  pub least : ℕ
   pub holds : Holds before given s (passed ++ taken) least
   pub notices : List Notice
   pub are : AreNotices key taken notices
   pub wrote : Told out out' (printed header notices)
   pub failed_is : failed ≡ has_error header notices
 
-pub follows_first : (key header : List ℕ) (before given : Option (List ℕ)) (s : Subscriber) (passed : List (List (List ℕ))) (out : Option (List ℕ)) (failed : Bool) → failed ≡ false → Holds before given s passed 0 → Follows key header before given s passed out out failed
+pub follows_first : (key header : List ℕ) (before given : Option (List ℕ)) (s : Subscriber) (passed : List (List (List ℕ))) (out : Option (List ℕ)) (failed : Bool) → failed ≡ false → Holds before given s passed 0 → Follows key header before given s passed 0 out out failed
 follows_first key header before given s passed out failed e h =
     let P : List (List (List ℕ)) → Type 0 = λ l. Holds before given s l 0 in
-    record { taken = []; least = 0; holds = subst P (sym (append-nil passed)) h; notices = []; are = NoNotice; wrote = told_none out; failed_is = e }
+    record { taken = []; holds = subst P (sym (append-nil passed)) h; notices = []; are = NoNotice; wrote = told_none out; failed_is = e }
 
 wrote_more : (header : List ℕ) (out o1 o2 : Option (List ℕ)) (x y : List Notice) → Told out o1 (printed header x) → Told o1 o2 (printed header y) → Told out o2 (printed header (x ++ y))
 wrote_more header out o1 o2 x y p q =
@@ -332,28 +331,39 @@ wrote_more header out o1 o2 x y p q =
 failed_more : (header : List ℕ) (x y : List Notice) (a b : Bool) → a ≡ has_error header x → b ≡ has_error header y → a || b ≡ has_error header (x ++ y)
 failed_more header x y a b p q = ap (λ (k : Bool). k || b) p ∙ ap (λ (k : Bool). has_error header x || k) q ∙ sym (error_more header x y)
 
-pub follows_on : (key header : List ℕ) (before g1 g2 : Option (List ℕ)) (s t u : Subscriber) (passed : List (List (List ℕ))) (out o1 o2 : Option (List ℕ)) (failed : Bool) (course : Course) → Takes key header s.queue.items t.queue.items o1 o2 course → t.side ≡ s.side → t.broken ≡ s.broken → ((x : Option (List ℕ)) (passed : List (List (List ℕ))) (least : ℕ) → Holds x g1 t passed least → Holds x g2 u passed (least + 1)) → Follows key header before g1 s passed out o1 failed → Follows key header before g2 u passed out o2 (failed || course.has_failed)
-follows_on key header before g1 g2 s t u passed out o1 o2 failed course p e b f w =
-    let P : List (List (List ℕ)) → Type 0 = λ l. Holds before g2 u l (w.least + 1) in
+-- messages were taken
+pub follows_taken : (key header : List ℕ) (before g1 : Option (List ℕ)) (s t : Subscriber) (passed : List (List (List ℕ))) (n : ℕ) (out o1 o2 : Option (List ℕ)) (failed : Bool) (course : Course) → Takes key header s.queue.items t.queue.items o1 o2 course → t.side ≡ s.side → t.broken ≡ s.broken → Follows key header before g1 s passed n out o1 failed → Follows key header before g1 t passed n out o2 (failed || course.has_failed)
+follows_taken key header before g1 s t passed n out o1 o2 failed course p e b w =
+    let P : List (List (List ℕ)) → Type 0 = λ l. Holds before g1 t l n in
     record {
       taken = w.taken ++ p.taken;
-      least = w.least + 1;
-      holds = subst P (append_assoc passed w.taken p.taken) (f before ((passed ++ w.taken) ++ p.taken) w.least (holds_passed before g1 s t (passed ++ w.taken) p.taken w.least e b p.queue_is w.holds));
+      holds = subst P (append_assoc passed w.taken p.taken) (holds_passed before g1 s t (passed ++ w.taken) p.taken n e b p.queue_is w.holds);
       notices = w.notices ++ p.notices;
       are = notices_more key w.taken p.taken w.notices p.notices w.are p.are;
       wrote = wrote_more header out o1 o2 w.notices p.notices w.wrote p.wrote;
       failed_is = failed_more header w.notices p.notices failed course.has_failed w.failed_is p.failed;
     }
 
-pub followed : (key header : List ℕ) (before g1 : Option (List ℕ)) (s t : Subscriber) (passed : List (List (List ℕ))) (out o1 o2 : Option (List ℕ)) (failed : Bool) (course : Course) → Takes key header s.queue.items t.queue.items o1 o2 course → t.side ≡ s.side → t.broken ≡ s.broken → course.is_idle ≡ true → Follows key header before g1 s passed out o1 failed → Followed key header before g1 passed out o2 (not (failed || course.has_failed))
-followed key header before g1 s t passed out o1 o2 failed course p e b i w =
+-- and then a piece was read
+follows_read : (key header : List ℕ) (before g1 g2 : Option (List ℕ)) (t u : Subscriber) (passed : List (List (List ℕ))) (n : ℕ) (out o1 : Option (List ℕ)) (failed : Bool) → ((x : Option (List ℕ)) (passed : List (List (List ℕ))) (least : ℕ) → Holds x g1 t passed least → Holds x g2 u passed (least + 1)) → Follows key header before g1 t passed n out o1 failed → Follows key header before g2 u passed (n + 1) out o1 failed
+follows_read key header before g1 g2 t u passed n out o1 failed f w = record {
+  taken = w.taken;
+  holds = f before (passed ++ w.taken) n w.holds;
+  notices = w.notices;
+  are = w.are;
+  wrote = w.wrote;
+  failed_is = w.failed_is;
+}
+
+pub followed : (key header : List ℕ) (before g1 : Option (List ℕ)) (s t : Subscriber) (passed : List (List (List ℕ))) (n : ℕ) (out o1 o2 : Option (List ℕ)) (failed : Bool) (course : Course) → Takes key header s.queue.items t.queue.items o1 o2 course → t.side ≡ s.side → t.broken ≡ s.broken → course.is_idle ≡ true → Follows key header before g1 s passed n out o1 failed → Followed key header before g1 passed out o2 (not (failed || course.has_failed))
+followed key header before g1 s t passed n out o1 o2 failed course p e b i w =
     let last = p.idle i in
-    let h = holds_passed before g1 s t (passed ++ w.taken) p.taken w.least e b p.queue_is w.holds in
+    let h = holds_passed before g1 s t (passed ++ w.taken) p.taken n e b p.queue_is w.holds in
     let Q : List (List (List ℕ)) → Type 0 = λ l. h.messages ≡ l ++ t.queue.items in
     record {
       side = t.side;
       messages = h.messages;
-      heard = heard_less before g1 t.side h.messages w.least 0 (omega arith) h.heard;
+      heard = heard_less before g1 t.side h.messages n 0 (omega arith) h.heard;
       taken = w.taken ++ p.taken;
       others = t.queue.items;
       messages_are = subst Q (append_assoc passed w.taken p.taken) h.messages_are;
@@ -385,15 +395,15 @@ ran code key session moment header a a1 a2 b b1 b2 before g1 g2 out out' s good 
   followed = f;
 }
 
-pub follows_by : (key header : List ℕ) (before g1 g2 : Option (List ℕ)) (s t u : Subscriber) (passed : List (List (List ℕ))) (out o1 o2 : Option (List ℕ)) (failed total : Bool) (course : Course) → total ≡ failed || course.has_failed → Takes key header s.queue.items t.queue.items o1 o2 course → t.side ≡ s.side → t.broken ≡ s.broken → ((x : Option (List ℕ)) (passed : List (List (List ℕ))) (least : ℕ) → Holds x g1 t passed least → Holds x g2 u passed (least + 1)) → Follows key header before g1 s passed out o1 failed → Follows key header before g2 u passed out o2 total
-follows_by key header before g1 g2 s t u passed out o1 o2 failed total course is p e b f w =
-    let P : Bool → Type 0 = λ k. Follows key header before g2 u passed out o2 k in
-    subst P (sym is) (follows_on key header before g1 g2 s t u passed out o1 o2 failed course p e b f w)
+pub follows_by : (key header : List ℕ) (before g1 g2 : Option (List ℕ)) (s t u : Subscriber) (passed : List (List (List ℕ))) (n : ℕ) (out o1 o2 : Option (List ℕ)) (failed total : Bool) (course : Course) → total ≡ failed || course.has_failed → Takes key header s.queue.items t.queue.items o1 o2 course → t.side ≡ s.side → t.broken ≡ s.broken → ((x : Option (List ℕ)) (passed : List (List (List ℕ))) (least : ℕ) → Holds x g1 t passed least → Holds x g2 u passed (least + 1)) → Follows key header before g1 s passed n out o1 failed → Follows key header before g2 u passed (n + 1) out o2 total
+follows_by key header before g1 g2 s t u passed n out o1 o2 failed total course is p e b f w =
+    let P : Bool → Type 0 = λ k. Follows key header before g2 u passed (n + 1) out o2 k in
+    subst P (sym is) (follows_read key header before g1 g2 t u passed n out o2 (failed || course.has_failed) f (follows_taken key header before g1 s t passed n out o1 o2 failed course p e b w))
 
-pub followed_by : (key header : List ℕ) (before g1 : Option (List ℕ)) (s t : Subscriber) (passed : List (List (List ℕ))) (out o1 o2 : Option (List ℕ)) (failed total : Bool) (course : Course) → total ≡ failed || course.has_failed → Takes key header s.queue.items t.queue.items o1 o2 course → t.side ≡ s.side → t.broken ≡ s.broken → course.is_idle ≡ true → Follows key header before g1 s passed out o1 failed → Followed key header before g1 passed out o2 (not total)
-followed_by key header before g1 s t passed out o1 o2 failed total course is p e b i w =
+pub followed_by : (key header : List ℕ) (before g1 : Option (List ℕ)) (s t : Subscriber) (passed : List (List (List ℕ))) (n : ℕ) (out o1 o2 : Option (List ℕ)) (failed total : Bool) (course : Course) → total ≡ failed || course.has_failed → Takes key header s.queue.items t.queue.items o1 o2 course → t.side ≡ s.side → t.broken ≡ s.broken → course.is_idle ≡ true → Follows key header before g1 s passed n out o1 failed → Followed key header before g1 passed out o2 (not total)
+followed_by key header before g1 s t passed n out o1 o2 failed total course is p e b i w =
     let P : Bool → Type 0 = λ k. Followed key header before g1 passed out o2 (not k) in
-    subst P (sym is) (followed key header before g1 s t passed out o1 o2 failed course p e b i w)
+    subst P (sym is) (followed key header before g1 s t passed n out o1 o2 failed course p e b i w)
 
 pub ran_by : (code key session : List ℕ) (moment : ℕ) (header shown : List ℕ) (a a1 a2 b b1 b2 before g1 g2 out out' : Option (List ℕ)) (s : Subscriber) (good : Bool) → shown ≡ header → WroteWhole a a1 Dealer → Asked code key session moment header a1 a2 → WroteWhole b b1 Sub → Told b1 b2 (message_bytes subscription) → (w : Waited key before g1 s) → Followed key shown before g2 w.passed out out' good → Ran code key session moment a a2 b b2 before g2 out out' good
 ran_by code key session moment header shown a a1 a2 b b1 b2 before g1 g2 out out' s good is x asked y told w f =

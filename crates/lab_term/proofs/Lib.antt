@@ -1,3 +1,4 @@
 pub mod CourseLemmas
 pub mod EventLemmas
 pub mod RequestLemmas
+pub mod StopLemmas

@@ -1,5 +1,6 @@
 -- What was read of iopub.
-use Rattle.std.specs.Prelude.{◌≡◌, ℕ, Bool, true, false, List, ◌++◌, Option, Some}
+use Rattle.std.specs.Prelude.{◌≡◌, ◌⊎◌, ℕ, Bool, true, false, List, [], ◌++◌, Option, Some}
+use Rattle.base_streams.specs.Told.{Told}
 use Rattle.zmtp_peer.specs.Hearing.{Heard}
 use Rattle.lab_term.specs.Courses.{EndsInStatus}
 use Rattle.lab_term.specs.Events.{Notice, AreNotices}
@@ -25,6 +26,12 @@ Starves ReadFailed ended failed s = (ended ≡ false) × (failed ≡ true)
 Starves WriteFailed ended failed s = ⊥
 Starves (Wire (Stream cause)) ended failed s = (ended ≡ false) × (failed ≡ false) × (s.broken ≡ Some cause)
 Starves (Wire (Message cause)) ended failed s = ⊥
+
+-- the bytes that a read gave in vain: none, but where memory was wanting
+pub record Unheard (given given' : Option (List ℕ)) (fault : TermFault) : Type 0 where
+  pub bytes : List ℕ
+  pub told : Told given given' bytes
+  pub all : (bytes ≡ []) ⊎ (fault ≡ OutOfMemory)
 
 -- the messages up to a status were looked at
 pub record Waited (key : List ℕ) (given given' : Option (List ℕ)) (s : Subscriber) : Type 0 where

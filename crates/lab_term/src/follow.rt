@@ -1,10 +1,12 @@
 //! Waiting for the kernel, and following a cell to its end.
 ghost use Rattle.std.specs.Prelude.{◌≡◌, ◌||◌, ℕ, ◌+◌, List, [], ◌∷◌, ◌++◌, Option, false, IfOk, IfErr, OnOk};
 ghost use Rattle.base_streams.specs.Told.{Told, ToldFront};
+ghost use Rattle.lab_term.specs.Causes.{Stalls};
 ghost use Rattle.lab_term.specs.Courses.{Passes, StopsAt, TakesOne, Takes, Cut};
 ghost use Rattle.lab_term.specs.Events.{notice_of, text_of};
 ghost use Rattle.lab_term.specs.Reading.{Holds, Waited};
 ghost use Rattle.lab_term.specs.Running.{Followed};
+ghost use Rattle.lab_term.specs.Stopping.{FollowedFront};
 
 use crate::event::{Event, open_event};
 use crate::fault::TermFault;
@@ -71,6 +73,10 @@ pub(crate) fn await_status<I: Inlet>(
     ensures good { OnOk result ((I.ended from.new ≡ false) × (I.failed from.new ≡ false)) }
     ensures waited { OnOk result ((before : Option (List ℕ)) → Holds before (I.given from.old) subscriber.old [] 0
         → Waited key.now before (I.given from.new) subscriber.new) }
+    ensures stalls { IfErr result (λ fault. (before : Option (List ℕ))
+        → Holds before (I.given from.old) subscriber.old [] 0
+        → Stalls key.now (record { before = before; after = I.given from.new; ended = I.ended from.new;
+        failed = I.failed from.new }) false fault) }
 {
     for _ in 0..u32::MAX {
         match pass_status(alloc, &mut subscriber.queue, key) {
@@ -186,6 +192,14 @@ pub(crate) fn follow<I: Inlet, O: Outlet>(
     ensures followed { IfOk result (λ good. (before : Option (List ℕ)) (passed : List (List (List ℕ)))
         → Holds before (I.given from.old) subscriber.old passed 0
         → Followed key.now header.now before (I.given from.new) passed (O.taken output.old) (O.taken output.new) good) }
+    ensures front { IfErr result (λ fault. (before : Option (List ℕ)) (passed : List (List (List ℕ)))
+        → Holds before (I.given from.old) subscriber.old passed 0
+        → FollowedFront key.now header.now before (I.given from.new) passed (O.taken output.old)
+        (O.taken output.new) fault) }
+    ensures stalls { IfErr result (λ fault. (before : Option (List ℕ)) (passed : List (List (List ℕ)))
+        → Holds before (I.given from.old) subscriber.old passed 0
+        → Stalls key.now (record { before = before; after = I.given from.new; ended = I.ended from.new;
+        failed = I.failed from.new }) (O.failed output.new) fault) }
 {
     let mut has_failed = false;
     for _ in 0..u32::MAX {

@@ -1,11 +1,13 @@
 //! Running a cell in a kernel.
-ghost use Rattle.std.specs.Prelude.{◌≡◌, ◌≤◌, false, IfOk, OnOk};
+ghost use Rattle.std.specs.Prelude.{◌≡◌, ◌≤◌, false, IfOk, IfErr, OnOk};
 ghost use Rattle.zmtp_wire.specs.Writing.{message_bytes};
 ghost use Rattle.base_streams.specs.Told.{Told, ToldFront};
 ghost use Rattle.jup_date.specs.Dates.{last_moment};
 ghost use Rattle.zmtp_peer.specs.Hearing.{Heard};
 ghost use Rattle.zmtp_peer.specs.Sending.{WroteFront, WroteWhole};
+ghost use Rattle.lab_term.specs.Causes.{Ungreeted, Unsent, Causes};
 ghost use Rattle.lab_term.specs.Running.{subscription, Asked, Ran};
+ghost use Rattle.lab_term.specs.Stopping.{AskedFront, Stopped};
 
 use crate::cell::{Cell, Request, request_of};
 use crate::fault::{TermFault, term_fault_of};
@@ -41,6 +43,10 @@ fn greet<I: Inlet + Drop, W: Outlet + Drop>(
         × (W.failed connection.new.to ≡ false)) }
     ensures whole { OnOk result (WroteWhole (W.taken connection.old.to) (W.taken connection.new.to) role) }
     ensures front { WroteFront (W.taken connection.old.to) (W.taken connection.new.to) role }
+    ensures ungreeted { IfErr result (Ungreeted role
+        (record { before = I.given connection.old.from; after = I.given connection.new.from;
+        ended = I.ended connection.new.from; failed = I.failed connection.new.from })
+        (W.failed connection.new.to)) }
 {
     match handshake(alloc, &mut connection.from, &mut connection.to, role) {
         Ok(peer) => Ok(peer),
@@ -62,6 +68,7 @@ fn subscription(alloc: Global) -> Result<Frames, AllocError>
 fn send<W: Outlet>(alloc: Global, to: &mut W, frames: &Frames) -> Result<(), TermFault>
     ensures whole { OnOk result (Told (W.taken to.old) (W.taken to.new) (message_bytes frames.now)) }
     ensures front { ToldFront (W.taken to.old) (W.taken to.new) (message_bytes frames.now) }
+    ensures unsent { IfErr result (Unsent (W.failed to.new)) }
 {
     if frames.len() == 0 {
         return Ok(());
@@ -79,6 +86,7 @@ fn send<W: Outlet>(alloc: Global, to: &mut W, frames: &Frames) -> Result<(), Ter
 fn subscribe<W: Outlet>(alloc: Global, to: &mut W) -> Result<(), TermFault>
     ensures whole { OnOk result (Told (W.taken to.old) (W.taken to.new) (message_bytes subscription)) }
     ensures front { ToldFront (W.taken to.old) (W.taken to.new) (message_bytes subscription) }
+    ensures unsent { IfErr result (Unsent (W.failed to.new)) }
 {
     let Ok(frames) = subscription(alloc) else {
         return Err(TermFault::OutOfMemory);
@@ -91,6 +99,9 @@ fn request<W: Outlet>(alloc: Global, to: &mut W, cell: &Cell<'_>) -> Result<Byte
     requires { cell.now.moment ≤ last_moment }
     ensures whole { IfOk result (λ header. Asked cell.now.code.now cell.now.key.now cell.now.session.now
         cell.now.moment header (W.taken to.old) (W.taken to.new)) }
+    ensures front { IfErr result (AskedFront cell.now.code.now cell.now.key.now cell.now.session.now
+        cell.now.moment (W.taken to.old) (W.taken to.new)) }
+    ensures unsent { IfErr result (Unsent (W.failed to.new)) }
 {
     let Ok(Request { header, frames }) = request_of(alloc, cell) else {
         return Err(TermFault::OutOfMemory);
@@ -103,6 +114,7 @@ fn request<W: Outlet>(alloc: Global, to: &mut W, cell: &Cell<'_>) -> Result<Byte
 
 /// Runs a cell in the kernel behind two connections, prints what it streams and its error, and reports
 /// whether it ran without one. After its handshake nothing is read from shell: the reply stays there.
+/// On an error it sent at most one request, its cell's, and printed a front of what the kernel told of it.
 pub fn run_cell<I: Inlet + Drop, W: Outlet + Drop, O: Outlet>(
     alloc: Global,
     shell: &mut Connection<I, W>,
@@ -117,6 +129,15 @@ pub fn run_cell<I: Inlet + Drop, W: Outlet + Drop, O: Outlet>(
     ensures ran { IfOk result (Ran cell.now.code.now cell.now.key.now cell.now.session.now cell.now.moment
         (W.taken shell.old.to) (W.taken shell.new.to) (W.taken iopub.old.to) (W.taken iopub.new.to)
         (I.given iopub.old.from) (I.given iopub.new.from) (O.taken output.old) (O.taken output.new)) }
+    ensures stopped { IfErr result (Stopped cell.now.code.now cell.now.key.now cell.now.session.now cell.now.moment
+        (W.taken shell.old.to) (W.taken shell.new.to) (W.taken iopub.old.to) (W.taken iopub.new.to)
+        (I.given iopub.old.from) (I.given iopub.new.from) (O.taken output.old) (O.taken output.new)) }
+    ensures cause { IfErr result (Causes cell.now.key.now
+        (record { before = I.given shell.old.from; after = I.given shell.new.from;
+        ended = I.ended shell.new.from; failed = I.failed shell.new.from })
+        (record { before = I.given iopub.old.from; after = I.given iopub.new.from;
+        ended = I.ended iopub.new.from; failed = I.failed iopub.new.from })
+        (W.failed shell.new.to) (W.failed iopub.new.to) (O.failed output.new)) }
 {
     match greet(alloc, shell, Role::Dealer) {
         Ok(_) => {}

@@ -1,9 +1,10 @@
 //! The messages of iopub, as they come.
-ghost use Rattle.std.specs.Prelude.{◌≡◌, ◌<◌, ◌≤◌, ◌+◌, ℕ, List, [], Option, false, take, length, IfOk, IfErr, OnOk};
+ghost use Rattle.std.specs.Prelude.{◌≡◌, ◌<◌, ◌≤◌, ◌+◌, ℕ, List, [], Option, false, take, length, IfOk, IfErr, OnOk, OnErr};
 ghost use Rattle.base_streams.specs.Told.{Told};
 ghost use Rattle.lab_term.specs.declared.subscriber.Subscriber.{Subscriber};
 ghost use Rattle.zmtp_peer.specs.Hearing.{Heard};
-ghost use Rattle.lab_term.specs.Reading.{Holds, Starves};
+ghost use Rattle.lab_term.specs.Causes.{IsBroken};
+ghost use Rattle.lab_term.specs.Reading.{Holds, Starves, Unheard};
 ghost use Rattle.lab_term.specs.declared.fault.TermFault.{TermFault};
 
 use crate::fault::{TermFault, WireCause};
@@ -65,6 +66,8 @@ fn read_piece<I: Inlet>(from: &mut I, buffer: &mut [u8; PIECE_SIZE]) -> Result<u
     ensures good { OnOk result ((I.ended from.new ≡ false) × (I.failed from.new ≡ false)) }
     ensures starves { IfErr result (λ fault. (s : Subscriber)
         → Starves fault (I.ended from.new) (I.failed from.new) s) }
+    ensures unread { OnErr result (Told (I.given from.old) (I.given from.new) []) }
+    ensures unbroken { IfErr result (λ fault. IsBroken fault → ⊥) }
 {
     match from.read(buffer) {
         Ok(0) => Err(TermFault::Ended),
@@ -87,6 +90,9 @@ pub(crate) fn refill<I: Inlet>(
         → Holds before (I.given from.old) subscriber.old passed least
         → Holds before (I.given from.new) subscriber.new passed (least + 1)) }
     ensures starves { IfErr result (λ fault. Starves fault (I.ended from.new) (I.failed from.new) subscriber.new) }
+    ensures stays { IfErr result (λ fault. IsBroken fault
+        → (subscriber.new ≡ subscriber.old) × (I.given from.new ≡ I.given from.old)) }
+    ensures unheard { IfErr result (Unheard (I.given from.old) (I.given from.new)) }
 {
     if let Some(cause) = subscriber.broken {
         return Err(TermFault::Wire(WireCause::Stream(cause)));

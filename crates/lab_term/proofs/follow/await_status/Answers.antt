@@ -1,6 +1,7 @@
-use Rattle.std.proofs.Common.{refl}
+use Rattle.std.proofs.Common.{refl, arith, []}
 use Rattle.lab_term.specs.declared.subscriber.Subscriber.{Subscriber}
 use Rattle.lab_term.proofs.CourseLemmas.{waited, waiting_first, waiting_on}
+use Rattle.lab_term.proofs.StopLemmas.{stalls_cut, stalls_starved, worn}
 use Rattle.lab_term.proofs.follow.await_status.Goals as goal
 
 pub loop-init : goal.loop-init
@@ -21,3 +22,19 @@ pub returns-then-found-clause-waited : goal.returns-then-found-clause-waited
 returns-then-found-clause-waited g c = λ before h.
     let new : Subscriber = record { side = c.loop.subscriber.side; queue = c.pass_status.new.queue; broken = c.loop.subscriber.broken } in
     waited _ before _ c.loop.subscriber new c.loop.counter c.in-Ok.found c.if-found.true c.in-Ok.ensures.passes refl refl (c.loop.invariant.waiting before h)
+
+pub returns-in-Err-clause-stalls : goal.returns-in-Err-clause-stalls
+returns-in-Err-clause-stalls g c = λ before h.
+    let w = c.loop.invariant.waiting before h in
+    stalls_cut _ [] before _ _ _ _ c.loop.subscriber w.passed c.loop.counter before before c.in-Err.fault c.loop.invariant.ended c.loop.invariant.failed (c.in-Err.ensures.cut before) w.holds
+
+pub returns-in-Err-refill-clause-stalls : goal.returns-in-Err-refill-clause-stalls
+returns-in-Err-refill-clause-stalls g c = λ before h.
+    let new : Subscriber = record { side = c.loop.subscriber.side; queue = c.pass_status.new.queue; broken = c.loop.subscriber.broken } in
+    let w = c.loop.invariant.waiting before h in
+    stalls_starved _ before _ _ _ _ _ c.loop.subscriber new c.refill.new.subscriber w.passed c.loop.counter c.in-Err-refill.fault refl c.in-Err-refill.ensures.starves c.in-Err-refill.ensures.stays w.holds
+
+pub returns-clause-stalls : goal.returns-clause-stalls
+returns-clause-stalls g c = λ before h.
+    let w = c.loop.invariant.waiting before h in
+    worn before (g.I.Inlet.given c.loop.from) (g.I.Inlet.ended c.loop.from) (g.I.Inlet.failed c.loop.from) c.loop.subscriber w.passed c.loop.counter (omega arith) w.holds
