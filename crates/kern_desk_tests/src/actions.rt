@@ -1,0 +1,183 @@
+//! Calls as plain data.
+
+use base_text::sequence::{Bytes, Frames};
+use base_text::text::Text;
+use dap_talk::command::{DapCommand, DapRequest};
+use jup_wire::channel::Channel;
+use kern_ask::ask::{Ask, ExecuteRequest, Request};
+use kern_core::call::{Arrival, Call, Subscription};
+use kern_core::held::Held;
+use std::alloc::{AllocError, Global};
+
+/// A call, but for its moment.
+#[derive(Clone, Copy, Debug)]
+pub enum Action {
+    /// A connection without an identity comes.
+    Join(Channel),
+    Leave(u32),
+    /// A connection wants all posts.
+    Subscribe(u32),
+    /// A connection asks.
+    Ask(u32, Question),
+    Slice,
+    Fetch(u32, u64),
+}
+
+/// What is asked.
+#[derive(Clone, Copy, Debug)]
+pub enum Question {
+    KernelInfo,
+    Execute(&'static str),
+    Interrupt,
+    Shutdown,
+    Switches(u8),
+    Variables(u32),
+}
+
+/// The call at a moment.
+pub fn call_of(alloc: Global, action: Action, moment: u64) -> Result<Call, AllocError> {
+    match action {
+        Action::Join(channel) => join_call(alloc, channel),
+        Action::Leave(connection) => Ok(Call::Leave { connection }),
+        Action::Subscribe(connection) => subscribe_call(alloc, connection, moment),
+        Action::Ask(connection, question) => arrive_call(alloc, connection, question, moment),
+        Action::Slice => Ok(Call::Slice { moment }),
+        Action::Fetch(connection, from) => Ok(Call::Fetch { connection, from }),
+    }
+}
+
+fn join_call(alloc: Global, channel: Channel) -> Result<Call, AllocError> {
+    let identity = Held::new(alloc, Bytes::new(alloc))?;
+    Ok(Call::Join { channel, identity })
+}
+
+fn subscribe_call(alloc: Global, connection: u32, moment: u64) -> Result<Call, AllocError> {
+    let subscription = Subscription {
+        wants: true,
+        prefix: Bytes::new(alloc),
+        moment,
+    };
+    let subscription = Held::new(alloc, subscription)?;
+    Ok(Call::Subscribe {
+        connection,
+        subscription,
+    })
+}
+
+fn arrive_call(
+    alloc: Global,
+    connection: u32,
+    question: Question,
+    moment: u64,
+) -> Result<Call, AllocError> {
+    let header = Bytes::copy_of(alloc, b"{}")?;
+    let request = Request {
+        ask: ask_of(alloc, question)?,
+        identities: Frames::new(alloc),
+        header,
+    };
+    let arrival = Held::new(alloc, Arrival { request, moment })?;
+    Ok(Call::Arrive {
+        connection,
+        arrival,
+    })
+}
+
+fn ask_of(alloc: Global, question: Question) -> Result<Ask, AllocError> {
+    match question {
+        Question::KernelInfo => Ok(Ask::KernelInfo),
+        Question::Execute(code) => execute(alloc, code),
+        Question::Interrupt => Ok(Ask::Interrupt),
+        Question::Shutdown => Ok(Ask::Shutdown { restarts: false }),
+        Question::Switches(value) => Ok(debug(DapCommand::BoardSwitches { value })),
+        Question::Variables(reference) => Ok(debug(variables(reference))),
+    }
+}
+
+fn execute(alloc: Global, code: &str) -> Result<Ask, AllocError> {
+    let code = Text::copy_of(alloc, code)?;
+    Ok(Ask::Execute(ExecuteRequest {
+        code,
+        is_silent: false,
+        stores_history: true,
+        allows_stdin: true,
+    }))
+}
+
+fn variables(reference: u32) -> DapCommand {
+    DapCommand::Variables {
+        reference,
+        start: 0,
+        count: 0,
+    }
+}
+
+fn debug(command: DapCommand) -> Ask {
+    Ask::Debug(DapRequest { seq: 1, command })
+}
+
+/// Whether a call is this one. A Join, a Leave and a Fetch have no moment.
+pub fn is_call(call: &Call, action: Action, moment: u64) -> bool {
+    match (call, action) {
+        (Call::Join { channel, .. }, Action::Join(wanted)) => *channel == wanted,
+        (Call::Leave { connection }, Action::Leave(wanted)) => *connection == wanted,
+        (Call::Subscribe { .. }, Action::Subscribe(wanted)) => is_subscribe(call, wanted, moment),
+        (Call::Arrive { .. }, Action::Ask(wanted, question)) => {
+            is_arrive(call, wanted, question, moment)
+        }
+        (Call::Slice { moment: made }, Action::Slice) => *made == moment,
+        (Call::Fetch { connection, from }, Action::Fetch(wanted, first)) => {
+            *connection == wanted && *from == first
+        }
+        _ => false,
+    }
+}
+
+fn is_subscribe(call: &Call, wanted: u32, moment: u64) -> bool {
+    match call {
+        Call::Subscribe {
+            connection,
+            subscription,
+        } => {
+            let told = subscription.get();
+            let is_for_all = told.wants && told.prefix.len() == 0;
+            is_for_all && told.moment == moment && *connection == wanted
+        }
+        _ => false,
+    }
+}
+
+fn is_arrive(call: &Call, wanted: u32, question: Question, moment: u64) -> bool {
+    match call {
+        Call::Arrive {
+            connection,
+            arrival,
+        } => {
+            let told = arrival.get();
+            let is_asked = is_question(&told.request.ask, question);
+            is_asked && told.moment == moment && *connection == wanted
+        }
+        _ => false,
+    }
+}
+
+fn is_question(ask: &Ask, question: Question) -> bool {
+    match (ask, question) {
+        (Ask::KernelInfo, Question::KernelInfo) => true,
+        (Ask::Execute(execute), Question::Execute(code)) => execute.code.as_str() == code,
+        (Ask::Interrupt, Question::Interrupt) => true,
+        (Ask::Shutdown { restarts }, Question::Shutdown) => !*restarts,
+        (Ask::Debug(request), _) => is_command(&request.command, question),
+        _ => false,
+    }
+}
+
+fn is_command(command: &DapCommand, question: Question) -> bool {
+    match (command, question) {
+        (DapCommand::BoardSwitches { value }, Question::Switches(wanted)) => *value == wanted,
+        (DapCommand::Variables { reference, .. }, Question::Variables(wanted)) => {
+            *reference == wanted
+        }
+        _ => false,
+    }
+}

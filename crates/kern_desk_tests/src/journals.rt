@@ -1,0 +1,110 @@
+//! Journals against the calls that were made, and the same calls on a new kernel.
+
+use crate::actions::{Action, call_of, is_call};
+use crate::desks::{MOST_ENTRIES, told_by};
+use crate::outcomes::Outcome;
+use crate::players::Turn;
+use kern_core::kernel::Kernel;
+use kern_desk::seated::Seated;
+use std::alloc::Global;
+use std::process::Abort;
+
+/// A row of a test: a seat, its call, and what must come of it. The call's moment is the row's number,
+/// from 0.
+pub type Row = (u32, Action, Outcome);
+
+/// An entry of a journal, with what came of the call.
+#[derive(Clone, Copy, Debug)]
+pub struct Entry {
+    pub seat: u32,
+    pub turn: Turn,
+}
+
+/// The entries of a desk at which these calls were made, by seat. They must be exactly these calls, and
+/// those of each seat stand in their order.
+pub fn merged<R: Abort>(rt: &R, alloc: Global, seated: &Seated, made: &[Vec<Turn>]) -> Vec<Entry> {
+    let mut entries = Vec::new(alloc);
+    let mut next = [0usize; 3];
+    let count = count_of(made);
+    for place in 0..count {
+        let entry = entry_at(rt, seated, made, &mut next, place);
+        entries.push(entry).expect(rt, "memory for an entry");
+    }
+    assert!(rt; seated.entry(count).is_none(), "more than {count} entries");
+    entries
+}
+
+fn count_of(made: &[Vec<Turn>]) -> usize {
+    let mut count = 0usize;
+    for turns in made {
+        count = count.saturating_add(turns.len());
+    }
+    count
+}
+
+// The entry at a place, which must be the next call of its seat.
+fn entry_at<R: Abort>(
+    rt: &R,
+    seated: &Seated,
+    made: &[Vec<Turn>],
+    next: &mut [usize; 3],
+    place: usize,
+) -> Entry {
+    let (seat, call) = seated.entry(place).expect(rt, "an entry for each call");
+    let at = count_up(rt, next, seat);
+    let turns = made.get(seat as usize).expect(rt, "the calls of a seat");
+    let turn = *turns.get(at).expect(rt, "no more entries than calls");
+    assert!(rt;
+        is_call(call, turn.action, turn.moment),
+        "entry {place} isn't {turn:?}"
+    );
+    Entry { seat, turn }
+}
+
+// How many calls of the seat were met before this one.
+fn count_up<R: Abort>(rt: &R, next: &mut [usize; 3], seat: u32) -> usize {
+    let count = next.get_mut(seat as usize).expect(rt, "one of three seats");
+    let at = *count;
+    *count = at.saturating_add(1);
+    at
+}
+
+/// Makes the calls once more, on a new kernel, in the order of the journal: what comes of them must be
+/// the same.
+pub fn replay<R: Abort>(rt: &R, alloc: Global, entries: &[Entry]) {
+    let mut kernel = Kernel::new(alloc, MOST_ENTRIES).expect(rt, "memory for a kernel");
+    make_again(rt, alloc, &mut kernel, entries);
+}
+
+fn make_again<R: Abort>(rt: &R, alloc: Global, kernel: &mut Kernel, entries: &[Entry]) {
+    for entry in entries {
+        let again = act(rt, alloc, kernel, entry.turn.action, entry.turn.moment);
+        assert_eq!(rt; again, entry.turn.outcome, "{entry:?}");
+    }
+}
+
+/// Makes one call on a kernel.
+pub fn act<R: Abort>(
+    rt: &R,
+    alloc: Global,
+    kernel: &mut Kernel,
+    action: Action,
+    moment: u64,
+) -> Outcome {
+    let call = call_of(alloc, action, moment).expect(rt, "memory for a call");
+    told_by(kernel.act(call))
+}
+
+/// The entries must be exactly the calls of these rows.
+pub fn check_rows<R: Abort>(rt: &R, seated: &Seated, rows: &[Row]) {
+    for (place, (seat, action, _)) in rows.iter().enumerate() {
+        let (told, call) = seated.entry(place).expect(rt, "an entry for each row");
+        assert_eq!(rt; told, *seat, "entry {place}");
+        assert!(rt;
+            is_call(call, *action, place as u64),
+            "entry {place} isn't {action:?}"
+        );
+    }
+    let count = rows.len();
+    assert!(rt; seated.entry(count).is_none(), "more than {count} entries");
+}

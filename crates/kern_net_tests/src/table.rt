@@ -1,0 +1,161 @@
+//! A kernel's desk with a pass for what is read and one for what is written.
+ghost use Rattle.std.specs.Prelude.{◌≡◌, ◌≤◌, All, false};
+ghost use Rattle.kern_net.specs.Gates.{IsOpen};
+
+use crate::gates::Measured;
+use base_streams::memory::{Sink, Source};
+use jup_wire::channel::Channel;
+use kern_core::call::Call;
+use kern_desk::seated::{Desk, Pass, Seated};
+use kern_desk_tests::desks::{close_desk, join, open_desk, take_pass};
+use kern_net::end::PumpEnd;
+use kern_net::pump_in::{Place, pump_in};
+use kern_net::pump_out::{Line, pump_out};
+use kern_net::worker::worker;
+use std::alloc::Global;
+use std::process::Abort;
+use std::sync::Wait;
+use zmtp_peer::handshake::Peer;
+
+// What stands for a call in the text of a journal.
+fn letter_of(call: &Call) -> char {
+    match call {
+        Call::Join { .. } => 'J',
+        Call::Leave { .. } => 'L',
+        Call::Subscribe { .. } => 'U',
+        Call::Arrive { .. } => 'A',
+        Call::Slice { .. } => 'S',
+        Call::Fetch { .. } => 'F',
+    }
+}
+
+fn letter_at(seated: &Seated, place: usize) -> Option<char> {
+    match seated.entry(place) {
+        Some((_, call)) => Some(letter_of(call)),
+        None => None,
+    }
+}
+
+// The first entries of a journal, a letter for each.
+fn letters_of<R: Abort>(rt: &R, alloc: Global, seated: &Seated) -> String {
+    let mut text = String::new(alloc);
+    for place in 0..64 {
+        let Some(letter) = letter_at(seated, place) else {
+            break;
+        };
+        text.push(letter).expect(rt, "memory for a letter");
+    }
+    text
+}
+
+/// A desk with two passes.
+#[derive(Drop)]
+pub struct Table {
+    desk: Desk,
+    reading: Pass,
+    writing: Pass,
+    ghost reading_own: { reading.turnstile ≡ desk },
+    ghost writing_own: { writing.turnstile ≡ desk },
+}
+
+/// A desk over a new kernel, whose journal may have so many entries.
+pub fn open_table<R: Abort>(rt: &R, alloc: Global, limit: u32) -> Table
+    requires some { 1 ≤ limit }
+    requires few { limit ≤ 4194304 }
+{
+    let (desk, mut passes) = open_desk(alloc, limit, 2).expect(rt, "a desk");
+    let writing = take_pass(&desk, &mut passes).expect(rt, "a pass");
+    let reading = take_pass(&desk, &mut passes).expect(rt, "a pass");
+    Table {
+        desk,
+        reading,
+        writing,
+    }
+}
+
+impl Table {
+    /// A connection without an identity comes; its number.
+    pub fn join<R: Wait + Abort>(&mut self, rt: &R, alloc: Global, channel: Channel) -> u32 {
+        join(rt, alloc, &self.desk, &mut self.reading, channel).expect(rt, "a connection")
+    }
+
+    /// Makes a call, whatever its answer.
+    pub fn make<R: Wait + Abort>(&mut self, rt: &R, call: Call) {
+        let answer = self.desk.turn(rt, &mut self.reading, call);
+        assert!(rt; answer.is_ok(), "no turn");
+    }
+
+    /// Reads from a peer to the end, at a gate.
+    pub fn read<R: Wait>(
+        &mut self,
+        rt: &R,
+        alloc: Global,
+        gate: &mut Measured,
+        from: &mut Source,
+        peer: Peer,
+        place: &Place<'_>,
+    ) -> PumpEnd
+        requires open { IsOpen gate.old.counts }
+        requires ended { from.old.ended ≡ false }
+        requires failed { from.old.failed ≡ false }
+    {
+        pump_in(
+            rt,
+            alloc,
+            &self.desk,
+            &mut self.reading,
+            gate,
+            from,
+            peer,
+            place,
+        )
+    }
+
+    /// Writes the posts from a number on, at a gate.
+    pub fn write<R: Wait>(
+        &mut self,
+        rt: &R,
+        alloc: Global,
+        gate: &mut Measured,
+        to: &mut Sink,
+        line: &Line<'_>,
+        from: u64,
+    ) -> PumpEnd
+        requires good { to.old.failed ≡ false }
+        requires open { IsOpen gate.old.counts }
+    {
+        pump_out(
+            rt,
+            alloc,
+            &self.desk,
+            &mut self.writing,
+            gate,
+            to,
+            line,
+            from,
+        )
+    }
+
+    /// Makes slices at a gate.
+    pub fn work<R: Wait>(&mut self, rt: &R, gate: &mut Measured) -> PumpEnd
+        requires { IsOpen gate.old.counts }
+    {
+        worker(rt, &self.desk, &mut self.reading, gate)
+    }
+
+    /// The first 64 entries of the journal, a letter for each: J for a Join, U for a Subscribe, A for an
+    /// Arrive, S for a Slice, F for a Fetch.
+    pub fn journal<R: Abort>(self, rt: &R, alloc: Global) -> String {
+        let Table {
+            desk,
+            reading,
+            writing,
+        } = self;
+        let passes = vec![in alloc; reading, writing].expect(rt, "memory for passes");
+        letters_of(
+            rt,
+            alloc,
+            &close_desk(desk, passes).expect(rt, "all passes"),
+        )
+    }
+}

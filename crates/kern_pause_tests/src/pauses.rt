@@ -1,0 +1,310 @@
+//! A running cell, and connections that are served between two of its slices.
+ghost use Rattle.std.specs.Prelude.{◌≡◌, All};
+
+use crate::callers::{Caller, Client, Talked, Written, read_at_once, run, seat, write_on};
+use crate::stage::Stage;
+use jup_wire::channel::Channel;
+use kern_desk::seated::{Desk, Pass};
+use kern_desk_tests::desks::{MOST_ENTRIES, join, open_desk, take_pass};
+use kern_net::end::PumpEnd;
+use kern_net_tests::messages::{Asked, Sent, given_by, push_message, written_by};
+use kern_net_tests::texts::{count_of, from_text, in_order};
+use std::alloc::{AllocError, Global};
+use std::process::Abort;
+use std::sync::Wait;
+use std::test::Fail;
+
+const CELL: Asked = Asked(
+    "{\"msg_id\":\"a_1\",\"msg_type\":\"execute_request\",\"session\":\"a\"}",
+    "{\"code\":\"X: JMP X\\nEND X\"}",
+);
+
+const ATTACH: Asked = Asked(
+    "{\"msg_id\":\"c_1\",\"msg_type\":\"debug_request\",\"session\":\"c\"}",
+    "{\"command\":\"attach\",\"seq\":1,\"type\":\"request\"}",
+);
+
+const PAUSE: Asked = Asked(
+    "{\"msg_id\":\"c_2\",\"msg_type\":\"debug_request\",\"session\":\"c\"}",
+    "{\"arguments\":{\"threadId\":1},\"command\":\"pause\",\"seq\":2,\"type\":\"request\"}",
+);
+
+const STACK: Asked = Asked(
+    "{\"msg_id\":\"c_3\",\"msg_type\":\"debug_request\",\"session\":\"c\"}",
+    "{\"arguments\":{\"threadId\":1},\"command\":\"stackTrace\",\"seq\":3,\"type\":\"request\"}",
+);
+
+const INTERRUPT: Asked = Asked(
+    "{\"msg_id\":\"c_4\",\"msg_type\":\"interrupt_request\",\"session\":\"c\"}",
+    "{}",
+);
+
+const SHUTDOWN: Asked = Asked(
+    "{\"msg_id\":\"c_5\",\"msg_type\":\"shutdown_request\",\"session\":\"c\"}",
+    "{}",
+);
+
+// The control client: it pauses the cell once it runs, then looks at its frames, ends it and shuts down. One
+// read gives the pause alone.
+fn control_client(alloc: Global) -> Result<Client, Fail> {
+    let pause = given_by(alloc, b"", &[PAUSE])?;
+    Ok(Client {
+        connection: 2,
+        channel: Channel::Control,
+        questions: given_by(alloc, b"", &[PAUSE, STACK, INTERRUPT, SHUTDOWN])?,
+        piece: pause.len(),
+        last: b"\"command\":\"pause\"",
+    })
+}
+
+// A cell is asked for on shell, connection 1, and control, connection 2, is attached.
+fn prepare<R: Wait + Abort>(rt: &R, alloc: Global, desk: &Desk, pass: &mut Pass)
+    requires { pass.old.turnstile ≡ desk.now }
+    ensures { pass.new.turnstile ≡ desk.now }
+{
+    let shell = join(rt, alloc, desk, pass, Channel::Shell).expect(rt, "a connection");
+    let control = join(rt, alloc, desk, pass, Channel::Control).expect(rt, "a connection");
+    assert_eq!(rt; (shell, control), (1, 2));
+    read_at_once(rt, alloc, desk, pass, 1, Channel::Shell, CELL);
+    read_at_once(rt, alloc, desk, pass, 2, Channel::Control, ATTACH);
+}
+
+// What the control client is sent. The posts between are those of iopub; 14 to 16 are of the cell's end.
+const CONTROL_REPLIES: [Sent; 5] = [
+    Sent(
+        2,
+        "debug_reply",
+        ATTACH,
+        "{\"body\":{},\"command\":\"attach\",\"request_seq\":1,\"seq\":2,\"success\":true,\
+        \"type\":\"response\"}",
+    ),
+    Sent(
+        7,
+        "debug_reply",
+        PAUSE,
+        "{\"body\":{},\"command\":\"pause\",\"request_seq\":2,\"seq\":7,\"success\":true,\
+        \"type\":\"response\"}",
+    ),
+    Sent(
+        11,
+        "debug_reply",
+        STACK,
+        "{\"body\":{\"stackFrames\":[{\"column\":1,\"id\":1,\
+        \"instructionPointerReference\":\"0x0000\",\"line\":1,\"name\":\"main\",\
+        \"source\":{\"path\":\"/tmp/i8080_lab/336598320.asm\"}}],\"totalFrames\":1},\
+        \"command\":\"stackTrace\",\"request_seq\":3,\"seq\":11,\"success\":true,\
+        \"type\":\"response\"}",
+    ),
+    Sent(17, "interrupt_reply", INTERRUPT, "{\"status\":\"ok\"}"),
+    Sent(
+        20,
+        "shutdown_reply",
+        SHUTDOWN,
+        "{\"restart\":false,\"status\":\"ok\"}",
+    ),
+];
+
+// What the client on shell is sent.
+const CELL_REPLIES: [Sent; 1] = [Sent(
+    15,
+    "execute_reply",
+    CELL,
+    "{\"ename\":\"Interrupted\",\"evalue\":\"\",\"execution_count\":1,\"status\":\"error\",\
+    \"traceback\":[\"Interrupted: \"]}",
+)];
+
+// What a client was sent, to the byte, until a shutdown.
+fn check_written<R: Abort>(
+    rt: &R,
+    alloc: Global,
+    written: &Written,
+    letters: &[Sent],
+) -> Result<(), Fail> {
+    let wanted = written_by(alloc, b"", letters)?;
+    assert_eq!(rt; written.end, PumpEnd::Ended);
+    assert_eq!(rt; written.sink.as_slice(), wanted.as_slice());
+    Ok(())
+}
+
+// The third slice is held until the pause is answered: the cell is loaded and started then, and stands before
+// its first instruction. A kernel that held a lock for the whole cell would answer the pause too late.
+#[test]
+fn a_pause_between_slices(rt: HostRuntime) -> Result<(), Fail> {
+    let alloc = rt.alloc();
+    let (desk, mut passes) = open_desk(alloc, MOST_ENTRIES, 4).expect(&rt, "a desk");
+    let mut shell = take_pass(&desk, &mut passes).expect(&rt, "a pass");
+    prepare(&rt, alloc, &desk, &mut shell);
+    let stage = Stage::new(1);
+    let working = take_pass(&desk, &mut passes).expect(&rt, "a pass");
+    let mut callers = Vec::new(alloc);
+    let client = control_client(alloc)?;
+    callers.push(seat(&rt, &desk, &mut passes, &stage, client))?;
+    let (worked, talked) = run(&rt, alloc, &desk, working, &stage, callers);
+    let cell = write_on(&rt, alloc, &desk, shell, &stage, 1, b"none");
+    assert!(rt; !stage.is_late());
+    assert_eq!(rt; worked, PumpEnd::Ended);
+    let control = talked.first().ok_or("no control client")?;
+    assert_eq!(rt; control.read, PumpEnd::PeerEnded);
+    check_written(&rt, alloc, &control.written, &CONTROL_REPLIES)?;
+    check_written(&rt, alloc, &cell, &CELL_REPLIES)
+}
+
+// Four clients on shell: the sessions, and the number of the last request.
+const SESSIONS: [(&str, &[u8]); 4] = [
+    ("p", b"\"p_73\""),
+    ("q", b"\"q_73\""),
+    ("r", b"\"r_73\""),
+    ("s", b"\"s_73\""),
+];
+
+// 64 kernel_info_requests, with the numbers 10 to 73: 5,824 bytes, which one read gives.
+fn questions_of<R: Abort>(rt: &R, alloc: Global, session: &str) -> Vec<u8> {
+    let mut bytes = Vec::new(alloc);
+    for number in 10..74 {
+        push_question(alloc, &mut bytes, session, number).expect(rt, "memory for a request");
+    }
+    bytes
+}
+
+fn push_question(
+    alloc: Global,
+    bytes: &mut Vec<u8>,
+    session: &str,
+    number: u32,
+) -> Result<(), AllocError> {
+    let header = format!(in alloc;
+        "{{\"msg_id\":\"{session}_{number}\",\"msg_type\":\"kernel_info_request\",\
+        \"session\":\"{session}\"}}"
+    )?;
+    push_message(bytes, &["<IDS|MSG>", "", header.as_str(), "{}", "{}", "{}"])
+}
+
+// One of the clients on shell comes, with a connection of this number.
+fn join_shell<R: Wait + Abort>(rt: &R, alloc: Global, desk: &Desk, pass: &mut Pass, number: u32)
+    requires { pass.old.turnstile ≡ desk.now }
+    ensures { pass.new.turnstile ≡ desk.now }
+{
+    let connection = join(rt, alloc, desk, pass, Channel::Shell).expect(rt, "a connection");
+    assert_eq!(rt; connection, number);
+}
+
+fn shell_client(connection: u32, questions: Vec<u8>, last: &'static [u8]) -> Client {
+    Client {
+        connection,
+        channel: Channel::Shell,
+        questions,
+        piece: 8192,
+        last,
+    }
+}
+
+// Seats a client on shell.
+fn seat_shell<'a, R: Abort>(
+    rt: &R,
+    alloc: Global,
+    desk: &'a Desk,
+    passes: &mut Vec<Pass>,
+    stage: &'a Stage,
+    connection: u32,
+    session: (&str, &'static [u8]),
+) -> Caller<'a>
+    requires { All (λ p. p.turnstile ≡ desk.now) passes.old.items }
+    ensures { All (λ p. p.turnstile ≡ desk.now) passes.new.items }
+{
+    let questions = questions_of(rt, alloc, session.0);
+    let client = shell_client(connection, questions, session.1);
+    seat(rt, desk, passes, stage, client)
+}
+
+// The callers of the control client, connection 2, and of four on shell, connections 3 to 6.
+fn five_callers<'a, R: Abort>(
+    rt: &R,
+    alloc: Global,
+    desk: &'a Desk,
+    mut passes: Vec<Pass>,
+    stage: &'a Stage,
+    client: Client,
+) -> Vec<Caller<'a>>
+    requires { All (λ p. p.turnstile ≡ desk.now) passes.items }
+{
+    let control = seat(rt, desk, &mut passes, stage, client);
+    let first = seat_shell(rt, alloc, desk, &mut passes, stage, 3, SESSIONS[0]);
+    let second = seat_shell(rt, alloc, desk, &mut passes, stage, 4, SESSIONS[1]);
+    let third = seat_shell(rt, alloc, desk, &mut passes, stage, 5, SESSIONS[2]);
+    let fourth = seat_shell(rt, alloc, desk, &mut passes, stage, 6, SESSIONS[3]);
+    vec![in alloc; control, first, second, third, fourth].expect(rt, "memory for callers")
+}
+
+// All replies of a session, each once and in the order of the requests.
+fn check_session<R: Abort>(
+    rt: &R,
+    alloc: Global,
+    talked: &Talked,
+    session: &str,
+) -> Result<(), Fail> {
+    let mut rest = talked.written.sink.as_slice();
+    check_counts(rt, rest);
+    for number in 10..74 {
+        let text = format!(in alloc; "\"msg_id\":\"{session}_{number}\"")?;
+        rest = from_text(rest, text.as_bytes()).ok_or("a reply is missing")?;
+    }
+    Ok(())
+}
+
+fn check_counts<R: Abort>(rt: &R, bytes: &[u8]) {
+    assert_eq!(rt; count_of(bytes, b"<IDS|MSG>"), 64);
+    assert_eq!(rt; count_of(bytes, b"\"kernel_info_reply\""), 64);
+    assert_eq!(rt; count_of(bytes, b"\"implementation\":\"lab80\""), 64);
+}
+
+// Of the control client's replies, five texts in their order.
+fn check_control<R: Abort>(rt: &R, control: &Talked) {
+    let bytes = control.written.sink.as_slice();
+    assert_eq!(rt; count_of(bytes, b"<IDS|MSG>"), 5);
+    assert!(rt; in_order(bytes, &CONTROL_TEXTS));
+}
+
+const CONTROL_TEXTS: [&str; 7] = [
+    "\"command\":\"attach\"",
+    "\"command\":\"pause\"",
+    "\"success\":true",
+    "\"instructionPointerReference\":\"0x0000\",\"line\":1,\"name\":\"main\"",
+    "\"totalFrames\":1",
+    "\"interrupt_reply\"",
+    "\"shutdown_reply\"",
+];
+
+fn check_ends<R: Abort>(rt: &R, talked: &[Talked]) {
+    assert_eq!(rt; talked.len(), 5);
+    for told in talked {
+        assert_eq!(rt; told.read, PumpEnd::PeerEnded);
+        assert_eq!(rt; told.written.end, PumpEnd::Ended);
+    }
+}
+
+// The third slice is held until the pause and 256 requests are answered, 64 on each of four connections.
+#[test]
+fn four_clients_between_slices(rt: HostRuntime) -> Result<(), Fail> {
+    let alloc = rt.alloc();
+    let (desk, mut passes) = open_desk(alloc, MOST_ENTRIES, 12).expect(&rt, "a desk");
+    let mut shell = take_pass(&desk, &mut passes).expect(&rt, "a pass");
+    prepare(&rt, alloc, &desk, &mut shell);
+    join_shell(&rt, alloc, &desk, &mut shell, 3);
+    join_shell(&rt, alloc, &desk, &mut shell, 4);
+    join_shell(&rt, alloc, &desk, &mut shell, 5);
+    join_shell(&rt, alloc, &desk, &mut shell, 6);
+    let stage = Stage::new(5);
+    let working = take_pass(&desk, &mut passes).expect(&rt, "a pass");
+    let client = control_client(alloc)?;
+    let callers = five_callers(&rt, alloc, &desk, passes, &stage, client);
+    let (worked, talked) = run(&rt, alloc, &desk, working, &stage, callers);
+    assert!(rt; !stage.is_late());
+    assert_eq!(rt; worked, PumpEnd::Ended);
+    check_ends(&rt, talked.as_slice());
+    let (control, others) = talked.split_first().ok_or("no control client")?;
+    check_control(&rt, control);
+    for (told, session) in others.iter().zip(SESSIONS) {
+        check_session(&rt, alloc, told, session.0)?;
+    }
+    Ok(())
+}
