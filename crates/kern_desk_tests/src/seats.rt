@@ -1,5 +1,5 @@
 //! Calls of several seats, one after the other.
-ghost use Rattle.std.specs.Prelude.{◌≡◌, ◌<◌, ◌≤◌};
+ghost use Rattle.std.specs.Prelude.{◌≡◌, ◌<◌, ◌≤◌, All};
 
 use crate::actions::{Action, Question, call_of};
 use crate::desks::{MOST_ENTRIES, close_desk, make, open_desk, take_pass};
@@ -173,10 +173,78 @@ fn fetch_seen<R: Wait + Abort>(
     seen(answer)
 }
 
+fn expect_row<R: Wait + Abort>(
+    rt: &R,
+    alloc: Global,
+    desk: &Desk,
+    pass: &mut Pass,
+    row: Row,
+    moment: u64,
+)
+    requires { pass.old.turnstile ≡ desk.now }
+    ensures { pass.new.turnstile ≡ desk.now }
+{
+    let (_, action, wanted) = row;
+    let outcome = make(rt, alloc, desk, pass, action, moment).expect(rt, "a call");
+    assert_eq!(rt; outcome, wanted, "{action:?}");
+}
+
+// The calls of two seats, of which the last fetches what the first has set.
+fn expect_rows<R: Wait + Abort>(
+    rt: &R,
+    alloc: Global,
+    desk: &Desk,
+    first: &mut Pass,
+    second: &mut Pass,
+    rows: &[Row; 4],
+)
+    requires first { first.old.turnstile ≡ desk.now }
+    requires second { second.old.turnstile ≡ desk.now }
+    ensures first { first.new.turnstile ≡ desk.now }
+    ensures second { second.new.turnstile ≡ desk.now }
+{
+    expect_row(rt, alloc, desk, first, rows[0], 0);
+    expect_row(rt, alloc, desk, first, rows[1], 1);
+    expect_row(rt, alloc, desk, second, rows[2], 2);
+    let seen = fetch_seen(rt, alloc, desk, second);
+    assert_eq!(rt; seen, (rows[3].2, true));
+}
+
+// What a desk gives back that doesn't close: itself, and the passes that it was given.
+fn refused<R: Abort>(rt: &R, desk: Desk, passes: Vec<Pass>) -> (Desk, Vec<Pass>)
+    requires { All (λ p. p.turnstile ≡ desk) passes.items }
+    ensures desk { result.0 ≡ desk }
+    ensures passes { result.1 ≡ passes }
+{
+    match desk.close(passes) {
+        Ok(_) => panic!(rt; "closed without a pass"),
+        Err(CloseFault::MissingPass { turnstile, passes }) => (turnstile, passes),
+    }
+}
+
+fn close_late<R: Abort>(rt: &R, alloc: Global, desk: Desk, first: Pass, second: Pass) -> Seated
+    requires first { first.turnstile ≡ desk }
+    requires second { second.turnstile ≡ desk }
+{
+    let alone = vec![in alloc; first].expect(rt, "memory for a pass");
+    let (desk, mut passes) = refused(rt, desk, alone);
+    assert_eq!(rt; passes.len(), 1);
+    passes.push(second).expect(rt, "memory for a pass");
+    close_desk(desk, passes).expect(rt, "all passes")
+}
+
+// Makes the calls of the rows at a desk of two seats, and closes it at the second try.
+fn run_late<R: Wait + Abort>(rt: &R, alloc: Global, rows: &[Row; 4]) -> Seated {
+    let (desk, mut passes) = open_desk(alloc, MOST_ENTRIES, 2).expect(rt, "a desk");
+    let mut second = take_pass(&desk, &mut passes).expect(rt, "a pass");
+    let mut first = take_pass(&desk, &mut passes).expect(rt, "a pass");
+    expect_rows(rt, alloc, &desk, &mut first, &mut second, rows);
+    close_late(rt, alloc, desk, first, second)
+}
+
 // The switches that one seat sets are what another sees, and a desk doesn't close without a pass.
 #[test]
 fn two_seats(rt: HostRuntime) {
-    let alloc = rt.alloc();
     let rows = [
         (0, Action::Join(Channel::Control), joined(1, 1)),
         (
@@ -187,36 +255,6 @@ fn two_seats(rt: HostRuntime) {
         (1, Action::Ask(1, Question::Variables(3)), Outcome::Arrived),
         (1, Action::Fetch(1, 1), fetched(&[2, 5], 7, false)),
     ];
-    let (desk, mut passes) = open_desk(alloc, MOST_ENTRIES, 2).expect(&rt, "a desk");
-    let mut second = take_pass(&desk, &mut passes).expect(&rt, "a pass");
-    let mut first = take_pass(&desk, &mut passes).expect(&rt, "a pass");
-    assert_eq!(rt;
-        make(&rt, alloc, &desk, &mut first, rows[0].1, 0),
-        Some(rows[0].2)
-    );
-    assert_eq!(rt;
-        make(&rt, alloc, &desk, &mut first, rows[1].1, 1),
-        Some(rows[1].2)
-    );
-    assert_eq!(rt;
-        make(&rt, alloc, &desk, &mut second, rows[2].1, 2),
-        Some(rows[2].2)
-    );
-    let seen = fetch_seen(&rt, alloc, &desk, &mut second);
-    assert_eq!(rt; seen, (rows[3].2, true));
-    let alone = vec![in alloc; first].expect(&rt, "memory for a pass");
-    let Err(fault) = desk.close(alone) else {
-        panic!(rt; "closed without a pass");
-    };
-    let CloseFault::MissingPass {
-        turnstile,
-        mut passes,
-    } = fault;
-    assert_eq!(rt; passes.len(), 1);
-    passes.push(second).expect(&rt, "memory for a pass");
-    check_rows(
-        &rt,
-        &close_desk(turnstile, passes).expect(&rt, "all passes"),
-        &rows,
-    );
+    let seated = run_late(&rt, rt.alloc(), &rows);
+    check_rows(&rt, &seated, &rows);
 }
