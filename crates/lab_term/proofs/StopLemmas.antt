@@ -76,8 +76,8 @@ fails_reading role r p =
     let x = e.explains in
     let P : List ℕ → Type 0 = λ l. Told r.before r.after l in
     ⊎_elim (λ (f : r.failed ≡ true). inl f)
-        (λ (m : most_bytes ≤ length e.heard). inr (record { stream = e.heard; told = subst P (ap (λ (l : List ℕ). e.heard ++ l) x.0 ∙ append-nil e.heard) e.told; most = m }))
-        x.1
+    (λ (m : most_bytes ≤ length e.heard). inr (record { stream = e.heard; told = subst P (ap (λ (l : List ℕ). e.heard ++ l) x.0 ∙ append-nil e.heard) e.told; most = m }))
+    x.1
 
 shell_caused : (key : List ℕ) (shell iopub : Reader) (a b c : Bool) (cause : PeerFault) → Blames cause shell.ended shell.failed a → NoPeer Dealer shell.before shell.after shell.failed cause → iopub.ended ≡ false → iopub.failed ≡ false → Causes key shell iopub a b c (term_fault_of cause)
 shell_caused key shell iopub a b c peer.OutOfMemory u p e f = (u.0, u.1, e, f)

@@ -75,8 +75,12 @@ pub(crate) fn await_status<I: Inlet>(
         → Waited key.now before (I.given from.new) subscriber.new) }
     ensures stalls { IfErr result (λ fault. (before : Option (List ℕ))
         → Holds before (I.given from.old) subscriber.old [] 0
-        → Stalls key.now (record { before = before; after = I.given from.new; ended = I.ended from.new;
-        failed = I.failed from.new }) false fault) }
+        → Stalls key.now (record {
+          before = before;
+          after = I.given from.new;
+          ended = I.ended from.new;
+          failed = I.failed from.new;
+        }) false fault) }
 {
     for _ in 0..u32::MAX {
         match pass_status(alloc, &mut subscriber.queue, key) {
@@ -198,8 +202,12 @@ pub(crate) fn follow<I: Inlet, O: Outlet>(
         (O.taken output.new) fault) }
     ensures stalls { IfErr result (λ fault. (before : Option (List ℕ)) (passed : List (List (List ℕ)))
         → Holds before (I.given from.old) subscriber.old passed 0
-        → Stalls key.now (record { before = before; after = I.given from.new; ended = I.ended from.new;
-        failed = I.failed from.new }) (O.failed output.new) fault) }
+        → Stalls key.now (record {
+          before = before;
+          after = I.given from.new;
+          ended = I.ended from.new;
+          failed = I.failed from.new;
+        }) (O.failed output.new) fault) }
 {
     let mut has_failed = false;
     for _ in 0..u32::MAX {

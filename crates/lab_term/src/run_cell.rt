@@ -44,8 +44,12 @@ fn greet<I: Inlet + Drop, W: Outlet + Drop>(
     ensures whole { OnOk result (WroteWhole (W.taken connection.old.to) (W.taken connection.new.to) role) }
     ensures front { WroteFront (W.taken connection.old.to) (W.taken connection.new.to) role }
     ensures ungreeted { IfErr result (Ungreeted role
-        (record { before = I.given connection.old.from; after = I.given connection.new.from;
-        ended = I.ended connection.new.from; failed = I.failed connection.new.from })
+        (record {
+          before = I.given connection.old.from;
+          after = I.given connection.new.from;
+          ended = I.ended connection.new.from;
+          failed = I.failed connection.new.from;
+        })
         (W.failed connection.new.to)) }
 {
     match handshake(alloc, &mut connection.from, &mut connection.to, role) {
@@ -133,10 +137,18 @@ pub fn run_cell<I: Inlet + Drop, W: Outlet + Drop, O: Outlet>(
         (W.taken shell.old.to) (W.taken shell.new.to) (W.taken iopub.old.to) (W.taken iopub.new.to)
         (I.given iopub.old.from) (I.given iopub.new.from) (O.taken output.old) (O.taken output.new)) }
     ensures cause { IfErr result (Causes cell.now.key.now
-        (record { before = I.given shell.old.from; after = I.given shell.new.from;
-        ended = I.ended shell.new.from; failed = I.failed shell.new.from })
-        (record { before = I.given iopub.old.from; after = I.given iopub.new.from;
-        ended = I.ended iopub.new.from; failed = I.failed iopub.new.from })
+        (record {
+          before = I.given shell.old.from;
+          after = I.given shell.new.from;
+          ended = I.ended shell.new.from;
+          failed = I.failed shell.new.from;
+        })
+        (record {
+          before = I.given iopub.old.from;
+          after = I.given iopub.new.from;
+          ended = I.ended iopub.new.from;
+          failed = I.failed iopub.new.from;
+        })
         (W.failed shell.new.to) (W.failed iopub.new.to) (O.failed output.new)) }
 {
     match greet(alloc, shell, Role::Dealer) {

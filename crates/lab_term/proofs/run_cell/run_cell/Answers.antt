@@ -21,9 +21,9 @@ returns-clause-ran g c =
     let w = c.in-Ok-await_status.ensures.waited _ holds in
     let cell = c.args.cell.now in
     IfOk-weaker c.follow.result _ _
-        (λ good f. ran_by cell.code.now cell.key.now cell.session.now cell.moment c.in-Ok-request.header c.as_slice.result.now _ _ _ _ _ _ _ _ _ _ _ c.await_status.new.subscriber good
-        c.as_slice.ensures c.in-Ok.ensures.whole c.in-Ok-request.ensures.whole c.in-Ok-greet.ensures.whole c.in-Ok-subscribe.ensures.whole w (f _ w.passed w.holds))
-        c.follow.ensures.followed
+    (λ good f. ran_by cell.code.now cell.key.now cell.session.now cell.moment c.in-Ok-request.header c.as_slice.result.now _ _ _ _ _ _ _ _ _ _ _ c.await_status.new.subscriber good
+    c.as_slice.ensures c.in-Ok.ensures.whole c.in-Ok-request.ensures.whole c.in-Ok-greet.ensures.whole c.in-Ok-subscribe.ensures.whole w (f _ w.passed w.holds))
+    c.follow.ensures.followed
 
 pub returns-clause-stopped : goal.returns-clause-stopped
 returns-clause-stopped g c =
@@ -31,14 +31,14 @@ returns-clause-stopped g c =
     let w = c.in-Ok-await_status.ensures.waited _ holds in
     let cell = c.args.cell.now in
     IfErr-weaker c.follow.result _ _
-        (λ fault f. stopped_after cell.code.now cell.key.now cell.session.now cell.moment c.in-Ok-request.header c.as_slice.result.now _ _ _ _ _ _ _ _ _ _ _ c.await_status.new.subscriber fault
-        c.as_slice.ensures c.in-Ok.ensures.whole c.in-Ok-request.ensures.whole c.in-Ok-greet.ensures.whole c.in-Ok-subscribe.ensures.whole w (f _ w.passed w.holds))
-        c.follow.ensures.front
+    (λ fault f. stopped_after cell.code.now cell.key.now cell.session.now cell.moment c.in-Ok-request.header c.as_slice.result.now _ _ _ _ _ _ _ _ _ _ _ c.await_status.new.subscriber fault
+    c.as_slice.ensures c.in-Ok.ensures.whole c.in-Ok-request.ensures.whole c.in-Ok-greet.ensures.whole c.in-Ok-subscribe.ensures.whole w (f _ w.passed w.holds))
+    c.follow.ensures.front
 
 pub returns-clause-cause : goal.returns-clause-cause
 returns-clause-cause g c =
     let holds = c.in-Ok-subscriber_of.ensures.holds _ _ 0 c.in-Ok-greet.ensures.heard in
     let w = c.in-Ok-await_status.ensures.waited _ holds in
     IfErr-weaker c.follow.result _ _
-        (λ fault f. cause_stalls _ (reader _ _ _ _) (reader _ _ _ _) _ _ _ _ fault (λ h. h) c.in-Ok.ensures.good.0 c.in-Ok.ensures.good.1 (f _ w.passed w.holds))
-        c.follow.ensures.stalls
+    (λ fault f. cause_stalls _ (reader _ _ _ _) (reader _ _ _ _) _ _ _ _ fault (λ h. h) c.in-Ok.ensures.good.0 c.in-Ok.ensures.good.1 (f _ w.passed w.holds))
+    c.follow.ensures.stalls
