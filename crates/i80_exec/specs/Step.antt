@@ -79,6 +79,12 @@ pub record IsOutcome (o : Outcome) (after : MachineState) (answer : Stepped) : T
   pub after_is : after ≡ o.after
   pub answer_is : answer ≡ o.answer
 
+-- what is left and what was answered are the outcome's, which asks no port
+pub record IsWithoutPort (o : Outcome) (after : MachineState) (answer : Stepped) : Type 0 where
+  pub after_is : after ≡ o.after
+  pub operation_is : o.operation ≡ None
+  pub answer_is : answer ≡ o.answer
+
 abbrev pub operation_list : Option PortOperation → List PortOperation
 operation_list None = []
 operation_list (Some p) = p ∷ []

@@ -1,5 +1,5 @@
 //! The 256 opcodes: one arm each, with its registers written into it.
-ghost use Rattle.std.specs.Prelude.{◌≡◌, ◌+◌, ◌*◌, ◌<◌, ◌≤◌, ◌++◌, length};
+ghost use Rattle.std.specs.Prelude.{◌≡◌, ◌≢◌, ◌+◌, ◌*◌, ◌<◌, ◌≤◌, ◌⊎◌, None};
 ghost use Rattle.i80_rows.specs.Rows.{row};
 ghost use Rattle.i80_rows.specs.declared.instruction.Instr.TheVariants.{Nop};
 ghost use Rattle.i80_exec.specs.State.{
@@ -18,9 +18,8 @@ ghost use Rattle.i80_exec.specs.Opcodes.{reg_at, operation_at};
 ghost use Rattle.i80_exec.specs.Step.{
   by_row,
   interrupts_after,
-  operation_list,
-  state_after,
   IsOutcome,
+  IsWithoutPort,
   Performs,
 };
 
@@ -31,203 +30,191 @@ use i80_rows::arithmetic::{daa, dcr, inr, rotate};
 use i80_rows::instruction::{Cond, Operation, Pair, Rotation, StackPair};
 
 macro_rules! arm {
-    (nop $m:ident $ports:ident $opcode:ident) => {{ $m.advance(1); Stepped::Done }};
-    (undefined $m:ident $ports:ident $opcode:ident) => {{ Stepped::Undefined { opcode: $opcode } }};
-    (immediate $m:ident $ports:ident $opcode:ident, $operation:ident) => {{
+    (nop $m:ident $opcode:ident) => {{ $m.advance(1); Stepped::Done }};
+    (undefined $m:ident $opcode:ident) => {{ Stepped::Undefined { opcode: $opcode } }};
+    (immediate $m:ident $opcode:ident, $operation:ident) => {{
         let byte = $m.operand();
         $m.advance(2);
         $m.operate(Operation::$operation, byte);
         Stepped::Done
     }};
-    (mvi $m:ident $ports:ident $opcode:ident, $to:ident) => {{
+    (mvi $m:ident $opcode:ident, $to:ident) => {{
         let byte = $m.operand();
         $m.advance(2);
         $m.regs.$to = byte;
         Stepped::Done
     }};
-    (mvi_memory $m:ident $ports:ident $opcode:ident) => {{
+    (mvi_memory $m:ident $opcode:ident) => {{
         let byte = $m.operand();
         $m.advance(2);
         $m.store_at_hl(byte);
         Stepped::Done
     }};
-    (inr $m:ident $ports:ident $opcode:ident, $to:ident) => {{
+    (inr $m:ident $opcode:ident, $to:ident) => {{
         $m.advance(1);
         let next = inr($m.regs.$to, $m.regs.flags.carry());
         $m.regs.$to = next.value;
         $m.regs.flags = next.flags;
         Stepped::Done
     }};
-    (dcr $m:ident $ports:ident $opcode:ident, $to:ident) => {{
+    (dcr $m:ident $opcode:ident, $to:ident) => {{
         $m.advance(1);
         let next = dcr($m.regs.$to, $m.regs.flags.carry());
         $m.regs.$to = next.value;
         $m.regs.flags = next.flags;
         Stepped::Done
     }};
-    (inr_memory $m:ident $ports:ident $opcode:ident) => {{
+    (inr_memory $m:ident $opcode:ident) => {{
         $m.advance(1);
         let next = inr($m.byte_at_hl(), $m.regs.flags.carry());
         $m.store_at_hl(next.value);
         $m.regs.flags = next.flags;
         Stepped::Done
     }};
-    (dcr_memory $m:ident $ports:ident $opcode:ident) => {{
+    (dcr_memory $m:ident $opcode:ident) => {{
         $m.advance(1);
         let next = dcr($m.byte_at_hl(), $m.regs.flags.carry());
         $m.store_at_hl(next.value);
         $m.regs.flags = next.flags;
         Stepped::Done
     }};
-    (lxi $m:ident $ports:ident $opcode:ident, $pair:ident) => {{
+    (lxi $m:ident $opcode:ident, $pair:ident) => {{
         let word = $m.operand_word();
         $m.advance(3);
         $m.put_pair(Pair::$pair, word);
         Stepped::Done
     }};
-    (inx $m:ident $ports:ident $opcode:ident, $pair:ident) => {{
+    (inx $m:ident $opcode:ident, $pair:ident) => {{
         $m.advance(1);
         $m.put_pair(Pair::$pair, $m.get_pair(Pair::$pair).wrapping_add(1));
         Stepped::Done
     }};
-    (dcx $m:ident $ports:ident $opcode:ident, $pair:ident) => {{
+    (dcx $m:ident $opcode:ident, $pair:ident) => {{
         $m.advance(1);
         $m.put_pair(Pair::$pair, $m.get_pair(Pair::$pair).wrapping_sub(1));
         Stepped::Done
     }};
-    (dad $m:ident $ports:ident $opcode:ident, $pair:ident) => {{
+    (dad $m:ident $opcode:ident, $pair:ident) => {{
         $m.advance(1);
         $m.add_to_hl($m.get_pair(Pair::$pair));
         Stepped::Done
     }};
-    (stax $m:ident $ports:ident $opcode:ident, $pair:ident) => {{
+    (stax $m:ident $opcode:ident, $pair:ident) => {{
         $m.advance(1);
         $m.poke($m.get_pair(Pair::$pair), $m.regs.a);
         Stepped::Done
     }};
-    (ldax $m:ident $ports:ident $opcode:ident, $pair:ident) => {{
+    (ldax $m:ident $opcode:ident, $pair:ident) => {{
         $m.advance(1);
         $m.regs.a = $m.peek($m.get_pair(Pair::$pair));
         Stepped::Done
     }};
-    (shld $m:ident $ports:ident $opcode:ident) => {{
+    (shld $m:ident $opcode:ident) => {{
         let address = $m.operand_word();
         $m.advance(3);
         $m.store_word(address, $m.get_pair(Pair::H));
         Stepped::Done
     }};
-    (lhld $m:ident $ports:ident $opcode:ident) => {{
+    (lhld $m:ident $opcode:ident) => {{
         let address = $m.operand_word();
         $m.advance(3);
         $m.put_pair(Pair::H, $m.word_at(address));
         Stepped::Done
     }};
-    (sta $m:ident $ports:ident $opcode:ident) => {{
+    (sta $m:ident $opcode:ident) => {{
         let address = $m.operand_word();
         $m.advance(3);
         $m.poke(address, $m.regs.a);
         Stepped::Done
     }};
-    (lda $m:ident $ports:ident $opcode:ident) => {{
+    (lda $m:ident $opcode:ident) => {{
         let address = $m.operand_word();
         $m.advance(3);
         $m.regs.a = $m.peek(address);
         Stepped::Done
     }};
-    (rotate $m:ident $ports:ident $opcode:ident, $rotation:ident) => {{
+    (rotate $m:ident $opcode:ident, $rotation:ident) => {{
         $m.advance(1);
         $m.set_a(rotate(Rotation::$rotation, $m.regs.a, $m.regs.flags));
         Stepped::Done
     }};
-    (daa $m:ident $ports:ident $opcode:ident) => {{
+    (daa $m:ident $opcode:ident) => {{
         $m.advance(1);
         $m.set_a(daa($m.regs.a, $m.regs.flags));
         Stepped::Done
     }};
-    (cma $m:ident $ports:ident $opcode:ident) => {{ $m.advance(1); $m.regs.a = !$m.regs.a; Stepped::Done }};
-    (stc $m:ident $ports:ident $opcode:ident) => {{
+    (cma $m:ident $opcode:ident) => {{ $m.advance(1); $m.regs.a = !$m.regs.a; Stepped::Done }};
+    (stc $m:ident $opcode:ident) => {{
         $m.advance(1);
         $m.regs.flags = $m.regs.flags.with_carry(true);
         Stepped::Done
     }};
-    (cmc $m:ident $ports:ident $opcode:ident) => {{
+    (cmc $m:ident $opcode:ident) => {{
         $m.advance(1);
         $m.regs.flags = $m.regs.flags.with_carry(!$m.regs.flags.carry());
         Stepped::Done
     }};
-    (jmp $m:ident $ports:ident $opcode:ident) => {{
+    (jmp $m:ident $opcode:ident) => {{
         let target = $m.operand_word();
         $m.advance(3);
         $m.jump(target);
         Stepped::Done
     }};
-    (jump_if $m:ident $ports:ident $opcode:ident, $cond:ident) => {{
+    (jump_if $m:ident $opcode:ident, $cond:ident) => {{
         let target = $m.operand_word();
         $m.advance(3);
         if $m.holds(Cond::$cond) { $m.jump(target); }
         Stepped::Done
     }};
-    (call $m:ident $ports:ident $opcode:ident) => {{
+    (call $m:ident $opcode:ident) => {{
         let target = $m.operand_word();
         $m.advance(3);
         $m.call(target)
     }};
-    (call_if $m:ident $ports:ident $opcode:ident, $cond:ident) => {{
+    (call_if $m:ident $opcode:ident, $cond:ident) => {{
         let target = $m.operand_word();
         $m.advance(3);
         if $m.holds(Cond::$cond) { $m.call(target) } else { Stepped::Done }
     }};
-    (ret $m:ident $ports:ident $opcode:ident) => {{ $m.advance(1); $m.ret() }};
-    (ret_if $m:ident $ports:ident $opcode:ident, $cond:ident) => {{
+    (ret $m:ident $opcode:ident) => {{ $m.advance(1); $m.ret() }};
+    (ret_if $m:ident $opcode:ident, $cond:ident) => {{
         $m.advance(1);
         if $m.holds(Cond::$cond) { $m.ret() } else { Stepped::Done }
     }};
-    (rst $m:ident $ports:ident $opcode:ident, $target:literal) => {{ $m.advance(1); $m.call($target) }};
-    (push $m:ident $ports:ident $opcode:ident, $pair:ident) => {{
+    (rst $m:ident $opcode:ident, $target:literal) => {{ $m.advance(1); $m.call($target) }};
+    (push $m:ident $opcode:ident, $pair:ident) => {{
         $m.advance(1);
         $m.push_word($m.get_stack_pair(StackPair::$pair));
         Stepped::Done
     }};
-    (pop $m:ident $ports:ident $opcode:ident, $pair:ident) => {{
+    (pop $m:ident $opcode:ident, $pair:ident) => {{
         $m.advance(1);
         let word = $m.pop_word();
         $m.put_stack_pair(StackPair::$pair, word);
         Stepped::Done
     }};
-    (xthl $m:ident $ports:ident $opcode:ident) => {{
+    (xthl $m:ident $opcode:ident) => {{
         $m.advance(1);
         $m.exchange_with_stack();
         Stepped::Done
     }};
-    (xchg $m:ident $ports:ident $opcode:ident) => {{ $m.advance(1); $m.exchange_with_de(); Stepped::Done }};
-    (pchl $m:ident $ports:ident $opcode:ident) => {{
+    (xchg $m:ident $opcode:ident) => {{ $m.advance(1); $m.exchange_with_de(); Stepped::Done }};
+    (pchl $m:ident $opcode:ident) => {{
         $m.advance(1);
         $m.jump($m.get_pair(Pair::H));
         Stepped::Done
     }};
-    (sphl $m:ident $ports:ident $opcode:ident) => {{
+    (sphl $m:ident $opcode:ident) => {{
         $m.advance(1);
         $m.regs.sp = $m.get_pair(Pair::H);
         Stepped::Done
     }};
-    (output $m:ident $ports:ident $opcode:ident) => {{
-        let port = $m.operand();
-        $m.advance(2);
-        $ports.output(port, $m.regs.a);
-        Stepped::Done
-    }};
-    (input $m:ident $ports:ident $opcode:ident) => {{
-        let port = $m.operand();
-        $m.advance(2);
-        $m.regs.a = $ports.input(port);
-        Stepped::Done
-    }};
-    (di $m:ident $ports:ident $opcode:ident) => {{
+    (di $m:ident $opcode:ident) => {{
         $m.advance(1);
         $m.regs.interrupts = Interrupts::Off;
         Stepped::Done
     }};
-    (ei $m:ident $ports:ident $opcode:ident) => {{
+    (ei $m:ident $opcode:ident) => {{
         $m.advance(1);
         $m.regs.interrupts = Interrupts::Arming;
         Stepped::Done
@@ -235,30 +222,31 @@ macro_rules! arm {
 }
 
 macro_rules! opcodes {
-    ($m:ident $ports:ident $opcode:ident; $($code:literal => $kind:ident($($operand:tt)*);)*) => {
+    ($m:ident $opcode:ident; $($code:literal => $kind:ident($($operand:tt)*);)*) => {
         match $opcode {
-            $($code => opcodes!(@ $kind $m $ports $opcode; $($operand)*),)*
+            $($code => opcodes!(@ $kind $m $opcode; $($operand)*),)*
             _ => unreachable!(),
         }
     };
-    (@ $kind:ident $m:ident $ports:ident $opcode:ident;) => { arm!($kind $m $ports $opcode) };
-    (@ $kind:ident $m:ident $ports:ident $opcode:ident; $($operand:tt)+) => {
-        arm!($kind $m $ports $opcode, $($operand)+)
+    (@ $kind:ident $m:ident $opcode:ident;) => { arm!($kind $m $opcode) };
+    (@ $kind:ident $m:ident $opcode:ident; $($operand:tt)+) => {
+        arm!($kind $m $opcode, $($operand)+)
     };
 }
 
 macro_rules! groups {
     ($m:ident $ports:ident $opcode:ident; $($($code:literal)* => $group:ident;)* _ => $last:ident;) => {
         match $opcode {
-            $($($code => $m.$group($opcode, $ports),)*)*
-            _ => $m.$last($opcode, $ports),
+            0xd3 => $m.step_out($opcode, $ports),
+            0xdb => $m.step_in($opcode, $ports),
+            $($($code => $m.$group($opcode),)*)*
+            _ => $m.$last($opcode),
         }
     };
 }
 
 impl Machine {
     /// Does the instruction of this opcode, which is the one at PC.
-    // One match of all opcodes makes one jump table; each arm is then the one of its group.
     #[inline(always)]
     pub(super) fn step_opcode<P: Ports>(&mut self, opcode: u8, ports: &mut P) -> Stepped
         requires opcode { opcode ≡ byte_at self.old self.old.regs.pc }
@@ -267,6 +255,57 @@ impl Machine {
             IsOutcome outcome self.new result
             × Performs outcome.operation P.after (P.operations ports.old) (P.operations ports.new)
             (P.state ports.old) (P.state ports.new) (P.spare ports.old) (P.spare ports.new) }
+    {
+        self.step_in_group(opcode, ports)
+    }
+
+    /// OUT, which is the instruction at PC.
+    #[inline(always)]
+    #[tactic(auto, unfolding(i80_rows::specs::Rows::row))]
+    fn step_out<P: Ports>(&mut self, opcode: u8, ports: &mut P) -> Stepped
+        requires opcode { opcode ≡ byte_at self.old self.old.regs.pc }
+        requires output { opcode ≡ 211 }
+        requires spare { 1 ≤ P.spare ports.old }
+        ensures { let outcome = by_row (row opcode) (P.answer (P.state ports.old)) self.old in
+            IsOutcome outcome self.new result
+            × Performs outcome.operation P.after (P.operations ports.old) (P.operations ports.new)
+            (P.state ports.old) (P.state ports.new) (P.spare ports.old) (P.spare ports.new) }
+    {
+        let port = self.operand();
+        self.advance(2);
+        ports.output(port, self.regs.a);
+        Stepped::Done
+    }
+
+    /// IN, which is the instruction at PC.
+    #[inline(always)]
+    #[tactic(auto, unfolding(i80_rows::specs::Rows::row))]
+    fn step_in<P: Ports>(&mut self, opcode: u8, ports: &mut P) -> Stepped
+        requires opcode { opcode ≡ byte_at self.old self.old.regs.pc }
+        requires input { opcode ≡ 219 }
+        requires spare { 1 ≤ P.spare ports.old }
+        ensures { let outcome = by_row (row opcode) (P.answer (P.state ports.old)) self.old in
+            IsOutcome outcome self.new result
+            × Performs outcome.operation P.after (P.operations ports.old) (P.operations ports.new)
+            (P.state ports.old) (P.state ports.new) (P.spare ports.old) (P.spare ports.new) }
+    {
+        let port = self.operand();
+        self.advance(2);
+        self.regs.a = ports.input(port);
+        Stepped::Done
+    }
+
+    // One match of all opcodes makes one jump table; each arm is then the one of its group. Only two arms
+    // have to do with ports.
+    #[inline(always)]
+    fn step_in_group<P: Ports>(&mut self, opcode: u8, ports: &mut P) -> Stepped
+        requires opcode { opcode ≡ byte_at self.old self.old.regs.pc }
+        requires spare { 1 ≤ P.spare ports.old }
+        ensures { let outcome = by_row (row opcode) (P.answer (P.state ports.old)) self.old in
+            (IsWithoutPort (by_row (row opcode) (λ _. 0) self.old) self.new result × (ports.new ≡ ports.old))
+            ⊎ (IsOutcome outcome self.new result
+            × Performs outcome.operation P.after (P.operations ports.old) (P.operations ports.new)
+            (P.state ports.old) (P.state ports.new) (P.spare ports.old) (P.spare ports.new)) }
     {
         groups! { self ports opcode;
             0x00 0x01 0x02 0x03 0x04 0x05 0x06 0x07 0x08 0x09 0x0a 0x0b 0x0c 0x0d 0x0e 0x0f => step_00;
@@ -282,7 +321,7 @@ impl Machine {
             0xa0 0xa1 0xa2 0xa3 0xa4 0xa5 0xa6 0xa7 0xa8 0xa9 0xaa 0xab 0xac 0xad 0xae 0xaf => step_80;
             0xb0 0xb1 0xb2 0xb3 0xb4 0xb5 0xb6 0xb7 0xb8 0xb9 0xba 0xbb 0xbc 0xbd 0xbe 0xbf => step_80;
             0xc0 0xc1 0xc2 0xc3 0xc4 0xc5 0xc6 0xc7 0xc8 0xc9 0xca 0xcb 0xcc 0xcd 0xce 0xcf => step_c0;
-            0xd0 0xd1 0xd2 0xd3 0xd4 0xd5 0xd6 0xd7 0xd8 0xd9 0xda 0xdb 0xdc 0xdd 0xde 0xdf => step_c0;
+            0xd0 0xd1 0xd2 0xd4 0xd5 0xd6 0xd7 0xd8 0xd9 0xda 0xdc 0xdd 0xde 0xdf => step_c0;
             0xe0 0xe1 0xe2 0xe3 0xe4 0xe5 0xe6 0xe7 0xe8 0xe9 0xea 0xeb 0xec 0xed 0xee 0xef => step_e0;
             0xf0 0xf1 0xf2 0xf3 0xf4 0xf5 0xf6 0xf7 0xf8 0xf9 0xfa 0xfb 0xfc 0xfd 0xfe => step_e0;
             _ => step_e0;
@@ -335,22 +374,15 @@ impl Machine {
 
     #[inline]
     #[tactic(auto, unfolding(i80_rows::specs::Rows::row))]
-    fn step_00<P: Ports>(&mut self, opcode: u8, ports: &mut P) -> Stepped
+    fn step_00(&mut self, opcode: u8) -> Stepped
         requires opcode { opcode ≡ byte_at self.old self.old.regs.pc }
         requires high { opcode < 32 }
-        requires spare { 1 ≤ P.spare ports.old }
-        ensures after { self.new ≡ (by_row (row opcode) (P.answer (P.state ports.old)) self.old).after }
-        ensures answer { result ≡ (by_row (row opcode) (P.answer (P.state ports.old)) self.old).answer }
-        ensures operations { P.operations ports.new ≡ P.operations ports.old
-            ++ operation_list (by_row (row opcode) (P.answer (P.state ports.old)) self.old).operation }
-        ensures state { P.state ports.new ≡ state_after P.after (P.state ports.old)
-            (by_row (row opcode) (P.answer (P.state ports.old)) self.old).operation }
-        ensures spare { P.spare ports.new
-            + length (operation_list (by_row (row opcode) (P.answer (P.state ports.old)) self.old).operation)
-            ≡ P.spare ports.old }
+        ensures after { self.new ≡ (by_row (row opcode) (λ _. 0) self.old).after }
+        ensures operation { (by_row (row opcode) (λ _. 0) self.old).operation ≡ None }
+        ensures answer { result ≡ (by_row (row opcode) (λ _. 0) self.old).answer }
     {
         let m = self;
-        opcodes! { m ports opcode;
+        opcodes! { m opcode;
             0x00 => nop();
             0x01 => lxi(B);
             0x02 => stax(B);
@@ -388,23 +420,16 @@ impl Machine {
 
     #[inline]
     #[tactic(auto, unfolding(i80_rows::specs::Rows::row))]
-    fn step_20<P: Ports>(&mut self, opcode: u8, ports: &mut P) -> Stepped
+    fn step_20(&mut self, opcode: u8) -> Stepped
         requires opcode { opcode ≡ byte_at self.old self.old.regs.pc }
         requires low { 32 ≤ opcode }
         requires high { opcode < 64 }
-        requires spare { 1 ≤ P.spare ports.old }
-        ensures after { self.new ≡ (by_row (row opcode) (P.answer (P.state ports.old)) self.old).after }
-        ensures answer { result ≡ (by_row (row opcode) (P.answer (P.state ports.old)) self.old).answer }
-        ensures operations { P.operations ports.new ≡ P.operations ports.old
-            ++ operation_list (by_row (row opcode) (P.answer (P.state ports.old)) self.old).operation }
-        ensures state { P.state ports.new ≡ state_after P.after (P.state ports.old)
-            (by_row (row opcode) (P.answer (P.state ports.old)) self.old).operation }
-        ensures spare { P.spare ports.new
-            + length (operation_list (by_row (row opcode) (P.answer (P.state ports.old)) self.old).operation)
-            ≡ P.spare ports.old }
+        ensures after { self.new ≡ (by_row (row opcode) (λ _. 0) self.old).after }
+        ensures operation { (by_row (row opcode) (λ _. 0) self.old).operation ≡ None }
+        ensures answer { result ≡ (by_row (row opcode) (λ _. 0) self.old).answer }
     {
         let m = self;
-        opcodes! { m ports opcode;
+        opcodes! { m opcode;
             0x20 => undefined();
             0x21 => lxi(H);
             0x22 => shld();
@@ -508,20 +533,13 @@ impl Machine {
 
     /// MOV, whose opcode has the codes of its registers, and HLT among them.
     #[inline]
-    fn step_40<P: Ports>(&mut self, opcode: u8, ports: &mut P) -> Stepped
+    fn step_40(&mut self, opcode: u8) -> Stepped
         requires opcode { opcode ≡ byte_at self.old self.old.regs.pc }
         requires low { 64 ≤ opcode }
         requires high { opcode < 128 }
-        requires spare { 1 ≤ P.spare ports.old }
-        ensures after { self.new ≡ (by_row (row opcode) (P.answer (P.state ports.old)) self.old).after }
-        ensures answer { result ≡ (by_row (row opcode) (P.answer (P.state ports.old)) self.old).answer }
-        ensures operations { P.operations ports.new ≡ P.operations ports.old
-            ++ operation_list (by_row (row opcode) (P.answer (P.state ports.old)) self.old).operation }
-        ensures state { P.state ports.new ≡ state_after P.after (P.state ports.old)
-            (by_row (row opcode) (P.answer (P.state ports.old)) self.old).operation }
-        ensures spare { P.spare ports.new
-            + length (operation_list (by_row (row opcode) (P.answer (P.state ports.old)) self.old).operation)
-            ≡ P.spare ports.old }
+        ensures after { self.new ≡ (by_row (row opcode) (λ _. 0) self.old).after }
+        ensures operation { (by_row (row opcode) (λ _. 0) self.old).operation ≡ None }
+        ensures answer { result ≡ (by_row (row opcode) (λ _. 0) self.old).answer }
     {
         self.advance(1);
         if opcode == 0x76 {
@@ -534,20 +552,13 @@ impl Machine {
 
     /// ADD to CMP, whose opcode has the codes of its operation and its register.
     #[inline]
-    fn step_80<P: Ports>(&mut self, opcode: u8, ports: &mut P) -> Stepped
+    fn step_80(&mut self, opcode: u8) -> Stepped
         requires opcode { opcode ≡ byte_at self.old self.old.regs.pc }
         requires low { 128 ≤ opcode }
         requires high { opcode < 192 }
-        requires spare { 1 ≤ P.spare ports.old }
-        ensures after { self.new ≡ (by_row (row opcode) (P.answer (P.state ports.old)) self.old).after }
-        ensures answer { result ≡ (by_row (row opcode) (P.answer (P.state ports.old)) self.old).answer }
-        ensures operations { P.operations ports.new ≡ P.operations ports.old
-            ++ operation_list (by_row (row opcode) (P.answer (P.state ports.old)) self.old).operation }
-        ensures state { P.state ports.new ≡ state_after P.after (P.state ports.old)
-            (by_row (row opcode) (P.answer (P.state ports.old)) self.old).operation }
-        ensures spare { P.spare ports.new
-            + length (operation_list (by_row (row opcode) (P.answer (P.state ports.old)) self.old).operation)
-            ≡ P.spare ports.old }
+        ensures after { self.new ≡ (by_row (row opcode) (λ _. 0) self.old).after }
+        ensures operation { (by_row (row opcode) (λ _. 0) self.old).operation ≡ None }
+        ensures answer { result ≡ (by_row (row opcode) (λ _. 0) self.old).answer }
     {
         self.advance(1);
         if opcode == 0x9f {
@@ -561,23 +572,18 @@ impl Machine {
 
     #[inline]
     #[tactic(auto, unfolding(i80_rows::specs::Rows::row))]
-    fn step_c0<P: Ports>(&mut self, opcode: u8, ports: &mut P) -> Stepped
+    fn step_c0(&mut self, opcode: u8) -> Stepped
         requires opcode { opcode ≡ byte_at self.old self.old.regs.pc }
         requires low { 192 ≤ opcode }
         requires high { opcode < 224 }
-        requires spare { 1 ≤ P.spare ports.old }
-        ensures after { self.new ≡ (by_row (row opcode) (P.answer (P.state ports.old)) self.old).after }
-        ensures answer { result ≡ (by_row (row opcode) (P.answer (P.state ports.old)) self.old).answer }
-        ensures operations { P.operations ports.new ≡ P.operations ports.old
-            ++ operation_list (by_row (row opcode) (P.answer (P.state ports.old)) self.old).operation }
-        ensures state { P.state ports.new ≡ state_after P.after (P.state ports.old)
-            (by_row (row opcode) (P.answer (P.state ports.old)) self.old).operation }
-        ensures spare { P.spare ports.new
-            + length (operation_list (by_row (row opcode) (P.answer (P.state ports.old)) self.old).operation)
-            ≡ P.spare ports.old }
+        requires output { opcode ≢ 211 }
+        requires input { opcode ≢ 219 }
+        ensures after { self.new ≡ (by_row (row opcode) (λ _. 0) self.old).after }
+        ensures operation { (by_row (row opcode) (λ _. 0) self.old).operation ≡ None }
+        ensures answer { result ≡ (by_row (row opcode) (λ _. 0) self.old).answer }
     {
         let m = self;
-        opcodes! { m ports opcode;
+        opcodes! { m opcode;
             0xc0 => ret_if(NotZero);
             0xc1 => pop(B);
             0xc2 => jump_if(NotZero);
@@ -597,7 +603,6 @@ impl Machine {
             0xd0 => ret_if(NoCarry);
             0xd1 => pop(D);
             0xd2 => jump_if(NoCarry);
-            0xd3 => output();
             0xd4 => call_if(NoCarry);
             0xd5 => push(D);
             0xd6 => immediate(Sub);
@@ -605,7 +610,6 @@ impl Machine {
             0xd8 => ret_if(Carry);
             0xd9 => undefined();
             0xda => jump_if(Carry);
-            0xdb => input();
             0xdc => call_if(Carry);
             0xdd => undefined();
             0xde => immediate(Sbb);
@@ -615,23 +619,16 @@ impl Machine {
 
     #[inline]
     #[tactic(auto, unfolding(i80_rows::specs::Rows::row))]
-    fn step_e0<P: Ports>(&mut self, opcode: u8, ports: &mut P) -> Stepped
+    fn step_e0(&mut self, opcode: u8) -> Stepped
         requires opcode { opcode ≡ byte_at self.old self.old.regs.pc }
         requires low { 224 ≤ opcode }
         requires high { opcode < 256 }
-        requires spare { 1 ≤ P.spare ports.old }
-        ensures after { self.new ≡ (by_row (row opcode) (P.answer (P.state ports.old)) self.old).after }
-        ensures answer { result ≡ (by_row (row opcode) (P.answer (P.state ports.old)) self.old).answer }
-        ensures operations { P.operations ports.new ≡ P.operations ports.old
-            ++ operation_list (by_row (row opcode) (P.answer (P.state ports.old)) self.old).operation }
-        ensures state { P.state ports.new ≡ state_after P.after (P.state ports.old)
-            (by_row (row opcode) (P.answer (P.state ports.old)) self.old).operation }
-        ensures spare { P.spare ports.new
-            + length (operation_list (by_row (row opcode) (P.answer (P.state ports.old)) self.old).operation)
-            ≡ P.spare ports.old }
+        ensures after { self.new ≡ (by_row (row opcode) (λ _. 0) self.old).after }
+        ensures operation { (by_row (row opcode) (λ _. 0) self.old).operation ≡ None }
+        ensures answer { result ≡ (by_row (row opcode) (λ _. 0) self.old).answer }
     {
         let m = self;
-        opcodes! { m ports opcode;
+        opcodes! { m opcode;
             0xe0 => ret_if(ParityOdd);
             0xe1 => pop(H);
             0xe2 => jump_if(ParityOdd);
