@@ -1,15 +1,48 @@
 //! Assembling a cell.
-ghost use Rattle.std.specs.Prelude.{◌≡◌, ◌≤◌, length, IfOk};
+ghost use Rattle.std.specs.Prelude.{◌≡◌, ◌≤◌, [], length, fold, IfOk};
 ghost use Rattle.asm_syntax.specs.Outcome.{Gives};
-ghost use Rattle.asm_build.specs.Meaning.{built_of, meaning_in, IsMeaning, IsOnlyMeaning};
+ghost use Rattle.asm_build.specs.Meaning.{with_symbol, definitions, meaning_of, built_of, meaning_in};
+ghost use Rattle.asm_build.specs.Meaning.{IsMeaning, IsOnlyMeaning};
+ghost use Rattle.asm_build.specs.State.{lines_of};
 
 use crate::built::Built;
-use crate::layout::lay_out;
+use crate::layout::{Layout, lay_out};
 use crate::symbols::Symbols;
 use crate::values::{Values, evaluate};
 use asm_syntax::fault::AsmFault;
 use asm_syntax::statement::{MOST_LINES, Statement, Statements};
-use std::alloc::Global;
+use std::alloc::{AllocError, Global};
+
+// Those that were kept, with the cell's own.
+fn symbols_after(alloc: Global, kept: &Symbols, own: &Symbols) -> Result<Symbols, AllocError>
+    ensures { IfOk result (λ s. s ≡ fold (λ es e. with_symbol es e.0 e.1) kept.now own.now) }
+{
+    let mut symbols = kept.copy()?;
+    symbols.define_all(alloc, own)?;
+    Ok(symbols)
+}
+
+// The value round, and the symbols to keep after it.
+fn value_round(
+    alloc: Global,
+    kept: &Symbols,
+    layout: &Layout<'_>,
+    statements: &[Statement],
+) -> Result<Built, AsmFault>
+    requires rows { length layout.now.rows.items ≡ length statements.now }
+    requires own { layout.now.own ≡ definitions (lines_of [] statements.now layout.now.rows.items) }
+    ensures { Gives meaning_in result
+        (meaning_of kept.now (lines_of [] statements.now layout.now.rows.items)) }
+{
+    let Values { image, rows, start } = evaluate(alloc, kept, layout, statements)?;
+    let symbols = symbols_after(alloc, kept, &layout.own)?;
+    Ok(Built {
+        image: image.into_vec(),
+        rows,
+        start,
+        symbols,
+    })
+}
 
 // The layout round, and after it the value round.
 fn both_rounds(alloc: Global, statements: &[Statement], kept: &Symbols) -> Result<Built, AsmFault>
@@ -17,15 +50,7 @@ fn both_rounds(alloc: Global, statements: &[Statement], kept: &Symbols) -> Resul
     ensures { Gives meaning_in result (built_of kept.now statements.now) }
 {
     let layout = lay_out(alloc, kept, statements)?;
-    let Values { image, rows, start } = evaluate(alloc, kept, &layout, statements)?;
-    let mut symbols = kept.copy()?;
-    symbols.define_all(alloc, &layout.own)?;
-    Ok(Built {
-        image: image.into_vec(),
-        rows,
-        start,
-        symbols,
-    })
+    value_round(alloc, kept, &layout, statements)
 }
 
 /// Assembles the statements of a cell over the symbols that were kept, which stay as they are.

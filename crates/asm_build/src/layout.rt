@@ -14,7 +14,7 @@ ghost use Rattle.asm_build.specs.Layout.{is_among, needs, uses, check_first, che
 ghost use Rattle.asm_build.specs.Layout.{check_definition, early, within, assembled, laid_out};
 ghost use Rattle.asm_build.specs.Layout.{layout};
 ghost use Rattle.asm_build.specs.State.{placed, past_in, past_of, lines_of, with_line_definition};
-ghost use Rattle.asm_build.specs.State.{Advances};
+ghost use Rattle.asm_build.specs.State.{Advances, Stands};
 
 use crate::laid::Laid;
 use crate::look_up::EarlyNames;
@@ -31,7 +31,6 @@ use i80_rows::memory::MEMORY_SIZE;
 use std::alloc::{AllocError, Global};
 
 /// What is known after some lines.
-#[derive(Drop)]
 pub(crate) struct Layout<'a> {
     /// The cell's own symbols.
     pub(crate) own: Symbols,
@@ -44,6 +43,21 @@ pub(crate) struct Layout<'a> {
     pub(crate) parts: Parts,
     pub(crate) place: u32,
     pub(crate) has_ended: bool,
+}
+
+// One function for all places where a layout is dropped.
+impl Drop for Layout<'_> {
+    fn drop(self) {
+        let Self {
+            own: _,
+            rows: _,
+            needed: _,
+            used: _,
+            parts: _,
+            place: _,
+            has_ended: _,
+        } = self;
+    }
 }
 
 // A fault on its line.
@@ -298,13 +312,8 @@ fn next_place(statement: &Statement, row: Laid) -> u32
 
 impl<'a> Layout<'a> {
     fn new(alloc: Global) -> Self
-        ensures own { result.own ≡ [] }
         ensures rows { result.rows.items ≡ [] }
-        ensures needed { result.needed ≡ [] }
-        ensures used { result.used ≡ [] }
-        ensures parts { result.parts ≡ [] }
-        ensures place { result.place ≡ 0 }
-        ensures ended { result.has_ended ≡ false }
+        ensures stands { Stands [] result }
     {
         Layout {
             own: Symbols::new(alloc),
@@ -474,6 +483,28 @@ impl<'a> Layout<'a> {
             Err(fault) => Err(on_line(line, fault)),
         }
     }
+
+    // Lays statements out in turn, from the first line on.
+    fn lay_all(
+        &mut self,
+        alloc: Global,
+        kept: &Symbols,
+        statements: &'a [Statement],
+    ) -> Result<(), AsmFault>
+        requires few { length statements.now ≤ MOST_LINES }
+        requires rows { self.old.rows.items ≡ [] }
+        requires stands { Stands [] self.old }
+        ensures exact { Gives (λ _. lines_of [] statements.now self.new.rows.items) result
+            (layout kept.now [] statements.now) }
+        ensures own { OnOk result
+            (self.new.own ≡ definitions (lines_of [] statements.now self.new.rows.items)) }
+        ensures rows { OnOk result (length self.new.rows.items ≡ length statements.now) }
+    {
+        for (i, statement) in statements.iter().enumerate() {
+            let _ = self.lay(alloc, kept, i + 1, statement)?;
+        }
+        Ok(())
+    }
 }
 
 /// Lays the statements of a cell out, or reports the first fault on the way.
@@ -489,8 +520,6 @@ pub(crate) fn lay_out<'a>(
     ensures rows { IfOk result (λ l. length l.rows.items ≡ length statements.now) }
 {
     let mut state = Layout::new(alloc);
-    for (i, statement) in statements.iter().enumerate() {
-        let _ = state.lay(alloc, kept, i + 1, statement)?;
-    }
+    state.lay_all(alloc, kept, statements)?;
     Ok(state)
 }

@@ -8,9 +8,15 @@ use std::alloc::{AllocError, Global};
 use std::marker::Model;
 
 /// Names that statements hold.
-#[derive(Drop)]
 pub(crate) struct NameSet<'a> {
     names: IndexSet<&'a str>,
+}
+
+// One function for all places where a set is dropped.
+impl Drop for NameSet<'_> {
+    fn drop(self) {
+        let Self { names: _ } = self;
+    }
 }
 
 impl<'a> Model for NameSet<'a> {

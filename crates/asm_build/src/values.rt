@@ -130,6 +130,36 @@ impl Values {
             Err(fault) => Err(on_line(line, fault)),
         }
     }
+
+    // Goes past all lines of a cell in turn, noting their SETs.
+    fn with_lines(
+        &mut self,
+        alloc: Global,
+        kept: &Symbols,
+        layout: &Layout<'_>,
+        statements: &[Statement],
+        sets: &mut Symbols,
+    ) -> Result<(), AsmFault>
+        requires rows { length layout.now.rows.items ≡ length statements.now }
+        requires own { layout.now.own
+            ≡ definitions (lines_of [] statements.now layout.now.rows.items) }
+        requires none { output_in self.old ≡ record { image = []; rows = []; start = None } }
+        requires sets { sets.old ≡ [] }
+        ensures { let all = lines_of [] statements.now layout.now.rows.items in
+            Gives (λ _. output_in self.new) result (output_of kept.now all all) }
+    {
+        for (i, statement) in statements.iter().enumerate() {
+            let row = layout.rows[i];
+            let names = LateNames {
+                own: &layout.own,
+                sets,
+                kept,
+            };
+            self.with_line(alloc, names, i + 1, statement, row)?;
+            note_set(alloc, sets, statement, row)?;
+        }
+        Ok(())
+    }
 }
 
 /// What the lines of a cell give, or the first fault on the way.
@@ -146,15 +176,6 @@ pub(crate) fn evaluate(
 {
     let mut done = Values::new(alloc)?;
     let mut sets = Symbols::new(alloc);
-    for (i, statement) in statements.iter().enumerate() {
-        let row = layout.rows[i];
-        let names = LateNames {
-            own: &layout.own,
-            sets: &sets,
-            kept,
-        };
-        done.with_line(alloc, names, i + 1, statement, row)?;
-        note_set(alloc, &mut sets, statement, row)?;
-    }
+    done.with_lines(alloc, kept, layout, statements, &mut sets)?;
     Ok(done)
 }

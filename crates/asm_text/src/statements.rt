@@ -36,7 +36,11 @@ fn unless_fault(passed: Result<(), LineFault>, statement: Statement) -> Result<S
 {
     match passed {
         Ok(()) => Ok(statement),
-        Err(fault) => Err(fault),
+        Err(fault) => {
+            // A call, in place of a case for each kind of statement here.
+            drop(statement);
+            Err(fault)
+        }
     }
 }
 

@@ -1,29 +1,22 @@
 use Rattle.std.proofs.Common.{◌≡◌, ◌∙◌, ◌+◌, ◌∷◌, [], length, drop, length-append, sym, ap, subst, arith}
 use Rattle.std.proofs.lemmas.Result.{err_from_is_err_and}
 use Rattle.asm_build.specs.Reading.{Lines}
-use Rattle.asm_build.specs.Layout.{is_among, layout}
+use Rattle.asm_build.specs.Layout.{layout}
 use Rattle.asm_build.specs.State.{lines_of, Stands}
 use Rattle.asm_build.proofs.LayoutLemmas.{stands_next, lines_none, lines_more, lines_length, layout_goes}
 use Rattle.asm_build.proofs.LayoutLemmas.{layout_fails, layout_ends}
-use Rattle.asm_build.proofs.layout.lay_out.Goals as goal
+use Rattle.asm_build.proofs.layout.Layout.lay_all.Goals as goal
 
 pub loop-i-init : goal.loop-i-init
 loop-i-init c =
     let ss = c.args.statements.now in
-    let new = c.new-state.ensures in
-    let none : lines_of [] ss c.new-state.result.rows.items ≡ [] =
-    ap (lines_of [] ss) new.rows ∙ lines_none [] ss in
+    let old = c.args.self.now in
+    let none : lines_of [] ss old.rows.items ≡ [] =
+    ap (lines_of [] ss) c.requires.rows ∙ lines_none [] ss in
     record {
-      small = omega (arith, new.place);
-      rows = ap length new.rows;
-      stands = subst (λ (e : Lines). Stands e c.new-state.result) (sym none) (record {
-        own = new.own;
-        needed = λ x. ap (is_among x) new.needed;
-        used = λ x. ap (is_among x) new.used;
-        parts = new.parts;
-        place = new.place;
-        ended = new.ended;
-      });
+      small = omega (arith, c.requires.stands.place);
+      rows = ap length c.requires.rows;
+      stands = subst (λ (e : Lines). Stands e old) (sym none) c.requires.stands;
       goes_on = ap (λ e. layout c.args.kept.now e ss) none;
     }
 
@@ -31,11 +24,11 @@ pub returns-in_err-lay-clause-exact : goal.returns-in_err-lay-clause-exact
 returns-in_err-lay-clause-exact c =
     let p = err_from_is_err_and c.from_residual.result c.from_residual.ensures.1 in
     let ss = c.args.statements.now in
-    let rs = c.loop-i.state.rows.items in
+    let rs = c.loop-i.self.rows.items in
     let long : length (lines_of [] ss rs) ≡ c.loop-i.i =
     omega (arith, lines_length [] ss rs (omega (arith, c.loop-i.invariant.rows)), c.loop-i.invariant.rows)
     in
-    rw (p.1, p.2) (layout_fails c.in_err-lay.field-0.0 c.args.kept.now (lines_of [] ss rs) ss c.loop-i.state
+    rw (p.1, p.2) (layout_fails c.in_err-lay.field-0.0 c.args.kept.now (lines_of [] ss rs) ss c.loop-i.self
     c.loop-i.i c.index-statements-i.result _
     (omega arith) c.index-statements-i.is c.loop-i.invariant.stands long c.in_err-lay.ensures.exact
     c.loop-i.invariant.goes_on)
@@ -45,7 +38,7 @@ loop-i-preserved c =
     let ss = c.args.statements.now in
     let s = c.index-statements-i.result in
     let r = c.in_ok-lay.field-0 in
-    let rs = c.loop-i.state.rows.items in
+    let rs = c.loop-i.self.rows.items in
     let goes = c.in_ok-lay.ensures.advances in
     let was = c.loop-i.invariant in
     let long : length (lines_of [] ss rs) ≡ c.loop-i.i =
@@ -58,14 +51,14 @@ loop-i-preserved c =
       rows = ap length goes.rows ∙ length-append rs (r ∷ []) ∙ ap (λ n. n + 1) was.rows;
       stands =
           subst (λ (e : Lines). Stands e c.lay.new.self) (sym more)
-          (stands_next (lines_of [] ss rs) c.loop-i.state c.lay.new.self s r was.stands goes);
+          (stands_next (lines_of [] ss rs) c.loop-i.self c.lay.new.self s r was.stands goes);
       goes_on = ap (λ e. layout c.args.kept.now e (drop (c.loop-i.i + 1) ss)) more
-          ∙ layout_goes c.args.kept.now (lines_of [] ss rs) ss c.loop-i.state c.loop-i.i s r _
+          ∙ layout_goes c.args.kept.now (lines_of [] ss rs) ss c.loop-i.self c.loop-i.i s r _
           (omega arith) c.index-statements-i.is was.stands long c.in_ok-lay.ensures.exact was.goes_on;
     }
 
 pub returns-clause-exact : goal.returns-clause-exact
 returns-clause-exact c =
-    layout_ends c.args.kept.now (lines_of [] c.args.statements.now c.loop-i.state.rows.items)
+    layout_ends c.args.kept.now (lines_of [] c.args.statements.now c.loop-i.self.rows.items)
     c.args.statements.now c.loop-i.i _
     (omega arith) c.loop-i.invariant.goes_on

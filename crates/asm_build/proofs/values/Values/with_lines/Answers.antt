@@ -6,26 +6,26 @@ use Rattle.asm_build.specs.Meaning.{output_of}
 use Rattle.asm_build.specs.State.{lines_of, output_in}
 use Rattle.asm_build.proofs.LayoutLemmas.{lines_none}
 use Rattle.asm_build.proofs.ValueLemmas.{lines_take, lines_taken, output_none, output_goes, output_fails}
-use Rattle.asm_build.proofs.values.evaluate.Goals as goal
+use Rattle.asm_build.proofs.values.Values.with_lines.Goals as goal
 
 pub loop-i-init : goal.loop-i-init
 loop-i-init c =
     let ss = c.args.statements.now in
     record {
-      done = output_none c.args.kept.now _ ss (output_in c.in_ok-done.done) c.in_ok-done.ensures;
+      done = output_none c.args.kept.now _ ss (output_in c.args.self.now) c.requires.none;
       sets =
-          λ x. ap (λ es. symbol_at es x) c.new-sets.ensures
+          λ x. ap (λ es. symbol_at es x) c.requires.sets
           ∙ ap (λ ps. last_set ps x) (sym (lines_none [] ss));
     }
 
 pub returns-in_err-with_line : goal.returns-in_err-with_line
 returns-in_err-with_line c =
     let p =
-    err_from_is_err_and c.from_residual-in_err-with_line.result c.from_residual-in_err-with_line.ensures.1
+    err_from_is_err_and c.from_residual.result c.from_residual.ensures.1
     in
     rw (p.1, p.2) (output_fails c.in_err-with_line.field-0.0 c.args.kept.now c.args.layout.now.own
     c.loop-i.sets
-    c.args.statements.now c.args.layout.now.rows.items (output_in c.loop-i.done) c.loop-i.i
+    c.args.statements.now c.args.layout.now.rows.items (output_in c.loop-i.self) c.loop-i.i
     c.index-statements-i.result c.index-row.result.now
     c.requires.own c.requires.rows (omega arith) c.index-statements-i.is c.index-row.ensures
     c.loop-i.invariant.sets c.loop-i.invariant.done
@@ -45,7 +45,7 @@ loop-i-preserved c =
     record {
       done = ap (output_of kept (lines_of [] ss rs)) more
           ∙ output_goes kept c.args.layout.now.own c.loop-i.sets (lines_of [] ss rs)
-          (lines_of [] ss (take i rs)) (output_in c.loop-i.done)
+          (lines_of [] ss (take i rs)) (output_in c.loop-i.self)
           (output_in c.with_line.new.self) i (s, r) c.requires.own c.loop-i.invariant.sets
           (lines_taken ss rs i c.requires.rows lt)
           c.loop-i.invariant.done c.in_ok-with_line.ensures;
