@@ -1,5 +1,5 @@
 -- Which board a lab stands for after an event that changes some of its parts.
-use Rattle.std.proofs.Common.{◌≡◌, ℕ, List, [], ◌∷◌, ◌++◌, true, false, Option, Some, None, Result, Ok, map, refl, ap, ◌∙◌, arith}
+use Rattle.std.proofs.Common.{◌≡◌, ℕ, List, [], ◌∷◌, ◌++◌, true, false, Option, Some, None, Result, Ok, length, map, refl, ap, ◌∙◌, arith}
 use Rattle.i80_exec.specs.State.{MachineState, power_on, with_pc, loaded as with_image}
 use Rattle.i80_devs.specs.Past as devices
 use Rattle.asm_build.specs.Reading.{Entries}
@@ -19,7 +19,7 @@ use Rattle.lab_core.specs.declared.answer.Answer.TheVariants.{Dumped, Breakpoint
 use Rattle.lab_core.specs.declared.answer.Breakpoint.{Breakpoint}
 use Rattle.lab_core.specs.declared.fault.EventFault.{EventFault}
 use Rattle.lab_core.specs.Board.{Board}
-use Rattle.lab_core.specs.Events.{Gives, GivesSlice, SlicesRun, while_attached, while_running, stopped, started, reset, with_built, dumped, verified, with_breakpoints}
+use Rattle.lab_core.specs.Events.{Gives, GivesSlice, SlicesRun, while_attached, while_running, stopped, started, reset, with_built, with_cell, dumped, verified, with_breakpoints}
 use Rattle.lab_core.specs.Labs.{LabState, StandsAmid, StandsFor}
 
 pub gives_paused : (b new : Board) (a : Answer) → b.is_attached ≡ true → b.run ≡ Running
@@ -202,6 +202,13 @@ stands_dumped old b sources all s same = record {
   request = s.request;
   follows = s.follows;
 }
+
+pub stands_kept : (lab : LabState) (b : Board) (s : Source) (place : Option ℕ) (n : ℕ) (m : Meaning)
+    (sources : List Source)
+    → place ≡ None → n ≡ length b.sources → StandsFor lab (with_built n m b) → sources ≡ b.sources ++ s ∷ []
+    → StandsFor (record lab { sources = sources }) (with_cell s place m b)
+stands_kept lab b s place n m sources none number stands same =
+    rw (none, ← number) (stands_dumped lab (with_built n m b) sources (b.sources ++ s ∷ []) stands same)
 
 pub gives_breakpoints : (b : Board) (path lines : List ℕ) (number : ℕ) (text : List ℕ) (answers : List Breakpoint)
     → source_at b.sources path ≡ Some (number, text) → answers ≡ map (verified text) lines

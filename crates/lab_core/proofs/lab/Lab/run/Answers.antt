@@ -1,6 +1,12 @@
-use Rattle.std.proofs.Common.{◌∙◌, ◌+◌, ◌++◌, ◌∷◌, [], ap, sym, take, length-append}
+use Rattle.std.proofs.Common.{◌≡◌, ◌∙◌, ◌+◌, ◌++◌, ◌∷◌, [], List, Some, Err, length, refl, ap, sym, subst}
+use Rattle.std.proofs.Common.{take, length-append}
 use Rattle.std.proofs.lemmas.Bool.{iff_false}
-use Rattle.std.proofs.lemmas.List.{take_more}
+use Rattle.std.proofs.lemmas.List.{take_more, take_all}
+use Rattle.std.proofs.lemmas.Option.{slice_get_read}
+use Rattle.std.specs.List.{slice_get}
+use Rattle.lab_core.specs.declared.event.Event.{Event}
+use Rattle.lab_core.specs.declared.fault.EventFault.TheVariants.{OutOfMemory}
+use Rattle.lab_core.specs.Labs.{RunsOn}
 use Rattle.lab_core.proofs.EventLemmas.{Runs-append}
 use Rattle.lab_core.proofs.lab.Lab.run.Goals as goal
 
@@ -17,3 +23,43 @@ loop-event-preserved c =
           (after.0, rw (items, more) (Runs-append b before.0 after.0 _ _ _ _ before.1 after.1), after.2);
       count = rw items (length-append c.loop-event.answers.items (c.apply-answer.result ∷ []) ∙ ap (λ n. n + 1) inv.count);
     }
+
+pub returns-then-is_err-clause-stopped : goal.returns-then-is_err-clause-stopped
+returns-then-is_err-clause-stopped c =
+    rw (c.from.ensures, c.reserve.ensures.items, c.loop-event.invariant.count) c.loop-event.invariant.runs
+
+-- an event that ran out of memory left the lab as it was
+unchanged : (c : goal.Joined-answer) → c.apply-answer.new.self ≡ c.loop-event.self
+unchanged c =
+    let wanting : c.apply-answer.result ≡ Err OutOfMemory =
+    c.is_out_of_memory.ensures.0 c.if-is_out_of_memory.true in
+    rw wanting at c.apply-answer.ensures.err
+
+pub returns-then-is_out_of_memory-clause-stopped : goal.returns-then-is_out_of_memory-clause-stopped
+returns-then-is_out_of_memory-clause-stopped c =
+    rw (c.from-then-is_out_of_memory.ensures, c.reserve.ensures.items, c.loop-event.invariant.count, unchanged c)
+    c.loop-event.invariant.runs
+
+pub returns-then-is_out_of_memory-clause-wanted : goal.returns-then-is_out_of_memory-clause-wanted
+returns-then-is_out_of_memory-clause-wanted c = λ _.
+    let events = c.args.events.now in
+    let i = c.loop-event.event-index in
+    let wanting : c.apply-answer.result ≡ Err OutOfMemory =
+    c.is_out_of_memory.ensures.0 c.if-is_out_of_memory.true in
+    let there : slice_get events i ≡ Some c.event-item.result =
+    slice_get_read events (length events) i c.event-item.result refl c.loop-event-test.true c.event-item.is in
+    rw (
+      c.from-then-is_out_of_memory.ensures,
+      c.reserve.ensures.items,
+      c.loop-event.invariant.count,
+      there,
+      unchanged c,
+    ) (c.apply-answer.ensures.memory wanting)
+
+pub returns-clause-ok : goal.returns-clause-ok
+returns-clause-ok c =
+    let P : List Event → Type 0 = λ events.
+    RunsOn c.args.self.now events c.loop-event.answers.items c.loop-event.self in
+    rw c.from-2.ensures
+    (subst P (take_all c.loop-event.event-index c.args.events.now c.loop-event-test.false)
+    c.loop-event.invariant.runs)
