@@ -4,9 +4,9 @@ use Rattle.serde_json.specs.View.{view}
 use Rattle.jup_wire.specs.declared.message.Parts.{Parts}
 use Rattle.jup_wire.specs.declared.message.Header.{Header}
 use Rattle.jup_wire.specs.declared.sealing.Draft.{Draft}
-use Rattle.jup_wire.specs.Json.{json_of, IsTextOf}
+use Rattle.jup_wire.specs.Json.{json_of}
 use Rattle.jup_wire.specs.Wire.{NoDelimiter, IsSigned, IsMessage}
-use Rattle.jup_wire.specs.Seal.{signature_frame, frames_of, IsSealed, IsOpenable}
+use Rattle.jup_wire.specs.Seal.{signature_frame, frames_of, IsWrittenFrom, IsSealed, IsOpenable}
 
 is_some_at : {A : Type 0} (o : Option A) (x : A) → o ≡ Some x → IsSome o
 is_some_at o x e = subst (λ (p : Option _). IsSome p) (sym e) refl
@@ -44,19 +44,16 @@ opens_again key d frames s h o =
       s.parent_header,
     )
 
-pub sealed_from : {E : Type 0} (key : List ℕ) (d : Draft) (header metadata content digits : List ℕ) (r : Result (List (List ℕ)) E)
-    → IsTextOf header (view d.header) → IsTextOf metadata (view d.metadata) → IsTextOf content (view d.content)
-    → (let p : Parts = record { identities = d.identities; header = header; parent_header = d.parent_header; metadata = metadata; content = content } in
-    digits ≡ signature_frame key p → IfOk r (λ frames. frames ≡ frames_of p digits) → IfOk r (IsSealed key d))
-sealed_from key d header metadata content digits (Ok frames) of_header of_metadata of_content right whole =
-    let p : Parts = record { identities = d.identities; header = header; parent_header = d.parent_header; metadata = metadata; content = content } in
-    record {
-      parts = p;
-      whole = whole ∙ ap (frames_of p) right;
-      identities = refl;
-      header = of_header;
-      parent_header = refl;
-      metadata = of_metadata;
-      content = of_content;
-    }
-sealed_from key d header metadata content digits (Err e) of_header of_metadata of_content right whole = tt
+pub sealed_from : {E : Type 0} (key : List ℕ) (d : Draft) (p : Parts) (digits : List ℕ)
+    (r : Result (List (List ℕ)) E) → IsWrittenFrom d p → digits ≡ signature_frame key p
+    → IfOk r (λ frames. frames ≡ frames_of p digits) → IfOk r (IsSealed key d)
+sealed_from key d p digits (Ok frames) parts right whole = record {
+  parts = p;
+  whole = whole ∙ ap (frames_of p) right;
+  identities = parts.identities;
+  header = parts.texts.header_text;
+  parent_header = parts.parent_header;
+  metadata = parts.texts.metadata_text;
+  content = parts.texts.content_text;
+}
+sealed_from key d p digits (Err e) parts right whole = tt

@@ -18,6 +18,18 @@ signature_frame (byte ∷ bytes) p = signature (byte ∷ bytes) (json_frames p)
 abbrev pub frames_of : Parts → List ℕ → List (List ℕ)
 frames_of p digits = p.identities ++ delimiter ∷ digits ∷ json_frames p
 
+-- these are texts of the values of the draft
+pub record AreTexts (d : Draft) (header metadata content : List ℕ) : Type 0 where
+  pub header_text : IsTextOf header (view d.header)
+  pub metadata_text : IsTextOf metadata (view d.metadata)
+  pub content_text : IsTextOf content (view d.content)
+
+-- these are the parts of what is sent for the draft
+pub record IsWrittenFrom (d : Draft) (p : Parts) : Type 0 where
+  pub identities : p.identities ≡ d.identities
+  pub parent_header : p.parent_header ≡ d.parent_header
+  pub texts : AreTexts d p.header p.metadata p.content
+
 -- these frames are sent for the draft
 pub record IsSealed (key : List ℕ) (d : Draft) (frames : List (List ℕ)) : Type 0 where
   pub parts : Parts

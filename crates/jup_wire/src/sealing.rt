@@ -1,11 +1,12 @@
 //! Sealing: from JSON to frames.
-ghost use Rattle.std.specs.Prelude.{◌≡◌, IfOk};
+ghost use Rattle.std.specs.Prelude.{◌≡◌, ◌≤◌, ◌+◌, ◌∷◌, ◌++◌, [], vec_len, vec_capacity, IfOk};
 ghost use Rattle.serde_json.specs.View.{view};
 ghost use Rattle.jup_wire.specs.declared.message.Parts.{Parts};
 ghost use Rattle.jup_wire.specs.declared.message.Header.{Header};
 ghost use Rattle.jup_wire.specs.Json.{IsTextOf};
-ghost use Rattle.jup_wire.specs.Wire.{IsMessage};
+ghost use Rattle.jup_wire.specs.Wire.{delimiter, IsMessage};
 ghost use Rattle.jup_wire.specs.Seal.{signature_frame, frames_of, IsSealed, IsOpenable};
+ghost use Rattle.jup_wire.specs.Seal.{AreTexts, IsWrittenFrom};
 
 use crate::message::{DELIMITER, Parts};
 use crate::signature::signature_of;
@@ -44,6 +45,18 @@ fn signature_frame(alloc: Global, key: &[u8], parts: &Parts) -> Result<Bytes, Al
     Bytes::copy_of(alloc, &code)
 }
 
+// The identities and the delimiter, with room for the five frames that follow.
+fn begin(alloc: Global, identities: Frames) -> Result<Vec<Bytes>, AllocError>
+    ensures items { IfOk result (λ frames. frames.items ≡ identities ++ delimiter ∷ []) }
+    ensures room { IfOk result (λ frames. vec_len frames + 5 ≤ vec_capacity frames) }
+{
+    let delimiter = Bytes::copy_of(alloc, DELIMITER)?;
+    let mut frames = identities.into_vec();
+    frames.reserve(6)?;
+    frames.push_reserved(delimiter);
+    Ok(frames)
+}
+
 fn join(alloc: Global, parts: Parts, digits: Bytes) -> Result<Frames, AllocError>
     ensures { IfOk result (λ frames. frames ≡ frames_of parts digits) }
 {
@@ -54,10 +67,7 @@ fn join(alloc: Global, parts: Parts, digits: Bytes) -> Result<Frames, AllocError
         metadata,
         content,
     } = parts;
-    let delimiter = Bytes::copy_of(alloc, DELIMITER)?;
-    let mut frames = identities.into_vec();
-    frames.reserve(6)?;
-    frames.push_reserved(delimiter);
+    let mut frames = begin(alloc, identities)?;
     frames.push_reserved(digits);
     frames.push_reserved(header);
     frames.push_reserved(parent_header);
@@ -66,19 +76,52 @@ fn join(alloc: Global, parts: Parts, digits: Bytes) -> Result<Frames, AllocError
     Ok(Frames::from(frames))
 }
 
-fn seal(alloc: Global, draft: Draft, key: &[u8]) -> Result<Frames, AllocError>
-    ensures { IfOk result (IsSealed key.now draft) }
+// The texts of the header, of the metadata and of the content.
+fn write_values(alloc: Global, draft: &Draft) -> Result<(Bytes, Bytes, Bytes), AllocError>
+    ensures { IfOk result (λ texts. AreTexts draft.now texts.0 texts.1 texts.2) }
 {
     let header = write_json(alloc, &draft.header)?;
     let metadata = write_json(alloc, &draft.metadata)?;
     let content = write_json(alloc, &draft.content)?;
-    let parts = Parts {
-        identities: draft.identities,
+    Ok((header, metadata, content))
+}
+
+// What is sent of a draft as it is: the identities and the parent header. Its values are dropped.
+fn sent_as_is(draft: Draft) -> (Frames, Bytes)
+    ensures { (result.0 ≡ draft.identities) × (result.1 ≡ draft.parent_header) }
+{
+    let Draft {
+        identities,
         header,
-        parent_header: draft.parent_header,
+        parent_header,
         metadata,
         content,
-    };
+    } = draft;
+    drop(header);
+    drop(metadata);
+    drop(content);
+    (identities, parent_header)
+}
+
+fn parts_of(alloc: Global, draft: Draft) -> Result<Parts, AllocError>
+    ensures { IfOk result (IsWrittenFrom draft) }
+{
+    let texts = write_values(alloc, &draft);
+    let (identities, parent_header) = sent_as_is(draft);
+    let (header, metadata, content) = texts?;
+    Ok(Parts {
+        identities,
+        header,
+        parent_header,
+        metadata,
+        content,
+    })
+}
+
+fn seal(alloc: Global, draft: Draft, key: &[u8]) -> Result<Frames, AllocError>
+    ensures { IfOk result (IsSealed key.now draft) }
+{
+    let parts = parts_of(alloc, draft)?;
     let digits = signature_frame(alloc, key, &parts)?;
     join(alloc, parts, digits)
 }

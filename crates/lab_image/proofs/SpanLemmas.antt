@@ -171,6 +171,22 @@ spans_overlay low old (r ∷ rs) are news =
     spans-append low r.from 65536 (between low r.from old) (r ∷ overlay r.to old rs) (spans_between 65536 low r.from old are news.0)
     (omega arith, news.1, spans_overlay r.to old rs are news.2)
 
+-- one more new span, and what the old ones have up to it
+pub overlay_step : (old new all cut more whole : List Span) (low k : ℕ) → k < length new
+    → cut ≡ all ++ between low (slice_index_or new k no_span).from old
+    → more ≡ cut ++ slice_index_or new k no_span ∷ []
+    → all ++ overlay low old (drop k new) ≡ whole
+    → more ++ overlay (slice_index_or new k no_span).to old (drop (k + 1) new) ≡ whole
+overlay_step old new all cut more whole low k h first last was =
+    let next = rw (drop_more new k no_span h) at was in
+    rw (last, first) (simp append_assoc next)
+
+-- what the old ones have behind the last new one
+pub overlay_end : (old new all more whole : List Span) (low k : ℕ) → length new ≤ k
+    → more ≡ all ++ between low 65536 old → all ++ overlay low old (drop k new) ≡ whole → more ≡ whole
+overlay_end old new all more whole low k h last was =
+    last ∙ (rw (drop_all k new h) at was)
+
 overlay_before : (low : ℕ) (old new : List Span) (a : ℕ) → AreSpans low new 65536 → a < low → origin_in (overlay low old new) a ≡ None
 overlay_before low old [] a news h =
     ap (λ xs. origin_in xs a) (sym (append-nil (between low 65536 old))) ∙ between_past old [] low 65536 a (inl h)

@@ -1,5 +1,5 @@
 -- What rows tell, one behind another, and what the span of a row gives.
-use Rattle.std.proofs.Common.{◌≡◌, ℕ, ◌<◌, ◌+◌, ◌==◌, List, [], ◌∷◌, ◌++◌, Option, Some, None, Bool, true, false, refl, sym, ap, ◌∙◌, arith, cond, take, length, slice_index_or, subst, append-nil}
+use Rattle.std.proofs.Common.{◌≡◌, ℕ, ◌<◌, ◌+◌, ◌==◌, List, [], ◌∷◌, ◌++◌, Option, Some, None, Bool, true, false, refl, sym, ap, ◌∙◌, arith, cond, take, length, slice_index_or, subst, append_assoc, append-nil, length-append}
 use Rattle.std.specs.List.{last_or, filter_map, flat_map, cons_option}
 use Rattle.std.specs.Option.{option_or}
 use Rattle.std.proofs.lemmas.List.{take_more}
@@ -9,7 +9,7 @@ use Rattle.std.proofs.lemmas.Bool.Decides.{nat_tests}
 use Rattle.asm_build.specs.declared.built.Row.{Row}
 use Rattle.lab_image.specs.declared.spans.Span.{Span}
 use Rattle.lab_image.specs.Spans.{AreSpans, lies_in, origin_at, origin_in, overlay, whole_span, span_of}
-use Rattle.lab_image.specs.Loads.{covers, told_by, told_in, Load, Tells, Appends}
+use Rattle.lab_image.specs.Loads.{covers, told_by, told_in, Load, Tells, Fronts, Appends}
 use Rattle.lab_image.proofs.SpanLemmas.{origin_overlay}
 
 pub last_or-append : {A : Type 0} (o : Option A) (xs ys : List A) → last_or o (xs ++ ys) ≡ last_or (last_or o xs) ys
@@ -74,15 +74,48 @@ appends_load load old new tells loads stands a h =
     tells a h ∙ ap (λ o. last_or o (told_in a load)) (stands a h)
     ∙ sym (ap (last_or None) (told-append loads load a) ∙ last_or-append None (flat_map (told_in a) loads) (told_in a load))
 
--- Rows are told by those in front, the next one, and two parts of the others, each over what was there.
-pub tells_halves : (source : ℕ) (rows done first second : List Row) (row : Row) (old front more a b : List Span)
-    → rows ≡ done ++ row ∷ (first ++ second)
-    → Tells source done old front → Tells source (row ∷ []) front more
+-- the rows in order and the next one are in front
+pub fronts_one : (source : ℕ) (rows later : List Row) (i : ℕ) (row : Row) (old middle new : List Span)
+    → rows ≡ take i rows ++ row ∷ later
+    → Tells source (take i rows) old middle → Tells source (row ∷ []) middle new → AreSpans 0 new 65536
+    → Fronts source rows later old new
+fronts_one source rows later i row old middle new e told one are = record {
+  done = take i rows ++ row ∷ [];
+  whole = rw append_assoc e;
+  told = tells_more source (take i rows) (row ∷ []) old middle new told one;
+  sorted = are;
+  fewer = λ h. omega (arith, ap length e, length-append (take i rows) (row ∷ later));
+}
+
+-- all rows came in order
+pub fronts_all : (source : ℕ) (rows later : List Row) (i : ℕ) (old new : List Span)
+    → rows ≡ take i rows ++ later → length later ≡ 0
+    → Tells source (take i rows) old new → AreSpans 0 new 65536 → Fronts source rows later old new
+fronts_all source rows later i old new e none told are = record {
+  done = take i rows;
+  whole = e;
+  told = told;
+  sorted = are;
+  fewer = λ h. absurd (omega arith);
+}
+
+-- where none is later, all are told
+pub tells_front : (source : ℕ) (rows later : List Row) (old new : List Span)
+    → Fronts source rows later old new → length later ≡ 0 → Tells source rows old new
+tells_front source rows [] old new front none =
+    subst (λ xs. Tells source xs old new) (sym (front.whole ∙ append-nil front.done)) front.told
+tells_front source rows (row ∷ later) old new front none = absurd (omega arith)
+
+-- Rows are told by those in front, and two parts of the others, each over what was there.
+pub tells_halves : (source : ℕ) (rows later first second : List Row) (old front a b : List Span)
+    → Fronts source rows later old front → later ≡ first ++ second
     → AreSpans 0 a 65536 → Tells source first [] a → AreSpans 0 b 65536 → Tells source second [] b
-    → Tells source rows old (overlay 0 (overlay 0 more a) b)
-tells_halves source rows done first second row old front more a b e t one are h are' h' =
-    let three = tells_more source (row ∷ []) first front more (overlay 0 more a) one (tells_over source first more a are h) in
-    let four = tells_more source (row ∷ first) second front (overlay 0 more a) (overlay 0 (overlay 0 more a) b) three (tells_over source second (overlay 0 more a) b are' h') in
-    let all = tells_more source done (row ∷ (first ++ second)) old front (overlay 0 (overlay 0 more a) b) t four in
-    let P : List Row → Type 0 = λ xs. Tells source xs old (overlay 0 (overlay 0 more a) b) in
-    subst P (sym e) all
+    → Tells source rows old (overlay 0 (overlay 0 front a) b)
+tells_halves source rows later first second old front a b in_front e are h are' h' =
+    let over = overlay 0 (overlay 0 front a) b in
+    let one = tells_over source first front a are h in
+    let other = tells_over source second (overlay 0 front a) b are' h' in
+    let both = tells_more source first second front (overlay 0 front a) over one other in
+    let all = tells_more source in_front.done (first ++ second) old front over in_front.told both in
+    let P : List Row → Type 0 = λ xs. Tells source xs old over in
+    subst P (sym (in_front.whole ∙ ap (λ (xs : List Row). in_front.done ++ xs) e)) all

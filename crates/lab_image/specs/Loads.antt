@@ -1,11 +1,11 @@
 -- Where the bytes in memory come from, by the list of all loads.
-use Rattle.std.specs.Prelude.{◌≡◌, ℕ, ◌+◌, ◌<◌, List, [], ◌∷◌, ◌++◌, Bool, ◌&&◌, ◌==◌, nat_le, nat_lt, Option, Some, None, if◌then◌else◌}
+use Rattle.std.specs.Prelude.{◌≡◌, ℕ, ◌+◌, ◌<◌, List, [], ◌∷◌, ◌++◌, length, Bool, ◌&&◌, ◌==◌, nat_le, nat_lt, Option, Some, None, if◌then◌else◌}
 use Rattle.std.specs.List.{filter_map, flat_map, last_or}
 use Rattle.asm_build.specs.declared.built.Row.{Row}
 use Rattle.asm_build.specs.declared.built.Built.{Built}
 use Rattle.lab_image.specs.declared.origin.Origin.{Origin}
 use Rattle.lab_image.specs.declared.spans.Span.{Span}
-use Rattle.lab_image.specs.Spans.{origin_in}
+use Rattle.lab_image.specs.Spans.{AreSpans, origin_in}
 
 -- ---- origins
 
@@ -44,6 +44,14 @@ Tells source rows old new =
     (address : ℕ) → address < 65536
     → origin_in new address
     ≡ last_or (origin_in old address) (told_in address (record { source = source; rows = rows }))
+
+-- the rows in front of the later ones are told, at least one where there are later ones
+pub record Fronts (source : ℕ) (rows later : List Row) (old new : List Span) : Type 0 where
+  pub done : List Row
+  pub whole : rows ≡ done ++ later
+  pub told : Tells source done old new
+  pub sorted : AreSpans 0 new 65536
+  pub fewer : 0 < length later → length later < length rows
 
 -- the spans give each address the origin that these loads give it
 abbrev pub StandsFor : List Span → List Load → Type 0

@@ -1,6 +1,6 @@
 //! Sorted spans of addresses, each of them what is left of a row.
 ghost use Rattle.std.specs.Prelude.{◌≡◌, ◌≤◌, ◌<◌, ◌∷◌, ◌++◌, ℕ, [], length, take, IsTrue, OnOk, IfOk, IfSome};
-ghost use Rattle.lab_image.specs.Loads.{Tells};
+ghost use Rattle.lab_image.specs.Loads.{Tells, Fronts};
 ghost use Rattle.lab_image.specs.Spans.{AreSpans, EndBy, between, origin_in, overlay, span_of};
 
 use crate::origin::Origin;
@@ -100,19 +100,27 @@ fn push_between(all: &mut Vec<Span>, spans: &[Span], low: u32, high: u32) -> Res
     Ok(())
 }
 
-/// The new spans, and between them what the old ones have left, in one pass over both.
+// Appends the new spans, and between them what the old ones have left, in one pass over both.
+fn push_overlaid(all: &mut Vec<Span>, old: &[Span], new: &[Span]) -> Result<(), AllocError>
+    requires { AreSpans 0 old.now 65536 }
+    ensures { OnOk result (all.new.items ≡ all.old.items ++ overlay 0 old.now new.now) }
+{
+    let mut low = 0;
+    for span in new {
+        push_between(all, old, low, span.from)?;
+        all.push(*span)?;
+        low = span.to;
+    }
+    push_between(all, old, low, ADDRESSES)
+}
+
+/// The new spans, and between them what the old ones have left.
 pub(crate) fn overlaid(alloc: Global, old: &[Span], new: &[Span]) -> Result<Vec<Span>, AllocError>
     requires { AreSpans 0 old.now 65536 }
     ensures { IfOk result (λ all. all.items ≡ overlay 0 old.now new.now) }
 {
     let mut all = Vec::with_capacity(alloc, old.len().saturating_add(new.len()))?;
-    let mut low = 0;
-    for span in new {
-        push_between(&mut all, old, low, span.from)?;
-        all.push(*span)?;
-        low = span.to;
-    }
-    push_between(&mut all, old, low, ADDRESSES)?;
+    push_overlaid(&mut all, old, new)?;
     Ok(all)
 }
 
@@ -185,6 +193,40 @@ fn put_in_order(
     Ok(rows.len())
 }
 
+// Puts the rows in front that come in order, and the one after them. Answers the rows after these.
+fn put_front<'a>(
+    alloc: Global,
+    spans: &mut Vec<Span>,
+    source: u32,
+    rows: &'a [Row],
+) -> Result<&'a [Row], AllocError>
+    requires { AreSpans 0 spans.old.items 65536 }
+    ensures { IfOk result (λ later. Fronts source rows.now later.now spans.old.items spans.new.items) }
+{
+    let count = put_in_order(alloc, spans, source, rows)?;
+    let (_, rest) = rows.split_at(count);
+    let Some((row, later)) = rest.split_first() else {
+        return Ok(rest);
+    };
+    put_row(alloc, spans, source, row)?;
+    Ok(later)
+}
+
+// The first spans over the old ones, and the second ones over both.
+fn overlaid_twice(
+    alloc: Global,
+    old: &[Span],
+    first: &[Span],
+    second: &[Span],
+) -> Result<Vec<Span>, AllocError>
+    requires old { AreSpans 0 old.now 65536 }
+    requires first { AreSpans 0 first.now 65536 }
+    ensures { IfOk result (λ all. all.items ≡ overlay 0 (overlay 0 old.now first.now) second.now) }
+{
+    let all = overlaid(alloc, old, first)?;
+    overlaid(alloc, &all, second)
+}
+
 /// The spans of the rows of a source, put in order.
 ///
 /// Rows in the order of their addresses are put one by one. Of others, the later half goes over the
@@ -198,15 +240,12 @@ pub(crate) fn spans_of_rows(
     ensures origins { IfOk result (λ all. Tells source rows.now [] all.items) }
 {
     let mut all = Vec::new(alloc);
-    let count = put_in_order(alloc, &mut all, source, rows)?;
-    let (_, rest) = rows.split_at(count);
-    let Some((row, later)) = rest.split_first() else {
+    let later = put_front(alloc, &mut all, source, rows)?;
+    if later.is_empty() {
         return Ok(all);
-    };
-    put_row(alloc, &mut all, source, row)?;
+    }
     let (first, second) = later.split_at(later.len() / 2);
     let first = spans_of_rows(alloc, source, first)?;
     let second = spans_of_rows(alloc, source, second)?;
-    let all = overlaid(alloc, &all, &first)?;
-    overlaid(alloc, &all, &second)
+    overlaid_twice(alloc, &all, &first, &second)
 }

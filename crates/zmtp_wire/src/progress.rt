@@ -1,6 +1,7 @@
 //! A feed on its way through the bytes that it has: item by item, until none is whole.
 ghost use Rattle.std.specs.Prelude.{◌≡◌, ◌≤◌, [], length, drop, OnOk, OnErr, IfOk, option_copied};
 ghost use Rattle.zmtp_wire.specs.Stream.{Reads, with_frame};
+ghost use Rattle.zmtp_wire.specs.declared.head.Position.{Position};
 ghost use Rattle.zmtp_wire.specs.Progress.{WhateverBefore, Takes, TakesCommand, TakesBody, EndsAt};
 ghost use Rattle.zmtp_wire.specs.Progress.{SameMessages, KeepsFirst, FirstFrames};
 
@@ -41,6 +42,19 @@ pub enum Taken {
     Broken(StreamFault),
 }
 
+// Adds the last frame of a message, which completes it.
+fn add_last(alloc: Global, progress: &mut Progress, frame: Bytes) -> Result<(), AllocError>
+    ensures ok { OnOk result (WhateverBefore progress.old progress.new
+        (λ old new. new ≡ with_frame old Position.Last frame)) }
+    ensures err { OnErr result (SameMessages progress.old progress.new) }
+{
+    progress.messages.reserve(1)?;
+    progress.frames.push(frame)?;
+    let whole = mem::replace(&mut progress.frames, Frames::new(alloc));
+    progress.messages.push_reserved(whole);
+    Ok(())
+}
+
 // Adds a whole frame of a message.
 fn add_frame(
     alloc: Global,
@@ -58,13 +72,7 @@ fn add_frame(
             progress.frames.push(frame)?;
             Ok(())
         }
-        Position::Last => {
-            progress.messages.reserve(1)?;
-            progress.frames.push(frame)?;
-            let whole = mem::replace(&mut progress.frames, Frames::new(alloc));
-            progress.messages.push_reserved(whole);
-            Ok(())
-        }
+        Position::Last => add_last(alloc, progress, frame),
     }
 }
 

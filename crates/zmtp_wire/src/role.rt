@@ -1,5 +1,7 @@
 //! What a side is to its peer.
-ghost use Rattle.std.specs.Prelude.{◌≡◌};
+ghost use Rattle.std.specs.Prelude.{◌≡◌, [], ◌∷◌};
+ghost use Rattle.std.specs.List.{list_any};
+ghost use Rattle.std.specs.Str.{bytes_eq};
 ghost use Rattle.zmtp_wire.specs.Roles.{accepts, socket_name};
 
 /// The socket type of this side.
@@ -30,13 +32,24 @@ impl Role {
     pub fn accepts(self, socket_type: &[u8]) -> bool
         ensures { result ≡ accepts self socket_type.now }
     {
-        let is = |name: &[u8]| socket_type == name;
         match self {
-            Role::Router => is(b"DEALER") || is(b"REQ") || is(b"ROUTER"),
-            Role::Pub => is(b"SUB") || is(b"XSUB"),
-            Role::Rep => is(b"REQ") || is(b"DEALER"),
-            Role::Dealer => is(b"ROUTER"),
-            Role::Sub => is(b"PUB"),
+            Role::Router => is(socket_type, b"DEALER") || is_either(socket_type, b"REQ", b"ROUTER"),
+            Role::Pub => is_either(socket_type, b"SUB", b"XSUB"),
+            Role::Rep => is_either(socket_type, b"REQ", b"DEALER"),
+            Role::Dealer => is(socket_type, b"ROUTER"),
+            Role::Sub => is(socket_type, b"PUB"),
         }
     }
+}
+
+fn is(name: &[u8], one: &[u8]) -> bool
+    ensures { result ≡ bytes_eq name.now one.now }
+{
+    name == one
+}
+
+fn is_either(name: &[u8], one: &[u8], other: &[u8]) -> bool
+    ensures { result ≡ list_any (bytes_eq name.now) (one.now ∷ other.now ∷ []) }
+{
+    is(name, one) || is(name, other)
 }

@@ -3,5 +3,5 @@ use Rattle.jup_wire.proofs.sealing.seal.Goals as goal
 
 pub returns : goal.returns
 returns c =
-    sealed_from c.args.key.now c.args.draft _ _ _ _ c.join.result
-    c.in_ok-header.ensures c.in_ok-metadata.ensures c.in_ok-content.ensures c.in_ok-digits.ensures c.join.ensures
+    sealed_from c.args.key.now c.args.draft _ _ c.join.result
+    c.in_ok-parts.ensures c.in_ok-digits.ensures c.join.ensures

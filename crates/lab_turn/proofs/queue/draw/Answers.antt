@@ -18,3 +18,14 @@ compare_exchange-found-requires g c =
     let small = c.load-tickets.type_inv in
     let not_last = c.if-tickets.false in
     (l.0 ∙ i.table ∙ c.requires.table.0, omega arith, draws _ _ _ _ _ _ _ _ _ (ap (λ m. m.0.spent) m ∙ r.spent) (ap (λ m. m.0.ticket) m ∙ r.ticket) (ap (λ m. m.0.found) m ∙ r.found) (omega arith) refl)
+
+pub loop-preserved : goal.loop-preserved
+loop-preserved g c =
+    let i = c.loop.invariant in
+    let l = c.load-tickets.ensures in
+    let x = c.compare_exchange-found.ensures in
+    record {
+      table = x.0 ∙ (l.0 ∙ i.table);
+      id = x.1 ∙ (l.1 ∙ i.id);
+      me = x.2.1 c.if-found-tickets.false ∙ (l.2.1 c.if-tickets.false ∙ i.me);
+    }

@@ -5,6 +5,20 @@ use Rattle.lab_turn.specs.Turns.{Served}
 use Rattle.lab_turn.proofs.Acts.{on_top, carried, taken_is, passes_turn, acted_at, ended}
 use Rattle.lab_turn.proofs.queue.take_turn.Goals as goal
 
+pub wait_for-requires : goal.wait_for-requires
+wait_for-requires g c =
+    let drew = c.in-Some.ensures.drew in
+    let idle = c.requires.idle in
+    record {
+      table = (c.draw.ensures.same.0 ∙ c.requires.table.0, c.requires.table.1);
+      ticket = ap (λ m. m.0.ticket) drew;
+      waits = (
+        ap (λ m. m.0.found) drew ∙ idle.found,
+        ap (λ m. m.0.spent) drew ∙ idle.spent,
+        ap (λ m. m.1) drew,
+      );
+    }
+
 pub exchange-found-requires : goal.exchange-found-requires
 exchange-found-requires g c =
     let served = c.wait_for.ensures.served in
