@@ -11,7 +11,7 @@ use lab_core::event::Event;
 use lab_core::fault::EventFault;
 use lab_core::lab::Lab;
 
-// One event. It has many parts to drop, which is done here once.
+// One event.
 pub(crate) fn ask(lab: &mut Lab, event: Event) -> Result<Answer, EventFault>
     requires { Fits event }
     ensures given { Does (given event) lab.old result lab.new }
@@ -20,5 +20,7 @@ pub(crate) fn ask(lab: &mut Lab, event: Event) -> Result<Answer, EventFault>
     ensures err { OnErr result (lab.new ≡ lab.old) }
     ensures memory { result ≡ Err EventFault.OutOfMemory → MayLackMemory event lab.old }
 {
-    lab.apply(&event)
+    let answer = lab.apply(&event);
+    drop(event);
+    answer
 }

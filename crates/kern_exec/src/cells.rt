@@ -1,5 +1,5 @@
 //! Loading a cell.
-ghost use Rattle.std.specs.Prelude.{◌≡◌, ◌≢◌, ◌≤◌, ◌++◌, length, IfOk, OnErr};
+ghost use Rattle.std.specs.Prelude.{◌≡◌, ◌≢◌, ◌<◌, ◌≤◌, ◌+◌, ◌++◌, length, IfOk, OnErr};
 ghost use Rattle.dap_answers.specs.Murmur.{cell_path};
 ghost use Rattle.lab_core.specs.Board.{Board};
 ghost use Rattle.lab_core.specs.Labs.{StandsFor};
@@ -7,18 +7,18 @@ ghost use Rattle.kern_peers.specs.Present.{Present};
 ghost use Rattle.kern_exec.specs.declared.execution.Current.{Current};
 ghost use Rattle.kern_post.specs.declared.content.Ending.TheVariants.{Failed};
 ghost use Rattle.kern_exec.specs.Boards.{cell_given, cause_of, loading_by, loading_of, board_after};
-ghost use Rattle.kern_exec.specs.Ends.{loading_letters};
+ghost use Rattle.kern_exec.specs.Ends.{input_letters, loading_letters};
 ghost use Rattle.kern_exec.specs.Kits.{IsLoadingKit, told_loading};
 
 use crate::board::ask;
 use crate::ends::{EndKit, end_kit, push_end};
 use crate::execution::{Execution, copy_text};
-use crate::letters::heard;
+use crate::letters::{busy, heard};
 use crate::loading::Loading;
 use base_text::text::Text;
 use dap_answers::cell::cell_path;
 use kern_peers::peers::Peers;
-use kern_post::content::{Cause, Content, Ending, ExecutionState};
+use kern_post::content::{Cause, Content, Ending};
 use kern_post::letters::Letters;
 use lab_core::answer::Answer;
 use lab_core::event::Event;
@@ -34,6 +34,29 @@ pub struct LoadingKit {
     pub end: EndKit,
 }
 
+// What is said of the input, where the execution isn't silent.
+fn push_input(
+    alloc: Global,
+    letters: &mut Letters,
+    peers: &Peers,
+    execution: &Execution,
+    count: u64,
+) -> Result<(), AllocError>
+    requires { length letters.old < 8 }
+    ensures said { IfOk result (λ _. letters.new ≡ letters.old ++ input_letters peers.now
+        (record { execution = execution.now; count = count })) }
+    ensures few { length letters.new ≤ length letters.old + 1 }
+{
+    if execution.request.is_silent {
+        return Ok(());
+    }
+    let code = copy_text(alloc, &execution.request.code)?;
+    let content = Content::ExecuteInput { code, count };
+    let input = heard(alloc, peers, &execution.header, content)?;
+    letters.push(input);
+    Ok(())
+}
+
 /// All that loading the cell of an execution with this number may post.
 pub fn loading_kit(
     alloc: Global,
@@ -44,16 +67,9 @@ pub fn loading_kit(
     ensures kit { IfOk result (IsLoadingKit peers.now (record { execution = execution.now; count = count })) }
     ensures few { IfOk result (λ kit. length kit.letters ≤ 2) }
 {
-    let header = &execution.header;
-    let busy = heard(alloc, peers, header, Content::Status(ExecutionState::Busy))?;
+    let mut letters = busy(alloc, peers, &execution.header)?;
+    push_input(alloc, &mut letters, peers, execution, count)?;
     let end = end_kit(alloc, peers, execution, count)?;
-    let mut letters = Letters::new(alloc)?;
-    letters.push(busy);
-    if !execution.request.is_silent {
-        let code = copy_text(alloc, &execution.request.code)?;
-        let input = heard(alloc, peers, header, Content::ExecuteInput { code, count })?;
-        letters.push(input);
-    }
     Ok(LoadingKit { letters, end })
 }
 
@@ -65,7 +81,7 @@ pub fn letters_of(kit: LoadingKit, loading: Loading) -> Letters
 {
     let LoadingKit { mut letters, end } = kit;
     match loading {
-        Loading::Starts(_) => {}
+        Loading::Starts(_) => drop(end),
         Loading::Ends(ending) => push_end(&mut letters, end, ending),
     }
     letters

@@ -39,14 +39,20 @@ pub fn end_kit(
         &execution.identities,
         &execution.header,
     )?;
-    let idle = heard_under(alloc, peers, &execution.header, "status")?;
-    Ok(EndKit {
-        error,
-        reply,
-        idle,
-        is_silent: execution.request.is_silent,
-        count,
-    })
+    match heard_under(alloc, peers, &execution.header, "status") {
+        Ok(idle) => Ok(EndKit {
+            error,
+            reply,
+            idle,
+            is_silent: execution.request.is_silent,
+            count,
+        }),
+        Err(_) => {
+            drop(error);
+            drop(reply);
+            Err(AllocError)
+        }
+    }
 }
 
 fn push_error(letters: &mut Letters, envelope: Envelope, is_silent: bool, ending: Ending)
@@ -55,10 +61,11 @@ fn push_error(letters: &mut Letters, envelope: Envelope, is_silent: bool, ending
     ensures few { length letters.new ≤ length letters.old + 1 }
 {
     if is_silent {
+        drop(envelope);
         return;
     }
     match ending {
-        Ending::Done => {}
+        Ending::Done => drop(envelope),
         Ending::Failed(cause) => letters.push(Letter {
             envelope,
             content: Content::Error(cause),

@@ -8,6 +8,7 @@ use crate::loading::Loading;
 use std::alloc::{AllocError, Global};
 use std::collections::VecDeque;
 use std::marker::Model;
+use std::mem;
 
 /// The most executions that wait.
 pub const MOST_QUEUED: usize = 64;
@@ -52,13 +53,6 @@ pub fn count_with(execution: &Execution, count: u64) -> u64
     }
 }
 
-// A function of its own, since an execution has many parts to drop.
-fn set_none(current: &mut Option<Current>)
-    ensures { current.new ≡ None }
-{
-    *current = None;
-}
-
 fn under_way(execution: Execution, count: u64, loading: Loading) -> Option<Current>
     requires { count + 1 < 2 ^ 63 }
     ensures { result ≡ under_way execution count loading }
@@ -68,7 +62,10 @@ fn under_way(execution: Execution, count: u64, loading: Loading) -> Option<Curre
             let count = count_with(&execution, count);
             Some(Current { execution, count })
         }
-        Loading::Ends(_) => None,
+        Loading::Ends(_) => {
+            drop(execution);
+            None
+        }
     }
 }
 
@@ -148,7 +145,8 @@ impl Executions {
             return;
         };
         let count = count_with(&execution, self.count);
-        self.current = under_way(execution, self.count, loading);
+        let current = under_way(execution, self.count, loading);
+        drop(mem::replace(&mut self.current, current));
         self.pending = start_of(loading);
         self.count = count;
     }
@@ -164,6 +162,6 @@ impl Executions {
     pub fn end(&mut self)
         ensures { self.new ≡ ended self.old }
     {
-        set_none(&mut self.current);
+        drop(self.current.take());
     }
 }

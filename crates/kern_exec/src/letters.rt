@@ -1,5 +1,5 @@
 //! Letters and the envelopes round them.
-ghost use Rattle.std.specs.Prelude.{◌≡◌, IfOk};
+ghost use Rattle.std.specs.Prelude.{◌≡◌, [], ◌∷◌, IfOk};
 ghost use Rattle.kern_exec.specs.Letters.{heard_under, heard, addressed, replied};
 ghost use Rattle.kern_exec.specs.Kits.{IsAround};
 
@@ -38,8 +38,13 @@ pub fn heard(
 ) -> Result<Letter, AllocError>
     ensures { IfOk result (λ letter. letter ≡ heard peers.now parent.now content) }
 {
-    let envelope = heard_under(alloc, peers, parent, content.topic())?;
-    Ok(Letter { envelope, content })
+    match heard_under(alloc, peers, parent, content.topic()) {
+        Ok(envelope) => Ok(Letter { envelope, content }),
+        Err(_) => {
+            drop(content);
+            Err(AllocError)
+        }
+    }
 }
 
 /// The envelope of what goes to one connection, with the identities of a request.
@@ -71,8 +76,13 @@ pub fn replied(
 ) -> Result<Letter, AllocError>
     ensures { IfOk result (λ letter. letter ≡ replied connection identities.now parent.now content) }
 {
-    let envelope = addressed(alloc, connection, identities, parent)?;
-    Ok(Letter { envelope, content })
+    match addressed(alloc, connection, identities, parent) {
+        Ok(envelope) => Ok(Letter { envelope, content }),
+        Err(_) => {
+            drop(content);
+            Err(AllocError)
+        }
+    }
 }
 
 /// Letters that begin with busy, and the one that is to be the last: idle.
@@ -82,13 +92,21 @@ pub struct BusyIdle {
     pub idle: Letter,
 }
 
+// Letters that begin with busy.
+pub(crate) fn busy(alloc: Global, peers: &Peers, header: &Bytes) -> Result<Letters, AllocError>
+    ensures { IfOk result (λ letters. letters ≡ heard peers.now header.now (Content.Status ExecutionState.Busy) ∷ []) }
+{
+    let mut letters = Letters::new(alloc)?;
+    let busy = heard(alloc, peers, header, Content::Status(ExecutionState::Busy))?;
+    letters.push(busy);
+    Ok(letters)
+}
+
 /// Busy and idle for a request with this header.
 pub fn around(alloc: Global, peers: &Peers, header: &Bytes) -> Result<BusyIdle, AllocError>
     ensures { IfOk result (IsAround peers.now header.now) }
 {
-    let busy = heard(alloc, peers, header, Content::Status(ExecutionState::Busy))?;
+    let letters = busy(alloc, peers, header)?;
     let idle = heard(alloc, peers, header, Content::Status(ExecutionState::Idle))?;
-    let mut letters = Letters::new(alloc)?;
-    letters.push(busy);
     Ok(BusyIdle { letters, idle })
 }

@@ -3,6 +3,8 @@
 // and room are made before the board goes on, so that what follows takes no memory.
 // `load` and `slice` are what executions ask of the board, and leave it as it was where they ran out
 // of memory.
+// A value with many parts that isn't needed is dropped by a call: where a block's end drops it, each of
+// its parts is one more case of the function's proof.
 #![tactic(auto)]
 
 mod board;

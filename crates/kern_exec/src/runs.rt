@@ -16,27 +16,26 @@ use lab_core::fault::EventFault;
 use lab_core::lab::Lab;
 use std::alloc::AllocError;
 
-// An answer has many parts to drop, and so these two are functions of their own.
-fn forget(_answer: Result<Answer, EventFault>) {}
-
 fn is_done(answer: Result<Answer, EventFault>) -> bool
     ensures { result ≡ is_ok answer }
 {
-    answer.is_ok()
+    let is_done = answer.is_ok();
+    drop(answer);
+    is_done
 }
 
 /// Begins a run at an address; there is none.
 pub fn start(lab: &mut Lab, address: u16)
     ensures { (b : Board) → StandsFor lab.old b → b.run ≡ NoRun → StandsFor lab.new (started address b) }
 {
-    forget(ask(lab, Event::Start(address)));
+    drop(ask(lab, Event::Start(address)));
 }
 
 /// Ends the run, where there is one.
 pub fn interrupt(lab: &mut Lab)
     ensures { (b : Board) → StandsFor lab.old b → StandsFor lab.new (interrupted b) }
 {
-    forget(ask(lab, Event::Interrupt));
+    drop(ask(lab, Event::Interrupt));
 }
 
 /// Machine and devices as at power-on, and no run.

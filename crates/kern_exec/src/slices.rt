@@ -1,5 +1,5 @@
 //! Slices of a run, and what they post.
-ghost use Rattle.std.specs.Prelude.{◌≡◌, ◌<◌, ◌≤◌, ◌+◌, ◌++◌, ◌∷◌, [], length, IfOk, OnErr, vec_capacity, vec_len};
+ghost use Rattle.std.specs.Prelude.{◌≡◌, ◌<◌, ◌≤◌, ◌+◌, ◌++◌, ◌∷◌, [], length, IfOk, OnErr, vec_capacity, vec_len, codes};
 ghost use Rattle.std.specs.List.{filter_map, list_any};
 ghost use Rattle.lab_core.specs.declared.run_state.RunState.TheVariants.{Running};
 ghost use Rattle.lab_core.specs.Board.{Board};
@@ -9,7 +9,8 @@ ghost use Rattle.kern_peers.specs.Present.{Present, stdin_of};
 ghost use Rattle.kern_exec.specs.declared.execution.Current.{Current};
 ghost use Rattle.kern_exec.specs.Boards.{slice_end, after_slice};
 ghost use Rattle.kern_exec.specs.Ends.{printed, is_asking, reason_of, ending_of, slice_letters};
-ghost use Rattle.kern_exec.specs.Kits.{IsSliceKit, asked_of, streamed, asked_line, told_outcome, told_slice};
+ghost use Rattle.kern_exec.specs.Letters.{heard_under};
+ghost use Rattle.kern_exec.specs.Kits.{IsSliceKit, end_kit_of, asked_of, streamed, asked_line, told_outcome, told_slice};
 
 use crate::board::ask;
 use crate::ends::{EndKit, end_kit, push_end};
@@ -64,6 +65,26 @@ fn line_envelope(
     }
 }
 
+// The envelopes for a stop and for the end.
+fn ending_parts(
+    alloc: Global,
+    peers: &Peers,
+    current: &Current,
+) -> Result<(Envelope, EndKit), AllocError>
+    ensures { IfOk result (λ made. (made.0 ≡ heard_under peers.now current.now.execution.header (codes "debug_event"))
+        × (made.1 ≡ end_kit_of peers.now current.now)) }
+{
+    let execution = &current.execution;
+    let stopped = heard_under(alloc, peers, &execution.header, "debug_event")?;
+    match end_kit(alloc, peers, execution, current.count) {
+        Ok(end) => Ok((stopped, end)),
+        Err(_) => {
+            drop(stopped);
+            Err(AllocError)
+        }
+    }
+}
+
 /// All that a slice of an execution may post.
 pub fn slice_kit(alloc: Global, peers: &Peers, current: &Current) -> Result<SliceKit, AllocError>
     ensures { IfOk result (IsSliceKit peers.now current.now) }
@@ -73,16 +94,21 @@ pub fn slice_kit(alloc: Global, peers: &Peers, current: &Current) -> Result<Slic
     let text = Vec::with_capacity(alloc, STEPS.into())?;
     let stream = heard_under(alloc, peers, header, "stream")?;
     let line = line_envelope(alloc, peers, current)?;
-    let stopped = heard_under(alloc, peers, header, "debug_event")?;
-    let end = end_kit(alloc, peers, &current.execution, current.count)?;
-    Ok(SliceKit {
-        letters,
-        text,
-        stream,
-        line,
-        stopped,
-        end,
-    })
+    match ending_parts(alloc, peers, current) {
+        Ok((stopped, end)) => Ok(SliceKit {
+            letters,
+            text,
+            stream,
+            line,
+            stopped,
+            end,
+        }),
+        Err(_) => {
+            drop(stream);
+            drop(line);
+            Err(AllocError)
+        }
+    }
 }
 
 fn push_printed(text: &mut Vec<u8>, operation: &PortOperation)
@@ -126,6 +152,7 @@ fn push_stream(letters: &mut Letters, envelope: Envelope, is_silent: bool, text:
     ensures few { length letters.new ≤ length letters.old + 1 }
 {
     if is_silent || text.is_empty() {
+        drop(envelope);
         return;
     }
     letters.push(Letter {
@@ -174,12 +201,21 @@ fn push_outcome(letters: &mut Letters, stopped: Envelope, end: EndKit, outcome: 
     ensures { letters.new ≡ letters.old ++ told_outcome stopped end outcome }
 {
     match outcome {
-        SliceOutcome::More | SliceOutcome::Waiting => {}
-        SliceOutcome::Stop(stop) => letters.push(Letter {
-            envelope: stopped,
-            content: Content::DebugEvent(DebugEvent::Stopped(reason_of(stop))),
-        }),
-        SliceOutcome::End(ending) => push_end(letters, end, ending_of(ending)),
+        SliceOutcome::More | SliceOutcome::Waiting => {
+            drop(stopped);
+            drop(end);
+        }
+        SliceOutcome::Stop(stop) => {
+            drop(end);
+            letters.push(Letter {
+                envelope: stopped,
+                content: Content::DebugEvent(DebugEvent::Stopped(reason_of(stop))),
+            });
+        }
+        SliceOutcome::End(ending) => {
+            drop(stopped);
+            push_end(letters, end, ending_of(ending));
+        }
     }
 }
 
@@ -222,6 +258,9 @@ pub fn slice(lab: &mut Lab) -> Result<(Traffic, SliceOutcome), AllocError>
                 ..
             },
         ) => Ok((traffic, outcome)),
-        _ => Err(AllocError),
+        other => {
+            drop(other);
+            Err(AllocError)
+        }
     }
 }
