@@ -1,5 +1,6 @@
 //! Calls as plain data.
 
+use crate::desks::join_call;
 use base_text::sequence::{Bytes, Frames};
 use base_text::text::Text;
 use dap_talk::command::{DapCommand, DapRequest};
@@ -10,7 +11,7 @@ use kern_core::held::Held;
 use std::alloc::{AllocError, Global};
 
 /// A call, but for its moment.
-#[derive(Clone, Copy, Debug)]
+#[derive(Clone, Copy)]
 pub enum Action {
     /// A connection without an identity comes.
     Join(Channel),
@@ -24,7 +25,7 @@ pub enum Action {
 }
 
 /// What is asked.
-#[derive(Clone, Copy, Debug)]
+#[derive(Clone, Copy)]
 pub enum Question {
     KernelInfo,
     Execute(&'static str),
@@ -44,11 +45,6 @@ pub fn call_of(alloc: Global, action: Action, moment: u64) -> Result<Call, Alloc
         Action::Slice => Ok(Call::Slice { moment }),
         Action::Fetch(connection, from) => Ok(Call::Fetch { connection, from }),
     }
-}
-
-fn join_call(alloc: Global, channel: Channel) -> Result<Call, AllocError> {
-    let identity = Held::new(alloc, Bytes::new(alloc))?;
-    Ok(Call::Join { channel, identity })
 }
 
 fn subscribe_call(alloc: Global, connection: u32, moment: u64) -> Result<Call, AllocError> {

@@ -2,15 +2,15 @@
 //! or that something isn't as it should be.
 ghost use Rattle.std.specs.Prelude.{◌≡◌, ◌<◌, ◌≤◌, All, length, IfSome};
 
-use crate::actions::{Action, call_of};
-use crate::outcomes::{Outcome, outcome_of};
+use base_text::sequence::Bytes;
 use jup_wire::channel::Channel;
 use kern_core::call::{Call, Reply};
 use kern_core::fault::KernFault;
+use kern_core::held::Held;
 use kern_core::kernel::Kernel;
 use kern_desk::seated::{Desk, Pass, Seated};
 use lab_turn::turnstile::Turnstile;
-use std::alloc::Global;
+use std::alloc::{AllocError, Global};
 use std::sync::Wait;
 
 /// The greatest limit of a journal.
@@ -27,7 +27,12 @@ pub fn open_desk(alloc: Global, limit: u32, seats: u32) -> Option<(Desk, Vec<Pas
     let kernel = Kernel::new(alloc, limit).ok()?;
     match Turnstile::open(alloc, Seated::new(alloc, kernel), seats) {
         Ok(opened) => Some(opened),
-        Err(_) => None,
+        // `drop` takes the kernel as a whole: left to the end of the arm, each of its parts would be a step
+        // of this proof.
+        Err(fault) => {
+            drop(fault);
+            None
+        }
     }
 }
 
@@ -44,36 +49,7 @@ pub fn take_pass(desk: &Desk, passes: &mut Vec<Pass>) -> Option<Pass>
 pub fn close_desk(desk: Desk, passes: Vec<Pass>) -> Option<Seated>
     requires { All (λ p. p.turnstile ≡ desk) passes.items }
 {
-    match desk.close(passes) {
-        Ok(seated) => Some(seated),
-        Err(_) => None,
-    }
-}
-
-/// Makes one call, and tells what came of it.
-pub fn make<R: Wait>(
-    rt: &R,
-    alloc: Global,
-    desk: &Desk,
-    pass: &mut Pass,
-    action: Action,
-    moment: u64,
-) -> Option<Outcome>
-    requires { pass.old.turnstile ≡ desk.now }
-    ensures { pass.new.turnstile ≡ desk.now }
-{
-    let call = call_of(alloc, action, moment).ok()?;
-    take_turn(rt, desk, pass, call)
-}
-
-fn take_turn<R: Wait>(rt: &R, desk: &Desk, pass: &mut Pass, call: Call) -> Option<Outcome>
-    requires { pass.old.turnstile ≡ desk.now }
-    ensures { pass.new.turnstile ≡ desk.now }
-{
-    match desk.turn(rt, pass, call) {
-        Ok(answer) => Some(told_by(answer)),
-        Err(_) => None,
-    }
+    desk.close(passes).ok()
 }
 
 /// A connection without an identity comes; its number.
@@ -87,13 +63,20 @@ pub fn join<R: Wait>(
     requires { pass.old.turnstile ≡ desk.now }
     ensures { pass.new.turnstile ≡ desk.now }
 {
-    match make(rt, alloc, desk, pass, Action::Join(channel), 0) {
-        Some(Outcome::Joined { connection, .. }) => Some(connection),
-        _ => None,
-    }
+    let call = join_call(alloc, channel).ok()?;
+    let answer = desk.turn(rt, pass, call).ok()?;
+    connection_of(&answer)
 }
 
-/// What an answer tells.
-pub fn told_by(answer: Result<Reply, KernFault>) -> Outcome {
-    outcome_of(&answer)
+/// The call of a connection without an identity.
+pub(crate) fn join_call(alloc: Global, channel: Channel) -> Result<Call, AllocError> {
+    let identity = Held::new(alloc, Bytes::new(alloc))?;
+    Ok(Call::Join { channel, identity })
+}
+
+fn connection_of(answer: &Result<Reply, KernFault>) -> Option<u32> {
+    match answer {
+        Ok(Reply::Joined { connection, .. }) => Some(*connection),
+        _ => None,
+    }
 }

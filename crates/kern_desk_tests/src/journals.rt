@@ -1,20 +1,15 @@
 //! Journals against the calls that were made, and the same calls on a new kernel.
 
-use crate::actions::{Action, call_of, is_call};
-use crate::desks::{MOST_ENTRIES, told_by};
-use crate::outcomes::Outcome;
-use crate::players::Turn;
+use crate::actions::is_call;
+use crate::desks::MOST_ENTRIES;
+use crate::turns::{Row, Turn, act};
 use kern_core::kernel::Kernel;
 use kern_desk::seated::Seated;
 use std::alloc::Global;
 use std::process::Abort;
 
-/// A row of a test: a seat, its call, and what must come of it. The call's moment is the row's number,
-/// from 0.
-pub type Row = (u32, Action, Outcome);
-
 /// An entry of a journal, with what came of the call.
-#[derive(Clone, Copy, Debug)]
+#[derive(Clone, Copy)]
 pub struct Entry {
     pub seat: u32,
     pub turn: Turn,
@@ -54,10 +49,8 @@ fn entry_at<R: Abort>(
     let at = count_up(rt, next, seat);
     let turns = made.get(seat as usize).expect(rt, "the calls of a seat");
     let turn = *turns.get(at).expect(rt, "no more entries than calls");
-    assert!(rt;
-        is_call(call, turn.action, turn.moment),
-        "entry {place} isn't {turn:?}"
-    );
+    let is_made = is_call(call, turn.action, turn.moment);
+    assert!(rt; is_made, "entry {place} isn't call {at} of seat {seat}");
     Entry { seat, turn }
 }
 
@@ -69,42 +62,38 @@ fn count_up<R: Abort>(rt: &R, next: &mut [usize; 3], seat: u32) -> usize {
     at
 }
 
+/// A new kernel, on which no call was made.
+pub fn new_kernel<R: Abort>(rt: &R, alloc: Global) -> Kernel {
+    Kernel::new(alloc, MOST_ENTRIES).expect(rt, "memory for a kernel")
+}
+
 /// Makes the calls once more, on a new kernel, in the order of the journal: what comes of them must be
 /// the same.
 pub fn replay<R: Abort>(rt: &R, alloc: Global, entries: &[Entry]) {
-    let mut kernel = Kernel::new(alloc, MOST_ENTRIES).expect(rt, "memory for a kernel");
+    let mut kernel = new_kernel(rt, alloc);
     make_again(rt, alloc, &mut kernel, entries);
+    drop(kernel);
 }
 
 fn make_again<R: Abort>(rt: &R, alloc: Global, kernel: &mut Kernel, entries: &[Entry]) {
-    for entry in entries {
+    for (place, entry) in entries.iter().enumerate() {
         let again = act(rt, alloc, kernel, entry.turn.action, entry.turn.moment);
-        assert_eq!(rt; again, entry.turn.outcome, "{entry:?}");
+        assert!(rt; again == entry.turn.outcome, "entry {place}");
     }
-}
-
-/// Makes one call on a kernel.
-pub fn act<R: Abort>(
-    rt: &R,
-    alloc: Global,
-    kernel: &mut Kernel,
-    action: Action,
-    moment: u64,
-) -> Outcome {
-    let call = call_of(alloc, action, moment).expect(rt, "memory for a call");
-    told_by(kernel.act(call))
 }
 
 /// The entries must be exactly the calls of these rows.
 pub fn check_rows<R: Abort>(rt: &R, seated: &Seated, rows: &[Row]) {
-    for (place, (seat, action, _)) in rows.iter().enumerate() {
-        let (told, call) = seated.entry(place).expect(rt, "an entry for each row");
-        assert_eq!(rt; told, *seat, "entry {place}");
-        assert!(rt;
-            is_call(call, *action, place as u64),
-            "entry {place} isn't {action:?}"
-        );
+    for (place, row) in rows.iter().enumerate() {
+        assert!(rt; is_row(seated, place, *row), "entry {place}");
     }
     let count = rows.len();
     assert!(rt; seated.entry(count).is_none(), "more than {count} entries");
+}
+
+fn is_row(seated: &Seated, place: usize, row: Row) -> bool {
+    match seated.entry(place) {
+        Some((seat, call)) => seat as usize == row.0 && is_call(call, row.1, place as u64),
+        None => false,
+    }
 }

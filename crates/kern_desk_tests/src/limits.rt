@@ -1,9 +1,10 @@
 //! How many posts are kept, and how many entries a journal has.
 use crate::actions::{Action, Question};
 use crate::desks::MOST_ENTRIES;
-use crate::journals::{Row, act, check_rows};
-use crate::outcomes::{Batch, Outcome, fetched, joined};
+use crate::journals::new_kernel;
+use crate::outcomes::Outcome;
 use crate::seats::run_rows;
+use crate::turns::{Row, act};
 use jup_wire::channel::Channel;
 use kern_core::fault::KernFault;
 use kern_core::kernel::Kernel;
@@ -17,45 +18,55 @@ fn ask_often<R: Abort>(rt: &R, alloc: Global, kernel: &mut Kernel) {
     for moment in 1..3033 {
         let action = Action::Ask(1, Question::KernelInfo);
         let outcome = act(rt, alloc, kernel, action, moment);
-        assert_eq!(rt; outcome, Outcome::Arrived, "request {moment}");
+        assert!(rt; outcome == Outcome::Arrived, "request {moment}");
     }
 }
 
-// A fetch that gave 21 posts.
-fn gave(numbers: [u64; 6], next: u64) -> Outcome {
-    Outcome::Fetched(Batch {
-        count: 21,
-        numbers,
-        interrupted: 0,
-        next,
-        ended: false,
-    })
-}
+const LAGGED: Outcome = Outcome::Refused(KernFault::Lagged { first: 5001 });
 
-// Of 9,096 posts the last 4,096 are kept, from 5,001 on.
+// From which post to fetch, and what the fetch gives: of 9,096 posts the last 4,096 are kept, from 5,001
+// on.
+const KEPT: [(u64, Outcome); 10] = [
+    (0, LAGGED),
+    (1, LAGGED),
+    (4999, LAGGED),
+    (5000, LAGGED),
+    (
+        5001,
+        Outcome::Fetched(21, [5003, 5006, 5009, 5012, 5015, 5018], 0, 5065, false),
+    ),
+    (
+        9033,
+        Outcome::Fetched(21, [9035, 9038, 9041, 9044, 9047, 9050], 0, 9097, false),
+    ),
+    (
+        9095,
+        Outcome::Fetched(1, [9095, 0, 0, 0, 0, 0], 0, 9097, false),
+    ),
+    (
+        9096,
+        Outcome::Fetched(0, [0, 0, 0, 0, 0, 0], 0, 9097, false),
+    ),
+    (
+        9097,
+        Outcome::Fetched(0, [0, 0, 0, 0, 0, 0], 0, 9097, false),
+    ),
+    (
+        9999,
+        Outcome::Fetched(0, [0, 0, 0, 0, 0, 0], 0, 9999, false),
+    ),
+];
+
 fn expect_kept<R: Abort>(rt: &R, alloc: Global, kernel: &mut Kernel) {
-    let lagged = Outcome::Refused(KernFault::Lagged { first: 5001 });
-    let rows = [
-        (0, lagged),
-        (1, lagged),
-        (4999, lagged),
-        (5000, lagged),
-        (5001, gave([5003, 5006, 5009, 5012, 5015, 5018], 5065)),
-        (9033, gave([9035, 9038, 9041, 9044, 9047, 9050], 9097)),
-        (9095, fetched(&[9095], 9097, false)),
-        (9096, fetched(&[], 9097, false)),
-        (9097, fetched(&[], 9097, false)),
-        (9999, fetched(&[], 9999, false)),
-    ];
-    for (from, wanted) in rows {
+    for (from, wanted) in KEPT {
         let outcome = act(rt, alloc, kernel, Action::Fetch(1, from), 0);
-        assert_eq!(rt; outcome, wanted, "from {from}");
+        assert!(rt; outcome == wanted, "from {from}");
     }
 }
 
 fn next_of(outcome: Outcome) -> Option<(usize, u64)> {
     match outcome {
-        Outcome::Fetched(batch) => Some((batch.count, batch.next)),
+        Outcome::Fetched(count, _, _, next, _) => Some((count, next)),
         _ => None,
     }
 }
@@ -76,27 +87,26 @@ fn expect_all<R: Abort>(rt: &R, alloc: Global, kernel: &mut Kernel) {
 
 #[test]
 fn kept_posts(rt: HostRuntime) {
-    let mut kernel = Kernel::new(rt.alloc(), MOST_ENTRIES).expect(&rt, "memory for a kernel");
+    let mut kernel = new_kernel(&rt, rt.alloc());
     ask_often(&rt, rt.alloc(), &mut kernel);
     expect_kept(&rt, rt.alloc(), &mut kernel);
     expect_all(&rt, rt.alloc(), &mut kernel);
+    drop(kernel);
 }
+
+const FULL: Outcome = Outcome::Refused(KernFault::JournalFull);
 
 // A journal takes exactly as many slices as its limit tells.
 fn expect_slices<R: Abort>(rt: &R, alloc: Global, kernel: &mut Kernel, limit: u32) {
     for moment in 0..limit {
         assert!(rt; !kernel.full(), "full at {moment} of {limit}");
         let outcome = act(rt, alloc, kernel, Action::Slice, u64::from(moment));
-        assert_eq!(rt; outcome, Outcome::Idle, "slice {moment} of {limit}");
+        assert!(rt; outcome == Outcome::Idle, "slice {moment} of {limit}");
     }
     assert!(rt; kernel.full(), "not full at {limit}");
     for moment in 0..3 {
         let outcome = act(rt, alloc, kernel, Action::Slice, moment);
-        assert_eq!(rt;
-            outcome,
-            Outcome::Refused(KernFault::JournalFull),
-            "{limit}"
-        );
+        assert!(rt; outcome == FULL, "{limit}");
     }
     assert!(rt;
         kernel.entry(limit as usize).is_none(),
@@ -108,6 +118,7 @@ fn run_slices<R: Abort>(rt: &R, alloc: Global, limit: u32) {
     assert!(rt; 1 <= limit && limit <= MOST_ENTRIES);
     let mut kernel = Kernel::new(alloc, limit).expect(rt, "memory for a kernel");
     expect_slices(rt, alloc, &mut kernel, limit);
+    drop(kernel);
 }
 
 #[test]
@@ -119,30 +130,32 @@ fn journals_of_slices(rt: HostRuntime) {
 
 // A journal of six entries at a desk: refusals by the kernel are entries too. Past the limit the desk
 // answers each seat that the journal is full, and no such call is an entry.
+const FULL_JOURNAL: [Row; 12] = [
+    (0, Action::Join(Channel::Shell), Outcome::Joined(1, 1)),
+    (1, Action::Leave(9), NO_CONNECTION),
+    (
+        2,
+        Action::Fetch(1, 0),
+        Outcome::Refused(KernFault::Lagged { first: 1 }),
+    ),
+    (0, Action::Subscribe(1), NO_CONNECTION),
+    (1, Action::Ask(1, Question::KernelInfo), Outcome::Arrived),
+    (
+        2,
+        Action::Fetch(1, 1),
+        Outcome::Fetched(1, [2, 0, 0, 0, 0, 0], 0, 4, false),
+    ),
+    (0, Action::Join(Channel::Iopub), FULL),
+    (1, Action::Leave(9), FULL),
+    (2, Action::Subscribe(1), FULL),
+    (0, Action::Ask(1, Question::Shutdown), FULL),
+    (1, Action::Slice, FULL),
+    (2, Action::Fetch(1, 1), FULL),
+];
+
+const NO_CONNECTION: Outcome = Outcome::Refused(KernFault::NoConnection);
+
 #[test]
 fn a_full_journal(rt: HostRuntime) {
-    let no_connection = Outcome::Refused(KernFault::NoConnection);
-    let full = Outcome::Refused(KernFault::JournalFull);
-    let rows: [Row; 12] = [
-        (0, Action::Join(Channel::Shell), joined(1, 1)),
-        (1, Action::Leave(9), no_connection),
-        (
-            2,
-            Action::Fetch(1, 0),
-            Outcome::Refused(KernFault::Lagged { first: 1 }),
-        ),
-        (0, Action::Subscribe(1), no_connection),
-        (1, Action::Ask(1, Question::KernelInfo), Outcome::Arrived),
-        (2, Action::Fetch(1, 1), fetched(&[2], 4, false)),
-        (0, Action::Join(Channel::Iopub), full),
-        (1, Action::Leave(9), full),
-        (2, Action::Subscribe(1), full),
-        (0, Action::Ask(1, Question::Shutdown), full),
-        (1, Action::Slice, full),
-        (2, Action::Fetch(1, 1), full),
-    ];
-    let seated = run_rows(&rt, rt.alloc(), 6, &rows);
-    let (entries, _) = rows.as_slice().split_at(6);
-    check_rows(&rt, &seated, entries);
-    assert!(rt; seated.into_kernel().full());
+    run_rows(&rt, rt.alloc(), 6, &FULL_JOURNAL);
 }

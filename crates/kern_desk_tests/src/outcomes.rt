@@ -5,31 +5,23 @@ use kern_core::fault::KernFault;
 use kern_post::content::{Cause, Content, Ending};
 use kern_post::post::{Post, Posts};
 
-/// Of how many posts the numbers are told.
+// Of how many posts the numbers are told.
 const TOLD: usize = 6;
 
-/// What a fetch gave: how many posts, the numbers of the first six of them, with 0 where there are
-/// fewer, and how many tell that a cell was interrupted.
-#[derive(Clone, Copy, PartialEq, Eq, Debug)]
-pub struct Batch {
-    pub count: usize,
-    pub numbers: [u64; TOLD],
-    pub interrupted: usize,
-    pub next: u64,
-    pub ended: bool,
-}
-
 /// What came of a call.
-#[derive(Clone, Copy, PartialEq, Eq, Debug)]
+#[derive(Clone, Copy, PartialEq, Eq)]
 pub enum Outcome {
-    Joined { connection: u32, from: u64 },
+    /// The connection's number, and that of the next post.
+    Joined(u32, u64),
     Left,
     Subscribed,
     Arrived,
     More,
     Idle,
     Ended,
-    Fetched(Batch),
+    /// How many posts, the numbers of the first six of them, with 0 where there are fewer, how many tell
+    /// that a cell was interrupted, from which number to go on, and whether a shutdown came.
+    Fetched(usize, [u64; TOLD], usize, u64, bool),
     Refused(KernFault),
 }
 
@@ -43,10 +35,7 @@ pub fn outcome_of(answer: &Result<Reply, KernFault>) -> Outcome {
 
 fn told(reply: &Reply) -> Outcome {
     match reply {
-        Reply::Joined { connection, from } => Outcome::Joined {
-            connection: *connection,
-            from: *from,
-        },
+        Reply::Joined { connection, from } => Outcome::Joined(*connection, *from),
         Reply::Left => Outcome::Left,
         Reply::Subscribed => Outcome::Subscribed,
         Reply::Arrived => Outcome::Arrived,
@@ -59,21 +48,33 @@ fn told(reply: &Reply) -> Outcome {
 
 fn batch_of(posts: &Posts, next: u64, ended: bool) -> Outcome {
     let posts = posts.as_slice();
-    Outcome::Fetched(Batch {
-        count: posts.len(),
-        numbers: numbers_of(posts),
-        interrupted: posts.iter().filter(|post| tells_interrupt(post)).count(),
+    Outcome::Fetched(
+        posts.len(),
+        numbers_of(posts),
+        interrupts_of(posts),
         next,
         ended,
-    })
+    )
 }
 
 fn numbers_of(posts: &[Post]) -> [u64; TOLD] {
     let mut numbers = [0; TOLD];
-    for (number, post) in numbers.iter_mut().zip(posts) {
-        *number = post.number;
+    for (place, post) in posts.iter().enumerate() {
+        if place < TOLD {
+            numbers[place] = post.number;
+        }
     }
     numbers
+}
+
+fn interrupts_of(posts: &[Post]) -> usize {
+    let mut interrupted = 0usize;
+    for post in posts {
+        if tells_interrupt(post) {
+            interrupted = interrupted.saturating_add(1);
+        }
+    }
+    interrupted
 }
 
 fn tells_interrupt(post: &Post) -> bool {
@@ -89,24 +90,4 @@ fn tells_interrupt(post: &Post) -> bool {
 
 fn is_interrupt(cause: Cause) -> bool {
     matches!(cause, Cause::Interrupted)
-}
-
-/// A Join that made this connection, before the post of this number.
-pub fn joined(connection: u32, from: u64) -> Outcome {
-    Outcome::Joined { connection, from }
-}
-
-/// A fetch that gave the posts of these numbers, none of which tells of an interrupt.
-pub fn fetched(told: &[u64], next: u64, ended: bool) -> Outcome {
-    let mut numbers = [0; TOLD];
-    for (number, wanted) in numbers.iter_mut().zip(told) {
-        *number = *wanted;
-    }
-    Outcome::Fetched(Batch {
-        count: told.len(),
-        numbers,
-        interrupted: 0,
-        next,
-        ended,
-    })
 }

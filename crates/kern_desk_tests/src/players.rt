@@ -2,34 +2,26 @@
 ghost use Rattle.std.specs.Prelude.{◌≡◌};
 
 use crate::actions::{Action, Question};
-use crate::desks::make;
 use crate::outcomes::Outcome;
+use crate::turns::{Turn, make};
 use jup_wire::channel::Channel;
 use kern_desk::seated::{Desk, Pass};
 use std::alloc::Global;
 use std::process::Abort;
 use std::sync::Wait;
 
-/// A call that was made, and what came of it.
-#[derive(Clone, Copy, Debug)]
-pub struct Turn {
-    pub action: Action,
-    pub moment: u64,
-    pub outcome: Outcome,
-}
-
 /// A pass, its connection once it has one, the number from which it fetches next, and its calls. The
 /// moment of each call is its number among them, from 0.
 #[derive(Drop)]
 pub struct Player {
     pub pass: Pass,
-    pub connection: u32,
-    pub from: u64,
+    connection: u32,
+    from: u64,
     pub turns: Vec<Turn>,
 }
 
 /// Which call comes next.
-#[derive(Clone, Copy, Debug)]
+#[derive(Clone, Copy)]
 pub enum Script {
     /// Joins on shell, then asks and fetches by turns.
     Asks,
@@ -42,6 +34,9 @@ pub enum Script {
     /// Asks 40 times, interrupts, then fetches.
     Interrupts,
 }
+
+/// A script, and how many of its calls are made.
+pub type Part = (Script, u32);
 
 impl Script {
     fn action(self, turn: u32, connection: u32, from: u64) -> Action {
@@ -94,18 +89,17 @@ impl Player {
         }
     }
 
-    fn note<R: Abort>(&mut self, rt: &R, turn: Turn)
+    fn note(&mut self, outcome: Outcome)
         ensures { self.new.pass ≡ self.old.pass }
     {
-        match turn.outcome {
-            Outcome::Joined { connection, from } => {
+        match outcome {
+            Outcome::Joined(connection, from) => {
                 self.connection = connection;
                 self.from = from;
             }
-            Outcome::Fetched(batch) => self.from = batch.next,
+            Outcome::Fetched(_, _, _, next, _) => self.from = next,
             _ => {}
         }
-        self.turns.push(turn).expect(rt, "memory for a turn");
     }
 
     /// Makes one call.
@@ -114,55 +108,25 @@ impl Player {
         ensures { self.new.pass.turnstile ≡ desk.now }
     {
         let moment = self.turns.len() as u64;
-        let outcome = make(rt, alloc, desk, &mut self.pass, action, moment).expect(rt, "a call");
-        self.note(
-            rt,
-            Turn {
-                action,
-                moment,
-                outcome,
-            },
-        );
+        let outcome = make(rt, alloc, desk, &mut self.pass, action, moment);
+        self.note(outcome);
+        let turn = Turn {
+            action,
+            moment,
+            outcome,
+        };
+        self.turns.push(turn).expect(rt, "memory for a turn");
     }
 
-    /// Makes so many calls of a script.
-    pub fn play<R: Wait + Abort>(
-        mut self,
-        rt: &R,
-        alloc: Global,
-        desk: &Desk,
-        script: Script,
-        turns: u32,
-    ) -> Player
-        requires { self.pass.turnstile ≡ desk.now }
-        ensures { result.pass.turnstile ≡ desk.now }
+    /// Makes the calls of a part.
+    pub fn play<R: Wait + Abort>(&mut self, rt: &R, alloc: Global, desk: &Desk, part: Part)
+        requires { self.old.pass.turnstile ≡ desk.now }
+        ensures { self.new.pass.turnstile ≡ desk.now }
     {
+        let (script, turns) = part;
         for turn in 0..turns {
             let action = script.action(turn, self.connection, self.from);
             self.make(rt, alloc, desk, action);
         }
-        self
-    }
-
-    /// How many posts all fetches gave.
-    pub fn posts(&self) -> usize {
-        let mut posts = 0usize;
-        for turn in self.turns.iter() {
-            if let Outcome::Fetched(batch) = turn.outcome {
-                posts = posts.saturating_add(batch.count);
-            }
-        }
-        posts
-    }
-
-    /// How many of these posts tell that a cell was interrupted.
-    pub fn interrupted(&self) -> usize {
-        let mut interrupted = 0usize;
-        for turn in self.turns.iter() {
-            if let Outcome::Fetched(batch) = turn.outcome {
-                interrupted = interrupted.saturating_add(batch.interrupted);
-            }
-        }
-        interrupted
     }
 }

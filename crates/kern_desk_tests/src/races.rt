@@ -1,75 +1,181 @@
 //! Calls of several threads at once.
-ghost use Rattle.std.specs.Prelude.{◌≡◌};
+ghost use Rattle.std.specs.Prelude.{◌≡◌, ◌<◌, All, IfSome};
 
 use crate::actions::{Action, Question};
 use crate::desks::{MOST_ENTRIES, close_desk, open_desk, take_pass};
 use crate::journals::{Entry, merged, replay};
 use crate::outcomes::Outcome;
-use crate::players::{Player, Script};
+use crate::players::{Part, Player, Script};
+use crate::turns::Turn;
 use jup_wire::channel::Channel;
-use kern_desk::seated::Desk;
+use kern_desk::seated::{Desk, Pass};
 use std::alloc::Global;
 use std::process::Abort;
 use std::sync::Wait;
 use std::thread;
 use std::thread::Threads;
 
-// A player and the calls that it is to make.
-#[derive(Drop)]
-struct Part {
-    player: Player,
-    script: Script,
-    turns: u32,
+// A game of two or three players, by seat: the calls that are made one after the other before they play at
+// once, each in a thread of its own, and what they play then, one after the other.
+#[derive(Clone, Copy)]
+struct Game {
+    seats: u32,
+    first: &'static [(usize, Action)],
+    race: [Part; 3],
+    last: [Part; 3],
 }
 
-impl Part {
-    fn new(player: Player, script: Script, turns: u32) -> Part
-        ensures { result.player ≡ player }
-    {
-        Part {
-            player,
-            script,
-            turns,
-        }
-    }
-
-    fn play<R: Wait + Abort>(self, rt: &R, alloc: Global, desk: &Desk) -> Player
-        requires { self.player.pass.turnstile ≡ desk.now }
-        ensures { result.pass.turnstile ≡ desk.now }
-    {
-        let Part {
-            player,
-            script,
-            turns,
-        } = self;
-        player.play(rt, alloc, desk, script, turns)
-    }
-}
-
-// Both play, each in a thread of its own.
-fn race<R: Threads + Wait + Abort + Sync>(
+// The players play their parts, in so many threads.
+fn play_parts<R: Threads + Wait + Abort + Sync>(
     rt: &R,
     alloc: Global,
     desk: &Desk,
-    first: Part,
-    second: Part,
-) -> (Player, Player)
-    requires first { first.player.pass.turnstile ≡ desk.now }
-    requires second { second.player.pass.turnstile ≡ desk.now }
-    ensures first { result.0.pass.turnstile ≡ desk.now }
-    ensures second { result.1.pass.turnstile ≡ desk.now }
+    players: &mut [Player],
+    threads: usize,
+    parts: [Part; 3],
+)
+    requires own { All (λ p. p.pass.turnstile ≡ desk.now) players.old }
+    requires threads { 0 < threads }
+    ensures { All (λ p. p.pass.turnstile ≡ desk.now) players.new }
 {
-    thread::join(
+    thread::for_each_mut(
         rt,
-        move || -> Player
-            requires { first.player.pass.turnstile ≡ desk.now }
-            ensures { result.pass.turnstile ≡ desk.entry.now }
-        { first.play(rt, alloc, desk) },
-        move || -> Player
-            requires { second.player.pass.turnstile ≡ desk.now }
-            ensures { result.pass.turnstile ≡ desk.entry.now }
-        { second.play(rt, alloc, desk) },
-    )
+        players,
+        threads,
+        &|seat: usize, player: &mut Player|
+            requires { player.now.pass.turnstile ≡ desk.now }
+            ensures { player.exit.now.pass.turnstile ≡ desk.entry.now }
+        { player.play(rt, alloc, desk, part_of(parts, seat)) },
+    );
+}
+
+fn part_of(parts: [Part; 3], seat: usize) -> Part {
+    match parts.get(seat) {
+        Some(part) => *part,
+        None => (Script::Fetches, 0),
+    }
+}
+
+// Makes calls one after the other.
+fn make_calls<R: Wait + Abort>(
+    rt: &R,
+    alloc: Global,
+    desk: &Desk,
+    players: &mut [Player],
+    calls: &[(usize, Action)],
+)
+    requires { All (λ p. p.pass.turnstile ≡ desk.now) players.old }
+    ensures { All (λ p. p.pass.turnstile ≡ desk.now) players.new }
+{
+    for (seat, action) in calls {
+        assert!(rt; *seat < players.len(), "no seat {seat}");
+        players[*seat].make(rt, alloc, desk, *action);
+    }
+}
+
+fn play_game<R: Threads + Wait + Abort + Sync>(
+    rt: &R,
+    alloc: Global,
+    desk: &Desk,
+    players: &mut [Player],
+    game: &Game,
+)
+    requires { All (λ p. p.pass.turnstile ≡ desk.now) players.old }
+    ensures { All (λ p. p.pass.turnstile ≡ desk.now) players.new }
+{
+    make_calls(rt, alloc, desk, players, game.first);
+    play_parts(rt, alloc, desk, players, 3, game.race);
+    play_parts(rt, alloc, desk, players, 1, game.last);
+}
+
+// The players with these passes, by seat.
+fn players_of<R: Abort>(rt: &R, alloc: Global, desk: &Desk, mut passes: Vec<Pass>) -> Vec<Player>
+    requires { All (λ p. p.turnstile ≡ desk.now) passes.items }
+    ensures { All (λ p. p.pass.turnstile ≡ desk.now) result.items }
+{
+    let mut players = Vec::new(alloc);
+    for _ in 0..passes.len() {
+        let pass = take_pass(desk, &mut passes).expect(rt, "a pass");
+        put_first(rt, desk, &mut players, Player::new(alloc, pass));
+    }
+    players
+}
+
+fn put_first<R: Abort>(rt: &R, desk: &Desk, players: &mut Vec<Player>, player: Player)
+    requires player { player.pass.turnstile ≡ desk.now }
+    requires others { All (λ p. p.pass.turnstile ≡ desk.now) players.old.items }
+    ensures { All (λ p. p.pass.turnstile ≡ desk.now) players.new.items }
+{
+    players.insert(0, player).expect(rt, "memory for a player");
+}
+
+// The last of the players.
+fn take_player(desk: &Desk, players: &mut Vec<Player>) -> Option<Player>
+    requires { All (λ p. p.pass.turnstile ≡ desk.now) players.old.items }
+    ensures own { IfSome result (λ player. player.pass.turnstile ≡ desk.now) }
+    ensures others { All (λ p. p.pass.turnstile ≡ desk.now) players.new.items }
+{
+    players.pop()
+}
+
+// Their passes, and the calls that they made, by seat.
+fn passes_of<R: Abort>(
+    rt: &R,
+    alloc: Global,
+    desk: &Desk,
+    mut players: Vec<Player>,
+    made: &mut Vec<Vec<Turn>>,
+) -> Vec<Pass>
+    requires { All (λ p. p.pass.turnstile ≡ desk.now) players.items }
+    ensures { All (λ p. p.turnstile ≡ desk.now) result.items }
+{
+    let mut passes = Vec::new(alloc);
+    for _ in 0..players.len() {
+        let player = take_player(desk, &mut players).expect(rt, "a player");
+        let Player { pass, turns, .. } = player;
+        passes.push(pass).expect(rt, "memory for a pass");
+        made.insert(0, turns)
+            .expect(rt, "memory for a player's calls");
+    }
+    passes
+}
+
+// The calls of a game in the order of the journal of its desk.
+fn entries_of<R: Threads + Wait + Abort + Sync>(rt: &R, alloc: Global, game: &Game) -> Vec<Entry> {
+    let seats = game.seats;
+    assert!(rt; 0 < seats && seats <= 3);
+    let (desk, passes) = open_desk(alloc, MOST_ENTRIES, seats).expect(rt, "a desk");
+    let mut players = players_of(rt, alloc, &desk, passes);
+    play_game(rt, alloc, &desk, players.as_mut_slice(), game);
+    let mut made = Vec::new(alloc);
+    let passes = passes_of(rt, alloc, &desk, players, &mut made);
+    let seated = close_desk(desk, passes).expect(rt, "all passes");
+    let entries = merged(rt, alloc, &seated, made.as_slice());
+    drop(seated);
+    entries
+}
+
+// What the fetches of a seat gave: how many posts, how many that tell that a cell was interrupted, and from
+// which number to go on.
+fn fetched(entries: &[Entry], seat: u32) -> (usize, usize, u64) {
+    let mut told = (0usize, 0usize, 0);
+    for entry in entries {
+        if entry.seat == seat {
+            told = told_with(told, entry.turn.outcome);
+        }
+    }
+    told
+}
+
+fn told_with(told: (usize, usize, u64), outcome: Outcome) -> (usize, usize, u64) {
+    match outcome {
+        Outcome::Fetched(count, _, interrupted, next, _) => (
+            told.0.saturating_add(count),
+            told.1.saturating_add(interrupted),
+            next,
+        ),
+        _ => told,
+    }
 }
 
 // How many posts a listener gets: the status at its Subscribe, then busy and idle for each request.
@@ -85,185 +191,83 @@ fn told_to_listener(entries: &[Entry]) -> usize {
     posts
 }
 
-// The calls of two players in the order of the journal of their desk.
-fn finish_two<R: Abort>(
-    rt: &R,
-    alloc: Global,
-    desk: Desk,
-    first: Player,
-    second: Player,
-) -> Vec<Entry>
-    requires first { first.pass.turnstile ≡ desk }
-    requires second { second.pass.turnstile ≡ desk }
-{
-    let Player {
-        pass: one,
-        turns: asked,
-        ..
-    } = first;
-    let Player {
-        pass: two,
-        turns: heard,
-        ..
-    } = second;
-    let passes = vec![in alloc; two, one].expect(rt, "memory for passes");
-    let seated = close_desk(desk, passes).expect(rt, "all passes");
-    let made = vec![in alloc; asked, heard].expect(rt, "memory for two players' calls");
-    merged(rt, alloc, &seated, made.as_slice())
-}
-
 // One thread asks 300 times, each time for a reply between busy and idle, and fetches the replies.
 // The other joins and subscribes somewhere among these, and fetches.
+const TWO: Game = Game {
+    seats: 2,
+    first: &[],
+    race: [
+        (Script::Asks, 601),
+        (Script::Listens, 602),
+        (Script::Runs, 0),
+    ],
+    last: [
+        (Script::Fetches, 16),
+        (Script::Fetches, 16),
+        (Script::Runs, 0),
+    ],
+};
+
+fn check_two<R: Abort>(rt: &R, entries: &[Entry]) {
+    assert_eq!(rt; fetched(entries, 0), (300, 0, 902));
+    assert_eq!(rt; fetched(entries, 1), (told_to_listener(entries), 0, 902));
+    assert_eq!(rt; entries.len(), 1235);
+}
+
 #[test]
 fn two_threads(rt: HostRuntime) {
-    let alloc = rt.alloc();
-    let (desk, mut passes) = open_desk(alloc, MOST_ENTRIES, 2).expect(&rt, "a desk");
-    let second = take_pass(&desk, &mut passes).expect(&rt, "a pass");
-    let first = take_pass(&desk, &mut passes).expect(&rt, "a pass");
-    let asks = Part::new(Player::new(alloc, first), Script::Asks, 601);
-    let listens = Part::new(Player::new(alloc, second), Script::Listens, 602);
-    let (first, second) = race(&rt, alloc, &desk, asks, listens);
-    let first = first.play(&rt, alloc, &desk, Script::Fetches, 16);
-    let second = second.play(&rt, alloc, &desk, Script::Fetches, 16);
-    assert_eq!(rt; (first.from, second.from), (902, 902));
-    assert_eq!(rt; first.posts(), 300);
-    let heard = second.posts();
-    let entries = finish_two(&rt, alloc, desk, first, second);
-    assert_eq!(rt; entries.len(), 1235);
-    assert_eq!(rt; heard, told_to_listener(entries.as_slice()));
-    replay(&rt, alloc, entries.as_slice());
-}
-
-// A third plays beside the two.
-fn race_of_three<R: Threads + Wait + Abort + Sync>(
-    rt: &R,
-    alloc: Global,
-    desk: &Desk,
-    first: Part,
-    second: Part,
-    third: Part,
-) -> (Player, (Player, Player))
-    requires first { first.player.pass.turnstile ≡ desk.now }
-    requires second { second.player.pass.turnstile ≡ desk.now }
-    requires third { third.player.pass.turnstile ≡ desk.now }
-    ensures first { result.0.pass.turnstile ≡ desk.now }
-    ensures second { result.1.0.pass.turnstile ≡ desk.now }
-    ensures third { result.1.1.pass.turnstile ≡ desk.now }
-{
-    thread::join(
-        rt,
-        move || -> Player
-            requires { first.player.pass.turnstile ≡ desk.now }
-            ensures { result.pass.turnstile ≡ desk.entry.now }
-        { first.play(rt, alloc, desk) },
-        move || -> (Player, Player)
-            requires second { second.player.pass.turnstile ≡ desk.now }
-            requires third { third.player.pass.turnstile ≡ desk.now }
-            ensures second { result.0.pass.turnstile ≡ desk.entry.now }
-            ensures third { result.1.pass.turnstile ≡ desk.entry.now }
-        { race(rt, alloc, desk, second, third) },
-    )
-}
-
-// A cell that doesn't end by itself runs: the first player has made the slices that load and start it,
-// the second has asked for it on connection 1, and the third hears everything on connection 2.
-fn start_cell<R: Wait + Abort>(
-    rt: &R,
-    alloc: Global,
-    desk: &Desk,
-    first: &mut Player,
-    second: &mut Player,
-    third: &mut Player,
-)
-    requires first { first.old.pass.turnstile ≡ desk.now }
-    requires second { second.old.pass.turnstile ≡ desk.now }
-    requires third { third.old.pass.turnstile ≡ desk.now }
-    ensures first { first.new.pass.turnstile ≡ desk.now }
-    ensures second { second.new.pass.turnstile ≡ desk.now }
-    ensures third { third.new.pass.turnstile ≡ desk.now }
-{
-    second.make(rt, alloc, desk, Action::Join(Channel::Shell));
-    third.make(rt, alloc, desk, Action::Join(Channel::Iopub));
-    third.make(rt, alloc, desk, Action::Subscribe(2));
-    let cell = Question::Execute("X: JMP X\nEND X");
-    second.make(rt, alloc, desk, Action::Ask(1, cell));
-    first.make(rt, alloc, desk, Action::Slice);
-    first.make(rt, alloc, desk, Action::Slice);
-}
-
-// While the cell runs, each slice leaves more to do; from the interrupt on none does.
-fn check_slices<R: Abort>(rt: &R, entries: &[Entry]) {
-    let mut wanted = Outcome::More;
-    for entry in entries {
-        match entry.turn.action {
-            Action::Ask(_, Question::Interrupt) => wanted = Outcome::Idle,
-            Action::Slice => assert_eq!(rt; entry.turn.outcome, wanted, "{entry:?}"),
-            _ => {}
-        }
-    }
-}
-
-// The calls of three players in the order of the journal of their desk.
-fn finish_three<R: Abort>(
-    rt: &R,
-    alloc: Global,
-    desk: Desk,
-    first: Player,
-    second: Player,
-    third: Player,
-) -> Vec<Entry>
-    requires first { first.pass.turnstile ≡ desk }
-    requires second { second.pass.turnstile ≡ desk }
-    requires third { third.pass.turnstile ≡ desk }
-{
-    let Player {
-        pass: one,
-        turns: ran,
-        ..
-    } = first;
-    let Player {
-        pass: two,
-        turns: asked,
-        ..
-    } = second;
-    let Player {
-        pass: three,
-        turns: heard,
-        ..
-    } = third;
-    let passes = vec![in alloc; one, two, three].expect(rt, "memory for passes");
-    let seated = close_desk(desk, passes).expect(rt, "all passes");
-    let made = vec![in alloc; ran, asked, heard].expect(rt, "memory for three players' calls");
-    merged(rt, alloc, &seated, made.as_slice())
+    let entries = entries_of(&rt, rt.alloc(), &TWO);
+    check_two(&rt, entries.as_slice());
+    replay(&rt, rt.alloc(), entries.as_slice());
 }
 
 // One thread makes the slices of a cell that doesn't end by itself, one asks 40 times and interrupts it,
 // one listens. The Subscribe makes 1 post, the cell's beginning 2, the 40 requests 120, the interrupt 6:
 // the cell's error, execute_reply and idle, and its own reply, between busy and idle.
+const THREE: Game = Game {
+    seats: 3,
+    first: &[
+        (1, Action::Join(Channel::Shell)),
+        (2, Action::Join(Channel::Iopub)),
+        (2, Action::Subscribe(2)),
+        (1, Action::Ask(1, Question::Execute("X: JMP X\nEND X"))),
+        (0, Action::Slice),
+        (0, Action::Slice),
+    ],
+    race: [
+        (Script::Runs, 60),
+        (Script::Interrupts, 100),
+        (Script::Fetches, 100),
+    ],
+    last: [
+        (Script::Runs, 1),
+        (Script::Fetches, 4),
+        (Script::Fetches, 4),
+    ],
+};
+
+// While the cell runs, each slice leaves more to do; from the interrupt on none does.
+fn check_slices<R: Abort>(rt: &R, entries: &[Entry]) {
+    let mut wanted = Outcome::More;
+    for (place, entry) in entries.iter().enumerate() {
+        match entry.turn.action {
+            Action::Ask(_, Question::Interrupt) => wanted = Outcome::Idle,
+            Action::Slice => assert!(rt; entry.turn.outcome == wanted, "entry {place}"),
+            _ => {}
+        }
+    }
+}
+
+fn check_three<R: Abort>(rt: &R, entries: &[Entry]) {
+    assert_eq!(rt; fetched(entries, 1), (42, 1, 130));
+    assert_eq!(rt; fetched(entries, 2), (87, 1, 130));
+    assert_eq!(rt; entries.len(), 275);
+    check_slices(rt, entries);
+}
+
 #[test]
 fn three_threads(rt: HostRuntime) {
-    let alloc = rt.alloc();
-    let (desk, mut passes) = open_desk(alloc, MOST_ENTRIES, 3).expect(&rt, "a desk");
-    let mut third = Player::new(alloc, take_pass(&desk, &mut passes).expect(&rt, "a pass"));
-    let mut second = Player::new(alloc, take_pass(&desk, &mut passes).expect(&rt, "a pass"));
-    let mut first = Player::new(alloc, take_pass(&desk, &mut passes).expect(&rt, "a pass"));
-    start_cell(&rt, alloc, &desk, &mut first, &mut second, &mut third);
-    let (first, (second, third)) = race_of_three(
-        &rt,
-        alloc,
-        &desk,
-        Part::new(first, Script::Runs, 60),
-        Part::new(second, Script::Interrupts, 100),
-        Part::new(third, Script::Fetches, 100),
-    );
-    let first = first.play(&rt, alloc, &desk, Script::Runs, 1);
-    let second = second.play(&rt, alloc, &desk, Script::Fetches, 4);
-    let third = third.play(&rt, alloc, &desk, Script::Fetches, 4);
-    assert_eq!(rt; (second.from, third.from), (130, 130));
-    assert_eq!(rt; (second.posts(), second.interrupted()), (42, 1));
-    assert_eq!(rt; (third.posts(), third.interrupted()), (87, 1));
-    let entries = finish_three(&rt, alloc, desk, first, second, third);
-    assert_eq!(rt; entries.len(), 275);
-    check_slices(&rt, entries.as_slice());
-    replay(&rt, alloc, entries.as_slice());
+    let entries = entries_of(&rt, rt.alloc(), &THREE);
+    check_three(&rt, entries.as_slice());
+    replay(&rt, rt.alloc(), entries.as_slice());
 }

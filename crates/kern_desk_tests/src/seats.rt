@@ -1,10 +1,11 @@
 //! Calls of several seats, one after the other.
-ghost use Rattle.std.specs.Prelude.{◌≡◌, ◌<◌, ◌≤◌, All};
+ghost use Rattle.std.specs.Prelude.{◌≡◌, ◌≤◌, All};
 
 use crate::actions::{Action, Question, call_of};
-use crate::desks::{MOST_ENTRIES, close_desk, make, open_desk, take_pass};
-use crate::journals::{Row, check_rows};
-use crate::outcomes::{Outcome, fetched, joined, outcome_of};
+use crate::desks::{MOST_ENTRIES, close_desk, open_desk, take_pass};
+use crate::journals::check_rows;
+use crate::outcomes::{Outcome, outcome_of};
+use crate::turns::{Row, make};
 use dap_answers::answer::{Body, Outcome as Answered};
 use jup_wire::channel::Channel;
 use kern_core::call::Reply;
@@ -17,116 +18,146 @@ use std::alloc::Global;
 use std::process::Abort;
 use std::sync::Wait;
 
-// A desk and its three passes.
-#[derive(Drop)]
-struct Table {
-    desk: Desk,
-    first: Pass,
-    second: Pass,
-    third: Pass,
-    ghost first_own: { first.turnstile ≡ desk },
-    ghost second_own: { second.turnstile ≡ desk },
-    ghost third_own: { third.turnstile ≡ desk },
+// Makes the call of a row.
+fn make_row<R: Wait + Abort>(
+    rt: &R,
+    alloc: Global,
+    desk: &Desk,
+    passes: &mut [Pass],
+    row: Row,
+    moment: u64,
+)
+    requires { All (λ p. p.turnstile ≡ desk.now) passes.old }
+    ensures { All (λ p. p.turnstile ≡ desk.now) passes.new }
+{
+    let (seat, action, wanted) = row;
+    assert!(rt; seat < passes.len(), "no seat {seat}");
+    let outcome = make(rt, alloc, desk, &mut passes[seat], action, moment);
+    assert!(rt; outcome == wanted, "row {moment}");
 }
 
-fn open_table<R: Abort>(rt: &R, alloc: Global, limit: u32) -> Table
+fn make_rows<R: Wait + Abort>(rt: &R, alloc: Global, desk: &Desk, passes: &mut [Pass], rows: &[Row])
+    requires { All (λ p. p.turnstile ≡ desk.now) passes.old }
+    ensures { All (λ p. p.turnstile ≡ desk.now) passes.new }
+{
+    for (place, row) in rows.iter().enumerate() {
+        make_row(rt, alloc, desk, passes, *row, place as u64);
+    }
+}
+
+fn ends_full(seated: Seated) -> bool {
+    let kernel = seated.into_kernel();
+    let is_full = kernel.full();
+    drop(kernel);
+    is_full
+}
+
+// A journal has exactly the calls of these rows, and is full or not.
+fn check_closed<R: Abort>(rt: &R, seated: Seated, entries: &[Row], is_full: bool) {
+    check_rows(rt, &seated, entries);
+    assert!(rt; ends_full(seated) == is_full);
+}
+
+/// Makes the calls of the rows at a desk of three seats, and closes it: its journal has the calls of the
+/// first rows, as many as it may have.
+pub fn run_rows<R: Wait + Abort>(rt: &R, alloc: Global, limit: u32, rows: &[Row])
     requires some { 1 ≤ limit }
     requires few { limit ≤ 4194304 }
 {
     let (desk, mut passes) = open_desk(alloc, limit, 3).expect(rt, "a desk");
-    let third = take_pass(&desk, &mut passes).expect(rt, "a pass");
-    let second = take_pass(&desk, &mut passes).expect(rt, "a pass");
-    let first = take_pass(&desk, &mut passes).expect(rt, "a pass");
-    Table {
-        desk,
-        first,
-        second,
-        third,
-    }
-}
-
-impl Table {
-    fn make<R: Wait + Abort>(&mut self, rt: &R, alloc: Global, row: Row, moment: u64) -> Outcome {
-        let (seat, action, _) = row;
-        let made = match seat {
-            0 => make(rt, alloc, &self.desk, &mut self.first, action, moment),
-            1 => make(rt, alloc, &self.desk, &mut self.second, action, moment),
-            _ => make(rt, alloc, &self.desk, &mut self.third, action, moment),
-        };
-        made.expect(rt, "a call")
-    }
-
-    fn close<R: Abort>(self, rt: &R, alloc: Global) -> Seated {
-        let Table {
-            desk,
-            first,
-            second,
-            third,
-        } = self;
-        let passes = vec![in alloc; third, first, second].expect(rt, "memory for passes");
-        close_desk(desk, passes).expect(rt, "all passes")
-    }
-}
-
-/// Makes the calls of the rows at a desk of three seats, and closes it.
-pub fn run_rows<R: Wait + Abort>(rt: &R, alloc: Global, limit: u32, rows: &[Row]) -> Seated
-    requires some { 1 ≤ limit }
-    requires few { limit ≤ 4194304 }
-{
-    let mut table = open_table(rt, alloc, limit);
-    for (place, row) in rows.iter().enumerate() {
-        let outcome = table.make(rt, alloc, *row, place as u64);
-        assert_eq!(rt; outcome, row.2, "row {place}: {row:?}");
-    }
-    table.close(rt, alloc)
+    make_rows(rt, alloc, &desk, passes.as_mut_slice(), rows);
+    let seated = close_desk(desk, passes).expect(rt, "all passes");
+    let is_full = rows.len() >= limit as usize;
+    let (entries, _) = rows.split_at(rows.len().min(limit as usize));
+    check_closed(rt, seated, entries, is_full);
 }
 
 // Six turns over three passes.
+const SIX_TURNS: [Row; 6] = [
+    (0, Action::Join(Channel::Shell), Outcome::Joined(1, 1)),
+    (1, Action::Join(Channel::Iopub), Outcome::Joined(2, 1)),
+    (2, Action::Slice, Outcome::Idle),
+    (1, Action::Subscribe(2), Outcome::Subscribed),
+    (0, Action::Ask(1, Question::KernelInfo), Outcome::Arrived),
+    (
+        1,
+        Action::Fetch(2, 1),
+        Outcome::Fetched(3, [1, 2, 4, 0, 0, 0], 0, 5, false),
+    ),
+];
+
 #[test]
 fn six_turns(rt: HostRuntime) {
-    let rows = [
-        (0, Action::Join(Channel::Shell), joined(1, 1)),
-        (1, Action::Join(Channel::Iopub), joined(2, 1)),
-        (2, Action::Slice, Outcome::Idle),
-        (1, Action::Subscribe(2), Outcome::Subscribed),
-        (0, Action::Ask(1, Question::KernelInfo), Outcome::Arrived),
-        (1, Action::Fetch(2, 1), fetched(&[1, 2, 4], 5, false)),
-    ];
-    let seated = run_rows(&rt, rt.alloc(), MOST_ENTRIES, &rows);
-    check_rows(&rt, &seated, &rows);
+    run_rows(&rt, rt.alloc(), MOST_ENTRIES, &SIX_TURNS);
 }
 
 // A cell from its request to its end, and a shutdown: the numbers of all posts.
+const SESSION: [Row; 20] = [
+    (0, Action::Join(Channel::Shell), Outcome::Joined(1, 1)),
+    (1, Action::Join(Channel::Iopub), Outcome::Joined(2, 1)),
+    (1, Action::Subscribe(2), Outcome::Subscribed),
+    (0, Action::Ask(1, Question::KernelInfo), Outcome::Arrived),
+    (
+        1,
+        Action::Fetch(2, 1),
+        Outcome::Fetched(3, [1, 2, 4, 0, 0, 0], 0, 5, false),
+    ),
+    (
+        0,
+        Action::Fetch(1, 1),
+        Outcome::Fetched(1, [3, 0, 0, 0, 0, 0], 0, 5, false),
+    ),
+    (
+        0,
+        Action::Ask(1, Question::Execute("HLT\nEND 0")),
+        Outcome::Arrived,
+    ),
+    (
+        1,
+        Action::Fetch(2, 5),
+        Outcome::Fetched(0, [0, 0, 0, 0, 0, 0], 0, 5, false),
+    ),
+    (2, Action::Slice, Outcome::More),
+    (
+        1,
+        Action::Fetch(2, 5),
+        Outcome::Fetched(2, [5, 6, 0, 0, 0, 0], 0, 7, false),
+    ),
+    (2, Action::Slice, Outcome::More),
+    (
+        1,
+        Action::Fetch(2, 7),
+        Outcome::Fetched(0, [0, 0, 0, 0, 0, 0], 0, 7, false),
+    ),
+    (2, Action::Slice, Outcome::More),
+    (
+        1,
+        Action::Fetch(2, 7),
+        Outcome::Fetched(1, [8, 0, 0, 0, 0, 0], 0, 9, false),
+    ),
+    (
+        0,
+        Action::Fetch(1, 5),
+        Outcome::Fetched(1, [7, 0, 0, 0, 0, 0], 0, 9, false),
+    ),
+    (2, Action::Slice, Outcome::Idle),
+    (0, Action::Ask(1, Question::Shutdown), Outcome::Arrived),
+    (2, Action::Slice, Outcome::Ended),
+    (
+        1,
+        Action::Fetch(2, 9),
+        Outcome::Fetched(2, [9, 11, 0, 0, 0, 0], 0, 12, true),
+    ),
+    (
+        0,
+        Action::Fetch(1, 9),
+        Outcome::Fetched(1, [10, 0, 0, 0, 0, 0], 0, 12, true),
+    ),
+];
+
 #[test]
 fn a_session(rt: HostRuntime) {
-    let rows = [
-        (0, Action::Join(Channel::Shell), joined(1, 1)),
-        (1, Action::Join(Channel::Iopub), joined(2, 1)),
-        (1, Action::Subscribe(2), Outcome::Subscribed),
-        (0, Action::Ask(1, Question::KernelInfo), Outcome::Arrived),
-        (1, Action::Fetch(2, 1), fetched(&[1, 2, 4], 5, false)),
-        (0, Action::Fetch(1, 1), fetched(&[3], 5, false)),
-        (
-            0,
-            Action::Ask(1, Question::Execute("HLT\nEND 0")),
-            Outcome::Arrived,
-        ),
-        (1, Action::Fetch(2, 5), fetched(&[], 5, false)),
-        (2, Action::Slice, Outcome::More),
-        (1, Action::Fetch(2, 5), fetched(&[5, 6], 7, false)),
-        (2, Action::Slice, Outcome::More),
-        (1, Action::Fetch(2, 7), fetched(&[], 7, false)),
-        (2, Action::Slice, Outcome::More),
-        (1, Action::Fetch(2, 7), fetched(&[8], 9, false)),
-        (0, Action::Fetch(1, 5), fetched(&[7], 9, false)),
-        (2, Action::Slice, Outcome::Idle),
-        (0, Action::Ask(1, Question::Shutdown), Outcome::Arrived),
-        (2, Action::Slice, Outcome::Ended),
-        (1, Action::Fetch(2, 9), fetched(&[9, 11], 12, true)),
-        (0, Action::Fetch(1, 9), fetched(&[10], 12, true)),
-    ];
-    let seated = run_rows(&rt, rt.alloc(), MOST_ENTRIES, &rows);
-    check_rows(&rt, &seated, &rows);
+    run_rows(&rt, rt.alloc(), MOST_ENTRIES, &SESSION);
 }
 
 // What a fetch tells, and whether its post 5 shows the switches as 05AH.
@@ -173,41 +204,22 @@ fn fetch_seen<R: Wait + Abort>(
     seen(answer)
 }
 
-fn expect_row<R: Wait + Abort>(
+// The switches that one seat sets are what another sees.
+fn expect_switches<R: Wait + Abort>(
     rt: &R,
     alloc: Global,
     desk: &Desk,
-    pass: &mut Pass,
-    row: Row,
-    moment: u64,
-)
-    requires { pass.old.turnstile ≡ desk.now }
-    ensures { pass.new.turnstile ≡ desk.now }
-{
-    let (_, action, wanted) = row;
-    let outcome = make(rt, alloc, desk, pass, action, moment).expect(rt, "a call");
-    assert_eq!(rt; outcome, wanted, "{action:?}");
-}
-
-// The calls of two seats, of which the last fetches what the first has set.
-fn expect_rows<R: Wait + Abort>(
-    rt: &R,
-    alloc: Global,
-    desk: &Desk,
-    first: &mut Pass,
-    second: &mut Pass,
+    passes: &mut [Pass],
     rows: &[Row; 4],
 )
-    requires first { first.old.turnstile ≡ desk.now }
-    requires second { second.old.turnstile ≡ desk.now }
-    ensures first { first.new.turnstile ≡ desk.now }
-    ensures second { second.new.turnstile ≡ desk.now }
+    requires { All (λ p. p.turnstile ≡ desk.now) passes.old }
+    ensures { All (λ p. p.turnstile ≡ desk.now) passes.new }
 {
-    expect_row(rt, alloc, desk, first, rows[0], 0);
-    expect_row(rt, alloc, desk, first, rows[1], 1);
-    expect_row(rt, alloc, desk, second, rows[2], 2);
-    let seen = fetch_seen(rt, alloc, desk, second);
-    assert_eq!(rt; seen, (rows[3].2, true));
+    make_rows(rt, alloc, desk, passes, &rows[..3]);
+    let seat = rows[3].0;
+    assert!(rt; seat < passes.len(), "no seat {seat}");
+    let seen = fetch_seen(rt, alloc, desk, &mut passes[seat]);
+    assert!(rt; seen == (rows[3].2, true));
 }
 
 // What a desk gives back that doesn't close: itself, and the passes that it was given.
@@ -222,39 +234,37 @@ fn refused<R: Abort>(rt: &R, desk: Desk, passes: Vec<Pass>) -> (Desk, Vec<Pass>)
     }
 }
 
-fn close_late<R: Abort>(rt: &R, alloc: Global, desk: Desk, first: Pass, second: Pass) -> Seated
-    requires first { first.turnstile ≡ desk }
-    requires second { second.turnstile ≡ desk }
+// A desk doesn't close without a pass.
+fn close_late<R: Abort>(rt: &R, desk: Desk, mut passes: Vec<Pass>) -> Seated
+    requires { All (λ p. p.turnstile ≡ desk) passes.items }
 {
-    let alone = vec![in alloc; first].expect(rt, "memory for a pass");
-    let (desk, mut passes) = refused(rt, desk, alone);
+    let last = take_pass(&desk, &mut passes).expect(rt, "a pass");
+    let (desk, mut passes) = refused(rt, desk, passes);
     assert_eq!(rt; passes.len(), 1);
-    passes.push(second).expect(rt, "memory for a pass");
+    passes.push(last).expect(rt, "memory for a pass");
     close_desk(desk, passes).expect(rt, "all passes")
 }
 
-// Makes the calls of the rows at a desk of two seats, and closes it at the second try.
-fn run_late<R: Wait + Abort>(rt: &R, alloc: Global, rows: &[Row; 4]) -> Seated {
-    let (desk, mut passes) = open_desk(alloc, MOST_ENTRIES, 2).expect(rt, "a desk");
-    let mut second = take_pass(&desk, &mut passes).expect(rt, "a pass");
-    let mut first = take_pass(&desk, &mut passes).expect(rt, "a pass");
-    expect_rows(rt, alloc, &desk, &mut first, &mut second, rows);
-    close_late(rt, alloc, desk, first, second)
-}
+const SWITCHES: [Row; 4] = [
+    (0, Action::Join(Channel::Control), Outcome::Joined(1, 1)),
+    (
+        0,
+        Action::Ask(1, Question::Switches(0x5A)),
+        Outcome::Arrived,
+    ),
+    (1, Action::Ask(1, Question::Variables(3)), Outcome::Arrived),
+    (
+        1,
+        Action::Fetch(1, 1),
+        Outcome::Fetched(2, [2, 5, 0, 0, 0, 0], 0, 7, false),
+    ),
+];
 
-// The switches that one seat sets are what another sees, and a desk doesn't close without a pass.
 #[test]
 fn two_seats(rt: HostRuntime) {
-    let rows = [
-        (0, Action::Join(Channel::Control), joined(1, 1)),
-        (
-            0,
-            Action::Ask(1, Question::Switches(0x5A)),
-            Outcome::Arrived,
-        ),
-        (1, Action::Ask(1, Question::Variables(3)), Outcome::Arrived),
-        (1, Action::Fetch(1, 1), fetched(&[2, 5], 7, false)),
-    ];
-    let seated = run_late(&rt, rt.alloc(), &rows);
-    check_rows(&rt, &seated, &rows);
+    let alloc = rt.alloc();
+    let (desk, mut passes) = open_desk(alloc, MOST_ENTRIES, 2).expect(&rt, "a desk");
+    expect_switches(&rt, alloc, &desk, passes.as_mut_slice(), &SWITCHES);
+    let seated = close_late(&rt, desk, passes);
+    check_closed(&rt, seated, &SWITCHES, false);
 }

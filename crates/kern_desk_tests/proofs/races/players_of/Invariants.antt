@@ -1,0 +1,7 @@
+use Rattle.std.proofs.Common.{◌≡◌, All}
+use Rattle.kern_desk_tests.proofs.races.players_of.Given as goal
+
+abbrev pub invariant-loop : goal.invariant-loop
+invariant-loop g l =
+    All (λ p. p.turnstile ≡ l.desk) l.passes.items
+    × All (λ p. p.pass.turnstile ≡ l.desk) l.players.items

@@ -1,0 +1,56 @@
+//! Calls made at a desk and on a kernel, and what came of them.
+ghost use Rattle.std.specs.Prelude.{◌≡◌};
+
+use crate::actions::{Action, call_of};
+use crate::outcomes::{Outcome, outcome_of};
+use kern_core::call::Reply;
+use kern_core::fault::KernFault;
+use kern_core::kernel::Kernel;
+use kern_desk::seated::{Desk, Pass};
+use std::alloc::Global;
+use std::process::Abort;
+use std::sync::Wait;
+
+/// A row of a test: a seat, its call, and what must come of it. The call's moment is the row's number,
+/// from 0.
+pub type Row = (usize, Action, Outcome);
+
+/// A call that was made, and what came of it.
+#[derive(Clone, Copy)]
+pub struct Turn {
+    pub action: Action,
+    pub moment: u64,
+    pub outcome: Outcome,
+}
+
+/// Makes one call at a desk.
+pub fn make<R: Wait + Abort>(
+    rt: &R,
+    alloc: Global,
+    desk: &Desk,
+    pass: &mut Pass,
+    action: Action,
+    moment: u64,
+) -> Outcome
+    requires { pass.old.turnstile ≡ desk.now }
+    ensures { pass.new.turnstile ≡ desk.now }
+{
+    let call = call_of(alloc, action, moment).expect(rt, "memory for a call");
+    told_by(desk.turn(rt, pass, call).expect(rt, "a turn"))
+}
+
+/// Makes one call on a kernel.
+pub fn act<R: Abort>(
+    rt: &R,
+    alloc: Global,
+    kernel: &mut Kernel,
+    action: Action,
+    moment: u64,
+) -> Outcome {
+    let call = call_of(alloc, action, moment).expect(rt, "memory for a call");
+    told_by(kernel.act(call))
+}
+
+fn told_by(answer: Result<Reply, KernFault>) -> Outcome {
+    outcome_of(&answer)
+}
