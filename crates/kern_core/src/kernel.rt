@@ -62,9 +62,11 @@ impl Kernel {
         ensures limited { length self.old.entries ≡ self.old.limit → result ≡ Err JournalFull }
     {
         if self.entries.len() >= self.limit as usize {
+            drop(call);
             return Err(KernFault::JournalFull);
         }
         if self.entries.reserve(1).is_err() {
+            drop(call);
             return Err(KernFault::OutOfMemory);
         }
         let answer = self.session.make(&call);
@@ -72,6 +74,8 @@ impl Kernel {
             self.entries.push_reserved(call);
             return answer;
         }
+        drop(call);
+        drop(answer);
         Err(KernFault::OutOfMemory)
     }
 

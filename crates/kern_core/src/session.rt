@@ -54,17 +54,22 @@ impl Session {
         ensures room { IfOk result (λ session. (session.store.made ≡ 0)
             × ((session.present.joined ≡ 0) × (session.work.count ≡ 0))) }
     {
-        let lab = Lab::new(alloc)?;
-        let executions = Executions::new(alloc)?;
         let store = Store::new(alloc)?;
-        Ok(Session {
-            lab,
-            peers: Peers::new(alloc),
-            executions,
-            store,
-            is_shut: false,
-            alloc,
-        })
+        let executions = Executions::new(alloc)?;
+        match Lab::new(alloc) {
+            Ok(lab) => Ok(Session {
+                lab,
+                peers: Peers::new(alloc),
+                executions,
+                store,
+                is_shut: false,
+                alloc,
+            }),
+            Err(_) => {
+                drop(executions);
+                Err(AllocError)
+            }
+        }
     }
 
     /// One call.

@@ -1,9 +1,10 @@
 //! Requests, but for those of a debugger.
-ghost use Rattle.std.specs.Prelude.{◌≡◌, ◌≤◌, ◌∷◌, ◌++◌, [], length, IfOk, OnOk, OnErr, if◌then◌else◌};
+ghost use Rattle.std.specs.Prelude.{◌≡◌, ◌<◌, ◌≤◌, ◌+◌, ◌∷◌, ◌++◌, [], length, IfOk, OnOk, OnErr, if◌then◌else◌};
 ghost use Rattle.kern_post.specs.declared.content.Ending.TheVariants.{Failed};
 ghost use Rattle.kern_exec.specs.Letters.{around as around_of};
 ghost use Rattle.kern_exec.specs.Executions.{ended};
 ghost use Rattle.kern_exec.specs.Ends.{error_letters};
+ghost use Rattle.kern_exec.specs.Kits.{IsAround};
 ghost use Rattle.kern_exec.specs.Boards.{is_run};
 ghost use Rattle.kern_core.specs.Asks.{reply_to, replying, queue_full, executing, cut_kit_of, cut_letters, interrupting, shutting, typing, closing, passing, unanswered, other, arriving, with_board, cut_work};
 ghost use Rattle.lab_core.specs.Events.{reset as reset_of};
@@ -20,7 +21,7 @@ use base_text::text::Text;
 use kern_ask::ask::{Ask, ExecuteRequest, NeedyRequest, Request};
 use kern_exec::ends::{EndKit, cut_letters, end_kit};
 use kern_exec::execution::{Execution, copy_bytes};
-use kern_exec::letters::{around, heard, replied};
+use kern_exec::letters::{BusyIdle, around, heard, replied};
 use kern_exec::runs::{interrupt, reset, type_bytes};
 use kern_post::content::{Cause, Content, Ending};
 use kern_post::letters::Letters;
@@ -85,11 +86,18 @@ impl Session {
     fn around_one(&self, header: &Bytes, letter: Letter) -> Result<Letters, AllocError>
         ensures { IfOk result (λ letters. letters ≡ around_of self.now.present header.now (letter ∷ [])) }
     {
-        let frame = around(self.alloc, &self.peers, header)?;
-        let mut letters = frame.letters;
-        letters.push(letter);
-        letters.push(frame.idle);
-        Ok(letters)
+        match around(self.alloc, &self.peers, header) {
+            Ok(frame) => {
+                let BusyIdle { mut letters, idle } = frame;
+                letters.push(letter);
+                letters.push(idle);
+                Ok(letters)
+            }
+            Err(_) => {
+                drop(letter);
+                Err(AllocError)
+            }
+        }
     }
 
     fn reply(
@@ -196,25 +204,63 @@ impl Session {
             (error_letters is_silent self.now.present request.now.header (Failed Cause.QueueFull) ++
             reply_to connection request.now (Content.ExecuteReply self.now.work.count (Failed Cause.QueueFull)) ∷ [])) }
     {
+        let BusyIdle { mut letters, idle } = around(self.alloc, &self.peers, &request.header)?;
+        match self.push_full(&mut letters, connection, request, is_silent) {
+            Ok(()) => {
+                letters.push(idle);
+                Ok(letters)
+            }
+            Err(_) => {
+                drop(idle);
+                Err(AllocError)
+            }
+        }
+    }
+
+    // That the queue is full: the error and the reply.
+    #[tactic(auto, using(std::proofs::Common::append_assoc))]
+    fn push_full(
+        &self,
+        letters: &mut Letters,
+        connection: u32,
+        request: &Request,
+        is_silent: bool,
+    ) -> Result<(), AllocError>
+        requires { length letters.old ≤ 1 }
+        ensures said { IfOk result (λ _. letters.new ≡ letters.old ++
+            (error_letters is_silent self.now.present request.now.header (Failed Cause.QueueFull) ++
+            reply_to connection request.now (Content.ExecuteReply self.now.work.count (Failed Cause.QueueFull)) ∷ [])) }
+        ensures few { length letters.new ≤ length letters.old + 2 }
+    {
+        self.push_error(letters, request, is_silent)?;
         let content = Content::ExecuteReply {
             count: self.executions.count(),
             ending: Ending::Failed(Cause::QueueFull),
         };
         let reply = self.reply_to(connection, request, content)?;
-        let frame = around(self.alloc, &self.peers, &request.header)?;
-        let mut letters = frame.letters;
-        if !is_silent {
-            let error = heard(
-                self.alloc,
-                &self.peers,
-                &request.header,
-                Content::Error(Cause::QueueFull),
-            )?;
-            letters.push(error);
-        }
         letters.push(reply);
-        letters.push(frame.idle);
-        Ok(letters)
+        Ok(())
+    }
+
+    // The error, where the request isn't silent.
+    fn push_error(
+        &self,
+        letters: &mut Letters,
+        request: &Request,
+        is_silent: bool,
+    ) -> Result<(), AllocError>
+        requires { length letters.old < 8 }
+        ensures said { IfOk result (λ _. letters.new ≡ letters.old ++
+            error_letters is_silent self.now.present request.now.header (Failed Cause.QueueFull)) }
+        ensures few { length letters.new ≤ length letters.old + 1 }
+    {
+        if is_silent {
+            return Ok(());
+        }
+        let content = Content::Error(Cause::QueueFull);
+        let error = heard(self.alloc, &self.peers, &request.header, content)?;
+        letters.push(error);
+        Ok(())
     }
 
     fn close_comm(
@@ -286,9 +332,28 @@ impl Session {
             letters ≡ around_of s.present request.now.header (cut_letters cause s ++ reply_to connection request.now content ∷ [])) }
     {
         let reply = self.reply_to(connection, request, content)?;
+        match self.cut_frame(&request.header) {
+            Ok((frame, kit)) => Ok(cut_letters(frame, kit, cause, reply)),
+            Err(_) => {
+                drop(reply);
+                Err(AllocError)
+            }
+        }
+    }
+
+    // Busy and idle, and the envelopes for the end between them.
+    fn cut_frame(&self, header: &Bytes) -> Result<(BusyIdle, Option<EndKit>), AllocError>
+        ensures around { IfOk result (λ made. IsAround self.now.present header.now made.0) }
+        ensures kit { (s : SessionOf) → StandsFor self.now s → IfOk result (λ made. made.1 ≡ cut_kit_of s) }
+    {
         let kit = self.cut_kit()?;
-        let frame = around(self.alloc, &self.peers, &request.header)?;
-        Ok(cut_letters(frame, kit, cause, reply))
+        match around(self.alloc, &self.peers, header) {
+            Ok(frame) => Ok((frame, kit)),
+            Err(_) => {
+                drop(kit);
+                Err(AllocError)
+            }
+        }
     }
 
     // The execution under way has ended, where there was a run.

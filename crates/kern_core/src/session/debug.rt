@@ -57,9 +57,6 @@ fn is_bounded(command: &DapCommand) -> bool
     }
 }
 
-// A kit has many parts to drop, which is done here.
-fn discard(_kit: DebugKit) {}
-
 fn push_some(letters: &mut Letters, letter: Option<Letter>)
     requires { length letters.old < 8 }
     ensures said { letters.new ≡ letters.old ++ option_to_list letter }
@@ -103,13 +100,13 @@ fn refusal_letters(alloc: Global, kit: DebugKit, fault: EventFault) -> Result<Le
     ensures want { fault ≡ EventFault.OutOfMemory → IsErr result }
 {
     if matches!(fault, EventFault::OutOfMemory) {
-        discard(kit);
+        drop(kit);
         return Err(AllocError);
     }
     match outcome_of(alloc, fault) {
         Ok(outcome) => Ok(debug_letters(kit, outcome, None)),
         Err(_) => {
-            discard(kit);
+            drop(kit);
             Err(AllocError)
         }
     }
@@ -129,7 +126,10 @@ fn letters_by(
 {
     match performed {
         Ok(body) => Ok(debug_letters(kit, Outcome::Success(body), after)),
-        Err(fault) => refusal_letters(alloc, kit, fault),
+        Err(fault) => {
+            drop(after);
+            refusal_letters(alloc, kit, fault)
+        }
     }
 }
 
@@ -203,8 +203,13 @@ impl Session {
             made.1 ≡ after_letter (event_after debug.now.command) request.now s) }
     {
         let after = self.after_letter(request, &debug.command)?;
-        let kit = self.debug_kit(connection, request, debug)?;
-        Ok((kit, after))
+        match self.debug_kit(connection, request, debug) {
+            Ok(kit) => Ok((kit, after)),
+            Err(_) => {
+                drop(after);
+                Err(AllocError)
+            }
+        }
     }
 
     fn refuse(
@@ -219,8 +224,8 @@ impl Session {
         ensures grows { Grows self.old self.new }
         ensures err { OnErr result (self.new ≡ self.old) }
     {
-        let kit = self.debug_kit(connection, request, debug)?;
         let message = Text::copy_of(self.alloc, "Arguments")?;
+        let kit = self.debug_kit(connection, request, debug)?;
         let letters = debug_letters(kit, Outcome::Refused(message), None);
         self.store.push_all(moment, letters);
         Ok(Reply::Arrived)

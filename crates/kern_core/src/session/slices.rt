@@ -26,9 +26,6 @@ use lab_core::answer::SliceOutcome;
 use lab_core::run_state::RunState;
 use std::alloc::AllocError;
 
-// A kit has many parts to drop, which is done here.
-fn discard(_kit: LoadingKit) {}
-
 impl Session {
     pub(super) fn slice(&mut self, moment: u64) -> Result<Reply, KernFault>
         requires room { HasRoom self.old }
@@ -85,7 +82,7 @@ impl Session {
                 Ok(Reply::More)
             }
             Err(_) => {
-                discard(kit);
+                drop(kit);
                 Err(KernFault::OutOfMemory)
             }
         }
@@ -128,9 +125,16 @@ impl Session {
         ensures err { OnErr result (self.new ≡ self.old) }
     {
         let kit = self.kit()?;
-        let (traffic, outcome) = slice(&mut self.lab)?;
-        self.post_slice(moment, kit, &traffic, outcome);
-        Ok(self.leave_run(outcome))
+        match slice(&mut self.lab) {
+            Ok((traffic, outcome)) => {
+                self.post_slice(moment, kit, &traffic, outcome);
+                Ok(self.leave_run(outcome))
+            }
+            Err(_) => {
+                drop(kit);
+                Err(KernFault::OutOfMemory)
+            }
+        }
     }
 
     fn post_slice(
