@@ -56,7 +56,10 @@ fn held(alloc: Global, question: Question) -> Result<Held<Arrival>, AllocError> 
 }
 
 fn is_accepted(kernel: &mut Kernel, call: Call) -> bool {
-    kernel.act(call).is_ok()
+    let answer = kernel.act(call);
+    let is_accepted = answer.is_ok();
+    drop(answer);
+    is_accepted
 }
 
 /// A frontend comes on shell. Whether the call was accepted.

@@ -16,8 +16,13 @@ const STEPS: u16 = 4096;
 
 fn prepared(alloc: Global, work: Work) -> Result<Shell, AllocError> {
     let mut shell = Shell::new(alloc)?;
-    shell.prepare(alloc, work)?;
-    Ok(shell)
+    match shell.prepare(alloc, work) {
+        Ok(()) => Ok(shell),
+        Err(_) => {
+            drop(shell);
+            Err(AllocError)
+        }
+    }
 }
 
 fn per_second(count: u64, micros: u128) -> u128 {
@@ -53,22 +58,31 @@ fn time_after<R: Clock>(
 // How many units a second are made, after so many.
 fn rate<R: Clock>(rt: &R, alloc: Global, work: Work, before: u64, count: u64) -> Result<u128> {
     let mut shell = prepared(alloc, work)?;
-    let micros = time_after(rt, alloc, &mut shell, work, before, count)?;
-    Ok(per_second(count, micros))
+    let micros = time_after(rt, alloc, &mut shell, work, before, count);
+    drop(shell);
+    Ok(per_second(count, micros?))
 }
 
 fn load_event(alloc: Global) -> Result<Event, AllocError>
     ensures { IfOk result (λ event. Fits event) }
 {
     let path = Text::copy_of(alloc, "endless.asm")?;
-    let text = Text::copy_of(alloc, ENDLESS)?;
-    Ok(Event::Load { path, text })
+    match Text::copy_of(alloc, ENDLESS) {
+        Ok(text) => Ok(Event::Load { path, text }),
+        Err(_) => {
+            drop(path);
+            Err(AllocError)
+        }
+    }
 }
 
 fn is_accepted(lab: &mut Lab, event: &Event) -> bool
     requires { Fits event.now }
 {
-    lab.apply(event).is_ok()
+    let answer = lab.apply(event);
+    let is_accepted = answer.is_ok();
+    drop(answer);
+    is_accepted
 }
 
 fn slices(lab: &mut Lab, count: u64) {
@@ -80,7 +94,9 @@ fn slices(lab: &mut Lab, count: u64) {
 // Loads a cell that never ends, and starts it. Whether both were accepted.
 fn run_endless(alloc: Global, lab: &mut Lab) -> Result<bool, AllocError> {
     let load = load_event(alloc)?;
-    Ok(is_accepted(lab, &load) && is_accepted(lab, &Event::Start(0)))
+    let is_loaded = is_accepted(lab, &load);
+    drop(load);
+    Ok(is_loaded && is_accepted(lab, &Event::Start(0)))
 }
 
 fn time_of_slices<R: Clock>(rt: &R, lab: &mut Lab, count: u64) -> Result<u128> {
@@ -89,14 +105,21 @@ fn time_of_slices<R: Clock>(rt: &R, lab: &mut Lab, count: u64) -> Result<u128> {
     Ok(start.elapsed(rt)?.as_micros())
 }
 
+// How many slices a second a new board makes.
+fn rate_on<R: Clock>(rt: &R, alloc: Global, lab: &mut Lab, count: u64) -> Result<u128> {
+    if !run_endless(alloc, lab)? {
+        bail!("the cell was refused");
+    }
+    let micros = time_of_slices(rt, lab, count)?;
+    Ok(per_second(count, micros))
+}
+
 // How many slices a second the board makes by itself.
 fn board_rate<R: Clock>(rt: &R, alloc: Global, count: u64) -> Result<u128> {
     let mut lab = Lab::new(alloc)?;
-    if !run_endless(alloc, &mut lab)? {
-        bail!("the cell was refused");
-    }
-    let micros = time_of_slices(rt, &mut lab, count)?;
-    Ok(per_second(count, micros))
+    let rate = rate_on(rt, alloc, &mut lab, count);
+    drop(lab);
+    rate
 }
 
 // Prints a rate at the beginning of a journal, and after so many units.
@@ -116,7 +139,9 @@ fn report<R: Clock + Print>(
 // How much ten units give.
 fn ten(alloc: Global, work: Work) -> Result<u64, AllocError> {
     let mut shell = prepared(alloc, work)?;
-    shell.units(alloc, work, 10)
+    let made = shell.units(alloc, work, 10);
+    drop(shell);
+    made
 }
 
 /// Does a little of each work, and prints how much it was.
@@ -141,7 +166,9 @@ pub fn time<R: Clock + Print>(rt: &R, alloc: Global) -> Result<()> {
 
 fn is_filled(alloc: Global) -> Result<bool, AllocError> {
     let mut shell = Shell::new(alloc)?;
-    Ok(shell.fill(LIMIT.into()))
+    let is_full = shell.fill(LIMIT.into());
+    drop(shell);
+    Ok(is_full)
 }
 
 /// Fills a journal with slices of a kernel that has nothing to do. How much memory that takes is seen

@@ -90,8 +90,13 @@ impl Shell {
     /// A kernel with the longest journal, whose frontend has come.
     pub fn new(alloc: Global) -> Result<Shell, AllocError> {
         let mut kernel = Kernel::new(alloc, LIMIT)?;
-        join(alloc, &mut kernel)?;
-        Ok(Shell { kernel, from: 1 })
+        match join(alloc, &mut kernel) {
+            Ok(_) => Ok(Shell { kernel, from: 1 }),
+            Err(_) => {
+                drop(kernel);
+                Err(AllocError)
+            }
+        }
     }
 
     /// Gets the kernel to where units of this work can be done.
@@ -127,7 +132,10 @@ impl Shell {
 
     // Fetches from a number on. How many posts there were, and the number to go on from.
     fn fetch_from(&mut self, from: u64) -> (u64, u64) {
-        counted(&fetch(&mut self.kernel, from), from)
+        let reply = fetch(&mut self.kernel, from);
+        let counted = counted(&reply, from);
+        drop(reply);
+        counted
     }
 
     // Fetches from the frontend's place on. How many posts there were.
@@ -139,7 +147,10 @@ impl Shell {
 
     // Fetches from the frontend's place on, and renders the posts. How many frames they have.
     fn render_next(&mut self, alloc: Global) -> Result<u64, AllocError> {
-        let (frames, next) = rendered(alloc, &fetch(&mut self.kernel, self.from), self.from)?;
+        let reply = fetch(&mut self.kernel, self.from);
+        let rendered = rendered(alloc, &reply, self.from);
+        drop(reply);
+        let (frames, next) = rendered?;
         self.from = next;
         Ok(frames)
     }
