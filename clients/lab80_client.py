@@ -28,7 +28,8 @@ TEXT:   DB 'hello, world',0AH,0
         END 0
 """
 
-ENDLESS = "X: JMP X\nEND X\n"
+# Prints a star, and then runs until something ends it.
+ENDLESS = "MVI A,'*'\nOUT 1\nX: JMP X\nEND 0\n"
 
 # Asks for a line by port 3, waits until it has come, and prints its first character.
 ASKS = "OUT 3\nWAIT: IN 0\nANI 1\nJZ WAIT\nIN 1\nOUT 1\nHLT\nEND 0\n"
@@ -75,6 +76,13 @@ class Lab(unittest.TestCase):
         client = client or self.client
         number = client.execute(code, **options)
         return self.finish(number, client)
+
+    def run_endless(self, client=None):
+        """Executes a cell that never ends by itself, and waits for its star: by then it runs, and an interrupt or
+        a pause, which leave a start alone that is still to come, have a run to act on."""
+        number = (client or self.client).execute(ENDLESS)
+        self.assertEqual(self.wait_for("stream")["parent_header"]["msg_id"], number)
+        return number
 
     def finish(self, number, client=None):
         """The reply to a request, and what was posted for it between busy and idle."""

@@ -11,7 +11,7 @@ import unittest
 
 from jupyter_client import write_connection_file
 
-from lab80_client import ENDLESS, HELLO, Lab, are_gone, processes, program, streams
+from lab80_client import HELLO, Lab, are_gone, processes, program, streams
 
 PORTS = ("shell_port", "iopub_port", "stdin_port", "control_port", "hb_port")
 
@@ -67,8 +67,7 @@ class Refused(unittest.TestCase):
 
 class Killed(Lab):
     def test_amid_a_cell(self):
-        self.client.execute(ENDLESS)
-        self.wait_for("execute_input")
+        self.run_endless()
         path = self.manager.connection_file
         self.assertEqual(len(processes(path)), 2, "the kernel and its watcher")
         os.kill(self.manager.provisioner.pid, signal.SIGKILL)

@@ -1,13 +1,12 @@
 """What frontends ask while a cell runs, and how a kernel ends and begins anew."""
 import time
 
-from lab80_client import ENDLESS, HELLO, PATIENCE, Lab
+from lab80_client import HELLO, PATIENCE, Lab
 
 
 class Control(Lab):
     def test_an_interrupt_ends_a_running_cell(self):
-        number = self.client.execute(ENDLESS)
-        self.wait_for("execute_input")
+        number = self.run_endless()
         began = time.monotonic()
         self.manager.interrupt_kernel()
         reply = self.reply(number)["content"]
@@ -16,8 +15,7 @@ class Control(Lab):
         self.assertEqual(self.execute(HELLO)[0]["status"], "ok")
 
     def test_control_is_answered_while_a_cell_runs(self):
-        number = self.client.execute(ENDLESS)
-        self.wait_for("execute_input")
+        number = self.run_endless()
         info = self.control("kernel_info")
         self.assertEqual(info["implementation"], "lab80")
         self.assertEqual(self.control("interrupt"), {"status": "ok"})

@@ -1,5 +1,5 @@
 """Debuggers, in the order in which JupyterLab asks; each message is checked against the protocol's schema."""
-from lab80_client import ENDLESS, Lab
+from lab80_client import Lab
 
 # Two routines, of which the first calls the second.
 CALLS = """\
@@ -123,13 +123,12 @@ class Debugger(Lab):
         self.start()
         for client in (self.client, other):
             self.assertEqual(self.event(client)[0], "initialized")
-        number = self.client.execute(ENDLESS)
-        self.wait_for("execute_input")
+        number = self.run_endless()
         self.debug("pause", {"threadId": 1}, other)
         for client in (self.client, other):
             self.assertEqual(self.event(client)[1]["reason"], "pause")
         frames, _ = self.look(other)
-        self.assertEqual(self.places(frames), [("main", 1)])
+        self.assertEqual(self.places(frames), [("main", 3)])
         self.debug("continue", {"threadId": 1})
         self.control("interrupt", client=other)
         self.assertEqual(self.reply(number)["content"]["ename"], "Interrupted")

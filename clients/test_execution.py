@@ -1,5 +1,5 @@
 """Cells: what they print, how they end, how they are counted, and what is kept from one to the next."""
-from lab80_client import ASKS, ENDLESS, HELLO, PATIENCE, Lab, kinds, printing, streams
+from lab80_client import ASKS, HELLO, PATIENCE, Lab, kinds, printing, streams
 
 
 class Execution(Lab):
@@ -50,8 +50,7 @@ class Execution(Lab):
         self.assertEqual(self.finish(good)[0]["status"], "ok")
 
     def test_sixty_four_cells_wait_and_no_more(self):
-        running = self.client.execute(ENDLESS)
-        self.wait_for("execute_input")
+        running = self.run_endless()
         waiting = [self.client.execute(printing("x"), silent=True) for _ in range(64)]
         refused = self.client.execute(printing("x"))
         reply = self.reply(refused)["content"]

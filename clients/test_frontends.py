@@ -1,5 +1,5 @@
 """Several frontends of one kernel, which come and go as they please."""
-from lab80_client import ASKS, ENDLESS, HELLO, Lab, kinds, streams
+from lab80_client import ASKS, HELLO, PATIENCE, Lab, kinds, streams
 
 
 class Frontends(Lab):
@@ -9,8 +9,7 @@ class Frontends(Lab):
         self.assertEqual(streams(self.posts(number, other)), "hello, world\n")
 
     def test_one_that_joins_late_hears_that_a_cell_runs(self):
-        number = self.client.execute(ENDLESS)
-        self.wait_for("execute_input")
+        number = self.run_endless()
         late = self.connect()
         status = self.wait_for("status", late)
         self.assertEqual((status["content"]["execution_state"], status["parent_header"]), ("busy", {}))
@@ -20,21 +19,33 @@ class Frontends(Lab):
         self.assertEqual(streams(self.execute(HELLO, late)[1]), "hello, world\n")
 
     def test_one_that_leaves_amid_a_cell(self):
-        for code in (HELLO, ASKS, ENDLESS):
+        leaving = self.new_client()
+        number = leaving.execute(HELLO)
+        self.assertEqual(self.wait_for("execute_input")["parent_header"]["msg_id"], number)
+        leaving.stop_channels()
+        self.assertEqual(self.wait_for_idle(number), "ok")
+        self.assertEqual(streams(self.execute(HELLO)[1]), "hello, world\n")
+
+    def test_one_that_leaves_and_is_interrupted(self):
+        for begin in (self.begin_to_ask, self.run_endless):
             leaving = self.new_client()
-            number = leaving.execute(code, allow_stdin=True)
-            self.assertEqual(self.wait_for("execute_input")["parent_header"]["msg_id"], number)
+            number = begin(leaving)
             leaving.stop_channels()
-            if code != HELLO:
-                self.control("interrupt")
-            self.assertEqual(self.wait_for_idle(number), "ok" if code == HELLO else "Interrupted")
+            self.control("interrupt")
+            self.assertEqual(self.wait_for_idle(number), "Interrupted")
             self.assertEqual(streams(self.execute(HELLO)[1]), "hello, world\n")
+
+    def begin_to_ask(self, client):
+        """Executes a cell that asks for a line, and waits until it has asked."""
+        number = client.execute(ASKS, allow_stdin=True)
+        self.assertEqual(client.get_stdin_msg(timeout=PATIENCE)["parent_header"]["msg_id"], number)
+        return number
 
     def wait_for_idle(self, number):
         """How a cell ended, by what is posted of it."""
         ended = "ok"
         while True:
-            post = self.client.get_iopub_msg(timeout=10)
+            post = self.client.get_iopub_msg(timeout=PATIENCE)
             if post["parent_header"].get("msg_id") != number:
                 continue
             if post["msg_type"] == "error":

@@ -88,9 +88,9 @@ class Notebook(unittest.TestCase):
     def test_the_square_ends_a_run(self):
         self.open("endless")
         self.run_cell(ENDLESS)
-        wait_until(lambda: self.browser.run("return Jupyter.notebook.kernel_busy"))
+        self.shows(1, "*")
         self.browser.click("button[data-jupyter-action='jupyter-notebook:interrupt-kernel']")
-        self.shows(1, "Interrupted:")
+        wait_until(lambda: self.browser.run(OUTPUTS)[1].rstrip().endswith("Interrupted:"))
 
     def test_a_line_is_asked_for_beneath_the_cell(self):
         self.open("asking")

@@ -1,7 +1,7 @@
 """What takes minutes: a frontend that reads nothing, and a loop that is left alone."""
 import time
 
-from lab80_client import ENDLESS, Lab, printing, streams
+from lab80_client import Lab, printing, streams
 from zmtp import Peer, message
 
 PRINTED = 32_768
@@ -37,8 +37,7 @@ class Patience(Lab):
         self.assertEqual(streams(self.execute(printing("after"))[1]), "after")
 
     def test_a_loop_left_alone(self):
-        number = self.client.execute(ENDLESS)
-        self.wait_for("execute_input")
+        number = self.run_endless()
         time.sleep(120)
         for _ in range(10):
             began = time.monotonic()
