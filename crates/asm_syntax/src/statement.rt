@@ -138,9 +138,15 @@ pub struct Statement {
 }
 
 /// The statements of a cell, one for each line up to the one with END.
-#[derive(Drop)]
 pub struct Statements {
     lines: Vec<Statement>,
+}
+
+// One function for all places where statements are dropped, here and in the crates above.
+impl Drop for Statements {
+    fn drop(self) {
+        let Self { lines: _ } = self;
+    }
 }
 
 impl Model for Statements {

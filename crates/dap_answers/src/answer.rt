@@ -51,11 +51,22 @@ pub enum Outcome {
 }
 
 /// An answer to the request with this number and command.
-#[derive(Clone, Debug, Drop)]
+#[derive(Clone, Debug)]
 pub struct Response {
     pub request_seq: u32,
     pub command: Text,
     pub outcome: Outcome,
+}
+
+// One function for all places where a response is dropped, here and in the crates above.
+impl Drop for Response {
+    fn drop(self) {
+        let Self {
+            request_seq: _,
+            command: _,
+            outcome: _,
+        } = self;
+    }
 }
 
 /// Why the thread stopped.

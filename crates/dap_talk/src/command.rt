@@ -122,10 +122,17 @@ pub enum DapCommand {
 }
 
 /// A request: its number, to which the response refers, and its command.
-#[derive(Debug, Drop)]
+#[derive(Debug)]
 pub struct DapRequest {
     pub seq: u32,
     pub command: DapCommand,
+}
+
+// One function for all places where a request is dropped, here and in the crates above.
+impl Drop for DapRequest {
+    fn drop(self) {
+        let Self { seq: _, command: _ } = self;
+    }
 }
 
 impl DapCommand {

@@ -11,11 +11,21 @@ use std::alloc::{AllocError, Global};
 use std::marker::Model;
 
 /// A kernel: its state, and its journal, which is the list of the calls that made it so.
-#[derive(Drop)]
 pub struct Kernel {
     session: Session,
     entries: Vec<Call>,
     limit: u32,
+}
+
+// One function for all places where a kernel is dropped, here and in the crates above.
+impl Drop for Kernel {
+    fn drop(self) {
+        let Self {
+            session: _,
+            entries: _,
+            limit: _,
+        } = self;
+    }
 }
 
 impl Model for Kernel {

@@ -29,11 +29,22 @@ pub struct Letter {
 }
 
 /// A letter with its number, from 1, and the moment at which it was made, in seconds since 1970.
-#[derive(Debug, Drop)]
+#[derive(Debug)]
 pub struct Post {
     pub number: u64,
     pub moment: u64,
     pub letter: Letter,
+}
+
+// One function for all places where a post is dropped, here and in the crates above.
+impl Drop for Post {
+    fn drop(self) {
+        let Self {
+            number: _,
+            moment: _,
+            letter: _,
+        } = self;
+    }
 }
 
 /// Posts in their order.

@@ -25,7 +25,6 @@ use std::alloc::{AllocError, Global};
 use std::marker::Model;
 
 /// A board: machine, devices, what was loaded and kept, the breakpoints, and the run with its live frames.
-#[derive(Drop)]
 pub struct Lab {
     machine: Machine,
     /// Lies in the machine's place while a slice has the machine as a value of its own.
@@ -35,6 +34,21 @@ pub struct Lab {
     sources: Sources,
     run_state: RunState,
     alloc: Global,
+}
+
+// One function for all places where a board is dropped, here and in the crates above.
+impl Drop for Lab {
+    fn drop(self) {
+        let Self {
+            machine: _,
+            spare: _,
+            context: _,
+            symbols: _,
+            sources: _,
+            run_state: _,
+            alloc: _,
+        } = self;
+    }
 }
 
 /// What a run's steps look at and change beside the machine.
