@@ -5,6 +5,7 @@ use dap_answers::answer::{Body, DebugState, Event, Outcome, Response, StopReason
 use dap_answers::sending::{event, response};
 use lab_core::answer::Breakpoint;
 use lab_views::shown::{CodeLine, SourceBreakpoints, StackFrame, Variable};
+use serde_json::Value;
 use std::alloc::{AllocError, Global};
 use std::process::Abort;
 use std::test::Fail;
@@ -17,7 +18,7 @@ enum Shape {
     Breakpoints(&'static [Breakpoint]),
     Threads,
     // Number, name, path or an empty text, line and address; and how many there are in all.
-    StackTrace(&'static [(u32, &'static str, &'static str, usize, u16)], u32),
+    StackTrace(&'static [FrameRow], u32),
     Scopes,
     // Name and value.
     Variables(&'static [(&'static str, &'static str)]),
@@ -30,37 +31,62 @@ enum Shape {
     DebugState(bool, bool, &'static [(&'static str, &'static [u32])]),
 }
 
-fn frames(
-    alloc: Global,
-    rows: &[(u32, &str, &str, usize, u16)],
-) -> Result<Sequence<StackFrame>, AllocError> {
+type FrameRow = (u32, &'static str, &'static str, usize, u16);
+
+fn source(alloc: Global, path: &str) -> Result<Option<Text>, AllocError> {
+    if path.is_empty() {
+        return Ok(None);
+    }
+    Ok(Some(Text::copy_of(alloc, path)?))
+}
+
+fn frame(alloc: Global, row: &FrameRow) -> Result<StackFrame, AllocError> {
+    let (id, name, path, line, address) = *row;
+    let name = Text::copy_of(alloc, name)?;
+    Ok(StackFrame {
+        id,
+        name,
+        source: source(alloc, path)?,
+        line,
+        address,
+    })
+}
+
+fn frames(alloc: Global, rows: &[FrameRow]) -> Result<Sequence<StackFrame>, AllocError> {
     let mut frames = Sequence::new(alloc);
-    for (id, name, path, line, address) in rows {
-        let source = if path.is_empty() {
-            None
-        } else {
-            Some(Text::copy_of(alloc, *path)?)
-        };
-        frames.push(StackFrame {
-            id: *id,
-            name: Text::copy_of(alloc, *name)?,
-            source,
-            line: *line,
-            address: *address,
-        })?;
+    for row in rows {
+        frames.push(frame(alloc, row)?)?;
     }
     Ok(frames)
+}
+
+fn variable(alloc: Global, name: &str, value: &str) -> Result<Variable, AllocError> {
+    let name = Text::copy_of(alloc, name)?;
+    let value = Text::copy_of(alloc, value)?;
+    Ok(Variable { name, value })
 }
 
 fn variables(alloc: Global, rows: &[(&str, &str)]) -> Result<Sequence<Variable>, AllocError> {
     let mut variables = Sequence::new(alloc);
     for (name, value) in rows {
-        variables.push(Variable {
-            name: Text::copy_of(alloc, *name)?,
-            value: Text::copy_of(alloc, *value)?,
-        })?;
+        variables.push(variable(alloc, name, value)?)?;
     }
     Ok(variables)
+}
+
+fn instruction(
+    alloc: Global,
+    address: u16,
+    bytes: &[u8],
+    text: &str,
+) -> Result<CodeLine, AllocError> {
+    let bytes = Sequence::copy_of(alloc, bytes)?;
+    let text = Text::copy_of(alloc, text)?;
+    Ok(CodeLine {
+        address,
+        bytes,
+        text,
+    })
 }
 
 fn instructions(
@@ -69,13 +95,15 @@ fn instructions(
 ) -> Result<Sequence<CodeLine>, AllocError> {
     let mut instructions = Sequence::new(alloc);
     for (address, bytes, text) in rows {
-        instructions.push(CodeLine {
-            address: *address,
-            bytes: Sequence::copy_of(alloc, *bytes)?,
-            text: Text::copy_of(alloc, *text)?,
-        })?;
+        instructions.push(instruction(alloc, *address, bytes, text)?)?;
     }
     Ok(instructions)
+}
+
+fn breakpoints(alloc: Global, path: &str, lines: &[u32]) -> Result<SourceBreakpoints, AllocError> {
+    let path = Text::copy_of(alloc, path)?;
+    let lines = Sequence::from(lines.to_vec(alloc)?);
+    Ok(SourceBreakpoints { path, lines })
 }
 
 fn state(
@@ -84,17 +112,14 @@ fn state(
     is_stopped: bool,
     rows: &[(&str, &[u32])],
 ) -> Result<DebugState, AllocError> {
-    let mut breakpoints = Sequence::new(alloc);
+    let mut all = Sequence::new(alloc);
     for (path, lines) in rows {
-        breakpoints.push(SourceBreakpoints {
-            path: Text::copy_of(alloc, *path)?,
-            lines: Sequence::from(lines.to_vec(alloc)?),
-        })?;
+        all.push(breakpoints(alloc, path, lines)?)?;
     }
     Ok(DebugState {
         is_attached,
         is_stopped,
-        breakpoints,
+        breakpoints: all,
     })
 }
 
@@ -207,17 +232,26 @@ const BODIES: [(Shape, &str); 14] = [
 ];
 
 fn success(alloc: Global, shape: &Shape) -> Result<Response, AllocError> {
+    let command = Text::copy_of(alloc, "c")?;
     let body = body(alloc, shape)?;
     Ok(Response {
         request_seq: 9,
-        command: Text::copy_of(alloc, "c")?,
+        command,
         outcome: Outcome::Success(body),
     })
 }
 
+fn text_of(alloc: Global, value: Value) -> Result<String, AllocError> {
+    let text = value.to_string(alloc);
+    drop(value);
+    text
+}
+
 fn sent(alloc: Global, shape: &Shape) -> Result<String, AllocError> {
     let answer = success(alloc, shape)?;
-    response(alloc, 12, &answer)?.to_string(alloc)
+    let value = response(alloc, 12, &answer);
+    drop(answer);
+    text_of(alloc, value?)
 }
 
 fn whole(alloc: Global, body: &str) -> Result<String, AllocError> {
@@ -236,8 +270,8 @@ fn expect_body(rt: &(impl Abort + AllocGlobal), shape: &Shape, json: &str) -> Re
 
 #[test]
 fn bodies(rt: HostRuntime) -> Result<(), Fail> {
-    for (shape, json) in BODIES {
-        expect_body(&rt, &shape, json)?;
+    for (shape, json) in &BODIES {
+        expect_body(&rt, shape, json)?;
     }
     Ok(())
 }
@@ -272,9 +306,9 @@ const EVENTS: [(Event, &str); 5] = [
 
 #[test]
 fn events(rt: HostRuntime) -> Result<(), Fail> {
-    for (sent, json) in EVENTS {
-        let found = event(rt.alloc(), 4, sent)?.to_string(rt.alloc())?;
-        assert!(rt; found.as_str() == json, "{found}");
+    for (sent, json) in &EVENTS {
+        let found = text_of(rt.alloc(), event(rt.alloc(), 4, *sent)?)?;
+        assert!(rt; found.as_str() == *json, "{found}");
     }
     Ok(())
 }

@@ -2,7 +2,7 @@
 //! another program's.
 use dap_answers::cell::cell_path;
 use dap_answers::sending::response;
-use dap_talk::command::CommandName;
+use dap_talk::command::{CommandName, DapRequest};
 use dap_talk::fault::DapFault;
 use dap_talk::reading::read_request;
 use serde_json::Value;
@@ -10,15 +10,27 @@ use std::alloc::{AllocError, Global};
 use std::process::Abort;
 use std::test::Fail;
 
-// The message of the fault of a value, or an empty text where it is a request. Out of memory fails the
-// test.
-fn message_of(alloc: Global, value: &str) -> Result<&'static str, Fail> {
-    let value = Value::from_str(alloc, value)?;
-    match read_request(alloc, &value) {
+// The message of a fault, or an empty text where there is a request. Out of memory fails the test.
+fn told(read: &Result<DapRequest, DapFault<'_>>) -> Result<&'static str, Fail> {
+    match read {
         Ok(_) => Ok(""),
         Err(DapFault::OutOfMemory) => Err(Fail::new("out of memory")),
         Err(fault) => Ok(fault.message()),
     }
+}
+
+fn message_of_value(alloc: Global, value: &Value) -> Result<&'static str, Fail> {
+    let read = read_request(alloc, value);
+    let told = told(&read);
+    drop(read);
+    told
+}
+
+fn message_of(alloc: Global, text: &str) -> Result<&'static str, Fail> {
+    let value = Value::from_str(alloc, text)?;
+    let message = message_of_value(alloc, &value);
+    drop(value);
+    message
 }
 
 fn expect_message(rt: &(impl Abort + AllocGlobal), value: &str, message: &str) -> Result<(), Fail> {
@@ -33,33 +45,42 @@ fn request(alloc: Global, command: &str, arguments: &str) -> Result<String, Allo
     )
 }
 
-// The typed command, as its Debug shows it.
-fn shown_command(
-    rt: &(impl Abort + AllocGlobal),
-    command: &str,
-    value: &Value,
-) -> Result<String, Fail> {
-    match read_request(rt.alloc(), value) {
-        Ok(request) => {
-            let name = request.command.name();
-            assert!(rt; request.seq == 7 && name.as_str() == command);
-            assert!(rt; CommandName::named(command) == Some(name));
-            Ok(format!(in rt.alloc(); "{:?}", request.command)?)
-        }
-        Err(fault) => Err(Fail::new(fault.message())),
+// The typed command, as its Debug shows it, of a request with this command and the number 7.
+fn shown_command(alloc: Global, request: &DapRequest, command: &str) -> Result<String, AllocError> {
+    let name = request.command.name();
+    if request.seq != 7 || name.as_str() != command || CommandName::named(command) != Some(name) {
+        return String::from_str(alloc, "another number or command");
     }
+    format!(in alloc; "{:?}", request.command)
+}
+
+fn shown_value(alloc: Global, command: &str, value: &Value) -> Result<String, AllocError> {
+    let read = read_request(alloc, value);
+    let shown = match &read {
+        Ok(request) => shown_command(alloc, request, command),
+        Err(fault) => String::from_str(alloc, fault.message()),
+    };
+    drop(read);
+    shown
+}
+
+// The typed command of a request, or why it is refused.
+fn shown(alloc: Global, command: &str, text: &str) -> Result<String, Fail> {
+    let value = Value::from_str(alloc, text)?;
+    let shown = shown_value(alloc, command, &value);
+    drop(value);
+    Ok(shown?)
 }
 
 fn expect_command(
     rt: &(impl Abort + AllocGlobal),
     command: &str,
     arguments: &str,
-    shown: &str,
+    wanted: &str,
 ) -> Result<(), Fail> {
     let text = request(rt.alloc(), command, arguments)?;
-    let value = Value::from_str(rt.alloc(), text.as_str())?;
-    let found = shown_command(rt, command, &value)?;
-    assert!(rt; found.as_str() == shown, "{text}: {found}");
+    let found = shown(rt.alloc(), command, text.as_str())?;
+    assert!(rt; found.as_str() == wanted, "{text}: {found}");
     Ok(())
 }
 
@@ -79,7 +100,7 @@ const WITHOUT_ARGUMENTS: [(&str, &str); 10] = [
 // Arguments of commands that list none aren't looked at.
 #[test]
 fn reads_commands_without_arguments(rt: HostRuntime) -> Result<(), Fail> {
-    for (command, shown) in WITHOUT_ARGUMENTS {
+    for (command, shown) in &WITHOUT_ARGUMENTS {
         for arguments in ["{\"restart\":true}", "[]"] {
             expect_command(&rt, command, arguments, shown)?;
         }
@@ -168,7 +189,7 @@ instruction_count: 256 }",
 
 #[test]
 fn reads_commands_with_arguments(rt: HostRuntime) -> Result<(), Fail> {
-    for (command, arguments, shown) in WITH_ARGUMENTS {
+    for (command, arguments, shown) in &WITH_ARGUMENTS {
         expect_command(&rt, command, arguments, shown)?;
     }
     Ok(())
@@ -189,8 +210,8 @@ const GRANULARITIES: [(&str, &str); 5] = [
 
 #[test]
 fn reads_steps(rt: HostRuntime) -> Result<(), Fail> {
-    for (command, kind) in STEPS {
-        for (arguments, granularity) in GRANULARITIES {
+    for (command, kind) in &STEPS {
+        for (arguments, granularity) in &GRANULARITIES {
             let shown = format!(in rt.alloc();
                 "Step {{ kind: {kind}, granularity: {granularity} }}"
             )?;
@@ -391,6 +412,19 @@ const REFUSED: [(&str, &str, &str, &[&str]); 46] = [
     ),
 ];
 
+// The message of the fault of a request whose arguments have a value there.
+fn message_with(
+    alloc: Global,
+    command: &str,
+    before: &str,
+    value: &str,
+    after: &str,
+) -> Result<&'static str, Fail> {
+    let arguments = format!(in alloc; "{before}{value}{after}")?;
+    let text = request(alloc, command, arguments.as_str())?;
+    message_of(alloc, text.as_str())
+}
+
 fn expect_bad(
     rt: &(impl Abort + AllocGlobal),
     command: &str,
@@ -399,16 +433,15 @@ fn expect_bad(
     values: &[&str],
 ) -> Result<(), Fail> {
     for value in values {
-        let arguments = format!(in rt.alloc(); "{before}{value}{after}")?;
-        let text = request(rt.alloc(), command, arguments.as_str())?;
-        expect_message(rt, text.as_str(), "Arguments")?;
+        let found = message_with(rt.alloc(), command, before, value, after)?;
+        assert!(rt; found == "Arguments", "{command} {before}{value}: {found}");
     }
     Ok(())
 }
 
 #[test]
 fn refuses_bad_arguments(rt: HostRuntime) -> Result<(), Fail> {
-    for (command, before, after, values) in REFUSED {
+    for (command, before, after, values) in &REFUSED {
         expect_bad(&rt, command, before, after, values)?;
     }
     Ok(())
@@ -427,7 +460,7 @@ const NO_COMMANDS: [&str; 8] = [
 
 #[test]
 fn refuses_unknown_commands(rt: HostRuntime) -> Result<(), Fail> {
-    for command in NO_COMMANDS {
+    for command in &NO_COMMANDS {
         let text = request(rt.alloc(), command, "null")?;
         expect_message(&rt, text.as_str(), "Command")?;
     }
@@ -502,7 +535,7 @@ const VALUES: [(&str, &str); 20] = [
 
 #[test]
 fn refuses_what_is_no_request(rt: HostRuntime) -> Result<(), Fail> {
-    for (value, message) in VALUES {
+    for (value, message) in &VALUES {
         expect_message(&rt, value, message)?;
     }
     Ok(())
@@ -527,23 +560,50 @@ const REFUSALS: [(&str, &str); 3] = [
     ),
 ];
 
-fn expect_refusal(rt: &(impl Abort + AllocGlobal), value: &str, json: &str) -> Result<(), Fail> {
-    let value = Value::from_str(rt.alloc(), value)?;
-    let Err(fault) = read_request(rt.alloc(), &value) else {
-        return Err(Fail::new("a request"));
+fn text_of(alloc: Global, value: Value) -> Result<String, AllocError> {
+    let text = value.to_string(alloc);
+    drop(value);
+    text
+}
+
+fn is_its_message(alloc: Global, fault: &DapFault<'_>) -> Result<bool, AllocError> {
+    let shown = format!(in alloc; "{fault}")?;
+    Ok(shown.as_str() == fault.message())
+}
+
+fn refusal_of(alloc: Global, fault: &DapFault<'_>) -> Result<String, AllocError> {
+    if !is_its_message(alloc, fault)? {
+        return String::from_str(alloc, "another text than its message");
+    }
+    let answer = fault.to_response(alloc)?;
+    let value = response(alloc, 3, &answer);
+    drop(answer);
+    text_of(alloc, value?)
+}
+
+fn refusal_of_value(alloc: Global, value: &Value) -> Result<String, AllocError> {
+    let read = read_request(alloc, value);
+    let refusal = match &read {
+        Ok(_) => String::from_str(alloc, "a request"),
+        Err(fault) => refusal_of(alloc, fault),
     };
-    let shown = format!(in rt.alloc(); "{fault}")?;
-    assert!(rt; shown.as_str() == fault.message());
-    let answer = fault.to_response(rt.alloc())?;
-    let found = response(rt.alloc(), 3, &answer)?.to_string(rt.alloc())?;
-    assert!(rt; found.as_str() == json, "{found}");
-    Ok(())
+    drop(read);
+    refusal
+}
+
+// The response to a request that is refused.
+fn refusal(alloc: Global, text: &str) -> Result<String, Fail> {
+    let value = Value::from_str(alloc, text)?;
+    let refusal = refusal_of_value(alloc, &value);
+    drop(value);
+    Ok(refusal?)
 }
 
 #[test]
 fn answers_what_it_refuses(rt: HostRuntime) -> Result<(), Fail> {
-    for (value, json) in REFUSALS {
-        expect_refusal(&rt, value, json)?;
+    for (value, json) in &REFUSALS {
+        let found = refusal(rt.alloc(), value)?;
+        assert!(rt; found.as_str() == *json, "{value}: {found}");
     }
     Ok(())
 }
@@ -562,12 +622,16 @@ const PATHS: [(&str, &str); 10] = [
     ("The quick brown fox jumps over the lazy dog", "556214736"),
 ];
 
+fn is_path(alloc: Global, code: &str, number: &str) -> Result<bool, AllocError> {
+    let path = format!(in alloc; "/tmp/i8080_lab/{number}.asm")?;
+    let found = cell_path(alloc, code)?;
+    Ok(found.as_str() == path.as_str())
+}
+
 #[test]
-fn paths_of_cells(rt: HostRuntime) -> Result<(), Fail> {
-    for (code, number) in PATHS {
-        let path = format!(in rt.alloc(); "/tmp/i8080_lab/{number}.asm")?;
-        let found = cell_path(rt.alloc(), code)?;
-        assert!(rt; found.as_str() == path.as_str(), "{code}");
+fn paths_of_cells(rt: HostRuntime) -> Result<(), AllocError> {
+    for (code, number) in &PATHS {
+        assert!(rt; is_path(rt.alloc(), code, number)?, "{code}");
     }
     Ok(())
 }

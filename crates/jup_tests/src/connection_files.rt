@@ -39,11 +39,23 @@ fn file_with(alloc: Global, name: &str, value: &str) -> Result<String, Fail> {
     Ok(text)
 }
 
-fn fault_of(read: Result<ConnectionFile, FileFault>) -> Option<FileFault> {
+fn fault_of(read: &Result<ConnectionFile, FileFault>) -> Option<FileFault> {
     match read {
         Ok(_) => None,
-        Err(fault) => Some(fault),
+        Err(fault) => Some(*fault),
     }
+}
+
+fn reading_fault(alloc: Global, bytes: &[u8]) -> Option<FileFault> {
+    let read = ConnectionFile::read(alloc, bytes);
+    let fault = fault_of(&read);
+    drop(read);
+    fault
+}
+
+fn fault_with(alloc: Global, name: &str, value: &str) -> Result<Option<FileFault>, Fail> {
+    let text = file_with(alloc, name, value)?;
+    Ok(reading_fault(alloc, text.as_bytes()))
 }
 
 fn expect(
@@ -52,96 +64,135 @@ fn expect(
     value: &str,
     fault: Option<FileFault>,
 ) -> Result<(), Fail> {
-    let text = file_with(rt.alloc(), name, value)?;
-    let found = fault_of(ConnectionFile::read(rt.alloc(), text.as_bytes()));
+    let found = fault_with(rt.alloc(), name, value)?;
     assert!(rt; found == fault, "{name} {value}");
     Ok(())
+}
+
+fn expect_values(rt: &impl Abort, file: &ConnectionFile) {
+    assert!(rt; file.ip == Ipv4Addr::new(127, 0, 0, 1));
+    assert!(rt; file.key.as_str() == "secret");
+    assert!(rt; file.shell_port == 41001);
+    assert!(rt; file.iopub_port == 41002);
+    assert!(rt; file.stdin_port == 41003);
+    assert!(rt; file.control_port == 41004);
+    assert!(rt; file.hb_port == 41005);
 }
 
 #[test]
 fn a_file_gives_its_values(rt: HostRuntime) -> Result<(), Fail> {
     let text = file_with(rt.alloc(), "", "")?;
-    let Ok(file) = ConnectionFile::read(rt.alloc(), text.as_bytes()) else {
-        return Err(Fail::new("refused"));
-    };
-    assert!(rt; file.ip == Ipv4Addr::new(127, 0, 0, 1));
-    assert!(rt; file.key.as_str() == "secret");
-    assert!(rt; file.shell_port == 41001 && file.iopub_port == 41002 && file.stdin_port == 41003);
-    assert!(rt; file.control_port == 41004 && file.hb_port == 41005);
+    let file = ConnectionFile::read(rt.alloc(), text.as_bytes()).expect(&rt, "a file");
+    expect_values(&rt, &file);
+    drop(file);
     Ok(())
+}
+
+const NO_VALUES: [&str; 8] = ["", "null", "true", "[]", "{}", "-1", "1.5", "\"x\""];
+
+// A key may be any text.
+fn fault_as(name: &str, value: &str) -> Option<FileFault> {
+    if name == "key" && value == "\"x\"" {
+        return None;
+    }
+    Some(FileFault::Field)
 }
 
 #[test]
 fn each_member_is_needed(rt: HostRuntime) -> Result<(), Fail> {
-    for (name, _) in MEMBERS {
-        for value in ["", "null", "true", "[]", "{}", "-1", "1.5", "\"x\""] {
-            let is_key = name == "key" && value == "\"x\"";
-            let fault = if is_key { None } else { Some(FileFault::Field) };
-            expect(&rt, name, value, fault)?;
+    for (name, _) in &MEMBERS {
+        for value in &NO_VALUES {
+            expect(&rt, name, value, fault_as(name, value))?;
         }
     }
     Ok(())
 }
+
+const PORTS: [(&str, Option<FileFault>); 8] = [
+    ("1", None),
+    ("65535", None),
+    ("0", Some(FileFault::Field)),
+    ("65536", Some(FileFault::Field)),
+    ("1.0", Some(FileFault::Field)),
+    ("1e0", Some(FileFault::Field)),
+    ("-0", Some(FileFault::Field)),
+    ("18446744073709551616", Some(FileFault::Field)),
+];
 
 #[test]
 fn ports_are_whole_numbers_from_1_to_65535(rt: HostRuntime) -> Result<(), Fail> {
-    for (name, _) in MEMBERS.into_iter().skip(4) {
-        for value in ["1", "65535"] {
-            expect(&rt, name, value, None)?;
-        }
-        for value in ["0", "65536", "1.0", "1e0", "-0", "18446744073709551616"] {
-            expect(&rt, name, value, Some(FileFault::Field))?;
+    for (name, _) in &MEMBERS[4..] {
+        for (value, fault) in &PORTS {
+            expect(&rt, name, value, *fault)?;
         }
     }
     Ok(())
 }
+
+const ADDRESSES: [(&str, Option<FileFault>); 12] = [
+    ("\"0.0.0.0\"", None),
+    ("\"255.255.255.255\"", None),
+    ("\"10.0.0.7\"", None),
+    ("\"127.0.0.01\"", Some(FileFault::Field)),
+    ("\"127.0.0\"", Some(FileFault::Field)),
+    ("\"127.0.0.1.1\"", Some(FileFault::Field)),
+    ("\"256.0.0.1\"", Some(FileFault::Field)),
+    ("\" 127.0.0.1\"", Some(FileFault::Field)),
+    ("\"localhost\"", Some(FileFault::Field)),
+    ("\"::1\"", Some(FileFault::Field)),
+    ("\"*\"", Some(FileFault::Field)),
+    ("2130706433", Some(FileFault::Field)),
+];
 
 #[test]
 fn addresses_are_four_decimals(rt: HostRuntime) -> Result<(), Fail> {
-    for value in ["\"0.0.0.0\"", "\"255.255.255.255\"", "\"10.0.0.7\""] {
-        expect(&rt, "ip", value, None)?;
-    }
-    for value in [
-        "\"127.0.0.01\"",
-        "\"127.0.0\"",
-        "\"127.0.0.1.1\"",
-        "\"256.0.0.1\"",
-        "\" 127.0.0.1\"",
-        "\"localhost\"",
-        "\"::1\"",
-        "\"*\"",
-        "2130706433",
-    ] {
-        expect(&rt, "ip", value, Some(FileFault::Field))?;
+    for (value, fault) in &ADDRESSES {
+        expect(&rt, "ip", value, *fault)?;
     }
     Ok(())
 }
 
-#[test]
-fn keys_may_be_empty_and_schemes_may_not(rt: HostRuntime) -> Result<(), Fail> {
-    expect(&rt, "key", "\"\"", None)?;
-    expect(&rt, "signature_scheme", "\"\"", Some(FileFault::Field))?;
-    expect(
-        &rt,
+const KEYS_AND_SCHEMES: [(&str, &str, Option<FileFault>); 5] = [
+    ("key", "\"\"", None),
+    ("signature_scheme", "\"\"", Some(FileFault::Field)),
+    (
         "signature_scheme",
         "\"hmac-sha512\"",
         Some(FileFault::Field),
-    )?;
-    expect(&rt, "transport", "\"ipc\"", Some(FileFault::Field))?;
-    expect(&rt, "transport", "\"TCP\"", Some(FileFault::Field))
-}
+    ),
+    ("transport", "\"ipc\"", Some(FileFault::Field)),
+    ("transport", "\"TCP\"", Some(FileFault::Field)),
+];
 
 #[test]
-fn bytes_that_are_no_json(rt: HostRuntime) -> Result<(), Fail> {
-    for text in ["", "[", "{", "{\"ip\":}", "\u{feff}{}", "{} {}", "nil"] {
-        let found = fault_of(ConnectionFile::read(rt.alloc(), text.as_bytes()));
-        assert!(rt; found == Some(FileFault::Json), "{text}");
-    }
-    let found = fault_of(ConnectionFile::read(rt.alloc(), b"{\"ip\":\"\xff\"}"));
-    assert!(rt; found == Some(FileFault::Json));
-    for text in ["{}", "[]", "7", "null", "\"ip\""] {
-        let found = fault_of(ConnectionFile::read(rt.alloc(), text.as_bytes()));
-        assert!(rt; found == Some(FileFault::Field), "{text}");
+fn keys_may_be_empty_and_schemes_may_not(rt: HostRuntime) -> Result<(), Fail> {
+    for (name, value, fault) in &KEYS_AND_SCHEMES {
+        expect(&rt, name, value, *fault)?;
     }
     Ok(())
+}
+
+// Bytes that are no JSON, and JSON that is no connection file.
+const BYTES: [(&[u8], FileFault); 13] = [
+    (b"", FileFault::Json),
+    (b"[", FileFault::Json),
+    (b"{", FileFault::Json),
+    (b"{\"ip\":}", FileFault::Json),
+    (b"\xef\xbb\xbf{}", FileFault::Json),
+    (b"{} {}", FileFault::Json),
+    (b"nil", FileFault::Json),
+    (b"{\"ip\":\"\xff\"}", FileFault::Json),
+    (b"{}", FileFault::Field),
+    (b"[]", FileFault::Field),
+    (b"7", FileFault::Field),
+    (b"null", FileFault::Field),
+    (b"\"ip\"", FileFault::Field),
+];
+
+#[test]
+fn bytes_that_are_no_json(rt: HostRuntime) {
+    for (place, (bytes, fault)) in BYTES.iter().enumerate() {
+        let found = reading_fault(rt.alloc(), bytes);
+        assert!(rt; found == Some(*fault), "row {place}");
+    }
 }

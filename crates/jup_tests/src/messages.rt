@@ -1,5 +1,6 @@
 //! RFC 4231's vectors, and frames as Jupyter messaging 5.4 lays them out.
 use base_text::sequence::{Bytes, Frames};
+use base_text::text::Text;
 use jup_wire::message::{Message, WireFault};
 use jup_wire::opening::open_message;
 use jup_wire::sealing::{Draft, seal_message};
@@ -35,40 +36,42 @@ fn frames(alloc: Global, texts: &[&str]) -> Result<Frames, AllocError> {
 }
 
 // The fault of the frames, or None where they open. Out of memory fails the test.
-fn fault_of(opened: Result<Message, WireFault>) -> Result<Option<WireFault>, Fail> {
+fn fault_of(opened: &Result<Message, WireFault>) -> Result<Option<WireFault>, Fail> {
     match opened {
         Ok(_) => Ok(None),
         Err(WireFault::OutOfMemory) => Err(Fail::new("out of memory")),
-        Err(fault) => Ok(Some(fault)),
+        Err(fault) => Ok(Some(*fault)),
     }
 }
 
-fn expect_fault(
-    rt: &(impl Abort + AllocGlobal),
-    key: &str,
-    texts: &[&str],
-    fault: Option<WireFault>,
-) -> Result<(), Fail> {
-    let all = frames(rt.alloc(), texts)?;
-    let found = fault_of(open_message(rt.alloc(), all, key.as_bytes()))?;
-    assert!(rt; found == fault, "{texts:?}");
-    Ok(())
+fn opening_fault(alloc: Global, all: Frames, key: &str) -> Result<Option<WireFault>, Fail> {
+    let opened = open_message(alloc, all, key.as_bytes());
+    let fault = fault_of(&opened);
+    drop(opened);
+    fault
 }
 
-fn expect_signature(
-    rt: &(impl Abort + AllocGlobal),
-    key: &[u8],
-    data: &[u8],
-    digits: &str,
-) -> Result<(), Fail> {
-    let mut all = Vec::new(rt.alloc());
-    all.push(Bytes::from(Vec::from_slice(rt.alloc(), data)?))?;
-    let text = sign(rt.alloc(), key, all.as_slice())?;
-    assert!(rt;
-        text.as_str().len() == 64 && text.as_str().starts_with(digits),
-        "{digits}"
-    );
-    Ok(())
+fn fault_in(alloc: Global, key: &str, texts: &[&str]) -> Result<Option<WireFault>, Fail> {
+    let all = frames(alloc, texts)?;
+    opening_fault(alloc, all, key)
+}
+
+fn only(alloc: Global, data: &[u8]) -> Result<Frames, AllocError> {
+    let mut all = Frames::new(alloc);
+    all.push(Bytes::copy_of(alloc, data)?)?;
+    Ok(all)
+}
+
+fn signature(alloc: Global, key: &[u8], data: &[u8]) -> Result<Text, AllocError> {
+    let all = only(alloc, data)?;
+    let text = sign(alloc, key, all.as_slice());
+    drop(all);
+    text
+}
+
+fn has_signature(alloc: Global, key: &[u8], data: &[u8], digits: &str) -> Result<bool, AllocError> {
+    let text = signature(alloc, key, data)?;
+    Ok(text.as_str().len() == 64 && text.as_str().starts_with(digits))
 }
 
 // Keys, data, and the digits that their signature begins with: RFC 4231's seven, of the fifth 128 bits.
@@ -108,14 +111,14 @@ The key needs to be hashed before being used by the HMAC algorithm.",
 ];
 
 #[test]
-fn signs_the_vectors_of_rfc_4231(rt: HostRuntime) -> Result<(), Fail> {
-    for (key, data, digits) in VECTORS {
-        expect_signature(&rt, key, data, digits)?;
+fn signs_the_vectors_of_rfc_4231(rt: HostRuntime) -> Result<(), AllocError> {
+    for (key, data, digits) in &VECTORS {
+        assert!(rt; has_signature(rt.alloc(), key, data, digits)?, "{digits}");
     }
     Ok(())
 }
 
-fn expect_seal(rt: &(impl Abort + AllocGlobal), seal: &str, fault: WireFault) -> Result<(), Fail> {
+fn fault_under(alloc: Global, seal: &str) -> Result<Option<WireFault>, Fail> {
     let texts = [
         "<IDS|MSG>",
         seal,
@@ -124,7 +127,7 @@ fn expect_seal(rt: &(impl Abort + AllocGlobal), seal: &str, fault: WireFault) ->
         "for ",
         "nothing?",
     ];
-    expect_fault(rt, "Jefe", texts.as_slice(), Some(fault))
+    fault_in(alloc, "Jefe", texts.as_slice())
 }
 
 const SEALS: [(&str, WireFault); 4] = [
@@ -134,18 +137,29 @@ const SEALS: [(&str, WireFault); 4] = [
     (DIGITS, WireFault::Json),
 ];
 
+// The signature with another digit in a place.
+fn altered(alloc: Global, place: usize) -> Result<String, AllocError> {
+    let mut seal = String::new(alloc);
+    for (at, digit) in DIGITS.chars().enumerate() {
+        let other = if digit == '4' { '3' } else { '4' };
+        seal.push(if at == place { other } else { digit })?;
+    }
+    Ok(seal)
+}
+
+fn fault_of_altered(alloc: Global, place: usize) -> Result<Option<WireFault>, Fail> {
+    let seal = altered(alloc, place)?;
+    fault_under(alloc, seal.as_str())
+}
+
 #[test]
 fn each_digit_of_a_signature_counts(rt: HostRuntime) -> Result<(), Fail> {
-    for i in 0..64usize {
-        let mut seal = String::new(rt.alloc());
-        for (at, digit) in DIGITS.chars().enumerate() {
-            let other = if digit == '4' { '3' } else { '4' };
-            seal.push(if at == i { other } else { digit })?;
-        }
-        expect_seal(&rt, seal.as_str(), WireFault::Signature)?;
+    for place in 0..64usize {
+        let found = fault_of_altered(rt.alloc(), place)?;
+        assert!(rt; found == Some(WireFault::Signature), "digit {place}");
     }
-    for (seal, fault) in SEALS {
-        expect_seal(&rt, seal, fault)?;
+    for (seal, fault) in &SEALS {
+        assert!(rt; fault_under(rt.alloc(), seal)? == Some(*fault), "{seal}");
     }
     Ok(())
 }
@@ -183,20 +197,15 @@ const MESSAGES: [(&str, &[&str], Option<WireFault>); 7] = [
 
 #[test]
 fn refuses_in_order(rt: HostRuntime) -> Result<(), Fail> {
-    for (key, texts, fault) in MESSAGES {
-        expect_fault(&rt, key, texts, fault)?;
+    for (place, (key, texts, fault)) in MESSAGES.iter().enumerate() {
+        assert!(rt; fault_in(rt.alloc(), key, texts)? == *fault, "row {place}");
     }
     Ok(())
 }
 
-fn expect_unsigned(
-    rt: &(impl Abort + AllocGlobal),
-    header: &str,
-    content: &str,
-    fault: Option<WireFault>,
-) -> Result<(), Fail> {
+fn fault_unsigned(alloc: Global, header: &str, content: &str) -> Result<Option<WireFault>, Fail> {
     let texts = ["<IDS|MSG>", "", header, "{}", "{}", content];
-    expect_fault(rt, "", texts.as_slice(), fault)
+    fault_in(alloc, "", texts.as_slice())
 }
 
 // Headers, contents, and their fault. Of a key that comes twice the last value counts.
@@ -233,8 +242,9 @@ const UNSIGNED: [(&str, &str, Option<WireFault>); 12] = [
 
 #[test]
 fn refuses_what_is_no_json_or_no_header(rt: HostRuntime) -> Result<(), Fail> {
-    for (header, content, fault) in UNSIGNED {
-        expect_unsigned(&rt, header, content, fault)?;
+    for (header, content, fault) in &UNSIGNED {
+        let found = fault_unsigned(rt.alloc(), header, content)?;
+        assert!(rt; found == *fault, "{header} {content}");
     }
     Ok(())
 }
@@ -253,7 +263,8 @@ fn header_with_id_of(alloc: Global, length: usize) -> Result<String, AllocError>
 fn a_header_text_may_be_long(rt: HostRuntime) -> Result<(), Fail> {
     for length in [300, 70_000] {
         let header = header_with_id_of(rt.alloc(), length)?;
-        expect_unsigned(&rt, header.as_str(), "{}", None)?;
+        let found = fault_unsigned(rt.alloc(), header.as_str(), "{}")?;
+        assert!(rt; found == None, "a msg_id of {length} bytes");
     }
     Ok(())
 }
@@ -278,18 +289,26 @@ const DEPTHS: [(usize, Option<WireFault>); 3] = [
 
 #[test]
 fn opens_127_levels_and_no_more(rt: HostRuntime) -> Result<(), Fail> {
-    for (depth, fault) in DEPTHS {
-        let content = nested(rt.alloc(), depth)?;
-        expect_unsigned(&rt, HEADER, content.as_str(), fault)?;
+    for (depth, fault) in &DEPTHS {
+        let content = nested(rt.alloc(), *depth)?;
+        let found = fault_unsigned(rt.alloc(), HEADER, content.as_str())?;
+        assert!(rt; found == *fault, "{depth} levels");
     }
     Ok(())
 }
 
-fn expect_frames(rt: &impl Abort, all: &Frames, texts: &[&str]) {
-    assert!(rt; all.as_slice().len() == texts.len());
-    for (frame, text) in all.as_slice().iter().zip(texts.iter()) {
-        assert!(rt; frame.as_slice() == text.as_bytes(), "{text}");
+fn are_frames(all: &[Bytes], texts: &[&str]) -> bool {
+    for (place, frame) in all.iter().enumerate() {
+        match texts.get(place) {
+            Some(text) if frame.as_slice() == text.as_bytes() => {}
+            _ => return false,
+        }
     }
+    all.len() == texts.len()
+}
+
+fn code_of(content: &Value) -> Option<&str> {
+    content.get("code")?.as_str()
 }
 
 fn expect_message(rt: &impl Abort, message: &Message) {
@@ -299,8 +318,7 @@ fn expect_message(rt: &impl Abort, message: &Message) {
     assert!(rt; message.header.msg_id.as_str() == "1");
     assert!(rt; message.header.msg_type.as_str() == "execute_request");
     assert!(rt; message.header.session.as_str() == "s");
-    let code = message.content.get("code").and_then(Value::as_str);
-    assert!(rt; code.unwrap_or("") == "HLT");
+    assert!(rt; code_of(&message.content) == Some("HLT"));
 }
 
 #[test]
@@ -320,28 +338,39 @@ fn a_message_keeps_its_frames(rt: HostRuntime) -> Result<(), Fail> {
     let all = frames(rt.alloc(), texts.as_slice())?;
     let message = open_message(rt.alloc(), all, b"secret")?;
     expect_message(&rt, &message);
-    expect_frames(&rt, &message.parts.identities, ["a", "b"].as_slice());
+    assert!(rt; are_frames(message.parts.identities.as_slice(), &["a", "b"]));
+    drop(message);
     Ok(())
 }
 
-fn draft(alloc: Global, identity: &str) -> Result<Draft, Fail> {
+fn value(rt: &impl Abort, alloc: Global, text: &str) -> Value {
+    Value::from_str(alloc, text).expect(rt, "a value")
+}
+
+fn draft(rt: &impl Abort, alloc: Global, identity: &str) -> Draft {
     let header = "{\"version\": \"5.4\", \"username\": \"kernel\", \"session\": \"S\", \
 \"msg_type\": \"status\", \"msg_id\": \"S_1\", \"date\": \"2000-02-29T00:00:00Z\"}";
-    Ok(Draft {
-        identities: frames(alloc, [identity].as_slice())?,
-        header: Value::from_str(alloc, header)?,
-        parent_header: Bytes::from(Vec::from_slice(alloc, b"{}")?),
-        metadata: Value::from_str(alloc, "{}")?,
-        content: Value::from_str(alloc, "{\"execution_state\": \"idle\"}")?,
-    })
+    Draft {
+        identities: only(alloc, identity.as_bytes()).expect(rt, "memory"),
+        header: value(rt, alloc, header),
+        parent_header: Bytes::copy_of(alloc, b"{}").expect(rt, "memory"),
+        metadata: value(rt, alloc, "{}"),
+        content: value(rt, alloc, "{\"execution_state\": \"idle\"}"),
+    }
+}
+
+fn sealed(rt: &impl Abort, alloc: Global, identity: &str, key: &str) -> Frames {
+    let draft = draft(rt, alloc, identity);
+    let frames = seal_message(alloc, draft, key.as_bytes());
+    frames.expect(rt, "memory")
 }
 
 fn expect_sealed(rt: &(impl Abort + AllocGlobal), key: &str, signature: &str) -> Result<(), Fail> {
-    let sealed = seal_message(rt.alloc(), draft(rt.alloc(), "status")?, key.as_bytes())?;
+    let sealed = sealed(rt, rt.alloc(), "status", key);
     let texts = ["status", "<IDS|MSG>", signature, STATUS, "{}", "{}", IDLE];
-    expect_frames(rt, &sealed, texts.as_slice());
-    let found = fault_of(open_message(rt.alloc(), sealed, key.as_bytes()))?;
-    assert!(rt; found == None);
+    assert!(rt; are_frames(sealed.as_slice(), &texts), "{key}");
+    let found = opening_fault(rt.alloc(), sealed, key)?;
+    assert!(rt; found == None, "{key}");
     Ok(())
 }
 
@@ -349,8 +378,8 @@ fn expect_sealed(rt: &(impl Abort + AllocGlobal), key: &str, signature: &str) ->
 fn seals_what_opens_again(rt: HostRuntime) -> Result<(), Fail> {
     expect_sealed(&rt, "", "")?;
     expect_sealed(&rt, "secret", STATUS_SEAL)?;
-    let sealed = seal_message(rt.alloc(), draft(rt.alloc(), "<IDS|MSG>")?, b"secret")?;
-    let found = fault_of(open_message(rt.alloc(), sealed, b"secret"))?;
+    let sealed = sealed(&rt, rt.alloc(), "<IDS|MSG>", "secret");
+    let found = opening_fault(rt.alloc(), sealed, "secret")?;
     assert!(rt; found == Some(WireFault::Signature));
     Ok(())
 }

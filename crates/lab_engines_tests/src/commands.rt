@@ -1,7 +1,6 @@
 //! What the words of the command line ask for, the exit numbers, and a writer that can't be flushed.
-use base_streams::std_io::{StdInlet, StdOutlet};
+use crate::words::Word;
 use lab_engines::command::{Command, read_command};
-use lab_engines::step::run_step;
 use lab_io::report::flushed;
 use lab_io::status::Status;
 use std::alloc::{AllocError, Global};
@@ -37,24 +36,39 @@ fn words_of(alloc: Global, text: &str) -> Result<Vec<String>, AllocError> {
     Ok(words)
 }
 
-#[test]
-fn words_ask_for_engines(rt: HostRuntime) -> Result<(), AllocError> {
-    for (text, command) in ROWS {
-        let words = words_of(rt.alloc(), text)?;
-        assert!(rt; read_command(&words) == command, "{text}");
-    }
-    let none = Vec::new(rt.alloc());
-    assert!(rt; read_command(&none) == None);
-    Ok(())
+fn asks_for(
+    alloc: Global,
+    text: &str,
+    command: Option<Command<'static>>,
+) -> Result<bool, AllocError> {
+    let words = words_of(alloc, text)?;
+    let is_asked = read_command(&words) == command;
+    drop(words);
+    Ok(is_asked)
 }
 
 #[test]
+fn words_ask_for_engines(rt: HostRuntime) -> Result<(), AllocError> {
+    for (text, command) in &ROWS {
+        assert!(rt; asks_for(rt.alloc(), text, *command)?, "{text}");
+    }
+    assert!(rt; read_command(&[]).is_none(), "no words");
+    Ok(())
+}
+
+const NUMBERS: [(Status, u8); 5] = [
+    (Status::Success, 0),
+    (Status::Refused, 1),
+    (Status::Usage, 2),
+    (Status::OutOfMemory, 3),
+    (Status::Failed, 4),
+];
+
+#[test]
 fn statuses_have_their_numbers(rt: HostRuntime) {
-    assert_eq!(rt; Status::Success.number(), 0);
-    assert_eq!(rt; Status::Refused.number(), 1);
-    assert_eq!(rt; Status::Usage.number(), 2);
-    assert_eq!(rt; Status::OutOfMemory.number(), 3);
-    assert_eq!(rt; Status::Failed.number(), 4);
+    for (status, number) in &NUMBERS {
+        assert!(rt; status.number() == *number, "{number}");
+    }
 }
 
 /// A writer that takes everything and fails when it is flushed.
@@ -73,11 +87,9 @@ impl Write for Unflushed {
 
 #[test]
 fn a_writer_that_cannot_be_flushed_has_failed(rt: HostRuntime) {
-    let mut input = StdInlet::new(b"76".as_slice());
-    let mut output = StdOutlet::new(Unflushed);
-    let status = run_step(rt.alloc(), &mut input, &mut output);
+    let (status, mut writer) = Word::Step.run(rt.alloc(), b"76".as_slice(), Unflushed);
     assert!(rt; status == Status::Success);
-    assert!(rt; flushed(status, &mut output.into_inner()) == Status::Failed);
+    assert!(rt; flushed(status, &mut writer) == Status::Failed);
 }
 
 #[test]

@@ -3,7 +3,6 @@ use crate::words::Word;
 use base_streams::fakes::{Narrow, Slow};
 use lab_io::status::Status;
 use std::alloc::{AllocError, Global};
-use std::test::Fail;
 
 const SUM: &str = "PC=0002 A=6C F=02 B=00 C=00 D=00 E=00 H=00 L=00 SP=0000
 PC=0004 A=6C F=02 B=2E C=00 D=00 E=00 H=00 L=00 SP=0000
@@ -140,40 +139,63 @@ const REFUSALS: [(Word, &str, &str); 24] = [
     (Word::Dis(0), "3", "bad hex\n"),
 ];
 
+fn is_told(alloc: Global, word: Word, input: &[u8], wanted: Status, text: &[u8]) -> bool {
+    let (status, written) = word.run(alloc, input, Vec::new(alloc));
+    status == wanted && written.as_slice() == text
+}
+
 #[test]
 fn each_input_has_its_text(rt: HostRuntime) {
-    for (word, input, text) in ANSWERS {
-        let written = Vec::new(rt.alloc());
-        let (status, written) = word.run(rt.alloc(), input.as_bytes(), written);
-        assert_eq!(rt; status, Status::Success, "{input}");
-        assert_eq!(rt; written.as_slice(), text.as_bytes(), "{input}");
+    for (word, input, text) in &ANSWERS {
+        let is_told = is_told(
+            rt.alloc(),
+            *word,
+            input.as_bytes(),
+            Status::Success,
+            text.as_bytes(),
+        );
+        assert!(rt; is_told, "{input}");
     }
 }
 
 #[test]
 fn a_refused_input_has_one_line(rt: HostRuntime) {
-    for (word, input, line) in REFUSALS {
-        let written = Vec::new(rt.alloc());
-        let (status, written) = word.run(rt.alloc(), input.as_bytes(), written);
-        assert_eq!(rt; status, Status::Refused, "{input}");
-        assert_eq!(rt; written.as_slice(), line.as_bytes(), "{input}");
+    for (word, input, line) in &REFUSALS {
+        let is_told = is_told(
+            rt.alloc(),
+            *word,
+            input.as_bytes(),
+            Status::Refused,
+            line.as_bytes(),
+        );
+        assert!(rt; is_told, "{input}");
     }
 }
 
+const NO_UTF8: [&[u8]; 3] = [b"\xff", b"\x80", b"\xc3"];
+
 #[test]
 fn what_is_not_utf8_is_bad_text(rt: HostRuntime) {
-    for input in [b"\xff", b"\x80", b"\xc3"] {
-        let written = Vec::new(rt.alloc());
-        let (status, written) = Word::Asm.run(rt.alloc(), input.as_slice(), written);
-        assert_eq!(rt; status, Status::Refused);
-        assert_eq!(rt; written.as_slice(), b"bad text\n".as_slice());
+    for (place, input) in NO_UTF8.iter().enumerate() {
+        let is_told = is_told(rt.alloc(), Word::Asm, input, Status::Refused, b"bad text\n");
+        assert!(rt; is_told, "row {place}");
     }
 }
 
 /// A word, a piece of input and how often it comes, what follows; the answer's status, how many lines
 /// it has, and how it ends.
+type Long = (
+    Word,
+    &'static [u8],
+    u32,
+    &'static [u8],
+    Status,
+    usize,
+    &'static str,
+);
+
 #[rattlefmt::skip]
-const LONG: [(Word, &[u8], u32, &[u8], Status, usize, &str); 17] = [
+const LONG: [Long; 17] = [
     (
         Word::Step,
         b"",
@@ -344,138 +366,169 @@ fn repeated(alloc: Global, piece: &[u8], count: u32, tail: &[u8]) -> Result<Vec<
     Ok(bytes)
 }
 
-fn is_answered(
-    alloc: Global,
-    row: (Word, &[u8], u32, &[u8], Status, usize, &str),
-) -> Result<bool, AllocError> {
-    let (word, piece, count, tail, status, lines, end) = row;
+fn line_count(text: &[u8]) -> usize {
+    let mut count = 0usize;
+    for byte in text {
+        if *byte == b'\n' {
+            count = count.saturating_add(1);
+        }
+    }
+    count
+}
+
+fn is_answered(alloc: Global, row: &Long) -> Result<bool, AllocError> {
+    let (word, piece, count, tail, wanted, lines, end) = *row;
     let input = repeated(alloc, piece, count, tail)?;
-    let (answer, written) = word.run(alloc, input.as_slice(), Vec::new(alloc));
-    let ends = written.iter().filter(|byte| **byte == b'\n').count();
-    Ok(answer == status && ends == lines && written.ends_with(end.as_bytes()))
+    let (status, written) = word.run(alloc, input.as_slice(), Vec::new(alloc));
+    let found = line_count(written.as_slice());
+    Ok(status == wanted && found == lines && written.ends_with(end.as_bytes()))
 }
 
 #[test]
-fn long_inputs_are_answered_up_to_their_limits(rt: HostRuntime) -> Result<(), Fail> {
-    for row in LONG {
-        assert!(rt; is_answered(rt.alloc(), row)?, "{row:?}");
+fn long_inputs_are_answered_up_to_their_limits(rt: HostRuntime) -> Result<(), AllocError> {
+    for (place, row) in LONG.iter().enumerate() {
+        assert!(rt; is_answered(rt.alloc(), row)?, "row {place}");
     }
     Ok(())
 }
 
+const ENDS_AFTER_BLANKS: Long = (
+    Word::Step,
+    &BLANKS,
+    40_960,
+    b"76",
+    Status::Success,
+    2,
+    "PC=0001 A=00 F=02 B=00 C=00 D=00 E=00 H=00 L=00 SP=0000\nhalted\n",
+);
+
 #[test]
-fn blanks_of_five_mebibytes_are_passed_over(rt: HostRuntime) -> Result<(), Fail> {
-    let end = "PC=0001 A=00 F=02 B=00 C=00 D=00 E=00 H=00 L=00 SP=0000\nhalted\n";
-    let row = (
-        Word::Step,
-        BLANKS.as_slice(),
-        40_960,
-        b"76".as_slice(),
-        Status::Success,
-        2,
-        end,
-    );
-    assert!(rt; is_answered(rt.alloc(), row)?);
+fn blanks_of_five_mebibytes_are_passed_over(rt: HostRuntime) -> Result<(), AllocError> {
+    assert!(rt; is_answered(rt.alloc(), &ENDS_AFTER_BLANKS)?);
     Ok(())
 }
 
-#[test]
-fn bytes_of_five_mebibytes_are_past_the_end(rt: HostRuntime) -> Result<(), Fail> {
-    let row = (
+const PAST_THE_END: [Long; 2] = [
+    (
         Word::Step,
-        NOPS.as_slice(),
+        &NOPS,
         40_960,
-        b"".as_slice(),
+        b"",
         Status::Refused,
         1,
         "past end\n",
-    );
-    assert!(rt; is_answered(rt.alloc(), row)?);
-    let row = (
+    ),
+    (
         Word::Step,
-        NOPS.as_slice(),
+        &NOPS,
         40_960,
-        b"0".as_slice(),
+        b"0",
         Status::Refused,
         1,
         "bad hex\n",
-    );
-    assert!(rt; is_answered(rt.alloc(), row)?);
+    ),
+];
+
+#[test]
+fn bytes_of_five_mebibytes_are_past_the_end(rt: HostRuntime) -> Result<(), AllocError> {
+    for (place, row) in PAST_THE_END.iter().enumerate() {
+        assert!(rt; is_answered(rt.alloc(), row)?, "row {place}");
+    }
     Ok(())
+}
+
+fn is_read(alloc: Global, word: Word, reader: Slow<'_>, wanted: Status, text: &[u8]) -> bool {
+    let (status, written) = word.run(alloc, reader, Vec::new(alloc));
+    status == wanted && written.as_slice() == text
+}
+
+/// What follows one byte more than a text may have, the status, and the answer.
+const TAILS: [(&[u8], Status, &[u8]); 6] = [
+    (b";", Status::Failed, b""),
+    (b"\xe2\x82", Status::Failed, b""),
+    (b"\xff", Status::Refused, b"bad text\n"),
+    (b"\xe2\x28", Status::Refused, b"bad text\n"),
+    (b"\xe0\x9f", Status::Refused, b"bad text\n"),
+    (b"\xf4\x90", Status::Refused, b"bad text\n"),
+];
+
+fn is_tail_told(
+    alloc: Global,
+    tail: &[u8],
+    wanted: Status,
+    line: &[u8],
+) -> Result<bool, AllocError> {
+    let input = repeated(alloc, b";", 1_048_577, tail)?;
+    let reader = Slow {
+        rest: input.as_slice(),
+        piece: 4096,
+        is_interrupted: false,
+        fails: true,
+    };
+    Ok(is_read(alloc, Word::Asm, reader, wanted, line))
 }
 
 // The reader would fail behind the first byte that no text has there.
 #[test]
-fn bad_text_past_the_limit_is_told_at_once(rt: HostRuntime) -> Result<(), Fail> {
-    for (tail, status) in [
-        (b";".as_slice(), Status::Failed),
-        (b"\xe2\x82", Status::Failed),
-        (b"\xff", Status::Refused),
-        (b"\xe2\x28", Status::Refused),
-        (b"\xe0\x9f", Status::Refused),
-        (b"\xf4\x90", Status::Refused),
-    ] {
-        let input = repeated(rt.alloc(), b";", 1_048_577, tail)?;
-        let reader = Slow {
-            rest: input.as_slice(),
-            piece: 4096,
-            is_interrupted: false,
-            fails: true,
-        };
-        let written = Vec::new(rt.alloc());
-        let (answer, written) = Word::Asm.run(rt.alloc(), reader, written);
-        assert_eq!(rt; answer, status);
-        let line = if status == Status::Refused {
-            "bad text\n"
-        } else {
-            ""
-        };
-        assert_eq!(rt; written.as_slice(), line.as_bytes());
+fn bad_text_past_the_limit_is_told_at_once(rt: HostRuntime) -> Result<(), AllocError> {
+    for (place, (tail, status, line)) in TAILS.iter().enumerate() {
+        assert!(rt;
+            is_tail_told(rt.alloc(), tail, *status, line)?,
+            "row {place}"
+        );
     }
     Ok(())
 }
 
+/// A word, its input and its text.
+const PIECED: [(Word, &str, &str); 3] = [
+    (Word::Step, "3E 6C 06 2E 80 76\r\n", SUM),
+    (Word::Asm, FIVE, FIVE_ENDS),
+    (AT_100H, BYTES, LISTING),
+];
+
+fn is_read_in_pieces(alloc: Global, word: Word, input: &str, piece: usize, text: &str) -> bool {
+    let reader = Slow {
+        rest: input.as_bytes(),
+        piece,
+        is_interrupted: false,
+        fails: false,
+    };
+    is_read(alloc, word, reader, Status::Success, text.as_bytes())
+}
+
 #[test]
 fn pieces_and_interruptions_change_nothing(rt: HostRuntime) {
-    for (word, input, text) in [
-        (Word::Step, "3E 6C 06 2E 80 76\r\n", SUM),
-        (Word::Asm, FIVE, FIVE_ENDS),
-        (AT_100H, BYTES, LISTING),
-    ] {
+    for (word, input, text) in &PIECED {
         for piece in [1usize, 2, 7, 4096] {
-            let reader = Slow {
-                rest: input.as_bytes(),
-                piece,
-                is_interrupted: false,
-                fails: false,
-            };
-            let written = Vec::new(rt.alloc());
-            let (status, written) = word.run(rt.alloc(), reader, written);
-            assert_eq!(rt; status, Status::Success, "{piece}");
-            assert_eq!(rt; written.as_slice(), text.as_bytes(), "{piece}");
+            let is_read = is_read_in_pieces(rt.alloc(), *word, input, piece, text);
+            assert!(rt; is_read, "{input} in pieces of {piece}");
         }
     }
 }
 
+const FAILED: [(Word, &str); 5] = [
+    (Word::Step, "3E 6C"),
+    (Word::Asm, FIVE),
+    (Word::Asm, "DB 0100H"),
+    (Word::Asm, ""),
+    (AT_100H, BYTES),
+];
+
+fn writes_nothing(alloc: Global, word: Word, input: &str) -> bool {
+    let reader = Slow {
+        rest: input.as_bytes(),
+        piece: 2,
+        is_interrupted: false,
+        fails: true,
+    };
+    is_read(alloc, word, reader, Status::Failed, b"")
+}
+
 #[test]
 fn a_failed_read_writes_nothing(rt: HostRuntime) {
-    for (word, input) in [
-        (Word::Step, "3E 6C"),
-        (Word::Asm, FIVE),
-        (Word::Asm, "DB 0100H"),
-        (Word::Asm, ""),
-        (AT_100H, BYTES),
-    ] {
-        let reader = Slow {
-            rest: input.as_bytes(),
-            piece: 2,
-            is_interrupted: false,
-            fails: true,
-        };
-        let written = Vec::new(rt.alloc());
-        let (status, written) = word.run(rt.alloc(), reader, written);
-        assert_eq!(rt; status, Status::Failed, "{input}");
-        assert!(rt; written.is_empty(), "{input}");
+    for (word, input) in &FAILED {
+        assert!(rt; writes_nothing(rt.alloc(), *word, input), "{input}");
     }
 }
 
@@ -499,21 +552,28 @@ const ROOMS: [(Word, &str, &str, usize); 16] = [
     (AT_100H, BYTES, LISTING, LISTING.len()),
 ];
 
+fn is_front(status: Status, bytes: &[u8], text: &[u8], room: usize) -> bool {
+    let wanted = if room == text.len() {
+        Status::Success
+    } else {
+        Status::Failed
+    };
+    status == wanted && bytes.len() == room && text.starts_with(bytes)
+}
+
+fn leaves_a_front(alloc: Global, word: Word, input: &str, text: &str, room: usize) -> bool {
+    let writer = Narrow {
+        bytes: Vec::new(alloc),
+        room,
+    };
+    let (status, writer) = word.run(alloc, input.as_bytes(), writer);
+    is_front(status, writer.bytes.as_slice(), text.as_bytes(), room)
+}
+
 #[test]
 fn a_failed_write_leaves_a_front_of_the_text(rt: HostRuntime) {
-    for (word, input, text, room) in ROOMS {
-        let writer = Narrow {
-            bytes: Vec::new(rt.alloc()),
-            room,
-        };
-        let (status, writer) = word.run(rt.alloc(), input.as_bytes(), writer);
-        let wanted = if room == text.len() {
-            Status::Success
-        } else {
-            Status::Failed
-        };
-        assert_eq!(rt; status, wanted, "{room}");
-        assert_eq!(rt; writer.bytes.len(), room, "{room}");
-        assert!(rt; text.as_bytes().starts_with(&writer.bytes), "{room}");
+    for (word, input, text, room) in &ROOMS {
+        let is_front = leaves_a_front(rt.alloc(), *word, input, text, *room);
+        assert!(rt; is_front, "{input} with room for {room}");
     }
 }

@@ -1,12 +1,15 @@
 //! Short runs of events: what they answer, and what they leave.
 
+ghost use Rattle.std.specs.Prelude.{All};
+ghost use Rattle.lab_core.specs.Events.{Fits};
+
 use crate::script::{Step, play};
+use lab_core::answer::{Answers, EventsFault};
 use lab_core::event::Event;
 use lab_core::lab::Lab;
 use lab_core::laws::{applies_as_given, one_answer};
-use std::alloc::AllocError;
+use std::alloc::{AllocError, Global};
 use std::rt::HostRuntime;
-use std::test::Fail;
 
 #[test]
 fn laws_stand() {
@@ -15,7 +18,7 @@ fn laws_stand() {
 }
 
 #[test]
-fn a_cell_is_run_in_slices(rt: HostRuntime) -> Result<(), AllocError> {
+fn a_cell_is_run_in_slices(rt: HostRuntime) {
     const STEPS: [Step; 8] = [
         Step::Load("a", "X: MVI A,5\nHLT\nEND X"),
         Step::Slice(1),
@@ -36,11 +39,11 @@ refused: a program runs
 refused: no program runs
 refused: no program runs
 ";
-    play(&rt, rt.alloc(), &STEPS, wanted)
+    play(&rt, rt.alloc(), &STEPS, wanted);
 }
 
 #[test]
-fn an_undefined_opcode_ends_a_run(rt: HostRuntime) -> Result<(), AllocError> {
+fn an_undefined_opcode_ends_a_run(rt: HostRuntime) {
     const STEPS: [Step; 4] = [
         Step::Load("a", "DB 8\nEND 0"),
         Step::Start(0),
@@ -53,11 +56,11 @@ Started
 refused: a program runs
 0 End(Undefined { opcode: 8, pc: 0 })
 ";
-    play(&rt, rt.alloc(), &STEPS, wanted)
+    play(&rt, rt.alloc(), &STEPS, wanted);
 }
 
 #[test]
-fn a_run_waits_for_a_request(rt: HostRuntime) -> Result<(), AllocError> {
+fn a_run_waits_for_a_request(rt: HostRuntime) {
     const STEPS: [Step; 7] = [
         Step::Load("a", "EI\nHLT\nEND 0"),
         Step::Start(0),
@@ -76,12 +79,12 @@ Accepted
 1 More
 0038 FFFE Off 1
 ";
-    play(&rt, rt.alloc(), &STEPS, wanted)
+    play(&rt, rt.alloc(), &STEPS, wanted);
 }
 
 // Of a run without a debugger, only that it halted is seen after the last step of a slice.
 #[test]
-fn other_reasons_wait_for_the_next_slice(rt: HostRuntime) -> Result<(), AllocError> {
+fn other_reasons_wait_for_the_next_slice(rt: HostRuntime) {
     const STEPS: [Step; 9] = [
         Step::Load("a", "HLT\nEI\nHLT\nNOP\nDB 8"),
         Step::Start(0),
@@ -104,11 +107,11 @@ Started
 1 More
 0 End(Undefined { opcode: 8, pc: 4 })
 ";
-    play(&rt, rt.alloc(), &STEPS, wanted)
+    play(&rt, rt.alloc(), &STEPS, wanted);
 }
 
 #[test]
-fn a_slice_tells_its_traffic(rt: HostRuntime) -> Result<(), AllocError> {
+fn a_slice_tells_its_traffic(rt: HostRuntime) {
     const STEPS: [Step; 10] = [
         Step::Load("a", "IN 1\nOUT 2\nIN 2\nHLT"),
         Step::Typed("A"),
@@ -133,11 +136,11 @@ Reset
 00
 00
 ";
-    play(&rt, rt.alloc(), &STEPS, wanted)
+    play(&rt, rt.alloc(), &STEPS, wanted);
 }
 
 #[test]
-fn a_call_is_live_until_its_return(rt: HostRuntime) -> Result<(), AllocError> {
+fn a_call_is_live_until_its_return(rt: HostRuntime) {
     const STEPS: [Step; 9] = [
         Step::Load("a", "ORG 0100H\nCALL 01234H\nORG 01234H\nRET"),
         Step::Start(0x0100),
@@ -160,11 +163,11 @@ FFFE 1234 0100
 1 More
 0103 0000 Off 0
 ";
-    play(&rt, rt.alloc(), &STEPS, wanted)
+    play(&rt, rt.alloc(), &STEPS, wanted);
 }
 
 #[test]
-fn a_request_waits_for_the_instruction_behind_ei(rt: HostRuntime) -> Result<(), AllocError> {
+fn a_request_waits_for_the_instruction_behind_ei(rt: HostRuntime) {
     const STEPS: [Step; 13] = [
         Step::Load("a", "EI\nNOP\nNOP"),
         Step::Press(8),
@@ -195,11 +198,11 @@ Started
 00
 02
 ";
-    play(&rt, rt.alloc(), &STEPS, wanted)
+    play(&rt, rt.alloc(), &STEPS, wanted);
 }
 
 #[test]
-fn texts_are_kept_under_their_paths(rt: HostRuntime) -> Result<(), AllocError> {
+fn texts_are_kept_under_their_paths(rt: HostRuntime) {
     const STEPS: [Step; 9] = [
         Step::Reset,
         Step::Load("b", "FOO"),
@@ -222,30 +225,45 @@ refused: the path has another text
 00 1 1 false
 00
 ";
-    play(&rt, rt.alloc(), &STEPS, wanted)
+    play(&rt, rt.alloc(), &STEPS, wanted);
 }
 
 #[test]
-fn as_many_texts_as_may_be_are_kept(rt: HostRuntime) -> Result<(), AllocError> {
+fn as_many_texts_as_may_be_are_kept(rt: HostRuntime) {
     const STEPS: [Step; 3] = [Step::Fill, Step::Load("y", ""), Step::Load("xx", "")];
     let wanted = "refused: there are 1,024 sources\nLoaded { start: None }\n";
-    play(&rt, rt.alloc(), &STEPS, wanted)
+    play(&rt, rt.alloc(), &STEPS, wanted);
+}
+
+fn answers_told(
+    alloc: Global,
+    answers: &Result<Answers, EventsFault>,
+) -> Result<String, AllocError> {
+    match answers {
+        Ok(answers) => format!(in alloc; "{answers:?}"),
+        Err(stopped) => format!(in alloc; "{stopped:?}"),
+    }
+}
+
+fn run_told(alloc: Global, lab: &mut Lab, events: &[Event]) -> Result<String, AllocError>
+    requires { All Fits events.now }
+{
+    let answers = lab.run(events);
+    let told = answers_told(alloc, &answers);
+    drop(answers);
+    told
 }
 
 #[test]
-fn events_are_run_in_turn(rt: HostRuntime) -> Result<(), Fail> {
-    let alloc = rt.alloc();
-    let mut lab = Lab::new(alloc)?;
+fn events_are_run_in_turn(rt: HostRuntime) -> Result<(), AllocError> {
     let events = [Event::Start(0xffff), Event::Slice(2), Event::Press(8)];
-    match lab.run(&events) {
-        Ok(answers) => {
-            let told = format!(in alloc; "{answers:?}")?;
-            let wanted =
-                "Sequence { items: [Ok(Started), Ok(Sliced { executed: 2, traffic: Sequence { items: [] }, \
+    let mut lab = Lab::new(rt.alloc()).expect(&rt, "memory");
+    let told = run_told(rt.alloc(), &mut lab, &events);
+    drop(lab);
+    drop(events);
+    let wanted =
+        "Sequence { items: [Ok(Started), Ok(Sliced { executed: 2, traffic: Sequence { items: [] }, \
                  outcome: More }), Err(Vector)] }";
-            assert_eq!(rt; told.as_str(), wanted);
-        }
-        Err(stopped) => assert!(rt; false, "{stopped:?}"),
-    }
+    assert_eq!(rt; told?.as_str(), wanted);
     Ok(())
 }

@@ -4,10 +4,11 @@ ghost use Rattle.lab_core.specs.Events.{Fits};
 
 use base_text::sequence::{Bytes, Sequence};
 use base_text::text::Text;
-use lab_core::answer::Answer;
+use lab_core::answer::{Answer, Breakpoint};
 use lab_core::event::{Event, Granularity, StepKind, StepRequest};
+use lab_core::fault::EventFault;
 use lab_core::lab::Lab;
-use lab_views::shown::{Shown, StackFrame};
+use lab_views::shown::{CodeLine, Shown, SourceBreakpoints, StackFrame, Variable};
 use lab_views::view::View;
 use std::alloc::{AllocError, Global};
 use std::process::Abort;
@@ -73,15 +74,12 @@ fn dump(alloc: Global, path: &str, text: &str) -> Result<Event, AllocError>
 fn set_breakpoints(alloc: Global, path: &str, lines: &[u32]) -> Result<Option<Event>, AllocError>
     ensures { IfOk result (λ event. IfSome event (λ event. Fits event)) }
 {
-    let path = Text::copy_of(alloc, path)?;
-    let mut all = Sequence::new(alloc);
-    for line in lines {
-        all.push(*line)?;
-    }
-    if all.len() > 256 {
+    let lines = Sequence::from(lines.to_vec(alloc)?);
+    if lines.len() > 256 {
         return Ok(None);
     }
-    Ok(Some(Event::SetBreakpoints { path, lines: all }))
+    let path = Text::copy_of(alloc, path)?;
+    Ok(Some(Event::SetBreakpoints { path, lines }))
 }
 
 fn view(alloc: Global, step: Step) -> Result<Option<View>, AllocError> {
@@ -133,61 +131,108 @@ fn event(alloc: Global, step: Step) -> Result<Option<Event>, AllocError>
     }))
 }
 
+fn put_registers(told: &mut String, lab: &Lab) -> Result<(), AllocError> {
+    let regs = lab.regs();
+    let live = lab.frames().len();
+    write!(
+        told,
+        "{:04X} {:04X} {:?} {live}\n",
+        regs.pc, regs.sp, regs.interrupts
+    )
+}
+
+fn put_newest(told: &mut String, lab: &Lab) -> Result<(), AllocError> {
+    match lab.frames().newest() {
+        Some(frame) => write!(
+            told,
+            "{:04X} {:04X} {:04X}\n",
+            frame.slot, frame.target, frame.site
+        ),
+        None => Ok(()),
+    }
+}
+
+fn put_byte(told: &mut String, lab: &Lab, address: u16) -> Result<(), AllocError> {
+    let byte = lab.peek(address);
+    match lab.origin_at(address) {
+        Some(origin) => write!(
+            told,
+            "{byte:02X} {} {} {}\n",
+            origin.source, origin.line, origin.is_first
+        ),
+        None => write!(told, "{byte:02X}\n"),
+    }
+}
+
 /// Adds what is looked at.
 fn show(lab: &Lab, step: Step, told: &mut String) -> Result<(), AllocError> {
     match step {
-        Step::Registers => {
-            let regs = lab.regs();
-            let live = lab.frames().len();
-            write!(
-                told,
-                "{:04X} {:04X} {:?} {live}\n",
-                regs.pc, regs.sp, regs.interrupts
-            )?
-        }
-        Step::Frame => {
-            if let Some(frame) = lab.frames().newest() {
-                write!(
-                    told,
-                    "{:04X} {:04X} {:04X}\n",
-                    frame.slot, frame.target, frame.site
-                )?
-            }
-        }
-        Step::Byte(address) => {
-            let byte = lab.peek(address);
-            write!(told, "{byte:02X}")?;
-            if let Some(origin) = lab.origin_at(address) {
-                write!(
-                    told,
-                    " {} {} {}",
-                    origin.source, origin.line, origin.is_first
-                )?
-            }
-            write!(told, "\n")?
-        }
-        Step::Lamps => write!(told, "{:02X}\n", lab.devices().lamps())?,
-        _ => {}
+        Step::Registers => put_registers(told, lab),
+        Step::Frame => put_newest(told, lab),
+        Step::Byte(address) => put_byte(told, lab, address),
+        Step::Lamps => write!(told, "{:02X}\n", lab.devices().lamps()),
+        _ => Ok(()),
     }
-    Ok(())
+}
+
+/// Loads a text under a path. Gives whether it was taken.
+pub fn load_text(alloc: Global, lab: &mut Lab, path: &str, text: &str) -> Result<bool, AllocError> {
+    let event = load(alloc, path, text)?;
+    let answer = lab.apply(&event);
+    drop(event);
+    let is_taken = answer.is_ok();
+    drop(answer);
+    Ok(is_taken)
 }
 
 fn fill(alloc: Global, lab: &mut Lab) -> Result<(), AllocError> {
     let mut path = String::new(alloc);
     for _ in 0..1024u16 {
         path.push_str("x")?;
-        let event = load(alloc, path.as_str(), "")?;
-        let _ = lab.apply(&event);
+        let _ = load_text(alloc, lab, path.as_str(), "")?;
     }
     Ok(())
 }
 
 fn put_frame(told: &mut String, frame: &StackFrame) -> Result<(), AllocError> {
-    write!(told, "{} {} {}", frame.id, frame.name.as_str(), frame.line)?;
-    if let Some(path) = &frame.source {
-        write!(told, " {}", path.as_str())?
+    match &frame.source {
+        Some(path) => write!(
+            told,
+            "{} {} {} {} {:04X}\n",
+            frame.id,
+            frame.name.as_str(),
+            frame.line,
+            path.as_str(),
+            frame.address
+        ),
+        None => write!(
+            told,
+            "{} {} {} {:04X}\n",
+            frame.id,
+            frame.name.as_str(),
+            frame.line,
+            frame.address
+        ),
     }
-    write!(told, " {:04X}\n", frame.address)
+}
+
+fn put_frames(told: &mut String, frames: &[StackFrame], total: u32) -> Result<(), AllocError> {
+    for frame in frames {
+        put_frame(told, frame)?;
+    }
+    write!(told, "of {total}\n")
+}
+
+fn put_variables(told: &mut String, variables: &[Variable]) -> Result<(), AllocError> {
+    for variable in variables {
+        write!(
+            told,
+            "{} {}\n",
+            variable.name.as_str(),
+            variable.value.as_str()
+        )?;
+    }
+    Ok(())
 }
 
 fn put_bytes(told: &mut String, bytes: &[u8]) -> Result<(), AllocError> {
@@ -197,35 +242,29 @@ fn put_bytes(told: &mut String, bytes: &[u8]) -> Result<(), AllocError> {
     Ok(())
 }
 
+fn put_code(told: &mut String, lines: &[CodeLine]) -> Result<(), AllocError> {
+    for line in lines {
+        write!(told, "{:04X} ", line.address)?;
+        put_bytes(told, line.bytes.as_slice())?;
+        write!(told, "{}\n", line.text.as_str())?;
+    }
+    Ok(())
+}
+
+fn put_lists(told: &mut String, lists: &[SourceBreakpoints]) -> Result<(), AllocError> {
+    for list in lists {
+        write!(told, "{} {:?}\n", list.path.as_str(), list.lines.as_slice())?;
+    }
+    Ok(())
+}
+
 // A line for each thing that is shown.
 fn put_shown(told: &mut String, shown: &Shown) -> Result<(), AllocError> {
     match shown {
-        Shown::Frames { frames, total } => {
-            for frame in frames.as_slice() {
-                put_frame(told, frame)?;
-            }
-            write!(told, "of {total}\n")
-        }
+        Shown::Frames { frames, total } => put_frames(told, frames.as_slice(), *total),
         Shown::Scopes => write!(told, "scopes\n"),
-        Shown::Variables(variables) => {
-            for variable in variables.as_slice() {
-                write!(
-                    told,
-                    "{} {}\n",
-                    variable.name.as_str(),
-                    variable.value.as_str()
-                )?;
-            }
-            Ok(())
-        }
-        Shown::Code(lines) => {
-            for line in lines.as_slice() {
-                write!(told, "{:04X} ", line.address)?;
-                put_bytes(told, line.bytes.as_slice())?;
-                write!(told, "{}\n", line.text.as_str())?;
-            }
-            Ok(())
-        }
+        Shown::Variables(variables) => put_variables(told, variables.as_slice()),
+        Shown::Code(lines) => put_code(told, lines.as_slice()),
         Shown::Source(text) => write!(told, "{}\n", text.as_str()),
         Shown::Info {
             is_attached,
@@ -233,24 +272,23 @@ fn put_shown(told: &mut String, shown: &Shown) -> Result<(), AllocError> {
             breakpoints,
         } => {
             write!(told, "attached {is_attached} stopped {is_stopped}\n")?;
-            for list in breakpoints.as_slice() {
-                write!(told, "{} {:?}\n", list.path.as_str(), list.lines.as_slice())?;
-            }
-            Ok(())
+            put_lists(told, breakpoints.as_slice())
         }
     }
+}
+
+fn put_lines(told: &mut String, lines: &[Breakpoint]) -> Result<(), AllocError> {
+    for line in lines {
+        write!(told, "line {} {}\n", line.line, line.is_verified)?;
+    }
+    Ok(())
 }
 
 // How many steps a slice made, how it ended and its traffic; what a view shows; or else the answer as it is.
 fn put_answer(told: &mut String, answer: &Answer) -> Result<(), AllocError> {
     match answer {
         Answer::Shown(shown) => put_shown(told, shown),
-        Answer::Breakpoints(lines) => {
-            for line in lines.as_slice() {
-                write!(told, "line {} {}\n", line.line, line.is_verified)?;
-            }
-            Ok(())
-        }
+        Answer::Breakpoints(lines) => put_lines(told, lines.as_slice()),
         Answer::Sliced {
             executed,
             traffic,
@@ -266,35 +304,41 @@ fn put_answer(told: &mut String, answer: &Answer) -> Result<(), AllocError> {
     }
 }
 
+fn put_told(told: &mut String, answer: &Result<Answer, EventFault>) -> Result<(), AllocError> {
+    match answer {
+        Ok(answer) => put_answer(told, answer),
+        Err(refused) => write!(told, "refused: {refused}\n"),
+    }
+}
+
+fn tell_event(lab: &mut Lab, event: Event, told: &mut String) -> Result<(), AllocError>
+    requires { Fits event }
+{
+    let answer = lab.apply(&event);
+    drop(event);
+    let put = put_told(told, &answer);
+    drop(answer);
+    put
+}
+
 /// Adds what a step answers.
 fn tell(alloc: Global, lab: &mut Lab, step: Step, told: &mut String) -> Result<(), AllocError> {
     if let Step::Fill = step {
         return fill(alloc, lab);
     }
     match event(alloc, step)? {
+        Some(event) => tell_event(lab, event, told),
         None => show(lab, step, told),
-        Some(event) => {
-            match lab.apply(&event) {
-                Ok(answer) => put_answer(told, &answer)?,
-                Err(refused) => write!(told, "refused: {refused}\n")?,
-            }
-            Ok(())
-        }
     }
 }
 
 /// Compares what the steps show on a new board with these lines.
-pub fn play(
-    rt: &impl Abort,
-    alloc: Global,
-    steps: &[Step],
-    wanted: &str,
-) -> Result<(), AllocError> {
-    let mut lab = Lab::new(alloc)?;
+pub fn play(rt: &impl Abort, alloc: Global, steps: &[Step], wanted: &str) {
+    let mut lab = Lab::new(alloc).expect(rt, "memory");
     let mut told = String::new(alloc);
     for step in steps {
-        tell(alloc, &mut lab, *step, &mut told)?;
+        tell(alloc, &mut lab, *step, &mut told).expect(rt, "memory");
     }
+    drop(lab);
     assert_eq!(rt; told.as_str(), wanted);
-    Ok(())
 }

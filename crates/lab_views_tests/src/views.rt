@@ -16,13 +16,12 @@ use lab_image::origins::Origins;
 use lab_sources::sources::{Source, Sources};
 use lab_views::fault::ViewFault;
 use lab_views::parts::Parts;
-use lab_views::shown::{Shown, Variable};
+use lab_views::shown::{CodeLine, Shown, SourceBreakpoints, StackFrame, Variable};
 use lab_views::view::View;
 use lab_views::views::{after_instructions, show};
 use std::alloc::{AllocError, Global};
 use std::process::Abort;
 use std::rt::HostRuntime;
-use std::test::Fail;
 
 /// What is asked.
 #[derive(Clone, Copy)]
@@ -42,7 +41,7 @@ struct Board {
     devices: Devices,
     frames: Frames,
     origins: Origins,
-    symbols: Symbols,
+    built: Built,
     sources: Sources,
     lists: Vec<BreakpointList>,
     is_stopped: bool,
@@ -50,31 +49,47 @@ struct Board {
 
 fn assembled(alloc: Global, text: &str) -> Result<Built, AsmFault> {
     let all = statements(alloc, text)?;
-    build(alloc, &all, &Symbols::new(alloc))
+    let none = Symbols::new(alloc);
+    let built = build(alloc, &all, &none);
+    drop(none);
+    drop(all);
+    built
 }
 
-/// A stopped board on which this text was loaded.
-fn loaded(rt: &impl Abort, alloc: Global, text: &str) -> Result<Board, AllocError> {
-    let built = assembled(alloc, text).expect(rt, "it assembles");
-    let mut machine = Machine::new(alloc)?;
-    let mut origins = Origins::new(alloc);
-    origins.load(&mut machine, 0, &built)?;
-    let mut sources = Sources::new(alloc)?;
-    sources.add(Source::copy_of(alloc, "a", text)?);
+/// A text under the path `a`.
+fn kept(rt: &impl Abort, alloc: Global, text: &str) -> Sources {
+    let mut sources = Sources::new(alloc).expect(rt, "memory");
+    let source = Source::copy_of(alloc, "a", text);
+    sources.add(source.expect(rt, "memory"));
+    sources
+}
+
+/// A breakpoint on line 2 of the first source.
+fn breakpoints(alloc: Global) -> Result<Vec<BreakpointList>, AllocError> {
     let mut lines = Sequence::new(alloc);
     lines.push(2)?;
     let mut lists = Vec::new(alloc);
     lists.push(BreakpointList { source: 0, lines })?;
-    Ok(Board {
+    Ok(lists)
+}
+
+/// A stopped board on which this text was loaded.
+fn loaded(rt: &impl Abort, alloc: Global, text: &str) -> Board {
+    let built = assembled(alloc, text).expect(rt, "it assembles");
+    let mut machine = Machine::new(alloc).expect(rt, "memory");
+    let mut origins = Origins::new(alloc);
+    let told = origins.load(&mut machine, 0, &built);
+    told.expect(rt, "memory");
+    Board {
         machine,
         devices: Devices::new(alloc),
-        frames: Frames::new(alloc)?,
+        frames: Frames::new(alloc).expect(rt, "memory"),
         origins,
-        symbols: built.symbols,
-        sources,
-        lists,
+        built,
+        sources: kept(rt, alloc, text),
+        lists: breakpoints(alloc).expect(rt, "memory"),
         is_stopped: true,
-    })
+    }
 }
 
 fn view(alloc: Global, ask: Ask) -> Result<View, AllocError> {
@@ -98,7 +113,7 @@ fn shown(alloc: Global, board: &Board, ask: Ask) -> Result<Shown, ViewFault> {
         devices: &board.devices,
         frames: &board.frames,
         origins: &board.origins,
-        symbols: &board.symbols,
+        symbols: &board.built.symbols,
         sources: &board.sources,
         breakpoints: board.lists.as_slice(),
         is_attached: false,
@@ -126,29 +141,50 @@ fn put_bytes(told: &mut String, bytes: &[u8]) -> Result<(), AllocError> {
     Ok(())
 }
 
+fn put_frame(told: &mut String, frame: &StackFrame) -> Result<(), AllocError> {
+    let path = match &frame.source {
+        Some(path) => path.as_str(),
+        None => "none",
+    };
+    write!(
+        told,
+        "{} {} {path} {} {:04X}\n",
+        frame.id,
+        frame.name.as_str(),
+        frame.line,
+        frame.address
+    )
+}
+
+fn put_frames(told: &mut String, frames: &[StackFrame], total: u32) -> Result<(), AllocError> {
+    for frame in frames {
+        put_frame(told, frame)?;
+    }
+    write!(told, "of {total}\n")
+}
+
+fn put_code(told: &mut String, lines: &[CodeLine]) -> Result<(), AllocError> {
+    for line in lines {
+        write!(told, "{:04X}", line.address)?;
+        put_bytes(told, line.bytes.as_slice())?;
+        write!(told, " {}\n", line.text.as_str())?;
+    }
+    Ok(())
+}
+
+fn put_lists(told: &mut String, lists: &[SourceBreakpoints]) -> Result<(), AllocError> {
+    for list in lists {
+        write!(told, "{} {:?}\n", list.path.as_str(), list.lines.as_slice())?;
+    }
+    Ok(())
+}
+
 fn put_shown(told: &mut String, shown: &Shown) -> Result<(), AllocError> {
     match shown {
-        Shown::Frames { frames, total } => {
-            for frame in frames.as_slice() {
-                let path = match &frame.source {
-                    Some(path) => path.as_str(),
-                    None => "none",
-                };
-                write!(told, "{} {} {path} ", frame.id, frame.name.as_str())?;
-                write!(told, "{} {:04X}\n", frame.line, frame.address)?;
-            }
-            write!(told, "of {total}\n")
-        }
+        Shown::Frames { frames, total } => put_frames(told, frames.as_slice(), *total),
         Shown::Scopes => write!(told, "scopes\n"),
         Shown::Variables(variables) => put_variables(told, variables.as_slice()),
-        Shown::Code(lines) => {
-            for line in lines.as_slice() {
-                write!(told, "{:04X}", line.address)?;
-                put_bytes(told, line.bytes.as_slice())?;
-                write!(told, " {}\n", line.text.as_str())?;
-            }
-            Ok(())
-        }
+        Shown::Code(lines) => put_code(told, lines.as_slice()),
         Shown::Source(text) => write!(told, "{}\n", text.as_str()),
         Shown::Info {
             is_attached,
@@ -156,171 +192,204 @@ fn put_shown(told: &mut String, shown: &Shown) -> Result<(), AllocError> {
             breakpoints,
         } => {
             write!(told, "{is_attached} {is_stopped}\n")?;
-            for list in breakpoints.as_slice() {
-                write!(told, "{} {:?}\n", list.path.as_str(), list.lines.as_slice())?;
-            }
-            Ok(())
+            put_lists(told, breakpoints.as_slice())
         }
     }
+}
+
+fn put_answer(told: &mut String, answer: &Result<Shown, ViewFault>) -> Result<(), AllocError> {
+    match answer {
+        Ok(shown) => put_shown(told, shown),
+        Err(refused) => write!(told, "refused: {refused}\n"),
+    }
+}
+
+/// Adds what is shown, or why not.
+fn tell(told: &mut String, alloc: Global, board: &Board, ask: Ask) -> Result<(), AllocError> {
+    let answer = shown(alloc, board, ask);
+    let put = put_answer(told, &answer);
+    drop(answer);
+    put
 }
 
 /// Compares what is shown, or why not, with these lines.
-fn compare(
-    rt: &impl Abort,
-    alloc: Global,
-    board: &Board,
-    asks: &[Ask],
-    wanted: &str,
-) -> Result<(), AllocError> {
+fn compare(rt: &impl Abort, alloc: Global, board: &Board, asks: &[Ask], wanted: &str) {
     let mut told = String::new(alloc);
     for ask in asks {
-        match shown(alloc, board, *ask) {
-            Ok(shown) => put_shown(&mut told, &shown)?,
-            Err(refused) => write!(told, "refused: {refused}\n")?,
-        }
+        tell(&mut told, alloc, board, *ask).expect(rt, "memory");
     }
     assert_eq!(rt; told.as_str(), wanted);
-    Ok(())
 }
 
-/// How many variables a view has.
-fn count(alloc: Global, board: &Board, ask: Ask) -> Option<usize> {
-    match shown(alloc, board, ask) {
+/// How many variables or lines a view has.
+fn length(answer: &Result<Shown, ViewFault>) -> Option<usize> {
+    match answer {
         Ok(Shown::Variables(variables)) => Some(variables.as_slice().len()),
         Ok(Shown::Code(lines)) => Some(lines.as_slice().len()),
         _ => None,
     }
 }
 
-#[test]
-fn registers_and_flags(rt: HostRuntime) -> Result<(), AllocError> {
-    let mut board = loaded(&rt, rt.alloc(), "")?;
-    for (interrupts, word) in [
-        (Interrupts::Off, "off"),
-        (Interrupts::Arming, "arming"),
-        (Interrupts::On, "on"),
-    ] {
-        board.machine.set_regs(Registers {
-            a: 0xab,
-            b: 1,
-            c: 2,
-            d: 3,
-            e: 4,
-            h: 5,
-            l: 0xff,
-            flags: Flags::new(true, false, true, false, true),
-            sp: 0xfffe,
-            pc: 0x0a1b,
-            interrupts,
-        });
-        let mut wanted = String::from_str(
-            rt.alloc(),
-            "A=0ABH B=001H C=002H D=003H E=004H H=005H L=0FFH SP=0FFFEH PC=00A1BH \n",
-        )?;
-        write!(wanted, "S=1 Z=0 AC=1 P=0 CY=1 INTE={word} \n")?;
-        let asks = [Ask::Variables(1, 7, 1), Ask::Variables(2, 7, 1)];
-        compare(&rt, rt.alloc(), &board, &asks, wanted.as_str())?;
+fn count(alloc: Global, board: &Board, ask: Ask) -> Option<usize> {
+    let answer = shown(alloc, board, ask);
+    let found = length(&answer);
+    drop(answer);
+    found
+}
+
+const INTERRUPTS: [(Interrupts, &str); 3] = [
+    (Interrupts::Off, "off"),
+    (Interrupts::Arming, "arming"),
+    (Interrupts::On, "on"),
+];
+
+fn registers(interrupts: Interrupts) -> Registers {
+    Registers {
+        a: 0xab,
+        b: 1,
+        c: 2,
+        d: 3,
+        e: 4,
+        h: 5,
+        l: 0xff,
+        flags: Flags::new(true, false, true, false, true),
+        sp: 0xfffe,
+        pc: 0x0a1b,
+        interrupts,
     }
-    Ok(())
+}
+
+/// The lines of the registers and of the flags, with this word for the interrupts.
+fn registers_told(alloc: Global, word: &str) -> Result<String, AllocError> {
+    format!(in alloc;
+        "A=0ABH B=001H C=002H D=003H E=004H H=005H L=0FFH SP=0FFFEH PC=00A1BH \n\
+S=1 Z=0 AC=1 P=0 CY=1 INTE={word} \n"
+    )
 }
 
 #[test]
-fn devices_and_references(rt: HostRuntime) -> Result<(), Fail> {
-    let mut board = loaded(&rt, rt.alloc(), "X SET 5\nLOOP: NOP")?;
-    let asks = [
-        Ask::Variables(3, 0, 0),
-        Ask::Variables(4, 0, 0),
-        Ask::Variables(0, 0, 0),
-        Ask::Variables(6, 0, 0),
-        Ask::Variables(u32::MAX, 0, 0),
-    ];
-    let wanted = "\
+fn registers_and_flags(rt: HostRuntime) {
+    let mut board = loaded(&rt, rt.alloc(), "");
+    let asks = [Ask::Variables(1, 7, 1), Ask::Variables(2, 7, 1)];
+    for (interrupts, word) in INTERRUPTS {
+        board.machine.set_regs(registers(interrupts));
+        let wanted = registers_told(rt.alloc(), word).expect(&rt, "memory");
+        compare(&rt, rt.alloc(), &board, &asks, wanted.as_str());
+    }
+    drop(board);
+}
+
+const REFERENCES: [Ask; 5] = [
+    Ask::Variables(3, 0, 0),
+    Ask::Variables(4, 0, 0),
+    Ask::Variables(0, 0, 0),
+    Ask::Variables(6, 0, 0),
+    Ask::Variables(u32::MAX, 0, 0),
+];
+
+const REFERENCES_TOLD: &str = "\
 switches=000H lamps=000H latched=none waiting=0 
 X=00005H LOOP=00000H 
 refused: there are the references 1 to 5
 refused: there are the references 1 to 5
 refused: there are the references 1 to 5
 ";
-    compare(&rt, rt.alloc(), &board, &asks, wanted)?;
-    board.devices.set_switches(0x5a);
-    board.devices.type_bytes(b"0123456789ab")?;
-    let _ = board.devices.press(7);
-    let wanted = "switches=05AH lamps=000H latched=7 waiting=12 \n";
-    compare(&rt, rt.alloc(), &board, &[Ask::Variables(3, 0, 0)], wanted)?;
-    Ok(())
-}
 
 #[test]
-fn counts_are_cut(rt: HostRuntime) -> Result<(), Fail> {
-    let mut text = String::new(rt.alloc());
+fn devices_and_references(rt: HostRuntime) {
+    let mut board = loaded(&rt, rt.alloc(), "X SET 5\nLOOP: NOP");
+    compare(&rt, rt.alloc(), &board, &REFERENCES, REFERENCES_TOLD);
+    board.devices.set_switches(0x5a);
+    let typed = board.devices.type_bytes(b"0123456789ab");
+    typed.expect(&rt, "memory");
+    let _ = board.devices.press(7);
+    let wanted = "switches=05AH lamps=000H latched=7 waiting=12 \n";
+    compare(&rt, rt.alloc(), &board, &[Ask::Variables(3, 0, 0)], wanted);
+    drop(board);
+}
+
+/// L0 to L299, each with its number as its value.
+fn labels(alloc: Global) -> Result<String, AllocError> {
+    let mut text = String::new(alloc);
     for n in 0..300u16 {
         write!(text, "L{n} EQU {n}\n")?;
     }
-    let board = loaded(&rt, rt.alloc(), text.as_str())?;
-    for (ask, wanted) in [
-        (Ask::Variables(4, 0, 0), 256),
-        (Ask::Variables(4, 0, 16), 16),
-        (Ask::Variables(4, 0, 256), 256),
-        (Ask::Variables(4, 0, 257), 256),
-        (Ask::Variables(4, 44, u32::MAX), 256),
-        (Ask::Variables(4, 45, u32::MAX), 255),
-        (Ask::Variables(4, 299, 5), 1),
-        (Ask::Variables(4, 300, 5), 0),
-        (Ask::Variables(4, u32::MAX, u32::MAX), 0),
-        (Ask::Variables(5, 0, 0), 16),
-        (Ask::Variables(5, 0, 256), 256),
-        (Ask::Variables(5, 0, 257), 256),
-        (Ask::Variables(5, 65_280, u32::MAX), 256),
-        (Ask::Variables(5, 65_281, u32::MAX), 255),
-        (Ask::Variables(5, 65_536, 0), 0),
-        (Ask::Variables(5, u32::MAX, u32::MAX), 0),
-        (Ask::Code(0xffff, 0), 0),
-        (Ask::Code(0xffff, 256), 256),
-        (Ask::Code(0xffff, u32::MAX), 256),
-    ] {
-        assert_eq!(rt; count(rt.alloc(), &board, ask), Some(wanted));
+    Ok(text)
+}
+
+/// What is asked, and how much is shown.
+const COUNTS: [(Ask, usize); 19] = [
+    (Ask::Variables(4, 0, 0), 256),
+    (Ask::Variables(4, 0, 16), 16),
+    (Ask::Variables(4, 0, 256), 256),
+    (Ask::Variables(4, 0, 257), 256),
+    (Ask::Variables(4, 44, u32::MAX), 256),
+    (Ask::Variables(4, 45, u32::MAX), 255),
+    (Ask::Variables(4, 299, 5), 1),
+    (Ask::Variables(4, 300, 5), 0),
+    (Ask::Variables(4, u32::MAX, u32::MAX), 0),
+    (Ask::Variables(5, 0, 0), 16),
+    (Ask::Variables(5, 0, 256), 256),
+    (Ask::Variables(5, 0, 257), 256),
+    (Ask::Variables(5, 65_280, u32::MAX), 256),
+    (Ask::Variables(5, 65_281, u32::MAX), 255),
+    (Ask::Variables(5, 65_536, 0), 0),
+    (Ask::Variables(5, u32::MAX, u32::MAX), 0),
+    (Ask::Code(0xffff, 0), 0),
+    (Ask::Code(0xffff, 256), 256),
+    (Ask::Code(0xffff, u32::MAX), 256),
+];
+
+#[test]
+fn counts_are_cut(rt: HostRuntime) -> Result<(), AllocError> {
+    let text = labels(rt.alloc())?;
+    let board = loaded(&rt, rt.alloc(), text.as_str());
+    for (place, (ask, wanted)) in COUNTS.iter().enumerate() {
+        assert!(rt;
+            count(rt.alloc(), &board, *ask) == Some(*wanted),
+            "row {place}"
+        );
     }
     let asks = [Ask::Variables(4, 299, 0), Ask::Variables(5, 0xffff, 5)];
-    compare(&rt, rt.alloc(), &board, &asks, "L299=0012BH \nFFFF=000H \n")?;
+    compare(&rt, rt.alloc(), &board, &asks, "L299=0012BH \nFFFF=000H \n");
+    drop(board);
     Ok(())
 }
 
+/// How many lines, and the address behind them: one line up to 2, a byte each up to 0FFFFH, and that line
+/// again.
+const AFTER: [(u16, u16); 4] = [(0, 0xffff), (1, 2), (2, 3), (0xffff, 2)];
+
 #[test]
-fn code_goes_on_at_the_first_address(rt: HostRuntime) -> Result<(), AllocError> {
-    let board = loaded(&rt, rt.alloc(), "ORG 0\nDB 34H,12H,8\nORG 0FFFFH\nDB 0C3H")?;
+fn code_goes_on_at_the_first_address(rt: HostRuntime) {
+    let board = loaded(&rt, rt.alloc(), "ORG 0\nDB 34H,12H,8\nORG 0FFFFH\nDB 0C3H");
     let wanted = "FFFF C3 34 12 JMP 01234H\n0002 08 DB 008H\n0003 00 NOP\n";
-    compare(&rt, rt.alloc(), &board, &[Ask::Code(0xffff, 3)], wanted)?;
-    // One line up to 2, a byte each up to 0FFFFH, and that line again.
-    for (lines, wanted) in [(0, 0xffff), (1, 2), (2, 3), (0xffff, 2)] {
-        assert_eq!(rt; after_instructions(&board.machine, 0xffff, lines), wanted);
+    compare(&rt, rt.alloc(), &board, &[Ask::Code(0xffff, 3)], wanted);
+    for (lines, wanted) in AFTER {
+        let found = after_instructions(&board.machine, 0xffff, lines);
+        assert!(rt; found == wanted, "{lines} lines");
     }
-    Ok(())
+    drop(board);
 }
 
-#[test]
-fn frames_sources_and_breakpoints(rt: HostRuntime) -> Result<(), Fail> {
-    let cell = "ORG 3\nSIX EQU 6\nCALL SUB1\nSUB1: NOP\nSUB2: NOP";
-    let mut board = loaded(&rt, rt.alloc(), cell)?;
-    board.machine.set_pc(7);
-    for (slot, target, site) in [(0xfffe, 6, 3), (0xfffc, 0x1abc, 6)] {
-        let called = Stepped::Called { slot, target };
-        let _ = board.frames.advance(called, site, slot);
-    }
-    let asks = [
-        Ask::Frames(0, 0),
-        Ask::Frames(1, 1),
-        Ask::Frames(2, u32::MAX),
-        Ask::Frames(3, 64),
-        Ask::Frames(u32::MAX, u32::MAX),
-        Ask::Scopes(0),
-        Ask::Scopes(1),
-        Ask::Scopes(3),
-        Ask::Scopes(4),
-        Ask::Source("b"),
-        Ask::Source("a"),
-        Ask::Info,
-    ];
-    let wanted = "\
+const CELL: &str = "ORG 3\nSIX EQU 6\nCALL SUB1\nSUB1: NOP\nSUB2: NOP";
+
+const ALL_ASKS: [Ask; 12] = [
+    Ask::Frames(0, 0),
+    Ask::Frames(1, 1),
+    Ask::Frames(2, u32::MAX),
+    Ask::Frames(3, 64),
+    Ask::Frames(u32::MAX, u32::MAX),
+    Ask::Scopes(0),
+    Ask::Scopes(1),
+    Ask::Scopes(3),
+    Ask::Scopes(4),
+    Ask::Source("b"),
+    Ask::Source("a"),
+    Ask::Info,
+];
+
+const ALL_TOLD: &str = "\
 1 1ABCH a 5 0007
 2 SUB1 a 4 0006
 3 main a 3 0003
@@ -344,18 +413,27 @@ SUB2: NOP
 false true
 a [2]
 ";
-    compare(&rt, rt.alloc(), &board, &asks, wanted)?;
+
+/// Two calls: the second one's target has no label.
+fn call_twice(board: &mut Board) {
+    for (slot, target, site) in [(0xfffe, 6, 3), (0xfffc, 0x1abc, 6)] {
+        let called = Stepped::Called { slot, target };
+        let _ = board.frames.advance(called, site, slot);
+    }
+}
+
+#[test]
+fn frames_sources_and_breakpoints(rt: HostRuntime) {
+    let mut board = loaded(&rt, rt.alloc(), CELL);
+    board.machine.set_pc(7);
+    call_twice(&mut board);
+    compare(&rt, rt.alloc(), &board, &ALL_ASKS, ALL_TOLD);
     board.machine.set_pc(0x100);
-    compare(
-        &rt,
-        rt.alloc(),
-        &board,
-        &[Ask::Frames(0, 1)],
-        "1 1ABCH none 0 0100\nof 3\n",
-    )?;
+    let wanted = "1 1ABCH none 0 0100\nof 3\n";
+    compare(&rt, rt.alloc(), &board, &[Ask::Frames(0, 1)], wanted);
     board.is_stopped = false;
     let asks = [Ask::Frames(0, 0), Ask::Scopes(0)];
     let wanted = "refused: the program isn't stopped\nrefused: the program isn't stopped\n";
-    compare(&rt, rt.alloc(), &board, &asks, wanted)?;
-    Ok(())
+    compare(&rt, rt.alloc(), &board, &asks, wanted);
+    drop(board);
 }

@@ -1,4 +1,5 @@
 //! Streams worked out by hand from RFC 23, cut in many ways.
+ghost use Rattle.std.specs.Prelude.{◌<◌, length, IfOk};
 
 use base_text::hexadecimal::digit_value;
 use base_text::sequence::{Bytes, Frames};
@@ -72,12 +73,36 @@ fn known(side: &Side) -> (bool, bool) {
     (side.is_ready(), side.identity().is_some())
 }
 
+fn is_out_of_memory(answer: &Result<Incomings, FeedFault>) -> bool {
+    match answer {
+        Err(FeedFault::OutOfMemory) => true,
+        _ => false,
+    }
+}
+
 // What a feed gives. Where memory is refused the side has to be as before, and the same piece is fed again.
 fn answer_of(alloc: Global, side: &mut Side, piece: &[u8]) -> Result<Incomings, FeedFault> {
     let before = known(side);
-    match side.feed(alloc, piece) {
-        Err(FeedFault::OutOfMemory) if known(side) == before => side.feed(alloc, piece),
-        answer => answer,
+    let answer = side.feed(alloc, piece);
+    if is_out_of_memory(&answer) && known(side) == before {
+        drop(answer);
+        return side.feed(alloc, piece);
+    }
+    answer
+}
+
+fn text_left<'a>(text: &'a [u8], messages: &Incomings) -> Result<&'a [u8], Fail> {
+    Ok(text_after(text, messages.as_slice()).ok_or("other messages")?)
+}
+
+fn told<'a>(
+    text: &'a [u8],
+    answer: &Result<Incomings, FeedFault>,
+) -> Result<(&'a [u8], Option<StreamFault>), Fail> {
+    match answer {
+        Ok(messages) => Ok((text_left(text, messages)?, None)),
+        Err(FeedFault::Broken { before, cause }) => Ok((text_left(text, before)?, Some(*cause))),
+        Err(FeedFault::OutOfMemory) => Err(Fail::from(AllocError)),
     }
 }
 
@@ -88,13 +113,10 @@ fn feed<'a>(
     piece: &[u8],
     text: &'a [u8],
 ) -> Result<(&'a [u8], Option<StreamFault>), Fail> {
-    let (messages, fault) = match answer_of(alloc, side, piece) {
-        Ok(messages) => (messages, None),
-        Err(FeedFault::Broken { before, cause }) => (before, Some(cause)),
-        Err(FeedFault::OutOfMemory) => return Err(Fail::from(AllocError)),
-    };
-    let text = text_after(text, messages.as_slice()).ok_or("other messages")?;
-    Ok((text, fault))
+    let answer = answer_of(alloc, side, piece);
+    let told = told(text, &answer);
+    drop(answer);
+    told
 }
 
 // Feeds bytes in pieces of this size, which give the messages of this text and no others. Gives how many
@@ -125,18 +147,38 @@ fn feed_all(
     }
 }
 
+fn is_fed(alloc: Global, side: &mut Side, bytes: &[u8]) -> bool {
+    let answer = side.feed(alloc, bytes);
+    let is_fed = answer.is_ok();
+    drop(answer);
+    is_fed
+}
+
 // A ROUTER that has read these bytes, in one piece.
 fn router_after(alloc: Global, greeting: &str, ready: &str) -> Result<Side, Fail> {
     let bytes = bytes_of(alloc, greeting, ready, "")?;
     let mut side = Side::new(alloc, Role::Router);
-    match side.feed(alloc, bytes.as_slice()) {
-        Ok(_) => Ok(side),
-        Err(_) => Err(Fail::from("no handshake")),
+    let is_fed = is_fed(alloc, &mut side, bytes.as_slice());
+    drop(bytes);
+    if is_fed {
+        return Ok(side);
     }
+    drop(side);
+    Err(Fail::from("no handshake"))
 }
 
 // Bytes, the messages that they complete, and where and why they break the stream.
 type Row = (&'static str, &'static str, Option<(usize, StreamFault)>);
+
+fn feed_one_by_one(
+    alloc: Global,
+    side: &mut Side,
+    digits: &str,
+    text: &str,
+) -> Result<Option<(usize, StreamFault)>, Fail> {
+    let bytes = bytes_of(alloc, "", "", digits)?;
+    feed_all(alloc, side, bytes.as_slice(), 1, text)
+}
 
 // Feeds bytes one by one to a ROUTER that has read the greeting and the READY.
 fn outcome(
@@ -146,9 +188,10 @@ fn outcome(
     digits: &str,
     text: &str,
 ) -> Result<Option<(usize, StreamFault)>, Fail> {
-    let bytes = bytes_of(alloc, "", "", digits)?;
     let mut side = router_after(alloc, greeting, ready)?;
-    feed_all(alloc, &mut side, bytes.as_slice(), 1, text)
+    let outcome = feed_one_by_one(alloc, &mut side, digits, text);
+    drop(side);
+    outcome
 }
 
 fn check_rows(
@@ -160,7 +203,7 @@ fn check_rows(
 ) -> Result<(), Fail> {
     for (digits, text, broken) in rows {
         let found = outcome(alloc, greeting, ready, digits, text)?;
-        assert_eq!(rt; found, *broken, "{digits}");
+        assert!(rt; found == *broken, "{digits}");
     }
     Ok(())
 }
@@ -277,7 +320,7 @@ fn traffic(rt: HostRuntime) -> Result<(), Fail> {
 fn check_again(rt: &impl Abort, alloc: Global, side: &mut Side) -> Result<(), Fail> {
     for text in &["a,.", "", ""] {
         let broken = feed_all(alloc, side, b"\0\x01a\x08", 4, text)?;
-        assert_eq!(rt; broken, Some((4, StreamFault::Flags)));
+        assert!(rt; broken == Some((4, StreamFault::Flags)));
     }
     Ok(())
 }
@@ -285,7 +328,9 @@ fn check_again(rt: &impl Abort, alloc: Global, side: &mut Side) -> Result<(), Fa
 #[test]
 fn faults_stay(rt: HostRuntime) -> Result<(), Fail> {
     let mut side = router_after(rt.alloc(), GREETING, DEALER)?;
-    check_again(&rt, rt.alloc(), &mut side)
+    let checked = check_again(&rt, rt.alloc(), &mut side);
+    drop(side);
+    checked
 }
 
 // Sixty-three frames that others follow, and then one more, or the last.
@@ -342,14 +387,16 @@ fn has_identity(side: &Side, want: Option<&[u8]>) -> bool {
 // Whether READY is accepted, and whether it gives this identity, or none.
 fn known_after(alloc: Global, ready: &str, want: Option<&[u8]>) -> Result<(bool, bool), Fail> {
     let side = router_after(alloc, GREETING, ready)?;
-    Ok((side.is_ready(), has_identity(&side, want)))
+    let known = (side.is_ready(), has_identity(&side, want));
+    drop(side);
+    Ok(known)
 }
 
 #[test]
 fn identities(rt: HostRuntime) -> Result<(), Fail> {
     for (ready, is_ready, identity) in &IDENTITIES {
         let known = known_after(rt.alloc(), ready, *identity)?;
-        assert_eq!(rt; known, (*is_ready, true), "{ready}");
+        assert!(rt; known == (*is_ready, true), "{ready}");
     }
     Ok(())
 }
@@ -372,11 +419,8 @@ const ACCEPTED: [(&str, &[Role]); 8] = [
 fn accepted_types(rt: HostRuntime) {
     for (name, roles) in &ACCEPTED {
         for role in &ROLES {
-            assert_eq!(rt;
-                role.accepts(name.as_bytes()),
-                roles.contains(role),
-                "{name}"
-            );
+            let is_accepted = role.accepts(name.as_bytes());
+            assert!(rt; is_accepted == roles.contains(role), "{name}");
         }
     }
 }
@@ -402,52 +446,79 @@ const READIES: [(Role, &str); 5] = [
     (Role::Dealer, DEALER),
 ];
 
+fn is_greeting(alloc: Global, bytes: &[u8]) -> Result<bool, Fail> {
+    let front = "FF 00 00 00 00 00 00 00 00 7F 03 00 4E 55 4C 4C";
+    let mut want = bytes_of(alloc, front, "", "")?;
+    want.resize(64, 0)?;
+    Ok(bytes == want.as_slice())
+}
+
+fn is_spelled(alloc: Global, bytes: &[u8], digits: &str) -> Result<bool, Fail> {
+    let want = bytes_of(alloc, digits, "", "")?;
+    Ok(bytes == want.as_slice())
+}
+
 #[test]
 fn written_handshakes(rt: HostRuntime) -> Result<(), Fail> {
-    let mut want = bytes_of(
-        rt.alloc(),
-        "FF 00 00 00 00 00 00 00 00 7F 03 00 4E 55 4C 4C",
-        "",
-        "",
-    )?;
-    want.resize(64, 0)?;
-    assert_eq!(rt; greeting(), want.as_slice());
+    assert!(rt; is_greeting(rt.alloc(), greeting())?);
     for (role, digits) in &READIES {
-        let want = bytes_of(rt.alloc(), digits, "", "")?;
-        assert_eq!(rt; ready(*role), want.as_slice());
+        assert!(rt; is_spelled(rt.alloc(), ready(*role), digits)?, "{digits}");
     }
     Ok(())
 }
 
-// The message of an empty frame and one of 256 bytes.
-fn message_of_two(alloc: Global) -> Result<Bytes, Fail> {
+// An empty frame and one of 256 bytes.
+fn two_frames(alloc: Global) -> Result<Frames, AllocError>
+    ensures { IfOk result (λ frames. 0 < length frames) }
+{
+    let long = vec![in alloc; b'x'; 256]?;
     let mut frames = Frames::new(alloc);
     frames.push(Bytes::new(alloc))?;
-    frames.push(Bytes::from(vec![in alloc; b'x'; 256]?))?;
-    Ok(put_message(alloc, frames.as_slice())?)
+    frames.push(Bytes::from(long))?;
+    Ok(frames)
+}
+
+// The message of these two frames.
+fn message_of_two(alloc: Global) -> Result<Bytes, AllocError> {
+    let frames = two_frames(alloc)?;
+    let message = put_message(alloc, frames.as_slice());
+    drop(frames);
+    message
+}
+
+fn wanted_message(alloc: Global) -> Result<Vec<u8>, Fail> {
+    let mut want = bytes_of(alloc, "01 00 02 00 00 00 00 00 00 01 00", "", "")?;
+    want.resize(267, b'x')?;
+    Ok(want)
 }
 
 #[test]
 fn written_message(rt: HostRuntime) -> Result<(), Fail> {
-    let mut want = bytes_of(rt.alloc(), "01 00 02 00 00 00 00 00 00 01 00", "", "")?;
-    want.resize(267, b'x')?;
+    let want = wanted_message(rt.alloc())?;
     let message = message_of_two(rt.alloc())?;
-    assert_eq!(rt; message.as_slice(), want.as_slice());
+    assert!(rt; message.as_slice() == want.as_slice());
     Ok(())
 }
 
-// A handshake and these messages five hundred times, and the text of the messages.
-fn long_stream(alloc: Global) -> Result<(Vec<u8>, String), Fail> {
+// A handshake and these messages five hundred times.
+fn long_stream(alloc: Global) -> Result<Vec<u8>, Fail> {
     let mut bytes = bytes_of(alloc, GREETING, DEALER, "")?;
-    let mut text = String::new(alloc);
     for _ in 0..500 {
         push_hex(
             &mut bytes,
             "01 01 61 02 00 00 00 00 00 00 00 02 68 69 00 01 62",
         )?;
+    }
+    Ok(bytes)
+}
+
+// The text of those messages.
+fn long_text(alloc: Global) -> Result<String, AllocError> {
+    let mut text = String::new(alloc);
+    for _ in 0..500 {
         text.push_str("a,hi,.b,.")?;
     }
-    Ok((bytes, text))
+    Ok(text)
 }
 
 // Feeds bytes in pieces of this size to a ROUTER.
@@ -458,19 +529,18 @@ fn outcome_in_pieces(
     text: &str,
 ) -> Result<Option<(usize, StreamFault)>, Fail> {
     let mut side = Side::new(alloc, Role::Router);
-    feed_all(alloc, &mut side, bytes, size, text)
-}
-
-fn long_outcome(alloc: Global, size: usize) -> Result<Option<(usize, StreamFault)>, Fail> {
-    let (bytes, text) = long_stream(alloc)?;
-    outcome_in_pieces(alloc, bytes.as_slice(), size, text.as_str())
+    let outcome = feed_all(alloc, &mut side, bytes, size, text);
+    drop(side);
+    outcome
 }
 
 #[test]
 fn pieces(rt: HostRuntime) -> Result<(), Fail> {
+    let bytes = long_stream(rt.alloc())?;
+    let text = long_text(rt.alloc())?;
     for size in &[1, 7, 4096, 65536] {
-        let broken = long_outcome(rt.alloc(), *size)?;
-        assert_eq!(rt; broken, None, "in pieces of {size}");
+        let broken = outcome_in_pieces(rt.alloc(), bytes.as_slice(), *size, text.as_str())?;
+        assert!(rt; broken == None, "in pieces of {size}");
     }
     Ok(())
 }
@@ -489,7 +559,9 @@ fn feed_two(alloc: Global, side: &mut Side, front: &[u8], back: &[u8]) -> Result
 
 fn ready_between(alloc: Global, front: &[u8], back: &[u8]) -> Result<bool, Fail> {
     let mut side = Side::new(alloc, Role::Router);
-    feed_two(alloc, &mut side, front, back)
+    let is_ready = feed_two(alloc, &mut side, front, back);
+    drop(side);
+    is_ready
 }
 
 // Cut once, after each byte of the handshake and of the first message.
@@ -499,32 +571,46 @@ fn cut_once(rt: HostRuntime) -> Result<(), Fail> {
     for cut in 0..103 {
         let (front, back) = bytes.as_slice().split_at_checked(cut).ok_or("too short")?;
         let is_ready = ready_between(rt.alloc(), front, back)?;
-        assert_eq!(rt; is_ready, cut >= 94, "cut at {cut}");
+        assert!(rt; is_ready == (cut >= 94), "cut at {cut}");
     }
     Ok(())
 }
 
-// A message of one frame, moved in and out.
-fn frames_moved(alloc: Global) -> Result<Frames, Fail> {
+// A message of one frame.
+fn one_frame(alloc: Global) -> Result<Frames, AllocError> {
     let mut frames = Frames::new(alloc);
-    frames.push(Bytes::from(b"ab".to_vec(alloc)?))?;
+    frames.push(Bytes::copy_of(alloc, b"ab")?)?;
+    Ok(frames)
+}
+
+// That message, moved in and out.
+fn frames_moved(rt: &impl Abort, alloc: Global) -> Frames {
+    let frames = one_frame(alloc).expect(rt, "memory");
     let mut messages = Incomings::new(alloc);
-    messages.push(frames)?;
+    messages.push(frames).expect(rt, "memory");
     let mut messages = messages.into_vec();
-    Ok(messages.pop().ok_or("no message")?)
+    let last = messages.pop();
+    drop(messages);
+    last.expect(rt, "a message")
+}
+
+// No frames, in the room of others.
+fn emptied(frames: Vec<Bytes>) -> usize {
+    let mut frames = Frames::from(frames);
+    frames.truncate(0);
+    let count = frames.len();
+    drop(frames);
+    count
 }
 
 #[test]
-fn conversions(rt: HostRuntime) -> Result<(), Fail> {
-    let frames = frames_moved(rt.alloc())?;
-    assert_eq!(rt; frames.len(), 1);
+fn conversions(rt: HostRuntime) {
+    let frames = frames_moved(&rt, rt.alloc());
+    assert!(rt; frames.len() == 1);
     let mut frames = frames.into_vec();
-    let frame = frames.pop().ok_or("no frame")?;
-    assert_eq!(rt; frame.into_vec().as_slice(), b"ab".as_slice());
-    let mut frames = Frames::from(frames);
-    frames.truncate(0);
-    assert_eq!(rt; frames.len(), 0);
-    Ok(())
+    let frame = frames.pop().expect(&rt, "a frame");
+    assert!(rt; frame.into_vec().as_slice() == b"ab".as_slice());
+    assert!(rt; emptied(frames) == 0);
 }
 
 // A greeting, a DEALER's READY with the identity `me`, three messages, and a flag byte of no frame.
@@ -534,15 +620,25 @@ const CONVERSATION: &[u8] =
     \x04\x2B\x05READY\x0BSocket-Type\0\0\0\x06DEALER\x08Identity\0\0\0\x02me\
     \x01\x01a\0\x02hi\0\0\x01\0\x01\x05hello\0\x01!\x08";
 
-// Feeds the conversation in pieces of this size. Nothing here but the feeds takes memory, and with an
-// allocation refused the answer is the same.
+// Feeds the conversation in pieces of this size. Gives where and why the stream broke, whether the peer's
+// READY was accepted, and whether it gave its identity.
+fn conversed(
+    alloc: Global,
+    side: &mut Side,
+    size: usize,
+) -> Result<(Option<(usize, StreamFault)>, bool, bool), Fail> {
+    let text = "a,hi,.,.,hello,!,.";
+    let broken = feed_all(alloc, side, CONVERSATION, size, text)?;
+    Ok((broken, side.is_ready(), has_identity(side, Some(b"me"))))
+}
+
+// Nothing here but the feeds takes memory, and with an allocation refused the answer is the same.
 fn converse(rt: &impl Abort, alloc: Global, size: usize) -> Result<(), Fail> {
     let mut side = Side::new(alloc, Role::Router);
-    let text = "a,hi,.,.,hello,!,.";
-    let broken = feed_all(alloc, &mut side, CONVERSATION, size, text)?;
-    assert_eq!(rt; broken, Some((CONVERSATION.len(), StreamFault::Flags)));
-    assert!(rt; side.is_ready());
-    assert!(rt; has_identity(&side, Some(b"me")));
+    let found = conversed(alloc, &mut side, size);
+    drop(side);
+    let broken = Some((CONVERSATION.len(), StreamFault::Flags));
+    assert!(rt; found? == (broken, true, true));
     Ok(())
 }
 

@@ -7,7 +7,7 @@ use std::alloc::Global;
 use std::process::Abort;
 use std::test::Fail;
 use zmtp_peer::fault::PeerFault;
-use zmtp_peer::handshake::handshake;
+use zmtp_peer::handshake::{Peer, handshake};
 use zmtp_peer::heartbeat::heartbeat;
 use zmtp_wire::fault::StreamFault;
 use zmtp_wire::role::Role;
@@ -51,6 +51,25 @@ fn ports(alloc: Global, given: &[u8], pace: Pace) -> Result<(Source, Sink), Fail
     Ok((from, Sink::new(alloc, pace.written.0, pace.written.1)))
 }
 
+// How many bytes were written, which have to be the first of those expected.
+fn front_length(alloc: Global, written: &[u8], ready: &str, echoed: &str) -> Result<usize, Fail> {
+    let expected = bytes_of(alloc, OUR_GREETING, ready, echoed)?;
+    if expected.as_slice().starts_with(written) {
+        Ok(written.len())
+    } else {
+        Err(Fail::from("other bytes"))
+    }
+}
+
+fn fault_of(answer: Result<Peer, PeerFault>) -> Option<PeerFault> {
+    let fault = match &answer {
+        Ok(_) => None,
+        Err(fault) => Some(*fault),
+    };
+    drop(answer);
+    fault
+}
+
 // What a ROUTER's handshake answers, and what it has written: how many bytes, which are those expected.
 fn router_answer(
     alloc: Global,
@@ -58,20 +77,26 @@ fn router_answer(
     pace: Pace,
 ) -> Result<(Option<PeerFault>, usize), Fail> {
     let (mut from, mut to) = ports(alloc, given, pace)?;
-    let fault = handshake(alloc, &mut from, &mut to, Role::Router).err();
-    let expected = bytes_of(alloc, OUR_GREETING, ROUTER, "")?;
-    if !expected.as_slice().starts_with(to.as_slice()) {
-        return Err(Fail::from("other bytes"));
-    }
-    Ok((fault, to.as_slice().len()))
+    let answer = handshake(alloc, &mut from, &mut to, Role::Router);
+    drop(from);
+    let length = front_length(alloc, to.as_slice(), ROUTER, "");
+    drop(to);
+    Ok((fault_of(answer), length?))
 }
+
+// That of a ROUTER which reads a greeting and a READY.
+fn answer_to(alloc: Global, ready: &str, pace: Pace) -> Result<(Option<PeerFault>, usize), Fail> {
+    let given = bytes_of(alloc, GREETING, ready, "")?;
+    router_answer(alloc, given.as_slice(), pace)
+}
+
+const PACES: [Pace; 2] = [AMPLE, BYTE_BY_BYTE];
 
 #[test]
 fn handshakes(rt: HostRuntime) -> Result<(), Fail> {
-    let given = bytes_of(rt.alloc(), GREETING, DEALER, "")?;
-    for pace in [AMPLE, BYTE_BY_BYTE] {
-        let answer = router_answer(rt.alloc(), given.as_slice(), pace)?;
-        assert_eq!(rt; answer, (None, 94));
+    for (place, pace) in PACES.iter().enumerate() {
+        let answer = answer_to(rt.alloc(), DEALER, *pace)?;
+        assert!(rt; answer == (None, 94), "pace {place}");
     }
     Ok(())
 }
@@ -84,31 +109,32 @@ fn cut_greetings(rt: HostRuntime) -> Result<(), Fail> {
         let (piece, _) = given.split_at(count.min(given.len()));
         let answer = router_answer(rt.alloc(), piece, AMPLE)?;
         let written = if count < 64 { 64 } else { 94 };
-        assert_eq!(rt; answer, (Some(PeerFault::PeerEnded), written), "{count}");
+        assert!(rt; answer == (Some(PeerFault::PeerEnded), written), "{count}");
     }
     Ok(())
 }
 
-// What comes after the greeting, and why it is refused. Where both come in one piece, READY isn't written.
-const REFUSED: [(&str, StreamFault); 2] = [
-    (
-        "04190552454144590B536F636B65742D5479706500000003535542",
-        StreamFault::SocketType,
-    ),
-    (
-        "04190552454144590B536F636B65742D5479706500000004524551",
-        StreamFault::Command,
-    ),
+const OF_SUB: &str = "04190552454144590B536F636B65742D5479706500000003535542";
+
+const OF_ANOTHER_LENGTH: &str = "04190552454144590B536F636B65742D5479706500000004524551";
+
+// What comes after the greeting, how it comes, how much is written, and why it is refused. Where both come
+// in one piece, READY isn't written.
+const REFUSED: [(&str, Pace, usize, StreamFault); 4] = [
+    (OF_SUB, AMPLE, 64, StreamFault::SocketType),
+    (OF_SUB, BYTE_BY_BYTE, 94, StreamFault::SocketType),
+    (OF_ANOTHER_LENGTH, AMPLE, 64, StreamFault::Command),
+    (OF_ANOTHER_LENGTH, BYTE_BY_BYTE, 94, StreamFault::Command),
 ];
 
 #[test]
 fn refused(rt: HostRuntime) -> Result<(), Fail> {
-    for (ready, cause) in REFUSED {
-        let given = bytes_of(rt.alloc(), GREETING, ready, "")?;
-        for (pace, written) in [(AMPLE, 64), (BYTE_BY_BYTE, 94)] {
-            let answer = router_answer(rt.alloc(), given.as_slice(), pace)?;
-            assert_eq!(rt; answer, (Some(PeerFault::Wire(cause)), written), "{ready}");
-        }
+    for (place, (ready, pace, written, cause)) in REFUSED.iter().enumerate() {
+        let answer = answer_to(rt.alloc(), ready, *pace)?;
+        assert!(rt;
+            answer == (Some(PeerFault::Wire(*cause)), *written),
+            "row {place}"
+        );
     }
     Ok(())
 }
@@ -122,11 +148,27 @@ fn beat_answer(
 ) -> Result<(PeerFault, usize), Fail> {
     let (mut from, mut to) = ports(alloc, given, pace)?;
     let fault = heartbeat(alloc, &mut from, &mut to);
-    let expected = bytes_of(alloc, OUR_GREETING, REP, echoed)?;
-    if !expected.as_slice().starts_with(to.as_slice()) {
-        return Err(Fail::from("other bytes"));
-    }
-    Ok((fault, to.as_slice().len()))
+    drop(from);
+    let length = front_length(alloc, to.as_slice(), REP, echoed);
+    drop(to);
+    Ok((fault, length?))
+}
+
+// That of one which reads a greeting, a READY and this.
+fn beat(
+    alloc: Global,
+    traffic: &str,
+    echoed: &str,
+    pace: Pace,
+) -> Result<(PeerFault, usize), Fail> {
+    let given = bytes_of(alloc, GREETING, REQ, traffic)?;
+    beat_answer(alloc, given.as_slice(), echoed, pace)
+}
+
+// How many bytes a heartbeat writes that sends this back.
+fn whole_length(alloc: Global, echoed: &str) -> Result<usize, Fail> {
+    let whole = bytes_of(alloc, OUR_GREETING, REP, echoed)?;
+    Ok(whole.len())
 }
 
 // An empty frame and `ping`, as REQ sends them.
@@ -151,34 +193,38 @@ const BEATS: [(&str, &str, PeerFault); 5] = [
 
 #[test]
 fn heartbeats(rt: HostRuntime) -> Result<(), Fail> {
-    for (traffic, echoed, end) in BEATS {
-        let given = bytes_of(rt.alloc(), GREETING, REQ, traffic)?;
-        let whole = bytes_of(rt.alloc(), OUR_GREETING, REP, echoed)?.len();
-        for pace in [AMPLE, BYTE_BY_BYTE] {
-            let answer = beat_answer(rt.alloc(), given.as_slice(), echoed, pace)?;
-            assert_eq!(rt; answer, (end, whole), "{traffic}");
+    for (traffic, echoed, end) in &BEATS {
+        let whole = whole_length(rt.alloc(), echoed)?;
+        for pace in &PACES {
+            let answer = beat(rt.alloc(), traffic, echoed, *pace)?;
+            assert!(rt; answer == (*end, whole), "{traffic}");
         }
     }
     Ok(())
 }
 
+// How much is written before the read after so many.
+fn written_before(calls: u64) -> usize {
+    match calls {
+        0..=63 => 64,
+        64..=98 => 91,
+        _ => 99,
+    }
+}
+
 // Each read fails once: what was written is the answer to what came before.
 #[test]
 fn failing_reads(rt: HostRuntime) -> Result<(), Fail> {
-    let given = bytes_of(rt.alloc(), GREETING, REQ, PING)?;
     for calls in 0..100u64 {
         let pace = Pace {
             read: (1, calls),
             written: (4096, 9999),
         };
-        let (end, written) = beat_answer(rt.alloc(), given.as_slice(), PING, pace)?;
-        assert_eq!(rt; end, PeerFault::ReadFailed, "{calls}");
-        let wanted = match calls {
-            0..=63 => 64,
-            64..=98 => 91,
-            _ => 99,
-        };
-        assert_eq!(rt; written, wanted, "{calls}");
+        let answer = beat(rt.alloc(), PING, PING, pace)?;
+        assert!(rt;
+            answer == (PeerFault::ReadFailed, written_before(calls)),
+            "{calls}"
+        );
     }
     Ok(())
 }
@@ -186,15 +232,16 @@ fn failing_reads(rt: HostRuntime) -> Result<(), Fail> {
 // Each write fails once: what was written is the whole text, cut there.
 #[test]
 fn failing_writes(rt: HostRuntime) -> Result<(), Fail> {
-    let given = bytes_of(rt.alloc(), GREETING, REQ, PING)?;
     for calls in 0..99u64 {
         let pace = Pace {
             read: (4096, 9999),
             written: (1, calls),
         };
-        let (end, written) = beat_answer(rt.alloc(), given.as_slice(), PING, pace)?;
-        assert_eq!(rt; end, PeerFault::WriteFailed, "{calls}");
-        assert_eq!(rt; written as u64, calls, "{calls}");
+        let answer = beat(rt.alloc(), PING, PING, pace)?;
+        assert!(rt;
+            answer == (PeerFault::WriteFailed, calls as usize),
+            "{calls}"
+        );
     }
     Ok(())
 }
