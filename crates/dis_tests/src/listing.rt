@@ -7,12 +7,10 @@ use asm_build::symbols::Symbols;
 use asm_syntax::fault::AsmFault;
 use asm_text::statements::statements;
 use i80_dis::laws::{lines_are, listing_assembles};
-use i80_dis::line::line_at;
+use i80_dis::line::{Line, line_at};
 use i80_dis::listing::listing;
 use std::alloc::{AllocError, Global};
-use std::process::Abort;
 use std::rt::HostRuntime;
-use std::test::Fail;
 
 #[test]
 fn laws_stand() {
@@ -29,46 +27,52 @@ fn listed(alloc: Global, address: u16, bytes: &[u8]) -> Result<String, AllocErro
 }
 
 // What a text assembles to over kept symbols.
-fn assemble(
-    rt: &impl Abort,
-    alloc: Global,
-    text: &str,
-    kept: &Symbols,
-) -> Result<Built, AllocError> {
-    let all = match statements(alloc, text) {
-        Ok(all) => all,
-        Err(AsmFault::OutOfMemory) => return Err(AllocError),
-        Err(fault) => panic!(rt; "{text}: {fault}"),
-    };
-    match build(alloc, &all, kept) {
-        Ok(built) => Ok(built),
-        Err(AsmFault::OutOfMemory) => Err(AllocError),
-        Err(fault) => panic!(rt; "{text}: {fault}"),
-    }
+fn assemble(alloc: Global, text: &str, kept: &Symbols) -> Result<Built, AsmFault> {
+    let all = statements(alloc, text)?;
+    let built = build(alloc, &all, kept);
+    drop(all);
+    built
 }
 
 fn has_image(built: &Built, address: u16, bytes: &[u8]) -> bool {
     let image = built.image.as_slice();
-    image.len() == bytes.len()
-        && image.iter().zip(bytes).zip(0u16..).all(|((pair, byte), offset)| {
-            pair.0 == address.wrapping_add(offset) && pair.1 == *byte
-        })
+    if image.len() != bytes.len() {
+        return false;
+    }
+    let mut next = address;
+    for (pair, byte) in image.iter().zip(bytes) {
+        if pair.0 != next || pair.1 != *byte {
+            return false;
+        }
+        next = next.wrapping_add(1);
+    }
+    true
 }
 
-// The listing is assembled to the bytes, over symbols with two names that it doesn't keep from it.
-fn comes_back(
-    rt: &impl Abort,
+// Whether a text is assembled to the bytes, without a start, over two symbols, which alone are kept.
+fn assembles_to(
     alloc: Global,
+    text: &str,
+    kept: &Symbols,
     address: u16,
     bytes: &[u8],
-) -> Result<(), AllocError> {
-    let before = assemble(rt, alloc, "X1 EQU 5\nX2 SET 7", &Symbols::new(alloc))?;
+) -> Result<bool, AsmFault> {
+    let built = assemble(alloc, text, kept)?;
+    let is_so = has_image(&built, address, bytes)
+        && built.start.is_none()
+        && built.symbols.len() == 2;
+    drop(built);
+    Ok(is_so)
+}
+
+// Whether the listing is assembled to the bytes, over symbols with two names that it doesn't keep from
+// it.
+fn comes_back(alloc: Global, address: u16, bytes: &[u8]) -> Result<bool, AsmFault> {
     let text = listed(alloc, address, bytes)?;
-    let built = assemble(rt, alloc, &text, &before.symbols)?;
-    assert!(rt; has_image(&built, address, bytes), "{text}");
-    assert!(rt; built.start.is_none(), "{text}");
-    assert_eq!(rt; built.symbols.len(), 2);
-    Ok(())
+    let before = assemble(alloc, "X1 EQU 5\nX2 SET 7", &Symbols::new(alloc))?;
+    let comes_back = assembles_to(alloc, &text, &before.symbols, address, bytes);
+    drop(before);
+    comes_back
 }
 
 const LISTINGS: [(u16, &[u8], &str); 9] = [
@@ -96,55 +100,91 @@ const LISTINGS: [(u16, &[u8], &str); 9] = [
     ),
 ];
 
-#[test]
-fn listings(rt: HostRuntime) -> Result<(), Fail> {
-    let alloc = rt.alloc();
-    for (address, bytes, text) in LISTINGS {
-        assert_eq!(rt; listed(alloc, address, bytes)?.as_str(), text);
-        comes_back(&rt, alloc, address, bytes)?;
-    }
-    Ok(())
+fn is_listed(alloc: Global, address: u16, bytes: &[u8], text: &str) -> Result<bool, AllocError> {
+    Ok(listed(alloc, address, bytes)?.as_str() == text)
 }
 
 #[test]
-fn lines(rt: HostRuntime) -> Result<(), Fail> {
+fn listings(rt: HostRuntime) {
     let alloc = rt.alloc();
+    for (row, (address, bytes, text)) in LISTINGS.iter().enumerate() {
+        let is_listed = is_listed(alloc, *address, bytes, text);
+        assert!(rt; matches!(is_listed, Ok(true)), "the text of row {row}");
+        let comes_back = comes_back(alloc, *address, bytes);
+        assert!(rt; matches!(comes_back, Ok(true)), "the bytes of row {row}");
+    }
+}
+
+// How many bytes a line shows that is this one; nothing where it is another.
+fn shown_by(line: &Line, address: u16, text: &str) -> Option<usize> {
+    if line.address == address && line.text.as_str() == text {
+        return Some(line.length.into());
+    }
+    None
+}
+
+// Whether the first line of an opcode with two bytes after it is this one, and its bytes come back, by
+// themselves and at the end of memory.
+fn opcode_comes_back(alloc: Global, opcode: u8, text: &str) -> Result<bool, AsmFault> {
+    let bytes = [opcode, 0x34, 0x12];
+    let line = line_at(alloc, &bytes, 0xABCD)?;
+    match shown_by(&line, 0xABCD, text) {
+        Some(length) if length <= 3 => Ok(
+            comes_back(alloc, 0xABCD, &bytes[..length])?
+                && comes_back(alloc, 0xFFFD, &bytes)?
+                && comes_back(alloc, 0, &bytes[..1])?
+                && comes_back(alloc, 0, &bytes[1..])?,
+        ),
+        _ => Ok(false),
+    }
+}
+
+#[test]
+fn lines(rt: HostRuntime) {
     for (opcode, text) in (0..=255u8).zip(OPCODE_LINES.lines()) {
-        let bytes = [opcode, 0x34, 0x12];
-        let line = line_at(alloc, &bytes, 0xABCD)?;
-        assert_eq!(rt; line.text.as_str(), text);
-        assert_eq!(rt; line.address, 0xABCD);
-        comes_back(&rt, alloc, 0xABCD, &bytes[..line.length.into()])?;
-        comes_back(&rt, alloc, 0xFFFD, &bytes)?;
-        comes_back(&rt, alloc, 0, &bytes[..1])?;
-        comes_back(&rt, alloc, 0, &bytes[1..])?;
+        let comes_back = opcode_comes_back(rt.alloc(), opcode, text);
+        assert!(rt; matches!(comes_back, Ok(true)), "opcode {opcode}");
     }
-    Ok(())
+}
+
+// Bytes, their address, and their first line with the number of bytes that it shows.
+const LINES: [(&[u8], u16, &str, usize); 3] = [
+    (&[0x08], 0, "DB 008H", 1),
+    (&[0xC3, 0x34], 7, "DB 0C3H", 1),
+    (&[0xC3, 0x34, 0x12, 0x00], 0xFFFF, "JMP 01234H", 3),
+];
+
+fn first_line_shows(
+    alloc: Global,
+    bytes: &[u8],
+    address: u16,
+    text: &str,
+) -> Result<Option<usize>, AllocError> {
+    if bytes.is_empty() {
+        return Ok(None);
+    }
+    let line = line_at(alloc, bytes, address)?;
+    Ok(shown_by(&line, address, text))
 }
 
 #[test]
-fn one_line(rt: HostRuntime) -> Result<(), Fail> {
-    let alloc = rt.alloc();
-    let undefined = line_at(alloc, &[0x08], 0)?;
-    assert_eq!(rt; undefined.text.as_str(), "DB 008H");
-    assert_eq!(rt; undefined.length, 1);
-    let cut_off = line_at(alloc, &[0xC3, 0x34], 7)?;
-    assert_eq!(rt; cut_off.text.as_str(), "DB 0C3H");
-    assert_eq!(rt; cut_off.length, 1);
-    let jump = line_at(alloc, &[0xC3, 0x34, 0x12, 0x00], 0xFFFF)?;
-    assert_eq!(rt; jump.text.as_str(), "JMP 01234H");
-    assert_eq!(rt; jump.length, 3);
-    assert_eq!(rt; jump.address, 0xFFFF);
-    Ok(())
+fn one_line(rt: HostRuntime) {
+    for (row, (bytes, address, text, length)) in LINES.iter().enumerate() {
+        let shown = first_line_shows(rt.alloc(), bytes, *address, text);
+        assert!(rt; shown == Ok(Some(*length)), "row {row}");
+    }
+}
+
+fn many_come_back(alloc: Global, byte: u8) -> Result<bool, AsmFault> {
+    let bytes = vec![in alloc; byte; 65_536]?;
+    comes_back(alloc, 0, &bytes)
 }
 
 // All memory is one cell.
 #[test]
-fn all_memory(rt: HostRuntime) -> Result<(), Fail> {
-    let alloc = rt.alloc();
-    let zeros = vec![in alloc; 0u8; 65_536]?;
-    comes_back(&rt, alloc, 0, &zeros)?;
-    let undefined = vec![in alloc; 0xFDu8; 65_536]?;
-    comes_back(&rt, alloc, 0, &undefined)?;
-    Ok(())
+fn all_memory(rt: HostRuntime) {
+    for byte in [0u8, 0xFD] {
+        let come_back = many_come_back(rt.alloc(), byte);
+        assert!(rt; matches!(come_back, Ok(true)), "byte {byte}");
+    }
 }

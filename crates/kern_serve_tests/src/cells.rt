@@ -2,14 +2,16 @@
 ghost use Rattle.std.specs.Prelude.{◌≡◌, false, IfOk};
 
 use crate::frontend::{Frontend, join};
-use crate::server::{KEY, Ports, free_ports, start};
+use crate::server::{KEY, Ports, Server, free_ports, start};
 use crate::talk::connect;
 use base_streams::memory::Sink;
 use base_streams::std_io::{StdInlet, StdOutlet};
-use kern_serve::server::ServerEnd;
 use lab_term::cell::Cell;
 use lab_term::run_cell::{Connection, run_cell};
+use std::alloc::Global;
 use std::net::TcpStream;
+use std::rt::Clock;
+use std::sync::Wait;
 use std::test::Fail;
 
 const HELLO: &str = "\
@@ -62,30 +64,60 @@ fn socket(rt: &HostRuntime, port: u16) -> Result<Socket, Fail>
         (socket.from.1 ≡ false) × (socket.from.2 ≡ false) × (socket.to.1 ≡ false)) }
 {
     let stream = connect(rt, port)?;
-    let other = stream.try_clone()?;
-    Ok(Connection {
-        from: StdInlet::new(stream),
-        to: StdOutlet::new(other),
-    })
+    match stream.try_clone() {
+        Ok(other) => Ok(Connection {
+            from: StdInlet::new(stream),
+            to: StdOutlet::new(other),
+        }),
+        Err(error) => {
+            drop(stream);
+            Err(error.into())
+        }
+    }
 }
 
-// Runs a cell as the terminal does, and looks at what it prints.
-fn runs(rt: &HostRuntime, ports: Ports, row: &Row) -> Result<(), Fail> {
+// Runs a cell as the terminal does over two sockets, and looks at what it prints.
+fn prints(
+    rt: &HostRuntime,
+    shell: &mut Socket,
+    iopub: &mut Socket,
+    output: &mut Sink,
+    row: &Row,
+) -> Result<(), Fail>
+    requires shell { (shell.old.from.1 ≡ false) × (shell.old.from.2 ≡ false) × (shell.old.to.1 ≡ false) }
+    requires iopub { (iopub.old.from.1 ≡ false) × (iopub.old.from.2 ≡ false) × (iopub.old.to.1 ≡ false) }
+    requires output { output.old.failed ≡ false }
+{
     let (code, printed, is_good) = *row;
-    let mut shell = socket(rt, ports.shell)?;
-    let mut iopub = socket(rt, ports.iopub)?;
-    let mut output = Sink::new(rt.alloc(), 4096, 9999);
     let cell = Cell {
         code,
         key: KEY.as_bytes(),
         session: "s",
         moment: 0,
     };
-    let answer = run_cell(rt.alloc(), &mut shell, &mut iopub, &mut output, &cell);
+    let answer = run_cell(rt.alloc(), shell, iopub, output, &cell);
     if answer == Ok(is_good) && output.as_slice() == printed.as_bytes() {
         return Ok(());
     }
     Err(Fail::new(code))
+}
+
+fn runs_on(rt: &HostRuntime, shell: &mut Socket, port: u16, row: &Row) -> Result<(), Fail>
+    requires { (shell.old.from.1 ≡ false) × (shell.old.from.2 ≡ false) × (shell.old.to.1 ≡ false) }
+{
+    let mut iopub = socket(rt, port)?;
+    let mut output = Sink::new(rt.alloc(), 4096, 9999);
+    let printed = prints(rt, shell, &mut iopub, &mut output, row);
+    drop(iopub);
+    drop(output);
+    printed
+}
+
+fn runs(rt: &HostRuntime, ports: Ports, row: &Row) -> Result<(), Fail> {
+    let mut shell = socket(rt, ports.shell)?;
+    let ran = runs_on(rt, &mut shell, ports.iopub, row);
+    drop(shell);
+    ran
 }
 
 // Whether the kernel has ended all connections of a frontend.
@@ -93,16 +125,49 @@ fn is_left(frontend: &mut Frontend) -> bool {
     frontend.shell.is_ended() && frontend.iopub.is_ended() && frontend.control.is_ended()
 }
 
+fn run_all(rt: &HostRuntime, ports: Ports) -> Result<(), Fail> {
+    for row in CELLS {
+        runs(rt, ports, row)?;
+    }
+    Ok(())
+}
+
+fn end<R: Wait + Clock>(
+    rt: &R,
+    alloc: Global,
+    server: &Server,
+    other: &mut Frontend,
+) -> Result<(), Fail> {
+    other.shut_down(alloc)?;
+    server.shuts_down(rt)?;
+    if is_left(other) {
+        return Ok(());
+    }
+    Err("a connection of a frontend that stays isn't ended".into())
+}
+
+fn run_and_end<R: Wait + Clock>(
+    rt: &R,
+    host: &HostRuntime,
+    server: &Server,
+    other: &mut Frontend,
+) -> Result<(), Fail> {
+    run_all(host, server.ports)?;
+    end(rt, host.alloc(), server, other)
+}
+
+fn run_beside<R: Wait + Clock>(rt: &R, host: &HostRuntime, server: &Server) -> Result<(), Fail> {
+    let mut other = join(host, server.ports)?;
+    let ran = run_and_end(rt, host, server, &mut other);
+    drop(other);
+    ran
+}
+
 // Cells run one after another; then a frontend asks for a shutdown, and the server ends though it stays.
 #[test]
 fn cells(rt: HostRuntime) -> Result<(), Fail> {
     let server = start(&rt, rt.alloc(), free_ports(&rt)?)?;
-    let mut other = join(&rt, server.ports)?;
-    for row in CELLS {
-        runs(&rt, server.ports, row)?;
-    }
-    other.shut_down(rt.alloc())?;
-    assert_eq!(rt; server.end(&rt), Some(Ok(ServerEnd::ShutDown)));
-    assert!(rt; is_left(&mut other));
-    Ok(())
+    let ran = run_beside(&rt, &rt, &server);
+    drop(server);
+    ran
 }

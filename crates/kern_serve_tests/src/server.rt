@@ -112,8 +112,13 @@ fn run<R: Wait + Clock + Threads + RandomSource + Clone + Send + Sync + Drop + '
 /// Binds ports that the system chooses.
 pub fn free_ports(rt: &HostRuntime) -> Result<Bound, Fail> {
     let file = file_of(rt.alloc(), ANY_PORTS)?;
-    let listeners = Listeners::bind(rt, &file)?;
-    Ok(Bound { listeners, file })
+    match Listeners::bind(rt, &file) {
+        Ok(listeners) => Ok(Bound { listeners, file }),
+        Err(error) => {
+            drop(file);
+            Err(error.into())
+        }
+    }
 }
 
 fn new_ending(alloc: Global) -> Result<Arc<Ending>, Fail> {
@@ -123,7 +128,22 @@ fn new_ending(alloc: Global) -> Result<Arc<Ending>, Fail> {
     };
     match Arc::new(alloc, ending) {
         Ok(ending) => Ok(ending),
-        Err(_) => Err("memory".into()),
+        Err(refused) => {
+            drop(refused);
+            Err("memory".into())
+        }
+    }
+}
+
+// Where a server leaves its answer: the part of who waits for it, and that of the server.
+fn two_endings(alloc: Global) -> Result<(Arc<Ending>, Arc<Ending>), Fail> {
+    let ending = new_ending(alloc)?;
+    match Arc::try_clone(&ending) {
+        Ok(other) => Ok((ending, other)),
+        Err(error) => {
+            drop(ending);
+            Err(error.into())
+        }
     }
 }
 
@@ -133,20 +153,72 @@ pub fn start<R: Wait + Clock + Threads + RandomSource + Clone + Send + Sync + Dr
     alloc: Global,
     bound: Bound,
 ) -> Result<Server, Fail> {
-    let ports = ports_of(&bound.listeners)?;
-    let ending = new_ending(alloc)?;
-    let mine = Arc::try_clone(&ending)?;
-    let host = rt.clone()?;
-    let started = thread::Builder::new().spawn(rt, move || run(&host, alloc, bound, &mine));
-    match started {
-        Ok(_) => Ok(Server { ports, ending }),
-        Err(_) => Err("no thread".into()),
+    match ports_of(&bound.listeners) {
+        Ok(ports) => start_at(rt, alloc, bound, ports),
+        Err(fault) => {
+            drop(bound);
+            Err(fault)
+        }
     }
+}
+
+fn start_at<R: Wait + Clock + Threads + RandomSource + Clone + Send + Sync + Drop + 'static>(
+    rt: &R,
+    alloc: Global,
+    bound: Bound,
+    ports: Ports,
+) -> Result<Server, Fail> {
+    match two_endings(alloc) {
+        Ok((ending, other)) => match spawn(rt, alloc, bound, other) {
+            Ok(()) => Ok(Server { ports, ending }),
+            Err(fault) => {
+                drop(ending);
+                Err(fault)
+            }
+        },
+        Err(fault) => {
+            drop(bound);
+            Err(fault)
+        }
+    }
+}
+
+fn spawn<R: Wait + Clock + Threads + RandomSource + Clone + Send + Sync + Drop + 'static>(
+    rt: &R,
+    alloc: Global,
+    bound: Bound,
+    ending: Arc<Ending>,
+) -> Result<(), Fail> {
+    match rt.clone() {
+        Ok(host) => spawn_on(rt, host, alloc, bound, ending),
+        Err(error) => {
+            drop(bound);
+            drop(ending);
+            Err(error.into())
+        }
+    }
+}
+
+// Its second runtime is the thread's.
+fn spawn_on<R: Wait + Clock + Threads + RandomSource + Clone + Send + Sync + Drop + 'static>(
+    rt: &R,
+    host: R,
+    alloc: Global,
+    bound: Bound,
+    ending: Arc<Ending>,
+) -> Result<(), Fail> {
+    let started = thread::Builder::new().spawn(rt, move || run(&host, alloc, bound, &ending));
+    let is_started = started.is_ok();
+    drop(started);
+    if is_started {
+        return Ok(());
+    }
+    Err("no thread".into())
 }
 
 impl Server {
     /// What it answers; none where it doesn't end in time.
-    pub fn end<R: Wait + Clock>(&self, rt: &R) -> Answer {
+    fn end<R: Wait + Clock>(&self, rt: &R) -> Answer {
         let (answer, _) = self.ending.ended.wait_timeout_while(
             rt,
             self.ending.answer.lock(rt),
@@ -154,5 +226,15 @@ impl Server {
             |answer| answer.is_none(),
         );
         *answer
+    }
+
+    /// It must end, and by a shutdown.
+    pub fn shuts_down<R: Wait + Clock>(&self, rt: &R) -> Result<(), Fail> {
+        match self.end(rt) {
+            Some(Ok(ServerEnd::ShutDown)) => Ok(()),
+            Some(Ok(ServerEnd::JournalFull)) => Err("the journal is full".into()),
+            Some(Err(_)) => Err("the server failed".into()),
+            None => Err("the server doesn't end".into()),
+        }
     }
 }

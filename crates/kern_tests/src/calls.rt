@@ -10,7 +10,7 @@ use kern_ask::asking::request_of;
 use kern_core::call::{Arrival, Call, Subscription};
 use kern_core::held::Held;
 use serde_json::Value;
-use std::alloc::Global;
+use std::alloc::{AllocError, Global};
 
 /// The call that a line tells.
 pub fn call_of(alloc: Global, call: &Value) -> Result<Call, SessionFault> {
@@ -95,15 +95,19 @@ fn message_of(alloc: Global, call: &Value) -> Result<Message, SessionFault> {
     }
 }
 
+fn push_copies(alloc: Global, frames: &mut Frames, items: &[&[u8]]) -> Result<(), AllocError> {
+    for item in items {
+        frames.push(Bytes::copy_of(alloc, item)?)?;
+    }
+    Ok(())
+}
+
 // The frames of a message without a key.
 fn frames_of(alloc: Global, call: &Value) -> Result<Frames, SessionFault> {
-    let mut frames = frames(alloc, call, "identities")?;
-    frames.push(Bytes::copy_of(alloc, DELIMITER)?)?;
-    frames.push(Bytes::new(alloc))?;
-    frames.push(Bytes::copy_of(alloc, text(call, "header")?.as_bytes())?)?;
-    frames.push(Bytes::copy_of(alloc, b"{}")?)?;
-    frames.push(Bytes::copy_of(alloc, b"{}")?)?;
+    let header = text(call, "header")?.as_bytes();
     let content = member(call, "content")?.to_vec(alloc)?;
-    frames.push(Bytes::from(content))?;
+    let mut frames = frames(alloc, call, "identities")?;
+    let items = [DELIMITER, b"", header, b"{}", b"{}", content.as_slice()];
+    push_copies(alloc, &mut frames, &items)?;
     Ok(frames)
 }

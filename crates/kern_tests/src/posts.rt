@@ -35,6 +35,24 @@ pub fn compare_post(
     Ok(())
 }
 
+/// What of a post is compared.
+#[derive(Clone, Copy)]
+enum Part {
+    Type,
+    Head,
+    Parent,
+    Content,
+    Frames,
+}
+
+const PARTS: [(Part, &str); 5] = [
+    (Part::Type, "type"),
+    (Part::Head, "head"),
+    (Part::Parent, "parent"),
+    (Part::Content, "content"),
+    (Part::Frames, "frames"),
+];
+
 // The first part of a post that isn't as it is told, if there is one.
 fn other_part(
     alloc: Global,
@@ -48,22 +66,24 @@ fn other_part(
     if moment != post.moment {
         return Ok(Some("moment"));
     }
-    if text(told, "msg_type")? != post.letter.content.topic() {
-        return Ok(Some("type"));
-    }
-    if !is_head(alloc, told, post)? {
-        return Ok(Some("head"));
-    }
-    if text(told, "parent")?.as_bytes() != post.letter.envelope.parent.as_slice() {
-        return Ok(Some("parent"));
-    }
-    if !is_content(alloc, told, post)? {
-        return Ok(Some("content"));
-    }
-    if !is_rendered(alloc, told, post)? {
-        return Ok(Some("frames"));
+    for (part, name) in PARTS {
+        if !is_part(alloc, told, post, part)? {
+            return Ok(Some(name));
+        }
     }
     Ok(None)
+}
+
+fn is_part(alloc: Global, told: &Value, post: &Post, part: Part) -> Result<bool, SessionFault> {
+    match part {
+        Part::Type => Ok(text(told, "msg_type")? == post.letter.content.topic()),
+        Part::Head => is_head(alloc, told, post),
+        Part::Parent => {
+            Ok(text(told, "parent")?.as_bytes() == post.letter.envelope.parent.as_slice())
+        }
+        Part::Content => is_content(alloc, told, post),
+        Part::Frames => is_rendered(alloc, told, post),
+    }
 }
 
 fn is_head(alloc: Global, told: &Value, post: &Post) -> Result<bool, SessionFault> {
@@ -88,8 +108,11 @@ fn are_identities(alloc: Global, told: &Value, identities: &Frames) -> Result<bo
 }
 
 fn is_content(alloc: Global, told: &Value, post: &Post) -> Result<bool, SessionFault> {
+    let told = member(told, "content")?;
     let content = content_json(alloc, post.number, &post.letter.content)?;
-    Ok(*member(told, "content")? == content)
+    let is_told = *told == content;
+    drop(content);
+    Ok(is_told)
 }
 
 // Where the frames are told, they are those under the empty key in the session `S`.

@@ -28,25 +28,30 @@ fn is_reply(alloc: Global, told: &Value, reply: &Reply) -> Result<bool, SessionF
     if told.get("refused").is_some() {
         return Ok(false);
     }
-    let kind = text(told, "kind")?;
+    if text(told, "kind")? != kind_of(reply) {
+        return Ok(false);
+    }
     match reply {
-        Reply::Joined { connection, from } => is_joined(told, kind, *connection, *from),
-        Reply::Left => Ok(kind == "Left"),
-        Reply::Subscribed => Ok(kind == "Subscribed"),
-        Reply::Arrived => Ok(kind == "Arrived"),
-        Reply::More => Ok(kind == "More"),
-        Reply::Idle => Ok(kind == "Idle"),
-        Reply::Ended => Ok(kind == "Ended"),
-        Reply::Fetched { posts, next, ended } => {
-            is_fetched(alloc, told, kind, posts, *next, *ended)
-        }
+        Reply::Joined { connection, from } => is_joined(told, *connection, *from),
+        Reply::Fetched { posts, next, ended } => is_fetched(alloc, told, posts, *next, *ended),
+        _ => Ok(true),
     }
 }
 
-fn is_joined(told: &Value, kind: &str, connection: u32, from: u64) -> Result<bool, SessionFault> {
-    if kind != "Joined" {
-        return Ok(false);
+fn kind_of(reply: &Reply) -> &'static str {
+    match reply {
+        Reply::Joined { .. } => "Joined",
+        Reply::Left => "Left",
+        Reply::Subscribed => "Subscribed",
+        Reply::Arrived => "Arrived",
+        Reply::More => "More",
+        Reply::Idle => "Idle",
+        Reply::Ended => "Ended",
+        Reply::Fetched { .. } => "Fetched",
     }
+}
+
+fn is_joined(told: &Value, connection: u32, from: u64) -> Result<bool, SessionFault> {
     let is_connection = number(told, "connection")? == u64::from(connection);
     Ok(is_connection && number(told, "from")? == from)
 }
@@ -54,18 +59,14 @@ fn is_joined(told: &Value, kind: &str, connection: u32, from: u64) -> Result<boo
 fn is_fetched(
     alloc: Global,
     told: &Value,
-    kind: &str,
     posts: &Posts,
     next: u64,
     ended: bool,
 ) -> Result<bool, SessionFault> {
-    if kind != "Fetched" {
-        return Ok(false);
-    }
-    let posts_told = numbers(alloc, told, "posts")?;
-    let are_posts = are_numbers(posts_told.as_slice(), posts);
     let is_next = number(told, "next")? == next;
     let is_ended = truth(told, "ended")? == ended;
+    let posts_told = numbers(alloc, told, "posts")?;
+    let are_posts = are_numbers(posts_told.as_slice(), posts);
     Ok(are_posts && is_next && is_ended)
 }
 
@@ -86,12 +87,23 @@ fn is_refusal(told: &Value, fault: KernFault) -> Result<bool, SessionFault> {
     if told.get("refused").is_none() {
         return Ok(false);
     }
-    let name = text(told, "refused")?;
     match fault {
         KernFault::OutOfMemory => Err(SessionFault::OutOfMemory),
-        KernFault::Full => Ok(name == "Full"),
-        KernFault::Lagged { first } => Ok(name == "Lagged" && number(told, "first")? == first),
-        KernFault::JournalFull => Ok(name == "JournalFull"),
-        KernFault::NoConnection => Ok(name == "NoConnection"),
+        KernFault::Lagged { first } => is_lagged(told, first),
+        _ => Ok(text(told, "refused")? == name_of(fault)),
+    }
+}
+
+fn is_lagged(told: &Value, first: u64) -> Result<bool, SessionFault> {
+    Ok(text(told, "refused")? == "Lagged" && number(told, "first")? == first)
+}
+
+fn name_of(fault: KernFault) -> &'static str {
+    match fault {
+        KernFault::OutOfMemory => "OutOfMemory",
+        KernFault::Full => "Full",
+        KernFault::Lagged { .. } => "Lagged",
+        KernFault::JournalFull => "JournalFull",
+        KernFault::NoConnection => "NoConnection",
     }
 }

@@ -16,7 +16,7 @@ use std::alloc::{AllocError, Global};
 const MOST_ENTRIES: u32 = 4_194_304;
 
 /// How much a session did.
-#[derive(Clone, Copy, Debug)]
+#[derive(Clone, Copy)]
 pub struct Made {
     pub calls: u64,
     pub posts: u64,
@@ -36,23 +36,19 @@ struct Session {
 /// Makes the calls of a session, a line each, and compares what they give. The fault of the first line
 /// that isn't kept to comes with the number of the line, from 1.
 pub fn run_session(alloc: Global, text: &str) -> Result<Made, (usize, SessionFault)> {
-    let mut session = match open_session(alloc, text) {
-        Ok(session) => session,
-        Err(fault) => return Err((1, fault)),
-    };
-    for (at, line) in text.lines().enumerate() {
-        if let Err(fault) = session.line(alloc, line) {
-            return Err((at.saturating_add(1), fault));
+    match open_session(alloc, text) {
+        Ok(mut session) => {
+            let made = session.lines(alloc, text);
+            drop(session);
+            made
         }
+        Err(fault) => Err((1, fault)),
     }
-    Ok(session.made)
 }
 
 // A new kernel with the limit that the first line tells.
 fn open_session(alloc: Global, text: &str) -> Result<Session, SessionFault> {
-    let first = text.lines().next().unwrap_or("");
-    let line = read_line(alloc, first)?;
-    let limit = small_number(&line, "limit")?;
+    let limit = limit_of(alloc, text)?;
     if limit == 0 || limit > MOST_ENTRIES {
         return Err(SessionFault::Member("limit"));
     }
@@ -65,11 +61,26 @@ fn open_session(alloc: Global, text: &str) -> Result<Session, SessionFault> {
     })
 }
 
+fn limit_of(alloc: Global, text: &str) -> Result<u32, SessionFault> {
+    let first = text.lines().next().unwrap_or("");
+    let line = read_line(alloc, first)?;
+    let limit = small_number(&line, "limit");
+    drop(line);
+    limit
+}
+
 fn read_line(alloc: Global, text: &str) -> Result<Value, SessionFault> {
     match Value::from_str(alloc, text) {
         Ok(line) => Ok(line),
-        Err(e) if e.is_memory() => Err(SessionFault::OutOfMemory),
-        Err(_) => Err(SessionFault::Json),
+        Err(error) => {
+            let is_memory = error.is_memory();
+            drop(error);
+            Err(if is_memory {
+                SessionFault::OutOfMemory
+            } else {
+                SessionFault::Json
+            })
+        }
     }
 }
 
@@ -80,35 +91,81 @@ fn numbered(alloc: Global, text: &str, number: u64) -> Result<String, AllocError
 }
 
 impl Session {
+    fn lines(&mut self, alloc: Global, text: &str) -> Result<Made, (usize, SessionFault)> {
+        for (at, line) in text.lines().enumerate() {
+            if let Err(fault) = self.line(alloc, line) {
+                return Err((at.saturating_add(1), fault));
+            }
+        }
+        Ok(self.made)
+    }
+
     fn line(&mut self, alloc: Global, text: &str) -> Result<(), SessionFault> {
         let line = read_line(alloc, text)?;
         if line.get("repeat").is_some() {
-            return self.repeat(alloc, text, &line);
+            let repeated = self.repeat(alloc, text, &line);
+            drop(line);
+            return repeated;
         }
-        self.call(alloc, &line)?;
-        self.see_posts(alloc, &line)?;
-        self.lines.push(line)?;
-        Ok(())
+        match self.make(alloc, &line) {
+            Ok(()) => self.keep(line),
+            Err(fault) => {
+                drop(line);
+                Err(fault)
+            }
+        }
+    }
+
+    fn make(&mut self, alloc: Global, line: &Value) -> Result<(), SessionFault> {
+        self.call(alloc, line)?;
+        self.see_posts(alloc, line)
+    }
+
+    fn keep(&mut self, line: Value) -> Result<(), SessionFault> {
+        match self.lines.push(line) {
+            Ok(()) => Ok(()),
+            Err(refused) => {
+                drop(refused);
+                Err(SessionFault::OutOfMemory)
+            }
+        }
     }
 
     // The posts of repeated calls aren't told, but for how many they are.
     fn repeat(&mut self, alloc: Global, text: &str, line: &Value) -> Result<(), SessionFault> {
         let posts = number(line, "made")?;
         for k in 0..number(line, "repeat")? {
-            let text = numbered(alloc, text, k)?;
-            let line = read_line(alloc, text.as_str())?;
-            self.call(alloc, &line)?;
+            self.call_again(alloc, text, k)?;
             self.made.posts = self.made.posts.saturating_add(posts);
         }
         Ok(())
     }
 
+    fn call_again(&mut self, alloc: Global, text: &str, number: u64) -> Result<(), SessionFault> {
+        let text = numbered(alloc, text, number)?;
+        let line = read_line(alloc, text.as_str())?;
+        let made = self.call(alloc, &line);
+        drop(line);
+        made
+    }
+
     fn call(&mut self, alloc: Global, line: &Value) -> Result<(), SessionFault> {
         let call = call_of(alloc, member(line, "call")?)?;
         let answer = self.kernel.act(call);
-        compare_reply(alloc, member(line, "reply")?, &answer)?;
+        let compared = self.compare(alloc, line, &answer);
+        drop(answer);
+        compared
+    }
+
+    fn compare(
+        &mut self,
+        alloc: Global,
+        line: &Value,
+        answer: &Result<Reply, KernFault>,
+    ) -> Result<(), SessionFault> {
+        compare_reply(alloc, member(line, "reply")?, answer)?;
         self.made.calls = self.made.calls.saturating_add(1);
-        self.follow(alloc, line, &answer)
+        self.follow(alloc, line, answer)
     }
 
     // What an answer says of who is there and of earlier posts.
@@ -160,10 +217,30 @@ fn see_posts_of(
     from: u64,
 ) -> Result<(), SessionFault> {
     let answer = kernel.act(Call::Fetch { connection, from });
-    let posts = match &answer {
-        Ok(Reply::Fetched { posts, .. }) => posts,
-        _ => return Err(SessionFault::Fetch(connection)),
-    };
+    let compared = compare_seen(alloc, line, connection, &answer);
+    drop(answer);
+    compared
+}
+
+// A fetch must give what the line tells of the posts to a connection.
+fn compare_seen(
+    alloc: Global,
+    line: &Value,
+    connection: u32,
+    answer: &Result<Reply, KernFault>,
+) -> Result<(), SessionFault> {
+    match answer {
+        Ok(Reply::Fetched { posts, .. }) => compare_fetched(alloc, line, connection, posts),
+        _ => Err(SessionFault::Fetch(connection)),
+    }
+}
+
+fn compare_fetched(
+    alloc: Global,
+    line: &Value,
+    connection: u32,
+    posts: &Posts,
+) -> Result<(), SessionFault> {
     if !are_those_to(alloc, connection, list(line, "posts")?, posts)? {
         return Err(SessionFault::Numbers(connection));
     }
@@ -182,11 +259,19 @@ fn are_those_to(
 ) -> Result<bool, SessionFault> {
     let mut numbers = Vec::new(alloc);
     for post in told {
-        if is_to(post, connection)? {
-            numbers.push(number(post, "number")?)?;
+        if let Some(number) = number_to(post, connection)? {
+            numbers.push(number)?;
         }
     }
     Ok(are_numbers(numbers.as_slice(), posts))
+}
+
+// The number of a post that is addressed to a connection.
+fn number_to(post: &Value, connection: u32) -> Result<Option<u64>, SessionFault> {
+    if !is_to(post, connection)? {
+        return Ok(None);
+    }
+    Ok(Some(number(post, "number")?))
 }
 
 // Compares posts with what lines tell of them; of those of repeated calls nothing is told.
@@ -208,9 +293,19 @@ fn compare_told(alloc: Global, lines: &[Value], post: &Post) -> Result<(), Sessi
 fn compare_with(alloc: Global, line: &Value, post: &Post) -> Result<(), SessionFault> {
     for told in list(line, "posts")? {
         if number(told, "number")? == post.number {
-            let moment = number(member(line, "call")?, "moment")?;
-            compare_post(alloc, told, moment, post)?;
+            compare_made(alloc, line, told, post)?;
         }
     }
     Ok(())
+}
+
+// Compares a post with what is told of it in the line of the call that made it.
+fn compare_made(
+    alloc: Global,
+    line: &Value,
+    told: &Value,
+    post: &Post,
+) -> Result<(), SessionFault> {
+    let moment = number(member(line, "call")?, "moment")?;
+    compare_post(alloc, told, moment, post)
 }
