@@ -1,5 +1,6 @@
 //! The assembler on a mixed program: how many lines a second it assembles.
 use anyhow::{Result, bail};
+use asm_build::built::Built;
 use asm_build::cell::build;
 use asm_build::symbols::Symbols;
 use asm_text::statements::statements;
@@ -33,26 +34,42 @@ fn program(alloc: Global, lines: u64) -> Result<String, AllocError> {
     Ok(text)
 }
 
-/// How many bytes and symbols a text gives.
-pub fn assembled(alloc: Global, text: &str) -> Result<(usize, usize)> {
-    let all = match statements(alloc, text) {
-        Ok(all) => all,
-        Err(fault) => bail!("the text is refused: {fault}"),
-    };
-    match build(alloc, &all, &Symbols::new(alloc)) {
-        Ok(built) => Ok((built.image.len(), built.symbols.len())),
+fn built(alloc: Global, text: &str) -> Result<Built> {
+    match statements(alloc, text) {
+        Ok(all) => {
+            let built = build(alloc, &all, &Symbols::new(alloc));
+            drop(all);
+            match built {
+                Ok(built) => Ok(built),
+                Err(fault) => bail!("the text is refused: {fault}"),
+            }
+        }
         Err(fault) => bail!("the text is refused: {fault}"),
     }
+}
+
+/// How many bytes and symbols a text gives.
+pub fn assembled(alloc: Global, text: &str) -> Result<(usize, usize)> {
+    let built = built(alloc, text)?;
+    let sizes = (built.image.len(), built.symbols.len());
+    drop(built);
+    Ok(sizes)
+}
+
+// How many bytes a text gives that is assembled so often.
+fn assembled_often(alloc: Global, text: &str, rounds: u64) -> Result<usize> {
+    let mut bytes = 0;
+    for _ in 0..rounds {
+        bytes = assembled(alloc, text)?.0;
+    }
+    Ok(bytes)
 }
 
 // Prints how many lines a second are assembled of programs of so many lines, and gives that number.
 fn rate<R: Clock + Print>(rt: &R, alloc: Global, lines: u64) -> Result<u128> {
     let text = program(alloc, lines)?;
     let start = Instant::now(rt)?;
-    let mut bytes = 0;
-    for _ in 0..LINES_IN_ALL / lines.max(1) {
-        bytes = assembled(alloc, text.as_str())?.0;
-    }
+    let bytes = assembled_often(alloc, text.as_str(), LINES_IN_ALL / lines.max(1))?;
     let micros = start.elapsed(rt)?.as_micros().max(1);
     let speed = u128::from(LINES_IN_ALL).saturating_mul(1_000_000) / micros;
     println!(rt; "{lines} lines, {bytes} bytes: {speed} lines/s")?;

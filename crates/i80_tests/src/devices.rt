@@ -3,7 +3,6 @@ use i80_devs::devices::{Devices, PressFault};
 use i80_exec::ports::{PortOperation, Ports};
 use std::alloc::{AllocError, Global};
 use std::process::Abort;
-use std::test::Fail;
 
 /// What a table does with the devices, or finds in them.
 #[derive(Clone, Copy)]
@@ -30,177 +29,191 @@ enum Act {
     Traffic(&'static [PortOperation]),
 }
 
-fn input(rt: &impl Abort, devices: &mut Devices, port: u8, byte: u8) -> Result<(), AllocError> {
+// Whether a port gives this byte.
+fn is_input(devices: &mut Devices, port: u8, byte: u8) -> Result<bool, AllocError> {
     devices.reserve_out(1)?;
-    assert_eq!(rt; devices.input(port), byte, "port {port}");
-    Ok(())
+    Ok(devices.input(port) == byte)
 }
 
-fn perform(rt: &impl Abort, devices: &mut Devices, act: Act) -> Result<(), AllocError> {
+// Does one thing of a table. Whether it finds there what the table tells.
+fn perform(devices: &mut Devices, act: Act) -> Result<bool, AllocError> {
     match act {
         Act::Typed(bytes) => devices.type_bytes(bytes)?,
         Act::Switches(byte) => devices.set_switches(byte),
-        Act::In(port, byte) => input(rt, devices, port, byte)?,
+        Act::In(port, byte) => return is_input(devices, port, byte),
         Act::Out(port, byte) => {
             devices.reserve_out(1)?;
             devices.output(port, byte);
         }
         Act::TakeRequest => devices.take_request(),
         Act::Clear => devices.clear(),
-        _ => find(rt, devices, act),
+        _ => return Ok(finds(devices, act)),
     }
-    Ok(())
+    Ok(true)
 }
 
-fn find(rt: &impl Abort, devices: &mut Devices, act: Act) {
+fn finds(devices: &mut Devices, act: Act) -> bool {
     match act {
-        Act::Press(number, answer) => assert_eq!(rt; devices.press(number), answer),
-        Act::Waiting(count) => assert_eq!(rt; devices.waiting(), count),
+        Act::Press(number, answer) => devices.press(number) == answer,
+        Act::Waiting(count) => devices.waiting() == count,
         Act::Lights(switches, lamps) => {
-            assert_eq!(rt; (devices.switches(), devices.lamps()), (switches, lamps))
+            devices.switches() == switches && devices.lamps() == lamps
         }
-        Act::Request(request) => assert_eq!(rt; devices.request(), request),
-        Act::Traffic(operations) => find_traffic(rt, devices, operations),
-        _ => {}
+        Act::Request(request) => devices.request() == request,
+        Act::Traffic(operations) => devices.take_out().as_slice() == operations,
+        _ => true,
     }
 }
 
-fn find_traffic(rt: &impl Abort, devices: &mut Devices, operations: &[PortOperation]) {
-    assert_eq!(rt; devices.take_out().as_slice(), operations);
+// The first row of a table that finds something else.
+fn first_wrong(devices: &mut Devices, acts: &[Act]) -> Result<Option<usize>, AllocError> {
+    for (row, act) in acts.iter().enumerate() {
+        if !perform(devices, *act)? {
+            return Ok(Some(row));
+        }
+    }
+    Ok(None)
+}
+
+fn first_wrong_of_new(alloc: Global, acts: &[Act]) -> Result<Option<usize>, AllocError> {
+    let mut devices = Devices::new(alloc);
+    let wrong = first_wrong(&mut devices, acts);
+    drop(devices);
+    wrong
 }
 
 /// Goes through a table with new devices.
-fn play(rt: &impl Abort, alloc: Global, acts: &[Act]) -> Result<(), AllocError> {
-    let mut devices = Devices::new(alloc);
-    for next in acts {
-        perform(rt, &mut devices, *next)?;
+fn play(rt: &impl Abort, alloc: Global, acts: &[Act]) {
+    match first_wrong_of_new(alloc, acts) {
+        Ok(None) => {}
+        Ok(Some(row)) => panic!(rt; "row {row}"),
+        Err(AllocError) => panic!(rt; "out of memory"),
     }
-    Ok(())
 }
 
-#[test]
-fn input_is_told_taken_and_kept_in_the_traffic(rt: HostRuntime) -> Result<(), Fail> {
-    let acts = [
-        Act::Typed(&[0x41]),
-        Act::Waiting(1),
-        Act::In(0, 0x03),
-        Act::In(1, 0x41),
-        Act::In(0, 0x02),
-        Act::In(1, 0x00),
-        Act::Waiting(0),
-        Act::Traffic(&[
-            PortOperation::In {
-                port: 0,
-                byte: 0x03,
-            },
-            PortOperation::In {
-                port: 1,
-                byte: 0x41,
-            },
-            PortOperation::In {
-                port: 0,
-                byte: 0x02,
-            },
-            PortOperation::In {
-                port: 1,
-                byte: 0x00,
-            },
-        ]),
-        Act::Traffic(&[]),
-        Act::In(9, 0xff),
-    ];
-    play(&rt, rt.alloc(), &acts)?;
-    Ok(())
-}
+const INPUT: [Act; 10] = [
+    Act::Typed(&[0x41]),
+    Act::Waiting(1),
+    Act::In(0, 0x03),
+    Act::In(1, 0x41),
+    Act::In(0, 0x02),
+    Act::In(1, 0x00),
+    Act::Waiting(0),
+    Act::Traffic(&[
+        PortOperation::In {
+            port: 0,
+            byte: 0x03,
+        },
+        PortOperation::In {
+            port: 1,
+            byte: 0x41,
+        },
+        PortOperation::In {
+            port: 0,
+            byte: 0x02,
+        },
+        PortOperation::In {
+            port: 1,
+            byte: 0x00,
+        },
+    ]),
+    Act::Traffic(&[]),
+    Act::In(9, 0xff),
+];
 
 #[test]
-fn typed_bytes_come_in_order(rt: HostRuntime) -> Result<(), Fail> {
-    let acts = [
-        Act::Typed(b"ab"),
-        Act::Typed(b""),
-        Act::Typed(b"c"),
-        Act::In(1, b'a'),
-        Act::In(1, b'b'),
-        Act::In(0, 3),
-        Act::In(1, b'c'),
-        Act::In(1, 0),
-    ];
-    play(&rt, rt.alloc(), &acts)?;
-    Ok(())
+fn input_is_told_taken_and_kept_in_the_traffic(rt: HostRuntime) {
+    play(&rt, rt.alloc(), &INPUT);
 }
 
-#[test]
-fn switches_and_lamps_are_what_was_last_set(rt: HostRuntime) -> Result<(), Fail> {
-    let acts = [
-        Act::Lights(0, 0),
-        Act::Switches(0x5a),
-        Act::In(2, 0x5a),
-        Act::Out(2, 0x0f),
-        Act::Out(1, 0x41),
-        Act::Out(3, 0x00),
-        Act::Out(7, 0xff),
-        Act::Lights(0x5a, 0x0f),
-        Act::Traffic(&[
-            PortOperation::In {
-                port: 2,
-                byte: 0x5a,
-            },
-            PortOperation::Out {
-                port: 2,
-                byte: 0x0f,
-            },
-            PortOperation::Out {
-                port: 1,
-                byte: 0x41,
-            },
-            PortOperation::Out {
-                port: 3,
-                byte: 0x00,
-            },
-            PortOperation::Out {
-                port: 7,
-                byte: 0xff,
-            },
-        ]),
-    ];
-    play(&rt, rt.alloc(), &acts)?;
-    Ok(())
-}
+const TYPED: [Act; 8] = [
+    Act::Typed(b"ab"),
+    Act::Typed(b""),
+    Act::Typed(b"c"),
+    Act::In(1, b'a'),
+    Act::In(1, b'b'),
+    Act::In(0, 3),
+    Act::In(1, b'c'),
+    Act::In(1, 0),
+];
 
 #[test]
-fn one_request_is_latched_at_most(rt: HostRuntime) -> Result<(), Fail> {
-    let acts = [
-        Act::Request(None),
-        Act::Press(8, Err(PressFault::Vector)),
-        Act::Press(7, Ok(())),
-        Act::Press(3, Err(PressFault::Latched)),
-        Act::Press(8, Err(PressFault::Vector)),
-        Act::Request(Some(7)),
-        Act::TakeRequest,
-        Act::Request(None),
-        Act::TakeRequest,
-        Act::Press(0, Ok(())),
-        Act::Request(Some(0)),
-    ];
-    play(&rt, rt.alloc(), &acts)?;
-    Ok(())
+fn typed_bytes_come_in_order(rt: HostRuntime) {
+    play(&rt, rt.alloc(), &TYPED);
 }
 
+const LIGHTS: [Act; 9] = [
+    Act::Lights(0, 0),
+    Act::Switches(0x5a),
+    Act::In(2, 0x5a),
+    Act::Out(2, 0x0f),
+    Act::Out(1, 0x41),
+    Act::Out(3, 0x00),
+    Act::Out(7, 0xff),
+    Act::Lights(0x5a, 0x0f),
+    Act::Traffic(&[
+        PortOperation::In {
+            port: 2,
+            byte: 0x5a,
+        },
+        PortOperation::Out {
+            port: 2,
+            byte: 0x0f,
+        },
+        PortOperation::Out {
+            port: 1,
+            byte: 0x41,
+        },
+        PortOperation::Out {
+            port: 3,
+            byte: 0x00,
+        },
+        PortOperation::Out {
+            port: 7,
+            byte: 0xff,
+        },
+    ]),
+];
+
 #[test]
-fn cleared_devices_are_new_ones(rt: HostRuntime) -> Result<(), Fail> {
-    let acts = [
-        Act::Typed(b"ab"),
-        Act::Switches(0x5a),
-        Act::Press(7, Ok(())),
-        Act::Out(2, 0x0f),
-        Act::Clear,
-        Act::Lights(0, 0),
-        Act::Waiting(0),
-        Act::Request(None),
-        Act::Traffic(&[]),
-        Act::In(0, 2),
-        Act::In(1, 0),
-    ];
-    play(&rt, rt.alloc(), &acts)?;
-    Ok(())
+fn switches_and_lamps_are_what_was_last_set(rt: HostRuntime) {
+    play(&rt, rt.alloc(), &LIGHTS);
+}
+
+const REQUESTS: [Act; 11] = [
+    Act::Request(None),
+    Act::Press(8, Err(PressFault::Vector)),
+    Act::Press(7, Ok(())),
+    Act::Press(3, Err(PressFault::Latched)),
+    Act::Press(8, Err(PressFault::Vector)),
+    Act::Request(Some(7)),
+    Act::TakeRequest,
+    Act::Request(None),
+    Act::TakeRequest,
+    Act::Press(0, Ok(())),
+    Act::Request(Some(0)),
+];
+
+#[test]
+fn one_request_is_latched_at_most(rt: HostRuntime) {
+    play(&rt, rt.alloc(), &REQUESTS);
+}
+
+const CLEARED: [Act; 11] = [
+    Act::Typed(b"ab"),
+    Act::Switches(0x5a),
+    Act::Press(7, Ok(())),
+    Act::Out(2, 0x0f),
+    Act::Clear,
+    Act::Lights(0, 0),
+    Act::Waiting(0),
+    Act::Request(None),
+    Act::Traffic(&[]),
+    Act::In(0, 2),
+    Act::In(1, 0),
+];
+
+#[test]
+fn cleared_devices_are_new_ones(rt: HostRuntime) {
+    play(&rt, rt.alloc(), &CLEARED);
 }

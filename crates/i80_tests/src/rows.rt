@@ -11,10 +11,8 @@ use std::process::Abort;
 const NO_FLAGS: u8 = 0x02;
 
 fn expect(rt: &impl Abort, computed: AluResult, value: u8, flag_byte: u8) {
-    assert_eq!(rt;
-        (computed.value, computed.flags.to_byte()),
-        (value, flag_byte)
-    );
+    let is_so = computed.value == value && computed.flags.to_byte() == flag_byte;
+    assert!(rt; is_so, "not {value:x} with flags {flag_byte:x}");
 }
 
 #[test]
@@ -66,48 +64,60 @@ fn the_flag_byte_has_three_fixed_bits(rt: HostRuntime) {
     assert!(rt; !flags.parity() && flags.carry());
 }
 
-fn decodes(rt: &impl Abort, bytes: &[u8], want: Result<(Instr, u8), DecodeFault>) {
-    assert_eq!(rt; decode(bytes), want);
-}
+const DECODED: [(&[u8], Result<(Instr, u8), DecodeFault>); 9] = [
+    (&[], Err(DecodeFault::Short { needed: 1 })),
+    (&[0xc3, 0x34], Err(DecodeFault::Short { needed: 3 })),
+    (&[0x3e], Err(DecodeFault::Short { needed: 2 })),
+    (&[0xc3, 0x34, 0x12], Ok((Instr::Jmp(0x1234), 3))),
+    (&[0x3e, 0x6c, 0x76], Ok((Instr::Mvi(Reg::A, 0x6c), 2))),
+    (&[0x41], Ok((Instr::Mov(Register::B, Register::C), 1))),
+    (&[0xdc, 0, 1], Ok((Instr::CallIf(Cond::Carry, 0x0100), 3))),
+    (&[0xfe, 9], Ok((Instr::AluImmediate(Operation::Cmp, 9), 2))),
+    (&[0xcf], Ok((Instr::Rst(Vector::V1), 1))),
+];
+
+const UNDEFINED: [u8; 12] = [
+    0x08, 0x10, 0x18, 0x20, 0x28, 0x30, 0x38, 0xcb, 0xd9, 0xdd, 0xed, 0xfd,
+];
 
 #[test]
 fn decode_tells_undefined_and_short_apart(rt: HostRuntime) {
-    decodes(&rt, &[], Err(DecodeFault::Short { needed: 1 }));
-    decodes(&rt, &[0xc3, 0x34], Err(DecodeFault::Short { needed: 3 }));
-    decodes(&rt, &[0x3e], Err(DecodeFault::Short { needed: 2 }));
-    decodes(&rt, &[0xc3, 0x34, 0x12], Ok((Instr::Jmp(0x1234), 3)));
-    decodes(&rt, &[0x3e, 0x6c, 0x76], Ok((Instr::Mvi(Reg::A, 0x6c), 2)));
-    decodes(&rt, &[0x41], Ok((Instr::Mov(Register::B, Register::C), 1)));
-    decodes(
-        &rt,
-        &[0xdc, 0, 1],
-        Ok((Instr::CallIf(Cond::Carry, 0x0100), 3)),
-    );
-    decodes(
-        &rt,
-        &[0xfe, 9],
-        Ok((Instr::AluImmediate(Operation::Cmp, 9), 2)),
-    );
-    decodes(&rt, &[0xcf], Ok((Instr::Rst(Vector::V1), 1)));
-    for opcode in [
-        0x08, 0x10, 0x18, 0x20, 0x28, 0x30, 0x38, 0xcb, 0xd9, 0xdd, 0xed, 0xfd,
-    ] {
-        decodes(&rt, &[opcode, 0, 0], Err(DecodeFault::Undefined));
+    for (row, (bytes, want)) in DECODED.iter().enumerate() {
+        assert!(rt; decode(bytes) == *want, "row {row}");
     }
+    for opcode in UNDEFINED {
+        let decoded = decode(&[opcode, 0, 0]);
+        assert!(rt; decoded == Err(DecodeFault::Undefined), "{opcode:x}");
+    }
+}
+
+// Whether what an opcode with two bytes after it means is encoded as they are; nothing where it means
+// nothing.
+fn is_encoded_again(opcode: u8) -> Option<bool> {
+    let code = [opcode, 0x34, 0x12];
+    match decode(&code) {
+        Ok((instr, _)) => Some(code.starts_with(encode(instr).as_slice())),
+        Err(_) => None,
+    }
+}
+
+// How many of 64 opcodes are defined, each of which is encoded again.
+fn defined_from(rt: &impl Abort, first: u8) -> u32 {
+    let mut defined = 0u32;
+    for more in 0..64u8 {
+        let opcode = first | more;
+        if let Some(is_encoded) = is_encoded_again(opcode) {
+            assert!(rt; is_encoded, "{opcode:x}");
+            defined = defined.wrapping_add(1);
+        }
+    }
+    defined
 }
 
 #[test]
 fn each_defined_opcode_is_encoded_again(rt: HostRuntime) {
     for (first, want) in [(0u8, 57), (64, 64), (128, 64), (192, 59)] {
-        let mut defined = 0u32;
-        for more in 0..64u8 {
-            let code = [first | more, 0x34, 0x12];
-            if let Ok((instr, _)) = decode(&code) {
-                let encoded = encode(instr);
-                assert!(rt; code.starts_with(encoded.as_slice()), "{code:?}");
-                defined = defined.wrapping_add(1);
-            }
-        }
-        assert_eq!(rt; defined, want);
+        let defined = defined_from(&rt, first);
+        assert!(rt; defined == want, "{defined} from {first:x} on");
     }
 }

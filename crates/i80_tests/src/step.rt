@@ -8,7 +8,6 @@ use i80_exec::registers::{Interrupts, Registers, Stepped};
 use i80_rows::flags::Flags;
 use std::alloc::{AllocError, Global};
 use std::process::Abort;
-use std::test::Fail;
 
 /// What every port answers.
 const ANSWER: u8 = 0x5a;
@@ -136,199 +135,222 @@ enum Act {
     Accept(Option<Stepped>),
 }
 
-fn expect(rt: &impl Abort, outcome: Outcome, want: Outcome) {
-    assert_eq!(rt; outcome, want);
+// Does the instruction at PC. Whether it has this outcome.
+fn steps(alloc: Global, machine: &mut Machine, want: Outcome) -> Result<bool, AllocError> {
+    Ok(step(alloc, machine)? == want)
 }
 
-fn perform(
-    rt: &impl Abort,
-    alloc: Global,
-    machine: &mut Machine,
-    act: Act,
-) -> Result<(), AllocError> {
+// Does one thing of a table. Whether it finds there what the table tells.
+fn perform(alloc: Global, machine: &mut Machine, act: Act) -> Result<bool, AllocError> {
     match act {
         Act::Set(a, flag_byte, hl, sp) => machine.set_regs(registers(a, flag_byte, hl, sp, 0)),
         Act::Poke(address, byte) => machine.poke(address, byte),
-        Act::Step(stepped) => expect(rt, step(alloc, machine)?, (stepped, (0, None))),
+        Act::Step(stepped) => return steps(alloc, machine, (stepped, (0, None))),
         Act::Operate(operation) => {
-            expect(
-                rt,
-                step(alloc, machine)?,
-                (Stepped::Done, (1, Some(operation))),
-            )
+            return steps(alloc, machine, (Stepped::Done, (1, Some(operation))));
         }
-        Act::Accept(answer) => assert_eq!(rt; machine.accept(7), answer),
-        _ => find(rt, machine, act),
+        Act::Accept(answer) => return Ok(machine.accept(7) == answer),
+        _ => return Ok(finds(machine, act)),
     }
-    Ok(())
+    Ok(true)
 }
 
-fn find(rt: &impl Abort, machine: &Machine, act: Act) {
+fn finds(machine: &Machine, act: Act) -> bool {
     match act {
         Act::Registers(a, flag_byte, hl, sp, pc) => {
-            assert_eq!(rt; machine.regs(), registers(a, flag_byte, hl, sp, pc))
+            machine.regs() == registers(a, flag_byte, hl, sp, pc)
         }
-        Act::Interrupts(interrupts) => assert_eq!(rt; machine.regs().interrupts, interrupts),
-        Act::Peek(address, byte) => assert_eq!(rt; machine.peek(address), byte, "at {address:x}"),
-        _ => {}
+        Act::Interrupts(interrupts) => machine.regs().interrupts == interrupts,
+        Act::Peek(address, byte) => machine.peek(address) == byte,
+        _ => true,
     }
 }
 
-/// Goes through a table with a machine that has these bytes from an address on, and PC there.
-fn play(
-    rt: &impl Abort,
+// The first row of a table that finds something else.
+fn first_wrong(
+    alloc: Global,
+    machine: &mut Machine,
+    acts: &[Act],
+) -> Result<Option<usize>, AllocError> {
+    for (row, act) in acts.iter().enumerate() {
+        if !perform(alloc, machine, *act)? {
+            return Ok(Some(row));
+        }
+    }
+    Ok(None)
+}
+
+// The same with a machine that has these bytes from an address on, and PC there.
+fn first_wrong_at(
     alloc: Global,
     address: u16,
     bytes: &[u8],
     acts: &[Act],
-) -> Result<(), AllocError> {
+) -> Result<Option<usize>, AllocError> {
     let mut machine = machine_at(alloc, address, bytes)?;
-    for next in acts {
-        perform(rt, alloc, &mut machine, *next)?;
+    let wrong = first_wrong(alloc, &mut machine, acts);
+    drop(machine);
+    wrong
+}
+
+/// Goes through a table with a machine that has these bytes from an address on, and PC there. The place
+/// tells tables apart.
+fn play(
+    rt: &(impl Abort + AllocGlobal),
+    place: usize,
+    (address, bytes): (u16, &[u8]),
+    acts: &[Act],
+) {
+    match first_wrong_at(rt.alloc(), address, bytes, acts) {
+        Ok(None) => {}
+        Ok(Some(row)) => panic!(rt; "table {place}, row {row}"),
+        Err(AllocError) => panic!(rt; "out of memory"),
     }
-    Ok(())
+}
+
+// Two bytes of code; A, the flag byte and HL before it; A, the flag byte, HL and PC after it.
+type Computed = ([u8; 2], (u8, u8, u16), (u8, u8, u16, u16));
+
+const COMPUTED: [Computed; 7] = [
+    ([0xde, 0x00], (0x00, 0x03, 0), (0xff, 0x87, 0, 2)),
+    ([0x29, 0x00], (0x00, 0x02, 0x8000), (0x00, 0x03, 0x0000, 1)),
+    ([0x97, 0x00], (0x3e, 0x02, 0), (0x00, 0x56, 0, 1)),
+    ([0x27, 0x00], (0x9b, 0x02, 0), (0x01, 0x13, 0, 1)),
+    ([0xe6, 0x0f], (0xfc, 0x02, 0), (0x0c, 0x16, 0, 2)),
+    ([0x2f, 0x00], (0x51, 0xd7, 0), (0xae, 0xd7, 0, 1)),
+    ([0x2b, 0x00], (0x00, 0x02, 0), (0x00, 0x02, 0xffff, 1)),
+];
+
+fn acts_of(computed: &Computed) -> [Act; 3] {
+    let (a, flag_byte, hl) = computed.1;
+    let set = Act::Set(a, flag_byte, hl, 0);
+    let (a, flag_byte, hl, pc) = computed.2;
+    let found = Act::Registers(a, flag_byte, hl, 0, pc);
+    [set, Act::Step(Stepped::Done), found]
 }
 
 #[test]
-fn arithmetic_reads_and_writes_the_registers(rt: HostRuntime) -> Result<(), Fail> {
-    for (code, before, after) in [
-        ([0xde, 0x00], (0x00, 0x03, 0), (0xff, 0x87, 0, 2)),
-        ([0x29, 0x00], (0x00, 0x02, 0x8000), (0x00, 0x03, 0x0000, 1)),
-        ([0x97, 0x00], (0x3e, 0x02, 0), (0x00, 0x56, 0, 1)),
-        ([0x27, 0x00], (0x9b, 0x02, 0), (0x01, 0x13, 0, 1)),
-        ([0xe6, 0x0f], (0xfc, 0x02, 0), (0x0c, 0x16, 0, 2)),
-        ([0x2f, 0x00], (0x51, 0xd7, 0), (0xae, 0xd7, 0, 1)),
-        ([0x2b, 0x00], (0x00, 0x02, 0), (0x00, 0x02, 0xffff, 1)),
-    ] {
-        let (a, flag_byte, hl) = before;
-        let set = Act::Set(a, flag_byte, hl, 0);
-        let (a, flag_byte, hl, pc) = after;
-        let found = Act::Registers(a, flag_byte, hl, 0, pc);
-        play(
-            &rt,
-            rt.alloc(),
-            0,
-            &code,
-            &[set, Act::Step(Stepped::Done), found],
-        )?;
+fn arithmetic_reads_and_writes_the_registers(rt: HostRuntime) {
+    for (place, computed) in COMPUTED.iter().enumerate() {
+        play(&rt, place, (0, &computed.0), &acts_of(computed));
     }
-    Ok(())
 }
 
-#[test]
-fn a_call_pushes_the_next_address_and_ret_pops_it(rt: HostRuntime) -> Result<(), Fail> {
-    let called = Stepped::Called {
+const CALL: [Act; 7] = [
+    Act::Poke(0x1234, 0xc9),
+    Act::Step(Stepped::Called {
         slot: 0xfffe,
         target: 0x1234,
-    };
-    let acts = [
-        Act::Poke(0x1234, 0xc9),
-        Act::Step(called),
-        Act::Registers(0, 0x02, 0, 0xfffe, 0x1234),
-        Act::Peek(0xffff, 0x01),
-        Act::Peek(0xfffe, 0x03),
-        Act::Step(Stepped::Returned { slot: 0xfffe }),
-        Act::Registers(0, 0x02, 0, 0x0000, 0x0103),
-    ];
-    play(&rt, rt.alloc(), 0x0100, &[0xcd, 0x34, 0x12], &acts)?;
-    Ok(())
-}
+    }),
+    Act::Registers(0, 0x02, 0, 0xfffe, 0x1234),
+    Act::Peek(0xffff, 0x01),
+    Act::Peek(0xfffe, 0x03),
+    Act::Step(Stepped::Returned { slot: 0xfffe }),
+    Act::Registers(0, 0x02, 0, 0x0000, 0x0103),
+];
 
 #[test]
-fn short_runs_leave_the_registers_of_the_manual(rt: HostRuntime) -> Result<(), Fail> {
-    let undefined = Stepped::Undefined { opcode: 0x08 };
-    for (address, code, stepped, sp, pc) in [
-        // A return that is not taken pops nothing.
-        (0x0000, [0xc8, 0x00, 0x00], Stepped::Done, 0, 0x0001),
-        // Addresses wrap.
-        (0xffff, [0xc3, 0x00, 0x20], Stepped::Done, 0, 0x2000),
-        (0xffff, [0x33, 0x00, 0x00], Stepped::Done, 1, 0x0000),
-        // An undefined opcode changes nothing.
-        (0x0200, [0x08, 0x00, 0x00], undefined, 0, 0x0200),
-    ] {
-        let acts = [Act::Step(stepped), Act::Registers(0, 0x02, 0, sp, pc)];
-        play(&rt, rt.alloc(), address, &code, &acts)?;
+fn a_call_pushes_the_next_address_and_ret_pops_it(rt: HostRuntime) {
+    play(&rt, 0, (0x0100, &[0xcd, 0x34, 0x12]), &CALL);
+}
+
+// An address, the code there, and what a step of it answers, with SP and PC after it.
+const SHORT: [(u16, [u8; 3], Stepped, u16, u16); 4] = [
+    // A return that is not taken pops nothing.
+    (0x0000, [0xc8, 0x00, 0x00], Stepped::Done, 0, 0x0001),
+    // Addresses wrap.
+    (0xffff, [0xc3, 0x00, 0x20], Stepped::Done, 0, 0x2000),
+    (0xffff, [0x33, 0x00, 0x00], Stepped::Done, 1, 0x0000),
+    // An undefined opcode changes nothing.
+    (
+        0x0200,
+        [0x08, 0x00, 0x00],
+        Stepped::Undefined { opcode: 0x08 },
+        0,
+        0x0200,
+    ),
+];
+
+#[test]
+fn short_runs_leave_the_registers_of_the_manual(rt: HostRuntime) {
+    for (place, (address, code, stepped, sp, pc)) in SHORT.iter().enumerate() {
+        let acts = [Act::Step(*stepped), Act::Registers(0, 0x02, 0, *sp, *pc)];
+        play(&rt, place, (*address, code), &acts);
     }
-    Ok(())
 }
 
-#[test]
-fn a_popped_flag_byte_keeps_its_fixed_bits(rt: HostRuntime) -> Result<(), Fail> {
-    let acts = [
-        Act::Poke(0x2000, 0xff),
-        Act::Set(0, 0x02, 0, 0x2000),
-        Act::Step(Stepped::Done),
-        Act::Step(Stepped::Done),
-        Act::Peek(0x2000, 0xd7),
-        Act::Registers(0, 0xd7, 0, 0x2000, 2),
-    ];
-    play(&rt, rt.alloc(), 0, &[0xf1, 0xf5], &acts)?;
-    Ok(())
-}
+const POPPED: [Act; 6] = [
+    Act::Poke(0x2000, 0xff),
+    Act::Set(0, 0x02, 0, 0x2000),
+    Act::Step(Stepped::Done),
+    Act::Step(Stepped::Done),
+    Act::Peek(0x2000, 0xd7),
+    Act::Registers(0, 0xd7, 0, 0x2000, 2),
+];
 
 #[test]
-fn words_lie_low_byte_first(rt: HostRuntime) -> Result<(), Fail> {
-    let acts = [
-        Act::Set(0, 0x02, 0x1234, 0x3000),
-        Act::Poke(0x3001, 0xff),
-        Act::Step(Stepped::Done),
-        Act::Peek(0x3000, 0x34),
-        Act::Peek(0x3001, 0x12),
-        Act::Poke(0x3001, 0x40),
-        Act::Step(Stepped::Done),
-        Act::Registers(0, 0x02, 0x4034, 0x3000, 4),
-        Act::Peek(0x3000, 0x34),
-        Act::Peek(0x3001, 0x12),
-        Act::Step(Stepped::Done),
-        Act::Peek(0x4034, 0x5a),
-    ];
-    let code = [0x22, 0x00, 0x30, 0xe3, 0x36, 0x5a];
-    play(&rt, rt.alloc(), 0, &code, &acts)?;
-    Ok(())
+fn a_popped_flag_byte_keeps_its_fixed_bits(rt: HostRuntime) {
+    play(&rt, 0, (0, &[0xf1, 0xf5]), &POPPED);
 }
 
+const WORDS: [Act; 12] = [
+    Act::Set(0, 0x02, 0x1234, 0x3000),
+    Act::Poke(0x3001, 0xff),
+    Act::Step(Stepped::Done),
+    Act::Peek(0x3000, 0x34),
+    Act::Peek(0x3001, 0x12),
+    Act::Poke(0x3001, 0x40),
+    Act::Step(Stepped::Done),
+    Act::Registers(0, 0x02, 0x4034, 0x3000, 4),
+    Act::Peek(0x3000, 0x34),
+    Act::Peek(0x3001, 0x12),
+    Act::Step(Stepped::Done),
+    Act::Peek(0x4034, 0x5a),
+];
+
 #[test]
-fn ei_takes_effect_after_the_next_instruction(rt: HostRuntime) -> Result<(), Fail> {
-    let called = Stepped::Called {
+fn words_lie_low_byte_first(rt: HostRuntime) {
+    play(&rt, 0, (0, &[0x22, 0x00, 0x30, 0xe3, 0x36, 0x5a]), &WORDS);
+}
+
+const ARMED: [Act; 10] = [
+    Act::Set(0, 0x02, 0, 0x0100),
+    Act::Step(Stepped::Done),
+    Act::Interrupts(Interrupts::Arming),
+    Act::Accept(None),
+    Act::Step(Stepped::Done),
+    Act::Accept(Some(Stepped::Called {
         slot: 0x00fe,
         target: 0x0038,
-    };
-    let acts = [
-        Act::Set(0, 0x02, 0, 0x0100),
-        Act::Step(Stepped::Done),
-        Act::Interrupts(Interrupts::Arming),
-        Act::Accept(None),
-        Act::Step(Stepped::Done),
-        Act::Accept(Some(called)),
-        Act::Peek(0x00fe, 0x02),
-        Act::Peek(0x00ff, 0x00),
-        Act::Interrupts(Interrupts::Off),
-        Act::Accept(None),
-    ];
-    play(&rt, rt.alloc(), 0, &[0xfb, 0x00, 0x00], &acts)?;
-    Ok(())
-}
+    })),
+    Act::Peek(0x00fe, 0x02),
+    Act::Peek(0x00ff, 0x00),
+    Act::Interrupts(Interrupts::Off),
+    Act::Accept(None),
+];
 
 #[test]
-fn in_and_out_are_the_ports_operations(rt: HostRuntime) -> Result<(), Fail> {
-    let input = PortOperation::In {
+fn ei_takes_effect_after_the_next_instruction(rt: HostRuntime) {
+    play(&rt, 0, (0, &[0xfb, 0x00, 0x00]), &ARMED);
+}
+
+const OPERATIONS: [Act; 5] = [
+    Act::Operate(PortOperation::In {
         port: 9,
         byte: 0x5a,
-    };
-    let output = PortOperation::Out {
+    }),
+    Act::Registers(0x5a, 0x02, 0, 0, 2),
+    Act::Operate(PortOperation::Out {
         port: 1,
         byte: 0x5a,
-    };
-    let acts = [
-        Act::Operate(input),
-        Act::Registers(0x5a, 0x02, 0, 0, 2),
-        Act::Operate(output),
-        Act::Step(Stepped::Halted),
-        Act::Registers(0x5a, 0x02, 0, 0, 5),
-    ];
-    let code = [0xdb, 0x09, 0xd3, 0x01, 0x76];
-    play(&rt, rt.alloc(), 0, &code, &acts)?;
-    Ok(())
+    }),
+    Act::Step(Stepped::Halted),
+    Act::Registers(0x5a, 0x02, 0, 0, 5),
+];
+
+#[test]
+fn in_and_out_are_the_ports_operations(rt: HostRuntime) {
+    play(&rt, 0, (0, &[0xdb, 0x09, 0xd3, 0x01, 0x76]), &OPERATIONS);
 }
 
 /// The flags with the bits of a number below 32, in the order of the flag byte.
@@ -359,47 +381,80 @@ fn registers_numbered(number: u8) -> Registers {
     }
 }
 
-/// Compares the machines after an instruction from each of the 32 states of the flags.
-fn compare_steps(
-    rt: &impl Abort,
+// Whether the machines are alike after the instruction at PC from these registers.
+fn agree(
     alloc: Global,
     fast: &mut Machine,
     plain: &mut Plain,
-    opcode: u8,
-) -> Result<(), AllocError> {
-    for number in 0..32u8 {
-        fast.set_regs(registers_numbered(number));
-        plain.set_regs(registers_numbered(number));
-        let outcome = step(alloc, fast)?;
-        let wanted = step_plain(alloc, plain)?;
-        assert_eq!(rt;
-            (outcome, fast.regs()),
-            (wanted, plain.regs()),
-            "{opcode:x} {number}"
-        );
-    }
-    Ok(())
+    before: Registers,
+) -> Result<bool, AllocError> {
+    fast.set_regs(before);
+    plain.set_regs(before);
+    let outcome = step(alloc, fast)?;
+    let wanted = step_plain(alloc, plain)?;
+    Ok(outcome == wanted && fast.regs() == plain.regs())
 }
 
-/// Compares the memories of the machines.
-fn compare_memory(rt: &impl Abort, fast: &Machine, plain: &Plain, opcode: u8) {
-    for address in 0..=0xffffu16 {
-        assert_eq!(rt;
-            fast.peek(address),
-            plain.peek(address),
-            "{opcode:x} {address:x}"
-        );
+// The first of the 32 states of the flags from which the machines aren't alike after an instruction.
+fn first_state_apart(
+    alloc: Global,
+    fast: &mut Machine,
+    plain: &mut Plain,
+) -> Result<Option<u8>, AllocError> {
+    for number in 0..32u8 {
+        if !agree(alloc, fast, plain, registers_numbered(number))? {
+            return Ok(Some(number));
+        }
     }
+    Ok(None)
+}
+
+// The first address at which the machines have other bytes.
+fn first_byte_apart(fast: &Machine, plain: &Plain) -> Option<u16> {
+    for address in 0..=0xffffu16 {
+        if fast.peek(address) != plain.peek(address) {
+            return Some(address);
+        }
+    }
+    None
+}
+
+/// Where the machines part on an opcode, if they do.
+#[derive(Clone, Copy)]
+enum Apart {
+    State(u8),
+    Address(u16),
+}
+
+fn first_apart(
+    alloc: Global,
+    fast: &mut Machine,
+    plain: &mut Plain,
+) -> Result<Option<Apart>, AllocError> {
+    if let Some(number) = first_state_apart(alloc, fast, plain)? {
+        return Ok(Some(Apart::State(number)));
+    }
+    match first_byte_apart(fast, plain) {
+        Some(address) => Ok(Some(Apart::Address(address))),
+        None => Ok(None),
+    }
+}
+
+fn first_apart_on(alloc: Global, opcode: u8) -> Result<Option<Apart>, AllocError> {
+    let code = [opcode, 0x0f, 0x9a];
+    let mut fast = machine_at(alloc, 0x0100, &code)?;
+    let mut plain = Plain::new(machine_at(alloc, 0x0100, &code)?);
+    first_apart(alloc, &mut fast, &mut plain)
 }
 
 #[test]
-fn the_plain_body_agrees_on_every_opcode_and_flag(rt: HostRuntime) -> Result<(), Fail> {
+fn the_plain_body_agrees_on_every_opcode_and_flag(rt: HostRuntime) {
     for opcode in 0..=255u8 {
-        let code = [opcode, 0x0f, 0x9a];
-        let mut fast = machine_at(rt.alloc(), 0x0100, &code)?;
-        let mut plain = Plain::new(machine_at(rt.alloc(), 0x0100, &code)?);
-        compare_steps(&rt, rt.alloc(), &mut fast, &mut plain, opcode)?;
-        compare_memory(&rt, &fast, &plain, opcode);
+        match first_apart_on(rt.alloc(), opcode) {
+            Ok(None) => {}
+            Ok(Some(Apart::State(number))) => panic!(rt; "{opcode:x} from flags {number}"),
+            Ok(Some(Apart::Address(address))) => panic!(rt; "{opcode:x} at {address:x}"),
+            Err(AllocError) => panic!(rt; "out of memory"),
+        }
     }
-    Ok(())
 }

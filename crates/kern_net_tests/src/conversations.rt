@@ -1,9 +1,10 @@
 //! Conversations with a new kernel: what is written, how reading and writing end, and the calls made.
+ghost use Rattle.kern_net.specs.Gates.{IsOpen};
 
 use crate::gates::Measured;
 use crate::messages::{DEALER, PUB, ROUTER, SUB, push_message};
 use crate::table::open_table;
-use crate::talks::{AMPLE, BYTE_BY_BYTE, Course, Talk, outcome, talk_at};
+use crate::talks::{AMPLE, BYTE_BY_BYTE, Course, Pace, Talk, outcome, talk_at};
 use jup_wire::channel::Channel;
 use kern_desk_tests::desks::MOST_ENTRIES;
 use kern_net::end::PumpEnd;
@@ -68,79 +69,100 @@ fn on_iopub<'a>(given: &'a [u8], wanted: &'a [u8]) -> Talk<'a> {
     }
 }
 
-// A conversation goes so, so many bytes are written, and these are the calls in the journal.
-fn check<R: Wait + Abort>(
-    rt: &R,
-    alloc: Global,
-    talk: &Talk<'_>,
+// How a conversation goes, how many bytes are written, and the calls in the journal.
+#[derive(Clone, Copy)]
+struct Wanted {
     course: Course,
     written: usize,
-    calls: &str,
-) {
+    calls: &'static str,
+}
+
+// A conversation goes so in a row of a test.
+fn check<R: Wait + Abort>(rt: &R, alloc: Global, talk: &Talk<'_>, wanted: Wanted, row: usize) {
     let mut table = open_table(rt, alloc, MOST_ENTRIES);
-    let found = talk_at(rt, alloc, &mut table, talk, AMPLE);
-    assert_eq!(rt; found, (course, written), "{calls}");
-    let journal = table.journal(rt, alloc);
-    assert_eq!(rt; journal.as_str(), calls);
+    let (course, written) = talk_at(rt, alloc, &mut table, talk, AMPLE);
+    table.tells(rt, alloc, wanted.calls, row);
+    assert!(rt; written == wanted.written, "row {row}: {written} bytes");
+    assert!(rt; course == wanted.course, "row {row}: another course");
 }
 
 // The same, whatever the pace.
 fn check_paces<R: Wait + Abort>(rt: &R, alloc: Global, talk: &Talk<'_>, course: Course) {
-    let whole = talk.wanted.len();
-    for pace in [AMPLE, BYTE_BY_BYTE] {
-        let found = outcome(rt, alloc, talk, pace);
-        assert_eq!(rt; found, (course, whole), "{pace:?}");
-    }
+    check_pace(rt, alloc, talk, course, AMPLE);
+    check_pace(rt, alloc, talk, course, BYTE_BY_BYTE);
+}
+
+fn check_pace<R: Wait + Abort>(rt: &R, alloc: Global, talk: &Talk<'_>, wanted: Course, pace: Pace) {
+    let (course, written) = outcome(rt, alloc, talk, pace);
+    let most = pace.read.0;
+    assert!(rt;
+        written == talk.wanted.len(),
+        "{most} a call: {written} bytes"
+    );
+    assert!(rt; course == wanted, "{most} a call: another course");
 }
 
 // A conversation of a handshake and nothing else: three Fetches, after the last of which the gate says no.
 #[test]
 fn nothing_is_asked(rt: HostRuntime) {
-    check(
-        &rt,
-        rt.alloc(),
-        &on_shell(DEALER, ROUTER),
-        BOTH_END,
-        94,
-        "JFFF",
-    );
+    let wanted = Wanted {
+        course: BOTH_END,
+        written: 94,
+        calls: "JFFF",
+    };
+    check(&rt, rt.alloc(), &on_shell(DEALER, ROUTER), wanted, 0);
 }
 
 // One request: a Fetch that gives its reply, and three that give nothing.
 #[test]
 fn a_request(rt: HostRuntime) {
     let given = joined(rt.alloc(), &[DEALER, REQUEST]).expect(&rt, "memory");
-    let wanted = joined(rt.alloc(), &[ROUTER, REPLY]).expect(&rt, "memory");
-    let talk = on_shell(given.as_slice(), wanted.as_slice());
-    check(&rt, rt.alloc(), &talk, BOTH_END, 572, "JAFFFF");
+    let reply = joined(rt.alloc(), &[ROUTER, REPLY]).expect(&rt, "memory");
+    let talk = on_shell(given.as_slice(), reply.as_slice());
+    let wanted = Wanted {
+        course: BOTH_END,
+        written: 572,
+        calls: "JAFFFF",
+    };
+    check(&rt, rt.alloc(), &talk, wanted, 0);
     check_paces(&rt, rt.alloc(), &talk, BOTH_END);
 }
 
-// What a subscriber sends after READY, whether it is told the status, and the calls.
-const SUBSCRIPTIONS: [(&[u8], bool, &str); 8] = [
-    (b"\0\x01\x01", true, "JUFFFF"),
-    (b"\0\x07\x01status", true, "JUFFFF"),
-    (b"\0\x07\x01stream", false, "JUFFF"),
-    (b"\0\x01\0", false, "JUFFF"),
-    (b"\0\x01\x02", false, "JFFF"),
-    (b"\0\0", false, "JFFF"),
-    (b"\x01\x01\x01\0\0", false, "JFFF"),
-    (b"\0\x01\x02\0\x01\x01", true, "JUFFFF"),
+// What a subscriber sends after READY, how many bytes are written, and the calls. The handshake has 91 bytes,
+// and the status, where it is told, 175.
+const SUBSCRIPTIONS: [(&[u8], usize, &str); 8] = [
+    (b"\0\x01\x01", 266, "JUFFFF"),
+    (b"\0\x07\x01status", 266, "JUFFFF"),
+    (b"\0\x07\x01stream", 91, "JUFFF"),
+    (b"\0\x01\0", 91, "JUFFF"),
+    (b"\0\x01\x02", 91, "JFFF"),
+    (b"\0\0", 91, "JFFF"),
+    (b"\x01\x01\x01\0\0", 91, "JFFF"),
+    (b"\0\x01\x02\0\x01\x01", 266, "JUFFFF"),
 ];
 
-fn check_subscription<R: Wait + Abort>(rt: &R, alloc: Global, row: (&[u8], bool, &str)) {
-    let (sent, is_told, calls) = row;
+fn check_subscription<R: Wait + Abort>(
+    rt: &R,
+    alloc: Global,
+    sent: &[u8],
+    wanted: Wanted,
+    row: usize,
+) {
     let given = joined(alloc, &[SUB, sent]).expect(rt, "memory");
-    let wanted = joined(alloc, &[PUB, STATUS]).expect(rt, "memory");
-    let talk = on_iopub(given.as_slice(), wanted.as_slice());
-    let written = if is_told { talk.wanted.len() } else { 91 };
-    check(rt, alloc, &talk, BOTH_END, written, calls);
+    let status = joined(alloc, &[PUB, STATUS]).expect(rt, "memory");
+    let talk = on_iopub(given.as_slice(), status.as_slice());
+    check(rt, alloc, &talk, wanted, row);
 }
 
 #[test]
 fn subscriptions(rt: HostRuntime) {
-    for row in SUBSCRIPTIONS {
-        check_subscription(&rt, rt.alloc(), row);
+    for (row, (sent, written, calls)) in SUBSCRIPTIONS.iter().enumerate() {
+        let wanted = Wanted {
+            course: BOTH_END,
+            written: *written,
+            calls,
+        };
+        check_subscription(&rt, rt.alloc(), sent, wanted, row);
     }
 }
 
@@ -153,24 +175,21 @@ const BROKEN: [(&[u8], PumpEnd, &str); 4] = [
     (b"\0\x01a", PumpEnd::PeerEnded, "JFFF"),
 ];
 
-fn check_broken<R: Wait + Abort>(rt: &R, alloc: Global, row: (&[u8], PumpEnd, &str)) {
-    let (sent, end, calls) = row;
+fn check_broken<R: Wait + Abort>(rt: &R, alloc: Global, sent: &[u8], wanted: Wanted, row: usize) {
     let given = joined(alloc, &[DEALER, sent]).expect(rt, "memory");
     let talk = on_shell(given.as_slice(), ROUTER);
-    check(
-        rt,
-        alloc,
-        &talk,
-        Course::Met(end, PumpEnd::Ended),
-        94,
-        calls,
-    );
+    check(rt, alloc, &talk, wanted, row);
 }
 
 #[test]
 fn broken_streams(rt: HostRuntime) {
-    for row in BROKEN {
-        check_broken(&rt, rt.alloc(), row);
+    for (row, (sent, end, calls)) in BROKEN.iter().enumerate() {
+        let wanted = Wanted {
+            course: Course::Met(*end, PumpEnd::Ended),
+            written: 94,
+            calls,
+        };
+        check_broken(&rt, rt.alloc(), sent, wanted, row);
     }
 }
 
@@ -186,8 +205,12 @@ fn broken_after_a_request(rt: HostRuntime) {
 // A client of the wrong kind isn't met.
 #[test]
 fn wrong_kind(rt: HostRuntime) {
-    let unmet = Course::Unmet(PeerFault::Wire(StreamFault::SocketType));
-    check(&rt, rt.alloc(), &on_shell(SUB, ROUTER), unmet, 64, "");
+    let wanted = Wanted {
+        course: Course::Unmet(PeerFault::Wire(StreamFault::SocketType)),
+        written: 64,
+        calls: "",
+    };
+    check(&rt, rt.alloc(), &on_shell(SUB, ROUTER), wanted, 0);
 }
 
 // The key of RFC 2104's second example, whose text these four frames are together.
@@ -234,16 +257,16 @@ const FORGED: [&str; 6] = [
 
 const UNSIGNED: [&str; 6] = ["<IDS|MSG>", "", HEADER, "{}", "{}", "{}"];
 
-// What a client sends, and the calls. What isn't signed with the key, or is no message, makes no turn, and
-// the connection goes on.
-const SIGNATURES: [(&[[&str; 6]], &str); 7] = [
-    (&[EXAMPLE], "JFFF"),
-    (&[FORGED_EXAMPLE], "JFFF"),
-    (&[FORGED], "JFFF"),
-    (&[UNSIGNED], "JFFF"),
-    (&[SIGNED], "JAFFFF"),
-    (&[FORGED, EXAMPLE, SIGNED], "JAFFFF"),
-    (&[SIGNED, FORGED, UNSIGNED], "JAFFFF"),
+// What a client sends, how many bytes are written, and the calls. What isn't signed with the key, or is no
+// message, makes no turn, and the connection goes on.
+const SIGNATURES: [(&[[&str; 6]], usize, &str); 7] = [
+    (&[EXAMPLE], 94, "JFFF"),
+    (&[FORGED_EXAMPLE], 94, "JFFF"),
+    (&[FORGED], 94, "JFFF"),
+    (&[UNSIGNED], 94, "JFFF"),
+    (&[SIGNED], 572, "JAFFFF"),
+    (&[FORGED, EXAMPLE, SIGNED], 572, "JAFFFF"),
+    (&[SIGNED, FORGED, UNSIGNED], 572, "JAFFFF"),
 ];
 
 // What a client writes.
@@ -255,22 +278,31 @@ fn given_with(alloc: Global, messages: &[[&str; 6]]) -> Result<Vec<u8>, AllocErr
     Ok(bytes)
 }
 
-fn check_signatures<R: Wait + Abort>(rt: &R, alloc: Global, row: (&[[&str; 6]], &str)) {
-    let (messages, calls) = row;
+fn check_signatures<R: Wait + Abort>(
+    rt: &R,
+    alloc: Global,
+    messages: &[[&str; 6]],
+    wanted: Wanted,
+    row: usize,
+) {
     let given = given_with(alloc, messages).expect(rt, "memory");
-    let wanted = joined(alloc, &[ROUTER, REPLY]).expect(rt, "memory");
+    let reply = joined(alloc, &[ROUTER, REPLY]).expect(rt, "memory");
     let talk = Talk {
         key: KEY,
-        ..on_shell(given.as_slice(), wanted.as_slice())
+        ..on_shell(given.as_slice(), reply.as_slice())
     };
-    let written = if calls == "JFFF" { 94 } else { 572 };
-    check(rt, alloc, &talk, BOTH_END, written, calls);
+    check(rt, alloc, &talk, wanted, row);
 }
 
 #[test]
 fn signatures(rt: HostRuntime) {
-    for row in SIGNATURES {
-        check_signatures(&rt, rt.alloc(), row);
+    for (row, (messages, written, calls)) in SIGNATURES.iter().enumerate() {
+        let wanted = Wanted {
+            course: BOTH_END,
+            written: *written,
+            calls,
+        };
+        check_signatures(&rt, rt.alloc(), messages, wanted, row);
     }
 }
 
@@ -282,17 +314,26 @@ const WORK: [(u64, u64, [u64; 4]); 3] = [
 ];
 
 // Without a request the worker makes a slice for each yes, wakes the others and asks `idle` after each.
+fn check_work<R: Wait + Abort>(rt: &R, alloc: Global, gate: &mut Measured, slices: u64)
+    requires { IsOpen gate.old.counts }
+{
+    let mut table = open_table(rt, alloc, MOST_ENTRIES);
+    let end = table.work(rt, gate);
+    let count = table.count(rt, alloc);
+    assert!(rt;
+        end == PumpEnd::Ended,
+        "another end than after {slices} slices"
+    );
+    assert!(rt; count == slices, "{count} slices and not {slices}");
+}
+
 #[test]
 fn work_without_requests(rt: HostRuntime) {
-    for (befores, idles, said) in WORK {
-        let mut table = open_table(&rt, rt.alloc(), MOST_ENTRIES);
-        let mut gate = Measured::new(befores, idles);
-        let end = table.work(&rt, &mut gate);
-        assert_eq!(rt; end, PumpEnd::Ended);
-        assert_eq!(rt; gate.told(), said);
-        assert!(rt; gate.is_in_step);
-        assert_eq!(rt; gate.wakes, said[0]);
-        let slices = table.journal(&rt, rt.alloc()).len() as u64;
-        assert_eq!(rt; slices, said[0]);
+    for (row, (befores, idles, said)) in WORK.iter().enumerate() {
+        let mut gate = Measured::new(*befores, *idles);
+        check_work(&rt, rt.alloc(), &mut gate, said[0]);
+        assert!(rt; gate.told() == *said, "row {row}");
+        assert!(rt; gate.is_in_step, "row {row}");
+        assert!(rt; gate.wakes == said[0], "row {row}");
     }
 }

@@ -1,12 +1,13 @@
 //! How the worker and the pumps end: by a full journal, by posts that are gone, by a connection that isn't
 //! there, by a shutdown.
+ghost use Rattle.std.specs.Prelude.{◌≤◌};
 ghost use Rattle.kern_net.specs.Gates.{IsOpen};
 
 use crate::conversations::on_shell;
 use crate::gates::{MOMENT, Measured};
 use crate::messages::{Asked, DEALER, ROUTER, Sent, given_by, written_by};
 use crate::table::{Table, open_table};
-use crate::talks::{AMPLE, Course, ports, talk_at};
+use crate::talks::{AMPLE, Course, Talk, ports, talk_at};
 use crate::texts::count_of;
 use base_streams::memory::Sink;
 use base_text::sequence::{Bytes, Frames};
@@ -22,7 +23,6 @@ use kern_net::pump_out::Line;
 use std::alloc::{AllocError, Global};
 use std::process::Abort;
 use std::sync::Wait;
-use std::test::Fail;
 use zmtp_peer::handshake::handshake;
 use zmtp_wire::role::Role;
 
@@ -78,37 +78,44 @@ const INFO_CONTENT: &str =
     \"language_info\":{\"file_extension\":\".asm\",\"mimetype\":\"text/x-asm\",\"name\":\"i8080\",\
     \"version\":\"1.0\"},\"protocol_version\":\"5.4\",\"status\":\"ok\"}";
 
-fn check_journal<R: Wait + Abort>(
+const INFO_REPLIES: [Sent; 2] = [
+    Sent(2, "kernel_info_reply", INFO, INFO_CONTENT),
+    Sent(5, "kernel_info_reply", INFO, INFO_CONTENT),
+];
+
+// A conversation at a table with a journal of so many entries, and the calls in it.
+fn talk_within<R: Wait + Abort>(
     rt: &R,
     alloc: Global,
-    row: (u32, Course, usize, &str),
-) -> Result<(), Fail> {
-    let (limit, course, written, calls) = row;
-    assert!(rt; 1 <= limit && limit <= MOST_ENTRIES);
-    let given = given_by(alloc, DEALER, &[INFO, INFO])?;
-    let wanted = written_by(
-        alloc,
-        ROUTER,
-        &[
-            Sent(2, "kernel_info_reply", INFO, INFO_CONTENT),
-            Sent(5, "kernel_info_reply", INFO, INFO_CONTENT),
-        ],
-    )?;
-    let talk = on_shell(given.as_slice(), wanted.as_slice());
+    talk: &Talk<'_>,
+    limit: u32,
+    calls: &str,
+) -> (Course, usize)
+    requires some { 1 ≤ limit }
+    requires few { limit ≤ 4194304 }
+{
     let mut table = open_table(rt, alloc, limit);
-    let found = talk_at(rt, alloc, &mut table, &talk, AMPLE);
-    assert_eq!(rt; found, (course, written), "{limit} entries");
-    let journal = table.journal(rt, alloc);
-    assert_eq!(rt; journal.as_str(), calls, "{limit} entries");
-    Ok(())
+    let found = talk_at(rt, alloc, &mut table, talk, AMPLE);
+    table.tells(rt, alloc, calls, limit as usize);
+    found
+}
+
+fn check_journal<R: Wait + Abort>(rt: &R, alloc: Global, row: (u32, Course, usize, &str)) {
+    let (limit, wanted, bytes, calls) = row;
+    assert!(rt; 1 <= limit && limit <= MOST_ENTRIES);
+    let given = given_by(alloc, DEALER, &[INFO, INFO]).expect(rt, "memory");
+    let replies = written_by(alloc, ROUTER, &INFO_REPLIES).expect(rt, "memory");
+    let talk = on_shell(given.as_slice(), replies.as_slice());
+    let (course, written) = talk_within(rt, alloc, &talk, limit, calls);
+    assert!(rt; written == bytes, "{limit} entries: {written} bytes");
+    assert!(rt; course == wanted, "{limit} entries: another course");
 }
 
 #[test]
-fn full_journals(rt: HostRuntime) -> Result<(), Fail> {
+fn full_journals(rt: HostRuntime) {
     for row in JOURNALS {
-        check_journal(&rt, rt.alloc(), row)?;
+        check_journal(&rt, rt.alloc(), row);
     }
-    Ok(())
 }
 
 // The worker meets a full journal at its fourth slice, for which `before` said yes.
@@ -117,16 +124,31 @@ fn a_journal_full_of_slices(rt: HostRuntime) {
     let mut table = open_table(&rt, rt.alloc(), 3);
     let mut gate = Measured::new(99, 99);
     let end = table.work(&rt, &mut gate);
-    assert_eq!(rt; end, PumpEnd::JournalFull);
-    assert_eq!(rt; gate.told(), [4, 0, 3, 0]);
-    assert_eq!(rt; table.journal(&rt, rt.alloc()).as_str(), "SSS");
+    table.tells(&rt, rt.alloc(), "SSS", 0);
+    assert!(rt; end == PumpEnd::JournalFull, "another end");
+    assert!(rt; gate.told() == [4, 0, 3, 0]);
 }
 
-fn info_call(alloc: Global, connection: u32, ask: Ask) -> Result<Call, AllocError> {
+// What is asked for: a type that is known, or one that isn't.
+#[derive(Clone, Copy)]
+enum Question {
+    KernelInfo,
+    Unknown,
+}
+
+fn ask_of(question: Question) -> Ask {
+    match question {
+        Question::KernelInfo => Ask::KernelInfo,
+        Question::Unknown => Ask::Unknown,
+    }
+}
+
+fn info_call(alloc: Global, connection: u32, question: Question) -> Result<Call, AllocError> {
+    let header = Bytes::copy_of(alloc, b"{}")?;
     let request = Request {
-        ask,
+        ask: ask_of(question),
         identities: Frames::new(alloc),
-        header: Bytes::copy_of(alloc, b"{}")?,
+        header,
     };
     let moment = MOMENT;
     let arrival = Held::new(alloc, Arrival { request, moment })?;
@@ -136,45 +158,51 @@ fn info_call(alloc: Global, connection: u32, ask: Ask) -> Result<Call, AllocErro
     })
 }
 
-fn send<R: Wait + Abort>(rt: &R, alloc: Global, table: &mut Table, ask: Ask) {
-    let call = info_call(alloc, 1, ask).expect(rt, "memory for a call");
+fn send<R: Wait + Abort>(rt: &R, alloc: Global, table: &mut Table, question: Question) {
+    let call = info_call(alloc, 1, question).expect(rt, "memory for a call");
     table.make(rt, call);
+}
+
+// A connection comes, with the number 1, and asks so often what the kernel is.
+fn ask_often<R: Wait + Abort>(rt: &R, alloc: Global, table: &mut Table, count: u32) {
+    let connection = table.join(rt, alloc, Channel::Shell);
+    assert!(rt; connection == 1, "connection {connection}");
+    for _ in 0..count {
+        send(rt, alloc, table, Question::KernelInfo);
+    }
 }
 
 // A connection, 1,365 requests of three posts, and one of an unknown type, which has two: 4,097 posts, of
 // which the first is gone.
 fn after_many_requests<R: Wait + Abort>(rt: &R, alloc: Global) -> Table {
     let mut table = open_table(rt, alloc, MOST_ENTRIES);
-    let connection = table.join(rt, alloc, Channel::Shell);
-    assert_eq!(rt; connection, 1);
-    for _ in 0..1365 {
-        send(rt, alloc, &mut table, Ask::KernelInfo);
-    }
-    send(rt, alloc, &mut table, Ask::Unknown);
+    ask_often(rt, alloc, &mut table, 1365);
+    send(rt, alloc, &mut table, Question::Unknown);
     table
+}
+
+fn line_of(connection: u32) -> Line<'static> {
+    Line {
+        connection,
+        key: &[],
+        session: "S",
+    }
 }
 
 // The writer meets a full journal at its second Fetch, with more to write: the first covers 64 of 90 numbers.
 #[test]
 fn a_journal_full_of_requests(rt: HostRuntime) {
     let mut table = open_table(&rt, rt.alloc(), 32);
-    let connection = table.join(&rt, rt.alloc(), Channel::Shell);
-    for _ in 0..30 {
-        send(&rt, rt.alloc(), &mut table, Ask::KernelInfo);
-    }
+    ask_often(&rt, rt.alloc(), &mut table, 30);
     let mut to = Sink::new(rt.alloc(), 1 << 20, 9999);
-    let line = Line {
-        connection,
-        key: &[],
-        session: "S",
-    };
     let mut gate = Measured::new(0, 99);
-    let end = table.write(&rt, rt.alloc(), &mut gate, &mut to, &line, 1);
-    assert_eq!(rt; end, PumpEnd::JournalFull);
-    assert_eq!(rt; gate.told(), [0, 0, 0, 0]);
-    assert_eq!(rt; count_of(to.as_slice(), b"<IDS|MSG>"), 21);
-    let journal = table.journal(&rt, rt.alloc());
-    assert_eq!(rt; journal.as_str(), "JAAAAAAAAAAAAAAAAAAAAAAAAAAAAAAF");
+    let end = table.write(&rt, rt.alloc(), &mut gate, &mut to, &line_of(1), 1);
+    table.tells(&rt, rt.alloc(), "JAAAAAAAAAAAAAAAAAAAAAAAAAAAAAAF", 0);
+    let replies = count_of(to.as_slice(), b"<IDS|MSG>");
+    drop(to);
+    assert!(rt; end == PumpEnd::JournalFull, "another end");
+    assert!(rt; gate.told() == [0, 0, 0, 0]);
+    assert!(rt; replies == 21, "{replies} replies");
 }
 
 // From which post to write, how that ends, how many replies are written, and how often those of post 4,034
@@ -197,27 +225,33 @@ fn check_start<R: Wait + Abort>(
 ) {
     let (from, wanted, replies, first, last) = row;
     let mut to = Sink::new(alloc, 1 << 20, 9999);
-    let line = Line {
-        connection: 1,
-        key: &[],
-        session: "S",
-    };
     let mut gate = Measured::new(0, 2);
-    let end = table.write(rt, alloc, &mut gate, &mut to, &line, from);
-    let bytes = to.as_slice();
-    assert_eq!(rt; end, wanted, "from {from}");
-    assert_eq!(rt; count_of(bytes, b"<IDS|MSG>"), replies, "from {from}");
-    assert_eq!(rt; count_of(bytes, b"\"S_4034\""), first, "from {from}");
-    assert_eq!(rt; count_of(bytes, b"\"S_4094\""), last, "from {from}");
+    let end = table.write(rt, alloc, &mut gate, &mut to, &line_of(1), from);
+    assert!(rt; end == wanted, "from {from}: another end");
+    check_counts(rt, to.as_slice(), [replies, first, last], from);
+}
+
+fn check_counts<R: Abort>(rt: &R, bytes: &[u8], wanted: [usize; 3], from: u64) {
+    let counts = [
+        count_of(bytes, b"<IDS|MSG>"),
+        count_of(bytes, b"\"S_4034\""),
+        count_of(bytes, b"\"S_4094\""),
+    ];
+    assert!(rt; counts == wanted, "from {from}: {counts:?}");
+}
+
+fn check_starts<R: Wait + Abort>(rt: &R, alloc: Global, table: &mut Table) {
+    for row in STARTS {
+        check_start(rt, alloc, table, row);
+    }
 }
 
 // Posts that are gone end the writing; those that are kept are all written, 64 numbers a Fetch.
 #[test]
 fn lagged(rt: HostRuntime) {
     let mut table = after_many_requests(&rt, rt.alloc());
-    for row in STARTS {
-        check_start(&rt, rt.alloc(), &mut table, row);
-    }
+    check_starts(&rt, rt.alloc(), &mut table);
+    drop(table);
 }
 
 // Reads two requests of a connection of this number, at a gate.
@@ -227,56 +261,65 @@ fn read_as<R: Wait + Abort>(
     table: &mut Table,
     gate: &mut Measured,
     connection: u32,
-) -> Result<PumpEnd, Fail>
+) -> PumpEnd
     requires { IsOpen gate.old.counts }
 {
-    let given = given_by(alloc, DEALER, &[INFO, INFO])?;
-    let (mut from, mut to) = ports(alloc, given.as_slice(), AMPLE)?;
+    let given = given_by(alloc, DEALER, &[INFO, INFO]).expect(rt, "memory");
+    let (mut from, mut to) = ports(alloc, given.as_slice(), AMPLE).expect(rt, "memory");
+    let peer = handshake(alloc, &mut from, &mut to, Role::Router).expect(rt, "a handshake");
     let place = Place {
         connection,
         channel: Channel::Shell,
         key: &[],
     };
-    match handshake(alloc, &mut from, &mut to, Role::Router) {
-        Ok(peer) => Ok(table.read(rt, alloc, gate, &mut from, peer, &place)),
-        Err(fault) => Ok(PumpEnd::from(fault)),
-    }
+    table.read(rt, alloc, gate, &mut from, peer, &place)
+}
+
+// The writer's turn is refused at once, and it writes nothing.
+fn write_refused<R: Wait + Abort>(rt: &R, alloc: Global, table: &mut Table) {
+    let mut to = Sink::new(alloc, 4096, 9999);
+    let mut gate = Measured::new(0, 2);
+    let end = table.write(rt, alloc, &mut gate, &mut to, &line_of(9), 1);
+    let written = to.as_slice().len();
+    drop(to);
+    assert!(rt;
+        end == PumpEnd::Refused(KernFault::NoConnection),
+        "another end"
+    );
+    assert!(rt; gate.told() == [0, 0, 0, 0]);
+    assert!(rt; written == 0, "{written} bytes");
+}
+
+fn read_refused<R: Wait + Abort>(rt: &R, alloc: Global, table: &mut Table) {
+    let mut gate = Measured::new(0, 0);
+    let end = read_as(rt, alloc, table, &mut gate, 9);
+    assert!(rt;
+        end == PumpEnd::Refused(KernFault::NoConnection),
+        "another end"
+    );
+    assert!(rt; gate.wakes == 1);
 }
 
 // Nobody joined: the first turn of each pump is refused, but is an entry.
 #[test]
-fn no_connection(rt: HostRuntime) -> Result<(), Fail> {
+fn no_connection(rt: HostRuntime) {
     let mut table = open_table(&rt, rt.alloc(), MOST_ENTRIES);
-    let mut to = Sink::new(rt.alloc(), 4096, 9999);
-    let line = Line {
-        connection: 9,
-        key: &[],
-        session: "S",
-    };
-    let mut gate = Measured::new(0, 2);
-    let end = table.write(&rt, rt.alloc(), &mut gate, &mut to, &line, 1);
-    assert_eq!(rt; end, PumpEnd::Refused(KernFault::NoConnection));
-    assert_eq!(rt; gate.told(), [0, 0, 0, 0]);
-    assert_eq!(rt; to.as_slice().len(), 0);
-    let mut gate = Measured::new(0, 0);
-    let end = read_as(&rt, rt.alloc(), &mut table, &mut gate, 9)?;
-    assert_eq!(rt; end, PumpEnd::Refused(KernFault::NoConnection));
-    assert_eq!(rt; gate.wakes, 1);
-    assert_eq!(rt; table.journal(&rt, rt.alloc()).as_str(), "FA");
-    Ok(())
+    write_refused(&rt, rt.alloc(), &mut table);
+    read_refused(&rt, rt.alloc(), &mut table);
+    table.tells(&rt, rt.alloc(), "FA", 0);
 }
 
 // Reading wakes the others after each turn.
 #[test]
-fn wakes(rt: HostRuntime) -> Result<(), Fail> {
+fn wakes(rt: HostRuntime) {
     let mut table = open_table(&rt, rt.alloc(), MOST_ENTRIES);
     let connection = table.join(&rt, rt.alloc(), Channel::Shell);
     let mut gate = Measured::new(0, 0);
-    let end = read_as(&rt, rt.alloc(), &mut table, &mut gate, connection)?;
-    assert_eq!(rt; end, PumpEnd::PeerEnded);
-    assert_eq!(rt; gate.wakes, 2);
-    assert_eq!(rt; gate.told(), [0, 0, 0, 0]);
-    Ok(())
+    let end = read_as(&rt, rt.alloc(), &mut table, &mut gate, connection);
+    drop(table);
+    assert!(rt; end == PumpEnd::PeerEnded, "another end");
+    assert!(rt; gate.wakes == 2);
+    assert!(rt; gate.told() == [0, 0, 0, 0]);
 }
 
 const SHUTDOWN: Asked = Asked(
@@ -284,32 +327,37 @@ const SHUTDOWN: Asked = Asked(
     "{}",
 );
 
+const LAST_REPLIES: [Sent; 2] = [
+    Sent(2, "kernel_info_reply", INFO, INFO_CONTENT),
+    Sent(
+        5,
+        "shutdown_reply",
+        SHUTDOWN,
+        "{\"restart\":false,\"status\":\"ok\"}",
+    ),
+];
+
+fn talk_to_shutdown<R: Wait + Abort>(rt: &R, alloc: Global, table: &mut Table) {
+    let given = given_by(alloc, DEALER, &[INFO, SHUTDOWN]).expect(rt, "memory");
+    let replies = written_by(alloc, ROUTER, &LAST_REPLIES).expect(rt, "memory");
+    let talk = on_shell(given.as_slice(), replies.as_slice());
+    let (course, written) = talk_at(rt, alloc, table, &talk, AMPLE);
+    assert!(rt; written == replies.len(), "{written} bytes");
+    assert!(rt;
+        course == Course::Met(PumpEnd::PeerEnded, PumpEnd::Ended),
+        "another course"
+    );
+}
+
 // After a shutdown the writer writes what is left and ends, and the worker ends after one slice. Neither
 // gate is asked by `idle`.
 #[test]
-fn shut_down(rt: HostRuntime) -> Result<(), Fail> {
+fn shut_down(rt: HostRuntime) {
     let mut table = open_table(&rt, rt.alloc(), MOST_ENTRIES);
-    let given = given_by(rt.alloc(), DEALER, &[INFO, SHUTDOWN])?;
-    let wanted = written_by(
-        rt.alloc(),
-        ROUTER,
-        &[
-            Sent(2, "kernel_info_reply", INFO, INFO_CONTENT),
-            Sent(
-                5,
-                "shutdown_reply",
-                SHUTDOWN,
-                "{\"restart\":false,\"status\":\"ok\"}",
-            ),
-        ],
-    )?;
-    let talk = on_shell(given.as_slice(), wanted.as_slice());
-    let (course, written) = talk_at(&rt, rt.alloc(), &mut table, &talk, AMPLE);
-    assert_eq!(rt; course, Course::Met(PumpEnd::PeerEnded, PumpEnd::Ended));
-    assert_eq!(rt; written, wanted.len());
+    talk_to_shutdown(&rt, rt.alloc(), &mut table);
     let mut gate = Measured::new(99, 99);
-    assert_eq!(rt; table.work(&rt, &mut gate), PumpEnd::Ended);
-    assert_eq!(rt; gate.told(), [1, 0, 0, 0]);
-    assert_eq!(rt; table.journal(&rt, rt.alloc()).as_str(), "JAAFFS");
-    Ok(())
+    let end = table.work(&rt, &mut gate);
+    table.tells(&rt, rt.alloc(), "JAAFFS", 0);
+    assert!(rt; end == PumpEnd::Ended, "another end");
+    assert!(rt; gate.told() == [1, 0, 0, 0]);
 }

@@ -8,7 +8,6 @@ use kern_net::end::PumpEnd;
 use std::alloc::Global;
 use std::process::Abort;
 use std::sync::Wait;
-use std::test::Fail;
 use zmtp_peer::fault::PeerFault;
 
 const UNREAD: Course = Course::Unmet(PeerFault::ReadFailed);
@@ -21,13 +20,20 @@ const WRITE_FAILS: Course = Course::Met(PumpEnd::PeerEnded, PumpEnd::WriteFailed
 
 const BOTH_END: Course = Course::Met(PumpEnd::PeerEnded, PumpEnd::Ended);
 
-// A conversation of a kernel that is asked once, over ports of this pace: the greeting and READY have 94
-// bytes, the request has 90, and the reply 478.
-fn outcome_at<R: Wait + Abort>(rt: &R, alloc: Global, pace: Pace) -> Result<(Course, usize), Fail> {
-    let given = joined(alloc, &[DEALER, REQUEST])?;
-    let wanted = joined(alloc, &[ROUTER, REPLY])?;
-    let talk = on_shell(given.as_slice(), wanted.as_slice());
-    Ok(outcome(rt, alloc, &talk, pace))
+// A conversation of a kernel that is asked once, over ports of this pace, goes so: the greeting and READY
+// have 94 bytes, the request has 90, and the reply 478.
+fn check<R: Wait + Abort>(rt: &R, alloc: Global, pace: Pace, wanted: (Course, usize)) {
+    let given = joined(alloc, &[DEALER, REQUEST]).expect(rt, "memory");
+    let reply = joined(alloc, &[ROUTER, REPLY]).expect(rt, "memory");
+    let talk = on_shell(given.as_slice(), reply.as_slice());
+    let (course, written) = outcome(rt, alloc, &talk, pace);
+    let (most, reads) = pace.read;
+    let (room, writes) = pace.written;
+    let is_wanted = course == wanted.0 && written == wanted.1;
+    assert!(rt;
+        is_wanted,
+        "{reads} reads of {most}, {writes} writes of {room}: {written} bytes"
+    );
 }
 
 // How many bytes a call of the reader gives; from how many reads before the one that fails, to how many; how
@@ -47,29 +53,22 @@ const READS: [(usize, u64, u64, Course, usize); 12] = [
     (4096, 2, 2, BOTH_END, 572),
 ];
 
-fn check_reads<R: Wait + Abort>(
-    rt: &R,
-    alloc: Global,
-    row: (usize, u64, u64, Course, usize),
-) -> Result<(), Fail> {
+fn check_reads<R: Wait + Abort>(rt: &R, alloc: Global, row: (usize, u64, u64, Course, usize)) {
     let (most, first, last, course, written) = row;
     for calls in first..=last {
         let pace = Pace {
             read: (most, calls),
             written: (4096, 9999),
         };
-        let found = outcome_at(rt, alloc, pace)?;
-        assert_eq!(rt; found, (course, written), "{most} a call, {calls} calls");
+        check(rt, alloc, pace, (course, written));
     }
-    Ok(())
 }
 
 #[test]
-fn failing_reads(rt: HostRuntime) -> Result<(), Fail> {
+fn failing_reads(rt: HostRuntime) {
     for row in READS {
-        check_reads(&rt, rt.alloc(), row)?;
+        check_reads(&rt, rt.alloc(), row);
     }
-    Ok(())
 }
 
 // A writer that takes one byte a call fails after so many: how the conversation goes then. As many bytes are
@@ -80,29 +79,22 @@ const BYTES: [(u64, u64, Course); 3] = [
     (572, 572, BOTH_END),
 ];
 
-fn check_bytes<R: Wait + Abort>(
-    rt: &R,
-    alloc: Global,
-    row: (u64, u64, Course),
-) -> Result<(), Fail> {
+fn check_bytes<R: Wait + Abort>(rt: &R, alloc: Global, row: (u64, u64, Course)) {
     let (first, last, course) = row;
     for calls in first..=last {
         let pace = Pace {
             read: (4096, 9999),
             written: (1, calls),
         };
-        let found = outcome_at(rt, alloc, pace)?;
-        assert_eq!(rt; found, (course, calls as usize), "{calls} bytes");
+        check(rt, alloc, pace, (course, calls as usize));
     }
-    Ok(())
 }
 
 #[test]
-fn failing_bytes(rt: HostRuntime) -> Result<(), Fail> {
+fn failing_bytes(rt: HostRuntime) {
     for row in BYTES {
-        check_bytes(&rt, rt.alloc(), row)?;
+        check_bytes(&rt, rt.alloc(), row);
     }
-    Ok(())
 }
 
 // A writer that takes all that it is given, or a hundred bytes, fails after so many calls.
@@ -119,14 +111,12 @@ const WRITES: [(usize, u64, Course, usize); 9] = [
 ];
 
 #[test]
-fn failing_writes(rt: HostRuntime) -> Result<(), Fail> {
+fn failing_writes(rt: HostRuntime) {
     for (most, calls, course, written) in WRITES {
         let pace = Pace {
             read: (4096, 9999),
             written: (most, calls),
         };
-        let found = outcome_at(&rt, rt.alloc(), pace)?;
-        assert_eq!(rt; found, (course, written), "{most} a call, {calls} calls");
+        check(&rt, rt.alloc(), pace, (course, written));
     }
-    Ok(())
 }

@@ -23,12 +23,12 @@ pub const PUB: &[u8] = b"\xFF\0\0\0\0\0\0\0\0\x7F\x03\0NULL\
     \x04\x19\x05READY\x0BSocket-Type\0\0\0\x03PUB";
 
 /// A client's request: its header and its content.
-#[derive(Clone, Copy, Debug)]
+#[derive(Clone, Copy)]
 pub struct Asked(pub &'static str, pub &'static str);
 
 /// What a kernel sends to who asked: the number of the post, its type, the request that it answers, its
 /// content.
-#[derive(Clone, Copy, Debug)]
+#[derive(Clone, Copy)]
 pub struct Sent(pub u32, pub &'static str, pub Asked, pub &'static str);
 
 // A frame: its flags, its size in one byte, or in eight with flag 2, and its bytes.

@@ -66,6 +66,7 @@ pub fn open_table<R: Abort>(rt: &R, alloc: Global, limit: u32) -> Table
     let (desk, mut passes) = open_desk(alloc, limit, 2).expect(rt, "a desk");
     let writing = take_pass(&desk, &mut passes).expect(rt, "a pass");
     let reading = take_pass(&desk, &mut passes).expect(rt, "a pass");
+    drop(passes);
     Table {
         desk,
         reading,
@@ -82,7 +83,9 @@ impl Table {
     /// Makes a call, whatever its answer.
     pub fn make<R: Wait + Abort>(&mut self, rt: &R, call: Call) {
         let answer = self.desk.turn(rt, &mut self.reading, call);
-        assert!(rt; answer.is_ok(), "no turn");
+        let is_made = answer.is_ok();
+        drop(answer);
+        assert!(rt; is_made, "no turn");
     }
 
     /// Reads from a peer to the end, at a gate.
@@ -143,19 +146,35 @@ impl Table {
         worker(rt, &self.desk, &mut self.reading, gate)
     }
 
-    /// The first 64 entries of the journal, a letter for each: J for a Join, U for a Subscribe, A for an
-    /// Arrive, S for a Slice, F for a Fetch.
-    pub fn journal<R: Abort>(self, rt: &R, alloc: Global) -> String {
+    // The first 64 entries of the journal, a letter for each.
+    fn journal<R: Abort>(self, rt: &R, alloc: Global) -> String {
         let Table {
             desk,
             reading,
             writing,
         } = self;
         let passes = vec![in alloc; reading, writing].expect(rt, "memory for passes");
-        letters_of(
-            rt,
-            alloc,
-            &close_desk(desk, passes).expect(rt, "all passes"),
-        )
+        let seated = close_desk(desk, passes).expect(rt, "all passes");
+        let letters = letters_of(rt, alloc, &seated);
+        drop(seated);
+        letters
+    }
+
+    /// The first 64 entries of the journal must be these in a row of a test, with a letter for each: J for
+    /// a Join, U for a Subscribe, A for an Arrive, S for a Slice, F for a Fetch.
+    pub fn tells<R: Abort>(self, rt: &R, alloc: Global, calls: &str, row: usize) {
+        let journal = self.journal(rt, alloc);
+        assert!(rt;
+            journal.as_str() == calls,
+            "row {row}: {journal} and not {calls}"
+        );
+    }
+
+    /// How many calls are in the journal, where there are at most 64.
+    pub fn count<R: Abort>(self, rt: &R, alloc: Global) -> u64 {
+        let journal = self.journal(rt, alloc);
+        let count = journal.len() as u64;
+        drop(journal);
+        count
     }
 }

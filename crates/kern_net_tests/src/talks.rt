@@ -17,7 +17,7 @@ use zmtp_peer::handshake::{Peer, handshake};
 use zmtp_wire::role::Role;
 
 /// How much a reader and a writer move a call, and after how many calls they fail.
-#[derive(Clone, Copy, Debug)]
+#[derive(Clone, Copy)]
 pub struct Pace {
     pub read: (usize, u64),
     pub written: (usize, u64),
@@ -34,7 +34,7 @@ pub const BYTE_BY_BYTE: Pace = Pace {
 };
 
 /// How a conversation goes.
-#[derive(Clone, Copy, PartialEq, Eq, Debug)]
+#[derive(Clone, Copy, PartialEq, Eq)]
 pub enum Course {
     /// The handshake ends it.
     Unmet(PeerFault),
@@ -122,9 +122,12 @@ pub fn talk_at<R: Wait + Abort>(
 ) -> (Course, usize) {
     let (mut from, mut to) = ports(alloc, talk.given, pace).expect(rt, "memory for ports");
     let course = course_of(rt, alloc, table, talk, &mut from, &mut to);
-    let written = to.as_slice();
-    assert!(rt; talk.wanted.starts_with(written), "other bytes");
-    (course, written.len())
+    let is_front = talk.wanted.starts_with(to.as_slice());
+    let written = to.as_slice().len();
+    drop(from);
+    drop(to);
+    assert!(rt; is_front, "other bytes");
+    (course, written)
 }
 
 /// How one with a new kernel goes.
@@ -135,5 +138,7 @@ pub fn outcome<R: Wait + Abort>(
     pace: Pace,
 ) -> (Course, usize) {
     let mut table = open_table(rt, alloc, MOST_ENTRIES);
-    talk_at(rt, alloc, &mut table, talk, pace)
+    let found = talk_at(rt, alloc, &mut table, talk, pace);
+    drop(table);
+    found
 }

@@ -51,7 +51,10 @@ fn met<R: Abort>(rt: &R, alloc: Global) -> Peer {
     let first = DEALER.to_vec(alloc).expect(rt, "memory for a handshake");
     let mut from = Source::new(first, 4096, 9999);
     let mut to = Sink::new(alloc, 4096, 9999);
-    handshake(alloc, &mut from, &mut to, Role::Router).expect(rt, "a handshake")
+    let met = handshake(alloc, &mut from, &mut to, Role::Router);
+    drop(from);
+    drop(to);
+    met.expect(rt, "a handshake")
 }
 
 fn place_of(connection: u32, channel: Channel) -> Place<'static> {
@@ -81,7 +84,11 @@ pub fn read_at_once<R: Wait + Abort>(
     let mut from = Source::new(bytes, 4096, 9999);
     let mut gate = Measured::new(0, 0);
     let end = pump_in(rt, alloc, desk, pass, &mut gate, &mut from, peer, &place);
-    assert_eq!(rt; end, PumpEnd::PeerEnded);
+    drop(from);
+    assert!(rt;
+        end == PumpEnd::PeerEnded,
+        "connection {connection}: another end"
+    );
 }
 
 // Reads what a client asks once the cell runs.
@@ -98,11 +105,15 @@ fn read_held<R: Wait + Clock + Abort>(
 {
     let peer = met(rt, alloc);
     let mut gate = Measured::new(0, 0);
-    let source = Source::new(source.bytes, source.piece, 9999);
+    let HeldBytes { bytes, piece } = source;
+    let source = Source::new(bytes, piece, 9999);
     let mut from = HeldSource::new(stage, rt, source);
-    pump_in(
+    let end = pump_in(
         rt, alloc, desk, &mut pass, &mut gate, &mut from, peer, place,
-    )
+    );
+    drop(from);
+    drop(pass);
+    end
 }
 
 // What a client asks, and how much of it a read gives.
@@ -132,6 +143,7 @@ pub fn write_on<R: Wait + Clock>(
         session: "S",
     };
     let end = pump_out(rt, alloc, desk, &mut pass, &mut gate, &mut to, &line, 1);
+    drop(pass);
     Written { end, sink: to.sink }
 }
 
@@ -140,7 +152,9 @@ fn work<R: Wait + Clock>(rt: &R, desk: &Desk, mut pass: Pass, stage: &Stage) -> 
     requires { pass.turnstile ≡ desk.now }
 {
     let mut gate = HoldingGate::new(stage, rt);
-    worker(rt, desk, &mut pass, &mut gate)
+    let end = worker(rt, desk, &mut pass, &mut gate);
+    drop(pass);
+    end
 }
 
 /// A client at a desk, with a pass for what it asks and one for what it is sent.

@@ -11,8 +11,9 @@ use kern_net_tests::messages::{Asked, Sent, given_by, push_message, written_by};
 use kern_net_tests::texts::{count_of, from_text, in_order};
 use std::alloc::{AllocError, Global};
 use std::process::Abort;
+use std::rt::Clock;
 use std::sync::Wait;
-use std::test::Fail;
+use std::thread::Threads;
 
 const CELL: Asked = Asked(
     "{\"msg_id\":\"a_1\",\"msg_type\":\"execute_request\",\"session\":\"a\"}",
@@ -46,15 +47,16 @@ const SHUTDOWN: Asked = Asked(
 
 // The control client: it pauses the cell once it runs, then looks at its frames, ends it and shuts down. One
 // read gives the pause alone.
-fn control_client(alloc: Global) -> Result<Client, Fail> {
-    let pause = given_by(alloc, b"", &[PAUSE])?;
-    Ok(Client {
+fn control_client<R: Abort>(rt: &R, alloc: Global) -> Client {
+    let pause = given_by(alloc, b"", &[PAUSE]).expect(rt, "memory for a request");
+    let questions = given_by(alloc, b"", &[PAUSE, STACK, INTERRUPT, SHUTDOWN]);
+    Client {
         connection: 2,
         channel: Channel::Control,
-        questions: given_by(alloc, b"", &[PAUSE, STACK, INTERRUPT, SHUTDOWN])?,
+        questions: questions.expect(rt, "memory for requests"),
         piece: pause.len(),
         last: b"\"command\":\"pause\"",
-    })
+    }
 }
 
 // A cell is asked for on shell, connection 1, and control, connection 2, is attached.
@@ -64,7 +66,10 @@ fn prepare<R: Wait + Abort>(rt: &R, alloc: Global, desk: &Desk, pass: &mut Pass)
 {
     let shell = join(rt, alloc, desk, pass, Channel::Shell).expect(rt, "a connection");
     let control = join(rt, alloc, desk, pass, Channel::Control).expect(rt, "a connection");
-    assert_eq!(rt; (shell, control), (1, 2));
+    assert!(rt;
+        shell == 1 && control == 2,
+        "connections {shell} and {control}"
+    );
     read_at_once(rt, alloc, desk, pass, 1, Channel::Shell, CELL);
     read_at_once(rt, alloc, desk, pass, 2, Channel::Control, ATTACH);
 }
@@ -114,39 +119,78 @@ const CELL_REPLIES: [Sent; 1] = [Sent(
 )];
 
 // What a client was sent, to the byte, until a shutdown.
-fn check_written<R: Abort>(
+fn check_written<R: Abort>(rt: &R, alloc: Global, written: &Written, letters: &[Sent]) {
+    let wanted = written_by(alloc, b"", letters).expect(rt, "memory for replies");
+    let is_wanted = written.sink.as_slice() == wanted.as_slice();
+    drop(wanted);
+    assert!(rt; written.end == PumpEnd::Ended, "another end of writing");
+    assert!(rt; is_wanted, "other bytes");
+}
+
+fn check_stage<R: Abort>(rt: &R, stage: &Stage) {
+    assert!(rt; !stage.is_late(), "somebody looked in vain");
+}
+
+// How the control client was read, and what it was sent.
+fn check_talked<R: Abort>(rt: &R, alloc: Global, talked: &[Talked]) {
+    assert!(rt; talked.len() == 1);
+    let control = &talked[0];
+    assert!(rt;
+        control.read == PumpEnd::PeerEnded,
+        "another end of reading"
+    );
+    check_written(rt, alloc, &control.written, &CONTROL_REPLIES);
+}
+
+// The worker, and the client on control, connection 2.
+fn pause_cell<R: Threads + Wait + Clock + Abort + Sync>(
     rt: &R,
     alloc: Global,
-    written: &Written,
-    letters: &[Sent],
-) -> Result<(), Fail> {
-    let wanted = written_by(alloc, b"", letters)?;
-    assert_eq!(rt; written.end, PumpEnd::Ended);
-    assert_eq!(rt; written.sink.as_slice(), wanted.as_slice());
-    Ok(())
+    desk: &Desk,
+    mut passes: Vec<Pass>,
+    stage: &Stage,
+)
+    requires { All (λ p. p.turnstile ≡ desk.now) passes.items }
+{
+    let working = take_pass(desk, &mut passes).expect(rt, "a pass");
+    let control = seat(rt, desk, &mut passes, stage, control_client(rt, alloc));
+    drop(passes);
+    let callers = vec![in alloc; control].expect(rt, "memory for a caller");
+    let (worked, talked) = run(rt, alloc, desk, working, stage, callers);
+    check_stage(rt, stage);
+    check_talked(rt, alloc, talked.as_slice());
+    drop(talked);
+    assert!(rt; worked == PumpEnd::Ended, "another end of work");
+}
+
+// What the client on shell, connection 1, was sent of its cell.
+fn check_cell<R: Wait + Clock + Abort>(
+    rt: &R,
+    alloc: Global,
+    desk: &Desk,
+    pass: Pass,
+    stage: &Stage,
+)
+    requires { pass.turnstile ≡ desk.now }
+{
+    let cell = write_on(rt, alloc, desk, pass, stage, 1, b"none");
+    check_written(rt, alloc, &cell, &CELL_REPLIES);
+    drop(cell);
 }
 
 // The third slice is held until the pause is answered: the cell is loaded and started then, and stands before
 // its first instruction. A kernel that held a lock for the whole cell would answer the pause too late.
 #[test]
-fn a_pause_between_slices(rt: HostRuntime) -> Result<(), Fail> {
+fn a_pause_between_slices(rt: HostRuntime) {
     let alloc = rt.alloc();
     let (desk, mut passes) = open_desk(alloc, MOST_ENTRIES, 4).expect(&rt, "a desk");
     let mut shell = take_pass(&desk, &mut passes).expect(&rt, "a pass");
     prepare(&rt, alloc, &desk, &mut shell);
     let stage = Stage::new(1);
-    let working = take_pass(&desk, &mut passes).expect(&rt, "a pass");
-    let mut callers = Vec::new(alloc);
-    let client = control_client(alloc)?;
-    callers.push(seat(&rt, &desk, &mut passes, &stage, client))?;
-    let (worked, talked) = run(&rt, alloc, &desk, working, &stage, callers);
-    let cell = write_on(&rt, alloc, &desk, shell, &stage, 1, b"none");
-    assert!(rt; !stage.is_late());
-    assert_eq!(rt; worked, PumpEnd::Ended);
-    let control = talked.first().ok_or("no control client")?;
-    assert_eq!(rt; control.read, PumpEnd::PeerEnded);
-    check_written(&rt, alloc, &control.written, &CONTROL_REPLIES)?;
-    check_written(&rt, alloc, &cell, &CELL_REPLIES)
+    pause_cell(&rt, alloc, &desk, passes, &stage);
+    check_cell(&rt, alloc, &desk, shell, &stage);
+    check_stage(&rt, &stage);
+    drop(desk);
 }
 
 // Four clients on shell: the sessions, and the number of the last request.
@@ -185,7 +229,10 @@ fn join_shell<R: Wait + Abort>(rt: &R, alloc: Global, desk: &Desk, pass: &mut Pa
     ensures { pass.new.turnstile ≡ desk.now }
 {
     let connection = join(rt, alloc, desk, pass, Channel::Shell).expect(rt, "a connection");
-    assert_eq!(rt; connection, number);
+    assert!(rt;
+        connection == number,
+        "connection {connection} and not {number}"
+    );
 }
 
 fn shell_client(connection: u32, questions: Vec<u8>, last: &'static [u8]) -> Client {
@@ -223,44 +270,55 @@ fn five_callers<'a, R: Abort>(
     desk: &'a Desk,
     mut passes: Vec<Pass>,
     stage: &'a Stage,
-    client: Client,
 ) -> Vec<Caller<'a>>
     requires { All (λ p. p.turnstile ≡ desk.now) passes.items }
 {
-    let control = seat(rt, desk, &mut passes, stage, client);
+    let control = seat(rt, desk, &mut passes, stage, control_client(rt, alloc));
     let first = seat_shell(rt, alloc, desk, &mut passes, stage, 3, SESSIONS[0]);
     let second = seat_shell(rt, alloc, desk, &mut passes, stage, 4, SESSIONS[1]);
     let third = seat_shell(rt, alloc, desk, &mut passes, stage, 5, SESSIONS[2]);
     let fourth = seat_shell(rt, alloc, desk, &mut passes, stage, 6, SESSIONS[3]);
+    drop(passes);
     vec![in alloc; control, first, second, third, fourth].expect(rt, "memory for callers")
 }
 
 // All replies of a session, each once and in the order of the requests.
-fn check_session<R: Abort>(
-    rt: &R,
-    alloc: Global,
-    talked: &Talked,
-    session: &str,
-) -> Result<(), Fail> {
+fn check_session<R: Abort>(rt: &R, alloc: Global, talked: &Talked, session: &str) {
     let mut rest = talked.written.sink.as_slice();
     check_counts(rt, rest);
     for number in 10..74 {
-        let text = format!(in alloc; "\"msg_id\":\"{session}_{number}\"")?;
-        rest = from_text(rest, text.as_bytes()).ok_or("a reply is missing")?;
+        rest = after_reply(rt, alloc, rest, session, number);
     }
-    Ok(())
+}
+
+fn after_reply<'a, R: Abort>(
+    rt: &R,
+    alloc: Global,
+    bytes: &'a [u8],
+    session: &str,
+    number: u32,
+) -> &'a [u8] {
+    let text = format!(in alloc; "\"msg_id\":\"{session}_{number}\"").expect(rt, "memory");
+    let rest = from_text(bytes, text.as_bytes());
+    drop(text);
+    assert!(rt; rest.is_some(), "reply {number} is missing");
+    rest.unwrap_or(bytes)
 }
 
 fn check_counts<R: Abort>(rt: &R, bytes: &[u8]) {
-    assert_eq!(rt; count_of(bytes, b"<IDS|MSG>"), 64);
-    assert_eq!(rt; count_of(bytes, b"\"kernel_info_reply\""), 64);
-    assert_eq!(rt; count_of(bytes, b"\"implementation\":\"lab80\""), 64);
+    let counts = [
+        count_of(bytes, b"<IDS|MSG>"),
+        count_of(bytes, b"\"kernel_info_reply\""),
+        count_of(bytes, b"\"implementation\":\"lab80\""),
+    ];
+    assert!(rt; counts == [64, 64, 64], "{counts:?}");
 }
 
-// Of the control client's replies, five texts in their order.
+// Of the control client's replies, seven texts in their order.
 fn check_control<R: Abort>(rt: &R, control: &Talked) {
     let bytes = control.written.sink.as_slice();
-    assert_eq!(rt; count_of(bytes, b"<IDS|MSG>"), 5);
+    let replies = count_of(bytes, b"<IDS|MSG>");
+    assert!(rt; replies == 5, "{replies} replies");
     assert!(rt; in_order(bytes, &CONTROL_TEXTS));
 }
 
@@ -274,37 +332,68 @@ const CONTROL_TEXTS: [&str; 7] = [
     "\"shutdown_reply\"",
 ];
 
+// The control client comes first, then those on shell.
+fn check_all<R: Abort>(rt: &R, alloc: Global, talked: &[Talked]) {
+    assert!(rt; talked.len() == 5);
+    check_ends(rt, talked);
+    check_control(rt, &talked[0]);
+    check_session(rt, alloc, &talked[1], SESSIONS[0].0);
+    check_session(rt, alloc, &talked[2], SESSIONS[1].0);
+    check_session(rt, alloc, &talked[3], SESSIONS[2].0);
+    check_session(rt, alloc, &talked[4], SESSIONS[3].0);
+}
+
 fn check_ends<R: Abort>(rt: &R, talked: &[Talked]) {
-    assert_eq!(rt; talked.len(), 5);
-    for told in talked {
-        assert_eq!(rt; told.read, PumpEnd::PeerEnded);
-        assert_eq!(rt; told.written.end, PumpEnd::Ended);
+    for (place, told) in talked.iter().enumerate() {
+        assert!(rt;
+            told.read == PumpEnd::PeerEnded,
+            "client {place}: another end of reading"
+        );
+        assert!(rt;
+            told.written.end == PumpEnd::Ended,
+            "client {place}: another end of writing"
+        );
     }
+}
+
+fn prepare_four<R: Wait + Abort>(rt: &R, alloc: Global, desk: &Desk, pass: &mut Pass)
+    requires { pass.old.turnstile ≡ desk.now }
+{
+    prepare(rt, alloc, desk, pass);
+    join_shell(rt, alloc, desk, pass, 3);
+    join_shell(rt, alloc, desk, pass, 4);
+    join_shell(rt, alloc, desk, pass, 5);
+    join_shell(rt, alloc, desk, pass, 6);
+}
+
+// The worker, and five clients.
+fn serve_five<R: Threads + Wait + Clock + Abort + Sync>(
+    rt: &R,
+    alloc: Global,
+    desk: &Desk,
+    mut passes: Vec<Pass>,
+    stage: &Stage,
+)
+    requires { All (λ p. p.turnstile ≡ desk.now) passes.items }
+{
+    let working = take_pass(desk, &mut passes).expect(rt, "a pass");
+    let callers = five_callers(rt, alloc, desk, passes, stage);
+    let (worked, talked) = run(rt, alloc, desk, working, stage, callers);
+    check_stage(rt, stage);
+    check_all(rt, alloc, talked.as_slice());
+    drop(talked);
+    assert!(rt; worked == PumpEnd::Ended, "another end of work");
 }
 
 // The third slice is held until the pause and 256 requests are answered, 64 on each of four connections.
 #[test]
-fn four_clients_between_slices(rt: HostRuntime) -> Result<(), Fail> {
+fn four_clients_between_slices(rt: HostRuntime) {
     let alloc = rt.alloc();
     let (desk, mut passes) = open_desk(alloc, MOST_ENTRIES, 12).expect(&rt, "a desk");
     let mut shell = take_pass(&desk, &mut passes).expect(&rt, "a pass");
-    prepare(&rt, alloc, &desk, &mut shell);
-    join_shell(&rt, alloc, &desk, &mut shell, 3);
-    join_shell(&rt, alloc, &desk, &mut shell, 4);
-    join_shell(&rt, alloc, &desk, &mut shell, 5);
-    join_shell(&rt, alloc, &desk, &mut shell, 6);
+    prepare_four(&rt, alloc, &desk, &mut shell);
     let stage = Stage::new(5);
-    let working = take_pass(&desk, &mut passes).expect(&rt, "a pass");
-    let client = control_client(alloc)?;
-    let callers = five_callers(&rt, alloc, &desk, passes, &stage, client);
-    let (worked, talked) = run(&rt, alloc, &desk, working, &stage, callers);
-    assert!(rt; !stage.is_late());
-    assert_eq!(rt; worked, PumpEnd::Ended);
-    check_ends(&rt, talked.as_slice());
-    let (control, others) = talked.split_first().ok_or("no control client")?;
-    check_control(&rt, control);
-    for (told, session) in others.iter().zip(SESSIONS) {
-        check_session(&rt, alloc, told, session.0)?;
-    }
-    Ok(())
+    serve_five(&rt, alloc, &desk, passes, &stage);
+    drop(shell);
+    drop(desk);
 }

@@ -5,21 +5,32 @@ use lab_io::status::Status;
 use std::rt::Files;
 use std::{fs, io};
 
+// Says why a file isn't read, and gives the status.
+fn tell_unread(rt: &impl Print, kind: io::ErrorKind) -> Status {
+    match kind {
+        io::ErrorKind::OutOfMemory => Status::OutOfMemory,
+        io::ErrorKind::NotFound => say(rt, "no file", Status::Failed),
+        _ => say(rt, "read failed", Status::Failed),
+    }
+}
+
+fn read_bytes<R: Files + Print + AllocGlobal>(rt: &R, file: &str) -> Result<Vec<u8>, Status> {
+    match fs::read(rt, file) {
+        Ok(bytes) => Ok(bytes),
+        Err(error) => {
+            let kind = error.kind();
+            drop(error);
+            Err(tell_unread(rt, kind))
+        }
+    }
+}
+
 /// Reads a connection file; where it can't, says why, and gives the status.
 pub fn read_file<R: Files + Print + AllocGlobal>(
     rt: &R,
     file: &str,
 ) -> Result<ConnectionFile, Status> {
-    let bytes = match fs::read(rt, file) {
-        Ok(bytes) => bytes,
-        Err(error) if error.kind() == io::ErrorKind::OutOfMemory => {
-            return Err(Status::OutOfMemory);
-        }
-        Err(error) if error.kind() == io::ErrorKind::NotFound => {
-            return Err(say(rt, "no file", Status::Failed));
-        }
-        Err(_) => return Err(say(rt, "read failed", Status::Failed)),
-    };
+    let bytes = read_bytes(rt, file)?;
     match ConnectionFile::read(rt.alloc(), &bytes) {
         Ok(file) => Ok(file),
         Err(FileFault::OutOfMemory) => Err(Status::OutOfMemory),

@@ -1,6 +1,7 @@
 //! The word `kernel`.
 use crate::file::read_file;
 use crate::line::say;
+use jup_connection::connection_file::ConnectionFile;
 use kern_serve::fault::ServerFault;
 use kern_serve::listeners::Listeners;
 use kern_serve::server::{ServerEnd, serve};
@@ -11,6 +12,61 @@ use std::random::RandomSource;
 use std::rt::{Clock, Files};
 use std::sync::Wait;
 use std::thread::Threads;
+
+// Says why the ports can't be had, and gives the status.
+fn tell_unbound(rt: &impl Print, kind: io::ErrorKind) -> Status {
+    match kind {
+        io::ErrorKind::AddrInUse => say(rt, "port in use", Status::Failed),
+        _ => say(rt, "bind failed", Status::Failed),
+    }
+}
+
+// The listeners of a connection file, once it was said that they listen.
+fn listen<R: Print + Net<Listener = TcpListener, Stream = TcpStream>>(
+    rt: &R,
+    file: &ConnectionFile,
+) -> Result<Listeners, Status> {
+    match Listeners::bind(rt, file) {
+        Ok(listeners) => match say(rt, "listening", Status::Success) {
+            Status::Success => Ok(listeners),
+            status => {
+                drop(listeners);
+                Err(status)
+            }
+        },
+        Err(error) => {
+            let kind = error.kind();
+            drop(error);
+            Err(tell_unbound(rt, kind))
+        }
+    }
+}
+
+// How serving ended.
+fn tell_end(rt: &impl Print, end: Result<ServerEnd, ServerFault>) -> Status {
+    match end {
+        Ok(ServerEnd::ShutDown) => Status::Success,
+        // A full journal is told by the number of want of memory: no call has room any more.
+        Ok(ServerEnd::JournalFull) => say(rt, "journal full", Status::OutOfMemory),
+        Err(ServerFault::OutOfMemory) => Status::OutOfMemory,
+        Err(ServerFault::System) => Status::Failed,
+    }
+}
+
+// A connection file, and the listeners of its ports.
+fn prepare<R: Files + Print + AllocGlobal + Net<Listener = TcpListener, Stream = TcpStream>>(
+    rt: &R,
+    file: &str,
+) -> Result<(Listeners, ConnectionFile), Status> {
+    let file = read_file(rt, file)?;
+    match listen(rt, &file) {
+        Ok(listeners) => Ok((listeners, file)),
+        Err(status) => {
+            drop(file);
+            Err(status)
+        }
+    }
+}
 
 /// Serves as the kernel of a connection file, until a client asks for a shutdown.
 pub fn run_kernel<
@@ -28,25 +84,8 @@ pub fn run_kernel<
         + Drop
         + 'static,
 >(rt: &R, file: &str) -> Status {
-    let file = match read_file(rt, file) {
-        Ok(file) => file,
-        Err(status) => return status,
-    };
-    let listeners = match Listeners::bind(rt, &file) {
-        Ok(listeners) => listeners,
-        Err(error) if error.kind() == io::ErrorKind::AddrInUse => {
-            return say(rt, "port in use", Status::Failed);
-        }
-        Err(_) => return say(rt, "bind failed", Status::Failed),
-    };
-    if say(rt, "listening", Status::Success) != Status::Success {
-        return Status::Failed;
-    }
-    match serve(rt, rt.alloc(), listeners, file) {
-        Ok(ServerEnd::ShutDown) => Status::Success,
-        // A full journal is told by the number of want of memory: no call has room any more.
-        Ok(ServerEnd::JournalFull) => say(rt, "journal full", Status::OutOfMemory),
-        Err(ServerFault::OutOfMemory) => Status::OutOfMemory,
-        Err(ServerFault::System) => Status::Failed,
+    match prepare(rt, file) {
+        Ok((listeners, file)) => tell_end(rt, serve(rt, rt.alloc(), listeners, file)),
+        Err(status) => status,
     }
 }

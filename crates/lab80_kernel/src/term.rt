@@ -1,5 +1,5 @@
 //! The word `term`.
-ghost use Rattle.std.specs.Prelude.{◌≡◌, false, IfOk};
+ghost use Rattle.std.specs.Prelude.{◌≡◌, ◌≤◌, false, IfOk};
 
 use crate::file::read_file;
 use crate::line::say;
@@ -41,32 +41,26 @@ fn connect<R: Net<Listener = TcpListener, Stream = TcpStream>>(
     })
 }
 
-// Runs the cell on a kernel, and prints what it streams.
-fn run<
-    R: Net<Listener = TcpListener, Stream = TcpStream> + Print + AllocGlobal + RandomSource + Clock,
->(rt: &R, file: &ConnectionFile, code: &str) -> Status {
-    let session = match new_session(rt.alloc(), rt) {
-        Ok(session) => session,
-        Err(ServerFault::OutOfMemory) => return Status::OutOfMemory,
-        Err(ServerFault::System) => return Status::Failed,
-    };
-    let Ok(mut shell) = connect(rt, file, file.shell_port) else {
-        return say(rt, NO_KERNEL, Status::Failed);
-    };
-    let Ok(mut iopub) = connect(rt, file, file.iopub_port) else {
-        return say(rt, NO_KERNEL, Status::Failed);
-    };
-    let cell = Cell {
-        code,
-        key: file.key.as_str().as_bytes(),
-        session: session.as_str(),
-        moment: moment(rt),
-    };
-    let mut output = StdOutlet::new(io::writer(rt));
-    let ran = run_cell(rt.alloc(), &mut shell, &mut iopub, &mut output, &cell);
-    if output.into_inner().flush().is_err() {
-        return Status::Failed;
+// The connections to shell and to iopub, if both could be made.
+fn connect_both<R: Net<Listener = TcpListener, Stream = TcpStream>>(
+    rt: &R,
+    file: &ConnectionFile,
+) -> io::Result<(Socket, Socket)>
+    ensures { IfOk result (λ sockets.
+        (sockets.0.from.1 ≡ false) × (sockets.0.from.2 ≡ false) × (sockets.0.to.1 ≡ false)
+        × (sockets.1.from.1 ≡ false) × (sockets.1.from.2 ≡ false) × (sockets.1.to.1 ≡ false)) }
+{
+    let shell = connect(rt, file, file.shell_port)?;
+    match connect(rt, file, file.iopub_port) {
+        Ok(iopub) => Ok((shell, iopub)),
+        Err(error) => {
+            drop(shell);
+            Err(error)
+        }
     }
+}
+
+fn status_of(ran: Result<bool, TermFault>) -> Status {
     match ran {
         Ok(true) => Status::Success,
         Ok(false) => Status::Refused,
@@ -74,6 +68,81 @@ fn run<
         Err(
             TermFault::Ended | TermFault::ReadFailed | TermFault::WriteFailed | TermFault::Wire(_),
         ) => Status::Failed,
+    }
+}
+
+// Runs the cell over two connections, and prints what it streams.
+fn run_over<R: Print + AllocGlobal>(
+    rt: &R,
+    shell: &mut Socket,
+    iopub: &mut Socket,
+    cell: &Cell<'_>,
+) -> Status
+    requires moment { cell.now.moment ≤ 4102444800 }
+    requires shell { (shell.old.from.1 ≡ false) × (shell.old.from.2 ≡ false) × (shell.old.to.1 ≡ false) }
+    requires iopub { (iopub.old.from.1 ≡ false) × (iopub.old.from.2 ≡ false) × (iopub.old.to.1 ≡ false) }
+{
+    let mut output = StdOutlet::new(io::writer(rt));
+    let ran = run_cell(rt.alloc(), shell, iopub, &mut output, cell);
+    if output.into_inner().flush().is_err() {
+        return Status::Failed;
+    }
+    status_of(ran)
+}
+
+fn run_named<R: Net<Listener = TcpListener, Stream = TcpStream> + Print + AllocGlobal + Clock>(
+    rt: &R,
+    file: &ConnectionFile,
+    code: &str,
+    session: &str,
+) -> Status {
+    match connect_both(rt, file) {
+        Ok((mut shell, mut iopub)) => {
+            let cell = Cell {
+                code,
+                key: file.key.as_str().as_bytes(),
+                session,
+                moment: moment(rt),
+            };
+            let status = run_over(rt, &mut shell, &mut iopub, &cell);
+            drop(shell);
+            drop(iopub);
+            status
+        }
+        Err(error) => {
+            drop(error);
+            say(rt, NO_KERNEL, Status::Failed)
+        }
+    }
+}
+
+// Runs the cell on a kernel, and prints what it streams.
+fn run<
+    R: Net<Listener = TcpListener, Stream = TcpStream> + Print + AllocGlobal + RandomSource + Clock,
+>(rt: &R, file: &ConnectionFile, code: &str) -> Status {
+    match new_session(rt.alloc(), rt) {
+        Ok(session) => run_named(rt, file, code, session.as_str()),
+        Err(ServerFault::OutOfMemory) => Status::OutOfMemory,
+        Err(ServerFault::System) => Status::Failed,
+    }
+}
+
+// Runs the cell on standard input.
+fn run_input<
+    R: Input
+        + Print
+        + AllocGlobal
+        + Net<Listener = TcpListener, Stream = TcpStream>
+        + RandomSource
+        + Clock,
+>(rt: &R, file: &ConnectionFile) -> Status {
+    let input = match read_all(rt.alloc(), &mut StdInlet::new(rt.reader())) {
+        Ok(input) => input,
+        Err(status) => return status,
+    };
+    match str::from_utf8(&input) {
+        Ok(code) => run(rt, file, code),
+        Err(_) => say(rt, "bad text", Status::Refused),
     }
 }
 
@@ -87,16 +156,12 @@ pub fn run_term<
         + RandomSource
         + Clock,
 >(rt: &R, file: &str) -> Status {
-    let file = match read_file(rt, file) {
-        Ok(file) => file,
-        Err(status) => return status,
-    };
-    let input = match read_all(rt.alloc(), &mut StdInlet::new(rt.reader())) {
-        Ok(input) => input,
-        Err(status) => return status,
-    };
-    match str::from_utf8(&input) {
-        Ok(code) => run(rt, &file, code),
-        Err(_) => say(rt, "bad text", Status::Refused),
+    match read_file(rt, file) {
+        Ok(file) => {
+            let status = run_input(rt, &file);
+            drop(file);
+            status
+        }
+        Err(status) => status,
     }
 }

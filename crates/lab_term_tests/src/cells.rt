@@ -8,9 +8,7 @@ use jup_wire::signature::sign;
 use lab_term::cell::Cell;
 use lab_term::fault::{TermFault, WireCause};
 use lab_term::run_cell::{Connection, run_cell};
-use std::alloc::Global;
-use std::process::Abort;
-use std::test::Fail;
+use std::alloc::{AllocError, Global};
 use zmtp_wire::fault::StreamFault;
 use zmtp_wire::role::Role;
 use zmtp_wire::writing::{greeting, put_message, ready};
@@ -51,52 +49,65 @@ const ERROR: Told = Told(
     "{\"ename\":\"AssemblyError\",\"evalue\":\"1:1 Mnemonic\",\"traceback\":[]}",
 );
 
-fn push_text(alloc: Global, frames: &mut Frames, text: &str) -> Result<(), Fail> {
-    frames.push(Bytes::copy_of(alloc, text.as_bytes())?)?;
+const CELL: Cell<'static> = Cell {
+    code: "HLT",
+    key: KEY,
+    session: "s",
+    moment: 0,
+};
+
+fn push_texts(alloc: Global, frames: &mut Frames, texts: &[&str]) -> Result<(), AllocError> {
+    for text in texts {
+        frames.push(Bytes::copy_of(alloc, text.as_bytes())?)?;
+    }
+    Ok(())
+}
+
+fn push_copies(alloc: Global, frames: &mut Frames, others: &[Bytes]) -> Result<(), AllocError> {
+    for frame in others {
+        frames.push(Bytes::copy_of(alloc, frame.as_slice())?)?;
+    }
     Ok(())
 }
 
 // The four frames that are signed.
-fn signed_frames(alloc: Global, told: Told) -> Result<Frames, Fail> {
+fn signed_frames(alloc: Global, told: Told) -> Result<Frames, AllocError> {
     let header = format!(in alloc;
         "{{\"msg_id\":\"k_1\",\"msg_type\":\"{}\",\"session\":\"k\"}}",
         told.0
     )?;
     let mut frames = Frames::new(alloc);
-    for text in [header.as_str(), told.1, "{}", told.2] {
-        push_text(alloc, &mut frames, text)?;
-    }
+    let texts = [header.as_str(), told.1, "{}", told.2];
+    push_texts(alloc, &mut frames, &texts)?;
     Ok(frames)
 }
 
-// The bytes of a message of some frames.
-fn push_message(alloc: Global, bytes: &mut Vec<u8>, frames: &Frames) -> Result<(), Fail> {
+// The bytes of a message of some frames; nothing where there are none.
+fn push_message(alloc: Global, bytes: &mut Vec<u8>, frames: &Frames) -> Result<(), AllocError> {
     if frames.len() == 0 {
-        return Err(Fail::from("a message of no frames"));
+        return Ok(());
     }
-    bytes.extend_from_slice(put_message(alloc, frames.as_slice())?.as_slice())?;
-    Ok(())
+    bytes.extend_from_slice(put_message(alloc, frames.as_slice())?.as_slice())
 }
 
 // The bytes of a message, signed under the key.
-fn push_told(alloc: Global, bytes: &mut Vec<u8>, told: Told, key: &[u8]) -> Result<(), Fail> {
+fn push_told(alloc: Global, bytes: &mut Vec<u8>, told: Told, key: &[u8]) -> Result<(), AllocError> {
     let signed = signed_frames(alloc, told)?;
+    let signature = sign(alloc, key, signed.as_slice())?;
     let mut frames = Frames::new(alloc);
-    push_text(alloc, &mut frames, told.0)?;
-    push_text(alloc, &mut frames, "<IDS|MSG>")?;
-    push_text(
-        alloc,
-        &mut frames,
-        sign(alloc, key, signed.as_slice())?.as_str(),
-    )?;
-    for frame in signed.into_vec() {
-        frames.push(frame)?;
-    }
+    let texts = [told.0, "<IDS|MSG>", signature.as_str()];
+    push_texts(alloc, &mut frames, &texts)?;
+    push_copies(alloc, &mut frames, signed.as_slice())?;
     push_message(alloc, bytes, &frames)
 }
 
 // What a kernel writes on a connection.
-fn stream_of(alloc: Global, role: Role, script: &[Told], key: &[u8]) -> Result<Vec<u8>, Fail> {
+fn stream_of(
+    alloc: Global,
+    role: Role,
+    script: &[Told],
+    key: &[u8],
+) -> Result<Vec<u8>, AllocError> {
     let mut bytes = Vec::new(alloc);
     bytes.extend_from_slice(greeting())?;
     bytes.extend_from_slice(ready(role))?;
@@ -106,44 +117,49 @@ fn stream_of(alloc: Global, role: Role, script: &[Told], key: &[u8]) -> Result<V
     Ok(bytes)
 }
 
-// A connection whose reader and writer move so many bytes a call, the reader for so many calls.
-fn connection(alloc: Global, bytes: Vec<u8>, most: usize, calls: u64) -> Connection<Source, Sink>
+// A connection whose reader and writer move so many bytes a call.
+fn connection(alloc: Global, bytes: Vec<u8>, most: usize) -> Connection<Source, Sink>
     ensures { (result.from.ended ≡ false) × (result.from.failed ≡ false) × (result.to.failed ≡ false) }
 {
     Connection {
-        from: Source::new(bytes, most, calls),
+        from: Source::new(bytes, most, 9999),
         to: Sink::new(alloc, most, 9999),
     }
 }
 
-// How a cell went, and what was printed.
+// How a cell went, and what was written.
 #[derive(Drop)]
 struct Outcome {
     answer: Result<bool, TermFault>,
-    shell: Sink,
-    iopub: Sink,
+    shell: Connection<Source, Sink>,
+    iopub: Connection<Source, Sink>,
     output: Sink,
 }
 
-fn run(alloc: Global, script: &[Told], key: &[u8], most: usize) -> Result<Outcome, Fail> {
+// Runs the cell over what comes on shell and on iopub.
+fn run(alloc: Global, asked: Vec<u8>, told: Vec<u8>, most: usize) -> Outcome {
+    let mut shell = connection(alloc, asked, most);
+    let mut iopub = connection(alloc, told, most);
+    let mut output = Sink::new(alloc, most, 9999);
+    let answer = run_cell(alloc, &mut shell, &mut iopub, &mut output, &CELL);
+    Outcome {
+        answer,
+        shell,
+        iopub,
+        output,
+    }
+}
+
+// Runs the cell over a script that is signed under a key.
+fn run_script(
+    alloc: Global,
+    script: &[Told],
+    key: &[u8],
+    most: usize,
+) -> Result<Outcome, AllocError> {
     let asked = stream_of(alloc, Role::Router, &[], KEY)?;
     let told = stream_of(alloc, Role::Pub, script, key)?;
-    let mut shell = connection(alloc, asked, most, 9999);
-    let mut iopub = connection(alloc, told, most, 9999);
-    let mut output = Sink::new(alloc, most, 9999);
-    let cell = Cell {
-        code: "HLT",
-        key: KEY,
-        session: "s",
-        moment: 0,
-    };
-    let answer = run_cell(alloc, &mut shell, &mut iopub, &mut output, &cell);
-    Ok(Outcome {
-        answer,
-        shell: shell.to,
-        iopub: iopub.to,
-        output,
-    })
+    Ok(run(alloc, asked, told, most))
 }
 
 // What the kernel tells, what is printed, and the answer.
@@ -181,65 +197,94 @@ const ROWS: [Row; 8] = [
     (&[STARTING, LETTER, BUSY], "A", Err(TermFault::Ended)),
 ];
 
+// Whether a script that is signed under a key prints and is answered as the row tells.
+fn is_kept(alloc: Global, row: &Row, key: &[u8], most: usize) -> Result<bool, AllocError> {
+    let run = run_script(alloc, row.0, key, most)?;
+    let is_kept = run.answer == row.2 && run.output.as_slice() == row.1.as_bytes();
+    drop(run);
+    Ok(is_kept)
+}
+
 #[test]
-fn cells(rt: HostRuntime) -> Result<(), Fail> {
-    for (script, printed, answer) in ROWS {
-        for most in [1usize, 4096] {
-            let run = run(rt.alloc(), script, KEY, most)?;
-            assert_eq!(rt; run.answer, answer, "{printed}");
-            assert!(rt; run.output.as_slice() == printed.as_bytes(), "{printed}");
-        }
+fn cells(rt: HostRuntime) {
+    for (place, row) in ROWS.iter().enumerate() {
+        let in_ones = is_kept(rt.alloc(), row, KEY, 1);
+        assert!(rt; matches!(in_ones, Ok(true)), "row {place}, a byte a call");
+        let at_once = is_kept(rt.alloc(), row, KEY, 4096);
+        assert!(rt;
+            matches!(at_once, Ok(true)),
+            "row {place}, many bytes a call"
+        );
     }
-    Ok(())
+}
+
+// The handshake and the request.
+fn asked_bytes(alloc: Global) -> Result<Vec<u8>, AllocError> {
+    let mut frames = Frames::new(alloc);
+    let texts = ["<IDS|MSG>", SIGNATURE, HEADER, "{}", "{}", CONTENT];
+    push_texts(alloc, &mut frames, &texts)?;
+    let mut asked = stream_of(alloc, Role::Dealer, &[], KEY)?;
+    push_message(alloc, &mut asked, &frames)?;
+    Ok(asked)
+}
+
+// The handshake and the subscription.
+fn subscribed_bytes(alloc: Global) -> Result<Vec<u8>, AllocError> {
+    let mut subscribed = stream_of(alloc, Role::Sub, &[], KEY)?;
+    subscribed.extend_from_slice(&[0, 1, 1])?;
+    Ok(subscribed)
+}
+
+// Whether these bytes are written on shell and on iopub.
+fn writes(alloc: Global, asked: &[u8], subscribed: &[u8]) -> Result<(bool, bool), AllocError> {
+    let run = run_script(alloc, &[STARTING, IDLE], KEY, 4096)?;
+    let is_asked = run.shell.to.as_slice() == asked;
+    let is_subscribed = run.iopub.to.as_slice() == subscribed;
+    drop(run);
+    Ok((is_asked, is_subscribed))
+}
+
+fn writes_all(alloc: Global) -> Result<(bool, bool), AllocError> {
+    let asked = asked_bytes(alloc)?;
+    let subscribed = subscribed_bytes(alloc)?;
+    writes(alloc, asked.as_slice(), subscribed.as_slice())
 }
 
 // The handshakes, the subscription and the request, byte for byte.
 #[test]
-fn sent(rt: HostRuntime) -> Result<(), Fail> {
-    let alloc = rt.alloc();
-    let run = run(alloc, &[STARTING, IDLE], KEY, 4096)?;
-    let mut frames = Frames::new(alloc);
-    for text in ["<IDS|MSG>", SIGNATURE, HEADER, "{}", "{}", CONTENT] {
-        push_text(alloc, &mut frames, text)?;
-    }
-    let mut asked = stream_of(alloc, Role::Dealer, &[], KEY)?;
-    push_message(alloc, &mut asked, &frames)?;
-    assert!(rt; run.shell.as_slice() == asked.as_slice());
-    let mut subscribed = stream_of(alloc, Role::Sub, &[], KEY)?;
-    subscribed.extend_from_slice(&[0, 1, 1])?;
-    assert!(rt; run.iopub.as_slice() == subscribed.as_slice());
-    Ok(())
+fn sent(rt: HostRuntime) {
+    let writes = writes_all(rt.alloc());
+    assert!(rt; matches!(writes, Ok((true, _))), "shell");
+    assert!(rt; matches!(writes, Ok((_, true))), "iopub");
 }
 
 // A message that is signed under another key ends the cell.
 #[test]
-fn other_key(rt: HostRuntime) -> Result<(), Fail> {
-    let run = run(rt.alloc(), &[STARTING, LETTER, IDLE], b"other", 4096)?;
+fn other_key(rt: HostRuntime) {
     let fault = TermFault::Wire(WireCause::Message(WireFault::Signature));
-    assert_eq!(rt; run.answer, Err(fault));
-    assert!(rt; run.output.as_slice().is_empty());
-    Ok(())
+    let row: Row = (&[STARTING, LETTER, IDLE], "", Err(fault));
+    let is_kept = is_kept(rt.alloc(), &row, b"other", 4096);
+    assert!(rt; matches!(is_kept, Ok(true)));
+}
+
+// What the cell answers where a byte comes after a script that begins no frame.
+fn answer_to_broken(alloc: Global, script: &[Told]) -> Result<Result<bool, TermFault>, AllocError> {
+    let asked = stream_of(alloc, Role::Router, &[], KEY)?;
+    let mut told = stream_of(alloc, Role::Pub, script, KEY)?;
+    told.extend_from_slice(&[8])?;
+    let run = run(alloc, asked, told, 4096);
+    let answer = run.answer;
+    drop(run);
+    Ok(answer)
 }
 
 // Bytes that break the stream, at once after READY and after a message.
 #[test]
-fn broken_streams(rt: HostRuntime) -> Result<(), Fail> {
-    let alloc = rt.alloc();
+fn broken_streams(rt: HostRuntime) {
+    let fault = TermFault::Wire(WireCause::Stream(StreamFault::Flags));
     for script in [&[] as &[Told], &[STARTING, LETTER]] {
-        let mut told = stream_of(alloc, Role::Pub, script, KEY)?;
-        told.push(8)?;
-        let mut shell = connection(alloc, stream_of(alloc, Role::Router, &[], KEY)?, 4096, 9999);
-        let mut iopub = connection(alloc, told, 4096, 9999);
-        let mut output = Sink::new(alloc, 4096, 9999);
-        let cell = Cell {
-            code: "HLT",
-            key: KEY,
-            session: "s",
-            moment: 0,
-        };
-        let answer = run_cell(alloc, &mut shell, &mut iopub, &mut output, &cell);
-        let fault = TermFault::Wire(WireCause::Stream(StreamFault::Flags));
-        assert_eq!(rt; answer, Err(fault));
+        let answer = answer_to_broken(rt.alloc(), script);
+        let told = script.len();
+        assert!(rt; answer == Ok(Err(fault)), "after {told} messages");
     }
-    Ok(())
 }
