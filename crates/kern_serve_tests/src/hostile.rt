@@ -1,9 +1,8 @@
 //! Peers that say what no frontend says. Each ends alone.
-use crate::server::{Ports, free_ports, start};
-use crate::talk::{Talk, connect, is_ended, open};
-use std::alloc::Global;
+use crate::server::{free_ports, start};
+use crate::talk::{connect, is_ended, open};
 use std::io::{Read, Write};
-use std::net::{Shutdown, TcpStream};
+use std::net::Shutdown;
 use std::test::Fail;
 use zmtp_wire::role::Role;
 use zmtp_wire::writing::{greeting, ready};
@@ -38,21 +37,11 @@ fn front(count: usize) -> &'static [u8] {
     &whole[..count.min(whole.len())]
 }
 
-// Whether a peer that says something, and no more where that is all, is ended.
-fn is_ended_after(stream: &mut TcpStream, said: &[u8], is_all: bool) -> Result<bool, Fail> {
-    stream.write_all(said)?;
-    if is_all {
-        stream.shutdown(Shutdown::Write)?;
-    }
-    Ok(is_ended(stream))
-}
-
 // A peer that says something before any handshake, and must be ended for it.
 fn ends_after(rt: &HostRuntime, port: u16, said: &[u8]) -> Result<(), Fail> {
     let mut stream = connect(rt, port)?;
-    let found = is_ended_after(&mut stream, said, false);
-    drop(stream);
-    if found? {
+    stream.write_all(said)?;
+    if is_ended(&mut stream) {
         return Ok(());
     }
     Err("a peer that said no greeting isn't ended".into())
@@ -61,9 +50,9 @@ fn ends_after(rt: &HostRuntime, port: u16, said: &[u8]) -> Result<(), Fail> {
 // A peer whose greeting ends too early.
 fn ends_cut(rt: &HostRuntime, port: u16, count: usize) -> Result<(), Fail> {
     let mut stream = connect(rt, port)?;
-    let found = is_ended_after(&mut stream, front(count), true);
-    drop(stream);
-    if found? {
+    stream.write_all(front(count))?;
+    stream.shutdown(Shutdown::Write)?;
+    if is_ended(&mut stream) {
         return Ok(());
     }
     Err("a peer with a cut greeting isn't ended".into())
@@ -77,39 +66,28 @@ fn ends_subscriber(rt: &HostRuntime, port: u16) -> Result<(), Fail> {
     ends_after(rt, port, &said)
 }
 
-fn is_ended_for_huge(talk: &mut Talk) -> Result<bool, Fail> {
-    talk.write(HUGE_FRAME)?;
-    Ok(talk.is_ended())
-}
-
 // A frontend that then announces a frame of 2^63 bytes.
 fn ends_huge(rt: &HostRuntime, port: u16) -> Result<(), Fail> {
     let mut talk = open(rt, port, Role::Dealer)?;
-    let found = is_ended_for_huge(&mut talk);
-    drop(talk);
-    if found? {
+    talk.write(HUGE_FRAME)?;
+    if talk.is_ended() {
         return Ok(());
     }
     Err("a frame of 2^63 bytes is awaited".into())
 }
 
-fn asks_forged(alloc: Global, talk: &mut Talk) -> Result<(), Fail> {
-    drop(talk.ask_under(alloc, "kernel_info_request", "{}", "other")?);
-    talk.kernel_info(alloc)
-}
-
 // A frontend whose first request is signed under another key: only the second one is answered.
 fn drops_forged(rt: &HostRuntime, port: u16) -> Result<(), Fail> {
+    let alloc = rt.alloc();
     let mut talk = open(rt, port, Role::Dealer)?;
-    let asked = asks_forged(rt.alloc(), &mut talk);
-    drop(talk);
-    asked
+    talk.ask_under(alloc, "kernel_info_request", "{}", "other")?;
+    talk.kernel_info(alloc)
 }
 
 // Peers that leave at once, before and after the handshake.
 fn leave(rt: &HostRuntime, port: u16) -> Result<(), Fail> {
-    drop(connect(rt, port)?);
-    drop(open(rt, port, Role::Dealer)?);
+    let _ = connect(rt, port)?;
+    let _ = open(rt, port, Role::Dealer)?;
     Ok(())
 }
 
@@ -124,45 +102,25 @@ fn all_kinds(rt: &HostRuntime, port: u16, cut: usize) -> Result<(), Fail> {
     leave(rt, port)
 }
 
-// A frontend that was answered.
-fn answered(rt: &HostRuntime, port: u16) -> Result<Talk, Fail> {
-    let mut talk = open(rt, port, Role::Dealer)?;
-    match talk.kernel_info(rt.alloc()) {
-        Ok(()) => Ok(talk),
-        Err(fault) => {
-            drop(talk);
-            Err(fault)
-        }
-    }
-}
-
-fn keep(talks: &mut Vec<Talk>, talk: Talk) -> Result<(), Fail> {
-    match talks.push(talk) {
-        Ok(()) => Ok(()),
-        Err(refused) => {
-            drop(refused);
-            Err("memory".into())
-        }
-    }
-}
-
-fn fill_with(rt: &HostRuntime, port: u16, talks: &mut Vec<Talk>) -> Result<(), Fail> {
+// As many frontends as there are places, all at once.
+fn fill(rt: &HostRuntime, port: u16) -> Result<(), Fail> {
+    let mut talks = Vec::new(rt.alloc());
     for _ in 0..PLACES {
-        keep(talks, answered(rt, port)?)?;
+        let mut talk = open(rt, port, Role::Dealer)?;
+        talk.kernel_info(rt.alloc())?;
+        talks.push(talk)?;
     }
     Ok(())
 }
 
-// As many frontends as there are places, all at once.
-fn fill(rt: &HostRuntime, port: u16) -> Result<(), Fail> {
-    let mut talks = Vec::new(rt.alloc());
-    let filled = fill_with(rt, port, &mut talks);
-    drop(talks);
-    filled
-}
-
-fn hears_beat(stream: &mut TcpStream, said: &[u8]) -> Result<bool, Fail> {
-    stream.write_all(said)?;
+// The heartbeat sends back what it reads.
+fn beats(rt: &HostRuntime, port: u16) -> Result<bool, Fail> {
+    let mut said = Vec::new(rt.alloc());
+    said.extend_from_slice(greeting())?;
+    said.extend_from_slice(ready(Role::Dealer))?;
+    said.extend_from_slice(BEAT)?;
+    let mut stream = connect(rt, port)?;
+    stream.write_all(&said)?;
     let mut before = [0u8; BEFORE_BEAT];
     let mut heard = [0u8; BEAT.len()];
     stream.read_exact(&mut before)?;
@@ -170,111 +128,37 @@ fn hears_beat(stream: &mut TcpStream, said: &[u8]) -> Result<bool, Fail> {
     Ok(heard.as_slice() == BEAT)
 }
 
-// The heartbeat sends back what it reads.
-fn beats(rt: &HostRuntime, port: u16) -> Result<(), Fail> {
-    let mut said = Vec::new(rt.alloc());
-    said.extend_from_slice(greeting())?;
-    said.extend_from_slice(ready(Role::Dealer))?;
-    said.extend_from_slice(BEAT)?;
-    let mut stream = connect(rt, port)?;
-    let heard = hears_beat(&mut stream, &said);
-    drop(stream);
-    if heard? {
-        return Ok(());
-    }
-    Err("another beat".into())
-}
-
-// The ports at which the peers of a round come, and how its greeting is cut.
-fn place_of(ports: Ports, round: usize) -> (u16, usize) {
-    let port = match round % 2 {
-        0 => ports.shell,
-        _ => ports.control,
-    };
-    (port, CUTS[round % CUTS.len()])
-}
-
-fn come_and_go(rt: &HostRuntime, ports: Ports, steady: &mut Talk) -> Result<(), Fail> {
-    for round in 0..ROUNDS {
-        let (port, cut) = place_of(ports, round);
-        all_kinds(rt, port, cut)?;
-        steady.kernel_info(rt.alloc())?;
-    }
-    Ok(())
-}
-
-fn all_rounds(rt: &HostRuntime, ports: Ports) -> Result<(), Fail> {
-    let mut steady = open(rt, ports.shell, Role::Dealer)?;
-    let went = come_and_go(rt, ports, &mut steady);
-    drop(steady);
-    went
-}
-
-fn rounds_and_places(rt: &HostRuntime, ports: Ports) -> Result<(), Fail> {
-    all_rounds(rt, ports)?;
-    fill(rt, ports.shell)?;
-    fill(rt, ports.control)?;
-    beats(rt, ports.heartbeat)
-}
-
 // A frontend that is there all the time is served after each round, and in the end all places are free.
 #[test]
 fn two_hundred(rt: HostRuntime) -> Result<(), Fail> {
     let server = start(&rt, rt.alloc(), free_ports(&rt)?)?;
-    let went = rounds_and_places(&rt, server.ports);
-    drop(server);
-    went
-}
-
-// Both are given up, while a frontend beside them is served before and after.
-fn outlives(
-    alloc: Global,
-    talk: &mut Talk,
-    mute: &mut TcpStream,
-    slow: &mut TcpStream,
-) -> Result<(), Fail> {
-    talk.kernel_info(alloc)?;
-    if !is_ended(mute) {
-        return Err("one that says nothing isn't ended".into());
+    let mut steady = open(&rt, server.ports.shell, Role::Dealer)?;
+    for round in 0..ROUNDS {
+        let cut = CUTS[round % CUTS.len()];
+        let port = match round % 2 {
+            0 => server.ports.shell,
+            _ => server.ports.control,
+        };
+        all_kinds(&rt, port, cut)?;
+        steady.kernel_info(rt.alloc())?;
     }
-    if !is_ended(slow) {
-        return Err("one that stops in its greeting isn't ended".into());
-    }
-    talk.kernel_info(alloc)
-}
-
-fn beside(
-    rt: &HostRuntime,
-    port: u16,
-    mute: &mut TcpStream,
-    slow: &mut TcpStream,
-) -> Result<(), Fail> {
-    slow.write_all(front(12))?;
-    let mut talk = open(rt, port, Role::Dealer)?;
-    let went = outlives(rt.alloc(), &mut talk, mute, slow);
-    drop(talk);
-    went
-}
-
-fn beside_mute(rt: &HostRuntime, port: u16, mute: &mut TcpStream) -> Result<(), Fail> {
-    let mut slow = connect(rt, port)?;
-    let went = beside(rt, port, mute, &mut slow);
-    drop(slow);
-    went
-}
-
-fn beside_silent(rt: &HostRuntime, port: u16) -> Result<(), Fail> {
-    let mut mute = connect(rt, port)?;
-    let went = beside_mute(rt, port, &mut mute);
-    drop(mute);
-    went
+    drop(steady);
+    fill(&rt, server.ports.shell)?;
+    fill(&rt, server.ports.control)?;
+    assert!(rt; beats(&rt, server.ports.heartbeat)?);
+    Ok(())
 }
 
 // Peers that say nothing, or too little, and stay, are given up; a frontend beside them is served.
 #[test]
 fn silent(rt: HostRuntime) -> Result<(), Fail> {
     let server = start(&rt, rt.alloc(), free_ports(&rt)?)?;
-    let went = beside_silent(&rt, server.ports.shell);
-    drop(server);
-    went
+    let mut mute = connect(&rt, server.ports.shell)?;
+    let mut slow = connect(&rt, server.ports.shell)?;
+    slow.write_all(front(12))?;
+    let mut talk = open(&rt, server.ports.shell, Role::Dealer)?;
+    talk.kernel_info(rt.alloc())?;
+    assert!(rt; is_ended(&mut mute), "one that says nothing");
+    assert!(rt; is_ended(&mut slow), "one that stops in its greeting");
+    talk.kernel_info(rt.alloc())
 }

@@ -12,8 +12,6 @@ use std::io::{ErrorKind, Read, Write};
 use std::net::{Ipv4Addr, TcpStream};
 use std::test::Fail;
 use std::time::Duration;
-use std::{io, mem};
-use zmtp_peer::fault::PeerFault;
 use zmtp_peer::feeding::{Fed, feed};
 use zmtp_peer::handshake::{Peer, handshake};
 use zmtp_wire::role::Role;
@@ -32,21 +30,11 @@ const PIECE_SIZE: usize = 8192;
 /// A socket that waits for nothing for ever.
 pub fn connect(rt: &HostRuntime, port: u16) -> Result<TcpStream, Fail> {
     let stream = TcpStream::connect(rt, (Ipv4Addr::LOCALHOST, port))?;
-    match set_patience(&stream) {
-        Ok(()) => Ok(stream),
-        Err(fault) => {
-            drop(stream);
-            Err(fault)
-        }
-    }
-}
-
-fn set_patience(stream: &TcpStream) -> Result<(), Fail> {
     let patience = Some(Duration::from_secs(PATIENCE_SECONDS));
     stream.set_nodelay(true)?;
     stream.set_read_timeout(patience)?;
     stream.set_write_timeout(patience)?;
-    Ok(())
+    Ok(stream)
 }
 
 /// Whether the kernel ends a connection, whatever it says before.
@@ -56,16 +44,10 @@ pub fn is_ended(stream: &mut TcpStream) -> bool {
         match stream.read(&mut buffer) {
             Ok(0) => return true,
             Ok(_) => {}
-            Err(error) => return is_reset(error),
+            Err(error) => return error.kind() == ErrorKind::ConnectionReset,
         }
     }
     false
-}
-
-fn is_reset(error: io::Error) -> bool {
-    let is_reset = error.kind() == ErrorKind::ConnectionReset;
-    drop(error);
-    is_reset
 }
 
 /// A connection whose handshake is made.
@@ -82,40 +64,16 @@ pub struct Talk {
 /// Connects to a port, and makes the handshake.
 pub fn open(rt: &HostRuntime, port: u16, role: Role) -> Result<Talk, Fail> {
     let stream = connect(rt, port)?;
-    match met(rt.alloc(), &stream, role) {
-        Ok(peer) => Ok(begun(stream, peer)),
-        Err(fault) => {
-            drop(stream);
-            Err(fault.into())
-        }
-    }
-}
-
-fn met(alloc: Global, stream: &TcpStream, role: Role) -> Result<Peer, PeerFault> {
-    let mut from = StdInlet::new(stream);
-    let mut to = StdOutlet::new(stream);
-    handshake(alloc, &mut from, &mut to, role)
-}
-
-fn begun(stream: TcpStream, peer: Peer) -> Talk {
-    let Peer { side, messages } = peer;
-    Talk {
+    let mut from = StdInlet::new(&stream);
+    let mut to = StdOutlet::new(&stream);
+    let Peer { side, messages } = handshake(rt.alloc(), &mut from, &mut to, role)?;
+    let queue = VecDeque::from(messages.into_vec());
+    Ok(Talk {
         stream,
         side,
-        queue: VecDeque::from(messages.into_vec()),
+        queue,
         sent: 0,
-    }
-}
-
-// A value of a text.
-fn json_of(alloc: Global, text: &str) -> Result<Value, Fail> {
-    match Value::from_str(alloc, text) {
-        Ok(value) => Ok(value),
-        Err(error) => {
-            drop(error);
-            Err(Fail::new(text))
-        }
-    }
+    })
 }
 
 // The header of a request.
@@ -123,39 +81,7 @@ fn header_json(alloc: Global, kind: &str, number: u32) -> Result<Value, Fail> {
     let text = format!(in alloc;
         "{{\"msg_id\":\"t_{number}\",\"msg_type\":\"{kind}\",\"session\":\"t\"}}"
     )?;
-    let header = json_of(alloc, text.as_str());
-    drop(text);
-    header
-}
-
-// A request whose content is still to come.
-fn draft_of(alloc: Global, kind: &str, number: u32) -> Result<Draft, Fail> {
-    let parent_header = Bytes::copy_of(alloc, b"{}")?;
-    match header_json(alloc, kind, number) {
-        Ok(header) => Ok(Draft {
-            identities: Frames::new(alloc),
-            header,
-            parent_header,
-            metadata: Value::Null,
-            content: Value::Null,
-        }),
-        Err(fault) => {
-            drop(parent_header);
-            Err(fault)
-        }
-    }
-}
-
-// Puts the value of a text in a place. What was there is dropped as a whole.
-fn put_json(alloc: Global, place: &mut Value, text: &str) -> Result<(), Fail> {
-    let value = json_of(alloc, text)?;
-    drop(mem::replace(place, value));
-    Ok(())
-}
-
-fn complete(alloc: Global, draft: &mut Draft, content: &str) -> Result<(), Fail> {
-    put_json(alloc, &mut draft.metadata, "{}")?;
-    put_json(alloc, &mut draft.content, content)
+    Ok(Value::from_str(alloc, text.as_str())?)
 }
 
 // The frames of a request, signed under a key.
@@ -166,34 +92,14 @@ fn request_frames(
     content: &str,
     key: &str,
 ) -> Result<Frames, Fail> {
-    let mut draft = draft_of(alloc, kind, number)?;
-    match complete(alloc, &mut draft, content) {
-        Ok(()) => Ok(seal_message(alloc, draft, key.as_bytes())?),
-        Err(fault) => {
-            drop(draft);
-            Err(fault)
-        }
-    }
-}
-
-// The header frame of a request.
-fn header_frame(frames: &Frames) -> Result<Bytes, Fail> {
-    match frames.as_slice().get(2) {
-        Some(header) => Ok(header.clone()?),
-        None => Err("a request without a header".into()),
-    }
-}
-
-// Why a message isn't the reply of this type to the request of this header.
-fn check_reply(message: &Message, header: &Bytes, reply: &str) -> Result<(), Fail> {
-    let kind = message.header.msg_type.as_str();
-    if kind != reply {
-        return Err(Fail::new(kind));
-    }
-    if !is_answer(message, header) {
-        return Err("a reply to another request".into());
-    }
-    Ok(())
+    let draft = Draft {
+        identities: Frames::new(alloc),
+        header: header_json(alloc, kind, number)?,
+        parent_header: Bytes::copy_of(alloc, b"{}")?,
+        metadata: Value::from_str(alloc, "{}")?,
+        content: Value::from_str(alloc, content)?,
+    };
+    Ok(seal_message(alloc, draft, key.as_bytes())?)
 }
 
 impl Talk {
@@ -214,15 +120,7 @@ impl Talk {
             return Err("a message of no frames".into());
         }
         let bytes = put_message(alloc, frames.as_slice())?;
-        let written = self.write(bytes.as_slice());
-        drop(bytes);
-        written
-    }
-
-    // Sends a request, and gives its header frame.
-    fn send_request(&mut self, alloc: Global, frames: &Frames) -> Result<Bytes, Fail> {
-        self.send(alloc, frames)?;
-        header_frame(frames)
+        self.write(bytes.as_slice())
     }
 
     /// Sends a request with this JSON, signed under a key, and gives its header frame.
@@ -235,9 +133,11 @@ impl Talk {
     ) -> Result<Bytes, Fail> {
         self.sent = self.sent.wrapping_add(1);
         let frames = request_frames(alloc, kind, self.sent, content, key)?;
-        let header = self.send_request(alloc, &frames);
-        drop(frames);
-        header
+        self.send(alloc, &frames)?;
+        match frames.as_slice().get(2) {
+            Some(header) => Ok(header.clone()?),
+            None => Err("a request without a header".into()),
+        }
     }
 
     /// Sends a request, and gives its header frame.
@@ -252,17 +152,11 @@ impl Talk {
         if count == 0 {
             return Err("the kernel ended the connection".into());
         }
-        let fed = feed(alloc, &mut self.side, &buffer[..count])?;
-        self.take(fed)
-    }
-
-    fn take(&mut self, fed: Fed) -> Result<(), Fail> {
-        let Fed { messages, broken } = fed;
-        let queue = VecDeque::from(messages.into_vec());
-        drop(mem::replace(&mut self.queue, queue));
+        let Fed { messages, broken } = feed(alloc, &mut self.side, &buffer[..count])?;
         if broken.is_some() {
             return Err("the kernel's stream is broken".into());
         }
+        self.queue = VecDeque::from(messages.into_vec());
         Ok(())
     }
 
@@ -287,11 +181,9 @@ impl Talk {
     pub fn next_of(&mut self, alloc: Global, kind: &str) -> Result<Message, Fail> {
         for _ in 0..MOST {
             let message = self.next(alloc)?;
-            let is_wanted = message.header.msg_type.as_str() == kind;
-            if is_wanted {
+            if message.header.msg_type.as_str() == kind {
                 return Ok(message);
             }
-            drop(message);
         }
         Err(Fail::new(kind))
     }
@@ -305,9 +197,7 @@ impl Talk {
         reply: &str,
     ) -> Result<Message, Fail> {
         let header = self.ask(alloc, kind, content)?;
-        let message = self.reply_to(alloc, &header, reply);
-        drop(header);
-        message
+        self.reply_to(alloc, &header, reply)
     }
 
     /// The next message, which must be the reply of this type to the request of this header.
@@ -318,21 +208,19 @@ impl Talk {
         reply: &str,
     ) -> Result<Message, Fail> {
         let message = self.next(alloc)?;
-        match check_reply(&message, header, reply) {
-            Ok(()) => Ok(message),
-            Err(fault) => {
-                drop(message);
-                Err(fault)
-            }
+        if message.header.msg_type.as_str() != reply {
+            return Err(Fail::new(message.header.msg_type.as_str()));
         }
+        if !is_answer(&message, header) {
+            return Err("a reply to another request".into());
+        }
+        Ok(message)
     }
 
     /// Asks what the kernel is, and looks at its answer.
     pub fn kernel_info(&mut self, alloc: Global) -> Result<(), Fail> {
         let info = self.reply(alloc, "kernel_info_request", "{}", "kernel_info_reply")?;
-        let is_known = has_text(&info.content, "/implementation", "lab80");
-        drop(info);
-        if is_known {
+        if has_text(&info.content, "/implementation", "lab80") {
             return Ok(());
         }
         Err("another kernel".into())
