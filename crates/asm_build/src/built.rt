@@ -3,7 +3,7 @@
 use crate::symbols::Symbols;
 
 /// An assembled statement that gives bytes.
-#[derive(Clone, Copy, Debug, PartialEq, Eq)]
+#[derive(Clone, Copy, PartialEq, Eq)]
 pub struct Row {
     /// The address of its first byte.
     pub address: u16,

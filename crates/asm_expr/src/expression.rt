@@ -9,7 +9,7 @@ use std::marker::Model;
 use thiserror::Error;
 
 /// An operator with one operand.
-#[derive(Clone, Copy, Debug, PartialEq, Eq)]
+#[derive(Clone, Copy, PartialEq, Eq)]
 pub enum Unary {
     Plus,
     Minus,
@@ -19,7 +19,7 @@ pub enum Unary {
 }
 
 /// An operator between two operands.
-#[derive(Clone, Copy, Debug, PartialEq, Eq)]
+#[derive(Clone, Copy, PartialEq, Eq)]
 pub enum Binary {
     Multiply,
     Divide,

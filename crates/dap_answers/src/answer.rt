@@ -8,7 +8,7 @@ use lab_views::shown::{CodeLine, SourceBreakpoints, StackFrame, Variable};
 
 /// The state of debugging (Jupyter messaging, `debugInfo`): whether a frontend is attached, whether
 /// the thread is stopped, and the sources that have breakpoints.
-#[derive(Clone, Debug, Drop)]
+#[derive(Clone, Drop)]
 pub struct DebugState {
     pub is_attached: bool,
     pub is_stopped: bool,
@@ -16,7 +16,7 @@ pub struct DebugState {
 }
 
 /// The body of a successful response (Debug Adapter Protocol, "Requests").
-#[derive(Clone, Debug, Drop)]
+#[derive(Clone, Drop)]
 pub enum Body {
     /// Of commands that answer nothing but that they were done.
     Empty,
@@ -44,14 +44,14 @@ pub enum Body {
 }
 
 /// How a request was answered: done, or refused with a message.
-#[derive(Clone, Debug, Drop)]
+#[derive(Clone, Drop)]
 pub enum Outcome {
     Success(Body),
     Refused(Text),
 }
 
 /// An answer to the request with this number and command.
-#[derive(Clone, Debug)]
+#[derive(Clone)]
 pub struct Response {
     pub request_seq: u32,
     pub command: Text,
@@ -70,7 +70,7 @@ impl Drop for Response {
 }
 
 /// Why the thread stopped.
-#[derive(Clone, Copy, PartialEq, Eq, Debug)]
+#[derive(Clone, Copy, PartialEq, Eq)]
 pub enum StopReason {
     Breakpoint,
     Step,
@@ -93,7 +93,7 @@ impl StopReason {
 }
 
 /// What a frontend is told unasked (Debug Adapter Protocol, "Events").
-#[derive(Clone, Copy, PartialEq, Eq, Debug)]
+#[derive(Clone, Copy, PartialEq, Eq)]
 pub enum Event {
     Initialized,
     Stopped(StopReason),

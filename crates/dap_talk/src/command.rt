@@ -6,7 +6,7 @@ use base_text::sequence::Sequence;
 use base_text::text::Text;
 
 /// The commands of debug requests.
-#[derive(Clone, Copy, PartialEq, Eq, Debug)]
+#[derive(Clone, Copy, PartialEq, Eq)]
 pub enum CommandName {
     Initialize,
     Attach,
@@ -34,14 +34,14 @@ pub enum CommandName {
 }
 
 /// What one step is: a line of a cell, or an instruction.
-#[derive(Clone, Copy, PartialEq, Eq, Debug)]
+#[derive(Clone, Copy, PartialEq, Eq)]
 pub enum Granularity {
     Line,
     Instruction,
 }
 
 /// How far a step goes.
-#[derive(Clone, Copy, PartialEq, Eq, Debug)]
+#[derive(Clone, Copy, PartialEq, Eq)]
 pub enum StepKind {
     Over,
     In,
@@ -64,7 +64,7 @@ impl StepKind {
 }
 
 /// A command with its arguments.
-#[derive(Debug, Drop)]
+#[derive(Drop)]
 pub enum DapCommand {
     Initialize,
     Attach,
@@ -122,7 +122,6 @@ pub enum DapCommand {
 }
 
 /// A request: its number, to which the response refers, and its command.
-#[derive(Debug)]
 pub struct DapRequest {
     pub seq: u32,
     pub command: DapCommand,

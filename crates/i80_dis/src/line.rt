@@ -11,7 +11,7 @@ use i80_rows::instruction::{DecodeFault, Instr};
 use std::alloc::{AllocError, Global};
 
 /// What a line shows.
-#[derive(Clone, Copy, Debug, PartialEq, Eq)]
+#[derive(Clone, Copy, PartialEq, Eq)]
 pub enum Shown {
     Instruction(Instr),
     /// A byte by itself, after DB.

@@ -4,7 +4,7 @@ ghost use Rattle.i80_exec.specs.declared.ports.PortOperation.{PortOperation};
 ghost use Rattle.i80_exec.specs.declared.ports.PortOperation.TheVariants.{In, Out};
 
 /// One IN or OUT, with the byte that went through the port.
-#[derive(Clone, Copy, PartialEq, Eq, Debug)]
+#[derive(Clone, Copy, PartialEq, Eq)]
 pub enum PortOperation {
     In { port: u8, byte: u8 },
     Out { port: u8, byte: u8 },

@@ -3,7 +3,7 @@ use i80_rows::flags::Flags;
 
 /// Whether interrupt requests are accepted. EI leaves `Arming`, so that the instruction after it
 /// is done before a request is accepted.
-#[derive(Clone, Copy, PartialEq, Eq, Debug)]
+#[derive(Clone, Copy, PartialEq, Eq)]
 pub enum Interrupts {
     Off,
     Arming,
@@ -11,7 +11,7 @@ pub enum Interrupts {
 }
 
 /// The registers, the flags and the interrupt state.
-#[derive(Clone, Copy, PartialEq, Eq, Debug)]
+#[derive(Clone, Copy, PartialEq, Eq)]
 pub struct Registers {
     pub a: u8,
     pub b: u8,
@@ -27,7 +27,7 @@ pub struct Registers {
 }
 
 /// What a step did. A slot is the address of a return address on the stack.
-#[derive(Clone, Copy, PartialEq, Eq, Debug)]
+#[derive(Clone, Copy, PartialEq, Eq)]
 pub enum Stepped {
     /// None of the following.
     Done,

@@ -19,7 +19,7 @@ use crate::flags::Flags;
 use crate::instruction::Rotation;
 
 /// What an operation gives: a byte, and all five flags as they are afterwards.
-#[derive(Clone, Copy, PartialEq, Eq, Debug)]
+#[derive(Clone, Copy, PartialEq, Eq)]
 pub struct AluResult {
     pub value: u8,
     pub flags: Flags,

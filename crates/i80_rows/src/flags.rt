@@ -6,7 +6,7 @@ ghost use Rattle.i80_rows.specs.Arithmetic.{shown_by};
 use std::marker::Model;
 
 /// The five flags, as the byte that PUSH PSW stores: bit 1 is set, bits 3 and 5 are clear.
-#[derive(Clone, Copy, PartialEq, Eq, Debug)]
+#[derive(Clone, Copy, PartialEq, Eq)]
 pub struct Flags {
     byte: u8,
 }

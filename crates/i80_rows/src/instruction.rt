@@ -2,7 +2,7 @@
 ghost use Rattle.std.specs.Prelude.{◌≡◌};
 
 /// What a three-bit register code names: a register, or `M`, the byte in memory at HL.
-#[derive(Clone, Copy, PartialEq, Eq, Debug)]
+#[derive(Clone, Copy, PartialEq, Eq)]
 pub enum Reg {
     B,
     C,
@@ -15,7 +15,7 @@ pub enum Reg {
 }
 
 /// One of the seven registers, where `M` can't stand.
-#[derive(Clone, Copy, PartialEq, Eq, Debug)]
+#[derive(Clone, Copy, PartialEq, Eq)]
 pub enum Register {
     B,
     C,
@@ -45,7 +45,7 @@ impl From<Register> for Reg {
 }
 
 /// A register pair, named by its first register, or the stack pointer.
-#[derive(Clone, Copy, PartialEq, Eq, Debug)]
+#[derive(Clone, Copy, PartialEq, Eq)]
 pub enum Pair {
     B,
     D,
@@ -54,7 +54,7 @@ pub enum Pair {
 }
 
 /// What PUSH and POP move: a register pair, or A and the flag byte.
-#[derive(Clone, Copy, PartialEq, Eq, Debug)]
+#[derive(Clone, Copy, PartialEq, Eq)]
 pub enum StackPair {
     B,
     D,
@@ -63,14 +63,14 @@ pub enum StackPair {
 }
 
 /// A pair that holds the address for STAX and LDAX.
-#[derive(Clone, Copy, PartialEq, Eq, Debug)]
+#[derive(Clone, Copy, PartialEq, Eq)]
 pub enum IndexPair {
     B,
     D,
 }
 
 /// A condition of a jump, call or return.
-#[derive(Clone, Copy, PartialEq, Eq, Debug)]
+#[derive(Clone, Copy, PartialEq, Eq)]
 pub enum Cond {
     NotZero,
     Zero,
@@ -83,7 +83,7 @@ pub enum Cond {
 }
 
 /// An operation of the accumulator with a byte.
-#[derive(Clone, Copy, PartialEq, Eq, Debug)]
+#[derive(Clone, Copy, PartialEq, Eq)]
 pub enum Operation {
     Add,
     Adc,
@@ -96,7 +96,7 @@ pub enum Operation {
 }
 
 /// A rotation of the accumulator by one bit.
-#[derive(Clone, Copy, PartialEq, Eq, Debug)]
+#[derive(Clone, Copy, PartialEq, Eq)]
 pub enum Rotation {
     Rlc,
     Rrc,
@@ -105,7 +105,7 @@ pub enum Rotation {
 }
 
 /// The number of a restart: RST n goes to address 8n.
-#[derive(Clone, Copy, PartialEq, Eq, Debug)]
+#[derive(Clone, Copy, PartialEq, Eq)]
 pub enum Vector {
     V0,
     V1,
@@ -119,7 +119,7 @@ pub enum Vector {
 
 /// An instruction with its operand. What has no encoding can't be written: MOV is three
 /// instructions, as in the manual, so that there is no `MOV M,M`.
-#[derive(Clone, Copy, PartialEq, Eq, Debug)]
+#[derive(Clone, Copy, PartialEq, Eq)]
 pub enum Instr {
     Nop,
     Lxi(Pair, u16),
@@ -171,7 +171,7 @@ pub enum Instr {
 }
 
 /// Why no instruction was read.
-#[derive(Clone, Copy, PartialEq, Eq, Debug)]
+#[derive(Clone, Copy, PartialEq, Eq)]
 pub enum DecodeFault {
     /// The first byte is one of the twelve undefined opcodes.
     Undefined,

@@ -24,7 +24,7 @@ use std::str::FromStr;
 use thiserror::Error;
 
 /// Where a kernel listens, and the key that signs its messages.
-#[derive(Debug, Drop)]
+#[derive(Drop)]
 pub struct ConnectionFile {
     pub ip: Ipv4Addr,
     /// The key of HMAC-SHA256; with an empty one no signature is checked.

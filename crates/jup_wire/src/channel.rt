@@ -2,7 +2,7 @@
 
 /// A channel on which frontends and the kernel talk (Jupyter messaging, "Introduction"), but for the
 /// heartbeat, which carries no messages.
-#[derive(Clone, Copy, PartialEq, Eq, Debug)]
+#[derive(Clone, Copy, PartialEq, Eq)]
 pub enum Channel {
     /// Requests to run code and to look at it, and their replies.
     Shell,

@@ -25,7 +25,7 @@ pub enum WireFault {
 }
 
 /// The frames of a message as they came: the identities, and the four frames that are signed.
-#[derive(Debug, Drop)]
+#[derive(Drop)]
 pub struct Parts {
     pub identities: Frames,
     pub header: Bytes,
@@ -35,7 +35,7 @@ pub struct Parts {
 }
 
 /// The texts that each header has. What else stands in it isn't looked at.
-#[derive(Debug, Drop)]
+#[derive(Drop)]
 pub struct Header {
     pub msg_id: Text,
     pub msg_type: Text,
@@ -43,7 +43,7 @@ pub struct Header {
 }
 
 /// A message that was opened.
-#[derive(Debug, Drop)]
+#[derive(Drop)]
 pub struct Message {
     pub parts: Parts,
     pub header: Header,

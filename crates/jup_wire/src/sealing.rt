@@ -15,7 +15,7 @@ use serde_json::Value;
 use std::alloc::{AllocError, Global};
 
 /// What a message is sealed from.
-#[derive(Debug, Drop)]
+#[derive(Drop)]
 pub struct Draft {
     /// None of them is the delimiter, else no client finds the signature.
     pub identities: Frames,

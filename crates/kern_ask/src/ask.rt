@@ -6,7 +6,7 @@ use dap_answers::answer::Response;
 use dap_talk::command::DapRequest;
 
 /// What an execute_request asks for.
-#[derive(Debug, Drop)]
+#[derive(Drop)]
 pub struct ExecuteRequest {
     pub code: Text,
     /// Nothing is shown on iopub of what the execution does.
@@ -18,7 +18,7 @@ pub struct ExecuteRequest {
 }
 
 /// The requests whose content can lack what is needed.
-#[derive(Clone, Copy, PartialEq, Eq, Debug)]
+#[derive(Clone, Copy, PartialEq, Eq)]
 pub enum NeedyRequest {
     Execute,
     IsComplete,
@@ -30,7 +30,7 @@ pub enum NeedyRequest {
 
 /// What a request asks for (Jupyter messaging 5.4, "Messages on the shell channel" and the sections
 /// that follow it).
-#[derive(Debug, Drop)]
+#[derive(Drop)]
 pub enum Ask {
     KernelInfo,
     Execute(ExecuteRequest),
@@ -55,7 +55,7 @@ pub enum Ask {
 }
 
 /// A request: what it asks for, and what its reply repeats of it.
-#[derive(Debug, Drop)]
+#[derive(Drop)]
 pub struct Request {
     pub ask: Ask,
     /// The identities before the delimiter.

@@ -30,7 +30,7 @@ pub struct Shell {
 }
 
 /// What is timed, each with one unit of work.
-#[derive(Clone, Copy, PartialEq, Eq, Debug)]
+#[derive(Clone, Copy, PartialEq, Eq)]
 pub enum Work {
     /// A kernel_info_request, the fetch of its reply, and the reply's frames.
     Info,

@@ -7,7 +7,7 @@ use kern_ask::ask::Request;
 use kern_post::post::Posts;
 
 /// What a connection wants or no longer wants: the posts whose topic begins with the prefix.
-#[derive(Debug, Drop)]
+#[derive(Drop)]
 pub struct Subscription {
     pub wants: bool,
     pub prefix: Bytes,
@@ -15,7 +15,7 @@ pub struct Subscription {
 }
 
 /// A request, and when it came.
-#[derive(Debug, Drop)]
+#[derive(Drop)]
 pub struct Arrival {
     pub request: Request,
     pub moment: u64,
@@ -25,7 +25,7 @@ pub struct Arrival {
 ///
 /// A running cell makes tens of thousands of slices a second, so a call takes 16 bytes: what is longer
 /// lies behind a pointer.
-#[derive(Debug, Drop)]
+#[derive(Drop)]
 pub enum Call {
     /// A connection comes, with an identity or an empty one.
     Join {
@@ -58,7 +58,7 @@ pub enum Call {
 }
 
 /// What a call answers.
-#[derive(Debug, Drop)]
+#[derive(Drop)]
 pub enum Reply {
     /// The connection's number, and that of the next post.
     Joined {

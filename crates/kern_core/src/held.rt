@@ -5,7 +5,7 @@ use std::alloc::{AllocError, Global};
 use std::marker::Model;
 
 /// A value on the heap, seen as the value: it takes the room of a pointer where it stands.
-#[derive(Debug, Drop)]
+#[derive(Drop)]
 pub struct Held<T> {
     value: Box<T>,
 }

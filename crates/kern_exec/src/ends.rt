@@ -14,7 +14,7 @@ use kern_post::post::{Envelope, Letter};
 use std::alloc::{AllocError, Global};
 
 /// The envelopes of an end, made before anything changes, so that the end itself takes no memory.
-#[derive(Debug, Drop)]
+#[derive(Drop)]
 pub struct EndKit {
     pub error: Envelope,
     pub reply: Envelope,

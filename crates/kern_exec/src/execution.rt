@@ -8,7 +8,7 @@ use kern_ask::ask::{ExecuteRequest, Request};
 use std::alloc::{AllocError, Global};
 
 /// An execution that was asked for, and what its posts repeat of the request.
-#[derive(Debug, Drop)]
+#[derive(Drop)]
 pub struct Execution {
     pub connection: u32,
     /// With which the connection joined.
@@ -19,7 +19,7 @@ pub struct Execution {
 }
 
 /// An execution that was taken from the queue, and its number: how many were counted up to it.
-#[derive(Debug, Drop)]
+#[derive(Drop)]
 pub struct Current {
     pub execution: Execution,
     pub count: u64,

@@ -3,7 +3,7 @@
 use kern_post::content::Ending;
 
 /// What loading a cell comes to.
-#[derive(Clone, Copy, PartialEq, Eq, Debug)]
+#[derive(Clone, Copy, PartialEq, Eq)]
 pub enum Loading {
     /// A run is to start at this address.
     Starts(u16),

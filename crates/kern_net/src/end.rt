@@ -5,7 +5,7 @@ use zmtp_peer::fault::PeerFault;
 use zmtp_wire::fault::StreamFault;
 
 /// How the worker or a pump ends.
-#[derive(Clone, Copy, PartialEq, Eq, Debug)]
+#[derive(Clone, Copy, PartialEq, Eq)]
 pub enum PumpEnd {
     OutOfMemory,
     /// The peer's stream ended.

@@ -20,7 +20,7 @@ use std::alloc::Global;
 use std::sync::Wait;
 
 /// Which posts go out, and how they are sealed.
-#[derive(Clone, Copy, Debug)]
+#[derive(Clone, Copy)]
 pub struct Line<'a> {
     /// The connection's number, as its Join answered it.
     pub connection: u32,

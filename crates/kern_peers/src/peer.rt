@@ -8,7 +8,7 @@ use jup_wire::channel::Channel;
 pub const MOST_SUBSCRIPTIONS: usize = 64;
 
 /// A connection that is there.
-#[derive(Debug, Drop)]
+#[derive(Drop)]
 pub struct Peer {
     /// From 1, and never used again.
     pub number: u32,

@@ -6,14 +6,14 @@ use base_text::text::Text;
 use dap_answers::answer::{Event, Response};
 
 /// Whether the kernel works on a request (Jupyter messaging, "Kernel status").
-#[derive(Clone, Copy, PartialEq, Eq, Debug)]
+#[derive(Clone, Copy, PartialEq, Eq)]
 pub enum ExecutionState {
     Busy,
     Idle,
 }
 
 /// Why a request failed.
-#[derive(Clone, Copy, PartialEq, Eq, Debug)]
+#[derive(Clone, Copy, PartialEq, Eq)]
 pub enum Cause {
     /// The cell has this fault.
     Assembly(AsmFault),
@@ -34,14 +34,14 @@ pub enum Cause {
 }
 
 /// How an execution ended.
-#[derive(Clone, Copy, PartialEq, Eq, Debug)]
+#[derive(Clone, Copy, PartialEq, Eq)]
 pub enum Ending {
     Done,
     Failed(Cause),
 }
 
 /// Whether a cell's text can be run as it stands (Jupyter messaging, "Code completeness").
-#[derive(Clone, Copy, PartialEq, Eq, Debug)]
+#[derive(Clone, Copy, PartialEq, Eq)]
 pub enum Completeness {
     Complete,
     /// Nothing but an ENDIF is missing.
@@ -50,7 +50,7 @@ pub enum Completeness {
 }
 
 /// The requests, but for execute_request, that get a reply where their content isn't as needed.
-#[derive(Clone, Copy, PartialEq, Eq, Debug)]
+#[derive(Clone, Copy, PartialEq, Eq)]
 pub enum RefusedRequest {
     IsComplete,
     Complete,
@@ -58,7 +58,7 @@ pub enum RefusedRequest {
 }
 
 /// What a post says, and so its type.
-#[derive(Clone, Debug, Drop)]
+#[derive(Clone, Drop)]
 pub enum Content {
     Status(ExecutionState),
     ExecuteInput { code: Text, count: u64 },

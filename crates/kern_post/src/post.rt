@@ -6,14 +6,14 @@ use base_text::sequence::{Bytes, Frames, Sequence};
 use std::alloc::AllocError;
 
 /// What stands before the delimiter: the topic, which is the type, or the identities of a request.
-#[derive(Clone, Debug, Drop)]
+#[derive(Clone, Drop)]
 pub enum Head {
     Topic,
     Identities(Frames),
 }
 
 /// To which connections, and what stands round the content.
-#[derive(Debug, Drop)]
+#[derive(Drop)]
 pub struct Envelope {
     pub to: Sequence<u32>,
     pub head: Head,
@@ -22,14 +22,13 @@ pub struct Envelope {
 }
 
 /// What is sent.
-#[derive(Debug, Drop)]
+#[derive(Drop)]
 pub struct Letter {
     pub envelope: Envelope,
     pub content: Content,
 }
 
 /// A letter with its number, from 1, and the moment at which it was made, in seconds since 1970.
-#[derive(Debug)]
 pub struct Post {
     pub number: u64,
     pub moment: u64,

@@ -15,7 +15,7 @@ struct Rings {
 }
 
 /// What a writer has heard.
-#[derive(Clone, Copy, PartialEq, Eq, Debug)]
+#[derive(Clone, Copy, PartialEq, Eq)]
 pub struct News {
     pub told: u64,
     /// The worker has ended: what was posted by now is all that it posts.

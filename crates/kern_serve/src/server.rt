@@ -29,7 +29,7 @@ use std::thread::Threads;
 use std::time::Duration;
 
 /// How a server ends.
-#[derive(Clone, Copy, PartialEq, Eq, Debug)]
+#[derive(Clone, Copy, PartialEq, Eq)]
 pub enum ServerEnd {
     /// A client asked for a shutdown.
     ShutDown,

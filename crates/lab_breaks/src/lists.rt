@@ -7,7 +7,7 @@ use base_text::sequence::Sequence;
 use std::alloc::{AllocError, Global};
 
 /// The lines of a source that have breakpoints, in the order in which they were set.
-#[derive(Drop, Debug)]
+#[derive(Drop)]
 pub struct BreakpointList {
     /// The number of the source.
     pub source: u32,

@@ -5,7 +5,7 @@ use base_text::text::Text;
 use lab_views::view::View;
 
 /// How far a Step goes.
-#[derive(Clone, Copy, PartialEq, Eq, Debug)]
+#[derive(Clone, Copy, PartialEq, Eq)]
 pub enum StepKind {
     /// To the next place.
     In,
@@ -16,7 +16,7 @@ pub enum StepKind {
 }
 
 /// What a place is where a Step may end.
-#[derive(Clone, Copy, PartialEq, Eq, Debug)]
+#[derive(Clone, Copy, PartialEq, Eq)]
 pub enum Granularity {
     /// The first byte of a statement.
     Line,
@@ -25,14 +25,14 @@ pub enum Granularity {
 }
 
 /// A Step that is asked for.
-#[derive(Clone, Copy, PartialEq, Eq, Debug)]
+#[derive(Clone, Copy, PartialEq, Eq)]
 pub struct StepRequest {
     pub kind: StepKind,
     pub granularity: Granularity,
 }
 
 /// An event.
-#[derive(Drop, Debug)]
+#[derive(Drop)]
 pub enum Event {
     /// Assembles a cell over the symbols that are kept, loads what it gives, and keeps its text under
     /// its path. Only without a run.

@@ -5,7 +5,7 @@ ghost use Rattle.lab_engines.specs.Command.{task_of, command_of, one_word, with_
 use base_text::hexadecimal::read_word;
 
 /// What the program is to do.
-#[derive(Clone, Copy, PartialEq, Eq, Debug)]
+#[derive(Clone, Copy, PartialEq, Eq)]
 pub enum Command<'a> {
     /// Runs bytes and prints each step.
     Step,

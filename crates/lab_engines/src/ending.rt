@@ -1,7 +1,7 @@
 //! How a run ends.
 
 /// Why a run of a program went no further.
-#[derive(Clone, Copy, PartialEq, Eq, Debug)]
+#[derive(Clone, Copy, PartialEq, Eq)]
 pub enum Ending {
     /// HLT with interrupts off.
     Halted,

@@ -1,7 +1,7 @@
 //! One live call.
 
 /// A call or an accepted request that has not ended.
-#[derive(Clone, Copy, PartialEq, Eq, Debug)]
+#[derive(Clone, Copy, PartialEq, Eq)]
 pub struct Frame {
     /// The address of the return address on the stack: SP after the push.
     pub slot: u16,

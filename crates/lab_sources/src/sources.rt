@@ -22,7 +22,7 @@ pub enum SourceFault {
 }
 
 /// A text and the path under which it is kept.
-#[derive(Drop, Debug)]
+#[derive(Drop)]
 pub struct Source {
     pub path: Text,
     pub text: Text,

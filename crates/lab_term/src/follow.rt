@@ -18,7 +18,7 @@ use std::alloc::Global;
 use std::collections::VecDeque;
 
 /// How a cell goes, so far.
-#[derive(Clone, Copy, PartialEq, Eq, Debug)]
+#[derive(Clone, Copy, PartialEq, Eq)]
 pub(crate) struct Course {
     pub is_idle: bool,
     pub has_failed: bool,

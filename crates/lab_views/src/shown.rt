@@ -3,7 +3,7 @@ use base_text::sequence::{Bytes, Sequence};
 use base_text::text::Text;
 
 /// A frame of the run.
-#[derive(Clone, Drop, Debug)]
+#[derive(Clone, Drop)]
 pub struct StackFrame {
     /// 1 for the innermost, and one more for each that is further out.
     pub id: u32,
@@ -18,14 +18,14 @@ pub struct StackFrame {
 }
 
 /// A variable as it is shown.
-#[derive(Clone, Drop, Debug)]
+#[derive(Clone, Drop)]
 pub struct Variable {
     pub name: Text,
     pub value: Text,
 }
 
 /// A line of disassembly.
-#[derive(Clone, Drop, Debug)]
+#[derive(Clone, Drop)]
 pub struct CodeLine {
     pub address: u16,
     /// The bytes that it shows, 1 to 3.
@@ -35,14 +35,14 @@ pub struct CodeLine {
 }
 
 /// The breakpoints of a source.
-#[derive(Clone, Drop, Debug)]
+#[derive(Clone, Drop)]
 pub struct SourceBreakpoints {
     pub path: Text,
     pub lines: Sequence<u32>,
 }
 
 /// What a board shows.
-#[derive(Drop, Debug)]
+#[derive(Drop)]
 pub enum Shown {
     /// Some of the frames, innermost first, and how many there are in all.
     Frames {

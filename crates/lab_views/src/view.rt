@@ -3,7 +3,7 @@
 use base_text::text::Text;
 
 /// A view of a board.
-#[derive(Drop, Debug)]
+#[derive(Drop)]
 pub enum View {
     /// Frames of the stopped run: at most `levels` and at most 64, from this one, where 0 is the
     /// innermost. No levels mean 64.

@@ -1,6 +1,7 @@
 //! Why a stream can't be read on.
 
 use crate::incomings::Incomings;
+use std::fmt;
 use thiserror::Error;
 
 /// What is wrong with a stream.
@@ -33,7 +34,7 @@ pub enum StreamFault {
 }
 
 /// Why a piece wasn't read to its end.
-#[derive(Debug, Drop, Error)]
+#[derive(Drop, Error)]
 pub enum FeedFault {
     /// The side is as it was before the piece.
     #[error("out of memory")]
@@ -44,4 +45,11 @@ pub enum FeedFault {
         before: Incomings,
         cause: StreamFault,
     },
+}
+
+// The messages before a fault are the peer's, and can be long: Debug shows the cause alone.
+impl fmt::Debug for FeedFault {
+    fn fmt<W: fmt::Write>(&self, f: &mut fmt::Formatter<W>) -> fmt::Result {
+        fmt::Display::fmt(self, f)
+    }
 }

@@ -7,7 +7,7 @@ ghost use Rattle.zmtp_wire.specs.Head.{head_of, frame_head, long_size, room_at};
 use crate::fault::StreamFault;
 
 /// What a stream has come to: its greeting, the handshake, then traffic.
-#[derive(Clone, Copy, PartialEq, Eq, Debug)]
+#[derive(Clone, Copy, PartialEq, Eq)]
 pub enum Stage {
     Greeting,
     Handshake,

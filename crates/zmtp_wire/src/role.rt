@@ -5,7 +5,7 @@ ghost use Rattle.std.specs.Str.{bytes_eq};
 ghost use Rattle.zmtp_wire.specs.Roles.{accepts, socket_name};
 
 /// The socket type of this side.
-#[derive(Clone, Copy, PartialEq, Eq, Debug)]
+#[derive(Clone, Copy, PartialEq, Eq)]
 pub enum Role {
     Router,
     Pub,
