@@ -182,6 +182,12 @@ def program():
     return os.path.join(os.path.dirname(os.path.dirname(os.path.abspath(__file__))), "lab80")
 
 
+def serve(path):
+    """Serves where a connection file says, which must come to an end: the exit status, and what is printed."""
+    done = subprocess.run([program(), "kernel", path], capture_output=True, text=True, timeout=10, check=False)
+    return done.returncode, done.stdout + done.stderr
+
+
 def start_alone(path):
     """Starts the kernel of a connection file as the kernelspec says. A KernelManager would be its client too."""
     words = [word.format(connection_file=path) for word in get_kernel_spec("lab80").argv]

@@ -11,15 +11,9 @@ import unittest
 
 from jupyter_client import write_connection_file
 
-from lab80_client import HELLO, Lab, are_gone, processes, program, streams
+from lab80_client import HELLO, Lab, are_gone, processes, program, serve, streams
 
 PORTS = ("shell_port", "iopub_port", "stdin_port", "control_port", "hb_port")
-
-
-def serve(path):
-    """Serves where a connection file says: the exit status, and what is printed."""
-    done = subprocess.run([program(), "kernel", path], capture_output=True, text=True, timeout=10, check=False)
-    return done.returncode, done.stdout + done.stderr
 
 
 def are_free(connection):

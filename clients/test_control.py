@@ -21,6 +21,17 @@ class Control(Lab):
         self.assertEqual(self.control("interrupt"), {"status": "ok"})
         self.assertEqual(self.reply(number)["content"]["ename"], "Interrupted")
 
+    def test_four_clients_are_answered_in_order_while_a_cell_runs(self):
+        number = self.run_endless()
+        others = [self.connect() for _ in range(4)]
+        asked = [[client.kernel_info() for _ in range(64)] for client in others]
+        for client, numbers in zip(others, asked):
+            replies = [client.get_shell_msg(timeout=PATIENCE) for _ in numbers]
+            self.assertEqual([reply["parent_header"]["msg_id"] for reply in replies], numbers)
+            self.assertEqual({reply["content"]["implementation"] for reply in replies}, {"lab80"})
+        self.assertEqual(self.control("interrupt"), {"status": "ok"})
+        self.assertEqual(self.reply(number)["content"]["ename"], "Interrupted")
+
     def test_is_complete(self):
         for code, status in (
             (HELLO, "complete"),

@@ -1,5 +1,5 @@
 """Debuggers, in the order in which JupyterLab asks; each message is checked against the protocol's schema."""
-from lab80_client import Lab
+from lab80_client import ENDLESS, Lab
 
 # Two routines, of which the first calls the second.
 CALLS = """\
@@ -8,6 +8,21 @@ MAIN:   MVI B,2
         HLT
 TWICE:  MOV A,B
         ADD A
+        RET
+        END MAIN
+"""
+
+# Prints a sign, waits in a routine until the switches say something, and prints that.
+SWITCHED = """\
+MAIN:   MVI A,'>'
+        OUT 1
+        MVI B,2
+        CALL WAIT
+        OUT 1
+        HLT
+WAIT:   IN 2
+        ORA A
+        JZ WAIT
         RET
         END MAIN
 """
@@ -127,11 +142,40 @@ class Debugger(Lab):
         self.debug("pause", {"threadId": 1}, other)
         for client in (self.client, other):
             self.assertEqual(self.event(client)[1]["reason"], "pause")
-        frames, _ = self.look(other)
-        self.assertEqual(self.places(frames), [("main", 3)])
+        path = self.debug("dumpCell", {"code": ENDLESS})["sourcePath"]
+        self.assertEqual(self.debug("stackTrace", {"threadId": 1}, other), {
+            "stackFrames": [{"id": 1, "name": "main", "source": {"path": path}, "line": 3, "column": 1,
+                             "instructionPointerReference": "0x0004"}],
+            "totalFrames": 1,
+        })
         self.debug("continue", {"threadId": 1})
         self.control("interrupt", client=other)
         self.assertEqual(self.reply(number)["content"]["ename"], "Interrupted")
+
+    def test_one_frontend_lets_the_cell_of_the_other_go_on(self):
+        other = self.new_client()
+        both = (self.client, other)
+        number = self.client.execute(SWITCHED)
+        for client in both:
+            self.assertEqual(self.wait_for("stream", client)["content"]["text"], ">")
+        self.debug("attach", {}, other)
+        self.debug("pause", {"threadId": 1}, other)
+        for client in both:
+            self.assertEqual(self.event(client)[0], "initialized")
+            self.assertEqual(self.event(client)[1]["reason"], "pause")
+        frames, shown = self.look(other)
+        (name, line), caller = self.places(frames)
+        self.assertTrue(name == "WAIT" and 7 <= line <= 9, (name, line))
+        self.assertEqual(caller, ("main", 4))
+        self.assertEqual((shown["Registers"]["B"], shown["Registers"]["SP"]), ("002H", "0FFFEH"))
+        self.debug("continue", {"threadId": 1}, other)
+        # The code of `A`.
+        self.debug("boardSwitches", {"value": 65}, other)
+        for client in both:
+            self.assertEqual(self.event(client)[0], "continued")
+            self.assertEqual(self.wait_for("stream", client)["content"]["text"], "A")
+        reply = self.reply(number)["content"]
+        self.assertEqual((reply["status"], reply["execution_count"]), ("ok", 1))
 
     def test_the_board_shown_and_moved(self):
         path = self.debug("dumpCell", {"code": CALLS})["sourcePath"]

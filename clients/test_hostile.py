@@ -94,13 +94,15 @@ class Hostile(unittest.TestCase):
         return peer
 
     def ends_all(self, sayings, is_greeted=False):
-        """Says each of these on each channel, twice, and expects the connection to end for it."""
+        """Says each of these on each channel, twice, and expects the connection to end for it, while a peer that
+        says nothing wrong is served."""
         for channel in CHANNELS:
             for name, said in list(sayings.items()) * 2:
-                with self.subTest(channel=channel, said=name), self.peer(channel) as peer:
+                with self.subTest(channel=channel, said=name), self.peer(channel) as peer, self.peer(channel) as good:
                     if is_greeted:
                         peer.greet()
                     peer.say(said)
+                    self.assertTrue(good.greet().is_served())
                     self.assertTrue(peer.is_ended(5))
 
     def test_other_greetings(self):
