@@ -3,3 +3,4 @@ pub mod JsonLemmas
 pub mod WireLemmas
 pub mod VerdictLemmas
 pub mod SealLemmas
+pub mod PartLemmas

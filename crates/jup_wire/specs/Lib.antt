@@ -4,3 +4,4 @@ pub mod Json
 pub mod Wire
 pub mod Fault
 pub mod Seal
+pub mod Header

@@ -7,6 +7,7 @@
 #![tactic(auto)]
 
 pub mod channel;
+pub mod header;
 pub mod message;
 pub mod opening;
 pub mod sealing;

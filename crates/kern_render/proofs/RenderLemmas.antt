@@ -1,29 +1,17 @@
 -- What is sealed of a post's draft are its frames.
-use Rattle.std.proofs.Common.{◌≡◌, ◌∙◌, List, ℕ, false, refl, sym, ap, subst}
+use Rattle.std.proofs.Common.{◌≡◌, ◌∙◌, List, ℕ, refl, sym, ap}
 use Rattle.std.specs.Prelude.{min}
-use Rattle.serde_json.specs.Data.{Data}
-use Rattle.serde_json.specs.Written.{has_float, compact_text}
-use Rattle.jup_wire.specs.declared.message.Parts.{Parts}
 use Rattle.jup_wire.specs.declared.sealing.Draft.{Draft}
-use Rattle.jup_wire.specs.Json.{IsTextOf}
+use Rattle.jup_wire.specs.Header.{empty_object}
 use Rattle.jup_wire.specs.Seal.{IsSealed, frames_of, signature_frame}
+use Rattle.jup_wire.proofs.PartLemmas.{same_parts, text_is}
 use Rattle.kern_post.specs.declared.post.Post.{Post}
-use Rattle.kern_json.specs.Json.{empty_object, content_json}
+use Rattle.kern_json.specs.Json.{content_json}
 use Rattle.kern_json.proofs.FloatLemmas.{content_has_no_float}
 use Rattle.jup_date.specs.Dates.{IsDate, last_moment}
-use Rattle.kern_render.specs.Rendering.{header_json, parts_of, rendered, IsRendered}
+use Rattle.kern_render.specs.Rendering.{post_header, parts_of, rendered, IsRendered}
 use Rattle.kern_render.specs.Drafts.{IsDraftOf}
 use Rattle.jup_date.proofs.DateLemmas.{one_date}
-
--- parts are equal where each of the five is
-same_parts : (p q : Parts) → p.identities ≡ q.identities → p.header ≡ q.header
-    → p.parent_header ≡ q.parent_header → p.metadata ≡ q.metadata → p.content ≡ q.content → p ≡ q
-same_parts p q i h r m c = rw (i, h, r, m, c) refl
-
--- what is written for a value without floats is its compact text
-text_is : (frame : List ℕ) (written d : Data) → IsTextOf frame written → written ≡ d
-    → has_float d ≡ false → frame ≡ compact_text d
-text_is frame written d t is none = let u = subst (IsTextOf frame) is t in u.compact none
 
 pub sealed_is_rendered : (key date session : List ℕ) (post : Post) (draft : Draft) (frames : List (List ℕ))
     → IsDate (min post.moment last_moment) date → IsDraftOf date session post draft
@@ -31,7 +19,7 @@ pub sealed_is_rendered : (key date session : List ℕ) (post : Post) (draft : Dr
 sealed_is_rendered key date session post draft frames dated of s =
     let number = post.number in
     let content = post.letter.content in
-    let header = text_is s.parts.header _ (header_json date session number content) s.header of.header refl in
+    let header = text_is s.parts.header _ (post_header date session number content) s.header of.header refl in
     let metadata = text_is s.parts.metadata _ empty_object s.metadata of.metadata refl in
     let body = text_is s.parts.content _ (content_json number content) s.content of.content
     (content_has_no_float number content) in

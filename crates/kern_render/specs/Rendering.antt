@@ -1,30 +1,21 @@
 -- The frames of a post (Jupyter messaging, "The Wire Protocol", "Message header").
-use Rattle.std.specs.Prelude.{◌≡◌, ℕ, List, [], ◌∷◌, ◌++◌, codes, decimal, min}
-use Rattle.serde_json.specs.Data.{Data, string}
+use Rattle.std.specs.Prelude.{◌≡◌, ℕ, List, [], ◌∷◌, min}
+use Rattle.serde_json.specs.Data.{Data}
 use Rattle.serde_json.specs.Written.{compact_text}
-use Rattle.dap_answers.specs.Json.{object_of}
 use Rattle.jup_wire.specs.declared.message.Parts.{Parts}
+use Rattle.jup_wire.specs.Header.{empty_object, header_json}
 use Rattle.jup_wire.specs.Seal.{frames_of, signature_frame}
 use Rattle.kern_post.specs.declared.content.Content.{Content}
 use Rattle.kern_post.specs.declared.post.Head.{Head}
 use Rattle.kern_post.specs.declared.post.Head.TheVariants.{Topic, Identities}
 use Rattle.kern_post.specs.declared.post.Post.{Post}
 use Rattle.kern_post.specs.Topics.{topic_of}
-use Rattle.kern_json.specs.Json.{empty_object, content_json}
+use Rattle.kern_json.specs.Json.{content_json}
 use Rattle.jup_date.specs.Dates.{IsDate, last_moment}
 
--- no two posts of a session have the same
-abbrev pub message_id : List ℕ → ℕ → List ℕ
-message_id session number = session ++ codes "_" ++ decimal number
-
-abbrev pub header_json : List ℕ → List ℕ → ℕ → Content → Data
-header_json date session number content = object_of (
-    (codes "date", string date) ∷
-    (codes "msg_id", string (message_id session number)) ∷
-    (codes "msg_type", string (topic_of content)) ∷
-    (codes "session", string session) ∷
-    (codes "username", string (codes "kernel")) ∷
-    (codes "version", string (codes "5.4")) ∷ [])
+-- the header of the post's message
+abbrev pub post_header : List ℕ → List ℕ → ℕ → Content → Data
+post_header date session number content = header_json date session number (topic_of content)
 
 -- what stands before the delimiter
 abbrev pub head_frames : Head → Content → List (List ℕ)
@@ -35,7 +26,7 @@ head_frames (Identities frames) content = frames
 abbrev pub parts_of : List ℕ → List ℕ → Post → Parts
 parts_of date session post = record {
   identities = head_frames post.letter.envelope.head post.letter.content;
-  header = compact_text (header_json date session post.number post.letter.content);
+  header = compact_text (post_header date session post.number post.letter.content);
   parent_header = post.letter.envelope.parent;
   metadata = compact_text empty_object;
   content = compact_text (content_json post.number post.letter.content);

@@ -1,53 +1,18 @@
 //! The frames of posts.
-ghost use Rattle.std.specs.Prelude.{◌≡◌, [], ◌∷◌, ◌++◌, IfOk, codes, decimal, min, string_bytes};
-ghost use Rattle.serde_json.specs.View.{view};
-ghost use Rattle.kern_json.specs.Json.{empty_object};
+ghost use Rattle.std.specs.Prelude.{◌≡◌, [], ◌∷◌, IfOk, min};
 ghost use Rattle.jup_date.specs.Dates.{IsDate, last_moment};
-ghost use Rattle.kern_render.specs.Rendering.{header_json, head_frames, IsRendered};
+ghost use Rattle.kern_render.specs.Rendering.{head_frames, IsRendered};
 ghost use Rattle.kern_render.specs.Drafts.{IsDraftOf};
 
 use base_text::sequence::{Bytes, Frames};
 use base_text::text::Text;
 use jup_date::date::{LAST_MOMENT, date_text};
+use jup_wire::header::{empty_object, header_json};
 use jup_wire::sealing::{Draft, seal_message};
 use kern_json::content::content_json;
 use kern_post::content::Content;
 use kern_post::post::{Head, Post};
-use serde_json::{Value, json};
 use std::alloc::{AllocError, Global};
-
-fn message_id(alloc: Global, session: &str, number: u64) -> Result<String, AllocError>
-    ensures { IfOk result (λ id. string_bytes id ≡ session.now ++ codes "_" ++ decimal number) }
-{
-    format!(in alloc; "{session}_{number}")
-}
-
-fn header_json(
-    alloc: Global,
-    date: &str,
-    session: &str,
-    number: u64,
-    content: &Content,
-) -> Result<Value, AllocError>
-    ensures { IfOk result
-        (λ v. view v ≡ header_json date.now session.now number content.now) }
-{
-    let id = message_id(alloc, session, number)?;
-    json!(in alloc; {
-        "date": date,
-        "msg_id": id,
-        "msg_type": content.topic(),
-        "session": session,
-        "username": "kernel",
-        "version": "5.4"
-    })
-}
-
-fn empty_object(alloc: Global) -> Result<Value, AllocError>
-    ensures { IfOk result (λ v. view v ≡ empty_object) }
-{
-    json!(in alloc; {})
-}
 
 fn one_frame(alloc: Global, text: &str) -> Result<Frames, AllocError>
     ensures { IfOk result (λ frames. frames ≡ text.now ∷ []) }
@@ -78,7 +43,7 @@ fn draft_of(alloc: Global, post: &Post, date: &str, session: &str) -> Result<Dra
 {
     let content = &post.letter.content;
     let identities = head_frames(alloc, &post.letter.envelope.head, content)?;
-    let header = header_json(alloc, date, session, post.number, content)?;
+    let header = header_json(alloc, date, session, post.number, content.topic())?;
     let parent_header = copy_bytes(&post.letter.envelope.parent)?;
     let metadata = empty_object(alloc)?;
     let content = content_json(alloc, post.number, content)?;

@@ -1,39 +1,21 @@
 -- The request that runs a cell (Jupyter messaging 5.4, "The Wire Protocol", "Message header", "Execute").
 -- The members of an object stand in the order of their keys' bytes.
-use Rattle.std.specs.Prelude.{◌≡◌, ℕ, List, [], ◌∷◌, ◌++◌, codes}
-use Rattle.serde_json.specs.Data.{Data, Members, string, object, member, no_members}
+use Rattle.std.specs.Prelude.{◌≡◌, ℕ, List, [], codes}
+use Rattle.serde_json.specs.Data.{Data, string, object, member, no_members}
 use Rattle.serde_json.specs.Written.{compact_text}
 use Rattle.serde_json.specs.View.{view}
 use Rattle.jup_wire.specs.declared.message.Parts.{Parts}
 use Rattle.jup_wire.specs.declared.sealing.Draft.{Draft}
+use Rattle.jup_wire.specs.Header.{empty_object, header_json}
 use Rattle.jup_wire.specs.Seal.{frames_of, signature_frame}
 use Rattle.jup_date.specs.Dates.{IsDate}
 
-abbrev pub members_from : List (List ℕ × Data) → Members
-members_from [] = no_members
-members_from (m ∷ ms) = member m.0 m.1 (members_from ms)
-
-abbrev pub object_of : List (List ℕ × Data) → Data
-object_of members = object (members_from members)
-
-abbrev pub empty_object : Data
-empty_object = object_of []
-
 -- a client sends one request in its session
-abbrev pub message_id : List ℕ → List ℕ
-message_id session = session ++ codes "_1"
-
 abbrev pub request_header : List ℕ → List ℕ → Data
-request_header date session = object_of (
-    (codes "date", string date) ∷
-    (codes "msg_id", string (message_id session)) ∷
-    (codes "msg_type", string (codes "execute_request")) ∷
-    (codes "session", string session) ∷
-    (codes "username", string (codes "kernel")) ∷
-    (codes "version", string (codes "5.4")) ∷ [])
+request_header date session = header_json date session 1 (codes "execute_request")
 
 abbrev pub request_content : List ℕ → Data
-request_content code = object_of ((codes "code", string code) ∷ [])
+request_content code = object (member (codes "code") (string code) no_members)
 
 -- what is handed over to be sealed
 pub record IsDraftOf (date session code : List ℕ) (d : Draft) : Type 0 where

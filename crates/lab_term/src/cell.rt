@@ -1,12 +1,13 @@
 //! A cell, and the request that runs it.
-ghost use Rattle.std.specs.Prelude.{◌≡◌, ◌≤◌, [], slice_index_or, string_bytes, IfOk};
+ghost use Rattle.std.specs.Prelude.{◌≡◌, ◌≤◌, [], slice_index_or, IfOk};
 ghost use Rattle.serde_json.specs.View.{view};
 ghost use Rattle.jup_date.specs.Dates.{last_moment};
-ghost use Rattle.lab_term.specs.Requests.{empty_object, message_id, request_header, request_content, request_frames, IsDraftOf, IsRequest};
+ghost use Rattle.lab_term.specs.Requests.{request_content, request_frames, IsDraftOf, IsRequest};
 
 use base_text::sequence::{Bytes, Frames};
 use base_text::text::Text;
 use jup_date::date::date_text;
+use jup_wire::header::{empty_object, header_json};
 use jup_wire::sealing::{Draft, seal_message};
 use serde_json::{Value, json};
 use std::alloc::{AllocError, Global};
@@ -31,32 +32,6 @@ pub(crate) struct Request {
     pub frames: Frames,
 }
 
-fn message_id(alloc: Global, session: &str) -> Result<String, AllocError>
-    ensures { IfOk result (λ id. string_bytes id ≡ message_id session.now) }
-{
-    format!(in alloc; "{session}_1")
-}
-
-fn header_json(alloc: Global, date: &str, session: &str) -> Result<Value, AllocError>
-    ensures { IfOk result (λ v. view v ≡ request_header date.now session.now) }
-{
-    let id = message_id(alloc, session)?;
-    json!(in alloc; {
-        "date": date,
-        "msg_id": id,
-        "msg_type": "execute_request",
-        "session": session,
-        "username": "kernel",
-        "version": "5.4"
-    })
-}
-
-fn empty_object(alloc: Global) -> Result<Value, AllocError>
-    ensures { IfOk result (λ v. view v ≡ empty_object) }
-{
-    json!(in alloc; {})
-}
-
 fn content_json(alloc: Global, code: &str) -> Result<Value, AllocError>
     ensures { IfOk result (λ v. view v ≡ request_content code.now) }
 {
@@ -66,7 +41,7 @@ fn content_json(alloc: Global, code: &str) -> Result<Value, AllocError>
 fn draft_of(alloc: Global, date: &str, session: &str, code: &str) -> Result<Draft, AllocError>
     ensures { IfOk result (IsDraftOf date.now session.now code.now) }
 {
-    let header = header_json(alloc, date, session)?;
+    let header = header_json(alloc, date, session, 1, "execute_request")?;
     let parent_header = Bytes::copy_of(alloc, b"{}")?;
     let metadata = empty_object(alloc)?;
     let content = content_json(alloc, code)?;
