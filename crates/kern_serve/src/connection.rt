@@ -200,13 +200,49 @@ fn join<R: Wait>(rt: &R, shared: &Shared, pass: &mut Pass, call: Call) -> Option
     ensures { pass.new.turnstile ≡ shared.now.desk }
 {
     shared.bell.count_entries(1);
-    match shared.desk.turn(rt, pass, call) {
-        Ok(Ok(Reply::Joined { connection, from })) => Some(Joined { connection, from }),
-        Ok(Err(KernFault::JournalFull)) => {
-            shared.bell.ask(rt);
-            None
-        }
+    let Ok(answer) = shared.desk.turn(rt, pass, call) else {
+        return None;
+    };
+    if is_journal_full(&answer) {
+        shared.bell.ask(rt);
+    }
+    let joined = joined_by(&answer);
+    drop(answer);
+    joined
+}
+
+fn is_journal_full(answer: &Result<Reply, KernFault>) -> bool {
+    match answer {
+        Err(fault) => *fault == KernFault::JournalFull,
+        Ok(_) => false,
+    }
+}
+
+fn joined_by(answer: &Result<Reply, KernFault>) -> Option<Joined> {
+    match answer {
+        Ok(Reply::Joined { connection, from }) => Some(Joined {
+            connection: *connection,
+            from: *from,
+        }),
         _ => None,
+    }
+}
+
+// Joins a peer, if there is memory for that and the kernel lets it.
+fn join_peer<R: Wait>(
+    rt: &R,
+    alloc: Global,
+    shared: &Shared,
+    pass: &mut Pass,
+    channel: Channel,
+    peer: &Peer,
+) -> Option<Joined>
+    requires { pass.old.turnstile ≡ shared.now.desk }
+    ensures { pass.new.turnstile ≡ shared.now.desk }
+{
+    match join_call(alloc, channel, peer) {
+        Ok(call) => join(rt, shared, pass, call),
+        Err(_) => None,
     }
 }
 
@@ -238,10 +274,8 @@ pub fn serve_connection<R: Wait + Clock + Threads + Sync>(
     let Ok(Some(met)) = meet(alloc, stream, channel) else {
         return (first, second);
     };
-    let Ok(call) = join_call(alloc, channel, &met.peer) else {
-        return (first, second);
-    };
-    let Some(joined) = join(rt, shared, &mut first, call) else {
+    let Some(joined) = join_peer(rt, alloc, shared, &mut first, channel, &met.peer) else {
+        drop(met);
         return (first, second);
     };
     let (mut first, second) = pump(rt, alloc, shared, channel, joined, met, first, second);

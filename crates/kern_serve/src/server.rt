@@ -15,7 +15,7 @@ use base_text::text::Text;
 use jup_connection::connection_file::ConnectionFile;
 use jup_wire::channel::Channel;
 use kern_core::kernel::Kernel;
-use kern_desk::seated::{Pass, Seated};
+use kern_desk::seated::{Desk, Pass, Seated};
 use kern_net::end::PumpEnd;
 use kern_net::worker::worker;
 use lab_turn::turnstile::Turnstile;
@@ -187,7 +187,23 @@ fn work<R: Wait + Clock>(rt: &R, shared: &Shared, mut pass: Pass) -> Result<Serv
     end_of(end, gate.is_closed())
 }
 
-// A kernel, its desk and the passes, and what else the threads share.
+// A desk over a new kernel, and its passes.
+fn open_desk(alloc: Global) -> Result<(Desk, Vec<Pass>), ServerFault>
+    ensures { IfOk result (λ opened. All (λ p. p.turnstile ≡ opened.0) opened.1.items) }
+{
+    let Ok(kernel) = Kernel::new(alloc, JOURNAL_LIMIT) else {
+        return Err(ServerFault::OutOfMemory);
+    };
+    match Turnstile::open(alloc, Seated::new(alloc, kernel), PASSES) {
+        Ok(opened) => Ok(opened),
+        Err(fault) => {
+            drop(fault);
+            Err(ServerFault::OutOfMemory)
+        }
+    }
+}
+
+// A desk, its passes, and what else the threads share.
 fn open(
     alloc: Global,
     listeners: Listeners,
@@ -196,21 +212,24 @@ fn open(
 ) -> Result<(Shared, Vec<Pass>), ServerFault>
     ensures { IfOk result (λ opened. All (λ p. p.turnstile ≡ opened.0.desk) opened.1.items) }
 {
-    let Ok(kernel) = Kernel::new(alloc, JOURNAL_LIMIT) else {
-        return Err(ServerFault::OutOfMemory);
-    };
-    let seated = Seated::new(alloc, kernel);
-    let Ok((desk, passes)) = Turnstile::open(alloc, seated, PASSES) else {
-        return Err(ServerFault::OutOfMemory);
-    };
-    let shared = Shared {
-        desk,
-        bell: Bell::new(),
-        key,
-        session,
-        listeners,
-    };
-    Ok((shared, passes))
+    match open_desk(alloc) {
+        Ok((desk, passes)) => {
+            let shared = Shared {
+                desk,
+                bell: Bell::new(),
+                key,
+                session,
+                listeners,
+            };
+            Ok((shared, passes))
+        }
+        Err(fault) => {
+            drop(listeners);
+            drop(key);
+            drop(session);
+            Err(fault)
+        }
+    }
 }
 
 // Starts all threads, and gives the pass that is left, the worker's.
@@ -231,6 +250,42 @@ fn start<R: Wait + Clock + Threads + Clone + Send + Sync + Drop + 'static>(
     passes.pop().ok_or(ServerFault::System)
 }
 
+// Starts all threads, and works.
+fn run<R: Wait + Clock + Threads + Clone + Send + Sync + Drop + 'static>(
+    rt: &R,
+    alloc: Global,
+    shared: &Arc<Shared>,
+    passes: Vec<Pass>,
+) -> Result<ServerEnd, ServerFault>
+    requires { All (λ p. p.turnstile ≡ (arc_value shared.now).desk) passes.items }
+{
+    let pass = start(rt, alloc, shared, passes)?;
+    work(rt, shared, pass)
+}
+
+// Serves under a session's name.
+fn serve_as<R: Wait + Clock + Threads + Clone + Send + Sync + Drop + 'static>(
+    rt: &R,
+    alloc: Global,
+    listeners: Listeners,
+    key: Text,
+    session: Text,
+) -> Result<ServerEnd, ServerFault> {
+    let (shared, passes) = open(alloc, listeners, key, session)?;
+    match Arc::new(alloc, shared) {
+        Ok(shared) => {
+            let ended = run(rt, alloc, &shared, passes);
+            drop(shared);
+            ended
+        }
+        Err(fault) => {
+            drop(fault);
+            drop(passes);
+            Err(ServerFault::OutOfMemory)
+        }
+    }
+}
+
 /// Serves bound ports until a client asks for a shutdown or the journal is full. By then what was posted has
 /// been written to each client that reads, or half a second has passed. The threads that serve connections
 /// aren't joined: the program is to end.
@@ -243,11 +298,12 @@ pub fn serve<R: Wait + Clock + Threads + RandomSource + Clone + Send + Sync + Dr
     listeners: Listeners,
     file: ConnectionFile,
 ) -> Result<ServerEnd, ServerFault> {
-    let session = new_session(alloc, rt)?;
-    let (shared, passes) = open(alloc, listeners, file.key, session)?;
-    let Ok(shared) = Arc::new(alloc, shared) else {
-        return Err(ServerFault::OutOfMemory);
-    };
-    let pass = start(rt, alloc, &shared, passes)?;
-    work(rt, &shared, pass)
+    match new_session(alloc, rt) {
+        Ok(session) => serve_as(rt, alloc, listeners, file.key, session),
+        Err(fault) => {
+            drop(listeners);
+            drop(file);
+            Err(fault)
+        }
+    }
 }
