@@ -161,7 +161,6 @@ class Debugger(Lab):
         self.debug("attach", {}, other)
         self.debug("pause", {"threadId": 1}, other)
         for client in both:
-            self.assertEqual(self.event(client)[0], "initialized")
             self.assertEqual(self.event(client)[1]["reason"], "pause")
         frames, shown = self.look(other)
         (name, line), caller = self.places(frames)
