@@ -35,7 +35,9 @@ pub fn read_word(digits: &[u8]) -> Option<u16>
     let second = u16::from(digit_value(*second)?);
     let third = u16::from(digit_value(*third)?);
     let fourth = u16::from(digit_value(*fourth)?);
-    Some(((first * 16 + second) * 16 + third) * 16 + fourth)
+    let number = first * 16 + second;
+    let number = number * 16 + third;
+    Some(number * 16 + fourth)
 }
 
 /// Adds a byte as two digits in upper case.

@@ -1,12 +1,16 @@
--- The rows 40 to BF as what the bits of their opcodes name.
+-- The rows 40 to BF as what the bits of their opcodes name; and DCR, which leaves the interrupt state alone.
 use Rattle.std.proofs.Common.{◌≡◌, ℕ, ◌+◌, ◌-◌, ◌/◌, ◌%◌, ◌<◌, ◌≤◌, ◌==◌, true, false, cond, None, refl, ap, subst, ◌∙◌, arith}
 use Rattle.std.proofs.lemmas.Bool.Decides.{nat_tests}
 use Rattle.i80_rows.specs.declared.instruction.Instr.TheVariants.{Nop}
+use Rattle.i80_rows.specs.declared.instruction.Reg.{Reg}
+use Rattle.i80_rows.specs.declared.instruction.Reg.TheVariants as reg
+use Rattle.i80_rows.specs.Arithmetic.{decrement}
 use Rattle.i80_rows.specs.Rows.{row}
 use Rattle.i80_rows.proofs.Tables.{agree, table}
 use Rattle.i80_exec.specs.declared.registers.Stepped.TheVariants.{Halted}
+use Rattle.i80_exec.specs.declared.registers.Interrupts.{Interrupts}
 use Rattle.i80_exec.specs.State.{MachineState, wrapped, with_pc, with_interrupts, get, put}
-use Rattle.i80_exec.specs.Effect.{Outcome, done, operated}
+use Rattle.i80_exec.specs.Effect.{Outcome, done, operated, to_reg}
 use Rattle.i80_exec.specs.Step.{by_row, interrupts_after}
 use Rattle.i80_exec.specs.Opcodes.{reg_at, operation_at}
 
@@ -75,3 +79,16 @@ pub compute_row : (opcode : ℕ) (input : ℕ → ℕ) (m : MachineState) → 12
     → by_row (row opcode) input m ≡ computed opcode m
 compute_row opcode input m low high =
     from_first (λ n. by_row (row n) input m) (λ n. computed n m) 128 opcode (computes input m) low high
+
+-- whether the interrupt state is set before DCR or after it is the same
+pub decremented : (m : MachineState) (i : Interrupts) (r : Reg)
+    → to_reg (with_interrupts m i) r (decrement (get (with_interrupts m i) r) m.regs.flags.cy)
+    ≡ with_interrupts (to_reg m r (decrement (get m r) m.regs.flags.cy)) i
+decremented m i reg.B = refl
+decremented m i reg.C = refl
+decremented m i reg.D = refl
+decremented m i reg.E = refl
+decremented m i reg.H = refl
+decremented m i reg.L = refl
+decremented m i reg.M = refl
+decremented m i reg.A = refl

@@ -1,8 +1,8 @@
 -- The bit operations of the code are the sums and digits of the definitions.
 use Rattle.std.proofs.Common.{◌≡◌, ℕ, ◌+◌, ◌-◌, ◌*◌, ◌/◌, ◌%◌, ◌<◌, ◌≤◌, Bool, true, false, not, ◌||◌, ◌==◌}
-use Rattle.std.proofs.Common.{nat_eq, nat_lt, refl, ap, ◌∙◌, bit_and, bit_or, bit_xor, arith, max}
-use Rattle.std.proofs.lemmas.Nat.{and_mask}
-use Rattle.std.proofs.lemmas.Nat.Bits.{and_pow, bit_at_xor, bit_at_or, bit_at-lt}
+use Rattle.std.proofs.Common.{nat_eq, nat_lt, refl, ap, ◌∙◌, bit_and, bit_or, bit_xor, arith, min, max}
+use Rattle.std.proofs.lemmas.Nat.{and_mask, and_le_l, or_lt, xor_lt}
+use Rattle.std.proofs.lemmas.Nat.Bits.{and_pow, bit_at_and, bit_at_xor, bit_at_or, bit_at-lt}
 use Rattle.std.specs.Int.{bit_at, from_bool}
 use Rattle.std.proofs.lemmas.Bool.Decides.{nat_tests}
 use Rattle.i80_rows.specs.declared.instruction.Rotation.TheVariants.{Rlc, Rrc, Ral, Rar}
@@ -15,11 +15,29 @@ use Rattle.i80_rows.proofs.Tables.{agree, table}
 pub carry_by_mask : (x : ℕ) → x < 512 → not (nat_eq (bit_and x 256) 0) ≡ nat_lt 255 x
 carry_by_mask = agree (λ x. not (nat_eq (bit_and x 256) 0)) (λ x. nat_lt 255 x) 512 refl
 
+-- a byte is the sum of its binary digits
+of_digits : (v : ℕ) → v < 256 → v ≡ 128 * bit_at v 7 + 64 * bit_at v 6 + 32 * bit_at v 5 + 16 * bit_at v 4
+    + 8 * bit_at v 3 + 4 * bit_at v 2 + 2 * bit_at v 1 + bit_at v 0
+of_digits = agree (λ v. v) (λ v. 128 * bit_at v 7 + 64 * bit_at v 6 + 32 * bit_at v 5 + 16 * bit_at v 4
+    + 8 * bit_at v 3 + 4 * bit_at v 2 + 2 * bit_at v 1 + bit_at v 0) 256 refl
+
+-- so it is known by what each of them is
+digit_by_digit : (f : ℕ → ℕ → ℕ) (v x y : ℕ) → v < 256 → ((k : ℕ) → bit_at v k ≡ f (bit_at x k) (bit_at y k))
+    → v ≡ by_digits f x y
+digit_by_digit f v x y h each =
+    of_digits v h ∙ (rw (each 7, each 6, each 5, each 4, each 3, each 2, each 1, each 0) refl)
+
+-- what two functions give of digits is the same if it is of 0 and 1
+of_two : {A : Type 0} (f g : ℕ → ℕ → A) → table (λ a. table (f a) 2) 2 ≡ table (λ a. table (g a) 2) 2
+    → (a b : ℕ) → a < 2 → b < 2 → f a b ≡ g a b
+of_two f g same a b ha hb =
+    agree (f a) (g a) 2 (agree (λ a. table (f a) 2) (λ a. table (g a) 2) 2 same a ha) b hb
+
 pub and_by_digits : (x y : ℕ) → x < 256 → y < 256 → bit_and x y ≡ by_digits (λ a b. a * b) x y
-and_by_digits x y hx hy = agree (bit_and x) (by_digits (λ a b. a * b) x) 256 (rows x hx) y hy
-  where
-    rows : (x : ℕ) → x < 256 → table (bit_and x) 256 ≡ table (by_digits (λ a b. a * b) x) 256
-    rows = agree (λ x. table (bit_and x) 256) (λ x. table (by_digits (λ a b. a * b) x) 256) 256 refl
+and_by_digits x y hx hy =
+    let below : bit_and x y < 256 = omega (arith, and_le_l x y) in
+    digit_by_digit (λ a b. a * b) (bit_and x y) x y below (λ k. bit_at_and x y k
+    ∙ of_two min (λ a b. a * b) refl (bit_at x k) (bit_at y k) (bit_at-lt x k) (bit_at-lt y k))
 
 above : (n m : ℕ) → (n ≡ 0 → m ≤ 15) → ((n ≡ 0 → ⊥) → 15 < m) → not (nat_eq n 0) ≡ nat_lt 15 m
 above n m low high = grind (arith, nat_tests)
@@ -64,21 +82,15 @@ decrement_by_bits x cy h =
     (λ x. decrement x cy) 256 refl x h
 
 pub xor_by_digits : (x y : ℕ) → x < 256 → y < 256 → bit_xor x y ≡ by_digits (λ a b. (a + b) % 2) x y
-xor_by_digits x y hx hy = agree (bit_xor x) (by_digits (λ a b. (a + b) % 2) x) 256 (rows x hx) y hy
-  where
-    rows : (x : ℕ) → x < 256 → table (bit_xor x) 256 ≡ table (by_digits (λ a b. (a + b) % 2) x) 256
-    rows = agree (λ x. table (bit_xor x) 256) (λ x. table (by_digits (λ a b. (a + b) % 2) x) 256) 256 refl
+xor_by_digits x y hx hy =
+    digit_by_digit (λ a b. (a + b) % 2) (bit_xor x y) x y (xor_lt 8 x y hx hy) (bit_at_xor x y)
 
 pub auxiliary_by_or : (x y : ℕ) → not (nat_eq (bit_and (bit_or x y) 8) 0) ≡ (is_set x 3 || is_set y 3)
 auxiliary_by_or x y =
     let masked : bit_and (bit_or x y) 8 ≡ bit_at (bit_or x y) 3 * 8 = and_pow (bit_or x y) 3 in
     ap (λ n. not (nat_eq n 0)) (masked ∙ ap (λ d. d * 8) (bit_at_or x y 3))
-    ∙ digits (bit_at x 3) (bit_at y 3) (bit_at-lt x 3) (bit_at-lt y 3)
-  where
-    digits : (a b : ℕ) → a < 2 → b < 2 → not (nat_eq (max a b * 8) 0) ≡ ((a == 1) || (b == 1))
-    digits a b ha hb = agree (λ b. not (nat_eq (max a b * 8) 0)) (λ b. (a == 1) || (b == 1)) 2
-        (agree (λ a. table (λ b. not (nat_eq (max a b * 8) 0)) 2) (λ a. table (λ b. (a == 1) || (b == 1)) 2)
-        2 refl a ha) b hb
+    ∙ of_two (λ a b. not (nat_eq (max a b * 8) 0)) (λ a b. (a == 1) || (b == 1)) refl
+    (bit_at x 3) (bit_at y 3) (bit_at-lt x 3) (bit_at-lt y 3)
 
 abbrev pub daa_value : ℕ → Bool → Bool → ℕ
 daa_value a ac cy = (a
@@ -102,10 +114,9 @@ adjusted_by_bits a f h =
     agree (λ a. daa_code a f.ac f.cy) (λ a. daa_spec a f.ac f.cy) 256 (daa_each f.ac f.cy) a h
 
 pub or_by_digits : (x y : ℕ) → x < 256 → y < 256 → bit_or x y ≡ by_digits (λ a b. a + b - a * b) x y
-or_by_digits x y hx hy = agree (bit_or x) (by_digits (λ a b. a + b - a * b) x) 256 (rows x hx) y hy
-  where
-    rows : (x : ℕ) → x < 256 → table (bit_or x) 256 ≡ table (by_digits (λ a b. a + b - a * b) x) 256
-    rows = agree (λ x. table (bit_or x) 256) (λ x. table (by_digits (λ a b. a + b - a * b) x) 256) 256 refl
+or_by_digits x y hx hy =
+    digit_by_digit (λ a b. a + b - a * b) (bit_or x y) x y (or_lt 8 x y hx hy) (λ k. bit_at_or x y k
+    ∙ of_two max (λ a b. a + b - a * b) refl (bit_at x k) (bit_at y k) (bit_at-lt x k) (bit_at-lt y k))
 
 pub rlc_by_bits : (a : ℕ) (f : FlagValues) → a < 256
     → turned (bit_or (a * 2 % 256) (a / 128)) (not (nat_eq (bit_and a 128) 0)) f ≡ rotated Rlc a f

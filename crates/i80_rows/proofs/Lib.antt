@@ -5,3 +5,4 @@ pub mod Encoded
 pub mod OnlyEncoding
 pub mod DecodeLemmas
 pub mod TableLemmas
+pub mod RowLemmas

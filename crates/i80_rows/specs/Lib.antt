@@ -2,4 +2,5 @@ pub mod FlagValues
 pub mod Arithmetic
 pub mod Codes
 pub mod Rows
+pub mod TableRows
 pub mod Encoding

@@ -1,7 +1,23 @@
 //! The 256 opcodes: one arm each, with its registers written into it.
 ghost use Rattle.std.specs.Prelude.{◌≡◌, ◌≢◌, ◌+◌, ◌*◌, ◌<◌, ◌≤◌, ◌⊎◌, None};
-ghost use Rattle.i80_rows.specs.Rows.{row};
-ghost use Rattle.i80_rows.specs.declared.instruction.Instr.TheVariants.{Nop};
+ghost use Rattle.i80_rows.specs.Rows.{Alone, Byte, Word, row};
+ghost use Rattle.i80_rows.specs.declared.instruction.Instr.TheVariants.{
+  Nop,
+  Lxi,
+  Inx,
+  Dcx,
+  Dad,
+  Inr,
+  Dcr,
+  Mvi,
+  Rotate,
+  AluImmediate,
+  JumpIf,
+  CallIf,
+  RetIf,
+  Push,
+  Pop,
+};
 ghost use Rattle.i80_exec.specs.State.{
   wrapped,
   byte_at,
@@ -13,7 +29,7 @@ ghost use Rattle.i80_exec.specs.State.{
   with_pc,
   with_interrupts,
 };
-ghost use Rattle.i80_exec.specs.Effect.{operated};
+ghost use Rattle.i80_exec.specs.Effect.{operated, to_reg};
 ghost use Rattle.i80_exec.specs.Opcodes.{reg_at, operation_at};
 ghost use Rattle.i80_exec.specs.Step.{
   by_row,
@@ -26,79 +42,23 @@ ghost use Rattle.i80_exec.specs.Step.{
 use crate::machine::Machine;
 use crate::ports::Ports;
 use crate::registers::{Interrupts, Stepped};
-use i80_rows::arithmetic::{daa, dcr, inr, rotate};
-use i80_rows::instruction::{Cond, Operation, Pair, Rotation, StackPair};
+use i80_rows::arithmetic::{AluResult, daa, dcr, inr, rotate};
+use i80_rows::instruction::{Cond, Operation, Pair, Reg, Rotation, StackPair};
 
 macro_rules! arm {
     (nop $m:ident $opcode:ident) => {{ $m.advance(1); Stepped::Done }};
     (undefined $m:ident $opcode:ident) => {{ Stepped::Undefined { opcode: $opcode } }};
     (immediate $m:ident $opcode:ident, $operation:ident) => {{
-        let byte = $m.operand();
-        $m.advance(2);
-        $m.operate(Operation::$operation, byte);
+        $m.immediate(Operation::$operation);
         Stepped::Done
     }};
-    (mvi $m:ident $opcode:ident, $to:ident) => {{
-        let byte = $m.operand();
-        $m.advance(2);
-        $m.regs.$to = byte;
-        Stepped::Done
-    }};
-    (mvi_memory $m:ident $opcode:ident) => {{
-        let byte = $m.operand();
-        $m.advance(2);
-        $m.store_at_hl(byte);
-        Stepped::Done
-    }};
-    (inr $m:ident $opcode:ident, $to:ident) => {{
-        $m.advance(1);
-        let next = inr($m.regs.$to, $m.regs.flags.carry());
-        $m.regs.$to = next.value;
-        $m.regs.flags = next.flags;
-        Stepped::Done
-    }};
-    (dcr $m:ident $opcode:ident, $to:ident) => {{
-        $m.advance(1);
-        let next = dcr($m.regs.$to, $m.regs.flags.carry());
-        $m.regs.$to = next.value;
-        $m.regs.flags = next.flags;
-        Stepped::Done
-    }};
-    (inr_memory $m:ident $opcode:ident) => {{
-        $m.advance(1);
-        let next = inr($m.byte_at_hl(), $m.regs.flags.carry());
-        $m.store_at_hl(next.value);
-        $m.regs.flags = next.flags;
-        Stepped::Done
-    }};
-    (dcr_memory $m:ident $opcode:ident) => {{
-        $m.advance(1);
-        let next = dcr($m.byte_at_hl(), $m.regs.flags.carry());
-        $m.store_at_hl(next.value);
-        $m.regs.flags = next.flags;
-        Stepped::Done
-    }};
-    (lxi $m:ident $opcode:ident, $pair:ident) => {{
-        let word = $m.operand_word();
-        $m.advance(3);
-        $m.put_pair(Pair::$pair, word);
-        Stepped::Done
-    }};
-    (inx $m:ident $opcode:ident, $pair:ident) => {{
-        $m.advance(1);
-        $m.put_pair(Pair::$pair, $m.get_pair(Pair::$pair).wrapping_add(1));
-        Stepped::Done
-    }};
-    (dcx $m:ident $opcode:ident, $pair:ident) => {{
-        $m.advance(1);
-        $m.put_pair(Pair::$pair, $m.get_pair(Pair::$pair).wrapping_sub(1));
-        Stepped::Done
-    }};
-    (dad $m:ident $opcode:ident, $pair:ident) => {{
-        $m.advance(1);
-        $m.add_to_hl($m.get_pair(Pair::$pair));
-        Stepped::Done
-    }};
+    (mvi $m:ident $opcode:ident, $reg:ident) => {{ $m.mvi(Reg::$reg); Stepped::Done }};
+    (inr $m:ident $opcode:ident, $reg:ident) => {{ $m.inr(Reg::$reg); Stepped::Done }};
+    (dcr $m:ident $opcode:ident, $reg:ident) => {{ $m.dcr(Reg::$reg); Stepped::Done }};
+    (lxi $m:ident $opcode:ident, $pair:ident) => {{ $m.lxi(Pair::$pair); Stepped::Done }};
+    (inx $m:ident $opcode:ident, $pair:ident) => {{ $m.inx(Pair::$pair); Stepped::Done }};
+    (dcx $m:ident $opcode:ident, $pair:ident) => {{ $m.dcx(Pair::$pair); Stepped::Done }};
+    (dad $m:ident $opcode:ident, $pair:ident) => {{ $m.dad(Pair::$pair); Stepped::Done }};
     (stax $m:ident $opcode:ident, $pair:ident) => {{
         $m.advance(1);
         $m.poke($m.get_pair(Pair::$pair), $m.regs.a);
@@ -134,8 +94,7 @@ macro_rules! arm {
         Stepped::Done
     }};
     (rotate $m:ident $opcode:ident, $rotation:ident) => {{
-        $m.advance(1);
-        $m.set_a(rotate(Rotation::$rotation, $m.regs.a, $m.regs.flags));
+        $m.rotate(Rotation::$rotation);
         Stepped::Done
     }};
     (daa $m:ident $opcode:ident) => {{
@@ -160,39 +119,18 @@ macro_rules! arm {
         $m.jump(target);
         Stepped::Done
     }};
-    (jump_if $m:ident $opcode:ident, $cond:ident) => {{
-        let target = $m.operand_word();
-        $m.advance(3);
-        if $m.holds(Cond::$cond) { $m.jump(target); }
-        Stepped::Done
-    }};
+    (jump_if $m:ident $opcode:ident, $cond:ident) => {{ $m.jump_if(Cond::$cond) }};
     (call $m:ident $opcode:ident) => {{
         let target = $m.operand_word();
         $m.advance(3);
         $m.call(target)
     }};
-    (call_if $m:ident $opcode:ident, $cond:ident) => {{
-        let target = $m.operand_word();
-        $m.advance(3);
-        if $m.holds(Cond::$cond) { $m.call(target) } else { Stepped::Done }
-    }};
+    (call_if $m:ident $opcode:ident, $cond:ident) => {{ $m.call_if(Cond::$cond) }};
     (ret $m:ident $opcode:ident) => {{ $m.advance(1); $m.ret() }};
-    (ret_if $m:ident $opcode:ident, $cond:ident) => {{
-        $m.advance(1);
-        if $m.holds(Cond::$cond) { $m.ret() } else { Stepped::Done }
-    }};
+    (ret_if $m:ident $opcode:ident, $cond:ident) => {{ $m.ret_if(Cond::$cond) }};
     (rst $m:ident $opcode:ident, $target:literal) => {{ $m.advance(1); $m.call($target) }};
-    (push $m:ident $opcode:ident, $pair:ident) => {{
-        $m.advance(1);
-        $m.push_word($m.get_stack_pair(StackPair::$pair));
-        Stepped::Done
-    }};
-    (pop $m:ident $opcode:ident, $pair:ident) => {{
-        $m.advance(1);
-        let word = $m.pop_word();
-        $m.put_stack_pair(StackPair::$pair, word);
-        Stepped::Done
-    }};
+    (push $m:ident $opcode:ident, $pair:ident) => {{ $m.push(StackPair::$pair); Stepped::Done }};
+    (pop $m:ident $opcode:ident, $pair:ident) => {{ $m.pop(StackPair::$pair); Stepped::Done }};
     (xthl $m:ident $opcode:ident) => {{
         $m.advance(1);
         $m.exchange_with_stack();
@@ -372,6 +310,192 @@ impl Machine {
         self.poke(address, byte);
     }
 
+    // What an instruction does whose register, pair, condition or operation its opcode has.
+
+    /// A register, or the byte in memory at HL.
+    #[inline]
+    fn get(&self, reg: Reg) -> u8
+        ensures { result ≡ get self.now reg }
+    {
+        match reg {
+            Reg::B => self.regs.b,
+            Reg::C => self.regs.c,
+            Reg::D => self.regs.d,
+            Reg::E => self.regs.e,
+            Reg::H => self.regs.h,
+            Reg::L => self.regs.l,
+            Reg::M => self.byte_at_hl(),
+            Reg::A => self.regs.a,
+        }
+    }
+
+    /// Sets a register, or the byte in memory at HL.
+    #[inline]
+    fn put(&mut self, reg: Reg, byte: u8)
+        ensures { self.new ≡ put self.old reg byte }
+    {
+        match reg {
+            Reg::B => self.regs.b = byte,
+            Reg::C => self.regs.c = byte,
+            Reg::D => self.regs.d = byte,
+            Reg::E => self.regs.e = byte,
+            Reg::H => self.regs.h = byte,
+            Reg::L => self.regs.l = byte,
+            Reg::M => self.store_at_hl(byte),
+            Reg::A => self.regs.a = byte,
+        }
+    }
+
+    #[inline]
+    fn carry(&self) -> bool
+        ensures { result ≡ self.now.regs.flags.cy }
+    {
+        self.regs.flags.carry()
+    }
+
+    #[inline]
+    fn put_result(&mut self, reg: Reg, computed: AluResult)
+        ensures { self.new ≡ to_reg self.old reg computed }
+    {
+        self.put(reg, computed.value);
+        self.regs.flags = computed.flags;
+    }
+
+    #[inline(always)]
+    fn mvi(&mut self, reg: Reg)
+        ensures { self.new ≡ (by_row (Byte (Mvi reg)) (λ _. 0) self.old).after }
+    {
+        let byte = self.operand();
+        self.advance(2);
+        self.put(reg, byte);
+    }
+
+    #[inline(always)]
+    fn inr(&mut self, reg: Reg)
+        ensures { self.new ≡ (by_row (Alone (Inr reg)) (λ _. 0) self.old).after }
+    {
+        self.advance(1);
+        self.put_result(reg, inr(self.get(reg), self.carry()));
+    }
+
+    #[inline(always)]
+    fn dcr(&mut self, reg: Reg)
+        ensures { self.new ≡ (by_row (Alone (Dcr reg)) (λ _. 0) self.old).after }
+    {
+        self.advance(1);
+        self.put_result(reg, dcr(self.get(reg), self.carry()));
+    }
+
+    #[inline(always)]
+    fn lxi(&mut self, pair: Pair)
+        ensures { self.new ≡ (by_row (Word (Lxi pair)) (λ _. 0) self.old).after }
+    {
+        let word = self.operand_word();
+        self.advance(3);
+        self.put_pair(pair, word);
+    }
+
+    #[inline(always)]
+    fn inx(&mut self, pair: Pair)
+        ensures { self.new ≡ (by_row (Alone (Inx pair)) (λ _. 0) self.old).after }
+    {
+        self.advance(1);
+        self.put_pair(pair, self.get_pair(pair).wrapping_add(1));
+    }
+
+    #[inline(always)]
+    fn dcx(&mut self, pair: Pair)
+        ensures { self.new ≡ (by_row (Alone (Dcx pair)) (λ _. 0) self.old).after }
+    {
+        self.advance(1);
+        self.put_pair(pair, self.get_pair(pair).wrapping_sub(1));
+    }
+
+    #[inline(always)]
+    fn dad(&mut self, pair: Pair)
+        ensures { self.new ≡ (by_row (Alone (Dad pair)) (λ _. 0) self.old).after }
+    {
+        self.advance(1);
+        self.add_to_hl(self.get_pair(pair));
+    }
+
+    #[inline(always)]
+    fn rotate(&mut self, rotation: Rotation)
+        ensures { self.new ≡ (by_row (Alone (Rotate rotation)) (λ _. 0) self.old).after }
+    {
+        self.advance(1);
+        self.set_a(rotate(rotation, self.regs.a, self.regs.flags));
+    }
+
+    #[inline(always)]
+    fn immediate(&mut self, operation: Operation)
+        ensures { self.new ≡ (by_row (Byte (AluImmediate operation)) (λ _. 0) self.old).after }
+    {
+        let byte = self.operand();
+        self.advance(2);
+        self.operate(operation, byte);
+    }
+
+    #[inline(always)]
+    fn push(&mut self, pair: StackPair)
+        ensures { self.new ≡ (by_row (Alone (Push pair)) (λ _. 0) self.old).after }
+    {
+        self.advance(1);
+        self.push_word(self.get_stack_pair(pair));
+    }
+
+    #[inline(always)]
+    fn pop(&mut self, pair: StackPair)
+        ensures { self.new ≡ (by_row (Alone (Pop pair)) (λ _. 0) self.old).after }
+    {
+        self.advance(1);
+        let word = self.pop_word();
+        self.put_stack_pair(pair, word);
+    }
+
+    #[inline(always)]
+    fn jump_if(&mut self, cond: Cond) -> Stepped
+        ensures after { self.new ≡ (by_row (Word (JumpIf cond)) (λ _. 0) self.old).after }
+        ensures operation { (by_row (Word (JumpIf cond)) (λ _. 0) self.old).operation ≡ None }
+        ensures answer { result ≡ (by_row (Word (JumpIf cond)) (λ _. 0) self.old).answer }
+    {
+        let target = self.operand_word();
+        self.advance(3);
+        if self.holds(cond) {
+            self.jump(target);
+        }
+        Stepped::Done
+    }
+
+    #[inline(always)]
+    fn call_if(&mut self, cond: Cond) -> Stepped
+        ensures after { self.new ≡ (by_row (Word (CallIf cond)) (λ _. 0) self.old).after }
+        ensures operation { (by_row (Word (CallIf cond)) (λ _. 0) self.old).operation ≡ None }
+        ensures answer { result ≡ (by_row (Word (CallIf cond)) (λ _. 0) self.old).answer }
+    {
+        let target = self.operand_word();
+        self.advance(3);
+        if self.holds(cond) {
+            self.call(target)
+        } else {
+            Stepped::Done
+        }
+    }
+
+    #[inline(always)]
+    fn ret_if(&mut self, cond: Cond) -> Stepped
+        ensures after { self.new ≡ (by_row (Alone (RetIf cond)) (λ _. 0) self.old).after }
+        ensures operation { (by_row (Alone (RetIf cond)) (λ _. 0) self.old).operation ≡ None }
+        ensures answer { result ≡ (by_row (Alone (RetIf cond)) (λ _. 0) self.old).answer }
+    {
+        self.advance(1);
+        if self.holds(cond) {
+            self.ret()
+        } else {
+            Stepped::Done
+        }
+    }
+
     #[inline]
     #[tactic(auto, unfolding(i80_rows::specs::Rows::row))]
     fn step_00(&mut self, opcode: u8) -> Stepped
@@ -387,33 +511,33 @@ impl Machine {
             0x01 => lxi(B);
             0x02 => stax(B);
             0x03 => inx(B);
-            0x04 => inr(b);
-            0x05 => dcr(b);
-            0x06 => mvi(b);
+            0x04 => inr(B);
+            0x05 => dcr(B);
+            0x06 => mvi(B);
             0x07 => rotate(Rlc);
             0x08 => undefined();
             0x09 => dad(B);
             0x0a => ldax(B);
             0x0b => dcx(B);
-            0x0c => inr(c);
-            0x0d => dcr(c);
-            0x0e => mvi(c);
+            0x0c => inr(C);
+            0x0d => dcr(C);
+            0x0e => mvi(C);
             0x0f => rotate(Rrc);
             0x10 => undefined();
             0x11 => lxi(D);
             0x12 => stax(D);
             0x13 => inx(D);
-            0x14 => inr(d);
-            0x15 => dcr(d);
-            0x16 => mvi(d);
+            0x14 => inr(D);
+            0x15 => dcr(D);
+            0x16 => mvi(D);
             0x17 => rotate(Ral);
             0x18 => undefined();
             0x19 => dad(D);
             0x1a => ldax(D);
             0x1b => dcx(D);
-            0x1c => inr(e);
-            0x1d => dcr(e);
-            0x1e => mvi(e);
+            0x1c => inr(E);
+            0x1d => dcr(E);
+            0x1e => mvi(E);
             0x1f => rotate(Rar);
         }
     }
@@ -434,72 +558,34 @@ impl Machine {
             0x21 => lxi(H);
             0x22 => shld();
             0x23 => inx(H);
-            0x24 => inr(h);
-            0x25 => dcr(h);
-            0x26 => mvi(h);
+            0x24 => inr(H);
+            0x25 => dcr(H);
+            0x26 => mvi(H);
             0x27 => daa();
             0x28 => undefined();
             0x29 => dad(H);
             0x2a => lhld();
             0x2b => dcx(H);
-            0x2c => inr(l);
-            0x2d => dcr(l);
-            0x2e => mvi(l);
+            0x2c => inr(L);
+            0x2d => dcr(L);
+            0x2e => mvi(L);
             0x2f => cma();
             0x30 => undefined();
             0x31 => lxi(Sp);
             0x32 => sta();
             0x33 => inx(Sp);
-            0x34 => inr_memory();
-            0x35 => dcr_memory();
-            0x36 => mvi_memory();
+            0x34 => inr(M);
+            0x35 => dcr(M);
+            0x36 => mvi(M);
             0x37 => stc();
             0x38 => undefined();
             0x39 => dad(Sp);
             0x3a => lda();
             0x3b => dcx(Sp);
-            0x3c => inr(a);
-            0x3d => dcr(a);
-            0x3e => mvi(a);
+            0x3c => inr(A);
+            0x3d => dcr(A);
+            0x3e => mvi(A);
             0x3f => cmc();
-        }
-    }
-
-    /// The register of a code of three bits, or the byte in memory at HL.
-    #[inline]
-    fn byte_of(&self, code: u8) -> u8
-        requires { code < 8 }
-        ensures { result ≡ get self.now (reg_at code) }
-    {
-        match code {
-            0 => self.regs.b,
-            1 => self.regs.c,
-            2 => self.regs.d,
-            3 => self.regs.e,
-            4 => self.regs.h,
-            5 => self.regs.l,
-            6 => self.byte_at_hl(),
-            7 => self.regs.a,
-            _ => unreachable!(),
-        }
-    }
-
-    /// Sets the register of a code of three bits, or the byte in memory at HL.
-    #[inline]
-    fn set_byte_of(&mut self, code: u8, byte: u8)
-        requires { code < 8 }
-        ensures { self.new ≡ put self.old (reg_at code) byte }
-    {
-        match code {
-            0 => self.regs.b = byte,
-            1 => self.regs.c = byte,
-            2 => self.regs.d = byte,
-            3 => self.regs.e = byte,
-            4 => self.regs.h = byte,
-            5 => self.regs.l = byte,
-            6 => self.store_at_hl(byte),
-            7 => self.regs.a = byte,
-            _ => unreachable!(),
         }
     }
 
@@ -545,8 +631,10 @@ impl Machine {
         if opcode == 0x76 {
             return Stepped::Halted;
         }
-        let byte = self.byte_of(opcode % 8);
-        self.set_byte_of(opcode / 8 % 8, byte);
+        let from = reg_at(opcode % 8);
+        let to = reg_at(opcode / 8 % 8);
+        let byte = self.get(from);
+        self.put(to, byte);
         Stepped::Done
     }
 
@@ -565,7 +653,8 @@ impl Machine {
             self.sbb_a();
             return Stepped::Done;
         }
-        let byte = self.byte_of(opcode % 8);
+        let from = reg_at(opcode % 8);
+        let byte = self.get(from);
         self.operate_by(opcode / 8 % 8, byte);
         Stepped::Done
     }
@@ -662,5 +751,24 @@ impl Machine {
             0xfe => immediate(Cmp);
             0xff => rst(0x38);
         }
+    }
+}
+
+/// The register of a code of three bits, or the byte in memory at HL.
+#[inline]
+fn reg_at(code: u8) -> Reg
+    requires { code < 8 }
+    ensures { result ≡ reg_at code }
+{
+    match code {
+        0 => Reg::B,
+        1 => Reg::C,
+        2 => Reg::D,
+        3 => Reg::E,
+        4 => Reg::H,
+        5 => Reg::L,
+        6 => Reg::M,
+        7 => Reg::A,
+        _ => unreachable!(),
     }
 }

@@ -17,7 +17,14 @@ returns c =
     let row = move_row c.args.opcode (λ _. 0) c.args.self.now c.requires.low c.requires.high
     c.if-opcode-eq118.false in
     record {
-      after = rw (row, c.set_byte_of.ensures, c.byte_of-byte.ensures, c.advance.ensures) refl;
+      after = rw (
+        row,
+        c.put.ensures,
+        c.get-byte.ensures,
+        c.reg_at-from.ensures,
+        c.reg_at-to.ensures,
+        c.advance.ensures,
+      ) refl;
       operation = rw row refl;
       answer = rw row refl;
     }

@@ -15,7 +15,13 @@ pub returns : goal.returns
 returns c =
     let row = compute_row c.args.opcode (λ _. 0) c.args.self.now c.requires.low c.requires.high in
     record {
-      after = rw (row, c.operate_by.ensures, c.byte_of-byte.ensures, c.advance.ensures) refl;
+      after = rw (
+        row,
+        c.operate_by.ensures,
+        c.get-byte.ensures,
+        c.reg_at-from.ensures,
+        c.advance.ensures,
+      ) refl;
       operation = rw row refl;
       answer = rw row refl;
     }
