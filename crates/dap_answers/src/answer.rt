@@ -70,7 +70,7 @@ impl Drop for Response {
 }
 
 /// Why the thread stopped.
-#[derive(Clone, Copy, PartialEq, Eq)]
+#[derive(Clone, Copy)]
 pub enum StopReason {
     Breakpoint,
     Step,
@@ -93,7 +93,7 @@ impl StopReason {
 }
 
 /// What a frontend is told unasked (Debug Adapter Protocol, "Events").
-#[derive(Clone, Copy, PartialEq, Eq)]
+#[derive(Clone, Copy)]
 pub enum Event {
     Initialized,
     Stopped(StopReason),

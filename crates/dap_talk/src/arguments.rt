@@ -33,7 +33,7 @@ use serde_json::Value;
 use std::alloc::{AllocError, Global};
 
 /// Why a command isn't read.
-#[derive(Clone, Copy, PartialEq, Eq)]
+#[derive(Clone, Copy)]
 pub enum ArgumentFault {
     OutOfMemory,
     Arguments,

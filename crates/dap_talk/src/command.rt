@@ -34,14 +34,14 @@ pub enum CommandName {
 }
 
 /// What one step is: a line of a cell, or an instruction.
-#[derive(Clone, Copy, PartialEq, Eq)]
+#[derive(Clone, Copy)]
 pub enum Granularity {
     Line,
     Instruction,
 }
 
 /// How far a step goes.
-#[derive(Clone, Copy, PartialEq, Eq)]
+#[derive(Clone, Copy)]
 pub enum StepKind {
     Over,
     In,

@@ -5,25 +5,34 @@ ghost use Rattle.dap_talk.specs.Fault.{message_of, refused};
 use base_text::text::Text;
 use dap_answers::answer::{Outcome, Response};
 use std::alloc::{AllocError, Global};
+use std::fmt;
 use thiserror::Error;
 
 /// Why a value is no request that can be carried out, in the order in which it is found out. What
 /// the response to a refusal repeats of the request is borrowed from it, so that refusing takes no
 /// memory.
-#[derive(Debug, Drop, Error)]
+#[derive(Drop, Error)]
 pub enum DapFault<'a> {
     /// The value is a request, and what it carries is out of memory.
-    #[error("OutOfMemory")]
     OutOfMemory,
     /// No object with the type `request`, a number and a command.
-    #[error("NotRequest")]
     NotRequest,
     /// A command that isn't in the table.
-    #[error("Command")]
     Command { seq: u32, command: &'a str },
     /// An argument is missing, of another kind, or out of its bounds.
-    #[error("Arguments")]
     Arguments { seq: u32, command: &'a str },
+}
+
+impl fmt::Display for DapFault<'_> {
+    fn fmt<W: fmt::Write>(&self, f: &mut fmt::Formatter<W>) -> fmt::Result {
+        f.write_str(self.message())
+    }
+}
+
+impl fmt::Debug for DapFault<'_> {
+    fn fmt<W: fmt::Write>(&self, f: &mut fmt::Formatter<W>) -> fmt::Result {
+        fmt::Display::fmt(self, f)
+    }
 }
 
 impl DapFault<'_> {

@@ -1,8 +1,9 @@
 //! Requests as frontends write them: what each is read as, and why others are refused. The hashes are
 //! another program's.
+use base_text::text::Text;
 use dap_answers::cell::cell_path;
 use dap_answers::sending::response;
-use dap_talk::command::{CommandName, DapRequest};
+use dap_talk::command::{CommandName, DapCommand, DapRequest, Granularity};
 use dap_talk::fault::DapFault;
 use dap_talk::reading::read_request;
 use serde_json::Value;
@@ -10,213 +11,248 @@ use std::alloc::{AllocError, Global};
 use std::process::Abort;
 use std::test::Fail;
 
-// The message of a fault, or an empty text where there is a request. Out of memory fails the test.
-fn told(read: &Result<DapRequest, DapFault<'_>>) -> Result<&'static str, Fail> {
-    match read {
-        Ok(_) => Ok(""),
-        Err(DapFault::OutOfMemory) => Err(Fail::new("out of memory")),
-        Err(fault) => Ok(fault.message()),
-    }
-}
-
-fn message_of_value(alloc: Global, value: &Value) -> Result<&'static str, Fail> {
-    let read = read_request(alloc, value);
-    let told = told(&read);
-    drop(read);
-    told
-}
-
-fn message_of(alloc: Global, text: &str) -> Result<&'static str, Fail> {
-    let value = Value::from_str(alloc, text)?;
-    let message = message_of_value(alloc, &value);
-    drop(value);
-    message
-}
-
-fn expect_message(rt: &(impl Abort + AllocGlobal), value: &str, message: &str) -> Result<(), Fail> {
-    let found = message_of(rt.alloc(), value)?;
-    assert!(rt; found == message, "{value}: {found}");
-    Ok(())
-}
-
-fn request(alloc: Global, command: &str, arguments: &str) -> Result<String, AllocError> {
+// A request with the number 7 whose arguments are what stands before a value, the value, and what stands
+// after it.
+fn request(
+    alloc: Global,
+    command: &str,
+    before: &str,
+    value: &str,
+    after: &str,
+) -> Result<String, AllocError> {
     format!(in alloc;
-        "{{\"seq\":7,\"type\":\"request\",\"command\":\"{command}\",\"arguments\":{arguments}}}"
+        "{{\"seq\":7,\"type\":\"request\",\"command\":\"{command}\",\
+\"arguments\":{before}{value}{after}}}"
     )
 }
 
-// The typed command, as its Debug shows it, of a request with this command and the number 7.
-fn shown_command(alloc: Global, request: &DapRequest, command: &str) -> Result<String, AllocError> {
-    let name = request.command.name();
-    if request.seq != 7 || name.as_str() != command || CommandName::named(command) != Some(name) {
-        return String::from_str(alloc, "another number or command");
+fn put_numbers(told: &mut String, numbers: &[u32]) -> Result<(), AllocError> {
+    for number in numbers {
+        write!(told, " {number}")?;
     }
-    format!(in alloc; "{:?}", request.command)
-}
-
-fn shown_value(alloc: Global, command: &str, value: &Value) -> Result<String, AllocError> {
-    let read = read_request(alloc, value);
-    let shown = match &read {
-        Ok(request) => shown_command(alloc, request, command),
-        Err(fault) => String::from_str(alloc, fault.message()),
-    };
-    drop(read);
-    shown
-}
-
-// The typed command of a request, or why it is refused.
-fn shown(alloc: Global, command: &str, text: &str) -> Result<String, Fail> {
-    let value = Value::from_str(alloc, text)?;
-    let shown = shown_value(alloc, command, &value);
-    drop(value);
-    Ok(shown?)
-}
-
-fn expect_command(
-    rt: &(impl Abort + AllocGlobal),
-    command: &str,
-    arguments: &str,
-    wanted: &str,
-) -> Result<(), Fail> {
-    let text = request(rt.alloc(), command, arguments)?;
-    let found = shown(rt.alloc(), command, text.as_str())?;
-    assert!(rt; found.as_str() == wanted, "{text}: {found}");
     Ok(())
 }
 
-const WITHOUT_ARGUMENTS: [(&str, &str); 10] = [
-    ("initialize", "Initialize"),
-    ("attach", "Attach"),
-    ("disconnect", "Disconnect"),
-    ("configurationDone", "ConfigurationDone"),
-    ("threads", "Threads"),
-    ("continue", "Continue"),
-    ("pause", "Pause"),
-    ("debugInfo", "DebugInfo"),
-    ("inspectVariables", "InspectVariables"),
-    ("boardReset", "BoardReset"),
-];
+fn put_text(told: &mut String, text: &Text) -> Result<(), AllocError> {
+    told.push_str(" ")?;
+    told.push_str(text.as_str())
+}
 
-// Arguments of commands that list none aren't looked at.
-#[test]
-fn reads_commands_without_arguments(rt: HostRuntime) -> Result<(), Fail> {
-    for (command, shown) in &WITHOUT_ARGUMENTS {
-        for arguments in ["{\"restart\":true}", "[]"] {
-            expect_command(&rt, command, arguments, shown)?;
-        }
+fn granularity_word(granularity: Granularity) -> &'static str {
+    match granularity {
+        Granularity::Line => " line",
+        Granularity::Instruction => " instruction",
     }
+}
+
+// Adds the arguments of a command in the order of its fields. How far a step goes is in the command's name.
+fn put_arguments(told: &mut String, command: &DapCommand) -> Result<(), AllocError> {
+    match command {
+        DapCommand::SetBreakpoints { path, lines } => {
+            put_text(told, path)?;
+            put_numbers(told, lines.as_slice())
+        }
+        DapCommand::StackTrace {
+            start_frame,
+            levels,
+        } => put_numbers(told, &[*start_frame, *levels]),
+        DapCommand::Scopes { frame_id } => put_numbers(told, &[*frame_id]),
+        DapCommand::Variables {
+            reference,
+            start,
+            count,
+        } => put_numbers(told, &[*reference, *start, *count]),
+        DapCommand::Step { granularity, .. } => told.push_str(granularity_word(*granularity)),
+        DapCommand::Disassemble {
+            address,
+            offset,
+            instruction_offset,
+            instruction_count,
+        } => put_numbers(
+            told,
+            &[
+                u32::from(*address),
+                *offset,
+                *instruction_offset,
+                u32::from(*instruction_count),
+            ],
+        ),
+        DapCommand::Source { path } => put_text(told, path),
+        DapCommand::DumpCell { code } => put_text(told, code),
+        DapCommand::BoardSwitches { value } => put_numbers(told, &[u32::from(*value)]),
+        DapCommand::BoardPress { vector } => put_numbers(told, &[u32::from(*vector)]),
+        DapCommand::BoardType { text } => put_text(told, text),
+        _ => Ok(()),
+    }
+}
+
+// Adds the number of a request, its command and its arguments.
+fn put_request(told: &mut String, request: &DapRequest) -> Result<(), AllocError> {
+    let name = request.command.name();
+    if CommandName::named(name.as_str()) != Some(name) {
+        return told.push_str("another command");
+    }
+    write!(told, "{} {}", request.seq, name.as_str())?;
+    put_arguments(told, &request.command)
+}
+
+fn put_read(told: &mut String, read: &Result<DapRequest, DapFault<'_>>) -> Result<(), AllocError> {
+    match read {
+        Ok(request) => put_request(told, request),
+        Err(fault) => told.push_str(fault.message()),
+    }
+}
+
+// Adds what a text is read as, or why it is refused.
+fn put_text_read(told: &mut String, alloc: Global, text: &str) -> Result<(), Fail> {
+    let value = Value::from_str(alloc, text)?;
+    let read = read_request(alloc, &value);
+    let put = put_read(told, &read);
+    drop(read);
+    drop(value);
+    Ok(put?)
+}
+
+fn expect_read(rt: &(impl Abort + AllocGlobal), text: &str, wanted: &str) -> Result<(), Fail> {
+    let mut told = String::new(rt.alloc());
+    put_text_read(&mut told, rt.alloc(), text)?;
+    assert!(rt; told.as_str() == wanted, "{text}: {told}");
     Ok(())
 }
 
 // Commands, arguments, and what they are read as.
-const WITH_ARGUMENTS: [(&str, &str, &str); 16] = [
+const COMMANDS: [(&str, &str, &str); 51] = [
+    // Arguments of commands that list none aren't looked at.
+    ("initialize", "{\"restart\":true}", "7 initialize"),
+    ("initialize", "[]", "7 initialize"),
+    ("attach", "{\"restart\":true}", "7 attach"),
+    ("attach", "[]", "7 attach"),
+    ("disconnect", "{\"restart\":true}", "7 disconnect"),
+    ("disconnect", "[]", "7 disconnect"),
     (
-        "stackTrace",
-        "{}",
-        "StackTrace { start_frame: 0, levels: 0 }",
+        "configurationDone",
+        "{\"restart\":true}",
+        "7 configurationDone",
     ),
+    ("configurationDone", "[]", "7 configurationDone"),
+    ("threads", "{\"restart\":true}", "7 threads"),
+    ("threads", "[]", "7 threads"),
+    ("continue", "{\"restart\":true}", "7 continue"),
+    ("continue", "[]", "7 continue"),
+    ("pause", "{\"restart\":true}", "7 pause"),
+    ("pause", "[]", "7 pause"),
+    ("debugInfo", "{\"restart\":true}", "7 debugInfo"),
+    ("debugInfo", "[]", "7 debugInfo"),
     (
-        "stackTrace",
-        "{\"threadId\":1}",
-        "StackTrace { start_frame: 0, levels: 0 }",
+        "inspectVariables",
+        "{\"restart\":true}",
+        "7 inspectVariables",
     ),
+    ("inspectVariables", "[]", "7 inspectVariables"),
+    ("boardReset", "{\"restart\":true}", "7 boardReset"),
+    ("boardReset", "[]", "7 boardReset"),
+    // Arguments that may be left out, and arguments that aren't looked at.
+    ("stackTrace", "{}", "7 stackTrace 0 0"),
+    ("stackTrace", "{\"threadId\":1}", "7 stackTrace 0 0"),
     (
         "stackTrace",
         "{\"startFrame\":4294967295,\"levels\":20,\"format\":null}",
-        "StackTrace { start_frame: 4294967295, levels: 20 }",
+        "7 stackTrace 4294967295 20",
     ),
-    ("scopes", "{\"frameId\":1}", "Scopes { frame_id: 1 }"),
+    ("scopes", "{\"frameId\":1}", "7 scopes 1"),
     (
         "variables",
         "{\"variablesReference\":5,\"start\":16,\"count\":8,\"filter\":\"named\"}",
-        "Variables { reference: 5, start: 16, count: 8 }",
+        "7 variables 5 16 8",
     ),
     (
         "variables",
         "{\"variablesReference\":0}",
-        "Variables { reference: 0, start: 0, count: 0 }",
+        "7 variables 0 0 0",
     ),
-    (
-        "boardSwitches",
-        "{\"value\":255}",
-        "BoardSwitches { value: 255 }",
-    ),
-    ("boardPress", "{\"vector\":8}", "BoardPress { vector: 8 }"),
+    ("boardSwitches", "{\"value\":255}", "7 boardSwitches 255"),
+    ("boardPress", "{\"vector\":8}", "7 boardPress 8"),
     (
         "source",
         "{\"source\":{\"path\":\"/tmp/a.asm\"},\"sourceReference\":0}",
-        "Source { path: Text { text: \"/tmp/a.asm\" } }",
+        "7 source /tmp/a.asm",
     ),
-    (
-        "dumpCell",
-        "{\"code\":\"HLT\"}",
-        "DumpCell { code: Text { text: \"HLT\" } }",
-    ),
-    (
-        "boardType",
-        "{\"text\":\"\"}",
-        "BoardType { text: Text { text: \"\" } }",
-    ),
+    ("dumpCell", "{\"code\":\"HLT\"}", "7 dumpCell HLT"),
+    ("boardType", "{\"text\":\"\"}", "7 boardType "),
     (
         "setBreakpoints",
         "{\"source\":{\"path\":\"a\"}}",
-        "SetBreakpoints { path: Text { text: \"a\" }, lines: Sequence { items: [] } }",
+        "7 setBreakpoints a",
     ),
     (
         "setBreakpoints",
         "{\"source\":{\"path\":\"a\",\"name\":1},\"breakpoints\":[]}",
-        "SetBreakpoints { path: Text { text: \"a\" }, lines: Sequence { items: [] } }",
+        "7 setBreakpoints a",
     ),
     (
         "setBreakpoints",
         "{\"source\":{\"path\":\"a\"},\"lines\":[9],\
 \"breakpoints\":[{\"line\":3,\"column\":1},{\"line\":0},{\"line\":3}]}",
-        "SetBreakpoints { path: Text { text: \"a\" }, lines: Sequence { items: [3, 0, 3] } }",
+        "7 setBreakpoints a 3 0 3",
     ),
     (
         "disassemble",
         "{\"memoryReference\":\"0x0aFf\",\"instructionCount\":1}",
-        "Disassemble { address: 2815, offset: 0, instruction_offset: 0, instruction_count: 1 }",
+        "7 disassemble 2815 0 0 1",
     ),
     (
         "disassemble",
         "{\"memoryReference\":\"0xFFFF\",\"offset\":2,\"instructionOffset\":4294967295,\
 \"instructionCount\":256,\"resolveSymbols\":false}",
-        "Disassemble { address: 65535, offset: 2, instruction_offset: 4294967295, \
-instruction_count: 256 }",
+        "7 disassemble 65535 2 4294967295 256",
     ),
-];
-
-#[test]
-fn reads_commands_with_arguments(rt: HostRuntime) -> Result<(), Fail> {
-    for (command, arguments, shown) in &WITH_ARGUMENTS {
-        expect_command(&rt, command, arguments, shown)?;
-    }
-    Ok(())
-}
-
-const STEPS: [(&str, &str); 3] = [("next", "Over"), ("stepIn", "In"), ("stepOut", "Out")];
-
-const GRANULARITIES: [(&str, &str); 5] = [
-    ("{}", "Line"),
-    ("{\"granularity\":\"line\"}", "Line"),
-    ("{\"granularity\":\"statement\"}", "Line"),
-    ("{\"granularity\":\"Instruction\"}", "Line"),
+    // Steps, by line where nothing else is said.
+    ("next", "{}", "7 next line"),
+    ("next", "{\"granularity\":\"line\"}", "7 next line"),
+    ("next", "{\"granularity\":\"statement\"}", "7 next line"),
+    ("next", "{\"granularity\":\"Instruction\"}", "7 next line"),
     (
+        "next",
         "{\"granularity\":\"instruction\",\"threadId\":1}",
-        "Instruction",
+        "7 next instruction",
+    ),
+    ("stepIn", "{}", "7 stepIn line"),
+    ("stepIn", "{\"granularity\":\"line\"}", "7 stepIn line"),
+    ("stepIn", "{\"granularity\":\"statement\"}", "7 stepIn line"),
+    (
+        "stepIn",
+        "{\"granularity\":\"Instruction\"}",
+        "7 stepIn line",
+    ),
+    (
+        "stepIn",
+        "{\"granularity\":\"instruction\",\"threadId\":1}",
+        "7 stepIn instruction",
+    ),
+    ("stepOut", "{}", "7 stepOut line"),
+    ("stepOut", "{\"granularity\":\"line\"}", "7 stepOut line"),
+    (
+        "stepOut",
+        "{\"granularity\":\"statement\"}",
+        "7 stepOut line",
+    ),
+    (
+        "stepOut",
+        "{\"granularity\":\"Instruction\"}",
+        "7 stepOut line",
+    ),
+    (
+        "stepOut",
+        "{\"granularity\":\"instruction\",\"threadId\":1}",
+        "7 stepOut instruction",
     ),
 ];
 
 #[test]
-fn reads_steps(rt: HostRuntime) -> Result<(), Fail> {
-    for (command, kind) in &STEPS {
-        for (arguments, granularity) in &GRANULARITIES {
-            let shown = format!(in rt.alloc();
-                "Step {{ kind: {kind}, granularity: {granularity} }}"
-            )?;
-            expect_command(&rt, command, arguments, shown.as_str())?;
-        }
+fn reads_commands(rt: HostRuntime) -> Result<(), Fail> {
+    for (command, arguments, wanted) in &COMMANDS {
+        let text = request(rt.alloc(), command, "", arguments, "")?;
+        expect_read(&rt, text.as_str(), wanted)?;
     }
     Ok(())
 }
@@ -230,16 +266,25 @@ fn many_breakpoints(alloc: Global, count: usize) -> Result<String, AllocError> {
         text.push_str(",{\"line\":1}")?;
     }
     text.push_str("]}")?;
-    request(alloc, "setBreakpoints", text.as_str())
+    request(alloc, "setBreakpoints", "", text.as_str(), "")
+}
+
+// As many lines as there are breakpoints are read.
+fn wanted_lines(alloc: Global) -> Result<String, AllocError> {
+    let mut wanted = String::from_str(alloc, "7 setBreakpoints a")?;
+    for _ in 0..256 {
+        wanted.push_str(" 1")?;
+    }
+    Ok(wanted)
 }
 
 #[test]
 fn reads_256_breakpoints_and_no_more(rt: HostRuntime) -> Result<(), Fail> {
-    for (count, message) in [(256, ""), (257, "Arguments")] {
-        let text = many_breakpoints(rt.alloc(), count)?;
-        expect_message(&rt, text.as_str(), message)?;
-    }
-    Ok(())
+    let wanted = wanted_lines(rt.alloc())?;
+    let most = many_breakpoints(rt.alloc(), 256)?;
+    expect_read(&rt, most.as_str(), wanted.as_str())?;
+    let more = many_breakpoints(rt.alloc(), 257)?;
+    expect_read(&rt, more.as_str(), "Arguments")
 }
 
 const NO_OBJECTS: [&str; 5] = ["[]", "null", "1", "\"a\"", "true"];
@@ -412,19 +457,6 @@ const REFUSED: [(&str, &str, &str, &[&str]); 46] = [
     ),
 ];
 
-// The message of the fault of a request whose arguments have a value there.
-fn message_with(
-    alloc: Global,
-    command: &str,
-    before: &str,
-    value: &str,
-    after: &str,
-) -> Result<&'static str, Fail> {
-    let arguments = format!(in alloc; "{before}{value}{after}")?;
-    let text = request(alloc, command, arguments.as_str())?;
-    message_of(alloc, text.as_str())
-}
-
 fn expect_bad(
     rt: &(impl Abort + AllocGlobal),
     command: &str,
@@ -433,8 +465,8 @@ fn expect_bad(
     values: &[&str],
 ) -> Result<(), Fail> {
     for value in values {
-        let found = message_with(rt.alloc(), command, before, value, after)?;
-        assert!(rt; found == "Arguments", "{command} {before}{value}: {found}");
+        let text = request(rt.alloc(), command, before, value, after)?;
+        expect_read(rt, text.as_str(), "Arguments")?;
     }
     Ok(())
 }
@@ -447,28 +479,8 @@ fn refuses_bad_arguments(rt: HostRuntime) -> Result<(), Fail> {
     Ok(())
 }
 
-const NO_COMMANDS: [&str; 8] = [
-    "evaluate",
-    "setVariable",
-    "",
-    "Threads",
-    "threads ",
-    "stepBack",
-    "modules",
-    "copyToGlobals",
-];
-
-#[test]
-fn refuses_unknown_commands(rt: HostRuntime) -> Result<(), Fail> {
-    for command in &NO_COMMANDS {
-        let text = request(rt.alloc(), command, "null")?;
-        expect_message(&rt, text.as_str(), "Command")?;
-    }
-    Ok(())
-}
-
-// Whole values, and the messages of their faults.
-const VALUES: [(&str, &str); 20] = [
+// Whole values, and what they are read as, or the messages of their faults.
+const VALUES: [(&str, &str); 28] = [
     ("null", "NotRequest"),
     ("[]", "NotRequest"),
     ("{}", "NotRequest"),
@@ -521,22 +533,54 @@ const VALUES: [(&str, &str); 20] = [
     ),
     (
         "{\"seq\":1,\"type\":\"request\",\"command\":\"threads\"}",
-        "",
+        "1 threads",
     ),
     (
         "{\"seq\":0,\"type\":\"request\",\"command\":\"threads\"}",
-        "",
+        "0 threads",
     ),
     (
         "{\"seq\":4294967295,\"type\":\"request\",\"command\":\"threads\"}",
-        "",
+        "4294967295 threads",
+    ),
+    (
+        "{\"seq\":7,\"type\":\"request\",\"command\":\"evaluate\",\"arguments\":null}",
+        "Command",
+    ),
+    (
+        "{\"seq\":7,\"type\":\"request\",\"command\":\"setVariable\",\"arguments\":null}",
+        "Command",
+    ),
+    (
+        "{\"seq\":7,\"type\":\"request\",\"command\":\"\",\"arguments\":null}",
+        "Command",
+    ),
+    (
+        "{\"seq\":7,\"type\":\"request\",\"command\":\"Threads\",\"arguments\":null}",
+        "Command",
+    ),
+    (
+        "{\"seq\":7,\"type\":\"request\",\"command\":\"threads \",\"arguments\":null}",
+        "Command",
+    ),
+    (
+        "{\"seq\":7,\"type\":\"request\",\"command\":\"stepBack\",\"arguments\":null}",
+        "Command",
+    ),
+    (
+        "{\"seq\":7,\"type\":\"request\",\"command\":\"modules\",\"arguments\":null}",
+        "Command",
+    ),
+    (
+        "{\"seq\":7,\"type\":\"request\",\"command\":\"copyToGlobals\",\"arguments\":null}",
+        "Command",
     ),
 ];
 
 #[test]
-fn refuses_what_is_no_request(rt: HostRuntime) -> Result<(), Fail> {
-    for (value, message) in &VALUES {
-        expect_message(&rt, value, message)?;
+fn reads_whole_values(rt: HostRuntime) -> Result<(), Fail> {
+    for (value, wanted) in &VALUES {
+        expect_read(&rt, value, wanted)?;
     }
     Ok(())
 }

@@ -22,17 +22,15 @@ fn push_member(text: &mut String, name: &str, value: &str) -> Result<(), Fail> {
     if value.is_empty() {
         return Ok(());
     }
-    for part in [",\"", name, "\":", value] {
-        text.push_str(part)?;
-    }
+    write!(text, ",\"{name}\":{value}")?;
     Ok(())
 }
 
 // A connection file in which the member of this name has this value; none where the value is empty.
 fn file_with(alloc: Global, name: &str, value: &str) -> Result<String, Fail> {
     let mut text = String::from_str(alloc, "{\"kernel_name\":[1,2.5]")?;
-    for (member, usual) in MEMBERS {
-        let given = if member == name { value } else { usual };
+    for (member, usual) in &MEMBERS {
+        let given = if *member == name { value } else { usual };
         push_member(&mut text, member, given)?;
     }
     text.push_str("}")?;
@@ -58,57 +56,43 @@ fn fault_with(alloc: Global, name: &str, value: &str) -> Result<Option<FileFault
     Ok(reading_fault(alloc, text.as_bytes()))
 }
 
-fn expect(
-    rt: &(impl Abort + AllocGlobal),
-    name: &str,
-    value: &str,
-    fault: Option<FileFault>,
-) -> Result<(), Fail> {
-    let found = fault_with(rt.alloc(), name, value)?;
-    assert!(rt; found == fault, "{name} {value}");
-    Ok(())
-}
-
-fn expect_values(rt: &impl Abort, file: &ConnectionFile) {
-    assert!(rt; file.ip == Ipv4Addr::new(127, 0, 0, 1));
-    assert!(rt; file.key.as_str() == "secret");
-    assert!(rt; file.shell_port == 41001);
-    assert!(rt; file.iopub_port == 41002);
-    assert!(rt; file.stdin_port == 41003);
-    assert!(rt; file.control_port == 41004);
-    assert!(rt; file.hb_port == 41005);
+fn ports(file: &ConnectionFile) -> [u16; 5] {
+    [
+        file.shell_port,
+        file.iopub_port,
+        file.stdin_port,
+        file.control_port,
+        file.hb_port,
+    ]
 }
 
 #[test]
 fn a_file_gives_its_values(rt: HostRuntime) -> Result<(), Fail> {
     let text = file_with(rt.alloc(), "", "")?;
     let file = ConnectionFile::read(rt.alloc(), text.as_bytes()).expect(&rt, "a file");
-    expect_values(&rt, &file);
+    let (ip, ports) = (file.ip, ports(&file));
+    let is_secret = file.key.as_str() == "secret";
     drop(file);
+    assert!(rt; ip == Ipv4Addr::new(127, 0, 0, 1) && is_secret);
+    assert!(rt; ports == [41001, 41002, 41003, 41004, 41005]);
     Ok(())
 }
 
-const NO_VALUES: [&str; 8] = ["", "null", "true", "[]", "{}", "-1", "1.5", "\"x\""];
+// What stands as a member's value, and the fault of the file.
+type Value = (&'static str, Option<FileFault>);
 
-// A key may be any text.
-fn fault_as(name: &str, value: &str) -> Option<FileFault> {
-    if name == "key" && value == "\"x\"" {
-        return None;
-    }
-    Some(FileFault::Field)
-}
+// No member may be missing or of one of these.
+const NO_VALUES: [Value; 7] = [
+    ("", Some(FileFault::Field)),
+    ("null", Some(FileFault::Field)),
+    ("true", Some(FileFault::Field)),
+    ("[]", Some(FileFault::Field)),
+    ("{}", Some(FileFault::Field)),
+    ("-1", Some(FileFault::Field)),
+    ("1.5", Some(FileFault::Field)),
+];
 
-#[test]
-fn each_member_is_needed(rt: HostRuntime) -> Result<(), Fail> {
-    for (name, _) in &MEMBERS {
-        for value in &NO_VALUES {
-            expect(&rt, name, value, fault_as(name, value))?;
-        }
-    }
-    Ok(())
-}
-
-const PORTS: [(&str, Option<FileFault>); 8] = [
+const PORTS: [Value; 8] = [
     ("1", None),
     ("65535", None),
     ("0", Some(FileFault::Field)),
@@ -119,17 +103,7 @@ const PORTS: [(&str, Option<FileFault>); 8] = [
     ("18446744073709551616", Some(FileFault::Field)),
 ];
 
-#[test]
-fn ports_are_whole_numbers_from_1_to_65535(rt: HostRuntime) -> Result<(), Fail> {
-    for (name, _) in &MEMBERS[4..] {
-        for (value, fault) in &PORTS {
-            expect(&rt, name, value, *fault)?;
-        }
-    }
-    Ok(())
-}
-
-const ADDRESSES: [(&str, Option<FileFault>); 12] = [
+const ADDRESSES: [Value; 12] = [
     ("\"0.0.0.0\"", None),
     ("\"255.255.255.255\"", None),
     ("\"10.0.0.7\"", None),
@@ -144,30 +118,72 @@ const ADDRESSES: [(&str, Option<FileFault>); 12] = [
     ("2130706433", Some(FileFault::Field)),
 ];
 
-#[test]
-fn addresses_are_four_decimals(rt: HostRuntime) -> Result<(), Fail> {
-    for (value, fault) in &ADDRESSES {
-        expect(&rt, "ip", value, *fault)?;
+const PORT_NAMES: &[&str] = &[
+    "shell_port",
+    "iopub_port",
+    "stdin_port",
+    "control_port",
+    "hb_port",
+];
+
+const NAMES: [&str; 9] = [
+    "ip",
+    "transport",
+    "key",
+    "signature_scheme",
+    "shell_port",
+    "iopub_port",
+    "stdin_port",
+    "control_port",
+    "hb_port",
+];
+
+const NO_TEXT: [Value; 1] = [("\"x\"", Some(FileFault::Field))];
+
+// Any text is a key, the empty one too.
+const KEYS: [Value; 2] = [("\"x\"", None), ("\"\"", None)];
+
+const SCHEMES: [Value; 2] = [
+    ("\"\"", Some(FileFault::Field)),
+    ("\"hmac-sha512\"", Some(FileFault::Field)),
+];
+
+const TRANSPORTS: [Value; 2] = [
+    ("\"ipc\"", Some(FileFault::Field)),
+    ("\"TCP\"", Some(FileFault::Field)),
+];
+
+// Members, and values that stand in each of them in turn.
+const MEMBER_VALUES: [(&[&str], &[Value]); 8] = [
+    (&NAMES, &NO_VALUES),
+    (&["ip", "transport", "signature_scheme"], &NO_TEXT),
+    (PORT_NAMES, &NO_TEXT),
+    (PORT_NAMES, &PORTS),
+    (&["ip"], &ADDRESSES),
+    (&["key"], &KEYS),
+    (&["signature_scheme"], &SCHEMES),
+    (&["transport"], &TRANSPORTS),
+];
+
+fn expect_values(
+    rt: &(impl Abort + AllocGlobal),
+    name: &str,
+    values: &[Value],
+) -> Result<(), Fail> {
+    for (value, fault) in values {
+        let found = fault_with(rt.alloc(), name, value)?;
+        assert!(rt; found == *fault, "{name} {value}");
     }
     Ok(())
 }
 
-const KEYS_AND_SCHEMES: [(&str, &str, Option<FileFault>); 5] = [
-    ("key", "\"\"", None),
-    ("signature_scheme", "\"\"", Some(FileFault::Field)),
-    (
-        "signature_scheme",
-        "\"hmac-sha512\"",
-        Some(FileFault::Field),
-    ),
-    ("transport", "\"ipc\"", Some(FileFault::Field)),
-    ("transport", "\"TCP\"", Some(FileFault::Field)),
-];
-
+// Ports are whole numbers from 1 to 65535, addresses four decimals, and keys may be empty.
 #[test]
-fn keys_may_be_empty_and_schemes_may_not(rt: HostRuntime) -> Result<(), Fail> {
-    for (name, value, fault) in &KEYS_AND_SCHEMES {
-        expect(&rt, name, value, *fault)?;
+fn members_are_checked(rt: HostRuntime) -> Result<(), Fail> {
+    for (names, values) in &MEMBER_VALUES {
+        for name in *names {
+            expect_values(&rt, name, values)?;
+        }
     }
     Ok(())
 }

@@ -130,13 +130,6 @@ fn fault_under(alloc: Global, seal: &str) -> Result<Option<WireFault>, Fail> {
     fault_in(alloc, "Jefe", texts.as_slice())
 }
 
-const SEALS: [(&str, WireFault); 4] = [
-    (UPPER, WireFault::Signature),
-    ("5bdcc146", WireFault::Signature),
-    ("", WireFault::Signature),
-    (DIGITS, WireFault::Json),
-];
-
 // The signature with another digit in a place.
 fn altered(alloc: Global, place: usize) -> Result<String, AllocError> {
     let mut seal = String::new(alloc);
@@ -158,14 +151,11 @@ fn each_digit_of_a_signature_counts(rt: HostRuntime) -> Result<(), Fail> {
         let found = fault_of_altered(rt.alloc(), place)?;
         assert!(rt; found == Some(WireFault::Signature), "digit {place}");
     }
-    for (seal, fault) in &SEALS {
-        assert!(rt; fault_under(rt.alloc(), seal)? == Some(*fault), "{seal}");
-    }
     Ok(())
 }
 
 // Keys, frames, and their fault.
-const MESSAGES: [(&str, &[&str], Option<WireFault>); 7] = [
+const MESSAGES: [(&str, &[&str], Option<WireFault>); 23] = [
     ("secret", &[], Some(WireFault::Delimiter)),
     ("secret", &["a", "<ids|msg>"], Some(WireFault::Delimiter)),
     (
@@ -193,6 +183,133 @@ const MESSAGES: [(&str, &[&str], Option<WireFault>); 7] = [
         &["<IDS|MSG>", SEAL, HEADER, "{}", "{}", CONTENT],
         None,
     ),
+    // RFC 4231's second vector, in four frames, with other signatures and its own.
+    (
+        "Jefe",
+        &[
+            "<IDS|MSG>",
+            UPPER,
+            "what do ya ",
+            "want ",
+            "for ",
+            "nothing?",
+        ],
+        Some(WireFault::Signature),
+    ),
+    (
+        "Jefe",
+        &[
+            "<IDS|MSG>",
+            "5bdcc146",
+            "what do ya ",
+            "want ",
+            "for ",
+            "nothing?",
+        ],
+        Some(WireFault::Signature),
+    ),
+    (
+        "Jefe",
+        &["<IDS|MSG>", "", "what do ya ", "want ", "for ", "nothing?"],
+        Some(WireFault::Signature),
+    ),
+    (
+        "Jefe",
+        &[
+            "<IDS|MSG>",
+            DIGITS,
+            "what do ya ",
+            "want ",
+            "for ",
+            "nothing?",
+        ],
+        Some(WireFault::Json),
+    ),
+    // Headers and contents with no signature. Of a key that comes twice the last value counts.
+    (
+        "",
+        &["<IDS|MSG>", "", HEADER, "{}", "{}", "1e400"],
+        Some(WireFault::Json),
+    ),
+    (
+        "",
+        &["<IDS|MSG>", "", HEADER, "{}", "{}", "\"\\ud800\""],
+        Some(WireFault::Json),
+    ),
+    (
+        "",
+        &["<IDS|MSG>", "", HEADER, "{}", "{}", "\u{feff}{}"],
+        Some(WireFault::Json),
+    ),
+    (
+        "",
+        &["<IDS|MSG>", "", HEADER, "{}", "{}", ""],
+        Some(WireFault::Json),
+    ),
+    (
+        "",
+        &["<IDS|MSG>", "", HEADER, "{}", "{}", "{} {}"],
+        Some(WireFault::Json),
+    ),
+    (
+        "",
+        &["<IDS|MSG>", "", "[]", "{}", "{}", "{"],
+        Some(WireFault::Json),
+    ),
+    ("", &["<IDS|MSG>", "", HEADER, "{}", "{}", " 1.5 "], None),
+    (
+        "",
+        &["<IDS|MSG>", "", "[]", "{}", "{}", "{}"],
+        Some(WireFault::Header),
+    ),
+    (
+        "",
+        &[
+            "<IDS|MSG>",
+            "",
+            "{\"msg_id\":\"1\",\"msg_type\":\"t\"}",
+            "{}",
+            "{}",
+            "{}",
+        ],
+        Some(WireFault::Header),
+    ),
+    (
+        "",
+        &[
+            "<IDS|MSG>",
+            "",
+            "{\"msg_id\":\"1\",\"msg_type\":\"t\",\"session\":1}",
+            "{}",
+            "{}",
+            "{}",
+        ],
+        Some(WireFault::Header),
+    ),
+    (
+        "",
+        &[
+            "<IDS|MSG>",
+            "",
+            "{\"msg_id\":\"1\",\"msg_type\":\"t\",\"session\":\"s\",\"session\":1}",
+            "{}",
+            "{}",
+            "{}",
+        ],
+        Some(WireFault::Header),
+    ),
+    (
+        "",
+        &[
+            "<IDS|MSG>",
+            "",
+            "{\"msg_id\":\"1\",\"msg_type\":\"t\",\"session\":1,\"session\":\"s\"}",
+            "{}",
+            "{}",
+            "{}",
+        ],
+        None,
+    ),
 ];
 
 #[test]
@@ -208,47 +325,6 @@ fn fault_unsigned(alloc: Global, header: &str, content: &str) -> Result<Option<W
     fault_in(alloc, "", texts.as_slice())
 }
 
-// Headers, contents, and their fault. Of a key that comes twice the last value counts.
-const UNSIGNED: [(&str, &str, Option<WireFault>); 12] = [
-    (HEADER, "1e400", Some(WireFault::Json)),
-    (HEADER, "\"\\ud800\"", Some(WireFault::Json)),
-    (HEADER, "\u{feff}{}", Some(WireFault::Json)),
-    (HEADER, "", Some(WireFault::Json)),
-    (HEADER, "{} {}", Some(WireFault::Json)),
-    ("[]", "{", Some(WireFault::Json)),
-    (HEADER, " 1.5 ", None),
-    ("[]", "{}", Some(WireFault::Header)),
-    (
-        "{\"msg_id\":\"1\",\"msg_type\":\"t\"}",
-        "{}",
-        Some(WireFault::Header),
-    ),
-    (
-        "{\"msg_id\":\"1\",\"msg_type\":\"t\",\"session\":1}",
-        "{}",
-        Some(WireFault::Header),
-    ),
-    (
-        "{\"msg_id\":\"1\",\"msg_type\":\"t\",\"session\":\"s\",\"session\":1}",
-        "{}",
-        Some(WireFault::Header),
-    ),
-    (
-        "{\"msg_id\":\"1\",\"msg_type\":\"t\",\"session\":1,\"session\":\"s\"}",
-        "{}",
-        None,
-    ),
-];
-
-#[test]
-fn refuses_what_is_no_json_or_no_header(rt: HostRuntime) -> Result<(), Fail> {
-    for (header, content, fault) in &UNSIGNED {
-        let found = fault_unsigned(rt.alloc(), header, content)?;
-        assert!(rt; found == *fault, "{header} {content}");
-    }
-    Ok(())
-}
-
 // A header whose msg_id has so many bytes.
 fn header_with_id_of(alloc: Global, length: usize) -> Result<String, AllocError> {
     let mut text = String::from_str(alloc, "{\"msg_id\":\"")?;
@@ -257,16 +333,6 @@ fn header_with_id_of(alloc: Global, length: usize) -> Result<String, AllocError>
     }
     text.push_str("\",\"msg_type\":\"t\",\"session\":\"s\"}")?;
     Ok(text)
-}
-
-#[test]
-fn a_header_text_may_be_long(rt: HostRuntime) -> Result<(), Fail> {
-    for length in [300, 70_000] {
-        let header = header_with_id_of(rt.alloc(), length)?;
-        let found = fault_unsigned(rt.alloc(), header.as_str(), "{}")?;
-        assert!(rt; found == None, "a msg_id of {length} bytes");
-    }
-    Ok(())
 }
 
 fn nested(alloc: Global, depth: usize) -> Result<String, AllocError> {
@@ -280,19 +346,26 @@ fn nested(alloc: Global, depth: usize) -> Result<String, AllocError> {
     Ok(text)
 }
 
-// Depths, and the fault of a content that nests so deep.
-const DEPTHS: [(usize, Option<WireFault>); 3] = [
-    (127, None),
-    (128, Some(WireFault::Json)),
-    (100_000, Some(WireFault::Json)),
+// The length of a msg_id, how deep a content nests, and their fault.
+const SIZES: [(usize, usize, Option<WireFault>); 5] = [
+    (300, 1, None),
+    (70_000, 1, None),
+    (1, 127, None),
+    (1, 128, Some(WireFault::Json)),
+    (1, 100_000, Some(WireFault::Json)),
 ];
 
+fn fault_of_size(alloc: Global, length: usize, depth: usize) -> Result<Option<WireFault>, Fail> {
+    let header = header_with_id_of(alloc, length)?;
+    let content = nested(alloc, depth)?;
+    fault_unsigned(alloc, header.as_str(), content.as_str())
+}
+
 #[test]
-fn opens_127_levels_and_no_more(rt: HostRuntime) -> Result<(), Fail> {
-    for (depth, fault) in &DEPTHS {
-        let content = nested(rt.alloc(), *depth)?;
-        let found = fault_unsigned(rt.alloc(), HEADER, content.as_str())?;
-        assert!(rt; found == *fault, "{depth} levels");
+fn opens_long_texts_and_127_levels(rt: HostRuntime) -> Result<(), Fail> {
+    for (length, depth, fault) in &SIZES {
+        let found = fault_of_size(rt.alloc(), *length, *depth)?;
+        assert!(rt; found == *fault, "{length} bytes, {depth} levels");
     }
     Ok(())
 }
@@ -312,12 +385,18 @@ fn code_of(content: &Value) -> Option<&str> {
 }
 
 fn expect_message(rt: &impl Abort, message: &Message) {
-    assert!(rt; message.parts.header.as_slice() == HEADER.as_bytes());
-    assert!(rt; message.parts.parent_header.as_slice() == b"{}".as_slice());
-    assert!(rt; message.parts.content.as_slice() == CONTENT.as_bytes());
-    assert!(rt; message.header.msg_id.as_str() == "1");
-    assert!(rt; message.header.msg_type.as_str() == "execute_request");
-    assert!(rt; message.header.session.as_str() == "s");
+    let (parts, header) = (&message.parts, &message.header);
+    let frames = [
+        (parts.header.as_slice(), HEADER),
+        (parts.parent_header.as_slice(), "{}"),
+        (parts.content.as_slice(), CONTENT),
+        (header.msg_id.as_str().as_bytes(), "1"),
+        (header.msg_type.as_str().as_bytes(), "execute_request"),
+        (header.session.as_str().as_bytes(), "s"),
+    ];
+    for (found, text) in frames {
+        assert!(rt; found == text.as_bytes(), "{text}");
+    }
     assert!(rt; code_of(&message.content) == Some("HLT"));
 }
 

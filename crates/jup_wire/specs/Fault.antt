@@ -9,7 +9,11 @@ use Rattle.jup_wire.specs.declared.message.WireFault.TheVariants.{
   Json,
   Header,
 }
-use Rattle.jup_wire.specs.Wire.{delimiter, NoDelimiter}
+use Rattle.serde_json.specs.Data.{Data}
+use Rattle.jup_wire.specs.declared.message.Parts.{Parts}
+use Rattle.jup_wire.specs.declared.message.Header as declared
+use Rattle.jup_wire.specs.Json.{json_of, IsHeader}
+use Rattle.jup_wire.specs.Wire.{delimiter, NoDelimiter, AreJson}
 
 -- out of memory, or no JSON where P says so
 abbrev pub JsonFault : WireFault → Type 0 → Type 0
@@ -28,6 +32,14 @@ HeaderFault Delimiter P = ⊥
 HeaderFault Count P = ⊥
 HeaderFault Signature P = ⊥
 HeaderFault Json P = ⊥
+
+-- the parts are JSON, with this header and this content
+pub record IsRead (p : Parts) (h : declared.Header) (content : Data) : Type 0 where
+  pub json : AreJson p
+  pub header_value : Data
+  pub header_json : json_of p.header ≡ Some header_value
+  pub header : IsHeader header_value h
+  pub content_json : json_of p.content ≡ Some content
 
 -- the first delimiter stands here
 pub record FirstDelimiter (frames : List (List ℕ)) (at : ℕ) : Type 0 where

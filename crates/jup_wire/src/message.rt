@@ -2,26 +2,46 @@
 use base_text::sequence::{Bytes, Frames};
 use base_text::text::Text;
 use serde_json::Value;
+use std::fmt;
 use thiserror::Error;
 
 /// The frame between the identities and the signature.
 pub const DELIMITER: &[u8] = b"<IDS|MSG>";
 
 /// Why frames are refused, in the order in which it is found out.
-#[derive(Clone, Copy, PartialEq, Eq, Debug, Error)]
+#[derive(Clone, Copy, PartialEq, Eq, Error)]
 pub enum WireFault {
-    #[error("out of memory")]
     OutOfMemory,
-    #[error("no frame is the delimiter")]
     Delimiter,
-    #[error("fewer than five frames follow the delimiter")]
     Count,
-    #[error("the signature is wrong")]
     Signature,
-    #[error("a frame is no JSON")]
     Json,
-    #[error("the header lacks a text")]
     Header,
+}
+
+impl WireFault {
+    fn text(self) -> &'static str {
+        match self {
+            WireFault::OutOfMemory => "out of memory",
+            WireFault::Delimiter => "no frame is the delimiter",
+            WireFault::Count => "fewer than five frames follow the delimiter",
+            WireFault::Signature => "the signature is wrong",
+            WireFault::Json => "a frame is no JSON",
+            WireFault::Header => "the header lacks a text",
+        }
+    }
+}
+
+impl fmt::Display for WireFault {
+    fn fmt<W: fmt::Write>(&self, f: &mut fmt::Formatter<W>) -> fmt::Result {
+        f.write_str(self.text())
+    }
+}
+
+impl fmt::Debug for WireFault {
+    fn fmt<W: fmt::Write>(&self, f: &mut fmt::Formatter<W>) -> fmt::Result {
+        fmt::Display::fmt(self, f)
+    }
 }
 
 /// The frames of a message as they came: the identities, and the four frames that are signed.

@@ -21,6 +21,8 @@ ghost use Rattle.std.specs.Prelude.{
   IfErr,
   IfSome,
   IfNone,
+  IsSome,
+  OnOk,
   IsErrAnd,
   MatchResult,
 };
@@ -29,7 +31,7 @@ ghost use Rattle.serde_json.specs.View.{view};
 ghost use Rattle.jup_wire.specs.Json.{json_of, text_at, IsHeader};
 ghost use Rattle.jup_wire.specs.Wire.{delimiter, NoDelimiter, HasParts, IsSigned, AreJson, IsMessage};
 ghost use Rattle.jup_wire.specs.Wire.{IsRefused};
-ghost use Rattle.jup_wire.specs.Fault.{JsonFault, HeaderFault, FirstDelimiter};
+ghost use Rattle.jup_wire.specs.Fault.{JsonFault, HeaderFault, IsRead, FirstDelimiter};
 ghost use Rattle.jup_wire.specs.Signature.{signature};
 ghost use Rattle.jup_wire.specs.declared.message.Header.{Header};
 ghost use Rattle.jup_wire.specs.declared.message.Parts.{Parts};
@@ -124,6 +126,17 @@ fn read_json(alloc: Global, frame: &Bytes) -> Result<Value, WireFault>
     }
 }
 
+// Whether a frame is JSON. Its value isn't kept.
+fn check_json(alloc: Global, frame: &Bytes) -> Result<(), WireFault>
+    ensures json { OnOk result (IsSome (json_of frame.now)) }
+    ensures fault { IfErr result (λ e. JsonFault e (json_of frame.now ≡ None)) }
+{
+    match read_json(alloc, frame) {
+        Ok(_) => Ok(()),
+        Err(fault) => Err(fault),
+    }
+}
+
 // The values of the header and of the content; the other two frames are only checked.
 fn read_values(alloc: Global, parts: &Parts) -> Result<(Value, Value), WireFault>
     ensures json { IfOk result (λ _. AreJson parts.now) }
@@ -131,9 +144,9 @@ fn read_values(alloc: Global, parts: &Parts) -> Result<(Value, Value), WireFault
     ensures content { IfOk result (λ values. json_of parts.now.content ≡ Some (view values.1)) }
     ensures fault { IfErr result (λ e. JsonFault e (¬ AreJson parts.now)) }
 {
+    check_json(alloc, &parts.parent_header)?;
+    check_json(alloc, &parts.metadata)?;
     let header = read_json(alloc, &parts.header)?;
-    read_json(alloc, &parts.parent_header)?;
-    read_json(alloc, &parts.metadata)?;
     let content = read_json(alloc, &parts.content)?;
     Ok((header, content))
 }
@@ -143,16 +156,17 @@ fn text_of<'a>(value: &'a Value, key: &str) -> Result<&'a str, WireFault>
     ensures fault { IfErr result
         (λ e. (e ≡ WireFault.Header) × (text_at key.now (view value.now) ≡ None)) }
 {
-    value
-        .get(key)
-        .and_then(Value::as_str)
-        .ok_or(WireFault::Header)
+    match value.get(key) {
+        Some(found) => found.as_str().ok_or(WireFault::Header),
+        None => Err(WireFault::Header),
+    }
 }
 
-fn copy_of(alloc: Global, text: &str) -> Result<Text, WireFault>
-    ensures text { IfOk result (λ copy. copy ≡ text.now) }
-    ensures fault { IfErr result (λ e. e ≡ WireFault.OutOfMemory) }
+fn copied_text(alloc: Global, value: &Value, key: &str) -> Result<Text, WireFault>
+    ensures text { IfOk result (λ text. text_at key.now (view value.now) ≡ Some text) }
+    ensures fault { IfErr result (λ e. HeaderFault e (text_at key.now (view value.now) ≡ None)) }
 {
+    let text = text_of(value, key)?;
     match Text::copy_of(alloc, text) {
         Ok(copy) => Ok(copy),
         Err(_) => Err(WireFault::OutOfMemory),
@@ -164,14 +178,36 @@ fn read_header(alloc: Global, value: &Value) -> Result<Header, WireFault>
     ensures fault { IfErr result
         (λ e. HeaderFault e ((header : Header) → ¬ IsHeader (view value.now) header)) }
 {
-    let msg_id = text_of(value, "msg_id")?;
-    let msg_type = text_of(value, "msg_type")?;
-    let session = text_of(value, "session")?;
+    let msg_id = copied_text(alloc, value, "msg_id")?;
+    let msg_type = copied_text(alloc, value, "msg_type")?;
+    let session = copied_text(alloc, value, "session")?;
     Ok(Header {
-        msg_id: copy_of(alloc, msg_id)?,
-        msg_type: copy_of(alloc, msg_type)?,
-        session: copy_of(alloc, session)?,
+        msg_id,
+        msg_type,
+        session,
     })
+}
+
+// The header and the content of parts that are signed.
+fn read_signed(
+    alloc: Global,
+    key: &[u8],
+    digits: &Bytes,
+    parts: &Parts,
+) -> Result<(Header, Value), WireFault>
+    ensures signed { OnOk result (IsSigned key.now digits.now parts.now) }
+    ensures read { IfOk result (λ read. IsRead parts.now read.0 (view read.1)) }
+    ensures refused { IfErr result (λ e. (frames : List (List ℕ))
+        → HasParts frames digits.now parts.now → IsRefused key.now frames e) }
+{
+    if !is_accepted(key, digits, parts) {
+        return Err(WireFault::Signature);
+    }
+    let (value, content) = read_values(alloc, parts)?;
+    match read_header(alloc, &value) {
+        Ok(header) => Ok((header, content)),
+        Err(fault) => Err(fault),
+    }
 }
 
 fn open(alloc: Global, frames: Frames, key: &[u8]) -> Result<Message, WireFault>
@@ -180,16 +216,14 @@ fn open(alloc: Global, frames: Frames, key: &[u8]) -> Result<Message, WireFault>
     ensures refused { IfErr result (IsRefused key.now frames) }
 {
     let (digits, parts) = split(frames)?;
-    if !is_accepted(key, &digits, &parts) {
-        return Err(WireFault::Signature);
+    match read_signed(alloc, key, &digits, &parts) {
+        Ok((header, content)) => Ok(Message {
+            parts,
+            header,
+            content,
+        }),
+        Err(fault) => Err(fault),
     }
-    let (header, content) = read_values(alloc, &parts)?;
-    let header = read_header(alloc, &header)?;
-    Ok(Message {
-        parts,
-        header,
-        content,
-    })
 }
 
 /// Opens a message under a key. With an empty key no signature is checked. The frames are moved

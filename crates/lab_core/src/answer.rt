@@ -5,7 +5,7 @@ use i80_devs::traffic::Traffic;
 use lab_views::shown::Shown;
 
 /// Where a debugger stops a run.
-#[derive(Clone, Copy, PartialEq, Eq)]
+#[derive(Clone, Copy)]
 pub enum Stop {
     /// At a breakpoint.
     Breakpoint,
@@ -14,7 +14,7 @@ pub enum Stop {
 }
 
 /// How a run ends by itself.
-#[derive(Clone, Copy, PartialEq, Eq)]
+#[derive(Clone, Copy)]
 pub enum End {
     /// HLT with interrupts off.
     Halted,
@@ -23,7 +23,7 @@ pub enum End {
 }
 
 /// How a slice ended.
-#[derive(Clone, Copy, PartialEq, Eq)]
+#[derive(Clone, Copy)]
 pub enum SliceOutcome {
     /// All its steps were made, and the run goes on.
     More,
@@ -36,7 +36,7 @@ pub enum SliceOutcome {
 }
 
 /// A line that was set as a breakpoint, and whether its text has that line.
-#[derive(Clone, Copy, PartialEq, Eq)]
+#[derive(Clone, Copy)]
 pub struct Breakpoint {
     pub line: u32,
     pub is_verified: bool,
@@ -69,7 +69,7 @@ pub enum Answer {
 pub type Answers = Sequence<Result<Answer, EventFault>>;
 
 /// What memory was wanted for.
-#[derive(Clone, Copy, PartialEq, Eq)]
+#[derive(Clone, Copy)]
 pub enum Wanted {
     /// Room for one more answer.
     Answer,

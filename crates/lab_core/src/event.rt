@@ -5,7 +5,7 @@ use base_text::text::Text;
 use lab_views::view::View;
 
 /// How far a Step goes.
-#[derive(Clone, Copy, PartialEq, Eq)]
+#[derive(Clone, Copy)]
 pub enum StepKind {
     /// To the next place.
     In,
@@ -16,7 +16,7 @@ pub enum StepKind {
 }
 
 /// What a place is where a Step may end.
-#[derive(Clone, Copy, PartialEq, Eq)]
+#[derive(Clone, Copy)]
 pub enum Granularity {
     /// The first byte of a statement.
     Line,
@@ -25,7 +25,7 @@ pub enum Granularity {
 }
 
 /// A Step that is asked for.
-#[derive(Clone, Copy, PartialEq, Eq)]
+#[derive(Clone, Copy)]
 pub struct StepRequest {
     pub kind: StepKind,
     pub granularity: Granularity,

@@ -5,41 +5,56 @@ use i80_devs::devices::PressFault;
 use lab_sources::sources::SourceFault;
 use lab_views::fault::ViewFault;
 use std::alloc::AllocError;
+use std::fmt;
 use thiserror::Error;
 
 /// Why an event is refused. The board is as it was.
-#[derive(Clone, Copy, PartialEq, Eq, Debug, Error)]
+#[derive(Clone, Copy, Error)]
 pub enum EventFault {
-    #[error("out of memory")]
     OutOfMemory,
-    #[error("no program runs")]
     NotRunning,
-    #[error("no program is stopped")]
     NotStopped,
-    #[error("a program runs")]
     Busy,
     /// The path is kept with another text.
-    #[error("the path has another text")]
     SourceNameTaken,
     /// No text is kept under this path.
-    #[error("no text has this path")]
     NoSource,
-    #[error("a request is latched already")]
     Latched,
-    #[error("there is no such frame")]
     BadFrame,
-    #[error("there are the references 1 to 5")]
     BadReference,
     /// The cell has this fault.
-    #[error("{0}")]
     Assembly(AsmFault),
-    #[error("no debugger is attached")]
     NotAttached,
-    #[error("there are the buttons 0 to 7")]
     Vector,
     /// As many texts are kept as may be, and this path isn't among them.
-    #[error("there are 1,024 sources")]
     SourcesFull,
+}
+
+impl fmt::Display for EventFault {
+    fn fmt<W: fmt::Write>(&self, f: &mut fmt::Formatter<W>) -> fmt::Result {
+        let text = match self {
+            EventFault::OutOfMemory => "out of memory",
+            EventFault::NotRunning => "no program runs",
+            EventFault::NotStopped => "no program is stopped",
+            EventFault::Busy => "a program runs",
+            EventFault::SourceNameTaken => "the path has another text",
+            EventFault::NoSource => "no text has this path",
+            EventFault::Latched => "a request is latched already",
+            EventFault::BadFrame => "there is no such frame",
+            EventFault::BadReference => "there are the references 1 to 5",
+            EventFault::Assembly(fault) => return fmt::Display::fmt(fault, f),
+            EventFault::NotAttached => "no debugger is attached",
+            EventFault::Vector => "there are the buttons 0 to 7",
+            EventFault::SourcesFull => "there are 1,024 sources",
+        };
+        f.write_str(text)
+    }
+}
+
+impl fmt::Debug for EventFault {
+    fn fmt<W: fmt::Write>(&self, f: &mut fmt::Formatter<W>) -> fmt::Result {
+        fmt::Display::fmt(self, f)
+    }
 }
 
 impl From<AllocError> for EventFault {

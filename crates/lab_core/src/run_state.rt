@@ -1,7 +1,7 @@
 //! Whether a program runs.
 
 /// Whether there is a run: from Start until the program ends or is interrupted.
-#[derive(Clone, Copy, PartialEq, Eq)]
+#[derive(Clone, Copy)]
 pub enum RunState {
     NoRun,
     Running,

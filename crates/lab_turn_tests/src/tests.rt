@@ -8,8 +8,8 @@ use lab_turn::turnstile::Turnstile;
 use std::process::Abort;
 use std::sync::Wait;
 use std::test::Fail;
-use std::thread;
 use std::thread::Threads;
+use std::{fmt, thread};
 
 // A turnstile over a new counter, with its two passes, those of seat 0 and 1.
 fn opened(alloc: Global, limit: u64) -> Option<(Turnstile<Counter>, Pass<Counter>, Pass<Counter>)>
@@ -71,22 +71,84 @@ fn race<R: Threads + Wait + Abort + Sync>(
     )
 }
 
+// Whether the marks of each of the two seats count up from 0.
+fn are_in_order(entries: &[(u32, u32)]) -> bool {
+    let mut marks = [0, 0];
+    for (seat, mark) in entries {
+        let at = *seat as usize;
+        if at >= 2 || *mark != marks[at] {
+            return false;
+        }
+        marks[at] = mark.wrapping_add(1);
+    }
+    true
+}
+
 #[test]
 fn two_threads(rt: HostRuntime) -> Result<(), Fail> {
     let Some((desk, first, second)) = opened(rt.alloc(), 1 << 20) else {
         return Err("memory".into());
     };
     let (first, second) = race(&rt, &desk, first, second);
-    let counter = desk.close(vec![in rt.alloc(); second, first]?)?;
-    assert_eq!(rt; counter.value(), 2000);
-    let mut marks = [0, 0];
-    for (seat, mark) in counter.entries() {
-        let at = *seat as usize;
-        assert!(rt; at < 2, "seat {seat}");
-        assert_eq!(rt; *mark, marks[at], "seat {seat}");
-        marks[at] = mark.wrapping_add(1);
-    }
+    let passes = vec![in rt.alloc(); second, first].expect(&rt, "memory");
+    let counter = desk.close(passes)?;
+    let (count, are_in_order) = (counter.value(), are_in_order(counter.entries()));
+    drop(counter);
+    assert!(rt; count == 2000 && are_in_order);
     Ok(())
+}
+
+type Answer = Result<Result<u64, CountFault>, TurnFault>;
+
+// Four turns with the marks 7 to 10, by one pass and the other.
+fn four_turns<R: Wait>(
+    rt: &R,
+    desk: &Turnstile<Counter>,
+    first: &mut Pass<Counter>,
+    second: &mut Pass<Counter>,
+) -> [Answer; 4]
+    requires first { first.old.turnstile ≡ desk.now }
+    requires second { second.old.turnstile ≡ desk.now }
+    ensures first { first.new.turnstile ≡ desk.now }
+    ensures second { second.new.turnstile ≡ desk.now }
+{
+    [
+        desk.turn(rt, first, 7),
+        desk.turn(rt, second, 8),
+        desk.turn(rt, first, 9),
+        desk.turn(rt, second, 10),
+    ]
+}
+
+fn expect_text<T: fmt::Display>(rt: &impl Abort, alloc: Global, shown: &T, wanted: &str) {
+    let text = format!(in alloc; "{shown}").expect(rt, "memory");
+    assert!(rt; text.as_str() == wanted);
+}
+
+// Closes it without the second pass, which is refused, and then with both.
+fn close_twice(
+    rt: &impl Abort,
+    alloc: Global,
+    desk: Turnstile<Counter>,
+    first: Pass<Counter>,
+    second: Pass<Counter>,
+) -> Result<Counter, Fail>
+    requires first { first.turnstile ≡ desk }
+    requires second { second.turnstile ≡ desk }
+{
+    let passes = vec![in alloc; first].expect(rt, "memory");
+    let Err(fault) = desk.close(passes) else {
+        drop(second);
+        return Err("closed without a pass".into());
+    };
+    expect_text(rt, alloc, &fault, "a pass of the turnstile is missing");
+    let CloseFault::MissingPass {
+        turnstile,
+        mut passes,
+    } = fault;
+    assert!(rt; passes.len() == 1);
+    passes.push(second).expect(rt, "memory");
+    Ok(turnstile.close(passes)?)
 }
 
 #[test]
@@ -94,45 +156,39 @@ fn calls_of_two_seats(rt: HostRuntime) -> Result<(), Fail> {
     let Some((desk, mut first, mut second)) = opened(rt.alloc(), 3) else {
         return Err("memory".into());
     };
-    assert_eq!(rt; desk.turn(&rt, &mut first, 7), Ok(Ok(1)));
-    assert_eq!(rt; desk.turn(&rt, &mut second, 8), Ok(Ok(2)));
-    assert_eq!(rt; desk.turn(&rt, &mut first, 9), Ok(Ok(3)));
-    assert_eq!(rt; desk.turn(&rt, &mut second, 10), Ok(Err(CountFault::Full)));
-    let Err(fault) = desk.close(vec![in rt.alloc(); first]?) else {
-        return Err("closed without a pass".into());
-    };
-    let text = format!(in rt.alloc(); "{fault}")?;
-    assert_eq!(rt; text.as_str(), "a pass of the turnstile is missing");
-    let CloseFault::MissingPass {
-        turnstile,
-        mut passes,
-    } = fault;
-    assert_eq!(rt; passes.len(), 1);
-    passes.push(second)?;
-    let counter = turnstile.close(passes)?;
-    assert_eq!(rt; counter.value(), 3);
-    assert_eq!(rt; counter.entries(), [(0, 7), (1, 8), (0, 9)].as_slice());
-    assert_eq!(rt; counter.label(), 80);
+    let answers = four_turns(&rt, &desk, &mut first, &mut second);
+    let counter = close_twice(&rt, rt.alloc(), desk, first, second)?;
+    let (count, label) = (counter.value(), counter.label());
+    let are_kept = counter.entries() == [(0, 7), (1, 8), (0, 9)].as_slice();
+    drop(counter);
+    assert!(rt; answers == [Ok(Ok(1)), Ok(Ok(2)), Ok(Ok(3)), Ok(Err(CountFault::Full))]);
+    assert!(rt; count == 3 && are_kept && label == 80);
     Ok(())
 }
 
+const COUNT_FAULTS: [(CountFault, &str); 2] = [
+    (CountFault::OutOfMemory, "out of memory"),
+    (CountFault::Full, "the counter is at its limit"),
+];
+
 #[test]
-fn texts(rt: HostRuntime) -> Result<(), Fail> {
-    let alloc = rt.alloc();
-    let worn = format!(in alloc; "{}", TurnFault::Worn)?;
-    assert_eq!(rt; worn.as_str(), "all tickets of the turnstile are drawn");
-    let refused = OpenFault::OutOfMemory(Counter::new(alloc, 1));
-    let text = format!(in alloc; "{refused}")?;
-    assert_eq!(rt; text.as_str(), "out of memory");
-    for (fault, want) in [
-        (CountFault::OutOfMemory, "out of memory"),
-        (CountFault::Full, "the counter is at its limit"),
-    ] {
-        let text = format!(in alloc; "{fault}")?;
-        assert_eq!(rt; text.as_str(), want);
+fn texts(rt: HostRuntime) {
+    let worn = "all tickets of the turnstile are drawn";
+    expect_text(&rt, rt.alloc(), &TurnFault::Worn, worn);
+    let refused = OpenFault::OutOfMemory(Counter::new(rt.alloc(), 1));
+    expect_text(&rt, rt.alloc(), &refused, "out of memory");
+    drop(refused);
+    for (fault, text) in &COUNT_FAULTS {
+        expect_text(&rt, rt.alloc(), fault, text);
     }
-    let (desk, passes) = Turnstile::open(alloc, Counter::new(alloc, 1), 1)?;
-    let text = format!(in alloc; "{desk:?} {passes:?}")?;
-    assert_eq!(rt; text.as_str(), "Turnstile { seats: 1 } [Pass { seat: 0 }]");
+}
+
+#[test]
+fn seats_are_shown(rt: HostRuntime) -> Result<(), Fail> {
+    let (desk, passes) = Turnstile::open(rt.alloc(), Counter::new(rt.alloc(), 1), 1)?;
+    let text = format!(in rt.alloc(); "{desk:?} {passes:?}");
+    drop(passes);
+    drop(desk);
+    assert!(rt; text?.as_str() == "Turnstile { seats: 1 } [Pass { seat: 0 }]");
     Ok(())
 }

@@ -135,34 +135,73 @@ fn push_text(
 
 // ---- the scopes
 
+fn push_registers(
+    alloc: Global,
+    shown: &mut Sequence<Variable>,
+    regs: Registers,
+) -> Result<(), AllocError>
+    requires { shown.old ≡ [] }
+    ensures { OnOk result (shown.new ≡ variables.register_variables regs) }
+{
+    push_byte(alloc, shown, "A", regs.a)?;
+    push_byte(alloc, shown, "B", regs.b)?;
+    push_byte(alloc, shown, "C", regs.c)?;
+    push_byte(alloc, shown, "D", regs.d)?;
+    push_byte(alloc, shown, "E", regs.e)?;
+    push_byte(alloc, shown, "H", regs.h)?;
+    push_byte(alloc, shown, "L", regs.l)?;
+    push_word(alloc, shown, "SP", regs.sp)?;
+    push_word(alloc, shown, "PC", regs.pc)
+}
+
 pub(crate) fn registers(alloc: Global, regs: Registers) -> Result<Sequence<Variable>, AllocError>
     ensures { IfOk result (λ shown. shown ≡ variables.register_variables regs) }
 {
     let mut shown = Sequence::new(alloc);
-    push_byte(alloc, &mut shown, "A", regs.a)?;
-    push_byte(alloc, &mut shown, "B", regs.b)?;
-    push_byte(alloc, &mut shown, "C", regs.c)?;
-    push_byte(alloc, &mut shown, "D", regs.d)?;
-    push_byte(alloc, &mut shown, "E", regs.e)?;
-    push_byte(alloc, &mut shown, "H", regs.h)?;
-    push_byte(alloc, &mut shown, "L", regs.l)?;
-    push_word(alloc, &mut shown, "SP", regs.sp)?;
-    push_word(alloc, &mut shown, "PC", regs.pc)?;
+    push_registers(alloc, &mut shown, regs)?;
     Ok(shown)
+}
+
+fn push_flags(
+    alloc: Global,
+    shown: &mut Sequence<Variable>,
+    regs: Registers,
+) -> Result<(), AllocError>
+    requires { shown.old ≡ [] }
+    ensures { OnOk result (shown.new ≡ variables.flag_variables regs) }
+{
+    let flags = regs.flags;
+    push_text(alloc, shown, "S", bit_text(flags.sign()))?;
+    push_text(alloc, shown, "Z", bit_text(flags.zero()))?;
+    push_text(alloc, shown, "AC", bit_text(flags.auxiliary_carry()))?;
+    push_text(alloc, shown, "P", bit_text(flags.parity()))?;
+    push_text(alloc, shown, "CY", bit_text(flags.carry()))?;
+    push_text(alloc, shown, "INTE", interrupts_text(regs.interrupts))
 }
 
 pub(crate) fn flags(alloc: Global, regs: Registers) -> Result<Sequence<Variable>, AllocError>
     ensures { IfOk result (λ shown. shown ≡ variables.flag_variables regs) }
 {
-    let flags = regs.flags;
     let mut shown = Sequence::new(alloc);
-    push_text(alloc, &mut shown, "S", bit_text(flags.sign()))?;
-    push_text(alloc, &mut shown, "Z", bit_text(flags.zero()))?;
-    push_text(alloc, &mut shown, "AC", bit_text(flags.auxiliary_carry()))?;
-    push_text(alloc, &mut shown, "P", bit_text(flags.parity()))?;
-    push_text(alloc, &mut shown, "CY", bit_text(flags.carry()))?;
-    push_text(alloc, &mut shown, "INTE", interrupts_text(regs.interrupts))?;
+    push_flags(alloc, &mut shown, regs)?;
     Ok(shown)
+}
+
+fn push_devices(
+    alloc: Global,
+    shown: &mut Sequence<Variable>,
+    devices: &Devices,
+) -> Result<(), AllocError>
+    requires { shown.old ≡ [] }
+    ensures { (past : List Operation) → StandsFor devices.now past
+        → OnOk result (shown.new ≡ variables.device_variables (panel_after past)) }
+{
+    push_byte(alloc, shown, "switches", devices.switches())?;
+    push_byte(alloc, shown, "lamps", devices.lamps())?;
+    let latched = latched_text(alloc, devices.request())?;
+    push(alloc, shown, "latched", latched)?;
+    let waiting = decimal(alloc, devices.waiting())?;
+    push(alloc, shown, "waiting", waiting)
 }
 
 pub(crate) fn devices(alloc: Global, devices: &Devices) -> Result<Sequence<Variable>, AllocError>
@@ -170,12 +209,7 @@ pub(crate) fn devices(alloc: Global, devices: &Devices) -> Result<Sequence<Varia
         → IfOk result (λ shown. shown ≡ variables.device_variables (panel_after past)) }
 {
     let mut shown = Sequence::new(alloc);
-    push_byte(alloc, &mut shown, "switches", devices.switches())?;
-    push_byte(alloc, &mut shown, "lamps", devices.lamps())?;
-    let latched = latched_text(alloc, devices.request())?;
-    push(alloc, &mut shown, "latched", latched)?;
-    let waiting = decimal(alloc, devices.waiting())?;
-    push(alloc, &mut shown, "waiting", waiting)?;
+    push_devices(alloc, &mut shown, devices)?;
     Ok(shown)
 }
 

@@ -13,10 +13,15 @@ use zmtp_wire::side::Side;
 use zmtp_wire::writing::{greeting, put_message, ready};
 
 // A greeting with all that is free filled in, and a DEALER's READY.
-const GREETING: &str = "FF00000000000000017F03014E554C4C00000000000000000000000000000000\
+pub(crate) const GREETING: &str = "FF00000000000000017F03014E554C4C00000000000000000000000000000000\
     0100000000000000000000000000000000000000000000000000000000000009";
 
-const DEALER: &str = "041C0552454144590B536F636B65742D54797065000000064445414C4552";
+pub(crate) const DEALER: &str = "041C0552454144590B536F636B65742D54797065000000064445414C4552";
+
+// What each side writes first: version 3.0, NULL.
+pub(crate) const OUR_GREETING: &str =
+    "FF00000000000000007F03004E554C4C00000000000000000000000000000000\
+    0000000000000000000000000000000000000000000000000000000000000000";
 
 // Adds the bytes that digits spell.
 fn push_hex(bytes: &mut Vec<u8>, digits: &str) -> Result<(), Fail> {
@@ -238,11 +243,6 @@ const GREETINGS: [Row; 7] = [
     ),
 ];
 
-#[test]
-fn greetings(rt: HostRuntime) -> Result<(), Fail> {
-    check_rows(&rt, rt.alloc(), "", "", &GREETINGS)
-}
-
 const HANDSHAKES: [Row; 13] = [
     ("08", "", Some((1, StreamFault::Flags))),
     ("00", "", Some((1, StreamFault::Command))),
@@ -270,11 +270,6 @@ const HANDSHAKES: [Row; 13] = [
     ("060000000000100001", "", Some((9, StreamFault::FrameSize))),
     ("0401", "", None),
 ];
-
-#[test]
-fn handshakes(rt: HostRuntime) -> Result<(), Fail> {
-    check_rows(&rt, rt.alloc(), GREETING, "", &HANDSHAKES)
-}
 
 const TRAFFIC: [Row; 16] = [
     ("01 00 00 05 68 65 6C 6C 6F", ",hello,.", None),
@@ -311,28 +306,6 @@ const TRAFFIC: [Row; 16] = [
     ("04 06 05 52 45 41 44 59 00 01 61", "a,.", None),
 ];
 
-#[test]
-fn traffic(rt: HostRuntime) -> Result<(), Fail> {
-    check_rows(&rt, rt.alloc(), GREETING, DEALER, &TRAFFIC)
-}
-
-// Feeds the same piece again and again.
-fn check_again(rt: &impl Abort, alloc: Global, side: &mut Side) -> Result<(), Fail> {
-    for text in &["a,.", "", ""] {
-        let broken = feed_all(alloc, side, b"\0\x01a\x08", 4, text)?;
-        assert!(rt; broken == Some((4, StreamFault::Flags)));
-    }
-    Ok(())
-}
-
-#[test]
-fn faults_stay(rt: HostRuntime) -> Result<(), Fail> {
-    let mut side = router_after(rt.alloc(), GREETING, DEALER)?;
-    let checked = check_again(&rt, rt.alloc(), &mut side);
-    drop(side);
-    checked
-}
-
 // Sixty-three frames that others follow, and then one more, or the last.
 const FRAME_COUNTS: [Row; 2] = [
     (
@@ -353,9 +326,37 @@ const FRAME_COUNTS: [Row; 2] = [
     ),
 ];
 
+// What a ROUTER has read before, a greeting and a READY, and what comes then.
+const STREAMS: [(&str, &str, &[Row]); 4] = [
+    ("", "", &GREETINGS),
+    (GREETING, "", &HANDSHAKES),
+    (GREETING, DEALER, &TRAFFIC),
+    (GREETING, DEALER, &FRAME_COUNTS),
+];
+
 #[test]
-fn frame_counts(rt: HostRuntime) -> Result<(), Fail> {
-    check_rows(&rt, rt.alloc(), GREETING, DEALER, &FRAME_COUNTS)
+fn streams(rt: HostRuntime) -> Result<(), Fail> {
+    for (greeting, ready, rows) in &STREAMS {
+        check_rows(&rt, rt.alloc(), greeting, ready, rows)?;
+    }
+    Ok(())
+}
+
+// Feeds the same piece again and again.
+fn check_again(rt: &impl Abort, alloc: Global, side: &mut Side) -> Result<(), Fail> {
+    for text in &["a,.", "", ""] {
+        let broken = feed_all(alloc, side, b"\0\x01a\x08", 4, text)?;
+        assert!(rt; broken == Some((4, StreamFault::Flags)));
+    }
+    Ok(())
+}
+
+#[test]
+fn faults_stay(rt: HostRuntime) -> Result<(), Fail> {
+    let mut side = router_after(rt.alloc(), GREETING, DEALER)?;
+    let checked = check_again(&rt, rt.alloc(), &mut side);
+    drop(side);
+    checked
 }
 
 // A peer's READY, whether it is accepted, and the identity that it gives.
@@ -446,13 +447,6 @@ const READIES: [(Role, &str); 5] = [
     (Role::Dealer, DEALER),
 ];
 
-fn is_greeting(alloc: Global, bytes: &[u8]) -> Result<bool, Fail> {
-    let front = "FF 00 00 00 00 00 00 00 00 7F 03 00 4E 55 4C 4C";
-    let mut want = bytes_of(alloc, front, "", "")?;
-    want.resize(64, 0)?;
-    Ok(bytes == want.as_slice())
-}
-
 fn is_spelled(alloc: Global, bytes: &[u8], digits: &str) -> Result<bool, Fail> {
     let want = bytes_of(alloc, digits, "", "")?;
     Ok(bytes == want.as_slice())
@@ -460,7 +454,7 @@ fn is_spelled(alloc: Global, bytes: &[u8], digits: &str) -> Result<bool, Fail> {
 
 #[test]
 fn written_handshakes(rt: HostRuntime) -> Result<(), Fail> {
-    assert!(rt; is_greeting(rt.alloc(), greeting())?);
+    assert!(rt; is_spelled(rt.alloc(), greeting(), OUR_GREETING)?);
     for (role, digits) in &READIES {
         assert!(rt; is_spelled(rt.alloc(), ready(*role), digits)?, "{digits}");
     }
@@ -486,17 +480,18 @@ fn message_of_two(alloc: Global) -> Result<Bytes, AllocError> {
     message
 }
 
-fn wanted_message(alloc: Global) -> Result<Vec<u8>, Fail> {
-    let mut want = bytes_of(alloc, "01 00 02 00 00 00 00 00 00 01 00", "", "")?;
-    want.resize(267, b'x')?;
-    Ok(want)
+// Whether these are the heads and the bytes of those two frames.
+fn are_two(bytes: &[u8]) -> bool {
+    match bytes.strip_prefix(b"\x01\0\x02\0\0\0\0\0\0\x01\0") {
+        Some(long) => long == [b'x'; 256].as_slice(),
+        None => false,
+    }
 }
 
 #[test]
 fn written_message(rt: HostRuntime) -> Result<(), Fail> {
-    let want = wanted_message(rt.alloc())?;
     let message = message_of_two(rt.alloc())?;
-    assert!(rt; message.as_slice() == want.as_slice());
+    assert!(rt; are_two(message.as_slice()));
     Ok(())
 }
 
@@ -557,7 +552,8 @@ fn feed_two(alloc: Global, side: &mut Side, front: &[u8], back: &[u8]) -> Result
     }
 }
 
-fn ready_between(alloc: Global, front: &[u8], back: &[u8]) -> Result<bool, Fail> {
+fn ready_between(alloc: Global, bytes: &[u8], cut: usize) -> Result<bool, Fail> {
+    let (front, back) = bytes.split_at(cut.min(bytes.len()));
     let mut side = Side::new(alloc, Role::Router);
     let is_ready = feed_two(alloc, &mut side, front, back);
     drop(side);
@@ -569,8 +565,7 @@ fn ready_between(alloc: Global, front: &[u8], back: &[u8]) -> Result<bool, Fail>
 fn cut_once(rt: HostRuntime) -> Result<(), Fail> {
     let bytes = bytes_of(rt.alloc(), GREETING, DEALER, "01 00 00 05 68 65 6C 6C 6F")?;
     for cut in 0..103 {
-        let (front, back) = bytes.as_slice().split_at_checked(cut).ok_or("too short")?;
-        let is_ready = ready_between(rt.alloc(), front, back)?;
+        let is_ready = ready_between(rt.alloc(), bytes.as_slice(), cut)?;
         assert!(rt; is_ready == (cut >= 94), "cut at {cut}");
     }
     Ok(())
@@ -642,22 +637,11 @@ fn converse(rt: &impl Abort, alloc: Global, size: usize) -> Result<(), Fail> {
     Ok(())
 }
 
+// Whole, in two, in sixteens, and byte by byte.
 #[test]
-fn fed_again_whole(rt: HostRuntime) -> Result<(), Fail> {
-    converse(&rt, rt.alloc(), 1000)
-}
-
-#[test]
-fn fed_again_in_two(rt: HostRuntime) -> Result<(), Fail> {
-    converse(&rt, rt.alloc(), 113)
-}
-
-#[test]
-fn fed_again_in_sixteens(rt: HostRuntime) -> Result<(), Fail> {
-    converse(&rt, rt.alloc(), 16)
-}
-
-#[test]
-fn fed_again_byte_by_byte(rt: HostRuntime) -> Result<(), Fail> {
-    converse(&rt, rt.alloc(), 1)
+fn fed_again(rt: HostRuntime) -> Result<(), Fail> {
+    for size in [1000, 113, 16, 1] {
+        converse(&rt, rt.alloc(), size)?;
+    }
+    Ok(())
 }

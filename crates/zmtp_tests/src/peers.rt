@@ -1,7 +1,7 @@
 //! Conversations over memory: handshakes and heartbeats with streams worked out by hand from RFC 23.
 ghost use Rattle.std.specs.Prelude.{◌≡◌, IfOk, false};
 
-use crate::framing::bytes_of;
+use crate::framing::{DEALER, GREETING, OUR_GREETING, bytes_of};
 use base_streams::memory::{Sink, Source};
 use std::alloc::Global;
 use std::process::Abort;
@@ -12,17 +12,9 @@ use zmtp_peer::heartbeat::heartbeat;
 use zmtp_wire::fault::StreamFault;
 use zmtp_wire::role::Role;
 
-const GREETING: &str = "FF00000000000000017F03014E554C4C00000000000000000000000000000000\
-    0100000000000000000000000000000000000000000000000000000000000009";
-
-const DEALER: &str = "041C0552454144590B536F636B65742D54797065000000064445414C4552";
-
 const REQ: &str = "04190552454144590B536F636B65742D5479706500000003524551";
 
-// What each side writes first: version 3.0, NULL, and the READY of its role.
-const OUR_GREETING: &str = "FF00000000000000007F03004E554C4C00000000000000000000000000000000\
-    0000000000000000000000000000000000000000000000000000000000000000";
-
+// What each side writes behind its greeting: the READY of its role.
 const ROUTER: &str = "041C0552454144590B536F636B65742D5479706500000006524F55544552";
 
 const REP: &str = "04190552454144590B536F636B65742D5479706500000003524550";
@@ -92,15 +84,6 @@ fn answer_to(alloc: Global, ready: &str, pace: Pace) -> Result<(Option<PeerFault
 
 const PACES: [Pace; 2] = [AMPLE, BYTE_BY_BYTE];
 
-#[test]
-fn handshakes(rt: HostRuntime) -> Result<(), Fail> {
-    for (place, pace) in PACES.iter().enumerate() {
-        let answer = answer_to(rt.alloc(), DEALER, *pace)?;
-        assert!(rt; answer == (None, 94), "pace {place}");
-    }
-    Ok(())
-}
-
 // The greeting is written before anything is read, READY once the peer's greeting is whole.
 #[test]
 fn cut_greetings(rt: HostRuntime) -> Result<(), Fail> {
@@ -118,23 +101,26 @@ const OF_SUB: &str = "04190552454144590B536F636B65742D5479706500000003535542";
 
 const OF_ANOTHER_LENGTH: &str = "04190552454144590B536F636B65742D5479706500000004524551";
 
-// What comes after the greeting, how it comes, how much is written, and why it is refused. Where both come
-// in one piece, READY isn't written.
-const REFUSED: [(&str, Pace, usize, StreamFault); 4] = [
-    (OF_SUB, AMPLE, 64, StreamFault::SocketType),
-    (OF_SUB, BYTE_BY_BYTE, 94, StreamFault::SocketType),
-    (OF_ANOTHER_LENGTH, AMPLE, 64, StreamFault::Command),
-    (OF_ANOTHER_LENGTH, BYTE_BY_BYTE, 94, StreamFault::Command),
+const SOCKET_TYPE: Option<PeerFault> = Some(PeerFault::Wire(StreamFault::SocketType));
+
+const COMMAND: Option<PeerFault> = Some(PeerFault::Wire(StreamFault::Command));
+
+// What comes after the greeting, how it comes, why it is refused, if it is, and how much is written. Where
+// both come in one piece and READY is refused, our READY isn't written.
+const HANDSHAKES: [(&str, Pace, (Option<PeerFault>, usize)); 6] = [
+    (DEALER, AMPLE, (None, 94)),
+    (DEALER, BYTE_BY_BYTE, (None, 94)),
+    (OF_SUB, AMPLE, (SOCKET_TYPE, 64)),
+    (OF_SUB, BYTE_BY_BYTE, (SOCKET_TYPE, 94)),
+    (OF_ANOTHER_LENGTH, AMPLE, (COMMAND, 64)),
+    (OF_ANOTHER_LENGTH, BYTE_BY_BYTE, (COMMAND, 94)),
 ];
 
 #[test]
-fn refused(rt: HostRuntime) -> Result<(), Fail> {
-    for (place, (ready, pace, written, cause)) in REFUSED.iter().enumerate() {
+fn handshakes(rt: HostRuntime) -> Result<(), Fail> {
+    for (place, (ready, pace, wanted)) in HANDSHAKES.iter().enumerate() {
         let answer = answer_to(rt.alloc(), ready, *pace)?;
-        assert!(rt;
-            answer == (Some(PeerFault::Wire(*cause)), *written),
-            "row {place}"
-        );
+        assert!(rt; answer == *wanted, "row {place}");
     }
     Ok(())
 }

@@ -5,32 +5,51 @@ use std::fmt;
 use thiserror::Error;
 
 /// What is wrong with a stream.
-#[derive(Clone, Copy, PartialEq, Eq, Debug, Error)]
+#[derive(Clone, Copy, PartialEq, Eq, Error)]
 pub enum StreamFault {
     /// The greeting's first byte isn't FF, or its tenth isn't 7F.
-    #[error("no ZMTP greeting")]
     Signature,
     /// The peer's major version is below 3.
-    #[error("a version before ZMTP 3.0")]
     Version,
     /// The peer's security mechanism isn't NULL.
-    #[error("another mechanism than NULL")]
     Mechanism,
     /// A flag byte has reserved bits.
-    #[error("reserved flags")]
     Flags,
     /// A command that may not come here or can't be read, an ERROR, or a message before READY.
-    #[error("a command that isn't accepted")]
     Command,
     /// READY has no Socket-Type, or one that doesn't fit.
-    #[error("a socket type that doesn't fit")]
     SocketType,
     /// A frame of more than 1,048,576 bytes.
-    #[error("a frame that is too long")]
     FrameSize,
     /// A message of more than 64 frames.
-    #[error("a message of too many frames")]
     FrameCount,
+}
+
+impl StreamFault {
+    fn text(self) -> &'static str {
+        match self {
+            StreamFault::Signature => "no ZMTP greeting",
+            StreamFault::Version => "a version before ZMTP 3.0",
+            StreamFault::Mechanism => "another mechanism than NULL",
+            StreamFault::Flags => "reserved flags",
+            StreamFault::Command => "a command that isn't accepted",
+            StreamFault::SocketType => "a socket type that doesn't fit",
+            StreamFault::FrameSize => "a frame that is too long",
+            StreamFault::FrameCount => "a message of too many frames",
+        }
+    }
+}
+
+impl fmt::Display for StreamFault {
+    fn fmt<W: fmt::Write>(&self, f: &mut fmt::Formatter<W>) -> fmt::Result {
+        f.write_str(self.text())
+    }
+}
+
+impl fmt::Debug for StreamFault {
+    fn fmt<W: fmt::Write>(&self, f: &mut fmt::Formatter<W>) -> fmt::Result {
+        fmt::Display::fmt(self, f)
+    }
 }
 
 /// Why a piece wasn't read to its end.

@@ -1,11 +1,12 @@
 //! Views of a small board: the words of the tables, and the ends of every count.
+use crate::ask::{Ask, view};
+use crate::told::put_shown;
 use asm_build::built::Built;
 use asm_build::cell::build;
 use asm_build::symbols::Symbols;
 use asm_syntax::fault::AsmFault;
 use asm_text::statements::statements;
 use base_text::sequence::Sequence;
-use base_text::text::Text;
 use i80_devs::devices::Devices;
 use i80_exec::machine::Machine;
 use i80_exec::registers::{Interrupts, Registers, Stepped};
@@ -16,23 +17,11 @@ use lab_image::origins::Origins;
 use lab_sources::sources::{Source, Sources};
 use lab_views::fault::ViewFault;
 use lab_views::parts::Parts;
-use lab_views::shown::{CodeLine, Shown, SourceBreakpoints, StackFrame, Variable};
-use lab_views::view::View;
+use lab_views::shown::Shown;
 use lab_views::views::{after_instructions, show};
 use std::alloc::{AllocError, Global};
 use std::process::Abort;
 use std::rt::HostRuntime;
-
-/// What is asked.
-#[derive(Clone, Copy)]
-enum Ask {
-    Frames(u32, u32),
-    Scopes(u32),
-    Variables(u32, u32, u32),
-    Code(u16, u32),
-    Source(&'static str),
-    Info,
-}
 
 /// The parts of a board.
 #[derive(Drop)]
@@ -92,21 +81,6 @@ fn loaded(rt: &impl Abort, alloc: Global, text: &str) -> Board {
     }
 }
 
-fn view(alloc: Global, ask: Ask) -> Result<View, AllocError> {
-    Ok(match ask {
-        Ask::Frames(start, levels) => View::Frames { start, levels },
-        Ask::Scopes(id) => View::Scopes(id),
-        Ask::Variables(reference, start, count) => View::Variables {
-            reference,
-            start,
-            count,
-        },
-        Ask::Code(address, count) => View::Code { address, count },
-        Ask::Source(path) => View::Source(Text::copy_of(alloc, path)?),
-        Ask::Info => View::Info,
-    })
-}
-
 fn shown(alloc: Global, board: &Board, ask: Ask) -> Result<Shown, ViewFault> {
     let parts = Parts {
         machine: &board.machine,
@@ -120,81 +94,6 @@ fn shown(alloc: Global, board: &Board, ask: Ask) -> Result<Shown, ViewFault> {
         is_stopped: board.is_stopped,
     };
     show(alloc, &parts, &view(alloc, ask)?)
-}
-
-fn put_variables(told: &mut String, variables: &[Variable]) -> Result<(), AllocError> {
-    for variable in variables {
-        write!(
-            told,
-            "{}={} ",
-            variable.name.as_str(),
-            variable.value.as_str()
-        )?;
-    }
-    write!(told, "\n")
-}
-
-fn put_bytes(told: &mut String, bytes: &[u8]) -> Result<(), AllocError> {
-    for byte in bytes {
-        write!(told, " {byte:02X}")?;
-    }
-    Ok(())
-}
-
-fn put_frame(told: &mut String, frame: &StackFrame) -> Result<(), AllocError> {
-    let path = match &frame.source {
-        Some(path) => path.as_str(),
-        None => "none",
-    };
-    write!(
-        told,
-        "{} {} {path} {} {:04X}\n",
-        frame.id,
-        frame.name.as_str(),
-        frame.line,
-        frame.address
-    )
-}
-
-fn put_frames(told: &mut String, frames: &[StackFrame], total: u32) -> Result<(), AllocError> {
-    for frame in frames {
-        put_frame(told, frame)?;
-    }
-    write!(told, "of {total}\n")
-}
-
-fn put_code(told: &mut String, lines: &[CodeLine]) -> Result<(), AllocError> {
-    for line in lines {
-        write!(told, "{:04X}", line.address)?;
-        put_bytes(told, line.bytes.as_slice())?;
-        write!(told, " {}\n", line.text.as_str())?;
-    }
-    Ok(())
-}
-
-fn put_lists(told: &mut String, lists: &[SourceBreakpoints]) -> Result<(), AllocError> {
-    for list in lists {
-        write!(told, "{} {:?}\n", list.path.as_str(), list.lines.as_slice())?;
-    }
-    Ok(())
-}
-
-fn put_shown(told: &mut String, shown: &Shown) -> Result<(), AllocError> {
-    match shown {
-        Shown::Frames { frames, total } => put_frames(told, frames.as_slice(), *total),
-        Shown::Scopes => write!(told, "scopes\n"),
-        Shown::Variables(variables) => put_variables(told, variables.as_slice()),
-        Shown::Code(lines) => put_code(told, lines.as_slice()),
-        Shown::Source(text) => write!(told, "{}\n", text.as_str()),
-        Shown::Info {
-            is_attached,
-            is_stopped,
-            breakpoints,
-        } => {
-            write!(told, "{is_attached} {is_stopped}\n")?;
-            put_lists(told, breakpoints.as_slice())
-        }
-    }
 }
 
 fn put_answer(told: &mut String, answer: &Result<Shown, ViewFault>) -> Result<(), AllocError> {
@@ -390,13 +289,13 @@ const ALL_ASKS: [Ask; 12] = [
 ];
 
 const ALL_TOLD: &str = "\
-1 1ABCH a 5 0007
-2 SUB1 a 4 0006
-3 main a 3 0003
+1 1ABCH 5 a 0007
+2 SUB1 4 a 0006
+3 main 3 a 0003
 of 3
-2 SUB1 a 4 0006
+2 SUB1 4 a 0006
 of 3
-3 main a 3 0003
+3 main 3 a 0003
 of 3
 of 3
 of 3
@@ -410,7 +309,7 @@ SIX EQU 6
 CALL SUB1
 SUB1: NOP
 SUB2: NOP
-false true
+attached false stopped true
 a [2]
 ";
 
@@ -429,7 +328,7 @@ fn frames_sources_and_breakpoints(rt: HostRuntime) {
     call_twice(&mut board);
     compare(&rt, rt.alloc(), &board, &ALL_ASKS, ALL_TOLD);
     board.machine.set_pc(0x100);
-    let wanted = "1 1ABCH none 0 0100\nof 3\n";
+    let wanted = "1 1ABCH 0 none 0100\nof 3\n";
     compare(&rt, rt.alloc(), &board, &[Ask::Frames(0, 1)], wanted);
     board.is_stopped = false;
     let asks = [Ask::Frames(0, 0), Ask::Scopes(0)];
