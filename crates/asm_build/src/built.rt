@@ -3,7 +3,7 @@
 use crate::symbols::Symbols;
 
 /// An assembled statement that gives bytes.
-#[derive(Clone, Copy, PartialEq, Eq)]
+#[derive(Clone, Copy)]
 pub struct Row {
     /// The address of its first byte.
     pub address: u16,

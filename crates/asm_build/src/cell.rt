@@ -3,7 +3,7 @@ ghost use Rattle.std.specs.Prelude.{◌≡◌, ◌≤◌, [], length, fold, IfOk
 ghost use Rattle.asm_syntax.specs.Outcome.{Gives};
 ghost use Rattle.asm_build.specs.Meaning.{with_symbol, definitions, meaning_of, built_of, meaning_in};
 ghost use Rattle.asm_build.specs.Meaning.{IsMeaning, IsOnlyMeaning};
-ghost use Rattle.asm_build.specs.State.{lines_of};
+ghost use Rattle.asm_build.specs.State.{lines_of, output_in};
 
 use crate::built::Built;
 use crate::layout::{Layout, lay_out};
@@ -22,6 +22,19 @@ fn symbols_after(alloc: Global, kept: &Symbols, own: &Symbols) -> Result<Symbols
     Ok(symbols)
 }
 
+// What the value round gave, with the symbols to keep.
+fn with_symbols(values: Values, symbols: Symbols) -> Built
+    ensures { meaning_in result ≡ record { output = output_in values; symbols = symbols } }
+{
+    let Values { image, rows, start } = values;
+    Built {
+        image: image.into_vec(),
+        rows,
+        start,
+        symbols,
+    }
+}
+
 // The value round, and the symbols to keep after it.
 fn value_round(
     alloc: Global,
@@ -34,14 +47,11 @@ fn value_round(
     ensures { Gives meaning_in result
         (meaning_of kept.now (lines_of [] statements.now layout.now.rows.items)) }
 {
-    let Values { image, rows, start } = evaluate(alloc, kept, layout, statements)?;
-    let symbols = symbols_after(alloc, kept, &layout.own)?;
-    Ok(Built {
-        image: image.into_vec(),
-        rows,
-        start,
-        symbols,
-    })
+    let values = evaluate(alloc, kept, layout, statements)?;
+    match symbols_after(alloc, kept, &layout.own) {
+        Ok(symbols) => Ok(with_symbols(values, symbols)),
+        Err(_) => Err(AsmFault::OutOfMemory),
+    }
 }
 
 // The layout round, and after it the value round.

@@ -2,7 +2,7 @@
 
 /// Where a statement stands, whether it is assembled, and the value of the operand that decides
 /// the layout.
-#[derive(Clone, Copy, PartialEq, Eq)]
+#[derive(Clone, Copy)]
 pub struct Laid {
     /// The location counter before the statement, from 0 to 65,536.
     pub place: u32,

@@ -30,16 +30,22 @@ impl SymbolKind {
 }
 
 /// What a name stands for.
-#[derive(Clone, Copy, PartialEq, Eq)]
+#[derive(Clone, Copy)]
 pub struct Symbol {
     pub value: u16,
     pub kind: SymbolKind,
 }
 
 /// Names, in upper case, with what they stand for, in order of definition.
-#[derive(Drop)]
 pub struct Symbols {
     entries: IndexMap<String, Symbol>,
+}
+
+// One function for all places where symbols are dropped.
+impl Drop for Symbols {
+    fn drop(self) {
+        let Self { entries: _ } = self;
+    }
 }
 
 impl Model for Symbols {

@@ -101,8 +101,12 @@ impl Values {
             (output_in self.old) line here (Some operation.now)) }
     {
         let bytes = bytes_of(alloc, &names, here, &operation.action)?;
-        let start = start_of(&names, here, self.start, &operation.action)?;
-        self.put(operation.column, line, here, bytes.as_slice(), start)
+        let outcome = match start_of(&names, here, self.start, &operation.action) {
+            Ok(start) => self.put(operation.column, line, here, bytes.as_slice(), start),
+            Err(fault) => Err(fault),
+        };
+        drop(bytes);
+        outcome
     }
 
     // Goes past a line.
@@ -160,6 +164,27 @@ impl Values {
         }
         Ok(())
     }
+
+    // Goes past all lines of a cell in turn, with its SETs from none on.
+    fn with_cell(
+        &mut self,
+        alloc: Global,
+        kept: &Symbols,
+        layout: &Layout<'_>,
+        statements: &[Statement],
+    ) -> Result<(), AsmFault>
+        requires rows { length layout.now.rows.items ≡ length statements.now }
+        requires own { layout.now.own
+            ≡ definitions (lines_of [] statements.now layout.now.rows.items) }
+        requires none { output_in self.old ≡ record { image = []; rows = []; start = None } }
+        ensures { let all = lines_of [] statements.now layout.now.rows.items in
+            Gives (λ _. output_in self.new) result (output_of kept.now all all) }
+    {
+        let mut sets = Symbols::new(alloc);
+        let outcome = self.with_lines(alloc, kept, layout, statements, &mut sets);
+        drop(sets);
+        outcome
+    }
 }
 
 /// What the lines of a cell give, or the first fault on the way.
@@ -175,7 +200,8 @@ pub(crate) fn evaluate(
         Gives output_in result (output_of kept.now all all) }
 {
     let mut done = Values::new(alloc)?;
-    let mut sets = Symbols::new(alloc);
-    done.with_lines(alloc, kept, layout, statements, &mut sets)?;
-    Ok(done)
+    match done.with_cell(alloc, kept, layout, statements) {
+        Ok(()) => Ok(done),
+        Err(fault) => Err(fault),
+    }
 }

@@ -41,11 +41,11 @@ pub fn number_of(digits: &[u8]) -> Option<u16>
     ensures { result ≡ number_of digits.now }
 {
     let (front, last) = digits.split_at(digits.len() - 1);
-    match last[0] {
-        b'H' | b'h' => in_base(16, front),
-        b'D' | b'd' => in_base(10, front),
-        b'O' | b'o' | b'Q' | b'q' => in_base(8, front),
-        b'B' | b'b' => in_base(2, front),
+    match last[0].to_ascii_uppercase() {
+        b'H' => in_base(16, front),
+        b'D' => in_base(10, front),
+        b'O' | b'Q' => in_base(8, front),
+        b'B' => in_base(2, front),
         _ => in_base(10, digits),
     }
 }

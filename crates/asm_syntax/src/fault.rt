@@ -2,59 +2,74 @@
 ghost use Rattle.std.specs.Prelude.{◌≡◌};
 
 use std::alloc::{AllocError, AllocFailed};
+use std::fmt;
 use thiserror::Error;
 
 /// What is wrong at a place of a cell.
-#[derive(Clone, Copy, Debug, PartialEq, Eq, Error)]
+#[derive(Clone, Copy, PartialEq, Eq, Error)]
 pub enum FaultKind {
     /// A character that can't stand outside of comments.
-    #[error("Character")]
     Character,
     /// A number above 65,535, or with a digit that its base doesn't have.
-    #[error("Number")]
     Number,
     /// A string that isn't closed, is empty or too long, or has a character that none may have.
-    #[error("Text")]
     Text,
     /// A word that stands where a name must, and can't be one.
-    #[error("Name")]
     Name,
     /// No mnemonic or directive where one must stand.
-    #[error("Mnemonic")]
     Mnemonic,
     /// Operands that the operation doesn't have.
-    #[error("Operands")]
     Operands,
     /// IF, ELSE and ENDIF that don't match: at the end of the text, or at a word.
-    #[error("Conditional")]
     Conditional { is_missing_endif: bool },
     /// A cell of more than 1,048,576 bytes or 65,537 lines.
-    #[error("TooLong")]
     TooLong,
     /// A name without a value.
-    #[error("Undefined")]
     Undefined,
     /// A division by zero.
-    #[error("Divisor")]
     Divisor,
     /// An expression deeper than 64.
-    #[error("Nesting")]
     Nesting,
     /// A second definition of a name.
-    #[error("Twice")]
     Twice,
     /// A value that is needed before it is there, or a definition that comes too late.
-    #[error("Early")]
     Early,
     /// A value that doesn't fit its byte, or no number of a restart.
-    #[error("ByteRange")]
     ByteRange,
     /// A byte at an address that has one.
-    #[error("Overlap")]
     Overlap,
     /// A byte past the last address, 65,535.
-    #[error("PastEnd")]
     PastEnd,
+}
+
+impl fmt::Display for FaultKind {
+    fn fmt<W: fmt::Write>(&self, f: &mut fmt::Formatter<W>) -> fmt::Result {
+        let text = match self {
+            FaultKind::Character => "Character",
+            FaultKind::Number => "Number",
+            FaultKind::Text => "Text",
+            FaultKind::Name => "Name",
+            FaultKind::Mnemonic => "Mnemonic",
+            FaultKind::Operands => "Operands",
+            FaultKind::Conditional { .. } => "Conditional",
+            FaultKind::TooLong => "TooLong",
+            FaultKind::Undefined => "Undefined",
+            FaultKind::Divisor => "Divisor",
+            FaultKind::Nesting => "Nesting",
+            FaultKind::Twice => "Twice",
+            FaultKind::Early => "Early",
+            FaultKind::ByteRange => "ByteRange",
+            FaultKind::Overlap => "Overlap",
+            FaultKind::PastEnd => "PastEnd",
+        };
+        f.write_str(text)
+    }
+}
+
+impl fmt::Debug for FaultKind {
+    fn fmt<W: fmt::Write>(&self, f: &mut fmt::Formatter<W>) -> fmt::Result {
+        fmt::Display::fmt(self, f)
+    }
 }
 
 /// Why a line isn't read: memory ran out, or what is wrong at a column from 1.

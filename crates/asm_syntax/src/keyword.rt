@@ -10,7 +10,7 @@ use asm_expr::expression::{Binary, Unary};
 use i80_rows::instruction::{Cond, Instr, Operation, Rotation};
 
 /// An instruction that lacks a register.
-#[derive(Clone, Copy, PartialEq, Eq)]
+#[derive(Clone, Copy)]
 pub enum RegisterOperation {
     /// INR.
     Increment,
@@ -21,7 +21,7 @@ pub enum RegisterOperation {
 }
 
 /// An instruction that lacks a pair.
-#[derive(Clone, Copy, PartialEq, Eq)]
+#[derive(Clone, Copy)]
 pub enum PairOperation {
     /// INX.
     Increment,
@@ -32,7 +32,7 @@ pub enum PairOperation {
 }
 
 /// An instruction that lacks the pair with its address.
-#[derive(Clone, Copy, PartialEq, Eq)]
+#[derive(Clone, Copy)]
 pub enum IndexOperation {
     /// STAX.
     Store,
@@ -41,7 +41,7 @@ pub enum IndexOperation {
 }
 
 /// An instruction that lacks what it moves to or from the stack.
-#[derive(Clone, Copy, PartialEq, Eq)]
+#[derive(Clone, Copy)]
 pub enum StackOperation {
     Push,
     Pop,
@@ -49,7 +49,7 @@ pub enum StackOperation {
 
 /// A mnemonic, with the operands that it needs (8080/8085 Assembly Language Programming Manual,
 /// chapter 3).
-#[derive(Clone, Copy, PartialEq, Eq)]
+#[derive(Clone, Copy)]
 pub enum Mnemonic {
     /// No operands.
     Alone(Instr),
@@ -76,7 +76,7 @@ pub enum Mnemonic {
 }
 
 /// A directive (8080/8085 Assembly Language Programming Manual, chapter 4).
-#[derive(Clone, Copy, PartialEq, Eq)]
+#[derive(Clone, Copy)]
 pub enum Directive {
     Origin,
     Bytes,
@@ -106,7 +106,7 @@ pub enum RegisterWord {
 }
 
 /// What a word that can't be a name means.
-#[derive(Clone, Copy, PartialEq, Eq)]
+#[derive(Clone, Copy)]
 pub enum Keyword {
     Mnemonic(Mnemonic),
     Directive(Directive),

@@ -27,7 +27,7 @@ pub struct Label {
 }
 
 /// An instruction that lacks the byte after its opcode.
-#[derive(Clone, Copy, PartialEq, Eq)]
+#[derive(Clone, Copy)]
 pub enum ByteOperation {
     Mvi(Reg),
     AluImmediate(AluOperation),
@@ -50,7 +50,7 @@ impl ByteOperation {
 }
 
 /// An instruction that lacks the word after its opcode.
-#[derive(Clone, Copy, PartialEq, Eq)]
+#[derive(Clone, Copy)]
 pub enum WordOperation {
     Lxi(Pair),
     Shld,

@@ -6,7 +6,6 @@ use asm_build::symbols::Symbols;
 use asm_syntax::fault::FaultKind::{ByteRange, Divisor, Early, Overlap, PastEnd, Twice, Undefined};
 use asm_syntax::fault::{AsmFault, FaultKind};
 use std::alloc::{AllocError, Global};
-use std::test::Fail;
 
 // The symbols that are kept after a cell.
 fn kept_after(alloc: Global, text: &str) -> Result<Symbols, AsmFault> {
@@ -24,16 +23,16 @@ fn cell(alloc: Global, text: &str, before: &str) -> Result<Built, AsmFault> {
     built
 }
 
-fn fault_of(built: &Result<Built, AsmFault>) -> Result<Option<AsmFault>, Fail> {
+fn fault_of(built: &Result<Built, AsmFault>) -> Result<Option<AsmFault>, AllocError> {
     match built {
         Ok(_) => Ok(None),
-        Err(AsmFault::OutOfMemory) => Err(Fail::from(AllocError)),
+        Err(AsmFault::OutOfMemory) => Err(AllocError),
         Err(fault) => Ok(Some(*fault)),
     }
 }
 
 // The first fault of a cell over the symbols of the cell before it.
-fn fault_in(alloc: Global, text: &str, before: &str) -> Result<Option<AsmFault>, Fail> {
+fn fault_in(alloc: Global, text: &str, before: &str) -> Result<Option<AsmFault>, AllocError> {
     let built = cell(alloc, text, before);
     let fault = fault_of(&built);
     drop(built);
@@ -103,19 +102,16 @@ const FAULTS: [(&str, &str, usize, usize, FaultKind); 38] = [
 ];
 
 #[test]
-fn first_faults(rt: HostRuntime) -> Result<(), Fail> {
+fn first_faults(rt: HostRuntime) {
     for (text, before, line, column, kind) in &FAULTS {
         let wanted = AsmFault::At {
             line: *line,
             column: *column,
             kind: *kind,
         };
-        assert!(rt;
-            fault_in(rt.alloc(), text, before)? == Some(wanted),
-            "{text}"
-        );
+        let found = fault_in(rt.alloc(), text, before);
+        assert!(rt; found == Ok(Some(wanted)), "{text}");
     }
-    Ok(())
 }
 
 // Cells, the cell before them whose symbols are kept, and their bytes from an address on.
@@ -207,11 +203,11 @@ const IMAGES: [(&str, &str, u16, &[u8]); 47] = [
 ];
 
 #[test]
-fn images(rt: HostRuntime) -> Result<(), Fail> {
+fn images(rt: HostRuntime) {
     for (text, before, at, bytes) in &IMAGES {
-        assert!(rt; gives(rt.alloc(), text, before, *at, bytes)?, "{text}");
+        let is_given = gives(rt.alloc(), text, before, *at, bytes);
+        assert!(rt; is_given == Ok(true), "{text}");
     }
-    Ok(())
 }
 
 fn value_of(symbols: &Symbols, name: &str) -> Option<u16> {
@@ -238,9 +234,8 @@ fn kept_value(alloc: Global) -> Result<Option<u16>, AsmFault> {
 }
 
 #[test]
-fn kept_symbols_stay_as_they_are(rt: HostRuntime) -> Result<(), Fail> {
-    assert!(rt; kept_value(rt.alloc())? == Some(0));
-    Ok(())
+fn kept_symbols_stay_as_they_are(rt: HostRuntime) {
+    assert!(rt; kept_value(rt.alloc()) == Ok(Some(0)));
 }
 
 // So many instructions of two bytes.
@@ -264,7 +259,7 @@ fn image_length(alloc: Global, count: usize) -> Result<usize, AsmFault> {
 }
 
 // The first fault of so many instructions.
-fn fault_of_moves(alloc: Global, count: usize) -> Result<Option<AsmFault>, Fail> {
+fn fault_of_moves(alloc: Global, count: usize) -> Result<Option<AsmFault>, AllocError> {
     let text = moves(alloc, count)?;
     let fault = fault_in(alloc, text.as_str(), "");
     drop(text);
@@ -273,13 +268,12 @@ fn fault_of_moves(alloc: Global, count: usize) -> Result<Option<AsmFault>, Fail>
 
 // As many bytes as memory has, and one more.
 #[test]
-fn memory_can_be_filled(rt: HostRuntime) -> Result<(), Fail> {
-    assert!(rt; image_length(rt.alloc(), 32_768)? == 65_536);
+fn memory_can_be_filled(rt: HostRuntime) {
+    assert!(rt; image_length(rt.alloc(), 32_768) == Ok(65_536));
     let past_the_end = AsmFault::At {
         line: 32_769,
         column: 1,
         kind: PastEnd,
     };
-    assert!(rt; fault_of_moves(rt.alloc(), 32_769)? == Some(past_the_end));
-    Ok(())
+    assert!(rt; fault_of_moves(rt.alloc(), 32_769) == Ok(Some(past_the_end)));
 }

@@ -12,7 +12,6 @@ use asm_syntax::keyword::{Keyword, Mnemonic, RegisterWord};
 use asm_syntax::token::{Placed, Token, Word};
 use i80_rows::instruction::Instr;
 use std::alloc::{AllocError, Global};
-use std::test::Fail;
 
 // An environment in which X alone has a value.
 struct OnlyX;
@@ -74,9 +73,11 @@ fn tokens(alloc: Global, text: &str) -> Result<Vec<Placed<'static>>, AllocError>
 }
 
 // What an expression is worth, where `$` is 100 and X is 300.
-fn worth(alloc: Global, text: &str) -> Result<Result<u16, ExprFault>, Fail> {
-    let operand = expression(alloc, 9, &tokens(alloc, text)?)?;
-    Ok(value(&operand.expr, &OnlyX, 100))
+fn worth(alloc: Global, text: &str) -> Result<Result<u16, ExprFault>, LineFault> {
+    let tokens = tokens(alloc, text)?;
+    let operand = expression(alloc, 9, &tokens);
+    drop(tokens);
+    Ok(value(&operand?.expr, &OnlyX, 100))
 }
 
 const WORTH: [(&str, Result<u16, ExprFault>); 20] = [
@@ -107,15 +108,14 @@ const WORTH: [(&str, Result<u16, ExprFault>); 20] = [
 ];
 
 #[test]
-fn expressions(rt: HostRuntime) -> Result<(), Fail> {
+fn expressions(rt: HostRuntime) {
     for (text, wanted) in &WORTH {
-        assert!(rt; worth(rt.alloc(), text)? == *wanted, "{text}");
+        assert!(rt; worth(rt.alloc(), text) == Ok(*wanted), "{text}");
     }
-    Ok(())
 }
 
 // The number that a string is in an expression, given what stands between its quotes.
-fn number_in(alloc: Global, text: &[u8]) -> Result<Option<u16>, Fail> {
+fn number_in(alloc: Global, text: &[u8]) -> Result<Option<u16>, LineFault> {
     let operand = [Placed {
         column: 1,
         token: Token::Text(text),
@@ -140,53 +140,55 @@ const NUMBERS: [(&[u8], Option<u16>); 9] = [
 ];
 
 #[test]
-fn strings_that_are_numbers(rt: HostRuntime) -> Result<(), Fail> {
+fn strings_that_are_numbers(rt: HostRuntime) {
     for (text, wanted) in &NUMBERS {
-        assert!(rt; number_in(rt.alloc(), text)? == *wanted);
+        assert!(rt; number_in(rt.alloc(), text) == Ok(*wanted));
     }
-    Ok(())
 }
 
 // Whether a string, given what stands between its quotes, says these characters.
-fn says(alloc: Global, inside: &[u8], wanted: &[u8]) -> Result<bool, Fail> {
+fn says(alloc: Global, inside: &[u8], wanted: &[u8]) -> Result<bool, AllocError> {
     let operand = [Placed {
         column: 1,
         token: Token::Text(inside),
     }];
-    let inside = text(&operand).ok_or("a string")?;
-    let bytes = string_bytes(alloc, inside)?;
-    Ok(bytes.as_slice() == wanted)
+    match text(&operand) {
+        Some(inside) => Ok(string_bytes(alloc, inside)?.as_slice() == wanted),
+        None => Ok(false),
+    }
 }
 
 const STRINGS: [(&[u8], &[u8]); 3] = [(b"it''s", b"it's"), (b"it''s ''", b"it's '"), (b"", b"")];
 
 #[test]
-fn strings(rt: HostRuntime) -> Result<(), Fail> {
+fn strings(rt: HostRuntime) {
     for (inside, wanted) in &STRINGS {
-        assert!(rt; says(rt.alloc(), inside, wanted)?);
+        assert!(rt; says(rt.alloc(), inside, wanted) == Ok(true));
     }
-    Ok(())
 }
 
 // What is wrong with an expression, for an operation at column 9.
-fn fault(alloc: Global, text: &str) -> Result<Option<LineFault>, Fail> {
-    match expression(alloc, 9, &tokens(alloc, text)?) {
+fn fault_of(alloc: Global, tokens: &[Placed<'_>]) -> Result<Option<LineFault>, AllocError> {
+    match expression(alloc, 9, tokens) {
         Ok(_) => Ok(None),
-        Err(LineFault::OutOfMemory) => Err(Fail::from(AllocError)),
+        Err(LineFault::OutOfMemory) => Err(AllocError),
         Err(fault) => Ok(Some(fault)),
     }
 }
 
+fn fault_in(alloc: Global, text: &str) -> Result<Option<LineFault>, AllocError> {
+    fault_of(alloc, &tokens(alloc, text)?)
+}
+
 #[test]
-fn shape_faults(rt: HostRuntime) -> Result<(), Fail> {
+fn shape_faults(rt: HostRuntime) {
     let operands = Some(LineFault::At {
         column: 9,
         kind: FaultKind::Operands,
     });
     for text in ["", "12", "(1", "1)", "N", "1$", "1xM", "()", "1,2"] {
-        assert!(rt; fault(rt.alloc(), text)? == operands, "{text}");
+        assert!(rt; fault_in(rt.alloc(), text) == Ok(operands), "{text}");
     }
-    Ok(())
 }
 
 // So many of one text, a 1, and as many of another.
@@ -208,14 +210,19 @@ fn is_too_deep(
     count: usize,
     before: &str,
     after: &str,
-) -> Result<(bool, bool), Fail> {
+) -> Result<(bool, bool), AllocError> {
     let text = around(alloc, count, before, after)?;
-    let is_shaped = is_expression(&tokens(alloc, text.as_str())?);
+    let tokens = tokens(alloc, text.as_str());
+    drop(text);
+    let tokens = tokens?;
+    let is_shaped = is_expression(&tokens);
+    let fault = fault_of(alloc, &tokens);
+    drop(tokens);
     let nesting = LineFault::At {
         column: 1,
         kind: FaultKind::Nesting,
     };
-    Ok((is_shaped, fault(alloc, text.as_str())? == Some(nesting)))
+    Ok((is_shaped, fault? == Some(nesting)))
 }
 
 const DEPTHS: [(usize, &str, &str, (bool, bool)); 10] = [
@@ -232,12 +239,11 @@ const DEPTHS: [(usize, &str, &str, (bool, bool)); 10] = [
 ];
 
 #[test]
-fn depth(rt: HostRuntime) -> Result<(), Fail> {
+fn depth(rt: HostRuntime) {
     for (count, before, after, wanted) in &DEPTHS {
-        let found = is_too_deep(rt.alloc(), *count, before, after)?;
-        assert!(rt; found == *wanted, "{count} {before} {after}");
+        let found = is_too_deep(rt.alloc(), *count, before, after);
+        assert!(rt; found == Ok(*wanted), "{count} {before} {after}");
     }
-    Ok(())
 }
 
 // The word that all tokens are; of the first operand its word; how many tokens follow its comma;
@@ -261,6 +267,10 @@ fn split(tokens: &[Placed<'_>]) -> Split {
     )
 }
 
+fn split_of(alloc: Global, text: &str) -> Result<Split, AllocError> {
+    Ok(split(&tokens(alloc, text)?))
+}
+
 const SPLITS: [(&str, Split); 6] = [
     (
         "a,5+1",
@@ -274,12 +284,10 @@ const SPLITS: [(&str, Split); 6] = [
 ];
 
 #[test]
-fn operands_between_commas(rt: HostRuntime) -> Result<(), Fail> {
+fn operands_between_commas(rt: HostRuntime) {
     for (text, wanted) in &SPLITS {
-        let found = split(&tokens(rt.alloc(), text)?);
-        assert!(rt; found == *wanted, "{text}");
+        assert!(rt; split_of(rt.alloc(), text) == Ok(*wanted), "{text}");
     }
-    Ok(())
 }
 
 // The column of the leftmost word that can't stand where it does.
@@ -303,11 +311,13 @@ const MISPLACED: [(&str, Option<usize>); 17] = [
     ("x", None),
 ];
 
+fn misplaced_in(alloc: Global, text: &str) -> Result<Option<usize>, AllocError> {
+    Ok(misplaced_word(&tokens(alloc, text)?))
+}
+
 #[test]
-fn misplaced_words(rt: HostRuntime) -> Result<(), Fail> {
+fn misplaced_words(rt: HostRuntime) {
     for (text, wanted) in &MISPLACED {
-        let found = misplaced_word(&tokens(rt.alloc(), text)?);
-        assert!(rt; found == *wanted, "{text}");
+        assert!(rt; misplaced_in(rt.alloc(), text) == Ok(*wanted), "{text}");
     }
-    Ok(())
 }

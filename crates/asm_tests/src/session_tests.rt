@@ -2,37 +2,49 @@
 
 use asm_build::built::{Built, Row};
 use asm_build::cell::build;
-use asm_build::symbols::Symbols;
+use asm_build::symbols::{SymbolKind, Symbols};
 use asm_syntax::fault::AsmFault;
 use asm_text::statements::statements;
 use std::alloc::{AllocError, Global};
-use std::test::Fail;
 
-fn show_image(text: &mut String, image: &[(u16, u8)]) -> Result<(), Fail> {
+fn show_image(text: &mut String, image: &[(u16, u8)]) -> Result<(), AllocError> {
     for (address, byte) in image {
         write!(text, "{address:X}={byte:X} ")?;
     }
     Ok(())
 }
 
-fn show_rows(text: &mut String, rows: &[Row]) -> Result<(), Fail> {
+fn show_rows(text: &mut String, rows: &[Row]) -> Result<(), AllocError> {
     for row in rows {
         write!(text, "{}@{:X}+{} ", row.line, row.address, row.length)?;
     }
     Ok(())
 }
 
-fn show_symbols(text: &mut String, symbols: &Symbols) -> Result<(), Fail> {
+fn kind_name(kind: SymbolKind) -> &'static str {
+    match kind {
+        SymbolKind::Label => "Label",
+        SymbolKind::Equ => "Equ",
+        SymbolKind::Set => "Set",
+    }
+}
+
+fn show_symbols(text: &mut String, symbols: &Symbols) -> Result<(), AllocError> {
     for index in 0..symbols.len() {
         if let Some((name, symbol)) = symbols.at(index) {
-            write!(text, "{name}:{:X} {:?} ", symbol.value, symbol.kind)?;
+            write!(
+                text,
+                "{name}:{:X} {} ",
+                symbol.value,
+                kind_name(symbol.kind)
+            )?;
         }
     }
     Ok(())
 }
 
 // Each byte with its address, each row as line@address+length, the start, and the symbols in order.
-fn show(text: &mut String, built: &Built) -> Result<(), Fail> {
+fn show(text: &mut String, built: &Built) -> Result<(), AllocError> {
     show_image(text, built.image.as_slice())?;
     show_rows(text, built.rows.as_slice())?;
     if let Some(start) = built.start {
@@ -48,17 +60,36 @@ pub(crate) fn built(alloc: Global, cell: &str, kept: &Symbols) -> Result<Built, 
 }
 
 // What a cell gives over the symbols that were kept, which a good cell replaces, or its fault.
-fn told(alloc: Global, kept: &mut Symbols, cell: &str) -> Result<String, Fail> {
-    let mut text = String::new(alloc);
+fn tell(
+    text: &mut String,
+    alloc: Global,
+    kept: &mut Symbols,
+    cell: &str,
+) -> Result<(), AllocError> {
     match built(alloc, cell, kept) {
         Ok(built) => {
-            show(&mut text, &built)?;
+            let outcome = show(text, &built);
             *kept = built.symbols;
+            outcome
         }
-        Err(AsmFault::OutOfMemory) => return Err(Fail::from(AllocError)),
-        Err(fault) => write!(text, "{fault}")?,
+        Err(AsmFault::OutOfMemory) => Err(AllocError),
+        Err(fault) => Ok(write!(text, "{fault}")?),
     }
-    Ok(text)
+}
+
+// Whether a cell gives what it should.
+fn is_told(
+    alloc: Global,
+    kept: &mut Symbols,
+    cell: &str,
+    wanted: &str,
+) -> Result<bool, AllocError> {
+    let mut text = String::new(alloc);
+    let outcome = tell(&mut text, alloc, kept, cell);
+    let is_so = text.as_str() == wanted;
+    drop(text);
+    outcome?;
+    Ok(is_so)
 }
 
 const LABEL_AGAIN: (&str, &str) = (
@@ -139,11 +170,11 @@ const ROWS: [(&str, &str); 2] = [
     ),
 ];
 
-// Whether each cell of a session gives what it should.
-fn is_session(alloc: Global, session: &[(&str, &str)]) -> Result<bool, Fail> {
+// Whether each cell of a session does.
+fn is_session(alloc: Global, session: &[(&str, &str)]) -> Result<bool, AllocError> {
     let mut kept = Symbols::new(alloc);
     for (cell, wanted) in session {
-        if told(alloc, &mut kept, cell)?.as_str() != *wanted {
+        if !is_told(alloc, &mut kept, cell, wanted)? {
             return Ok(false);
         }
     }
@@ -151,7 +182,7 @@ fn is_session(alloc: Global, session: &[(&str, &str)]) -> Result<bool, Fail> {
 }
 
 #[test]
-fn sessions(rt: HostRuntime) -> Result<(), Fail> {
+fn sessions(rt: HostRuntime) {
     let sessions = [
         LABELS.as_slice(),
         DIRECTIVES.as_slice(),
@@ -161,7 +192,9 @@ fn sessions(rt: HostRuntime) -> Result<(), Fail> {
         ROWS.as_slice(),
     ];
     for (number, session) in sessions.iter().enumerate() {
-        assert!(rt; is_session(rt.alloc(), session)?, "session {number}");
+        assert!(rt;
+            is_session(rt.alloc(), session) == Ok(true),
+            "session {number}"
+        );
     }
-    Ok(())
 }

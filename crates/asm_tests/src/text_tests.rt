@@ -8,13 +8,12 @@ use asm_syntax::statement::{Action, Data, Instruction, MOST_LINES, Statement, St
 use asm_text::statements::{MOST_BYTES, statements};
 use i80_rows::instruction::{Instr, Register};
 use std::alloc::{AllocError, Global};
-use std::test::Fail;
 
 // The first fault of a text.
-fn fault_in(alloc: Global, text: &str) -> Result<Option<AsmFault>, Fail> {
+fn fault_in(alloc: Global, text: &str) -> Result<Option<AsmFault>, AllocError> {
     match statements(alloc, text) {
         Ok(_) => Ok(None),
-        Err(AsmFault::OutOfMemory) => Err(Fail::from(AllocError)),
+        Err(AsmFault::OutOfMemory) => Err(AllocError),
         Err(fault) => Ok(Some(fault)),
     }
 }
@@ -119,16 +118,15 @@ const FAULTS: [(&str, usize, usize, FaultKind); 81] = [
 ];
 
 #[test]
-fn first_faults(rt: HostRuntime) -> Result<(), Fail> {
+fn first_faults(rt: HostRuntime) {
     for (text, line, column, kind) in &FAULTS {
         let wanted = AsmFault::At {
             line: *line,
             column: *column,
             kind: *kind,
         };
-        assert!(rt; fault_in(rt.alloc(), text)? == Some(wanted), "{text}");
+        assert!(rt; fault_in(rt.alloc(), text) == Ok(Some(wanted)), "{text}");
     }
-    Ok(())
 }
 
 // Texts without a fault, and how many statements they have.
@@ -162,21 +160,33 @@ fn count_in(alloc: Global, text: &str) -> Result<usize, AsmFault> {
 }
 
 #[test]
-fn good_texts(rt: HostRuntime) -> Result<(), Fail> {
+fn good_texts(rt: HostRuntime) {
     for (text, count) in &GOOD {
-        assert!(rt; count_in(rt.alloc(), text)? == *count, "{text}");
+        assert!(rt; count_in(rt.alloc(), text) == Ok(*count), "{text}");
     }
-    Ok(())
 }
 
-fn push_repeated(text: &mut String, piece: &str, count: usize) -> Result<(), Fail> {
+fn push_repeated(text: &mut String, piece: &str, count: usize) -> Result<(), AllocError> {
     for _ in 0..count {
         text.push_str(piece)?;
     }
     Ok(())
 }
 
-// The first fault of a beginning, so many of one piece, a middle, and as many of another piece.
+// Adds so many of one piece, a middle, and as many of another piece.
+fn push_long(
+    text: &mut String,
+    piece: &str,
+    count: usize,
+    middle: &str,
+    other: &str,
+) -> Result<(), AllocError> {
+    push_repeated(text, piece, count)?;
+    text.push_str(middle)?;
+    push_repeated(text, other, count)
+}
+
+// The first fault of a beginning with those after it.
 fn long_fault(
     alloc: Global,
     beginning: &str,
@@ -184,12 +194,13 @@ fn long_fault(
     count: usize,
     middle: &str,
     other: &str,
-) -> Result<Option<AsmFault>, Fail> {
+) -> Result<Option<AsmFault>, AllocError> {
     let mut text = String::from_str(alloc, beginning)?;
-    push_repeated(&mut text, piece, count)?;
-    text.push_str(middle)?;
-    push_repeated(&mut text, other, count)?;
-    fault_in(alloc, text.as_str())
+    let pushed = push_long(&mut text, piece, count, middle, other);
+    let fault = fault_in(alloc, text.as_str());
+    drop(text);
+    pushed?;
+    fault
 }
 
 type Place = Option<(usize, usize, FaultKind)>;
@@ -213,13 +224,12 @@ const LONG: [(&str, &str, usize, &str, &str, Place); 13] = [
 ];
 
 #[test]
-fn long_texts(rt: HostRuntime) -> Result<(), Fail> {
+fn long_texts(rt: HostRuntime) {
     for (beginning, piece, count, middle, other, wanted) in &LONG {
         let wanted = wanted.map(|(line, column, kind)| AsmFault::At { line, column, kind });
-        let found = long_fault(rt.alloc(), beginning, piece, *count, middle, other)?;
-        assert!(rt; found == wanted, "{beginning} {piece}");
+        let found = long_fault(rt.alloc(), beginning, piece, *count, middle, other);
+        assert!(rt; found == Ok(wanted), "{beginning} {piece}");
     }
-    Ok(())
 }
 
 // The only statement of a text.
@@ -254,17 +264,18 @@ fn has_label(statement: &Statement, column: usize, name: &str) -> bool {
 // Whether a text is one statement with this label in column 1 and this instruction.
 fn is_statement(alloc: Global, text: &str, name: &str, instr: Instr) -> Result<bool, AsmFault> {
     let all = statements(alloc, text)?;
-    match only(&all) {
-        Some(statement) => Ok(has_label(statement, 1, name) && instr_of(statement) == Some(instr)),
-        None => Ok(false),
-    }
+    let is_so = match only(&all) {
+        Some(statement) => has_label(statement, 1, name) && instr_of(statement) == Some(instr),
+        None => false,
+    };
+    drop(all);
+    Ok(is_so)
 }
 
 #[test]
-fn what_statements_say(rt: HostRuntime) -> Result<(), Fail> {
+fn what_statements_say(rt: HostRuntime) {
     let moves = Instr::Mov(Register::A, Register::B);
-    assert!(rt; is_statement(rt.alloc(), "Loop: mov a,b", "LOOP", moves)?);
-    Ok(())
+    assert!(rt; is_statement(rt.alloc(), "Loop: mov a,b", "LOOP", moves) == Ok(true));
 }
 
 fn is_text(datum: &Data, wanted: &[u8]) -> bool {
@@ -274,20 +285,29 @@ fn is_text(datum: &Data, wanted: &[u8]) -> bool {
     }
 }
 
-// Whether a text is one DB with these characters and then an expression.
-fn is_text_and_byte(alloc: Global, text: &str, wanted: &[u8]) -> Result<bool, AsmFault> {
-    let all = statements(alloc, text)?;
-    match only(&all).and_then(action_of) {
-        Some(Action::Bytes(data)) => match data.as_slice() {
-            [first, Data::Byte(_)] => Ok(is_text(first, wanted)),
-            _ => Ok(false),
+// Whether an action is DB with these characters and then an expression.
+fn gives_text_and_byte(action: &Action, wanted: &[u8]) -> bool {
+    match action {
+        Action::Bytes(data) => match data.as_slice() {
+            [first, Data::Byte(_)] => is_text(first, wanted),
+            _ => false,
         },
-        _ => Ok(false),
+        _ => false,
     }
 }
 
+// Whether a text is one such statement.
+fn is_text_and_byte(alloc: Global, text: &str, wanted: &[u8]) -> Result<bool, AsmFault> {
+    let all = statements(alloc, text)?;
+    let is_so = match only(&all).and_then(action_of) {
+        Some(action) => gives_text_and_byte(action, wanted),
+        None => false,
+    };
+    drop(all);
+    Ok(is_so)
+}
+
 #[test]
-fn strings_of_data(rt: HostRuntime) -> Result<(), Fail> {
-    assert!(rt; is_text_and_byte(rt.alloc(), "DB 'IT''S','A'+1", b"IT'S")?);
-    Ok(())
+fn strings_of_data(rt: HostRuntime) {
+    assert!(rt; is_text_and_byte(rt.alloc(), "DB 'IT''S','A'+1", b"IT'S") == Ok(true));
 }

@@ -1,30 +1,44 @@
 //! Lines whose tokens and faults were worked out by hand from the manual.
 
+use asm_expr::expression::Binary;
 use asm_lex::laws::{fault_ends_tokens, tokens_are_spelled};
 use asm_lex::lexer::tokens;
 use asm_syntax::fault::{FaultKind, LineFault};
+use asm_syntax::keyword::{Directive, Keyword, Mnemonic, RegisterWord};
 use asm_syntax::token::{Placed, Token};
+use i80_rows::instruction::Instr;
 use std::alloc::{AllocError, Global};
-use std::test::Fail;
 
-fn push_bytes(shown: &mut String, bytes: &[u8]) -> Result<(), Fail> {
+fn push_bytes(shown: &mut String, bytes: &[u8]) -> Result<(), AllocError> {
     for byte in bytes {
         shown.push(char::from(*byte))?;
     }
     Ok(())
 }
 
-fn push_text(shown: &mut String, text: &[u8]) -> Result<(), Fail> {
+fn push_text(shown: &mut String, text: &[u8]) -> Result<(), AllocError> {
     shown.push('<')?;
     push_bytes(shown, text)?;
     shown.push('>')?;
     Ok(())
 }
 
-fn push_token(shown: &mut String, token: Token<'_>) -> Result<(), Fail> {
+// The keywords of the lines below.
+fn keyword_name(keyword: Keyword) -> &'static [u8] {
+    match keyword {
+        Keyword::Mnemonic(Mnemonic::Alone(Instr::Nop)) => b"Mnemonic(Alone(Nop))",
+        Keyword::Mnemonic(Mnemonic::MoveImmediate) => b"Mnemonic(MoveImmediate)",
+        Keyword::Register(RegisterWord::A) => b"Register(A)",
+        Keyword::Directive(Directive::Bytes) => b"Directive(Bytes)",
+        Keyword::Infix(Binary::And) => b"Infix(And)",
+        _ => b"another keyword",
+    }
+}
+
+fn push_token(shown: &mut String, token: Token<'_>) -> Result<(), AllocError> {
     match token {
         Token::Name(word) => push_bytes(shown, word.letters),
-        Token::Keyword(keyword) => Ok(write!(shown, "{keyword:?}")?),
+        Token::Keyword(keyword) => push_bytes(shown, keyword_name(keyword)),
         Token::Overlong => push_bytes(shown, b"overlong"),
         Token::Number(n) => Ok(write!(shown, "#{n}")?),
         Token::Text(text) => push_text(shown, text),
@@ -33,7 +47,7 @@ fn push_token(shown: &mut String, token: Token<'_>) -> Result<(), Fail> {
 }
 
 // Tokens after their columns.
-fn push_all(shown: &mut String, found: &[Placed<'_>]) -> Result<(), Fail> {
+fn push_all(shown: &mut String, found: &[Placed<'_>]) -> Result<(), AllocError> {
     for placed in found {
         let space = if shown.is_empty() { "" } else { " " };
         write!(shown, "{space}{}:", placed.column)?;
@@ -43,14 +57,12 @@ fn push_all(shown: &mut String, found: &[Placed<'_>]) -> Result<(), Fail> {
 }
 
 // A line's tokens after their columns, or its fault.
-fn shown(alloc: Global, line: &[u8]) -> Result<String, Fail> {
-    let mut shown = String::new(alloc);
+fn push_line(shown: &mut String, alloc: Global, line: &[u8]) -> Result<(), AllocError> {
     match tokens(alloc, line) {
-        Ok(found) => push_all(&mut shown, found.as_slice())?,
-        Err(LineFault::OutOfMemory) => return Err(Fail::from(AllocError)),
-        Err(fault) => write!(shown, "{fault}")?,
+        Ok(found) => push_all(shown, found.as_slice()),
+        Err(LineFault::OutOfMemory) => Err(AllocError),
+        Err(fault) => Ok(write!(shown, "{fault}")?),
     }
-    Ok(shown)
 }
 
 const LINES: [(&[u8], &str); 18] = [
@@ -133,39 +145,64 @@ const FAULTS: [(&[u8], &str); 34] = [
     (b"0A 'a", "1 Number"),
 ];
 
-fn is_shown(alloc: Global, line: &[u8], wanted: &str) -> Result<bool, Fail> {
-    Ok(shown(alloc, line)?.as_str() == wanted)
+fn is_shown(alloc: Global, line: &[u8], wanted: &str) -> Result<bool, AllocError> {
+    let mut shown = String::new(alloc);
+    let outcome = push_line(&mut shown, alloc, line);
+    let is_so = shown.as_str() == wanted;
+    drop(shown);
+    outcome?;
+    Ok(is_so)
 }
 
 #[test]
-fn tokens_and_leftmost_faults(rt: HostRuntime) -> Result<(), Fail> {
-    for lines in [LINES.as_slice(), FAULTS.as_slice()] {
-        for (line, wanted) in lines {
-            assert!(rt; is_shown(rt.alloc(), line, wanted)?, "{wanted}");
-        }
+fn tokens_of_lines(rt: HostRuntime) {
+    tokens_are_spelled();
+    for (line, wanted) in &LINES {
+        assert!(rt; is_shown(rt.alloc(), line, wanted) == Ok(true), "{wanted}");
     }
-    Ok(())
 }
 
-// How many tokens a line has: a beginning, so many of one character, and an end.
+#[test]
+fn leftmost_faults(rt: HostRuntime) {
+    fault_ends_tokens();
+    for (line, wanted) in &FAULTS {
+        assert!(rt; is_shown(rt.alloc(), line, wanted) == Ok(true), "{wanted}");
+    }
+}
+
+// A beginning, so many of one character, and an end.
 fn long_line(
     alloc: Global,
     beginning: &[u8],
     character: u8,
     count: usize,
     end: &[u8],
-) -> Result<Result<usize, LineFault>, Fail> {
-    let mut line = Vec::new(alloc);
-    line.extend_from_slice(beginning)?;
+) -> Result<Vec<u8>, AllocError> {
+    let mut line = Vec::from_slice(alloc, beginning)?;
     for _ in 0..count {
         line.push(character)?;
     }
     line.extend_from_slice(end)?;
-    match tokens(alloc, line.as_slice()) {
-        Ok(found) => Ok(Ok(found.len())),
-        Err(LineFault::OutOfMemory) => Err(Fail::from(AllocError)),
-        Err(fault) => Ok(Err(fault)),
-    }
+    Ok(line)
+}
+
+// How many tokens a line has.
+fn token_count(alloc: Global, line: &[u8]) -> Result<usize, LineFault> {
+    Ok(tokens(alloc, line)?.len())
+}
+
+// How many tokens such a long line has.
+fn long_count(
+    alloc: Global,
+    beginning: &[u8],
+    character: u8,
+    count: usize,
+    end: &[u8],
+) -> Result<usize, LineFault> {
+    let line = long_line(alloc, beginning, character, count, end)?;
+    let found = token_count(alloc, &line);
+    drop(line);
+    found
 }
 
 // A string has 128 characters at most, of which a doubled quote is one. A hostile line is read in
@@ -181,13 +218,10 @@ const LONG: [(&[u8], u8, usize, &[u8], Result<usize, FaultKind>); 7] = [
 ];
 
 #[test]
-fn long_lines(rt: HostRuntime) -> Result<(), Fail> {
-    tokens_are_spelled();
-    fault_ends_tokens();
+fn long_lines(rt: HostRuntime) {
     for (beginning, character, count, end, wanted) in &LONG {
         let wanted = wanted.map_err(|kind| LineFault::At { column: 1, kind });
-        let found = long_line(rt.alloc(), beginning, *character, *count, end)?;
+        let found = long_count(rt.alloc(), beginning, *character, *count, end);
         assert!(rt; found == wanted, "{count}");
     }
-    Ok(())
 }

@@ -6,7 +6,6 @@ use asm_expr::evaluation::{ExprFault, value};
 use asm_expr::expression::{Atom, Binary, Expr, TreeFault, Unary};
 use asm_expr::name::Name;
 use std::alloc::Global;
-use std::test::Fail;
 
 // `I` is 1, and no other name has a value.
 struct OneName;
@@ -28,11 +27,13 @@ fn number(n: u16) -> Expr {
     Expr::atom(Atom::Number(n))
 }
 
-fn named(alloc: Global, letter: u8) -> Result<Expr, Fail>
+fn named(alloc: Global, letter: u8) -> Result<Expr, TreeFault>
     requires { letter < 128 }
 {
-    let name = Name::folded(alloc, &[letter])?;
-    Ok(Expr::atom(Atom::Named(name)))
+    match Name::folded(alloc, &[letter]) {
+        Ok(name) => Ok(Expr::atom(Atom::Named(name))),
+        Err(_) => Err(TreeFault::OutOfMemory),
+    }
 }
 
 // Both operands, and what the operator gives.
@@ -72,18 +73,17 @@ const RESULTS: [(Binary, u16, u16, Value); 32] = [
 ];
 
 // What an operator between two numbers gives.
-fn infix_value(alloc: Global, operator: Binary, left: u16, right: u16) -> Result<Value, Fail> {
+fn infix_value(alloc: Global, operator: Binary, left: u16, right: u16) -> Result<Value, TreeFault> {
     let tree = Expr::infix(alloc, operator, number(left), number(right))?;
     Ok(value(&tree, &OneName, 0))
 }
 
 #[test]
-fn operators_between_two(rt: HostRuntime) -> Result<(), Fail> {
-    for (operator, left, right, wanted) in &RESULTS {
-        let found = infix_value(rt.alloc(), *operator, *left, *right)?;
-        assert!(rt; found == *wanted, "{operator:?} {left} {right}");
+fn operators_between_two(rt: HostRuntime) {
+    for (row, (operator, left, right, wanted)) in RESULTS.iter().enumerate() {
+        let found = infix_value(rt.alloc(), *operator, *left, *right);
+        assert!(rt; found == Ok(*wanted), "row {row}");
     }
-    Ok(())
 }
 
 // An operator, its operand and what it gives.
@@ -97,62 +97,76 @@ const PREFIXED: [(Unary, u16, u16); 6] = [
 ];
 
 // What an operator before a number gives.
-fn prefix_value(alloc: Global, operator: Unary, operand: u16) -> Result<Value, Fail> {
+fn prefix_value(alloc: Global, operator: Unary, operand: u16) -> Result<Value, TreeFault> {
     let tree = Expr::prefix(alloc, operator, number(operand))?;
     Ok(value(&tree, &OneName, 0))
 }
 
 #[test]
-fn operators_before_one(rt: HostRuntime) -> Result<(), Fail> {
-    for (operator, operand, wanted) in &PREFIXED {
-        let found = prefix_value(rt.alloc(), *operator, *operand)?;
-        assert!(rt; found == Ok(*wanted), "{operator:?} {operand}");
+fn operators_before_one(rt: HostRuntime) {
+    for (row, (operator, operand, wanted)) in PREFIXED.iter().enumerate() {
+        let found = prefix_value(rt.alloc(), *operator, *operand);
+        assert!(rt; found == Ok(Ok(*wanted)), "row {row}");
     }
-    Ok(())
 }
 
-fn name_value(alloc: Global, letter: u8) -> Result<Value, Fail>
+fn name_value(alloc: Global, letter: u8) -> Result<Value, TreeFault>
     requires { letter < 128 }
 {
     Ok(value(&named(alloc, letter)?, &OneName, 0))
 }
 
-fn parens_value(alloc: Global, letter: u8) -> Result<Value, Fail>
+fn parens_value(alloc: Global, letter: u8) -> Result<Value, TreeFault>
     requires { letter < 128 }
 {
     Ok(value(&Expr::parens(alloc, named(alloc, letter)?)?, &OneName, 0))
 }
 
 #[test]
-fn atoms_and_names(rt: HostRuntime) -> Result<(), Fail> {
+fn atoms_and_names(rt: HostRuntime) {
     assert!(rt; value(&Expr::atom(Atom::Here), &OneName, 0xabcd) == Ok(0xabcd));
-    assert!(rt; name_value(rt.alloc(), b'i')? == Ok(1));
-    assert!(rt; parens_value(rt.alloc(), b'X')? == Err(ExprFault::Undefined));
-    Ok(())
+    assert!(rt; name_value(rt.alloc(), b'i') == Ok(Ok(1)));
+    assert!(rt; parens_value(rt.alloc(), b'X') == Ok(Err(ExprFault::Undefined)));
 }
 
-// Whether the names of the tree of `I+X` are these two.
-fn sum_names(alloc: Global, first: &str, second: &str) -> Result<bool, Fail> {
-    let sum = Expr::infix(alloc, Binary::Add, named(alloc, b'I')?, named(alloc, b'X')?)?;
-    let names = sum.names(alloc)?;
+// The tree of an operator between another tree and X, which has no value.
+fn with_name(alloc: Global, operator: Binary, left: Expr) -> Result<Expr, TreeFault> {
+    match named(alloc, b'X') {
+        Ok(name) => Expr::infix(alloc, operator, left, name),
+        Err(fault) => Err(fault),
+    }
+}
+
+// Whether the names of a tree are these two.
+fn has_names(alloc: Global, tree: &Expr, first: &str, second: &str) -> Result<bool, TreeFault> {
+    let Ok(names) = tree.names(alloc) else {
+        return Err(TreeFault::OutOfMemory);
+    };
     Ok(names.len() == 2 && names[0].as_str() == first && names[1].as_str() == second)
 }
 
+// Whether the names of the tree of `I+X` are these two.
+fn sum_has_names(alloc: Global, first: &str, second: &str) -> Result<bool, TreeFault> {
+    let sum = with_name(alloc, Binary::Add, named(alloc, b'I')?)?;
+    let outcome = has_names(alloc, &sum, first, second);
+    drop(sum);
+    outcome
+}
+
 #[test]
-fn names_from_the_left(rt: HostRuntime) -> Result<(), Fail> {
-    assert!(rt; sum_names(rt.alloc(), "I", "X")?);
-    Ok(())
+fn names_from_the_left(rt: HostRuntime) {
+    assert!(rt; sum_has_names(rt.alloc(), "I", "X") == Ok(true));
 }
 
 // `1/0+X`, where X has no value.
-fn division_and_name(alloc: Global) -> Result<Value, Fail> {
+fn division_and_name(alloc: Global) -> Result<Value, TreeFault> {
     let division = Expr::infix(alloc, Binary::Divide, number(1), number(0))?;
-    let tree = Expr::infix(alloc, Binary::Add, division, named(alloc, b'X')?)?;
+    let tree = with_name(alloc, Binary::Add, division)?;
     Ok(value(&tree, &OneName, 0))
 }
 
 // `0 AND 1 MOD 0`.
-fn zero_and_modulo(alloc: Global) -> Result<Value, Fail> {
+fn zero_and_modulo(alloc: Global) -> Result<Value, TreeFault> {
     let division = Expr::infix(alloc, Binary::Modulo, number(1), number(0))?;
     let tree = Expr::infix(alloc, Binary::And, number(0), division)?;
     Ok(value(&tree, &OneName, 0))
@@ -160,14 +174,13 @@ fn zero_and_modulo(alloc: Global) -> Result<Value, Fail> {
 
 // A name without a value comes before a division by zero, and no operator stops early.
 #[test]
-fn undefined_comes_before_divisor(rt: HostRuntime) -> Result<(), Fail> {
-    assert!(rt; division_and_name(rt.alloc())? == Err(ExprFault::Undefined));
-    assert!(rt; zero_and_modulo(rt.alloc())? == Err(ExprFault::Divisor));
-    Ok(())
+fn undefined_comes_before_divisor(rt: HostRuntime) {
+    assert!(rt; division_and_name(rt.alloc()) == Ok(Err(ExprFault::Undefined)));
+    assert!(rt; zero_and_modulo(rt.alloc()) == Ok(Err(ExprFault::Divisor)));
 }
 
 // 1 with so many times `+1`.
-fn sum_of(alloc: Global, count: usize) -> Result<Expr, Fail> {
+fn sum_of(alloc: Global, count: usize) -> Result<Expr, TreeFault> {
     let mut tree = number(1);
     for _ in 0..count {
         tree = Expr::infix(alloc, Binary::Add, tree, number(1))?;
@@ -176,7 +189,7 @@ fn sum_of(alloc: Global, count: usize) -> Result<Expr, Fail> {
 }
 
 // 1 with so many times a minus sign and parentheses round it.
-fn negated(alloc: Global, count: usize) -> Result<Expr, Fail> {
+fn negated(alloc: Global, count: usize) -> Result<Expr, TreeFault> {
     let mut tree = number(1);
     for _ in 0..count {
         tree = Expr::parens(alloc, Expr::prefix(alloc, Unary::Minus, tree)?)?;
@@ -192,26 +205,30 @@ fn limits(alloc: Global, tree: Expr) -> (u8, Value, bool) {
     (depth, found, matches!(deeper, Err(TreeFault::Nesting)))
 }
 
+fn limits_of_sum(alloc: Global, count: usize) -> Result<(u8, Value, bool), TreeFault> {
+    Ok(limits(alloc, sum_of(alloc, count)?))
+}
+
 #[test]
-fn no_tree_is_deeper_than_64(rt: HostRuntime) -> Result<(), Fail> {
-    let (depth, found, is_deepest) = limits(rt.alloc(), sum_of(rt.alloc(), 63)?);
-    assert_eq!(rt; depth, 64);
-    assert!(rt; found == Ok(0x40));
-    assert!(rt; is_deepest);
-    Ok(())
+fn no_tree_is_deeper_than_64(rt: HostRuntime) {
+    assert!(rt; limits_of_sum(rt.alloc(), 63) == Ok((64, Ok(0x40), true)));
 }
 
 // Whether a minus sign before a tree makes it 64 deep, so that parentheses round that don't fit.
-fn is_full_with_sign(alloc: Global, tree: Expr) -> Result<bool, Fail> {
+fn is_full_with_sign(alloc: Global, tree: Expr) -> Result<bool, TreeFault> {
     let signed = Expr::prefix(alloc, Unary::Minus, tree)?;
     let deeper = Expr::parens(alloc, signed);
     Ok(matches!(deeper, Err(TreeFault::Nesting)))
 }
 
+// The depth of that many signs and parentheses, and whether it is full with one sign more.
+fn limits_of_negated(alloc: Global, count: usize) -> Result<(u8, bool), TreeFault> {
+    let tree = negated(alloc, count)?;
+    let depth = tree.depth();
+    Ok((depth, is_full_with_sign(alloc, tree)?))
+}
+
 #[test]
-fn prefixes_and_parentheses_count(rt: HostRuntime) -> Result<(), Fail> {
-    let tree = negated(rt.alloc(), 31)?;
-    assert_eq!(rt; tree.depth(), 63);
-    assert!(rt; is_full_with_sign(rt.alloc(), tree)?);
-    Ok(())
+fn prefixes_and_parentheses_count(rt: HostRuntime) {
+    assert!(rt; limits_of_negated(rt.alloc(), 31) == Ok((63, true)));
 }

@@ -4,25 +4,27 @@ use asm_syntax::fault::{AsmFault, FaultKind, LineFault};
 use asm_syntax::keyword::{Directive, Keyword, Mnemonic, keyword_of};
 use asm_syntax::statement::{ByteOperation, MOST_LINES, Statement, Statements, WordOperation};
 use i80_rows::instruction::{Cond, Instr, Pair, Reg};
-use std::test::Fail;
+use std::alloc::{AllocError, Global};
 
-// Words in either case; those of other assemblers and of the 8085 are names.
-const WORDS: [(&[u8], Option<Keyword>); 9] = [
-    (b"nop", Some(Keyword::Mnemonic(Mnemonic::Alone(Instr::Nop)))),
-    (b"EndIf", Some(Keyword::Directive(Directive::EndIf))),
-    (b"NOPE", None),
-    (b"NO", None),
-    (b"", None),
-    (b"RIM", None),
-    (b"SIM", None),
-    (b"SPH", None),
-    (b"BCD", None),
-];
+// Words of other assemblers and of the 8085, and no words, are names.
+const NAMES: [&[u8]; 7] = [b"NOPE", b"NO", b"", b"RIM", b"SIM", b"SPH", b"BCD"];
 
 #[test]
 fn words_are_found_in_either_case(rt: HostRuntime) {
-    for (word, wanted) in &WORDS {
-        assert!(rt; keyword_of(word) == *wanted);
+    assert!(rt;
+        matches!(
+            keyword_of(b"nop"),
+            Some(Keyword::Mnemonic(Mnemonic::Alone(Instr::Nop)))
+        )
+    );
+    assert!(rt;
+        matches!(
+            keyword_of(b"EndIf"),
+            Some(Keyword::Directive(Directive::EndIf))
+        )
+    );
+    for name in &NAMES {
+        assert!(rt; keyword_of(name).is_none());
     }
 }
 
@@ -34,8 +36,8 @@ fn instructions_take_their_operands(rt: HostRuntime) {
     assert!(rt; WordOperation::CallIf(Cond::Minus).instruction(5) == Instr::CallIf(Cond::Minus, 5));
 }
 
-#[test]
-fn faults_are_printed_with_their_place(rt: HostRuntime) -> Result<(), Fail> {
+// Whether a fault in a cell and one on a line are printed so.
+fn are_printed(alloc: Global, wanted: &str) -> Result<bool, AllocError> {
     let kind = FaultKind::Conditional {
         is_missing_endif: true,
     };
@@ -46,14 +48,18 @@ fn faults_are_printed_with_their_place(rt: HostRuntime) -> Result<(), Fail> {
     };
     let kind = FaultKind::ByteRange;
     let on_line = LineFault::At { column: 3, kind };
-    let text = format!(in rt.alloc(); "{fault}; {on_line}")?;
-    assert_eq!(rt; text.as_str(), "12:3 Conditional; 3 ByteRange");
-    Ok(())
+    let text = format!(in alloc; "{fault}; {on_line}")?;
+    Ok(text.as_str() == wanted)
 }
 
 #[test]
-fn statements_keep_their_lines(rt: HostRuntime) -> Result<(), Fail> {
-    let mut statements = Statements::new(rt.alloc());
+fn faults_are_printed_with_their_place(rt: HostRuntime) {
+    assert!(rt; are_printed(rt.alloc(), "12:3 Conditional; 3 ByteRange") == Ok(true));
+}
+
+// How many statements there are after three were put there.
+fn count_of_three(alloc: Global) -> Result<usize, AllocError> {
+    let mut statements = Statements::new(alloc);
     for _ in 0..3 {
         if statements.as_slice().len() < MOST_LINES {
             statements.push(Statement {
@@ -62,6 +68,10 @@ fn statements_keep_their_lines(rt: HostRuntime) -> Result<(), Fail> {
             })?;
         }
     }
-    assert_eq!(rt; statements.as_slice().len(), 3);
-    Ok(())
+    Ok(statements.as_slice().len())
+}
+
+#[test]
+fn statements_keep_their_lines(rt: HostRuntime) {
+    assert!(rt; count_of_three(rt.alloc()) == Ok(3));
 }

@@ -69,6 +69,62 @@ fn move_between(to: Option<Register>, from: Option<Register>) -> Option<Instr>
     }
 }
 
+// An instruction with a register or M.
+#[tactic(auto, unfolding(crate::specs::Forms::instruction_of))]
+fn on_register(
+    column: usize,
+    operation: RegisterOperation,
+    tokens: &[Placed],
+) -> Result<Instruction, LineFault>
+    ensures { LineGives (λ x. x) result
+        (instruction_of column (Mnemonic.Register operation) (pieces_of tokens.now)) }
+{
+    let reg = register_operand(column, one_operand(column, tokens)?)?;
+    Ok(Instruction::Alone(register_instruction(operation, reg)))
+}
+
+// An instruction with a pair or SP.
+#[tactic(auto, unfolding(crate::specs::Forms::instruction_of))]
+fn on_pair(
+    column: usize,
+    operation: PairOperation,
+    tokens: &[Placed],
+) -> Result<Instruction, LineFault>
+    ensures { LineGives (λ x. x) result
+        (instruction_of column (Mnemonic.Pair operation) (pieces_of tokens.now)) }
+{
+    let pair = pair_operand(column, one_operand(column, tokens)?)?;
+    Ok(Instruction::Alone(pair_instruction(operation, pair)))
+}
+
+// STAX or LDAX with its pair.
+#[tactic(auto, unfolding(crate::specs::Forms::instruction_of))]
+fn on_index(
+    column: usize,
+    operation: IndexOperation,
+    tokens: &[Placed],
+) -> Result<Instruction, LineFault>
+    ensures { LineGives (λ x. x) result
+        (instruction_of column (Mnemonic.Index operation) (pieces_of tokens.now)) }
+{
+    let pair = index_operand(column, one_operand(column, tokens)?)?;
+    Ok(Instruction::Alone(index_instruction(operation, pair)))
+}
+
+// PUSH or POP with its pair.
+#[tactic(auto, unfolding(crate::specs::Forms::instruction_of))]
+fn on_stack(
+    column: usize,
+    operation: StackOperation,
+    tokens: &[Placed],
+) -> Result<Instruction, LineFault>
+    ensures { LineGives (λ x. x) result
+        (instruction_of column (Mnemonic.Stack operation) (pieces_of tokens.now)) }
+{
+    let pair = stack_operand(column, one_operand(column, tokens)?)?;
+    Ok(Instruction::Alone(stack_instruction(operation, pair)))
+}
+
 // MOV with these operands.
 fn move_of(column: usize, operands: (&[Placed], &[Placed])) -> Result<Instr, LineFault>
     ensures { LineGives (λ x. x) result
@@ -77,6 +133,15 @@ fn move_of(column: usize, operands: (&[Placed], &[Placed])) -> Result<Instr, Lin
     let to = register_operand(column, operands.0)?;
     let from = register_operand(column, operands.1)?;
     fitting(column, move_between(register_of(to), register_of(from)))
+}
+
+// MOV with its operands.
+#[tactic(auto, unfolding(crate::specs::Forms::instruction_of))]
+fn move_register(column: usize, tokens: &[Placed]) -> Result<Instruction, LineFault>
+    ensures { LineGives (λ x. x) result (instruction_of column Mnemonic.Move (pieces_of tokens.now)) }
+{
+    let instr = move_of(column, two_operands(column, tokens)?)?;
+    Ok(Instruction::Alone(instr))
 }
 
 // MVI with its operands.
@@ -115,25 +180,13 @@ pub fn instruction(
 {
     match mnemonic {
         Mnemonic::Alone(instr) => no_operand(column, Instruction::Alone(instr), tokens),
-        Mnemonic::Register(operation) => {
-            let reg = register_operand(column, one_operand(column, tokens)?)?;
-            Ok(Instruction::Alone(register_instruction(operation, reg)))
-        }
-        Mnemonic::Move => Ok(Instruction::Alone(move_of(column, two_operands(column, tokens)?)?)),
+        Mnemonic::Register(operation) => on_register(column, operation, tokens),
+        Mnemonic::Move => move_register(column, tokens),
         Mnemonic::MoveImmediate => move_immediate(alloc, column, tokens),
         Mnemonic::LoadPair => load_pair(alloc, column, tokens),
-        Mnemonic::Pair(operation) => {
-            let pair = pair_operand(column, one_operand(column, tokens)?)?;
-            Ok(Instruction::Alone(pair_instruction(operation, pair)))
-        }
-        Mnemonic::Index(operation) => {
-            let pair = index_operand(column, one_operand(column, tokens)?)?;
-            Ok(Instruction::Alone(index_instruction(operation, pair)))
-        }
-        Mnemonic::Stack(operation) => {
-            let pair = stack_operand(column, one_operand(column, tokens)?)?;
-            Ok(Instruction::Alone(stack_instruction(operation, pair)))
-        }
+        Mnemonic::Pair(operation) => on_pair(column, operation, tokens),
+        Mnemonic::Index(operation) => on_index(column, operation, tokens),
+        Mnemonic::Stack(operation) => on_stack(column, operation, tokens),
         Mnemonic::Byte(operation) => {
             let byte = only_expression(alloc, column, tokens)?;
             Ok(Instruction::Byte(operation, byte))

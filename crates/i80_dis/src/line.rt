@@ -11,7 +11,7 @@ use i80_rows::instruction::{DecodeFault, Instr};
 use std::alloc::{AllocError, Global};
 
 /// What a line shows.
-#[derive(Clone, Copy, PartialEq, Eq)]
+#[derive(Clone, Copy)]
 pub enum Shown {
     Instruction(Instr),
     /// A byte by itself, after DB.

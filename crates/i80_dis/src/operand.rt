@@ -9,7 +9,7 @@ use i80_rows::instruction::{IndexPair, Instr, Pair, Reg, StackPair, Vector};
 use std::alloc::AllocError;
 
 /// An operand.
-#[derive(Clone, Copy, PartialEq, Eq)]
+#[derive(Clone, Copy)]
 pub enum Operand {
     /// A register, a pair, or the digit of RST.
     Name(&'static str),
@@ -18,7 +18,7 @@ pub enum Operand {
 }
 
 /// The operands of an instruction, from the left.
-#[derive(Clone, Copy, PartialEq, Eq)]
+#[derive(Clone, Copy)]
 pub enum Operands {
     Zero,
     One(Operand),

@@ -7,7 +7,7 @@ use crate::spans::Span;
 use std::marker::Model;
 
 /// An address whose byte is the first of its statement.
-#[derive(Clone, Copy, PartialEq, Eq)]
+#[derive(Clone, Copy)]
 pub struct MappedAddress {
     pub address: u16,
     /// The number that the load gave the statement's source.

@@ -1,7 +1,7 @@
 //! Where the byte at an address comes from.
 
 /// The statement that a byte in memory was loaded for.
-#[derive(Clone, Copy, PartialEq, Eq)]
+#[derive(Clone, Copy)]
 pub struct Origin {
     /// The number that the load gave its source.
     pub source: u32,

@@ -1,12 +1,10 @@
 //! Breakpoints over a few loads, against a plain look-up of every address.
-use crate::origins::built;
+use crate::origins::{LoadParts, load_all};
 use i80_exec::machine::Machine;
 use lab_breaks::breakpoints::Breakpoints;
 use lab_breaks::lists::BreakpointList;
 use lab_image::origins::Origins;
 use std::alloc::{AllocError, Global};
-use std::process::Abort;
-use std::test::Fail;
 
 /// Whether a list is that of a source and has a line.
 fn has_line(list: &BreakpointList, source: u32, line: usize) -> bool {
@@ -32,116 +30,181 @@ fn is_met(breakpoints: &Breakpoints, origins: &Origins, address: u16) -> bool {
     }
 }
 
-/// Looks at every address: a breakpoint is met at these and no others, and by the plain look-up too.
-fn check(rt: &impl Abort, breakpoints: &Breakpoints, origins: &Origins, wanted: &[u16]) {
+/// The first address at which a breakpoint is met against what is wanted or against the plain
+/// look-up.
+fn first_wrong(breakpoints: &Breakpoints, origins: &Origins, wanted: &[u16]) -> Option<u16> {
     for address in 0..=u16::MAX {
         let found = breakpoints.is_at(address);
-        assert_eq!(rt;
-            found,
-            wanted.iter().any(|a| *a == address),
-            "address {address}"
-        );
-        assert_eq!(rt;
-            found,
-            is_met(breakpoints, origins, address),
-            "plainly at {address}"
-        );
+        if found != wanted.iter().any(|a| *a == address)
+            || found != is_met(breakpoints, origins, address)
+        {
+            return Some(address);
+        }
     }
+    None
 }
 
-/// The sources that have lists, and how many lines each list has.
-fn check_lists(rt: &impl Abort, breakpoints: &Breakpoints, wanted: &[(u32, usize)]) {
-    assert_eq!(rt; breakpoints.lists().len(), wanted.len());
-    for (list, (source, count)) in breakpoints.lists().iter().zip(wanted) {
-        assert_eq!(rt; list.source, *source);
-        assert_eq!(rt; list.lines.len(), *count, "source {source}");
+/// Whether these sources have lists, in this order, with so many lines each.
+fn has_lists(breakpoints: &Breakpoints, wanted: &[(u32, usize)]) -> bool {
+    let lists = breakpoints.lists();
+    if lists.len() != wanted.len() {
+        return false;
     }
+    for (place, (source, count)) in wanted.iter().enumerate() {
+        if lists[place].source != *source || lists[place].lines.len() != *count {
+            return false;
+        }
+    }
+    true
+}
+
+/// Lines that a source is given, the lists after that, and where breakpoints are met.
+type SetParts = (u32, &'static [u32], &'static [(u32, usize)], &'static [u16]);
+
+/// Gives each source its lines in turn. Answers whether the lists and the addresses are right after
+/// each.
+fn are_right(
+    breakpoints: &mut Breakpoints,
+    origins: &Origins,
+    sets: &[SetParts],
+) -> Result<bool, AllocError> {
+    for (source, lines, lists, addresses) in sets {
+        breakpoints.set(*source, lines, origins)?;
+        if !has_lists(breakpoints, lists)
+            || first_wrong(breakpoints, origins, addresses).is_some()
+        {
+            return Ok(false);
+        }
+    }
+    Ok(true)
+}
+
+/// Whether no source has a list, and no breakpoint is met.
+fn has_none(breakpoints: &Breakpoints, origins: &Origins) -> bool {
+    breakpoints.lists().is_empty() && first_wrong(breakpoints, origins, &[]).is_none()
+}
+
+/// Whether all is right with new breakpoints: at first, after each of these, and once all are taken
+/// away.
+fn are_right_from_none(
+    alloc: Global,
+    origins: &Origins,
+    sets: &[SetParts],
+) -> Result<bool, AllocError> {
+    let mut breakpoints = Breakpoints::new(alloc)?;
+    let starts_with_none = has_none(&breakpoints, origins);
+    let outcome = are_right(&mut breakpoints, origins, sets);
+    breakpoints.clear();
+    let ends_with_none = has_none(&breakpoints, origins);
+    drop(breakpoints);
+    Ok(starts_with_none && outcome? && ends_with_none)
+}
+
+/// Loads into a machine of its own.
+fn load_more(alloc: Global, origins: &mut Origins, loads: &[LoadParts]) -> Result<(), AllocError> {
+    let mut machine = Machine::new(alloc)?;
+    let outcome = load_all(alloc, &mut machine, origins, loads);
+    drop(machine);
+    outcome
 }
 
 /// Source 1: JMP in line 2 at 0100H, and a byte in line 3. Source 2: a byte in line 1 over the JMP's
 /// second one.
-fn loaded(alloc: Global) -> Result<Origins, AllocError> {
-    let mut machine = Machine::new(alloc)?;
+const LOADS: [LoadParts; 2] = [
+    (1, &[], &[(0x100, 3, 2), (0x103, 1, 3)]),
+    (2, &[], &[(0x101, 1, 1)]),
+];
+
+/// A list keeps its place until it is empty.
+const PLACES: [SetParts; 6] = [
+    (7, &[1], &[(7, 1)], &[]),
+    (3, &[2, 9], &[(7, 1), (3, 2)], &[]),
+    (7, &[5, 6, 7], &[(7, 3), (3, 2)], &[]),
+    (7, &[], &[(3, 2)], &[]),
+    (7, &[1], &[(3, 2), (7, 1)], &[]),
+    (4, &[], &[(3, 2), (7, 1)], &[]),
+];
+
+/// A breakpoint is met at the first byte.
+const FIRST_BYTES: [SetParts; 4] = [
+    (1, &[2], &[(1, 1)], &[0x100]),
+    (2, &[1, 2, 3], &[(1, 1), (2, 3)], &[0x100, 0x101]),
+    (1, &[3], &[(1, 1), (2, 3)], &[0x101, 0x103]),
+    (2, &[], &[(1, 1)], &[0x103]),
+];
+
+/// Lines may be repeated or absent.
+const ANY_LINES: [SetParts; 2] = [
+    (1, &[3; 256], &[(1, 256)], &[0x103]),
+    (1, &[0, 1, 4, u32::MAX], &[(1, 4)], &[]),
+];
+
+/// Whether all is right over the loads above, from no breakpoint on.
+fn are_right_over_loads(alloc: Global, sets: &[SetParts]) -> Result<bool, AllocError> {
     let mut origins = Origins::new(alloc);
-    let first = built(alloc, &[], &[(0x100, 3, 2), (0x103, 1, 3)])?;
-    let second = built(alloc, &[], &[(0x101, 1, 1)])?;
-    origins.load(&mut machine, 1, &first)?;
-    origins.load(&mut machine, 2, &second)?;
-    Ok(origins)
+    let loaded = load_more(alloc, &mut origins, &LOADS);
+    let outcome = are_right_from_none(alloc, &origins, sets);
+    drop(origins);
+    loaded?;
+    outcome
 }
 
 #[test]
-fn a_list_keeps_its_place_until_it_is_empty(rt: HostRuntime) -> Result<(), Fail> {
-    let origins = Origins::new(rt.alloc());
-    let mut breakpoints = Breakpoints::new(rt.alloc())?;
-    let (a, b) = (7, 3);
-    breakpoints.set(a, &[1], &origins)?;
-    breakpoints.set(b, &[2, 9], &origins)?;
-    check_lists(&rt, &breakpoints, &[(a, 1), (b, 2)]);
-    breakpoints.set(a, &[5, 6, 7], &origins)?;
-    check_lists(&rt, &breakpoints, &[(a, 3), (b, 2)]);
-    breakpoints.set(a, &[], &origins)?;
-    check_lists(&rt, &breakpoints, &[(b, 2)]);
-    breakpoints.set(a, &[1], &origins)?;
-    check_lists(&rt, &breakpoints, &[(b, 2), (a, 1)]);
-    breakpoints.set(4, &[], &origins)?;
-    check_lists(&rt, &breakpoints, &[(b, 2), (a, 1)]);
-    breakpoints.clear();
-    check_lists(&rt, &breakpoints, &[]);
-    Ok(())
+fn breakpoints_are_met_where_their_lines_begin(rt: HostRuntime) {
+    assert!(rt; are_right_over_loads(rt.alloc(), &PLACES) == Ok(true));
+    assert!(rt; are_right_over_loads(rt.alloc(), &FIRST_BYTES) == Ok(true));
+    assert!(rt; are_right_over_loads(rt.alloc(), &ANY_LINES) == Ok(true));
 }
 
-#[test]
-fn a_breakpoint_is_met_at_the_first_byte(rt: HostRuntime) -> Result<(), Fail> {
-    let origins = loaded(rt.alloc())?;
-    let mut breakpoints = Breakpoints::new(rt.alloc())?;
-    check(&rt, &breakpoints, &origins, &[]);
-    breakpoints.set(1, &[2], &origins)?;
-    check(&rt, &breakpoints, &origins, &[0x100]);
-    breakpoints.set(2, &[1, 2, 3], &origins)?;
-    check(&rt, &breakpoints, &origins, &[0x100, 0x101]);
-    breakpoints.set(1, &[3], &origins)?;
-    check(&rt, &breakpoints, &origins, &[0x101, 0x103]);
-    breakpoints.set(2, &[], &origins)?;
-    check(&rt, &breakpoints, &origins, &[0x103]);
-    breakpoints.clear();
-    check(&rt, &breakpoints, &origins, &[]);
-    Ok(())
+/// Over the loads above.
+const BEFORE_MORE: [SetParts; 2] = [
+    (1, &[2, 3], &[(1, 2)], &[0x100, 0x103]),
+    (9, &[1], &[(1, 2), (9, 1)], &[0x100, 0x103]),
+];
+
+/// Over the JMP's first byte, and with the memory's last one.
+const MORE: [LoadParts; 1] = [(9, &[], &[(0x0ff, 2, 8), (0xffff, 1, 1), (0x000, 1, 1)])];
+
+/// Whether breakpoints are met at these addresses once they are refreshed.
+fn are_met_anew(breakpoints: &mut Breakpoints, origins: &Origins, wanted: &[u16]) -> bool {
+    breakpoints.refresh(origins);
+    first_wrong(breakpoints, origins, wanted).is_none()
 }
 
-#[test]
-fn lines_may_be_repeated_or_absent(rt: HostRuntime) -> Result<(), Fail> {
-    let origins = loaded(rt.alloc())?;
-    let mut breakpoints = Breakpoints::new(rt.alloc())?;
-    breakpoints.set(1, &[3; 256], &origins)?;
-    check_lists(&rt, &breakpoints, &[(1, 256)]);
-    check(&rt, &breakpoints, &origins, &[0x103]);
-    breakpoints.set(1, &[0, 1, 4, u32::MAX], &origins)?;
-    check_lists(&rt, &breakpoints, &[(1, 4)]);
-    check(&rt, &breakpoints, &origins, &[]);
-    Ok(())
-}
-
-#[test]
-fn a_load_is_met_once_the_breakpoints_are_refreshed(rt: HostRuntime) -> Result<(), Fail> {
-    let mut machine = Machine::new(rt.alloc())?;
-    let mut origins = loaded(rt.alloc())?;
-    let mut breakpoints = Breakpoints::new(rt.alloc())?;
-    breakpoints.set(1, &[2, 3], &origins)?;
-    breakpoints.set(9, &[1], &origins)?;
-    check(&rt, &breakpoints, &origins, &[0x100, 0x103]);
-    // over the JMP's first byte, and with the memory's last one
-    let cell = built(
-        rt.alloc(),
-        &[],
-        &[(0x0ff, 2, 8), (0xffff, 1, 1), (0x000, 1, 1)],
-    )?;
-    origins.load(&mut machine, 9, &cell)?;
-    breakpoints.refresh(&origins);
-    check(&rt, &breakpoints, &origins, &[0x000, 0x103, 0xffff]);
+/// Whether a load is met once the breakpoints are refreshed, and so is that all loads went.
+fn are_refreshed(
+    alloc: Global,
+    breakpoints: &mut Breakpoints,
+    origins: &mut Origins,
+) -> Result<bool, AllocError> {
+    load_more(alloc, origins, &MORE)?;
+    let are_met = are_met_anew(breakpoints, origins, &[0x000, 0x103, 0xffff]);
     origins.clear();
-    breakpoints.refresh(&origins);
-    check(&rt, &breakpoints, &origins, &[]);
-    check_lists(&rt, &breakpoints, &[(1, 2), (9, 1)]);
-    Ok(())
+    let none_is_met = are_met_anew(breakpoints, origins, &[]);
+    Ok(are_met && none_is_met && has_lists(breakpoints, &[(1, 2), (9, 1)]))
+}
+
+/// Whether breakpoints are right over the loads above, and refreshed after that.
+fn are_right_and_refreshed(
+    alloc: Global,
+    breakpoints: &mut Breakpoints,
+    origins: &mut Origins,
+) -> Result<bool, AllocError> {
+    load_more(alloc, origins, &LOADS)?;
+    let is_right_before = are_right(breakpoints, origins, &BEFORE_MORE)?;
+    Ok(are_refreshed(alloc, breakpoints, origins)? && is_right_before)
+}
+
+fn loads_are_met(alloc: Global) -> Result<bool, AllocError> {
+    let mut breakpoints = Breakpoints::new(alloc)?;
+    let mut origins = Origins::new(alloc);
+    let outcome = are_right_and_refreshed(alloc, &mut breakpoints, &mut origins);
+    drop(origins);
+    drop(breakpoints);
+    outcome
+}
+
+#[test]
+fn a_load_is_met_once_the_breakpoints_are_refreshed(rt: HostRuntime) {
+    assert!(rt; loads_are_met(rt.alloc()) == Ok(true));
 }
