@@ -18,7 +18,7 @@ pub struct ExecuteRequest {
 }
 
 /// The requests whose content can lack what is needed.
-#[derive(Clone, Copy, PartialEq, Eq)]
+#[derive(Clone, Copy)]
 pub enum NeedyRequest {
     Execute,
     IsComplete,

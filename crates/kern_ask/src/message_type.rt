@@ -6,7 +6,7 @@ use jup_wire::channel::Channel;
 
 /// The message types that a kernel answers (Jupyter messaging 5.4, "Messages on the shell channel",
 /// "Messages on the control channel" and "Messages on the stdin channel").
-#[derive(Clone, Copy, PartialEq, Eq)]
+#[derive(Clone, Copy)]
 pub enum MessageType {
     KernelInfo,
     Execute,

@@ -65,7 +65,9 @@ pub fn join<R: Wait>(
 {
     let call = join_call(alloc, channel).ok()?;
     let answer = desk.turn(rt, pass, call).ok()?;
-    connection_of(&answer)
+    let connection = connection_of(&answer);
+    drop(answer);
+    connection
 }
 
 /// The call of a connection without an identity.

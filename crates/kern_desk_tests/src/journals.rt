@@ -2,7 +2,7 @@
 
 use crate::actions::is_call;
 use crate::desks::MOST_ENTRIES;
-use crate::turns::{Row, Turn, act};
+use crate::turns::{Row, Turn, act, expect_at};
 use kern_core::kernel::Kernel;
 use kern_desk::seated::Seated;
 use std::alloc::Global;
@@ -18,14 +18,19 @@ pub struct Entry {
 /// The entries of a desk at which these calls were made, by seat. They must be exactly these calls, and
 /// those of each seat stand in their order.
 pub fn merged<R: Abort>(rt: &R, alloc: Global, seated: &Seated, made: &[Vec<Turn>]) -> Vec<Entry> {
+    let count = count_of(made);
+    expect_at(
+        rt,
+        seated.entry(count).is_none(),
+        "entries past",
+        count as u64,
+    );
     let mut entries = Vec::new(alloc);
     let mut next = [0usize; 3];
-    let count = count_of(made);
     for place in 0..count {
         let entry = entry_at(rt, seated, made, &mut next, place);
         entries.push(entry).expect(rt, "memory for an entry");
     }
-    assert!(rt; seated.entry(count).is_none(), "more than {count} entries");
     entries
 }
 
@@ -50,7 +55,7 @@ fn entry_at<R: Abort>(
     let turns = made.get(seat as usize).expect(rt, "the calls of a seat");
     let turn = *turns.get(at).expect(rt, "no more entries than calls");
     let is_made = is_call(call, turn.action, turn.moment);
-    assert!(rt; is_made, "entry {place} isn't call {at} of seat {seat}");
+    expect_at(rt, is_made, "another call at entry", place as u64);
     Entry { seat, turn }
 }
 
@@ -78,17 +83,22 @@ pub fn replay<R: Abort>(rt: &R, alloc: Global, entries: &[Entry]) {
 fn make_again<R: Abort>(rt: &R, alloc: Global, kernel: &mut Kernel, entries: &[Entry]) {
     for (place, entry) in entries.iter().enumerate() {
         let again = act(rt, alloc, kernel, entry.turn.action, entry.turn.moment);
-        assert!(rt; again == entry.turn.outcome, "entry {place}");
+        expect_at(rt, again == entry.turn.outcome, "entry", place as u64);
     }
 }
 
 /// The entries must be exactly the calls of these rows.
 pub fn check_rows<R: Abort>(rt: &R, seated: &Seated, rows: &[Row]) {
     for (place, row) in rows.iter().enumerate() {
-        assert!(rt; is_row(seated, place, *row), "entry {place}");
+        expect_at(rt, is_row(seated, place, *row), "entry", place as u64);
     }
     let count = rows.len();
-    assert!(rt; seated.entry(count).is_none(), "more than {count} entries");
+    expect_at(
+        rt,
+        seated.entry(count).is_none(),
+        "entries past",
+        count as u64,
+    );
 }
 
 fn is_row(seated: &Seated, place: usize, row: Row) -> bool {

@@ -4,12 +4,25 @@ use crate::desks::MOST_ENTRIES;
 use crate::journals::new_kernel;
 use crate::outcomes::Outcome;
 use crate::seats::run_rows;
-use crate::turns::{Row, act};
+use crate::turns::{Row, act, expect_at};
 use jup_wire::channel::Channel;
 use kern_core::fault::KernFault;
 use kern_core::kernel::Kernel;
 use std::alloc::Global;
 use std::process::Abort;
+
+// Makes one call on a kernel, of which this must come.
+fn expect_act<R: Abort>(
+    rt: &R,
+    alloc: Global,
+    kernel: &mut Kernel,
+    action: Action,
+    moment: u64,
+    wanted: Outcome,
+) {
+    let outcome = act(rt, alloc, kernel, action, moment);
+    expect_at(rt, outcome == wanted, "the call at", moment);
+}
 
 // Has a new kernel make 9,096 posts: a Join on shell as connection 1, and 3,032 requests of three posts.
 // The reply is the second of the three, and the only one that goes to the connection.
@@ -17,8 +30,7 @@ fn ask_often<R: Abort>(rt: &R, alloc: Global, kernel: &mut Kernel) {
     act(rt, alloc, kernel, Action::Join(Channel::Shell), 0);
     for moment in 1..3033 {
         let action = Action::Ask(1, Question::KernelInfo);
-        let outcome = act(rt, alloc, kernel, action, moment);
-        assert!(rt; outcome == Outcome::Arrived, "request {moment}");
+        expect_act(rt, alloc, kernel, action, moment, Outcome::Arrived);
     }
 }
 
@@ -59,8 +71,7 @@ const KEPT: [(u64, Outcome); 10] = [
 
 fn expect_kept<R: Abort>(rt: &R, alloc: Global, kernel: &mut Kernel) {
     for (from, wanted) in KEPT {
-        let outcome = act(rt, alloc, kernel, Action::Fetch(1, from), 0);
-        assert!(rt; outcome == wanted, "from {from}");
+        expect_act(rt, alloc, kernel, Action::Fetch(1, from), from, wanted);
     }
 }
 
@@ -81,8 +92,8 @@ fn expect_all<R: Abort>(rt: &R, alloc: Global, kernel: &mut Kernel) {
         replies = replies.saturating_add(count);
         from = next;
     }
-    assert_eq!(rt; from, 9097);
-    assert_eq!(rt; replies, 1365);
+    expect_at(rt, from == 9097, "the last fetch ends at", from);
+    expect_at(rt, replies == 1365, "replies", replies as u64);
 }
 
 #[test]
@@ -99,25 +110,33 @@ const FULL: Outcome = Outcome::Refused(KernFault::JournalFull);
 // A journal takes exactly as many slices as its limit tells.
 fn expect_slices<R: Abort>(rt: &R, alloc: Global, kernel: &mut Kernel, limit: u32) {
     for moment in 0..limit {
-        assert!(rt; !kernel.full(), "full at {moment} of {limit}");
-        let outcome = act(rt, alloc, kernel, Action::Slice, u64::from(moment));
-        assert!(rt; outcome == Outcome::Idle, "slice {moment} of {limit}");
+        expect_at(rt, !kernel.full(), "full at", u64::from(moment));
+        expect_act(
+            rt,
+            alloc,
+            kernel,
+            Action::Slice,
+            u64::from(moment),
+            Outcome::Idle,
+        );
     }
-    assert!(rt; kernel.full(), "not full at {limit}");
+}
+
+// It is full then, and takes no slice more.
+fn expect_full<R: Abort>(rt: &R, alloc: Global, kernel: &mut Kernel, limit: u32) {
+    expect_at(rt, kernel.full(), "not full at", u64::from(limit));
     for moment in 0..3 {
-        let outcome = act(rt, alloc, kernel, Action::Slice, moment);
-        assert!(rt; outcome == FULL, "{limit}");
+        expect_act(rt, alloc, kernel, Action::Slice, moment, FULL);
     }
-    assert!(rt;
-        kernel.entry(limit as usize).is_none(),
-        "an entry past {limit}"
-    );
+    let ends_there = kernel.entry(limit as usize).is_none();
+    expect_at(rt, ends_there, "an entry past", u64::from(limit));
 }
 
 fn run_slices<R: Abort>(rt: &R, alloc: Global, limit: u32) {
     assert!(rt; 1 <= limit && limit <= MOST_ENTRIES);
     let mut kernel = Kernel::new(alloc, limit).expect(rt, "memory for a kernel");
     expect_slices(rt, alloc, &mut kernel, limit);
+    expect_full(rt, alloc, &mut kernel, limit);
     drop(kernel);
 }
 

@@ -6,7 +6,7 @@ use crate::desks::{MOST_ENTRIES, close_desk, open_desk, take_pass};
 use crate::journals::{Entry, merged, replay};
 use crate::outcomes::Outcome;
 use crate::players::{Part, Player, Script};
-use crate::turns::Turn;
+use crate::turns::{Turn, expect_at};
 use jup_wire::channel::Channel;
 use kern_desk::seated::{Desk, Pass};
 use std::alloc::Global;
@@ -68,7 +68,7 @@ fn make_calls<R: Wait + Abort>(
     ensures { All (λ p. p.pass.turnstile ≡ desk.now) players.new }
 {
     for (seat, action) in calls {
-        assert!(rt; *seat < players.len(), "no seat {seat}");
+        assert!(rt; *seat < players.len());
         players[*seat].make(rt, alloc, desk, *action);
     }
 }
@@ -209,9 +209,10 @@ const TWO: Game = Game {
 };
 
 fn check_two<R: Abort>(rt: &R, entries: &[Entry]) {
-    assert_eq!(rt; fetched(entries, 0), (300, 0, 902));
-    assert_eq!(rt; fetched(entries, 1), (told_to_listener(entries), 0, 902));
-    assert_eq!(rt; entries.len(), 1235);
+    expect_at(rt, fetched(entries, 0) == (300, 0, 902), "seat", 0);
+    let listened = (told_to_listener(entries), 0, 902);
+    expect_at(rt, fetched(entries, 1) == listened, "seat", 1);
+    expect_at(rt, entries.len() == 1235, "entries", entries.len() as u64);
 }
 
 #[test]
@@ -252,16 +253,18 @@ fn check_slices<R: Abort>(rt: &R, entries: &[Entry]) {
     for (place, entry) in entries.iter().enumerate() {
         match entry.turn.action {
             Action::Ask(_, Question::Interrupt) => wanted = Outcome::Idle,
-            Action::Slice => assert!(rt; entry.turn.outcome == wanted, "entry {place}"),
+            Action::Slice => {
+                expect_at(rt, entry.turn.outcome == wanted, "slice", place as u64);
+            }
             _ => {}
         }
     }
 }
 
 fn check_three<R: Abort>(rt: &R, entries: &[Entry]) {
-    assert_eq!(rt; fetched(entries, 1), (42, 1, 130));
-    assert_eq!(rt; fetched(entries, 2), (87, 1, 130));
-    assert_eq!(rt; entries.len(), 275);
+    expect_at(rt, fetched(entries, 1) == (42, 1, 130), "seat", 1);
+    expect_at(rt, fetched(entries, 2) == (87, 1, 130), "seat", 2);
+    expect_at(rt, entries.len() == 275, "entries", entries.len() as u64);
     check_slices(rt, entries);
 }
 

@@ -5,7 +5,7 @@ use crate::actions::{Action, Question, call_of};
 use crate::desks::{MOST_ENTRIES, close_desk, open_desk, take_pass};
 use crate::journals::check_rows;
 use crate::outcomes::{Outcome, outcome_of};
-use crate::turns::{Row, make};
+use crate::turns::{Row, expect_at, make};
 use dap_answers::answer::{Body, Outcome as Answered};
 use jup_wire::channel::Channel;
 use kern_core::call::Reply;
@@ -31,9 +31,9 @@ fn make_row<R: Wait + Abort>(
     ensures { All (λ p. p.turnstile ≡ desk.now) passes.new }
 {
     let (seat, action, wanted) = row;
-    assert!(rt; seat < passes.len(), "no seat {seat}");
+    assert!(rt; seat < passes.len());
     let outcome = make(rt, alloc, desk, &mut passes[seat], action, moment);
-    assert!(rt; outcome == wanted, "row {moment}");
+    expect_at(rt, outcome == wanted, "row", moment);
 }
 
 fn make_rows<R: Wait + Abort>(rt: &R, alloc: Global, desk: &Desk, passes: &mut [Pass], rows: &[Row])
@@ -217,7 +217,7 @@ fn expect_switches<R: Wait + Abort>(
 {
     make_rows(rt, alloc, desk, passes, &rows[..3]);
     let seat = rows[3].0;
-    assert!(rt; seat < passes.len(), "no seat {seat}");
+    assert!(rt; seat < passes.len());
     let seen = fetch_seen(rt, alloc, desk, &mut passes[seat]);
     assert!(rt; seen == (rows[3].2, true));
 }
@@ -240,7 +240,7 @@ fn close_late<R: Abort>(rt: &R, desk: Desk, mut passes: Vec<Pass>) -> Seated
 {
     let last = take_pass(&desk, &mut passes).expect(rt, "a pass");
     let (desk, mut passes) = refused(rt, desk, passes);
-    assert_eq!(rt; passes.len(), 1);
+    assert!(rt; passes.len() == 1);
     passes.push(last).expect(rt, "memory for a pass");
     close_desk(desk, passes).expect(rt, "all passes")
 }

@@ -23,6 +23,12 @@ pub struct Turn {
     pub outcome: Outcome,
 }
 
+/// Ends the test where something doesn't hold, with what and at which number. The one place where a message
+/// is put together: in each place it would be so many more cases of the proof.
+pub fn expect_at<R: Abort>(rt: &R, holds: bool, what: &str, number: u64) {
+    assert!(rt; holds, "{what} {number}");
+}
+
 /// Makes one call at a desk.
 pub fn make<R: Wait + Abort>(
     rt: &R,

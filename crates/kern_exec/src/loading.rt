@@ -3,7 +3,7 @@
 use kern_post::content::Ending;
 
 /// What loading a cell comes to.
-#[derive(Clone, Copy, PartialEq, Eq)]
+#[derive(Clone, Copy)]
 pub enum Loading {
     /// A run is to start at this address.
     Starts(u16),

@@ -115,6 +115,5 @@ fn error_line(alloc: Global, cause: Cause) -> Result<String, AllocError>
 pub(crate) fn traceback(alloc: Global, cause: Cause) -> Result<Value, AllocError>
     ensures { IfOk result (λ v. view v ≡ traceback_of cause) }
 {
-    let line = error_line(alloc, cause)?;
-    json!(in alloc; [line])
+    json!(in alloc; [error_line(alloc, cause)?])
 }

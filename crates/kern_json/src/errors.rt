@@ -13,22 +13,22 @@ use std::alloc::{AllocError, Global};
 pub(crate) fn error(alloc: Global, cause: Cause) -> Result<Value, AllocError>
     ensures { IfOk result (λ v. view v ≡ error_json cause) }
 {
-    let value = evalue(alloc, cause)?;
-    let traceback = traceback(alloc, cause)?;
-    json!(in alloc; {"ename": ename(cause), "evalue": value, "traceback": traceback})
+    json!(in alloc; {
+        "ename": ename(cause),
+        "evalue": evalue(alloc, cause)?,
+        "traceback": traceback(alloc, cause)?
+    })
 }
 
 /// Of a reply to a request that failed (Jupyter messaging, "Request-reply").
 pub(crate) fn error_reply(alloc: Global, cause: Cause) -> Result<Value, AllocError>
     ensures { IfOk result (λ v. view v ≡ error_reply_json cause) }
 {
-    let value = evalue(alloc, cause)?;
-    let traceback = traceback(alloc, cause)?;
     json!(in alloc; {
         "ename": ename(cause),
-        "evalue": value,
+        "evalue": evalue(alloc, cause)?,
         "status": "error",
-        "traceback": traceback
+        "traceback": traceback(alloc, cause)?
     })
 }
 
@@ -36,13 +36,11 @@ pub(crate) fn error_reply(alloc: Global, cause: Cause) -> Result<Value, AllocErr
 pub(crate) fn failed_execution(alloc: Global, count: u64, cause: Cause) -> Result<Value, AllocError>
     ensures { IfOk result (λ v. view v ≡ execute_reply_json count (Failed cause)) }
 {
-    let value = evalue(alloc, cause)?;
-    let traceback = traceback(alloc, cause)?;
     json!(in alloc; {
         "ename": ename(cause),
-        "evalue": value,
+        "evalue": evalue(alloc, cause)?,
         "execution_count": count,
         "status": "error",
-        "traceback": traceback
+        "traceback": traceback(alloc, cause)?
     })
 }

@@ -43,8 +43,7 @@ pub(crate) fn execute_input(alloc: Global, code: &str, count: u64) -> Result<Val
 pub(crate) fn stream(alloc: Global, bytes: &[u8]) -> Result<Value, AllocError>
     ensures { IfOk result (λ v. view v ≡ stream_json bytes.now) }
 {
-    let text = to_text(alloc, bytes)?;
-    json!(in alloc; {"name": "stdout", "text": text})
+    json!(in alloc; {"name": "stdout", "text": to_text(alloc, bytes)?})
 }
 
 /// Of `input_request` (Jupyter messaging, "Messages on the stdin (ROUTER/DEALER) channel").

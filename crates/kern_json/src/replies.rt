@@ -35,14 +35,13 @@ fn language(alloc: Global) -> Result<Value, AllocError>
 pub(crate) fn kernel_info(alloc: Global) -> Result<Value, AllocError>
     ensures { IfOk result (λ v. view v ≡ kernel_info_json) }
 {
-    let language = language(alloc)?;
     json!(in alloc; {
         "banner": "Intel 8080 laboratory",
         "debugger": true,
         "help_links": [],
         "implementation": "lab80",
         "implementation_version": "1.0",
-        "language_info": language,
+        "language_info": language(alloc)?,
         "protocol_version": "5.4",
         "status": "ok"
     })

@@ -4,16 +4,17 @@ use asm_syntax::fault::AsmFault;
 use base_text::sequence::Bytes;
 use base_text::text::Text;
 use dap_answers::answer::{Event, Response};
+use std::alloc::AllocError;
 
 /// Whether the kernel works on a request (Jupyter messaging, "Kernel status").
-#[derive(Clone, Copy, PartialEq, Eq)]
+#[derive(Clone, Copy)]
 pub enum ExecutionState {
     Busy,
     Idle,
 }
 
 /// Why a request failed.
-#[derive(Clone, Copy, PartialEq, Eq)]
+#[derive(Clone, Copy)]
 pub enum Cause {
     /// The cell has this fault.
     Assembly(AsmFault),
@@ -34,14 +35,14 @@ pub enum Cause {
 }
 
 /// How an execution ended.
-#[derive(Clone, Copy, PartialEq, Eq)]
+#[derive(Clone, Copy)]
 pub enum Ending {
     Done,
     Failed(Cause),
 }
 
 /// Whether a cell's text can be run as it stands (Jupyter messaging, "Code completeness").
-#[derive(Clone, Copy, PartialEq, Eq)]
+#[derive(Clone, Copy)]
 pub enum Completeness {
     Complete,
     /// Nothing but an ENDIF is missing.
@@ -50,7 +51,7 @@ pub enum Completeness {
 }
 
 /// The requests, but for execute_request, that get a reply where their content isn't as needed.
-#[derive(Clone, Copy, PartialEq, Eq)]
+#[derive(Clone, Copy)]
 pub enum RefusedRequest {
     IsComplete,
     Complete,
@@ -58,7 +59,7 @@ pub enum RefusedRequest {
 }
 
 /// What a post says, and so its type.
-#[derive(Clone, Drop)]
+#[derive(Drop)]
 pub enum Content {
     Status(ExecutionState),
     ExecuteInput { code: Text, count: u64 },
@@ -100,8 +101,46 @@ impl RefusedRequest {
 }
 
 impl Content {
-    ghost use Rattle.std.specs.Prelude.{◌≡◌};
+    ghost use Rattle.std.specs.Prelude.{◌≡◌, IfOk};
     ghost use Rattle.kern_post.specs.Topics.{topic_of};
+
+    /// A copy. Only what is on the heap can want memory, so each other content is one step.
+    pub fn copy(&self) -> Result<Content, AllocError>
+        ensures { IfOk result (λ copy. copy ≡ self.now) }
+    {
+        match self {
+            Content::Status(state) => Ok(Content::Status(*state)),
+            Content::ExecuteInput { code, count } => Ok(Content::ExecuteInput {
+                code: code.clone()?,
+                count: *count,
+            }),
+            Content::Stream(bytes) => Ok(Content::Stream(bytes.clone()?)),
+            Content::InputRequest => Ok(Content::InputRequest),
+            Content::Error(cause) => Ok(Content::Error(*cause)),
+            Content::CommClose { comm_id } => Ok(Content::CommClose {
+                comm_id: comm_id.clone()?,
+            }),
+            Content::DebugEvent(event) => Ok(Content::DebugEvent(*event)),
+            Content::KernelInfoReply => Ok(Content::KernelInfoReply),
+            Content::ExecuteReply { count, ending } => Ok(Content::ExecuteReply {
+                count: *count,
+                ending: *ending,
+            }),
+            Content::IsCompleteReply(completeness) => Ok(Content::IsCompleteReply(*completeness)),
+            Content::CompleteReply { cursor_pos } => Ok(Content::CompleteReply {
+                cursor_pos: *cursor_pos,
+            }),
+            Content::InspectReply => Ok(Content::InspectReply),
+            Content::HistoryReply => Ok(Content::HistoryReply),
+            Content::CommInfoReply => Ok(Content::CommInfoReply),
+            Content::ShutdownReply { restarts } => Ok(Content::ShutdownReply {
+                restarts: *restarts,
+            }),
+            Content::InterruptReply => Ok(Content::InterruptReply),
+            Content::DebugReply(response) => Ok(Content::DebugReply(response.clone()?)),
+            Content::BadContentReply(request) => Ok(Content::BadContentReply(*request)),
+        }
+    }
 
     /// The type of the post (Jupyter messaging, "General Message Format": `msg_type`), which on
     /// iopub is its topic.

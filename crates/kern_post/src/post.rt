@@ -67,7 +67,7 @@ impl Letter {
         ensures { IfOk result (λ copy. copy ≡ self.now) }
     {
         let envelope = self.envelope.copy()?;
-        let content = copy_content(&self.content)?;
+        let content = self.content.copy()?;
         Ok(Letter { envelope, content })
     }
 }
@@ -102,10 +102,4 @@ fn copy_bytes(bytes: &Bytes) -> Result<Bytes, AllocError>
     ensures { IfOk result (λ copy. copy ≡ bytes.now) }
 {
     bytes.clone()
-}
-
-fn copy_content(content: &Content) -> Result<Content, AllocError>
-    ensures { IfOk result (λ copy. copy ≡ content.now) }
-{
-    content.clone()
 }

@@ -2,27 +2,37 @@
 
 use jup_wire::message::WireFault;
 use std::alloc::{AllocError, AllocFailed};
-use thiserror::Error;
+use std::fmt;
 
 /// Why a line of a session isn't kept to.
-#[derive(Clone, Copy, PartialEq, Eq, Debug, Error)]
+#[derive(Clone, Copy)]
 pub enum SessionFault {
-    #[error("out of memory")]
     OutOfMemory,
-    #[error("the line is no JSON")]
     Json,
-    #[error("the member {0} isn't as it must be")]
     Member(&'static str),
-    #[error("the message doesn't open: {0}")]
     Wire(WireFault),
-    #[error("another reply")]
     Reply,
-    #[error("connection {0}: a fetch is refused")]
     Fetch(u32),
-    #[error("connection {0}: other posts")]
     Numbers(u32),
-    #[error("post {number}: another {part}")]
     Post { number: u64, part: &'static str },
+}
+
+impl fmt::Display for SessionFault {
+    fn fmt<W: fmt::Write>(&self, f: &mut fmt::Formatter<W>) -> fmt::Result {
+        match self {
+            SessionFault::OutOfMemory => f.write_str("out of memory"),
+            SessionFault::Json => f.write_str("the line is no JSON"),
+            SessionFault::Member(key) => write!(f, "the member {key} isn't as it must be"),
+            SessionFault::Wire(fault) => write!(f, "the message doesn't open: {fault}"),
+            SessionFault::Reply => f.write_str("another reply"),
+            SessionFault::Fetch(connection) => write!(
+                f,
+                "connection {connection}: a fetch is refused"
+            ),
+            SessionFault::Numbers(connection) => write!(f, "connection {connection}: other posts"),
+            SessionFault::Post { number, part } => write!(f, "post {number}: another {part}"),
+        }
+    }
 }
 
 impl From<AllocError> for SessionFault {

@@ -13,7 +13,7 @@ mod replies;
 mod session;
 
 use crate::fault::SessionFault;
-use crate::session::run_session;
+use crate::session::{Made, run_session};
 use std::process::ExitCode;
 use std::rt::{Env, Files};
 use std::{env, fs, io};
@@ -40,7 +40,18 @@ fn run(rt: &(impl Env + Files + Print + AllocGlobal)) -> io::Result<bool> {
 
 fn run_file(rt: &(impl Files + Print + AllocGlobal), name: &str) -> io::Result<bool> {
     let text = fs::read_to_string(rt, name)?;
-    match run_session(rt.alloc(), text.as_str()) {
+    let told = run_session(rt.alloc(), text.as_str());
+    drop(text);
+    report(rt, name, told)
+}
+
+// The line that tells of a session, and whether the session was kept to.
+fn report(
+    rt: &impl Print,
+    name: &str,
+    told: Result<Made, (usize, SessionFault)>,
+) -> io::Result<bool> {
+    match told {
         Ok(made) => {
             println!(rt; "{name}: {} calls, {} posts", made.calls, made.posts)?;
             Ok(true)

@@ -3,7 +3,7 @@
 use crate::fault::SessionFault;
 use base_text::sequence::{Bytes, Frames};
 use serde_json::Value;
-use std::alloc::Global;
+use std::alloc::{AllocError, Global};
 
 /// What stands at a key.
 pub fn member<'a>(value: &'a Value, key: &'static str) -> Result<&'a Value, SessionFault> {
@@ -47,15 +47,6 @@ pub fn list<'a>(value: &'a Value, key: &'static str) -> Result<&'a [Value], Sess
     }
 }
 
-/// A list of whole numbers.
-pub fn numbers(alloc: Global, value: &Value, key: &'static str) -> Result<Vec<u64>, SessionFault> {
-    let mut numbers = Vec::new(alloc);
-    for item in list(value, key)? {
-        numbers.push(item.as_u64().ok_or(SessionFault::Member(key))?)?;
-    }
-    Ok(numbers)
-}
-
 /// Bytes, in hexadecimal.
 pub fn bytes(alloc: Global, value: &Value, key: &'static str) -> Result<Bytes, SessionFault> {
     frame(alloc, member(value, key)?, key)
@@ -79,21 +70,75 @@ fn frame(alloc: Global, item: &Value, key: &'static str) -> Result<Bytes, Sessio
     }
 }
 
-/// Whether a list of frames is this one, each in hexadecimal.
+/// Whether this whole number stands at a key.
+pub fn has_number(value: &Value, key: &str, number: u64) -> bool {
+    match value.get(key) {
+        Some(told) => told.as_u64() == Some(number),
+        None => false,
+    }
+}
+
+/// Whether this truth value stands at a key.
+pub fn has_truth(value: &Value, key: &str, truth: bool) -> bool {
+    match value.get(key) {
+        Some(told) => told.as_bool() == Some(truth),
+        None => false,
+    }
+}
+
+/// Whether this text stands at a key.
+pub fn has_text(value: &Value, key: &str, text: &str) -> bool {
+    match value.get(key) {
+        Some(told) => told.as_str() == Some(text),
+        None => false,
+    }
+}
+
+/// Whether these bytes stand at a key, as a text.
+pub fn has_bytes(value: &Value, key: &str, bytes: &[u8]) -> bool {
+    match value.get(key) {
+        Some(told) => is_bytes(told, bytes),
+        None => false,
+    }
+}
+
+fn is_bytes(told: &Value, bytes: &[u8]) -> bool {
+    match told.as_str() {
+        Some(text) => text.as_bytes() == bytes,
+        None => false,
+    }
+}
+
+/// The items of the list at a key.
+pub fn items<'a>(value: &'a Value, key: &str) -> Option<&'a [Value]> {
+    let items = value.get(key)?.as_array()?;
+    Some(items.as_slice())
+}
+
+/// Whether the list at a key is these frames, each in hexadecimal.
 pub fn are_frames(
     alloc: Global,
     value: &Value,
-    key: &'static str,
-    frames_there: &Frames,
-) -> Result<bool, SessionFault> {
-    let told = frames(alloc, value, key)?;
-    if told.len() != frames_there.len() {
+    key: &str,
+    frames: &Frames,
+) -> Result<bool, AllocError> {
+    let Some(told) = items(value, key) else {
+        return Ok(false);
+    };
+    if told.len() != frames.len() {
         return Ok(false);
     }
-    for (frame, other) in told.as_slice().iter().zip(frames_there.as_slice()) {
-        if frame.as_slice() != other.as_slice() {
+    for (item, frame) in told.iter().zip(frames.as_slice()) {
+        if !is_frame(alloc, item, frame.as_slice())? {
             return Ok(false);
         }
     }
     Ok(true)
+}
+
+fn is_frame(alloc: Global, item: &Value, frame: &[u8]) -> Result<bool, AllocError> {
+    let digits = hex::encode(alloc, frame)?;
+    let is_told = item.as_str() == Some(digits.as_str());
+    drop(digits);
+    Ok(is_told)
 }

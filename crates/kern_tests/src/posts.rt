@@ -1,13 +1,12 @@
 //! The posts of a session.
 
 use crate::fault::SessionFault;
-use crate::members::{are_frames, list, member, number, text};
-use base_text::sequence::Frames;
+use crate::members::{are_frames, has_bytes, has_number, has_text, list};
 use kern_json::content::content_json;
 use kern_post::post::{Head, Post};
 use kern_render::rendering::render;
 use serde_json::Value;
-use std::alloc::Global;
+use std::alloc::{AllocError, Global};
 
 /// Whether a post that a line tells is addressed to a connection.
 pub fn is_to(told: &Value, connection: u32) -> Result<bool, SessionFault> {
@@ -59,8 +58,8 @@ fn other_part(
     told: &Value,
     moment: u64,
     post: &Post,
-) -> Result<Option<&'static str>, SessionFault> {
-    if number(told, "number")? != post.number {
+) -> Result<Option<&'static str>, AllocError> {
+    if !has_number(told, "number", post.number) {
         return Ok(Some("number"));
     }
     if moment != post.moment {
@@ -74,41 +73,27 @@ fn other_part(
     Ok(None)
 }
 
-fn is_part(alloc: Global, told: &Value, post: &Post, part: Part) -> Result<bool, SessionFault> {
+fn is_part(alloc: Global, told: &Value, post: &Post, part: Part) -> Result<bool, AllocError> {
     match part {
-        Part::Type => Ok(text(told, "msg_type")? == post.letter.content.topic()),
+        Part::Type => Ok(has_text(told, "msg_type", post.letter.content.topic())),
         Part::Head => is_head(alloc, told, post),
-        Part::Parent => {
-            Ok(text(told, "parent")?.as_bytes() == post.letter.envelope.parent.as_slice())
-        }
+        Part::Parent => Ok(has_bytes(told, "parent", post.letter.envelope.parent.as_slice())),
         Part::Content => is_content(alloc, told, post),
         Part::Frames => is_rendered(alloc, told, post),
     }
 }
 
-fn is_head(alloc: Global, told: &Value, post: &Post) -> Result<bool, SessionFault> {
+fn is_head(alloc: Global, told: &Value, post: &Post) -> Result<bool, AllocError> {
     match &post.letter.envelope.head {
-        Head::Topic => is_topic(told, post.letter.content.topic()),
-        Head::Identities(identities) => are_identities(alloc, told, identities),
+        Head::Topic => Ok(has_text(told, "topic", post.letter.content.topic())),
+        Head::Identities(identities) => are_frames(alloc, told, "reply_to", identities),
     }
 }
 
-fn is_topic(told: &Value, topic: &str) -> Result<bool, SessionFault> {
-    if told.get("topic").is_none() {
+fn is_content(alloc: Global, told: &Value, post: &Post) -> Result<bool, AllocError> {
+    let Some(told) = told.get("content") else {
         return Ok(false);
-    }
-    Ok(text(told, "topic")? == topic)
-}
-
-fn are_identities(alloc: Global, told: &Value, identities: &Frames) -> Result<bool, SessionFault> {
-    if told.get("reply_to").is_none() {
-        return Ok(false);
-    }
-    are_frames(alloc, told, "reply_to", identities)
-}
-
-fn is_content(alloc: Global, told: &Value, post: &Post) -> Result<bool, SessionFault> {
-    let told = member(told, "content")?;
+    };
     let content = content_json(alloc, post.number, &post.letter.content)?;
     let is_told = *told == content;
     drop(content);
@@ -116,10 +101,12 @@ fn is_content(alloc: Global, told: &Value, post: &Post) -> Result<bool, SessionF
 }
 
 // Where the frames are told, they are those under the empty key in the session `S`.
-fn is_rendered(alloc: Global, told: &Value, post: &Post) -> Result<bool, SessionFault> {
+fn is_rendered(alloc: Global, told: &Value, post: &Post) -> Result<bool, AllocError> {
     if told.get("frames").is_none() {
         return Ok(true);
     }
     let frames = render(alloc, post, b"", "S")?;
-    are_frames(alloc, told, "frames", &frames)
+    let are_told = are_frames(alloc, told, "frames", &frames);
+    drop(frames);
+    are_told
 }

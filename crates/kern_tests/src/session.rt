@@ -2,9 +2,9 @@
 
 use crate::calls::call_of;
 use crate::fault::SessionFault;
-use crate::members::{list, member, number, small_number};
+use crate::members::{has_number, list, member, number, small_number};
 use crate::posts::{compare_post, is_to};
-use crate::replies::{are_numbers, compare_reply};
+use crate::replies::compare_reply;
 use kern_core::call::{Call, Reply};
 use kern_core::fault::KernFault;
 use kern_core::kernel::Kernel;
@@ -163,7 +163,7 @@ impl Session {
         line: &Value,
         answer: &Result<Reply, KernFault>,
     ) -> Result<(), SessionFault> {
-        compare_reply(alloc, member(line, "reply")?, answer)?;
+        compare_reply(member(line, "reply")?, answer)?;
         self.made.calls = self.made.calls.saturating_add(1);
         self.follow(alloc, line, answer)
     }
@@ -241,7 +241,7 @@ fn compare_fetched(
     connection: u32,
     posts: &Posts,
 ) -> Result<(), SessionFault> {
-    if !are_those_to(alloc, connection, list(line, "posts")?, posts)? {
+    if !are_those_to(connection, list(line, "posts")?, posts.as_slice())? {
         return Err(SessionFault::Numbers(connection));
     }
     for post in posts.as_slice() {
@@ -251,27 +251,25 @@ fn compare_fetched(
 }
 
 // Whether posts are those of the told ones that are addressed to a connection, by their numbers.
-fn are_those_to(
-    alloc: Global,
-    connection: u32,
-    told: &[Value],
-    posts: &Posts,
-) -> Result<bool, SessionFault> {
-    let mut numbers = Vec::new(alloc);
+fn are_those_to(connection: u32, told: &[Value], posts: &[Post]) -> Result<bool, SessionFault> {
+    let mut place = 0usize;
     for post in told {
-        if let Some(number) = number_to(post, connection)? {
-            numbers.push(number)?;
+        if is_to(post, connection)? {
+            if !is_at(posts, place, post) {
+                return Ok(false);
+            }
+            place = place.saturating_add(1);
         }
     }
-    Ok(are_numbers(numbers.as_slice(), posts))
+    Ok(place == posts.len())
 }
 
-// The number of a post that is addressed to a connection.
-fn number_to(post: &Value, connection: u32) -> Result<Option<u64>, SessionFault> {
-    if !is_to(post, connection)? {
-        return Ok(None);
+// Whether the post at a place has the number of a told one.
+fn is_at(posts: &[Post], place: usize, told: &Value) -> bool {
+    match posts.get(place) {
+        Some(post) => has_number(told, "number", post.number),
+        None => false,
     }
-    Ok(Some(number(post, "number")?))
 }
 
 // Compares posts with what lines tell of them; of those of repeated calls nothing is told.
