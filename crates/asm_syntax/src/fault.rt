@@ -1,5 +1,6 @@
 //! What can be wrong with a cell.
 ghost use Rattle.std.specs.Prelude.{◌≡◌};
+ghost use Rattle.asm_syntax.specs.Faults.{fault_name};
 
 use std::alloc::{AllocError, AllocFailed};
 use std::fmt;
@@ -42,9 +43,12 @@ pub enum FaultKind {
     PastEnd,
 }
 
-impl fmt::Display for FaultKind {
-    fn fmt<W: fmt::Write>(&self, f: &mut fmt::Formatter<W>) -> fmt::Result {
-        let text = match self {
+impl FaultKind {
+    /// What is wrong, in one word, as it is shown after a line and a column.
+    pub fn name(self) -> &'static str
+        ensures { result.now ≡ fault_name self }
+    {
+        match self {
             FaultKind::Character => "Character",
             FaultKind::Number => "Number",
             FaultKind::Text => "Text",
@@ -61,8 +65,13 @@ impl fmt::Display for FaultKind {
             FaultKind::ByteRange => "ByteRange",
             FaultKind::Overlap => "Overlap",
             FaultKind::PastEnd => "PastEnd",
-        };
-        f.write_str(text)
+        }
+    }
+}
+
+impl fmt::Display for FaultKind {
+    fn fmt<W: fmt::Write>(&self, f: &mut fmt::Formatter<W>) -> fmt::Result {
+        f.write_str(self.name())
     }
 }
 

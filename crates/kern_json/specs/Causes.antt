@@ -3,8 +3,7 @@
 use Rattle.std.specs.Prelude.{ℕ, List, [], ◌∷◌, ◌++◌, codes, decimal}
 use Rattle.serde_json.specs.Data.{Data, string}
 use Rattle.base_text.specs.Hexadecimal.{upper_byte, upper_word}
-use Rattle.asm_syntax.specs.declared.fault.FaultKind.{FaultKind}
-use Rattle.asm_syntax.specs.declared.fault.FaultKind.TheVariants as fault
+use Rattle.asm_syntax.specs.Faults.{fault_name}
 use Rattle.asm_syntax.specs.declared.fault.AsmFault.{AsmFault}
 use Rattle.asm_syntax.specs.declared.fault.AsmFault.TheVariants as asm
 use Rattle.kern_post.specs.declared.content.Cause.{Cause}
@@ -20,24 +19,6 @@ ename_of cause.QueueFull = codes "QueueFull"
 ename_of cause.BadContent = codes "BadContent"
 ename_of cause.SourceNameTaken = codes "SourceNameTaken"
 ename_of cause.SourcesFull = codes "SourcesFull"
-
-abbrev pub fault_name : FaultKind → List ℕ
-fault_name fault.Character = codes "Character"
-fault_name fault.Number = codes "Number"
-fault_name fault.Text = codes "Text"
-fault_name fault.Name = codes "Name"
-fault_name fault.Mnemonic = codes "Mnemonic"
-fault_name fault.Operands = codes "Operands"
-fault_name (fault.Conditional is_missing_endif) = codes "Conditional"
-fault_name fault.TooLong = codes "TooLong"
-fault_name fault.Undefined = codes "Undefined"
-fault_name fault.Divisor = codes "Divisor"
-fault_name fault.Nesting = codes "Nesting"
-fault_name fault.Twice = codes "Twice"
-fault_name fault.Early = codes "Early"
-fault_name fault.ByteRange = codes "ByteRange"
-fault_name fault.Overlap = codes "Overlap"
-fault_name fault.PastEnd = codes "PastEnd"
 
 -- the line and the column, from 1, and what is wrong there
 abbrev pub fault_text : AsmFault → List ℕ

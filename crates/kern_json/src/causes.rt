@@ -5,13 +5,12 @@ ghost use Rattle.serde_json.specs.View.{view};
 ghost use Rattle.kern_json.specs.Causes.{
   ename_of,
   evalue_of,
-  fault_name,
   fault_text,
   error_line,
   traceback_of,
 };
 
-use asm_syntax::fault::{AsmFault, FaultKind};
+use asm_syntax::fault::AsmFault;
 use base_text::hexadecimal::{push_byte, push_word};
 use kern_post::content::Cause;
 use serde_json::{Value, json};
@@ -33,30 +32,6 @@ pub(crate) fn ename(cause: Cause) -> &'static str
     }
 }
 
-// How what is wrong is displayed.
-fn name_of(kind: FaultKind) -> &'static str
-    ensures { result.now ≡ fault_name kind }
-{
-    match kind {
-        FaultKind::Character => "Character",
-        FaultKind::Number => "Number",
-        FaultKind::Text => "Text",
-        FaultKind::Name => "Name",
-        FaultKind::Mnemonic => "Mnemonic",
-        FaultKind::Operands => "Operands",
-        FaultKind::Conditional { .. } => "Conditional",
-        FaultKind::TooLong => "TooLong",
-        FaultKind::Undefined => "Undefined",
-        FaultKind::Divisor => "Divisor",
-        FaultKind::Nesting => "Nesting",
-        FaultKind::Twice => "Twice",
-        FaultKind::Early => "Early",
-        FaultKind::ByteRange => "ByteRange",
-        FaultKind::Overlap => "Overlap",
-        FaultKind::PastEnd => "PastEnd",
-    }
-}
-
 // What is wrong at a line and a column.
 fn place_text(alloc: Global, line: usize, column: usize, name: &str) -> Result<String, AllocError>
     ensures { IfOk result (λ text. string_bytes text
@@ -72,7 +47,7 @@ fn fault_text(alloc: Global, fault: AsmFault) -> Result<String, AllocError>
 {
     match fault {
         AsmFault::OutOfMemory => String::from_str(alloc, "OutOfMemory"),
-        AsmFault::At { line, column, kind } => place_text(alloc, line, column, name_of(kind)),
+        AsmFault::At { line, column, kind } => place_text(alloc, line, column, kind.name()),
     }
 }
 

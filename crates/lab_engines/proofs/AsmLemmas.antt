@@ -12,7 +12,8 @@ use Rattle.lab_io.specs.declared.report.Report.{Report}
 use Rattle.lab_io.specs.declared.status.Status.TheVariants.{Refused}
 use Rattle.lab_io.specs.Report.{IsReport}
 use Rattle.lab_io.specs.TextState.{IsText}
-use Rattle.lab_engines.specs.AsmText.{cell_of, cell_text, cell_status, fault_line, fault_name, asm_text, asm_status}
+use Rattle.lab_engines.specs.AsmText.{cell_of, cell_text, cell_status, fault_line, asm_text, asm_status}
+use Rattle.asm_syntax.specs.Faults.{fault_name}
 
 long_cell : (input : List ℕ) → 1048576 < length input → cell_of input ≡ Err (1, 1, TooLong)
 unfolding statements_of

@@ -4,8 +4,7 @@ use Rattle.std.specs.Fmt.{decimal}
 use Rattle.std.specs.Str.{is_utf8}
 use Rattle.i80_exec.specs.State.{power_on, with_pc, loaded}
 use Rattle.asm_syntax.specs.Outcome.{CellFault, ◌>>=◌}
-use Rattle.asm_syntax.specs.declared.fault.FaultKind.{FaultKind}
-use Rattle.asm_syntax.specs.declared.fault.FaultKind.TheVariants as fault
+use Rattle.asm_syntax.specs.Faults.{fault_name}
 use Rattle.asm_text.specs.Statements.{statements_of}
 use Rattle.asm_build.specs.Meaning.{Meaning, built_of}
 use Rattle.lab_io.specs.declared.status.Status.{Status}
@@ -39,24 +38,6 @@ built_text image start = image_text image ++ start_text image start
 -- what is wrong, after its line and column
 abbrev pub fault_line : ℕ → ℕ → List ℕ → List ℕ
 fault_line number column name = line (decimal number ++ codes ":" ++ decimal column ++ codes " " ++ name)
-
-abbrev pub fault_name : FaultKind → List ℕ
-fault_name fault.Character = codes "Character"
-fault_name fault.Number = codes "Number"
-fault_name fault.Text = codes "Text"
-fault_name fault.Name = codes "Name"
-fault_name fault.Mnemonic = codes "Mnemonic"
-fault_name fault.Operands = codes "Operands"
-fault_name (fault.Conditional is_missing_endif) = codes "Conditional"
-fault_name fault.TooLong = codes "TooLong"
-fault_name fault.Undefined = codes "Undefined"
-fault_name fault.Divisor = codes "Divisor"
-fault_name fault.Nesting = codes "Nesting"
-fault_name fault.Twice = codes "Twice"
-fault_name fault.Early = codes "Early"
-fault_name fault.ByteRange = codes "ByteRange"
-fault_name fault.Overlap = codes "Overlap"
-fault_name fault.PastEnd = codes "PastEnd"
 
 -- what a cell's text gives over no symbols, or its first fault
 abbrev pub cell_of : List ℕ → Result Meaning CellFault

@@ -6,12 +6,12 @@ ghost use Rattle.lab_io.specs.Engine.{Answers, IsFailure, IfFailed};
 ghost use Rattle.lab_io.specs.Report.{IsReport};
 ghost use Rattle.lab_io.specs.Streams.{IsEndless};
 ghost use Rattle.lab_io.specs.TextState.{IsText};
+ghost use Rattle.asm_syntax.specs.Faults.{fault_name};
 ghost use Rattle.lab_engines.specs.AsmText.{
   start_text,
   built_text,
   begun_at,
   fault_line,
-  fault_name,
   cell_of,
   cell_text,
   cell_status,
@@ -96,7 +96,7 @@ fn long_report(alloc: Global) -> Result<Report, AllocError>
     ensures { IfOk result (λ report.
         IsReport report Status.Refused (fault_line 1 1 (fault_name FaultKind.TooLong))) }
 {
-    fault_report(alloc, 1, 1, name_of(FaultKind::TooLong))
+    fault_report(alloc, 1, 1, FaultKind::TooLong.name())
 }
 
 /// The report of what a cell gives, or of its first fault.
@@ -107,7 +107,7 @@ fn cell_report(alloc: Global, text: &str) -> Result<Report, AllocError>
     match assembled(alloc, text) {
         Ok(built) => built_report(alloc, &built.image, built.start),
         Err(AsmFault::At { line, column, kind }) => {
-            fault_report(alloc, line, column, name_of(kind))
+            fault_report(alloc, line, column, kind.name())
         }
         Err(AsmFault::OutOfMemory) => Err(AllocError),
     }
@@ -181,28 +181,4 @@ fn fault_report(alloc: Global, line: usize, column: usize, name: &str) -> Result
         is_refused: true,
         text,
     })
-}
-
-/// The name of what is wrong, which is how it is displayed.
-pub fn name_of(kind: FaultKind) -> &'static str
-    ensures { result.now ≡ fault_name kind }
-{
-    match kind {
-        FaultKind::Character => "Character",
-        FaultKind::Number => "Number",
-        FaultKind::Text => "Text",
-        FaultKind::Name => "Name",
-        FaultKind::Mnemonic => "Mnemonic",
-        FaultKind::Operands => "Operands",
-        FaultKind::Conditional { .. } => "Conditional",
-        FaultKind::TooLong => "TooLong",
-        FaultKind::Undefined => "Undefined",
-        FaultKind::Divisor => "Divisor",
-        FaultKind::Nesting => "Nesting",
-        FaultKind::Twice => "Twice",
-        FaultKind::Early => "Early",
-        FaultKind::ByteRange => "ByteRange",
-        FaultKind::Overlap => "Overlap",
-        FaultKind::PastEnd => "PastEnd",
-    }
 }
