@@ -2,10 +2,9 @@
 // cells' symbols.
 // They stand here, above the crates that they test, so that each of those is proved once: a crate is
 // proved again with each test that stands in it. Everything is tested through public functions.
+// What `asm` prints of whole cells is tested by the clients.
 #![tactic(auto)]
 
-#[cfg(test)]
-mod cell_tests;
 #[cfg(test)]
 mod operand_tests;
 #[cfg(test)]

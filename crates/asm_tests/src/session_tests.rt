@@ -54,7 +54,7 @@ fn show(text: &mut String, built: &Built) -> Result<(), AllocError> {
 }
 
 // Assembles a cell over the symbols that were kept.
-pub(crate) fn built(alloc: Global, cell: &str, kept: &Symbols) -> Result<Built, AsmFault> {
+fn built(alloc: Global, cell: &str, kept: &Symbols) -> Result<Built, AsmFault> {
     let all = statements(alloc, cell)?;
     build(alloc, &all, kept)
 }
@@ -161,6 +161,47 @@ const KEPT: [(&str, &str); 3] = [
     OVER_ITSELF,
 ];
 
+// Cells over what the cell before kept, as short sessions.
+const PAIRS: [[(&str, &str); 2]; 13] = [
+    [("N EQU 7", "N:7 Equ "), ("ORG N\nN EQU 5", "2:1 Early")],
+    [("X EQU 3", "X:3 Equ "), ("X EQU X+1", "1:1 Early")],
+    [("X EQU 3", "X:3 Equ "), ("X: ORG X", "1:1 Early")],
+    [("X EQU 1", "X:1 Equ "), ("MVI A,X\nX SET 1", "2:1 Early")],
+    [
+        ("X EQU 1", "X:1 Equ "),
+        ("IF X\nX EQU 1\nENDIF", "2:1 Early"),
+    ],
+    [("N EQU 1", "N:1 Equ "), ("DS N\nNOP\nN: NOP", "3:1 Early")],
+    [("X EQU 1", "X:1 Equ "), ("X SET X+1", "1:1 Early")],
+    [("X EQU 1", "X:1 Equ "), ("X: DS Y", "1:7 Early")],
+    [
+        ("X: NOP", "0=0 1@0+1 X:0 Label "),
+        (
+            "JMP X\nNOP\nX: HLT",
+            "0=C3 1=4 2=0 3=0 4=76 1@0+3 2@3+1 3@4+1 X:4 Label ",
+        ),
+    ],
+    [
+        ("X EQU 1234H", "X:1234 Equ "),
+        ("JMP X", "0=C3 1=34 2=12 1@0+3 X:1234 Equ "),
+    ],
+    [
+        ("X EQU 0", "X:0 Equ "),
+        ("IF X\nX EQU 1\nENDIF", "X:0 Equ "),
+    ],
+    [
+        ("Y EQU 1", "Y:1 Equ "),
+        ("DW Y\nY EQU 0ABCDH", "0=CD 1=AB 1@0+2 Y:ABCD Equ "),
+    ],
+    [
+        ("N0 EQU 6", "N0:6 Equ "),
+        (
+            "N SET N0\nDB N\nN SET N+1\nDB N",
+            "0=6 1=7 2@0+1 4@1+1 N0:6 Equ N:7 Set ",
+        ),
+    ],
+];
+
 // Only lines that give bytes have rows.
 const ROWS: [(&str, &str); 2] = [
     ("", ""),
@@ -196,5 +237,8 @@ fn sessions(rt: HostRuntime) {
             is_session(rt.alloc(), session) == Ok(true),
             "session {number}"
         );
+    }
+    for pair in &PAIRS {
+        assert!(rt; is_session(rt.alloc(), pair) == Ok(true), "{}", pair[1].0);
     }
 }
