@@ -27,11 +27,11 @@ use std::alloc::{AllocError, Global};
 fn capabilities(alloc: Global) -> Result<Value, AllocError>
     ensures { IfOk result (λ v. view v ≡ capabilities_json) }
 {
-    let object = Object::new(alloc)
-        .flag("supportsConfigurationDoneRequest", true)?
-        .flag("supportsDisassembleRequest", true)?
-        .flag("supportsSteppingGranularity", true)?;
-    Ok(object.into_value())
+    Object::new(alloc)
+        .flag("supportsConfigurationDoneRequest", true)
+        .flag("supportsDisassembleRequest", true)
+        .flag("supportsSteppingGranularity", true)
+        .finish()
 }
 
 fn array_of_one(alloc: Global, value: Value) -> Result<Value, AllocError>
@@ -45,16 +45,17 @@ fn array_of_one(alloc: Global, value: Value) -> Result<Value, AllocError>
 fn thread(alloc: Global) -> Result<Value, AllocError>
     ensures { IfOk result (λ v. view v ≡ thread_json) }
 {
-    let object = Object::new(alloc).number("id", 1)?.text("name", "8080")?;
-    Ok(object.into_value())
+    Object::new(alloc)
+        .number("id", 1)
+        .text("name", "8080")
+        .finish()
 }
 
 fn threads(alloc: Global) -> Result<Value, AllocError>
     ensures { IfOk result (λ v. view v ≡ threads_json) }
 {
     let threads = array_of_one(alloc, thread(alloc)?)?;
-    let object = Object::new(alloc).value("threads", threads)?;
-    Ok(object.into_value())
+    Object::new(alloc).value("threads", threads).finish()
 }
 
 fn scope_json(
@@ -65,11 +66,11 @@ fn scope_json(
 ) -> Result<Value, AllocError>
     ensures { IfOk result (λ v. view v ≡ scope_json name.now reference expensive) }
 {
-    let object = Object::new(alloc)
-        .text("name", name)?
-        .number("variablesReference", u64::from(reference))?
-        .flag("expensive", expensive)?;
-    Ok(object.into_value())
+    Object::new(alloc)
+        .text("name", name)
+        .number("variablesReference", u64::from(reference))
+        .flag("expensive", expensive)
+        .finish()
 }
 
 // The scopes of each frame.
@@ -117,50 +118,50 @@ fn stopped_threads(alloc: Global, is_stopped: bool) -> Result<Value, AllocError>
 fn debug_state(alloc: Global, state: &DebugState) -> Result<Value, AllocError>
     ensures { IfOk result (λ v. view v ≡ debug_state_json state.now) }
 {
-    let object = Object::new(alloc)
-        .value(
-            "breakpoints",
-            array_of(alloc, state.breakpoints.as_slice())?,
-        )?
-        .value("stoppedThreads", stopped_threads(alloc, state.is_stopped)?)?
-        .value("exceptionPaths", Value::from(Vec::new(alloc)))?
-        .text("hashMethod", "Murmur2")?
-        .number("hashSeed", 0)?
-        .text("tmpFilePrefix", PREFIX)?
-        .text("tmpFileSuffix", SUFFIX)?
-        .flag("isStarted", state.is_attached)?
-        .flag("richRendering", false)?;
-    Ok(object.into_value())
+    let breakpoints = array_of(alloc, state.breakpoints.as_slice())?;
+    let stopped = stopped_threads(alloc, state.is_stopped)?;
+    Object::new(alloc)
+        .value("breakpoints", breakpoints)
+        .value("stoppedThreads", stopped)
+        .empty_list("exceptionPaths")
+        .text("hashMethod", "Murmur2")
+        .number("hashSeed", 0)
+        .text("tmpFilePrefix", PREFIX)
+        .text("tmpFileSuffix", SUFFIX)
+        .flag("isStarted", state.is_attached)
+        .flag("richRendering", false)
+        .finish()
 }
 
 fn stack_trace(alloc: Global, frames: &[StackFrame], total: u32) -> Result<Value, AllocError>
     ensures { IfOk result (λ v. view v ≡ stack_trace_json frames.now total) }
 {
-    let object = Object::new(alloc)
-        .value("stackFrames", array_of(alloc, frames)?)?
-        .number("totalFrames", u64::from(total))?;
-    Ok(object.into_value())
+    let frames = array_of(alloc, frames)?;
+    Object::new(alloc)
+        .value("stackFrames", frames)
+        .number("totalFrames", u64::from(total))
+        .finish()
 }
 
 fn one_list<T: ToJson>(alloc: Global, key: &str, items: &[T]) -> Result<Value, AllocError>
     ensures { IfOk result (λ v. view v ≡ one_list key.now T.json items.now) }
 {
-    let object = Object::new(alloc).value(key, array_of(alloc, items)?)?;
-    Ok(object.into_value())
+    let items = array_of(alloc, items)?;
+    Object::new(alloc).value(key, items).finish()
 }
 
 fn one_text(alloc: Global, key: &str, text: &str) -> Result<Value, AllocError>
     ensures { IfOk result (λ v. view v ≡ object_of ((key.now, string text.now) ∷ [])) }
 {
-    let object = Object::new(alloc).text(key, text)?;
-    Ok(object.into_value())
+    Object::new(alloc).text(key, text).finish()
 }
 
 fn continued(alloc: Global) -> Result<Value, AllocError>
     ensures { IfOk result (λ v. view v ≡ object_of ((codes "allThreadsContinued", boolean true) ∷ [])) }
 {
-    let object = Object::new(alloc).flag("allThreadsContinued", true)?;
-    Ok(object.into_value())
+    Object::new(alloc)
+        .flag("allThreadsContinued", true)
+        .finish()
 }
 
 /// The JSON of a body.
@@ -168,7 +169,7 @@ pub fn body_json(alloc: Global, body: &Body) -> Result<Value, AllocError>
     ensures { IfOk result (λ v. view v ≡ body_json body.now) }
 {
     match body {
-        Body::Empty => Ok(Object::new(alloc).into_value()),
+        Body::Empty => Object::new(alloc).finish(),
         Body::Capabilities => capabilities(alloc),
         Body::Breakpoints(list) => one_list(alloc, "breakpoints", list.as_slice()),
         Body::Threads => threads(alloc),

@@ -1,19 +1,21 @@
 //! The JSON of the parts of bodies.
-ghost use Rattle.std.specs.Prelude.{◌≡◌, ◌∷◌, ◌++◌, IfOk, OnOk, string_bytes};
+ghost use Rattle.std.specs.Prelude.{◌≡◌, ◌∷◌, ◌++◌, Some, IfOk, OnOk, string_bytes};
 ghost use Rattle.serde_json.specs.Data.{Data, string};
 ghost use Rattle.serde_json.specs.View.{view};
 ghost use Rattle.base_text.specs.Hexadecimal.{upper_byte};
-ghost use Rattle.dap_answers.specs.Object.{members_of};
+ghost use Rattle.dap_answers.specs.Object.{HasMembers};
 ghost use Rattle.dap_answers.specs.Json.{
   space,
   reference,
   spaced_bytes,
   members_from,
+  object_of,
   list_of,
   source_json,
   line_json,
   breakpoint_json,
   bare_frame,
+  source_members,
   frame_json,
   variable_json,
   instruction_json,
@@ -50,10 +52,10 @@ impl ToJson for Breakpoint {
     ghost json = { breakpoint_json };
 
     fn to_json(&self, alloc: Global) -> Result<Value, AllocError> {
-        let object = Object::new(alloc)
-            .number("line", u64::from(self.line))?
-            .flag("verified", self.is_verified)?;
-        Ok(object.into_value())
+        Object::new(alloc)
+            .number("line", u64::from(self.line))
+            .flag("verified", self.is_verified)
+            .finish()
     }
 }
 
@@ -61,11 +63,11 @@ impl ToJson for Variable {
     ghost json = { variable_json };
 
     fn to_json(&self, alloc: Global) -> Result<Value, AllocError> {
-        let object = Object::new(alloc)
-            .text("name", self.name.as_str())?
-            .text("value", self.value.as_str())?
-            .number("variablesReference", 0)?;
-        Ok(object.into_value())
+        Object::new(alloc)
+            .text("name", self.name.as_str())
+            .text("value", self.value.as_str())
+            .number("variablesReference", 0)
+            .finish()
     }
 }
 
@@ -73,8 +75,7 @@ impl ToJson for u32 {
     ghost json = { line_json };
 
     fn to_json(&self, alloc: Global) -> Result<Value, AllocError> {
-        let object = Object::new(alloc).number("line", u64::from(*self))?;
-        Ok(object.into_value())
+        Object::new(alloc).number("line", u64::from(*self)).finish()
     }
 }
 
@@ -82,10 +83,11 @@ impl ToJson for SourceBreakpoints {
     ghost json = { source_breakpoints_json };
 
     fn to_json(&self, alloc: Global) -> Result<Value, AllocError> {
-        let object = Object::new(alloc)
-            .value("breakpoints", array_of(alloc, self.lines.as_slice())?)?
-            .text("source", self.path.as_str())?;
-        Ok(object.into_value())
+        let lines = array_of(alloc, self.lines.as_slice())?;
+        Object::new(alloc)
+            .value("breakpoints", lines)
+            .text("source", self.path.as_str())
+            .finish()
     }
 }
 
@@ -130,50 +132,52 @@ impl ToJson for CodeLine {
     ghost json = { instruction_json };
 
     fn to_json(&self, alloc: Global) -> Result<Value, AllocError> {
-        let object = Object::new(alloc)
-            .value("address", reference(alloc, self.address)?)?
-            .value(
-                "instructionBytes",
-                spaced_bytes(alloc, self.bytes.as_slice())?,
-            )?
-            .text("instruction", self.text.as_str())?;
-        Ok(object.into_value())
+        let address = reference(alloc, self.address)?;
+        let bytes = spaced_bytes(alloc, self.bytes.as_slice())?;
+        Object::new(alloc)
+            .value("address", address)
+            .value("instructionBytes", bytes)
+            .text("instruction", self.text.as_str())
+            .finish()
     }
 }
 
 fn source(alloc: Global, path: &str) -> Result<Value, AllocError>
     ensures { IfOk result (λ v. view v ≡ source_json path.now) }
 {
-    let object = Object::new(alloc).text("path", path)?;
-    Ok(object.into_value())
+    Object::new(alloc).text("path", path).finish()
 }
 
 // What a frame has, with a source or without one.
 fn bare_frame(alloc: Global, frame: &StackFrame) -> Result<Object, AllocError>
-    ensures { IfOk result (λ o. members_of o ≡ members_from (bare_frame frame.now)) }
+    ensures { IfOk result (λ o. HasMembers o (members_from (bare_frame frame.now))) }
 {
-    Object::new(alloc)
-        .value(
-            "instructionPointerReference",
-            reference(alloc, frame.address)?,
-        )?
-        .number("id", u64::from(frame.id))?
-        .text("name", frame.name.as_str())?
-        .number("line", frame.line as u64)?
-        .number("column", 1)
+    let address = reference(alloc, frame.address)?;
+    Ok(
+        Object::new(alloc)
+            .value("instructionPointerReference", address)
+            .number("id", u64::from(frame.id))
+            .text("name", frame.name.as_str())
+            .number("line", frame.line as u64)
+            .number("column", 1),
+    )
+}
+
+fn frame_with_source(alloc: Global, frame: &StackFrame, path: &str) -> Result<Value, AllocError>
+    ensures { IfOk result
+        (λ v. view v ≡ object_of (bare_frame frame.now ++ source_members (Some path.now))) }
+{
+    let source = source(alloc, path)?;
+    bare_frame(alloc, frame)?.value("source", source).finish()
 }
 
 impl ToJson for StackFrame {
     ghost json = { frame_json };
 
     fn to_json(&self, alloc: Global) -> Result<Value, AllocError> {
-        let object = bare_frame(alloc, self)?;
         match &self.source {
-            None => Ok(object.into_value()),
-            Some(path) => {
-                let source = source(alloc, path.as_str())?;
-                Ok(object.value("source", source)?.into_value())
-            }
+            None => bare_frame(alloc, self)?.finish(),
+            Some(path) => frame_with_source(alloc, self, path.as_str()),
         }
     }
 }

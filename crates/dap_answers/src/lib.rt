@@ -1,5 +1,6 @@
 // The answers of a debugger (Debug Adapter Protocol) as typed values, and the JSON of each.
-// `response` and `event` give each typed answer's one JSON value; no one above writes JSON.
+// `response` and `event` give each typed answer's one JSON value.
+// `Object` writes any JSON object member by member, as crates above do theirs.
 // The only fault is want of memory.
 // `cell_path` is the path under which a frontend knows a cell: the MurmurHash2 of its text.
 #![tactic(auto)]
@@ -8,5 +9,5 @@ pub mod answer;
 mod bodies;
 pub mod cell;
 mod json;
-mod object;
+pub mod object;
 pub mod sending;

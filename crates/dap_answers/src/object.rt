@@ -1,17 +1,20 @@
 //! JSON objects as they are written.
 ghost use Rattle.std.specs.Prelude.{◌≡◌, IfOk};
-ghost use Rattle.serde_json.specs.Data.{boolean, number, unsigned, string, object, no_members, put};
+ghost use Rattle.serde_json.specs.Data.{boolean, number, unsigned, string, array, no_items, object, no_members};
 ghost use Rattle.serde_json.specs.View.{view};
-ghost use Rattle.dap_answers.specs.Object.{members_of};
+ghost use Rattle.dap_answers.specs.Object.{members_of, IsWith, IsObject};
 
 use serde_json::{Map, Value};
 use std::alloc::{AllocError, Global};
 
-/// An object that is written member by member, in any order.
+/// An object that is written member by member, in any order. Where memory runs out for one, only `finish` says
+/// so: an object is one expression, with one place at which it fails.
 #[derive(Drop)]
 pub struct Object {
     alloc: Global,
     members: Map<String, Value>,
+    // There was memory for each member so far.
+    is_whole: bool,
 }
 
 impl Object {
@@ -22,45 +25,76 @@ impl Object {
         Object {
             alloc,
             members: Map::new(alloc),
+            is_whole: true,
         }
     }
 
     /// With a value at a key.
-    pub fn value(mut self, key: &str, value: Value) -> Result<Object, AllocError>
-        ensures { IfOk result (λ o. members_of o ≡ put key.now (view value) (members_of self)) }
+    pub fn value(mut self, key: &str, value: Value) -> Object
+        ensures { IsWith self key.now (view value) result }
     {
-        serde_json::put(&mut self.members, self.alloc, key, value)?;
-        Ok(self)
+        let put = serde_json::put(&mut self.members, self.alloc, key, value);
+        self.is_whole &= put.is_ok();
+        self
     }
 
     /// With a text at a key.
-    pub fn text(self, key: &str, text: &str) -> Result<Object, AllocError>
-        ensures { IfOk result (λ o. members_of o ≡ put key.now (string text.now) (members_of self)) }
+    pub fn text(mut self, key: &str, text: &str) -> Object
+        ensures { IsWith self key.now (string text.now) result }
     {
-        let value = Value::try_from_str(self.alloc, text)?;
-        self.value(key, value)
+        match Value::try_from_str(self.alloc, text) {
+            Ok(value) => self.value(key, value),
+            Err(_) => {
+                self.is_whole = false;
+                self
+            }
+        }
     }
 
     /// With a whole number at a key.
-    pub fn number(self, key: &str, whole: u64) -> Result<Object, AllocError>
-        ensures { IfOk result
-            (λ o. members_of o ≡ put key.now (number (unsigned whole)) (members_of self)) }
+    pub fn number(self, key: &str, whole: u64) -> Object
+        ensures { IsWith self key.now (number (unsigned whole)) result }
     {
         self.value(key, Value::from(whole))
     }
 
     /// With `true` or `false` at a key.
-    pub fn flag(self, key: &str, flag: bool) -> Result<Object, AllocError>
-        ensures { IfOk result (λ o. members_of o ≡ put key.now (boolean flag) (members_of self)) }
+    pub fn flag(self, key: &str, flag: bool) -> Object
+        ensures { IsWith self key.now (boolean flag) result }
     {
         self.value(key, Value::from(flag))
     }
 
-    /// The value of the object.
-    pub fn into_value(self) -> Value
-        ensures { view result ≡ object (members_of self) }
+    /// With an array of no items at a key.
+    pub fn empty_list(self, key: &str) -> Object
+        ensures { IsWith self key.now (array no_items) result }
     {
-        let Object { members, .. } = self;
-        Value::from(members)
+        let items = Vec::new(self.alloc);
+        self.value(key, Value::from(items))
+    }
+
+    /// With an object of no members at a key.
+    pub fn empty_object(self, key: &str) -> Object
+        ensures { IsWith self key.now (object no_members) result }
+    {
+        let members = Map::new(self.alloc);
+        self.value(key, Value::from(members))
+    }
+
+    /// The value of the object.
+    pub fn finish(self) -> Result<Value, AllocError>
+        ensures { IfOk result (λ v. IsObject self (view v)) }
+    {
+        let Object {
+            members,
+            is_whole,
+            ..
+        } = self;
+        if is_whole {
+            Ok(Value::from(members))
+        } else {
+            drop(members);
+            Err(AllocError)
+        }
     }
 }

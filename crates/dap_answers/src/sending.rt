@@ -27,14 +27,15 @@ fn success(
 ) -> Result<Value, AllocError>
     ensures { IfOk result (λ v. view v ≡ success_json seq request_seq command.now body.now) }
 {
-    let object = Object::new(alloc)
-        .value("body", body_json(alloc, body)?)?
-        .number("seq", seq)?
-        .text("type", "response")?
-        .number("request_seq", u64::from(request_seq))?
-        .flag("success", true)?
-        .text("command", command)?;
-    Ok(object.into_value())
+    let body = body_json(alloc, body)?;
+    Object::new(alloc)
+        .value("body", body)
+        .number("seq", seq)
+        .text("type", "response")
+        .number("request_seq", u64::from(request_seq))
+        .flag("success", true)
+        .text("command", command)
+        .finish()
 }
 
 fn refusal(
@@ -46,14 +47,14 @@ fn refusal(
 ) -> Result<Value, AllocError>
     ensures { IfOk result (λ v. view v ≡ refusal_json seq request_seq command.now message.now) }
 {
-    let object = Object::new(alloc)
-        .number("seq", seq)?
-        .text("type", "response")?
-        .number("request_seq", u64::from(request_seq))?
-        .flag("success", false)?
-        .text("command", command)?
-        .text("message", message)?;
-    Ok(object.into_value())
+    Object::new(alloc)
+        .number("seq", seq)
+        .text("type", "response")
+        .number("request_seq", u64::from(request_seq))
+        .flag("success", false)
+        .text("command", command)
+        .text("message", message)
+        .finish()
 }
 
 /// The JSON of a response with this number (Debug Adapter Protocol, "Base Protocol": Response).
@@ -72,41 +73,41 @@ pub fn response(alloc: Global, seq: u64, response: &Response) -> Result<Value, A
 fn stopped(alloc: Global, reason: StopReason) -> Result<Value, AllocError>
     ensures { IfOk result (λ v. view v ≡ stopped_json reason) }
 {
-    let object = Object::new(alloc)
-        .text("reason", reason.as_str())?
-        .number("threadId", 1)?
-        .flag("allThreadsStopped", true)?;
-    Ok(object.into_value())
+    Object::new(alloc)
+        .text("reason", reason.as_str())
+        .number("threadId", 1)
+        .flag("allThreadsStopped", true)
+        .finish()
 }
 
 fn continued(alloc: Global) -> Result<Value, AllocError>
     ensures { IfOk result (λ v. view v ≡ continued_json) }
 {
-    let object = Object::new(alloc)
-        .number("threadId", 1)?
-        .flag("allThreadsContinued", true)?;
-    Ok(object.into_value())
+    Object::new(alloc)
+        .number("threadId", 1)
+        .flag("allThreadsContinued", true)
+        .finish()
 }
 
 fn bare_event(alloc: Global, seq: u64, name: &str) -> Result<Value, AllocError>
     ensures { IfOk result (λ v. view v ≡ bare_event seq name.now) }
 {
-    let object = Object::new(alloc)
-        .number("seq", seq)?
-        .text("type", "event")?
-        .text("event", name)?;
-    Ok(object.into_value())
+    Object::new(alloc)
+        .number("seq", seq)
+        .text("type", "event")
+        .text("event", name)
+        .finish()
 }
 
 fn event_with_body(alloc: Global, seq: u64, name: &str, body: Value) -> Result<Value, AllocError>
     ensures { IfOk result (λ v. view v ≡ event_with_body seq name.now (view body)) }
 {
-    let object = Object::new(alloc)
-        .value("body", body)?
-        .number("seq", seq)?
-        .text("type", "event")?
-        .text("event", name)?;
-    Ok(object.into_value())
+    Object::new(alloc)
+        .value("body", body)
+        .number("seq", seq)
+        .text("type", "event")
+        .text("event", name)
+        .finish()
 }
 
 /// The JSON of an event with this number (Debug Adapter Protocol, "Events").

@@ -1,7 +1,7 @@
 //! Reading requests: one function for each command that has arguments.
 ghost use Rattle.std.specs.Prelude.{◌≡◌, IfOk, Some, IfSome, option_map};
 ghost use Rattle.serde_json.specs.View.{view};
-ghost use Rattle.dap_talk.specs.Table.{asked, spelled, name_of, IsBounded};
+ghost use Rattle.dap_talk.specs.Table.{asked, step_name, spelled, name_of, IsBounded};
 ghost use Rattle.dap_talk.specs.Answer.{IsAnswer};
 ghost use Rattle.dap_talk.specs.Reading.{command_text, envelope_of, envelope_with, reading, Answers};
 
@@ -62,34 +62,12 @@ fn variables(request: &Value) -> Option<DapCommand>
     })
 }
 
-fn next(request: &Value) -> Option<DapCommand>
-    ensures { result ≡ asked CommandName.Next (view request.now) }
+#[tactic(auto, using(crate::proofs::ReadingLemmas::asked_step))]
+fn step(request: &Value, kind: StepKind) -> Option<DapCommand>
+    ensures { result ≡ asked (step_name kind) (view request.now) }
 {
     let granularity = granularity_or_line(request, "granularity")?;
-    Some(DapCommand::Step {
-        kind: StepKind::Over,
-        granularity,
-    })
-}
-
-fn step_in(request: &Value) -> Option<DapCommand>
-    ensures { result ≡ asked CommandName.StepIn (view request.now) }
-{
-    let granularity = granularity_or_line(request, "granularity")?;
-    Some(DapCommand::Step {
-        kind: StepKind::In,
-        granularity,
-    })
-}
-
-fn step_out(request: &Value) -> Option<DapCommand>
-    ensures { result ≡ asked CommandName.StepOut (view request.now) }
-{
-    let granularity = granularity_or_line(request, "granularity")?;
-    Some(DapCommand::Step {
-        kind: StepKind::Out,
-        granularity,
-    })
+    Some(DapCommand::Step { kind, granularity })
 }
 
 fn disassemble(request: &Value) -> Option<DapCommand>
@@ -178,9 +156,9 @@ fn read_command(
         CommandName::Scopes => or_refused(scopes(request)),
         CommandName::Variables => or_refused(variables(request)),
         CommandName::Continue => Ok(DapCommand::Continue),
-        CommandName::Next => or_refused(next(request)),
-        CommandName::StepIn => or_refused(step_in(request)),
-        CommandName::StepOut => or_refused(step_out(request)),
+        CommandName::Next => or_refused(step(request, StepKind::Over)),
+        CommandName::StepIn => or_refused(step(request, StepKind::In)),
+        CommandName::StepOut => or_refused(step(request, StepKind::Out)),
         CommandName::Pause => Ok(DapCommand::Pause),
         CommandName::Disassemble => or_refused(disassemble(request)),
         CommandName::Source => source(alloc, request),

@@ -7,8 +7,6 @@ use lab_core::answer::Breakpoint;
 use lab_views::shown::{CodeLine, SourceBreakpoints, StackFrame, Variable};
 use serde_json::Value;
 use std::alloc::{AllocError, Global};
-use std::process::Abort;
-use std::test::Fail;
 
 // A body, from plain values.
 #[derive(Clone, Copy)]
@@ -261,17 +259,16 @@ fn whole(alloc: Global, body: &str) -> Result<String, AllocError> {
     )
 }
 
-fn expect_body(rt: &(impl Abort + AllocGlobal), shape: &Shape, json: &str) -> Result<(), Fail> {
-    let found = sent(rt.alloc(), shape)?;
-    let json = whole(rt.alloc(), json)?;
-    assert!(rt; found.as_str() == json.as_str(), "{found}");
-    Ok(())
+fn is_body(alloc: Global, shape: &Shape, json: &str) -> Result<bool, AllocError> {
+    let found = sent(alloc, shape)?;
+    let wanted = whole(alloc, json)?;
+    Ok(found.as_str() == wanted.as_str())
 }
 
 #[test]
-fn bodies(rt: HostRuntime) -> Result<(), Fail> {
+fn bodies(rt: HostRuntime) -> Result<(), AllocError> {
     for (shape, json) in &BODIES {
-        expect_body(&rt, shape, json)?;
+        assert!(rt; is_body(rt.alloc(), shape, json)?, "{json}");
     }
     Ok(())
 }
@@ -304,11 +301,15 @@ const EVENTS: [(Event, &str); 5] = [
     ),
 ];
 
+fn is_event(alloc: Global, sent: Event, json: &str) -> Result<bool, AllocError> {
+    let found = text_of(alloc, event(alloc, 4, sent)?)?;
+    Ok(found.as_str() == json)
+}
+
 #[test]
-fn events(rt: HostRuntime) -> Result<(), Fail> {
+fn events(rt: HostRuntime) -> Result<(), AllocError> {
     for (sent, json) in &EVENTS {
-        let found = text_of(rt.alloc(), event(rt.alloc(), 4, *sent)?)?;
-        assert!(rt; found.as_str() == *json, "{found}");
+        assert!(rt; is_event(rt.alloc(), *sent, json)?, "{json}");
     }
     Ok(())
 }

@@ -113,146 +113,133 @@ fn put_text_read(told: &mut String, alloc: Global, text: &str) -> Result<(), Fai
     Ok(put?)
 }
 
-fn expect_read(rt: &(impl Abort + AllocGlobal), text: &str, wanted: &str) -> Result<(), Fail> {
-    let mut told = String::new(rt.alloc());
-    put_text_read(&mut told, rt.alloc(), text)?;
-    assert!(rt; told.as_str() == wanted, "{text}: {told}");
-    Ok(())
+// Whether a text is read as it has to be, or refused with this message.
+fn reads_as(alloc: Global, text: &str, wanted: &str) -> Result<bool, Fail> {
+    let mut told = String::new(alloc);
+    put_text_read(&mut told, alloc, text)?;
+    Ok(told.as_str() == wanted)
 }
 
-// Commands, arguments, and what they are read as.
-const COMMANDS: [(&str, &str, &str); 51] = [
-    // Arguments of commands that list none aren't looked at.
-    ("initialize", "{\"restart\":true}", "7 initialize"),
-    ("initialize", "[]", "7 initialize"),
-    ("attach", "{\"restart\":true}", "7 attach"),
-    ("attach", "[]", "7 attach"),
-    ("disconnect", "{\"restart\":true}", "7 disconnect"),
-    ("disconnect", "[]", "7 disconnect"),
+// Arguments, and what is read behind the command's name.
+type Argued = (&'static str, &'static str);
+
+// Arguments of commands that list none aren't looked at.
+const NOT_LISTED: [Argued; 2] = [("{\"restart\":true}", ""), ("[]", "")];
+
+const BARE_COMMANDS: [&str; 10] = [
+    "initialize",
+    "attach",
+    "disconnect",
+    "configurationDone",
+    "threads",
+    "continue",
+    "pause",
+    "debugInfo",
+    "inspectVariables",
+    "boardReset",
+];
+
+// By line where nothing else is said.
+const STEPS: [Argued; 5] = [
+    ("{}", " line"),
+    ("{\"granularity\":\"line\"}", " line"),
+    ("{\"granularity\":\"statement\"}", " line"),
+    ("{\"granularity\":\"Instruction\"}", " line"),
     (
-        "configurationDone",
-        "{\"restart\":true}",
-        "7 configurationDone",
-    ),
-    ("configurationDone", "[]", "7 configurationDone"),
-    ("threads", "{\"restart\":true}", "7 threads"),
-    ("threads", "[]", "7 threads"),
-    ("continue", "{\"restart\":true}", "7 continue"),
-    ("continue", "[]", "7 continue"),
-    ("pause", "{\"restart\":true}", "7 pause"),
-    ("pause", "[]", "7 pause"),
-    ("debugInfo", "{\"restart\":true}", "7 debugInfo"),
-    ("debugInfo", "[]", "7 debugInfo"),
-    (
-        "inspectVariables",
-        "{\"restart\":true}",
-        "7 inspectVariables",
-    ),
-    ("inspectVariables", "[]", "7 inspectVariables"),
-    ("boardReset", "{\"restart\":true}", "7 boardReset"),
-    ("boardReset", "[]", "7 boardReset"),
-    // Arguments that may be left out, and arguments that aren't looked at.
-    ("stackTrace", "{}", "7 stackTrace 0 0"),
-    ("stackTrace", "{\"threadId\":1}", "7 stackTrace 0 0"),
-    (
-        "stackTrace",
-        "{\"startFrame\":4294967295,\"levels\":20,\"format\":null}",
-        "7 stackTrace 4294967295 20",
-    ),
-    ("scopes", "{\"frameId\":1}", "7 scopes 1"),
-    (
-        "variables",
-        "{\"variablesReference\":5,\"start\":16,\"count\":8,\"filter\":\"named\"}",
-        "7 variables 5 16 8",
-    ),
-    (
-        "variables",
-        "{\"variablesReference\":0}",
-        "7 variables 0 0 0",
-    ),
-    ("boardSwitches", "{\"value\":255}", "7 boardSwitches 255"),
-    ("boardPress", "{\"vector\":8}", "7 boardPress 8"),
-    (
-        "source",
-        "{\"source\":{\"path\":\"/tmp/a.asm\"},\"sourceReference\":0}",
-        "7 source /tmp/a.asm",
-    ),
-    ("dumpCell", "{\"code\":\"HLT\"}", "7 dumpCell HLT"),
-    ("boardType", "{\"text\":\"\"}", "7 boardType "),
-    (
-        "setBreakpoints",
-        "{\"source\":{\"path\":\"a\"}}",
-        "7 setBreakpoints a",
-    ),
-    (
-        "setBreakpoints",
-        "{\"source\":{\"path\":\"a\",\"name\":1},\"breakpoints\":[]}",
-        "7 setBreakpoints a",
-    ),
-    (
-        "setBreakpoints",
-        "{\"source\":{\"path\":\"a\"},\"lines\":[9],\
-\"breakpoints\":[{\"line\":3,\"column\":1},{\"line\":0},{\"line\":3}]}",
-        "7 setBreakpoints a 3 0 3",
-    ),
-    (
-        "disassemble",
-        "{\"memoryReference\":\"0x0aFf\",\"instructionCount\":1}",
-        "7 disassemble 2815 0 0 1",
-    ),
-    (
-        "disassemble",
-        "{\"memoryReference\":\"0xFFFF\",\"offset\":2,\"instructionOffset\":4294967295,\
-\"instructionCount\":256,\"resolveSymbols\":false}",
-        "7 disassemble 65535 2 4294967295 256",
-    ),
-    // Steps, by line where nothing else is said.
-    ("next", "{}", "7 next line"),
-    ("next", "{\"granularity\":\"line\"}", "7 next line"),
-    ("next", "{\"granularity\":\"statement\"}", "7 next line"),
-    ("next", "{\"granularity\":\"Instruction\"}", "7 next line"),
-    (
-        "next",
         "{\"granularity\":\"instruction\",\"threadId\":1}",
-        "7 next instruction",
-    ),
-    ("stepIn", "{}", "7 stepIn line"),
-    ("stepIn", "{\"granularity\":\"line\"}", "7 stepIn line"),
-    ("stepIn", "{\"granularity\":\"statement\"}", "7 stepIn line"),
-    (
-        "stepIn",
-        "{\"granularity\":\"Instruction\"}",
-        "7 stepIn line",
-    ),
-    (
-        "stepIn",
-        "{\"granularity\":\"instruction\",\"threadId\":1}",
-        "7 stepIn instruction",
-    ),
-    ("stepOut", "{}", "7 stepOut line"),
-    ("stepOut", "{\"granularity\":\"line\"}", "7 stepOut line"),
-    (
-        "stepOut",
-        "{\"granularity\":\"statement\"}",
-        "7 stepOut line",
-    ),
-    (
-        "stepOut",
-        "{\"granularity\":\"Instruction\"}",
-        "7 stepOut line",
-    ),
-    (
-        "stepOut",
-        "{\"granularity\":\"instruction\",\"threadId\":1}",
-        "7 stepOut instruction",
+        " instruction",
     ),
 ];
 
+// Arguments may be left out, and others aren't looked at.
+const STACK_TRACES: [Argued; 3] = [
+    ("{}", " 0 0"),
+    ("{\"threadId\":1}", " 0 0"),
+    (
+        "{\"startFrame\":4294967295,\"levels\":20,\"format\":null}",
+        " 4294967295 20",
+    ),
+];
+
+const VARIABLES: [Argued; 2] = [
+    (
+        "{\"variablesReference\":5,\"start\":16,\"count\":8,\"filter\":\"named\"}",
+        " 5 16 8",
+    ),
+    ("{\"variablesReference\":0}", " 0 0 0"),
+];
+
+const BREAKPOINTS: [Argued; 3] = [
+    ("{\"source\":{\"path\":\"a\"}}", " a"),
+    (
+        "{\"source\":{\"path\":\"a\",\"name\":1},\"breakpoints\":[]}",
+        " a",
+    ),
+    (
+        "{\"source\":{\"path\":\"a\"},\"lines\":[9],\
+\"breakpoints\":[{\"line\":3,\"column\":1},{\"line\":0},{\"line\":3}]}",
+        " a 3 0 3",
+    ),
+];
+
+const DISASSEMBLIES: [Argued; 2] = [
+    (
+        "{\"memoryReference\":\"0x0aFf\",\"instructionCount\":1}",
+        " 2815 0 0 1",
+    ),
+    (
+        "{\"memoryReference\":\"0xFFFF\",\"offset\":2,\"instructionOffset\":4294967295,\
+\"instructionCount\":256,\"resolveSymbols\":false}",
+        " 65535 2 4294967295 256",
+    ),
+];
+
+const SOURCES: [Argued; 1] = [(
+    "{\"source\":{\"path\":\"/tmp/a.asm\"},\"sourceReference\":0}",
+    " /tmp/a.asm",
+)];
+
+// Commands, and arguments that each of them may have.
+const COMMANDS: [(&[&str], &[Argued]); 12] = [
+    (&BARE_COMMANDS, &NOT_LISTED),
+    (&["next", "stepIn", "stepOut"], &STEPS),
+    (&["stackTrace"], &STACK_TRACES),
+    (&["scopes"], &[("{\"frameId\":1}", " 1")]),
+    (&["variables"], &VARIABLES),
+    (&["boardSwitches"], &[("{\"value\":255}", " 255")]),
+    (&["boardPress"], &[("{\"vector\":8}", " 8")]),
+    (&["source"], &SOURCES),
+    (&["dumpCell"], &[("{\"code\":\"HLT\"}", " HLT")]),
+    (&["boardType"], &[("{\"text\":\"\"}", " ")]),
+    (&["setBreakpoints"], &BREAKPOINTS),
+    (&["disassemble"], &DISASSEMBLIES),
+];
+
+fn reads_command(alloc: Global, command: &str, row: Argued) -> Result<bool, Fail> {
+    let (arguments, read) = row;
+    let text = request(alloc, command, "", arguments, "")?;
+    let wanted = format!(in alloc; "7 {command}{read}")?;
+    reads_as(alloc, text.as_str(), wanted.as_str())
+}
+
+fn expect_command(
+    rt: &(impl Abort + AllocGlobal),
+    command: &str,
+    rows: &[Argued],
+) -> Result<(), Fail> {
+    for row in rows {
+        let is_read = reads_command(rt.alloc(), command, *row)?;
+        assert!(rt; is_read, "{command} {}", row.0);
+    }
+    Ok(())
+}
+
 #[test]
 fn reads_commands(rt: HostRuntime) -> Result<(), Fail> {
-    for (command, arguments, wanted) in &COMMANDS {
-        let text = request(rt.alloc(), command, "", arguments, "")?;
-        expect_read(&rt, text.as_str(), wanted)?;
+    for (commands, rows) in &COMMANDS {
+        for command in *commands {
+            expect_command(&rt, command, rows)?;
+        }
     }
     Ok(())
 }
@@ -278,13 +265,22 @@ fn wanted_lines(alloc: Global) -> Result<String, AllocError> {
     Ok(wanted)
 }
 
+fn reads_most(alloc: Global) -> Result<bool, Fail> {
+    let most = many_breakpoints(alloc, 256)?;
+    let wanted = wanted_lines(alloc)?;
+    reads_as(alloc, most.as_str(), wanted.as_str())
+}
+
+fn refuses_more(alloc: Global) -> Result<bool, Fail> {
+    let more = many_breakpoints(alloc, 257)?;
+    reads_as(alloc, more.as_str(), "Arguments")
+}
+
 #[test]
 fn reads_256_breakpoints_and_no_more(rt: HostRuntime) -> Result<(), Fail> {
-    let wanted = wanted_lines(rt.alloc())?;
-    let most = many_breakpoints(rt.alloc(), 256)?;
-    expect_read(&rt, most.as_str(), wanted.as_str())?;
-    let more = many_breakpoints(rt.alloc(), 257)?;
-    expect_read(&rt, more.as_str(), "Arguments")
+    assert!(rt; reads_most(rt.alloc())?);
+    assert!(rt; refuses_more(rt.alloc())?);
+    Ok(())
 }
 
 const NO_OBJECTS: [&str; 5] = ["[]", "null", "1", "\"a\"", "true"];
@@ -339,123 +335,152 @@ const NO_SOURCES: [&str; 4] = ["\"a\"", "null", "{\"path\":null}", "[\"a\"]"];
 
 const NO_GRANULARITIES: [&str; 3] = ["null", "1", "[\"line\"]"];
 
-// A command, what stands in its arguments before a value and after it, and values that are refused there.
-const REFUSED: [(&str, &str, &str, &[&str]); 46] = [
+const ARGUED_COMMANDS: [&str; 13] = [
+    "setBreakpoints",
+    "stackTrace",
+    "scopes",
+    "variables",
+    "next",
+    "stepIn",
+    "stepOut",
+    "disassemble",
+    "source",
+    "dumpCell",
+    "boardSwitches",
+    "boardPress",
+    "boardType",
+];
+
+const WITH_ONE_ARGUMENT: [&str; 5] = [
+    "scopes",
+    "dumpCell",
+    "boardSwitches",
+    "boardPress",
+    "boardType",
+];
+
+const NO_BYTES: [&str; 1] = ["256"];
+
+const NO_COUNTS: [&str; 2] = ["0", "257"];
+
+const NO_DISASSEMBLIES: [&str; 2] = [
+    "{\"instructionCount\":1}",
+    "{\"memoryReference\":\"0x0000\"}",
+];
+
+// Commands, what stands in the arguments of each before a value and after it, and values that are refused there.
+const REFUSED: [(&[&str], &str, &str, &[&str]); 27] = [
     // Arguments that are no object.
-    ("setBreakpoints", "", "", &NO_OBJECTS),
-    ("stackTrace", "", "", &NO_OBJECTS),
-    ("scopes", "", "", &NO_OBJECTS),
-    ("variables", "", "", &NO_OBJECTS),
-    ("next", "", "", &NO_OBJECTS),
-    ("stepIn", "", "", &NO_OBJECTS),
-    ("stepOut", "", "", &NO_OBJECTS),
-    ("disassemble", "", "", &NO_OBJECTS),
-    ("source", "", "", &NO_OBJECTS),
-    ("dumpCell", "", "", &NO_OBJECTS),
-    ("boardSwitches", "", "", &NO_OBJECTS),
-    ("boardPress", "", "", &NO_OBJECTS),
-    ("boardType", "", "", &NO_OBJECTS),
+    (&ARGUED_COMMANDS, "", "", &NO_OBJECTS),
     // Arguments that are missing.
-    ("setBreakpoints", "", "", &["{}", "{\"breakpoints\":[]}"]),
-    ("scopes", "", "", &["{}"]),
-    ("variables", "", "", &["{}", "{\"start\":0,\"count\":1}"]),
+    (&WITH_ONE_ARGUMENT, "", "", &["{}"]),
+    (&["setBreakpoints"], "", "", &["{}", "{\"breakpoints\":[]}"]),
+    (&["variables"], "", "", &["{}", "{\"start\":0,\"count\":1}"]),
+    (&["disassemble"], "", "", &NO_DISASSEMBLIES),
     (
-        "disassemble",
-        "",
-        "",
-        &[
-            "{\"instructionCount\":1}",
-            "{\"memoryReference\":\"0x0000\"}",
-        ],
-    ),
-    (
-        "source",
+        &["source"],
         "",
         "",
         &["{}", "{\"source\":{}}", "{\"path\":\"a\"}"],
     ),
-    ("dumpCell", "", "", &["{}"]),
-    ("boardSwitches", "", "", &["{}"]),
-    ("boardPress", "", "", &["{}"]),
-    ("boardType", "", "", &["{}"]),
     // Every number, with each value that is no whole number.
-    ("stackTrace", "{\"startFrame\":", "}", &NO_WHOLE_NUMBERS),
-    ("stackTrace", "{\"levels\":", "}", &NO_WHOLE_NUMBERS),
-    ("scopes", "{\"frameId\":", "}", &NO_WHOLE_NUMBERS),
+    (&["stackTrace"], "{\"startFrame\":", "}", &NO_WHOLE_NUMBERS),
+    (&["stackTrace"], "{\"levels\":", "}", &NO_WHOLE_NUMBERS),
+    (&["scopes"], "{\"frameId\":", "}", &NO_WHOLE_NUMBERS),
     (
-        "variables",
+        &["variables"],
         "{\"variablesReference\":",
         "}",
         &NO_WHOLE_NUMBERS,
     ),
     (
-        "variables",
+        &["variables"],
         "{\"variablesReference\":1,\"start\":",
         "}",
         &NO_WHOLE_NUMBERS,
     ),
     (
-        "variables",
+        &["variables"],
         "{\"variablesReference\":4,\"count\":",
         "}",
         &NO_WHOLE_NUMBERS,
     ),
     (
-        "disassemble",
+        &["disassemble"],
         "{\"memoryReference\":\"0x0000\",\"instructionCount\":1,\"offset\":",
         "}",
         &NO_WHOLE_NUMBERS,
     ),
     (
-        "disassemble",
+        &["disassemble"],
         "{\"memoryReference\":\"0x0000\",\"instructionCount\":1,\"instructionOffset\":",
         "}",
         &NO_WHOLE_NUMBERS,
     ),
     (
-        "disassemble",
+        &["disassemble"],
         "{\"memoryReference\":\"0x0000\",\"instructionCount\":",
         "}",
         &NO_WHOLE_NUMBERS,
     ),
-    ("boardSwitches", "{\"value\":", "}", &NO_WHOLE_NUMBERS),
-    ("boardPress", "{\"vector\":", "}", &NO_WHOLE_NUMBERS),
+    (&["boardSwitches"], "{\"value\":", "}", &NO_WHOLE_NUMBERS),
+    (&["boardPress"], "{\"vector\":", "}", &NO_WHOLE_NUMBERS),
     (
-        "setBreakpoints",
+        &["setBreakpoints"],
         "{\"source\":{\"path\":\"a\"},\"breakpoints\":[{\"line\":",
         "}]}",
         &NO_WHOLE_NUMBERS,
     ),
     // Numbers out of their bounds.
-    ("boardSwitches", "{\"value\":", "}", &["256"]),
-    ("boardPress", "{\"vector\":", "}", &["256"]),
+    (&["boardSwitches"], "{\"value\":", "}", &NO_BYTES),
+    (&["boardPress"], "{\"vector\":", "}", &NO_BYTES),
     (
-        "disassemble",
+        &["disassemble"],
         "{\"memoryReference\":\"0x0000\",\"instructionCount\":",
         "}",
-        &["0", "257"],
+        &NO_COUNTS,
     ),
     // Values of another kind.
-    ("next", "{\"granularity\":", "}", &NO_GRANULARITIES),
-    ("stepIn", "{\"granularity\":", "}", &NO_GRANULARITIES),
-    ("stepOut", "{\"granularity\":", "}", &NO_GRANULARITIES),
-    ("dumpCell", "{\"code\":", "}", &["null", "5"]),
-    ("boardType", "{\"text\":", "}", &["null", "[]"]),
-    ("source", "{\"source\":", "}", &NO_SOURCES),
-    ("setBreakpoints", "{\"source\":", "}", &NO_SOURCES),
     (
-        "disassemble",
+        &["next", "stepIn", "stepOut"],
+        "{\"granularity\":",
+        "}",
+        &NO_GRANULARITIES,
+    ),
+    (&["dumpCell"], "{\"code\":", "}", &["null", "5"]),
+    (&["boardType"], "{\"text\":", "}", &["null", "[]"]),
+    (
+        &["source", "setBreakpoints"],
+        "{\"source\":",
+        "}",
+        &NO_SOURCES,
+    ),
+    (
+        &["disassemble"],
         "{\"instructionCount\":1,\"memoryReference\":",
         "}",
         &NO_REFERENCES,
     ),
     (
-        "setBreakpoints",
+        &["setBreakpoints"],
         "{\"source\":{\"path\":\"a\"},\"breakpoints\":",
         "}",
         &NO_BREAKPOINTS,
     ),
 ];
+
+// Whether a command is refused with this message whose arguments are so.
+fn is_refused(
+    alloc: Global,
+    command: &str,
+    before: &str,
+    value: &str,
+    after: &str,
+    message: &str,
+) -> Result<bool, Fail> {
+    let text = request(alloc, command, before, value, after)?;
+    reads_as(alloc, text.as_str(), message)
+}
 
 fn expect_bad(
     rt: &(impl Abort + AllocGlobal),
@@ -465,122 +490,94 @@ fn expect_bad(
     values: &[&str],
 ) -> Result<(), Fail> {
     for value in values {
-        let text = request(rt.alloc(), command, before, value, after)?;
-        expect_read(rt, text.as_str(), "Arguments")?;
+        let is_bad = is_refused(rt.alloc(), command, before, value, after, "Arguments")?;
+        assert!(rt; is_bad, "{command} {before}{value}");
     }
     Ok(())
 }
 
 #[test]
 fn refuses_bad_arguments(rt: HostRuntime) -> Result<(), Fail> {
-    for (command, before, after, values) in &REFUSED {
-        expect_bad(&rt, command, before, after, values)?;
+    for (commands, before, after, values) in &REFUSED {
+        for command in *commands {
+            expect_bad(&rt, command, before, after, values)?;
+        }
     }
     Ok(())
 }
 
-// Whole values, and what they are read as, or the messages of their faults.
-const VALUES: [(&str, &str); 28] = [
-    ("null", "NotRequest"),
-    ("[]", "NotRequest"),
-    ("{}", "NotRequest"),
-    ("\"request\"", "NotRequest"),
+const NO_REQUESTS: [&str; 16] = [
+    "null",
+    "[]",
+    "{}",
+    "\"request\"",
+    "{\"seq\":1,\"type\":\"event\",\"command\":\"threads\"}",
+    "{\"seq\":1,\"type\":\"Request\",\"command\":\"threads\"}",
+    "{\"seq\":1,\"type\":null,\"command\":\"threads\"}",
+    "{\"seq\":1,\"command\":\"threads\"}",
+    "{\"type\":\"request\",\"command\":\"threads\"}",
+    "{\"seq\":null,\"type\":\"request\",\"command\":\"threads\"}",
+    "{\"seq\":1.0,\"type\":\"request\",\"command\":\"threads\"}",
+    "{\"seq\":-1,\"type\":\"request\",\"command\":\"threads\"}",
+    "{\"seq\":4294967296,\"type\":\"request\",\"command\":\"threads\"}",
+    "{\"seq\":1,\"type\":\"request\"}",
+    "{\"seq\":1,\"type\":\"request\",\"command\":3}",
+    "{\"seq\":1,\"type\":\"event\",\"command\":\"evaluate\"}",
+];
+
+// What values are read as, or the messages of their faults.
+const VALUES: [(&str, &[&str]); 5] = [
+    ("NotRequest", &NO_REQUESTS),
     (
-        "{\"seq\":1,\"type\":\"event\",\"command\":\"threads\"}",
-        "NotRequest",
-    ),
-    (
-        "{\"seq\":1,\"type\":\"Request\",\"command\":\"threads\"}",
-        "NotRequest",
-    ),
-    (
-        "{\"seq\":1,\"type\":null,\"command\":\"threads\"}",
-        "NotRequest",
-    ),
-    ("{\"seq\":1,\"command\":\"threads\"}", "NotRequest"),
-    (
-        "{\"type\":\"request\",\"command\":\"threads\"}",
-        "NotRequest",
-    ),
-    (
-        "{\"seq\":null,\"type\":\"request\",\"command\":\"threads\"}",
-        "NotRequest",
-    ),
-    (
-        "{\"seq\":1.0,\"type\":\"request\",\"command\":\"threads\"}",
-        "NotRequest",
-    ),
-    (
-        "{\"seq\":-1,\"type\":\"request\",\"command\":\"threads\"}",
-        "NotRequest",
-    ),
-    (
-        "{\"seq\":4294967296,\"type\":\"request\",\"command\":\"threads\"}",
-        "NotRequest",
-    ),
-    ("{\"seq\":1,\"type\":\"request\"}", "NotRequest"),
-    (
-        "{\"seq\":1,\"type\":\"request\",\"command\":3}",
-        "NotRequest",
-    ),
-    (
-        "{\"seq\":1,\"type\":\"event\",\"command\":\"evaluate\"}",
-        "NotRequest",
-    ),
-    (
-        "{\"seq\":1,\"type\":\"request\",\"command\":\"scopes\"}",
         "Arguments",
+        &["{\"seq\":1,\"type\":\"request\",\"command\":\"scopes\"}"],
     ),
     (
-        "{\"seq\":1,\"type\":\"request\",\"command\":\"threads\"}",
         "1 threads",
+        &["{\"seq\":1,\"type\":\"request\",\"command\":\"threads\"}"],
     ),
     (
-        "{\"seq\":0,\"type\":\"request\",\"command\":\"threads\"}",
         "0 threads",
+        &["{\"seq\":0,\"type\":\"request\",\"command\":\"threads\"}"],
     ),
     (
-        "{\"seq\":4294967295,\"type\":\"request\",\"command\":\"threads\"}",
         "4294967295 threads",
-    ),
-    (
-        "{\"seq\":7,\"type\":\"request\",\"command\":\"evaluate\",\"arguments\":null}",
-        "Command",
-    ),
-    (
-        "{\"seq\":7,\"type\":\"request\",\"command\":\"setVariable\",\"arguments\":null}",
-        "Command",
-    ),
-    (
-        "{\"seq\":7,\"type\":\"request\",\"command\":\"\",\"arguments\":null}",
-        "Command",
-    ),
-    (
-        "{\"seq\":7,\"type\":\"request\",\"command\":\"Threads\",\"arguments\":null}",
-        "Command",
-    ),
-    (
-        "{\"seq\":7,\"type\":\"request\",\"command\":\"threads \",\"arguments\":null}",
-        "Command",
-    ),
-    (
-        "{\"seq\":7,\"type\":\"request\",\"command\":\"stepBack\",\"arguments\":null}",
-        "Command",
-    ),
-    (
-        "{\"seq\":7,\"type\":\"request\",\"command\":\"modules\",\"arguments\":null}",
-        "Command",
-    ),
-    (
-        "{\"seq\":7,\"type\":\"request\",\"command\":\"copyToGlobals\",\"arguments\":null}",
-        "Command",
+        &["{\"seq\":4294967295,\"type\":\"request\",\"command\":\"threads\"}"],
     ),
 ];
 
+fn expect_all(rt: &(impl Abort + AllocGlobal), values: &[&str], wanted: &str) -> Result<(), Fail> {
+    for value in values {
+        assert!(rt; reads_as(rt.alloc(), value, wanted)?, "{value}");
+    }
+    Ok(())
+}
+
 #[test]
 fn reads_whole_values(rt: HostRuntime) -> Result<(), Fail> {
-    for (value, wanted) in &VALUES {
-        expect_read(&rt, value, wanted)?;
+    for (wanted, values) in &VALUES {
+        expect_all(&rt, values, wanted)?;
+    }
+    Ok(())
+}
+
+// No commands of these names are known, whatever their arguments.
+const UNKNOWN_COMMANDS: [&str; 8] = [
+    "evaluate",
+    "setVariable",
+    "",
+    "Threads",
+    "threads ",
+    "stepBack",
+    "modules",
+    "copyToGlobals",
+];
+
+#[test]
+fn refuses_unknown_commands(rt: HostRuntime) -> Result<(), Fail> {
+    for command in &UNKNOWN_COMMANDS {
+        let is_unknown = is_refused(rt.alloc(), command, "", "null", "", "Command")?;
+        assert!(rt; is_unknown, "{command}");
     }
     Ok(())
 }
@@ -643,11 +640,15 @@ fn refusal(alloc: Global, text: &str) -> Result<String, Fail> {
     Ok(refusal?)
 }
 
+fn is_its_refusal(alloc: Global, text: &str, json: &str) -> Result<bool, Fail> {
+    let found = refusal(alloc, text)?;
+    Ok(found.as_str() == json)
+}
+
 #[test]
 fn answers_what_it_refuses(rt: HostRuntime) -> Result<(), Fail> {
     for (value, json) in &REFUSALS {
-        let found = refusal(rt.alloc(), value)?;
-        assert!(rt; found.as_str() == *json, "{value}: {found}");
+        assert!(rt; is_its_refusal(rt.alloc(), value, json)?, "{value}");
     }
     Ok(())
 }

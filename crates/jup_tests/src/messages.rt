@@ -28,11 +28,11 @@ const IDLE: &str = "{\"execution_state\":\"idle\"}";
 const STATUS_SEAL: &str = "65eb76a94efee1c6b8e2e5f846376272ef9a69741f9d7df9e6d86e4aac7ab9cb";
 
 fn frames(alloc: Global, texts: &[&str]) -> Result<Frames, AllocError> {
-    let mut all = Vec::new(alloc);
+    let mut all = Frames::new(alloc);
     for text in texts {
-        all.push(Bytes::from(Vec::from_slice(alloc, text.as_bytes())?))?;
+        all.push(Bytes::copy_of(alloc, text.as_bytes())?)?;
     }
-    Ok(Frames::from(all))
+    Ok(all)
 }
 
 // The fault of the frames, or None where they open. Out of memory fails the test.
@@ -154,168 +154,49 @@ fn each_digit_of_a_signature_counts(rt: HostRuntime) -> Result<(), Fail> {
     Ok(())
 }
 
-// Keys, frames, and their fault.
-const MESSAGES: [(&str, &[&str], Option<WireFault>); 23] = [
-    ("secret", &[], Some(WireFault::Delimiter)),
-    ("secret", &["a", "<ids|msg>"], Some(WireFault::Delimiter)),
+// Frames under the key `secret`, and their fault.
+const MESSAGES: [(&[&str], Option<WireFault>); 7] = [
+    (&[], Some(WireFault::Delimiter)),
+    (&["a", "<ids|msg>"], Some(WireFault::Delimiter)),
+    (&["<IDS|MSG>", SEAL, "{", "{", "{"], Some(WireFault::Count)),
     (
-        "secret",
-        &["<IDS|MSG>", SEAL, "{", "{", "{"],
-        Some(WireFault::Count),
-    ),
-    (
-        "secret",
         &["<IDS|MSG>", "", "{", "{", "{", "{"],
         Some(WireFault::Signature),
     ),
     (
-        "secret",
         &["<IDS|MSG>", "<IDS|MSG>", SEAL, HEADER, "{}", "{}", CONTENT],
         Some(WireFault::Signature),
     ),
     (
-        "secret",
         &["<IDS|MSG>", SEAL, "{}", HEADER, "{}", CONTENT],
         Some(WireFault::Signature),
     ),
-    (
-        "secret",
-        &["<IDS|MSG>", SEAL, HEADER, "{}", "{}", CONTENT],
-        None,
-    ),
-    // RFC 4231's second vector, in four frames, with other signatures and its own.
-    (
-        "Jefe",
-        &[
-            "<IDS|MSG>",
-            UPPER,
-            "what do ya ",
-            "want ",
-            "for ",
-            "nothing?",
-        ],
-        Some(WireFault::Signature),
-    ),
-    (
-        "Jefe",
-        &[
-            "<IDS|MSG>",
-            "5bdcc146",
-            "what do ya ",
-            "want ",
-            "for ",
-            "nothing?",
-        ],
-        Some(WireFault::Signature),
-    ),
-    (
-        "Jefe",
-        &["<IDS|MSG>", "", "what do ya ", "want ", "for ", "nothing?"],
-        Some(WireFault::Signature),
-    ),
-    (
-        "Jefe",
-        &[
-            "<IDS|MSG>",
-            DIGITS,
-            "what do ya ",
-            "want ",
-            "for ",
-            "nothing?",
-        ],
-        Some(WireFault::Json),
-    ),
-    // Headers and contents with no signature. Of a key that comes twice the last value counts.
-    (
-        "",
-        &["<IDS|MSG>", "", HEADER, "{}", "{}", "1e400"],
-        Some(WireFault::Json),
-    ),
-    (
-        "",
-        &["<IDS|MSG>", "", HEADER, "{}", "{}", "\"\\ud800\""],
-        Some(WireFault::Json),
-    ),
-    (
-        "",
-        &["<IDS|MSG>", "", HEADER, "{}", "{}", "\u{feff}{}"],
-        Some(WireFault::Json),
-    ),
-    (
-        "",
-        &["<IDS|MSG>", "", HEADER, "{}", "{}", ""],
-        Some(WireFault::Json),
-    ),
-    (
-        "",
-        &["<IDS|MSG>", "", HEADER, "{}", "{}", "{} {}"],
-        Some(WireFault::Json),
-    ),
-    (
-        "",
-        &["<IDS|MSG>", "", "[]", "{}", "{}", "{"],
-        Some(WireFault::Json),
-    ),
-    ("", &["<IDS|MSG>", "", HEADER, "{}", "{}", " 1.5 "], None),
-    (
-        "",
-        &["<IDS|MSG>", "", "[]", "{}", "{}", "{}"],
-        Some(WireFault::Header),
-    ),
-    (
-        "",
-        &[
-            "<IDS|MSG>",
-            "",
-            "{\"msg_id\":\"1\",\"msg_type\":\"t\"}",
-            "{}",
-            "{}",
-            "{}",
-        ],
-        Some(WireFault::Header),
-    ),
-    (
-        "",
-        &[
-            "<IDS|MSG>",
-            "",
-            "{\"msg_id\":\"1\",\"msg_type\":\"t\",\"session\":1}",
-            "{}",
-            "{}",
-            "{}",
-        ],
-        Some(WireFault::Header),
-    ),
-    (
-        "",
-        &[
-            "<IDS|MSG>",
-            "",
-            "{\"msg_id\":\"1\",\"msg_type\":\"t\",\"session\":\"s\",\"session\":1}",
-            "{}",
-            "{}",
-            "{}",
-        ],
-        Some(WireFault::Header),
-    ),
-    (
-        "",
-        &[
-            "<IDS|MSG>",
-            "",
-            "{\"msg_id\":\"1\",\"msg_type\":\"t\",\"session\":1,\"session\":\"s\"}",
-            "{}",
-            "{}",
-            "{}",
-        ],
-        None,
-    ),
+    (&["<IDS|MSG>", SEAL, HEADER, "{}", "{}", CONTENT], None),
 ];
 
 #[test]
 fn refuses_in_order(rt: HostRuntime) -> Result<(), Fail> {
-    for (place, (key, texts, fault)) in MESSAGES.iter().enumerate() {
-        assert!(rt; fault_in(rt.alloc(), key, texts)? == *fault, "row {place}");
+    for (place, (texts, fault)) in MESSAGES.iter().enumerate() {
+        assert!(rt;
+            fault_in(rt.alloc(), "secret", texts)? == *fault,
+            "row {place}"
+        );
+    }
+    Ok(())
+}
+
+// Signatures of RFC 4231's second vector, in four frames, and the faults: others, and its own.
+const SEALS: [(&str, WireFault); 4] = [
+    (UPPER, WireFault::Signature),
+    ("5bdcc146", WireFault::Signature),
+    ("", WireFault::Signature),
+    (DIGITS, WireFault::Json),
+];
+
+#[test]
+fn a_signature_is_64_lower_case_digits(rt: HostRuntime) -> Result<(), Fail> {
+    for (seal, fault) in &SEALS {
+        assert!(rt; fault_under(rt.alloc(), seal)? == Some(*fault), "{seal}");
     }
     Ok(())
 }
@@ -323,6 +204,48 @@ fn refuses_in_order(rt: HostRuntime) -> Result<(), Fail> {
 fn fault_unsigned(alloc: Global, header: &str, content: &str) -> Result<Option<WireFault>, Fail> {
     let texts = ["<IDS|MSG>", "", header, "{}", "{}", content];
     fault_in(alloc, "", texts.as_slice())
+}
+
+// Headers and contents of messages with no signature, and their fault. Of a key that comes twice the last value
+// counts.
+const UNSIGNED: [(&str, &str, Option<WireFault>); 12] = [
+    (HEADER, "1e400", Some(WireFault::Json)),
+    (HEADER, "\"\\ud800\"", Some(WireFault::Json)),
+    (HEADER, "\u{feff}{}", Some(WireFault::Json)),
+    (HEADER, "", Some(WireFault::Json)),
+    (HEADER, "{} {}", Some(WireFault::Json)),
+    ("[]", "{", Some(WireFault::Json)),
+    (HEADER, " 1.5 ", None),
+    ("[]", "{}", Some(WireFault::Header)),
+    (
+        "{\"msg_id\":\"1\",\"msg_type\":\"t\"}",
+        "{}",
+        Some(WireFault::Header),
+    ),
+    (
+        "{\"msg_id\":\"1\",\"msg_type\":\"t\",\"session\":1}",
+        "{}",
+        Some(WireFault::Header),
+    ),
+    (
+        "{\"msg_id\":\"1\",\"msg_type\":\"t\",\"session\":\"s\",\"session\":1}",
+        "{}",
+        Some(WireFault::Header),
+    ),
+    (
+        "{\"msg_id\":\"1\",\"msg_type\":\"t\",\"session\":1,\"session\":\"s\"}",
+        "{}",
+        None,
+    ),
+];
+
+#[test]
+fn reads_headers_and_contents(rt: HostRuntime) -> Result<(), Fail> {
+    for (place, (header, content, fault)) in UNSIGNED.iter().enumerate() {
+        let found = fault_unsigned(rt.alloc(), header, content)?;
+        assert!(rt; found == *fault, "row {place}");
+    }
+    Ok(())
 }
 
 // A header whose msg_id has so many bytes.

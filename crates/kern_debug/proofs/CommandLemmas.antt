@@ -1,4 +1,4 @@
--- A cell's text is kept under its path, and the path is answered.
+-- What commands make of a board.
 use Rattle.std.proofs.Common.{◌≡◌, ℕ, List, Result, subst}
 use Rattle.lab_core.specs.declared.event.Event.TheVariants as event
 use Rattle.lab_core.specs.declared.fault.EventFault.{EventFault}
@@ -6,9 +6,15 @@ use Rattle.lab_core.specs.Labs.{LabState, Does}
 use Rattle.dap_answers.specs.declared.answer.Body.{Body}
 use Rattle.dap_answers.specs.declared.answer.Body.TheVariants as body
 use Rattle.dap_answers.specs.Murmur.{cell_path}
-use Rattle.kern_debug.specs.Commands.{done, dumped}
+use Rattle.dap_talk.specs.declared.command.DapCommand.{DapCommand}
+use Rattle.kern_debug.specs.Commands.{performed, done, dumped}
 
--- done with copies of the path and the text
+-- each arm of a match knows its command
+pub of_known : (command known : DapCommand) (old new : LabState) (reply : Result Body EventFault)
+    → command ≡ known → Does (performed known) old reply new → Does (performed command) old reply new
+of_known command known old new reply is does = rw is does
+
+-- a cell's text is kept under its path, and the path is answered: done with copies of both
 pub does_dump : (old new : LabState) (path text answer code : List ℕ) (reply : Result Body EventFault)
     → path ≡ cell_path code → text ≡ code → answer ≡ path
     → Does (done (event.Dump path text) (body.SourcePath answer)) old reply new

@@ -82,7 +82,7 @@ fn disassemble(
 }
 
 /// The body of a command that looks at the board, or why the board refuses it.
-#[tactic(auto, unfolding(crate::specs::Commands::performed))]
+#[tactic(auto, using(crate::proofs::CommandLemmas::of_known), unfolding(crate::specs::Commands::performed))]
 pub fn look(lab: &mut Lab, command: &DapCommand) -> Result<Body, EventFault>
     requires { IsLook command.now }
     ensures done { Does (performed command.now) lab.old result lab.new }

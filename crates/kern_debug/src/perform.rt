@@ -61,7 +61,7 @@ fn type_text(alloc: Global, lab: &mut Lab, text: &Text) -> Result<Body, EventFau
 /// Carries out a command on a board (Debug Adapter Protocol, "Requests"; Jupyter messaging, "Debug
 /// request"): the body of its response, or why the board refuses it. Where memory is wanting the board
 /// is as it was too.
-#[tactic(auto, unfolding(crate::specs::Commands::performed))]
+#[tactic(auto, using(crate::proofs::CommandLemmas::of_known), unfolding(crate::specs::Commands::performed))]
 pub fn perform(alloc: Global, lab: &mut Lab, command: &DapCommand) -> Result<Body, EventFault>
     requires { IsBounded command.now }
     ensures done { Does (performed command.now) lab.old result lab.new }

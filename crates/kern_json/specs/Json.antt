@@ -48,11 +48,15 @@ input_request_json = object_of (
     (codes "password", boolean false) ∷
     (codes "prompt", string []) ∷ [])
 
-abbrev pub error_json : Cause → Data
-error_json c = object_of (
+-- what an error and each reply that tells of one say of the cause
+abbrev pub cause_members : Cause → List (List ℕ × Data)
+cause_members c =
     (codes "ename", string (ename_of c)) ∷
     (codes "evalue", string (evalue_of c)) ∷
-    (codes "traceback", traceback_of c) ∷ [])
+    (codes "traceback", traceback_of c) ∷ []
+
+abbrev pub error_json : Cause → Data
+error_json c = object_of (cause_members c)
 
 abbrev pub comm_close_json : List ℕ → Data
 comm_close_json comm_id = object_of (

@@ -11,8 +11,9 @@ ghost use Rattle.kern_json.specs.Json.{
 };
 
 use base_latin::latin::to_text;
+use dap_answers::object::Object;
 use kern_post::content::ExecutionState;
-use serde_json::{Value, json};
+use serde_json::Value;
 use std::alloc::{AllocError, Global};
 
 fn state_text(state: ExecutionState) -> &'static str
@@ -28,14 +29,19 @@ fn state_text(state: ExecutionState) -> &'static str
 pub(crate) fn status(alloc: Global, state: ExecutionState) -> Result<Value, AllocError>
     ensures { IfOk result (λ v. view v ≡ status_json state) }
 {
-    json!(in alloc; {"execution_state": state_text(state)})
+    Object::new(alloc)
+        .text("execution_state", state_text(state))
+        .finish()
 }
 
 /// Of `execute_input` (Jupyter messaging, "Code inputs").
 pub(crate) fn execute_input(alloc: Global, code: &str, count: u64) -> Result<Value, AllocError>
     ensures { IfOk result (λ v. view v ≡ execute_input_json code.now count) }
 {
-    json!(in alloc; {"code": code, "execution_count": count})
+    Object::new(alloc)
+        .text("code", code)
+        .number("execution_count", count)
+        .finish()
 }
 
 /// Of `stream` (Jupyter messaging, "Streams (stdout, stderr, etc)"): each byte is the character of
@@ -43,19 +49,29 @@ pub(crate) fn execute_input(alloc: Global, code: &str, count: u64) -> Result<Val
 pub(crate) fn stream(alloc: Global, bytes: &[u8]) -> Result<Value, AllocError>
     ensures { IfOk result (λ v. view v ≡ stream_json bytes.now) }
 {
-    json!(in alloc; {"name": "stdout", "text": to_text(alloc, bytes)?})
+    let text = to_text(alloc, bytes)?;
+    Object::new(alloc)
+        .text("name", "stdout")
+        .value("text", Value::from(text))
+        .finish()
 }
 
 /// Of `input_request` (Jupyter messaging, "Messages on the stdin (ROUTER/DEALER) channel").
 pub(crate) fn input_request(alloc: Global) -> Result<Value, AllocError>
     ensures { IfOk result (λ v. view v ≡ input_request_json) }
 {
-    json!(in alloc; {"password": false, "prompt": ""})
+    Object::new(alloc)
+        .flag("password", false)
+        .text("prompt", "")
+        .finish()
 }
 
 /// Of `comm_close` (Jupyter messaging, "Tearing Down Comms").
 pub(crate) fn comm_close(alloc: Global, comm_id: &str) -> Result<Value, AllocError>
     ensures { IfOk result (λ v. view v ≡ comm_close_json comm_id.now) }
 {
-    json!(in alloc; {"comm_id": comm_id, "data": {}})
+    Object::new(alloc)
+        .text("comm_id", comm_id)
+        .empty_object("data")
+        .finish()
 }
