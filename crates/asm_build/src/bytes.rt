@@ -1,7 +1,7 @@
 //! The bytes of actions.
-ghost use Rattle.std.specs.Prelude.{◌≡◌, IfOk};
+ghost use Rattle.std.specs.Prelude.{◌≡◌, ℕ, List, Option, Result, IfOk};
 ghost use Rattle.i80_rows.specs.Encoding.{encoding_of};
-ghost use Rattle.asm_syntax.specs.Outcome.{LineGives};
+ghost use Rattle.asm_syntax.specs.Outcome.{Fault, LineGives};
 ghost use Rattle.asm_build.specs.Meaning.{as_byte, vector, number, byte, restart};
 ghost use Rattle.asm_build.specs.Meaning.{instruction_bytes, datum_bytes, word_bytes, all_bytes};
 ghost use Rattle.asm_build.specs.Meaning.{bytes_of, start_of};
@@ -95,73 +95,59 @@ fn instruction_bytes<E: Env>(
     Ok(encoding(alloc, instr)?)
 }
 
-// Puts the bytes of an operand of DB after those that are there.
-fn put_datum<E: Env>(
-    names: &E,
-    here: u16,
-    datum: &Data,
-    bytes: &mut Vec<u8>,
-) -> Result<(), LineFault>
-    ensures { LineGives (λ _. bytes.new.items) result
-        (appended bytes.old.items (datum_bytes (E.values names.now) here datum.now)) }
-{
-    match datum {
-        Data::Text(text) => {
-            bytes.extend_from_slice(text.as_slice())?;
-            Ok(())
-        }
-        Data::Byte(operand) => {
-            let b = byte(names, here, operand)?;
-            bytes.push(b)?;
-            Ok(())
+// An operand of DB or of DW.
+trait Given {
+    // Its bytes, where names have these values, at a place.
+    ghost bytes: { (List ℕ → Option ℕ) → ℕ → Self → Result (List ℕ) Fault };
+
+    // Puts its bytes after those that are there.
+    fn put<E: Env>(&self, names: &E, here: u16, front: &mut Vec<u8>) -> Result<(), LineFault>
+        ensures { LineGives (λ _. front.new.items) result
+            (appended front.old.items (bytes (E.values names.now) here self.now)) };
+}
+
+impl Given for Data {
+    ghost bytes = { datum_bytes };
+
+    fn put<E: Env>(&self, names: &E, here: u16, front: &mut Vec<u8>) -> Result<(), LineFault> {
+        match self {
+            Data::Text(text) => {
+                front.extend_from_slice(text.as_slice())?;
+                Ok(())
+            }
+            Data::Byte(operand) => {
+                let b = byte(names, here, operand)?;
+                front.push(b)?;
+                Ok(())
+            }
         }
     }
 }
 
-fn data_bytes<E: Env>(
-    alloc: Global,
-    names: &E,
-    here: u16,
-    items: &[Data],
-) -> Result<Vec<u8>, LineFault>
-    ensures { LineGives (λ bytes. bytes.items) result
-        (all_bytes (datum_bytes (E.values names.now) here) items.now) }
-{
-    let mut bytes = Vec::new(alloc);
-    for datum in items {
-        put_datum(names, here, datum, &mut bytes)?;
+impl Given for Operand {
+    ghost bytes = { word_bytes };
+
+    fn put<E: Env>(&self, names: &E, here: u16, front: &mut Vec<u8>) -> Result<(), LineFault> {
+        let word = number(names, here, self)?;
+        front.push((word % 256) as u8)?;
+        front.push((word / 256) as u8)?;
+        Ok(())
     }
-    Ok(bytes)
 }
 
-// Puts the bytes of an operand of DW after those that are there.
-fn put_word<E: Env>(
-    names: &E,
-    here: u16,
-    operand: &Operand,
-    bytes: &mut Vec<u8>,
-) -> Result<(), LineFault>
-    ensures { LineGives (λ _. bytes.new.items) result
-        (appended bytes.old.items (word_bytes (E.values names.now) here operand.now)) }
-{
-    let word = number(names, here, operand)?;
-    bytes.push((word % 256) as u8)?;
-    bytes.push((word / 256) as u8)?;
-    Ok(())
-}
-
-fn words_bytes<E: Env>(
+// The bytes of each of the operands.
+fn all_bytes<E: Env, T: Given>(
     alloc: Global,
     names: &E,
     here: u16,
-    operands: &[Operand],
+    operands: &[T],
 ) -> Result<Vec<u8>, LineFault>
     ensures { LineGives (λ bytes. bytes.items) result
-        (all_bytes (word_bytes (E.values names.now) here) operands.now) }
+        (all_bytes (T.bytes (E.values names.now) here) operands.now) }
 {
     let mut bytes = Vec::new(alloc);
     for operand in operands {
-        put_word(names, here, operand, &mut bytes)?;
+        operand.put(names, here, &mut bytes)?;
     }
     Ok(bytes)
 }
@@ -178,8 +164,8 @@ pub(crate) fn bytes_of<E: Env>(
 {
     match action {
         Action::Instruction(instruction) => instruction_bytes(alloc, names, here, instruction),
-        Action::Bytes(items) => data_bytes(alloc, names, here, items.as_slice()),
-        Action::Words(operands) => words_bytes(alloc, names, here, operands.as_slice()),
+        Action::Bytes(items) => all_bytes(alloc, names, here, items.as_slice()),
+        Action::Words(operands) => all_bytes(alloc, names, here, operands.as_slice()),
         _ => Ok(Vec::new(alloc)),
     }
 }

@@ -1,8 +1,8 @@
 //! Directives: ORG, DB, DW, DS, IF, ELSE, ENDIF and END with their operands.
-ghost use Rattle.std.specs.Prelude.{◌≡◌};
+ghost use Rattle.std.specs.Prelude.{◌≡◌, ℕ, List, Bool, Result};
 ghost use Rattle.std.specs.List.{list_all};
-ghost use Rattle.asm_syntax.specs.Lexemes.{pieces_of};
-ghost use Rattle.asm_syntax.specs.Outcome.{LineGives};
+ghost use Rattle.asm_syntax.specs.Lexemes.{Piece, pieces_of};
+ghost use Rattle.asm_syntax.specs.Outcome.{Fault, LineGives};
 ghost use Rattle.asm_operand.specs.Commas.{operands_of, split_commas};
 ghost use Rattle.asm_operand.specs.Shape.{is_expression};
 ghost use Rattle.asm_operand.specs.Climb.{expression};
@@ -30,21 +30,61 @@ fn unfit(column: usize) -> LineFault
     }
 }
 
-// Whether an operand of DB fits: a string alone, or an expression.
-fn is_data(operand: &[Placed]) -> bool
-    ensures { result ≡ is_data (pieces_of operand.now) }
-{
-    text(operand).is_some() || is_expression(operand)
+// An operand of a directive that takes several.
+trait Listed: Sized + Drop {
+    // Which tokens are one, and what they say, for an operation in a column.
+    ghost fits: { List Piece → Bool };
+
+    ghost reading: { ℕ → List Piece → Result Self Fault };
+
+    fn fits(operand: &[Placed]) -> bool
+        ensures { result ≡ fits (pieces_of operand.now) };
+
+    fn read(alloc: Global, column: usize, operand: &[Placed]) -> Result<Self, LineFault>
+        ensures { LineGives (λ x. x) result (reading column (pieces_of operand.now)) };
 }
 
-// Whether each operand fits DB.
-fn are_data<'a>(tokens: &'a [Placed<'a>]) -> bool
-    ensures { result ≡ list_all is_data (operands_of (pieces_of tokens.now)) }
+// An operand of DB: a string alone, or an expression.
+impl Listed for Data {
+    ghost fits = { is_data };
+
+    ghost reading = { data_at };
+
+    fn fits(operand: &[Placed]) -> bool {
+        text(operand).is_some() || is_expression(operand)
+    }
+
+    fn read(alloc: Global, column: usize, operand: &[Placed]) -> Result<Data, LineFault> {
+        match text(operand) {
+            Some(characters) => Ok(Data::Text(string_bytes(alloc, characters)?)),
+            None => Ok(Data::Byte(expression(alloc, column, operand)?)),
+        }
+    }
+}
+
+// An operand of DW.
+impl Listed for Operand {
+    ghost fits = { is_expression };
+
+    ghost reading = { expression };
+
+    fn fits(operand: &[Placed]) -> bool {
+        is_expression(operand)
+    }
+
+    fn read(alloc: Global, column: usize, operand: &[Placed]) -> Result<Operand, LineFault> {
+        expression(alloc, column, operand)
+    }
+}
+
+// Whether each operand fits.
+fn all_fit<'a, T: Listed>(tokens: &'a [Placed<'a>]) -> bool
+    ensures { result ≡ list_all T.fits (operands_of (pieces_of tokens.now)) }
 {
     let mut left = Some(tokens);
     while let Some(operands) = left {
         let (first, rest) = next_operand(operands);
-        if !is_data(first) {
+        if !T::fits(first) {
             return false;
         }
         left = rest;
@@ -52,88 +92,36 @@ fn are_data<'a>(tokens: &'a [Placed<'a>]) -> bool
     true
 }
 
-// Whether each operand fits DW.
-fn are_expressions<'a>(tokens: &'a [Placed<'a>]) -> bool
-    ensures { result ≡ list_all is_expression (operands_of (pieces_of tokens.now)) }
-{
-    let mut left = Some(tokens);
-    while let Some(operands) = left {
-        let (first, rest) = next_operand(operands);
-        if !is_expression(first) {
-            return false;
-        }
-        left = rest;
-    }
-    true
-}
-
-fn data_at(alloc: Global, column: usize, operand: &[Placed]) -> Result<Data, LineFault>
-    ensures { LineGives (λ x. x) result (data_at column (pieces_of operand.now)) }
-{
-    match text(operand) {
-        Some(characters) => Ok(Data::Text(string_bytes(alloc, characters)?)),
-        None => Ok(Data::Byte(expression(alloc, column, operand)?)),
-    }
-}
-
-fn data_list<'a>(
+fn list<'a, T: Listed>(
     alloc: Global,
     column: usize,
     tokens: &'a [Placed<'a>],
-) -> Result<Sequence<Data>, LineFault>
-    ensures { LineGives (λ x. x) result (each_of (data_at column) (operands_of (pieces_of tokens.now))) }
+) -> Result<Sequence<T>, LineFault>
+    ensures { LineGives (λ x. x) result (each_of (T.reading column) (operands_of (pieces_of tokens.now))) }
 {
     let mut list = Vec::new(alloc);
     let mut left = Some(tokens);
     while let Some(operands) = left {
         let (first, rest) = next_operand(operands);
-        list.push(data_at(alloc, column, first)?)?;
+        list.push(T::read(alloc, column, first)?)?;
         left = rest;
     }
     Ok(Sequence::from(list))
 }
 
-fn expression_list<'a>(
-    alloc: Global,
-    column: usize,
-    tokens: &'a [Placed<'a>],
-) -> Result<Sequence<Operand>, LineFault>
-    ensures { LineGives (λ x. x) result (each_of (expression column) (operands_of (pieces_of tokens.now))) }
-{
-    let mut list = Vec::new(alloc);
-    let mut left = Some(tokens);
-    while let Some(operands) = left {
-        let (first, rest) = next_operand(operands);
-        list.push(expression(alloc, column, first)?)?;
-        left = rest;
-    }
-    Ok(Sequence::from(list))
-}
-
-// The operands of DB.
-fn some_data(alloc: Global, column: usize, tokens: &[Placed]) -> Result<Sequence<Data>, LineFault>
-    ensures { LineGives (λ x. x) result
-        (some_operands column is_data (data_at column) (pieces_of tokens.now)) }
-{
-    if tokens.is_empty() || !are_data(tokens) {
-        return Err(unfit(column));
-    }
-    data_list(alloc, column, tokens)
-}
-
-// The operands of DW.
-fn some_words(
+// The operands of DB, or of DW.
+fn some_operands<T: Listed>(
     alloc: Global,
     column: usize,
     tokens: &[Placed],
-) -> Result<Sequence<Operand>, LineFault>
+) -> Result<Sequence<T>, LineFault>
     ensures { LineGives (λ x. x) result
-        (some_operands column is_expression (expression column) (pieces_of tokens.now)) }
+        (some_operands column T.fits (T.reading column) (pieces_of tokens.now)) }
 {
-    if tokens.is_empty() || !are_expressions(tokens) {
+    if tokens.is_empty() || !all_fit::<T>(tokens) {
         return Err(unfit(column));
     }
-    expression_list(alloc, column, tokens)
+    list(alloc, column, tokens)
 }
 
 // The operand of END, if it has one.
@@ -158,8 +146,8 @@ pub fn directive(
 {
     match directive {
         Directive::Origin => Ok(Action::Origin(only_expression(alloc, column, tokens)?)),
-        Directive::Bytes => Ok(Action::Bytes(some_data(alloc, column, tokens)?)),
-        Directive::Words => Ok(Action::Words(some_words(alloc, column, tokens)?)),
+        Directive::Bytes => Ok(Action::Bytes(some_operands(alloc, column, tokens)?)),
+        Directive::Words => Ok(Action::Words(some_operands(alloc, column, tokens)?)),
         Directive::Space => Ok(Action::Space(only_expression(alloc, column, tokens)?)),
         Directive::Equate | Directive::Set => Err(unfit(column)),
         Directive::If => Ok(Action::If(only_expression(alloc, column, tokens)?)),

@@ -7,9 +7,7 @@ ghost use Rattle.asm_text.specs.Forms.{register_instruction, pair_instruction, i
 ghost use Rattle.asm_text.specs.Forms.{stack_instruction, instruction_of};
 
 use crate::forms::{no_operand, one_operand, only_expression, two_operands};
-use crate::registers::{
-    fitting, index_operand, pair_operand, register_of, register_operand, stack_operand,
-};
+use crate::registers::{fitting, named_operand, register_of};
 use asm_operand::expression::expression;
 use asm_syntax::fault::LineFault;
 use asm_syntax::keyword::{
@@ -79,7 +77,7 @@ fn on_register(
     ensures { LineGives (λ x. x) result
         (instruction_of column (Mnemonic.Register operation) (pieces_of tokens.now)) }
 {
-    let reg = register_operand(column, one_operand(column, tokens)?)?;
+    let reg = named_operand(column, one_operand(column, tokens)?)?;
     Ok(Instruction::Alone(register_instruction(operation, reg)))
 }
 
@@ -93,7 +91,7 @@ fn on_pair(
     ensures { LineGives (λ x. x) result
         (instruction_of column (Mnemonic.Pair operation) (pieces_of tokens.now)) }
 {
-    let pair = pair_operand(column, one_operand(column, tokens)?)?;
+    let pair = named_operand(column, one_operand(column, tokens)?)?;
     Ok(Instruction::Alone(pair_instruction(operation, pair)))
 }
 
@@ -107,7 +105,7 @@ fn on_index(
     ensures { LineGives (λ x. x) result
         (instruction_of column (Mnemonic.Index operation) (pieces_of tokens.now)) }
 {
-    let pair = index_operand(column, one_operand(column, tokens)?)?;
+    let pair = named_operand(column, one_operand(column, tokens)?)?;
     Ok(Instruction::Alone(index_instruction(operation, pair)))
 }
 
@@ -121,7 +119,7 @@ fn on_stack(
     ensures { LineGives (λ x. x) result
         (instruction_of column (Mnemonic.Stack operation) (pieces_of tokens.now)) }
 {
-    let pair = stack_operand(column, one_operand(column, tokens)?)?;
+    let pair = named_operand(column, one_operand(column, tokens)?)?;
     Ok(Instruction::Alone(stack_instruction(operation, pair)))
 }
 
@@ -130,8 +128,8 @@ fn move_of(column: usize, operands: (&[Placed], &[Placed])) -> Result<Instr, Lin
     ensures { LineGives (λ x. x) result
         (move_of column (pieces_of operands.entry.0.now, pieces_of operands.entry.1.now)) }
 {
-    let to = register_operand(column, operands.0)?;
-    let from = register_operand(column, operands.1)?;
+    let to = named_operand(column, operands.0)?;
+    let from = named_operand(column, operands.1)?;
     fitting(column, move_between(register_of(to), register_of(from)))
 }
 
@@ -151,7 +149,7 @@ fn move_immediate(alloc: Global, column: usize, tokens: &[Placed]) -> Result<Ins
         (instruction_of column Mnemonic.MoveImmediate (pieces_of tokens.now)) }
 {
     let (to, byte) = two_operands(column, tokens)?;
-    let reg = register_operand(column, to)?;
+    let reg = named_operand(column, to)?;
     let byte = expression(alloc, column, byte)?;
     Ok(Instruction::Byte(ByteOperation::Mvi(reg), byte))
 }
@@ -163,7 +161,7 @@ fn load_pair(alloc: Global, column: usize, tokens: &[Placed]) -> Result<Instruct
         (instruction_of column Mnemonic.LoadPair (pieces_of tokens.now)) }
 {
     let (to, word) = two_operands(column, tokens)?;
-    let pair = pair_operand(column, to)?;
+    let pair = named_operand(column, to)?;
     let word = expression(alloc, column, word)?;
     Ok(Instruction::Word(WordOperation::Lxi(pair), word))
 }

@@ -1,7 +1,8 @@
 //! What an operand's word names.
-ghost use Rattle.std.specs.Prelude.{◌≡◌};
+ghost use Rattle.std.specs.Prelude.{◌≡◌, Option};
 ghost use Rattle.asm_syntax.specs.Lexemes.{pieces_of};
 ghost use Rattle.asm_syntax.specs.Outcome.{LineGives};
+ghost use Rattle.asm_syntax.specs.declared.keyword.RegisterWord.{RegisterWord};
 ghost use Rattle.asm_text.specs.Registers.{reg_of, register_of, pair_of, index_of, stack_of};
 ghost use Rattle.asm_text.specs.Forms.{fitting, named_by};
 
@@ -11,19 +12,74 @@ use asm_syntax::keyword::RegisterWord;
 use asm_syntax::token::Placed;
 use i80_rows::instruction::{IndexPair, Pair, Reg, Register, StackPair};
 
-fn reg_of(word: RegisterWord) -> Option<Reg>
-    ensures { result ≡ reg_of word }
-{
-    match word {
-        RegisterWord::A => Some(Reg::A),
-        RegisterWord::B => Some(Reg::B),
-        RegisterWord::C => Some(Reg::C),
-        RegisterWord::D => Some(Reg::D),
-        RegisterWord::E => Some(Reg::E),
-        RegisterWord::H => Some(Reg::H),
-        RegisterWord::L => Some(Reg::L),
-        RegisterWord::M => Some(Reg::M),
-        RegisterWord::Sp | RegisterWord::Psw => None,
+/// What a word can stand for where an operation takes one of some registers or pairs.
+pub trait Named: Copy {
+    ghost meaning: { RegisterWord → Option Self };
+
+    /// What the word stands for, if anything here.
+    fn named(word: RegisterWord) -> Option<Self>
+        ensures { result ≡ meaning word };
+}
+
+// A register or M.
+impl Named for Reg {
+    ghost meaning = { reg_of };
+
+    fn named(word: RegisterWord) -> Option<Reg> {
+        match word {
+            RegisterWord::A => Some(Reg::A),
+            RegisterWord::B => Some(Reg::B),
+            RegisterWord::C => Some(Reg::C),
+            RegisterWord::D => Some(Reg::D),
+            RegisterWord::E => Some(Reg::E),
+            RegisterWord::H => Some(Reg::H),
+            RegisterWord::L => Some(Reg::L),
+            RegisterWord::M => Some(Reg::M),
+            RegisterWord::Sp | RegisterWord::Psw => None,
+        }
+    }
+}
+
+// A pair by its first register, or SP.
+impl Named for Pair {
+    ghost meaning = { pair_of };
+
+    fn named(word: RegisterWord) -> Option<Pair> {
+        match word {
+            RegisterWord::B => Some(Pair::B),
+            RegisterWord::D => Some(Pair::D),
+            RegisterWord::H => Some(Pair::H),
+            RegisterWord::Sp => Some(Pair::Sp),
+            _ => None,
+        }
+    }
+}
+
+// A pair that holds an address.
+impl Named for IndexPair {
+    ghost meaning = { index_of };
+
+    fn named(word: RegisterWord) -> Option<IndexPair> {
+        match word {
+            RegisterWord::B => Some(IndexPair::B),
+            RegisterWord::D => Some(IndexPair::D),
+            _ => None,
+        }
+    }
+}
+
+// A pair by its first register, or PSW.
+impl Named for StackPair {
+    ghost meaning = { stack_of };
+
+    fn named(word: RegisterWord) -> Option<StackPair> {
+        match word {
+            RegisterWord::B => Some(StackPair::B),
+            RegisterWord::D => Some(StackPair::D),
+            RegisterWord::H => Some(StackPair::H),
+            RegisterWord::Psw => Some(StackPair::Psw),
+            _ => None,
+        }
     }
 }
 
@@ -43,40 +99,6 @@ pub fn register_of(reg: Reg) -> Option<Register>
     }
 }
 
-fn pair_of(word: RegisterWord) -> Option<Pair>
-    ensures { result ≡ pair_of word }
-{
-    match word {
-        RegisterWord::B => Some(Pair::B),
-        RegisterWord::D => Some(Pair::D),
-        RegisterWord::H => Some(Pair::H),
-        RegisterWord::Sp => Some(Pair::Sp),
-        _ => None,
-    }
-}
-
-fn index_of(word: RegisterWord) -> Option<IndexPair>
-    ensures { result ≡ index_of word }
-{
-    match word {
-        RegisterWord::B => Some(IndexPair::B),
-        RegisterWord::D => Some(IndexPair::D),
-        _ => None,
-    }
-}
-
-fn stack_of(word: RegisterWord) -> Option<StackPair>
-    ensures { result ≡ stack_of word }
-{
-    match word {
-        RegisterWord::B => Some(StackPair::B),
-        RegisterWord::D => Some(StackPair::D),
-        RegisterWord::H => Some(StackPair::H),
-        RegisterWord::Psw => Some(StackPair::Psw),
-        _ => None,
-    }
-}
-
 /// What fits, or the fault of the operation at this column.
 pub fn fitting<T>(column: usize, found: Option<T>) -> Result<T, LineFault>
     ensures { LineGives (λ x. x) result (fitting column found) }
@@ -90,30 +112,13 @@ pub fn fitting<T>(column: usize, found: Option<T>) -> Result<T, LineFault>
     }
 }
 
-/// The register or M that an operand is.
-pub fn register_operand(column: usize, operand: &[Placed]) -> Result<Reg, LineFault>
-    ensures { LineGives (λ x. x) result (named_by column reg_of (pieces_of operand.now)) }
+/// What the word stands for that an operand is.
+pub fn named_operand<T: Named>(column: usize, operand: &[Placed]) -> Result<T, LineFault>
+    ensures { LineGives (λ x. x) result (named_by column T.meaning (pieces_of operand.now)) }
 {
-    fitting(column, register(operand).and_then(reg_of))
-}
-
-/// The pair or SP that an operand is.
-pub fn pair_operand(column: usize, operand: &[Placed]) -> Result<Pair, LineFault>
-    ensures { LineGives (λ x. x) result (named_by column pair_of (pieces_of operand.now)) }
-{
-    fitting(column, register(operand).and_then(pair_of))
-}
-
-/// The pair with an address that an operand is.
-pub fn index_operand(column: usize, operand: &[Placed]) -> Result<IndexPair, LineFault>
-    ensures { LineGives (λ x. x) result (named_by column index_of (pieces_of operand.now)) }
-{
-    fitting(column, register(operand).and_then(index_of))
-}
-
-/// The pair or PSW that an operand is.
-pub fn stack_operand(column: usize, operand: &[Placed]) -> Result<StackPair, LineFault>
-    ensures { LineGives (λ x. x) result (named_by column stack_of (pieces_of operand.now)) }
-{
-    fitting(column, register(operand).and_then(stack_of))
+    let named = match register(operand) {
+        Some(word) => T::named(word),
+        None => None,
+    };
+    fitting(column, named)
 }

@@ -1,35 +1,35 @@
 use Rattle.std.proofs.Common.{◌∙◌, ap}
 use Rattle.std.proofs.lemmas.Result.{err_from_is_err_and}
-use Rattle.asm_build.specs.Meaning.{word_bytes, all_bytes}
+use Rattle.asm_build.specs.Meaning.{all_bytes}
 use Rattle.asm_build.specs.State.{appended}
 use Rattle.asm_build.proofs.BytesLemmas.{appended_none, bytes_go, bytes_fail, bytes_end}
-use Rattle.asm_build.proofs.bytes.words_bytes.Goals as goal
+use Rattle.asm_build.proofs.bytes.all_bytes.Goals as goal
 
 pub loop-operand-init : goal.loop-operand-init
 loop-operand-init g c =
-    ap (λ front. appended front (all_bytes (word_bytes (g.E.Env.values c.args.names.now) c.args.here)
+    ap (λ front. appended front (all_bytes (g.T.Given.bytes (g.E.Env.values c.args.names.now) c.args.here)
     c.args.operands.now)) c.new-bytes.ensures.items
     ∙ appended_none _
 
-pub returns-in_err-put_word : goal.returns-in_err-put_word
-returns-in_err-put_word g c =
+pub returns-in_err-put : goal.returns-in_err-put
+returns-in_err-put g c =
     let p = err_from_is_err_and c.from_residual.result c.from_residual.ensures.1 in
-    rw (p.1, p.2) (bytes_fail c.in_err-put_word.field-0.0
-    (word_bytes (g.E.Env.values c.args.names.now) c.args.here) c.args.operands.now
+    rw (p.1, p.2) (bytes_fail c.in_err-put.field-0.0
+    (g.T.Given.bytes (g.E.Env.values c.args.names.now) c.args.here) c.args.operands.now
     c.loop-operand.operand-index c.operand-item.result c.loop-operand.bytes.items
-    (all_bytes (word_bytes (g.E.Env.values c.args.names.now) c.args.here) c.args.operands.now)
+    (all_bytes (g.T.Given.bytes (g.E.Env.values c.args.names.now) c.args.here) c.args.operands.now)
     c.loop-operand-test.true c.operand-item.is
-    c.in_err-put_word.ensures c.loop-operand.invariant)
+    c.in_err-put.ensures c.loop-operand.invariant)
 
 pub loop-operand-preserved : goal.loop-operand-preserved
 loop-operand-preserved g c =
-    bytes_go (word_bytes (g.E.Env.values c.args.names.now) c.args.here) c.args.operands.now
+    bytes_go (g.T.Given.bytes (g.E.Env.values c.args.names.now) c.args.here) c.args.operands.now
     c.loop-operand.operand-index c.operand-item.result
-    c.loop-operand.bytes.items _ _ c.loop-operand-test.true c.operand-item.is c.in_ok-put_word.ensures
+    c.loop-operand.bytes.items _ _ c.loop-operand-test.true c.operand-item.is c.in_ok-put.ensures
     c.loop-operand.invariant
 
 pub returns : goal.returns
 returns g c =
-    bytes_end (word_bytes (g.E.Env.values c.args.names.now) c.args.here) c.args.operands.now
+    bytes_end (g.T.Given.bytes (g.E.Env.values c.args.names.now) c.args.here) c.args.operands.now
     c.loop-operand.operand-index
     c.loop-operand.bytes.items _ c.loop-operand-test.false c.loop-operand.invariant
