@@ -182,6 +182,11 @@ def program():
     return os.path.join(os.path.dirname(os.path.dirname(os.path.abspath(__file__))), "lab80")
 
 
+def run(words, text=b"", output=subprocess.PIPE):
+    """Runs lab80 with these words on this input: how it ended, with what it printed."""
+    return subprocess.run([program(), *words], input=text, stdout=output, stderr=subprocess.PIPE, timeout=10, check=False)
+
+
 def serve(path):
     """Serves where a connection file says, which must come to an end: the exit status, and what is printed."""
     done = subprocess.run([program(), "kernel", path], capture_output=True, text=True, timeout=10, check=False)

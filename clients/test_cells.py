@@ -1,9 +1,8 @@
 """Cells, each alone: the bytes that `asm` prints, or the place and the name of the first fault, worked out by
 hand from the manual."""
-import subprocess
 import unittest
 
-from lab80_client import Lab, program
+from lab80_client import Lab, run
 
 # Cells, and their first fault: first those that a cell's text has, in the order in which it is read.
 FAULTS = (
@@ -207,8 +206,7 @@ IFS = (
 
 def assembled(cell):
     """The exit status of `asm`, given a cell, and what it prints."""
-    words = [program(), "asm"]
-    done = subprocess.run(words, input=cell.encode(), capture_output=True, timeout=10, check=False)
+    done = run(["asm"], cell.encode())
     return done.returncode, done.stdout.decode("ascii")
 
 

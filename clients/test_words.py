@@ -1,8 +1,7 @@
 """The words of the command line, each with what it prints and its exit status."""
-import subprocess
 import unittest
 
-from lab80_client import program
+from lab80_client import run
 
 USAGE = b"usage: lab80 step | asm | dis ORIGIN | kernel FILE | term FILE\n"
 
@@ -17,15 +16,22 @@ ANSWERED = (
     (["asm"], b"\xff", 1, b"bad text\n"),
     (["dis", "0100"], b"76", 0, b"ORG 00100H\nHLT\n"),
     (["dis", "FFFF"], b"7676", 1, b"past end\n"),
+    (["dis", "0000"], b"76", 0, b"ORG 00000H\nHLT\n"),
+    (["dis", "00F0"], b"76", 0, b"ORG 000F0H\nHLT\n"),
+    (["dis", "0aF9"], b"76", 0, b"ORG 00AF9H\nHLT\n"),
+    (["dis", "ffff"], b"76", 0, b"ORG 0FFFFH\nHLT\n"),
+    (["dis", "ffFF"], b"76", 0, b"ORG 0FFFFH\nHLT\n"),
+    (["kernel", "k.json"], b"", 4, b"no file\n"),
+    (["term", "k.json"], b"", 4, b"no file\n"),
 )
 
 # Words that are none of the program's.
-NO_WORDS = ([], ["steps"], ["step", "x"], ["asm", "x"], ["dis"], ["dis", "10"], ["dis", "00G0"], ["dis", "0000", "x"],
-            ["kernel"], ["term"], ["kernel", "a", "b"])
+NO_WORDS = ([], ["steps"], ["STEP"], ["step", "x"], ["asm", "x"], ["asm", "0000"], ["dis"], ["dis", "0000", "x"],
+            ["dis", "0000", "0000"], ["kernel"], ["term"], ["kernel", "a", "b"], ["kernel", "k.json", "x"],
+            ["Kernel", "k.json"])
 
-
-def run(words, text=b"", output=subprocess.PIPE):
-    return subprocess.run([program(), *words], input=text, stdout=output, stderr=subprocess.PIPE, timeout=10, check=False)
+# What is no origin: an origin is exactly four digits.
+NO_ORIGINS = ("", "10", "010", "01000", "010G", "00G0", "+100", " 100", "0x10", "010\u00e4", "01\u00e4", "\uff11000")
 
 
 class Words(unittest.TestCase):
@@ -36,7 +42,7 @@ class Words(unittest.TestCase):
                 self.assertEqual((done.returncode, done.stdout, done.stderr), (status, printed, b""))
 
     def test_other_words_show_the_usage(self):
-        for words in NO_WORDS:
+        for words in (*NO_WORDS, *(["dis", origin] for origin in NO_ORIGINS)):
             with self.subTest(words=words):
                 done = run(words)
                 self.assertEqual((done.returncode, done.stdout, done.stderr), (2, b"", USAGE))

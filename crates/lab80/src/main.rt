@@ -1,16 +1,14 @@
-// lab80, an Intel 8080 laboratory: `lab80 step` runs a program's bytes and prints what each
-// instruction did, `lab80 asm` assembles and runs a cell, `lab80 dis` lists bytes as assembler text.
-// What each word does stands in lab_engines, with its contract; this file calls it with the streams of
-// the system. The words `kernel` and `term` are those of the program lab80_kernel.
+// lab80, an Intel 8080 laboratory: `lab80 asm` assembles and runs a cell, `lab80 dis` lists bytes as assembler
+// text. What each word does stands in lab_engines, with its contract; this file calls it with the streams of
+// the system. The word `step` is that of the program lab80_step, `kernel` and `term` are those of lab80_kernel.
 #![tactic(auto)]
 
 use base_streams::std_io::{StdInlet, StdOutlet};
 use lab_engines::asm::run_asm;
-use lab_engines::command::{Command, read_command};
 use lab_engines::dis::run_dis;
-use lab_engines::step::run_step;
-use lab_engines::words::{read_words, show_usage};
+use lab_io::command::{Command, read_command};
 use lab_io::report::flushed;
+use lab_io::words::{read_words, show_usage};
 use std::io;
 use std::process::ExitCode;
 
@@ -22,10 +20,9 @@ fn main(rt: HostRuntime) -> ExitCode {
     let mut input = StdInlet::new(rt.reader());
     let mut output = StdOutlet::new(io::writer(&rt));
     let status = match read_command(&words) {
-        Some(Command::Step) => run_step(rt.alloc(), &mut input, &mut output),
         Some(Command::Asm) => run_asm(rt.alloc(), &mut input, &mut output),
         Some(Command::Dis(origin)) => run_dis(rt.alloc(), origin, &mut input, &mut output),
-        Some(Command::Kernel(_) | Command::Term(_)) | None => show_usage(&rt),
+        Some(Command::Step | Command::Kernel(_) | Command::Term(_)) | None => show_usage(&rt),
     };
     ExitCode::from(flushed(status, &mut output.into_inner()).number())
 }

@@ -1,8 +1,8 @@
 // lab80's kernel: `lab80 kernel FILE` serves as the Jupyter kernel of a connection file, `lab80 term FILE`
 // runs the cell on standard input on one, and prints what it streams.
 // What each word does stands in crates of its own, with its contract: kern_serve and lab_term.
-// This file calls them with the files, sockets and streams of the system. The words `step`, `asm` and
-// `dis` are those of the program lab80.
+// This file calls them with the files, sockets and streams of the system. The word `step` is that of the
+// program lab80_step, `asm` and `dis` are those of lab80.
 #![tactic(auto)]
 
 mod file;
@@ -10,8 +10,8 @@ mod kernel;
 mod line;
 mod term;
 
-use lab_engines::command::{Command, read_command};
-use lab_engines::words::{read_words, show_usage};
+use lab_io::command::{Command, read_command};
+use lab_io::words::{read_words, show_usage};
 use std::process::ExitCode;
 
 fn main(rt: HostRuntime) -> ExitCode {

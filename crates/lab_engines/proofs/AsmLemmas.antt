@@ -1,5 +1,5 @@
--- A text that is longer than a cell's may be.
-use Rattle.std.proofs.Common.{◌≡◌, ℕ, ◌<◌, true, List, length, nat_lt, Err, refl, sym, subst, arith}
+-- A text that is longer than a cell's may be, and the line that says where a program starts.
+use Rattle.std.proofs.Common.{◌≡◌, ℕ, ◌<◌, true, List, [], ◌∷◌, ◌++◌, length, nat_lt, Err, refl, sym, subst, arith, append_assoc, codes}
 use Rattle.std.proofs.lemmas.Bool.Decides.{nat_tests}
 use Rattle.std.specs.Prelude.{Result, Ok, Option, None, IfOk, String, string_bytes}
 use Rattle.std.specs.Global.{Global}
@@ -10,10 +10,11 @@ use Rattle.asm_syntax.specs.declared.fault.FaultKind.TheVariants.{TooLong}
 use Rattle.asm_text.specs.Statements.{statements_of}
 use Rattle.lab_io.specs.declared.report.Report.{Report}
 use Rattle.lab_io.specs.declared.status.Status.TheVariants.{Refused}
-use Rattle.lab_io.specs.Report.{IsReport}
+use Rattle.lab_io.specs.Report.{line, IsReport}
 use Rattle.lab_io.specs.TextState.{IsText}
 use Rattle.lab_engines.specs.AsmText.{cell_of, cell_text, cell_status, fault_line, asm_text, asm_status}
 use Rattle.asm_syntax.specs.Faults.{fault_name}
+use Rattle.base_text.specs.Hexadecimal.{upper_word}
 
 long_cell : (input : List ℕ) → 1048576 < length input → cell_of input ≡ Err (1, 1, TooLong)
 unfolding statements_of
@@ -42,3 +43,10 @@ long_reported (Ok report) text none is =
     λ input found. is_long_report report input
     (subst (λ (t : Option (String Global)). IsText 1048576 (Ok t) input) none found) is
 long_reported (Err e) text none is = tt
+
+pub start_added : (text : List ℕ) (address : ℕ) (run : List ℕ) →
+    text ++ codes "start " ++ upper_word address ++ 10 ∷ [] ++ run ≡ text ++ (line (codes "start " ++ upper_word address) ++ run)
+start_added text address run = joined text (codes "start ") (upper_word address) (10 ∷ []) run
+  where
+    joined : (t a b c d : List ℕ) → t ++ a ++ b ++ c ++ d ≡ t ++ (a ++ b ++ c ++ d)
+    joined t a b c d = simp append_assoc

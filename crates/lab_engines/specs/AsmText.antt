@@ -11,16 +11,9 @@ use Rattle.lab_io.specs.declared.status.Status.{Status}
 use Rattle.lab_io.specs.declared.status.Status.TheVariants.{Success, Refused}
 use Rattle.base_text.specs.Hexadecimal.{upper_word}
 use Rattle.lab_io.specs.Report.{line}
-use Rattle.lab_engines.specs.Printed.{register_line}
-use Rattle.lab_engines.specs.Computer.{Computer, fresh, after, end_at, run_length}
-use Rattle.lab_engines.specs.StepText.{end_line}
+use Rattle.lab_run.specs.Computer.{Computer, fresh}
+use Rattle.lab_run.specs.RunText.{run_end_text}
 use Rattle.lab_engines.specs.Image.{image_text}
-
--- the registers where a run ends, and how it ended
-unfoldable pub run_end_text : ℕ → Computer → List ℕ
-run_end_text limit start =
-    let steps = run_length limit start in
-    register_line (after steps start).machine.regs ++ end_line (end_at limit start steps)
 
 -- a machine after power-on with the image in its memory, about to begin at this address
 abbrev pub begun_at : ℕ → List (ℕ × ℕ) → Computer

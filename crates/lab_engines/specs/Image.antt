@@ -2,7 +2,7 @@
 use Rattle.std.specs.Prelude.{ℕ, suc, zero, ◌+◌, ◌-◌, List, [], ◌∷◌, ◌++◌, length, take, replicate, Option, Some, None, slice_set, codes}
 use Rattle.base_text.specs.Hexadecimal.{upper_word}
 use Rattle.lab_io.specs.Report.{line}
-use Rattle.lab_engines.specs.Printed.{field}
+use Rattle.lab_run.specs.Printed.{field}
 
 -- cells, of which each has the byte of its address, if there is one
 abbrev pub filled : List (ℕ × ℕ) → List (Option ℕ) → List (Option ℕ)

@@ -18,10 +18,9 @@ ghost use Rattle.lab_engines.specs.AsmText.{
   asm_text,
   asm_status,
 };
-ghost use Rattle.lab_engines.specs.Runner.{StandsFor};
+ghost use Rattle.lab_run.specs.Runner.{StandsFor};
 
 use crate::image::{push_image, store_image};
-use crate::runner::Runner;
 use asm_build::built::Built;
 use asm_build::cell::build;
 use asm_build::symbols::Symbols;
@@ -33,6 +32,7 @@ use i80_exec::machine::Machine;
 use lab_io::reading::read_text;
 use lab_io::report::{Report, deliver, text_refusal};
 use lab_io::status::Status;
+use lab_run::runner::Runner;
 use std::alloc::{AllocError, Global};
 
 /// How many steps a run may have.

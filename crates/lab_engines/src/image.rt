@@ -11,10 +11,10 @@ ghost use Rattle.lab_engines.specs.Image.{
   image_text,
 };
 
-use crate::printing::push_field;
 use base_text::hexadecimal::push_word;
 use i80_exec::machine::Machine;
 use i80_rows::memory::MEMORY_SIZE;
+use lab_run::printing::push_field;
 use std::alloc::{AllocError, Global};
 
 /// The most bytes that stand on one line.

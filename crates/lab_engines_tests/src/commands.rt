@@ -1,60 +1,9 @@
-//! What the words of the command line ask for, the exit numbers, and a writer that can't be flushed.
+//! The exit numbers, and a writer that can't be flushed.
 use crate::words::Word;
-use lab_engines::command::{Command, read_command};
 use lab_io::report::flushed;
 use lab_io::status::Status;
-use std::alloc::{AllocError, Global};
 use std::io;
 use std::io::{ErrorKind, Write};
-
-/// Words with a blank between them, and what they ask for.
-const ROWS: [(&str, Option<Command<'static>>); 17] = [
-    ("step", Some(Command::Step)),
-    ("asm", Some(Command::Asm)),
-    ("dis 00F0", Some(Command::Dis(0x00f0))),
-    ("dis ffff", Some(Command::Dis(0xffff))),
-    ("dis 00G0", None),
-    ("dis 10", None),
-    ("dis", None),
-    ("step x", None),
-    ("asm 0000", None),
-    ("STEP", None),
-    ("dis 0000 0000", None),
-    ("kernel k.json", Some(Command::Kernel("k.json"))),
-    ("term k.json", Some(Command::Term("k.json"))),
-    ("kernel", None),
-    ("term", None),
-    ("kernel k.json x", None),
-    ("Kernel k.json", None),
-];
-
-fn words_of(alloc: Global, text: &str) -> Result<Vec<String>, AllocError> {
-    let mut words = Vec::new(alloc);
-    for word in text.split(' ') {
-        words.push(String::from_str(alloc, word)?)?;
-    }
-    Ok(words)
-}
-
-fn asks_for(
-    alloc: Global,
-    text: &str,
-    command: Option<Command<'static>>,
-) -> Result<bool, AllocError> {
-    let words = words_of(alloc, text)?;
-    let is_asked = read_command(&words) == command;
-    drop(words);
-    Ok(is_asked)
-}
-
-#[test]
-fn words_ask_for_engines(rt: HostRuntime) -> Result<(), AllocError> {
-    for (text, command) in &ROWS {
-        assert!(rt; asks_for(rt.alloc(), text, *command)?, "{text}");
-    }
-    assert!(rt; read_command(&[]).is_none(), "no words");
-    Ok(())
-}
 
 const NUMBERS: [(Status, u8); 5] = [
     (Status::Success, 0),

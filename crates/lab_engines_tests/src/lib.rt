@@ -1,6 +1,6 @@
-// What no clause of lab_io and lab_engines says: that they succeed where there is memory, on readers
-// and writers that give and take little at a time, are interrupted, or fail; and texts of programs,
-// worked out by hand from the manual. Nothing is here but tests.
+// What no clause of lab_io, lab_run and lab_engines says: that they succeed where there is memory, on readers
+// and writers that give and take little at a time, are interrupted, or fail; and how faults are displayed.
+// Nothing is here but tests. Whole inputs with what they print are tables of the clients' test_engines.
 #![tactic(auto)]
 
 #[cfg(test)]

@@ -1,9 +1,10 @@
 //! The words of the program, so that tables can name them.
+use base_streams::ports::{Inlet, Outlet};
 use base_streams::std_io::{StdInlet, StdOutlet};
 use lab_engines::asm::run_asm;
 use lab_engines::dis::run_dis;
-use lab_engines::step::run_step;
 use lab_io::status::Status;
+use lab_run::step::run_step;
 use std::alloc::Global;
 use std::io::{Read, Write};
 
@@ -16,6 +17,14 @@ pub enum Word {
 }
 
 impl Word {
+    fn answer<R: Inlet, W: Outlet>(self, alloc: Global, from: &mut R, to: &mut W) -> Status {
+        match self {
+            Word::Step => run_step(alloc, from, to),
+            Word::Asm => run_asm(alloc, from, to),
+            Word::Dis(origin) => run_dis(alloc, origin, from, to),
+        }
+    }
+
     /// Runs the word's engine, and gives its status and the writer.
     pub fn run<R: Read + Drop, W: Write + Drop>(
         self,
@@ -25,11 +34,7 @@ impl Word {
     ) -> (Status, W) {
         let mut from = StdInlet::new(reader);
         let mut to = StdOutlet::new(writer);
-        let status = match self {
-            Word::Step => run_step(alloc, &mut from, &mut to),
-            Word::Asm => run_asm(alloc, &mut from, &mut to),
-            Word::Dis(origin) => run_dis(alloc, origin, &mut from, &mut to),
-        };
+        let status = self.answer(alloc, &mut from, &mut to);
         (status, to.into_inner())
     }
 }

@@ -4,3 +4,4 @@ pub mod Engine
 pub mod Report
 pub mod Streams
 pub mod TextState
+pub mod Command

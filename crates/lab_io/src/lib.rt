@@ -1,4 +1,5 @@
-// Text in and out of the program's engines, over any inlet and outlet.
+// What the programs are told and say: the words of the command line and what they ask for (Command.antt), and text
+// in and out of the engines, over any inlet and outlet.
 // `read_hex` gives the bytes that hexadecimal text means, or one fault, however little a reader gives
 // at a time; `read_text` gives a text up to a limit, past which it keeps nothing; `read_all` gives all
 // bytes. What the text means, and when it is refused, is `input_of` in HexInput.antt. A failed read is
@@ -7,8 +8,10 @@
 // failed.
 #![tactic(auto)]
 
+pub mod command;
 mod hex_input;
 pub mod reading;
 pub mod report;
 pub mod status;
 mod text_input;
+pub mod words;

@@ -1,7 +1,8 @@
 use Rattle.std.proofs.Common.{◌∙◌, string_bytes}
-use Rattle.lab_engines.specs.AsmText.{run_end_text, begun_at}
+use Rattle.lab_run.specs.RunText.{run_end_text}
+use Rattle.lab_engines.specs.AsmText.{begun_at}
 use Rattle.lab_engines.specs.declared.asm.TheConstants.{RUN_LIMIT}
-use Rattle.lab_engines.proofs.PrintedLemmas.{start_added}
+use Rattle.lab_engines.proofs.AsmLemmas.{start_added}
 use Rattle.lab_engines.proofs.asm.push_start.Goals as goal
 
 pub returns : goal.returns

@@ -1,9 +1,0 @@
-use Rattle.std.proofs.Common.{string_bytes}
-use Rattle.lab_engines.specs.Computer.{Computer}
-use Rattle.lab_engines.specs.Runner.{StandsFor}
-use Rattle.lab_engines.proofs.RunLemmas.{HasPrinted}
-use Rattle.lab_engines.proofs.runner.Runner.print_run.Given as goal
-
--- whatever board the runner stood for, so many steps of it were done and printed
-abbrev pub invariant-loop : goal.invariant-loop
-invariant-loop l = (start : Computer) → StandsFor l.fn.self start → HasPrinted l.limit start l.counter l.self (string_bytes l.fn.text) (string_bytes l.text)

@@ -1,0 +1,3 @@
+mod PrintedLemmas
+mod RunLemmas
+mod RunnerLemmas

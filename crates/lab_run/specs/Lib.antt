@@ -1,0 +1,5 @@
+pub mod Printed
+pub mod Computer
+pub mod Runner
+pub mod RunText
+pub mod StepText
