@@ -1,5 +1,5 @@
 -- Which board a lab stands for after an event that changes some of its parts.
-use Rattle.std.proofs.Common.{◌≡◌, ℕ, List, [], ◌∷◌, ◌++◌, true, false, Option, Some, None, Result, Ok, length, map, refl, ap, ◌∙◌, arith}
+use Rattle.std.proofs.Common.{◌≡◌, ℕ, List, [], ◌∷◌, ◌++◌, true, false, Option, Some, None, Result, Ok, length, map, refl, ap, ◌∙◌, rules}
 use Rattle.i80_exec.specs.State.{MachineState, power_on, with_pc, loaded as with_image}
 use Rattle.i80_devs.specs.Past as devices
 use Rattle.asm_build.specs.Reading.{Entries}
@@ -27,25 +27,7 @@ pub gives_paused : (b new : Board) (a : Answer) → b.is_attached ≡ true → b
 gives_paused b new a attached running = rw (attached, running) (refl, refl)
 
 pub stands_stopped : (old : LabState) (b : Board) → StandsFor old b → StandsFor (record old { run = Stopped; request = None }) (stopped b)
-stands_stopped old b s = record {
-  machine = s.machine;
-  devices = s.devices;
-  traffic_is = s.traffic_is;
-  frames = s.frames;
-  origins = s.origins;
-  symbols = s.symbols;
-  sources = s.sources;
-  lists = s.lists;
-  met = s.met;
-  attached = s.attached;
-  run = refl;
-  is_halted = s.is_halted;
-  within = s.within;
-  is_resumed = s.is_resumed;
-  has_moved = s.has_moved;
-  request = refl;
-  follows = λ asked. cc;
-}
+stands_stopped old b s = search rules
 
 -- with no step known
 abbrev pub forgotten : LabState → LabState
@@ -54,49 +36,17 @@ forgotten lab = record lab { frames = []; is_halted = false; is_resumed = false;
 pub stands_started : (old : LabState) (b : Board) (machine : MachineState) (address : ℕ) → StandsFor old b
     → machine ≡ with_pc old.machine address
     → StandsFor (record (forgotten old) { machine = machine; run = Running }) (started address b)
-stands_started old b machine address s machine-is = record {
-  machine = machine-is ∙ ap (λ (m : MachineState). with_pc m address) s.machine;
-  devices = s.devices;
-  traffic_is = s.traffic_is;
-  frames = refl;
-  origins = s.origins;
-  symbols = s.symbols;
-  sources = s.sources;
-  lists = s.lists;
-  met = s.met;
-  attached = s.attached;
-  run = refl;
-  is_halted = refl;
-  within = omega arith;
-  is_resumed = refl;
-  has_moved = refl;
-  request = refl;
-  follows = λ asked. cc;
-}
+stands_started old b machine address s machine-is =
+    let moved = machine-is ∙ ap (λ (m : MachineState). with_pc m address) s.machine in
+    search rules
 
 pub stands_reset : (old : LabState) (b : Board) (machine : MachineState) (panel : devices.DeviceState) (spans : List Span) (points : BreakpointState)
     → StandsFor old b → machine ≡ power_on → devices.StandsFor panel [] → panel.operations ≡ [] → origins.StandsFor spans []
     → points.lists ≡ old.breakpoints.lists → breakpoints.StandsFor points []
     → StandsFor (record (forgotten old) { machine = machine; devices = panel; origins = spans; breakpoints = points; run = NoRun }) (reset b)
-stands_reset old b machine panel spans points s machine-is past none cleared lists met = record {
-  machine = machine-is;
-  devices = past;
-  traffic_is = none;
-  frames = refl;
-  origins = cleared;
-  symbols = s.symbols;
-  sources = s.sources;
-  lists = lists ∙ s.lists;
-  met = met;
-  attached = s.attached;
-  run = refl;
-  is_halted = refl;
-  within = omega arith;
-  is_resumed = refl;
-  has_moved = refl;
-  request = refl;
-  follows = λ asked. cc;
-}
+stands_reset old b machine panel spans points s machine-is past none cleared lists met =
+    let listed = lists ∙ s.lists in
+    search rules
 
 pub stands_built : (old : LabState) (b : Board) (number : ℕ) (m : Meaning) (machine : MachineState) (spans : List Span) (points : BreakpointState) (symbols : Entries)
     → StandsFor old b → machine ≡ with_image old.machine m.output.image
@@ -105,71 +55,26 @@ pub stands_built : (old : LabState) (b : Board) (number : ℕ) (m : Meaning) (ma
     → breakpoints.StandsFor points (b.loads ++ record { source = number; rows = m.output.rows } ∷ [])
     → symbols ≡ m.symbols
     → StandsFor (record old { machine = machine; origins = spans; breakpoints = points; symbols = symbols }) (with_built number m b)
-stands_built old b number m machine spans points symbols s machine-is put lists met symbols-are = record {
-  machine = machine-is ∙ ap (λ (n : MachineState). with_image n m.output.image) s.machine;
-  devices = s.devices;
-  traffic_is = s.traffic_is;
-  frames = s.frames;
-  origins = put;
-  symbols = symbols-are;
-  sources = s.sources;
-  lists = lists ∙ s.lists;
-  met = met;
-  attached = s.attached;
-  run = s.run;
-  is_halted = s.is_halted;
-  within = s.within;
-  is_resumed = s.is_resumed;
-  has_moved = s.has_moved;
-  request = s.request;
-  follows = s.follows;
-}
+stands_built old b number m machine spans points symbols s machine-is put lists met symbols-are =
+    let changed = machine-is ∙ ap (λ (n : MachineState). with_image n m.output.image) s.machine in
+    let listed = lists ∙ s.lists in
+    search rules
 
 -- ---- devices with another room, or whose traffic was taken
 
 pub stands_reserved : (old : LabState) (b : Board) (panel : devices.DeviceState) → StandsFor old b
     → panel.panel ≡ old.devices.panel → panel.operations ≡ old.devices.operations → StandsFor (record old { devices = panel }) b
-stands_reserved old b panel s same operations = record {
-  machine = s.machine;
-  devices = same ∙ s.devices;
-  traffic_is = operations ∙ s.traffic_is;
-  frames = s.frames;
-  origins = s.origins;
-  symbols = s.symbols;
-  sources = s.sources;
-  lists = s.lists;
-  met = s.met;
-  attached = s.attached;
-  run = s.run;
-  is_halted = s.is_halted;
-  within = s.within;
-  is_resumed = s.is_resumed;
-  has_moved = s.has_moved;
-  request = s.request;
-  follows = s.follows;
-}
+stands_reserved old b panel s same operations =
+    let panel-is = same ∙ s.devices in
+    let traffic-is = operations ∙ s.traffic_is in
+    search rules
 
 pub stands_taken : (lab : LabState) (b : Board) (traffic : List PortOperation) (panel : devices.DeviceState) → StandsAmid lab b traffic
     → panel ≡ record { panel = lab.devices.panel; operations = []; spare = 0 } → StandsFor (record lab { devices = panel }) b
-stands_taken lab b traffic panel s is = record {
-  machine = s.machine;
-  devices = ap (λ (d : devices.DeviceState). d.panel) is ∙ s.devices;
-  traffic_is = ap (λ (d : devices.DeviceState). d.operations) is;
-  frames = s.frames;
-  origins = s.origins;
-  symbols = s.symbols;
-  sources = s.sources;
-  lists = s.lists;
-  met = s.met;
-  attached = s.attached;
-  run = s.run;
-  is_halted = s.is_halted;
-  within = s.within;
-  is_resumed = s.is_resumed;
-  has_moved = s.has_moved;
-  request = s.request;
-  follows = s.follows;
-}
+stands_taken lab b traffic panel s is =
+    let panel-is = ap (λ (d : devices.DeviceState). d.panel) is ∙ s.devices in
+    let none = ap (λ (d : devices.DeviceState). d.operations) is in
+    search rules
 
 pub slices_running : (run : RunState) (n : ℕ) (b new : Board) (reply : Result Answer EventFault) → run ≡ Running
     → GivesSlice n b reply new → SlicesRun run n b reply new
@@ -183,25 +88,7 @@ gives_dumped s b place is = rw is (refl, refl)
 
 pub stands_dumped : (old : LabState) (b : Board) (sources all : List Source) → StandsFor old b → sources ≡ all
     → StandsFor (record old { sources = sources }) (record b { sources = all })
-stands_dumped old b sources all s same = record {
-  machine = s.machine;
-  devices = s.devices;
-  traffic_is = s.traffic_is;
-  frames = s.frames;
-  origins = s.origins;
-  symbols = s.symbols;
-  sources = same;
-  lists = s.lists;
-  met = s.met;
-  attached = s.attached;
-  run = s.run;
-  is_halted = s.is_halted;
-  within = s.within;
-  is_resumed = s.is_resumed;
-  has_moved = s.has_moved;
-  request = s.request;
-  follows = s.follows;
-}
+stands_dumped old b sources all s same = search rules
 
 pub stands_kept : (lab : LabState) (b : Board) (s : Source) (place : Option ℕ) (n : ℕ) (m : Meaning)
     (sources : List Source)
@@ -218,22 +105,6 @@ gives_breakpoints b path lines number text answers found are = rw (found, are) (
 pub stands_listed : (old : LabState) (b : Board) (points : BreakpointState) (number : ℕ) (lines : List ℕ) → StandsFor old b
     → points.lists ≡ with_lines number lines old.breakpoints.lists → breakpoints.StandsFor points b.loads
     → StandsFor (record old { breakpoints = points }) (record b { breakpoints = with_lines number lines b.breakpoints })
-stands_listed old b points number lines s lists met = record {
-  machine = s.machine;
-  devices = s.devices;
-  traffic_is = s.traffic_is;
-  frames = s.frames;
-  origins = s.origins;
-  symbols = s.symbols;
-  sources = s.sources;
-  lists = rw (← s.lists) lists;
-  met = met;
-  attached = s.attached;
-  run = s.run;
-  is_halted = s.is_halted;
-  within = s.within;
-  is_resumed = s.is_resumed;
-  has_moved = s.has_moved;
-  request = s.request;
-  follows = s.follows;
-}
+stands_listed old b points number lines s lists met =
+    let listed : points.lists ≡ with_lines number lines b.breakpoints = rw (← s.lists) lists in
+    search rules

@@ -1,5 +1,5 @@
 -- What a lab stands for after a step, a Resume and a Step.
-use Rattle.std.proofs.Common.{◌≡◌, ℕ, ◌+◌, ◌≤◌, List, [], ◌∷◌, ◌++◌, Bool, true, false, not, ◌||◌, ◌&&◌, ◌==◌, Option, Some, None, length, min, refl, sym, ap, ◌∙◌, subst, arith, length-append, append-nil}
+use Rattle.std.proofs.Common.{◌≡◌, ℕ, ◌+◌, ◌≤◌, List, [], ◌∷◌, ◌++◌, Bool, true, false, not, ◌||◌, ◌&&◌, ◌==◌, Option, Some, None, length, min, refl, sym, ap, ◌∙◌, subst, rules, arith, length-append, append-nil}
 use Rattle.std.proofs.lemmas.List.{take-append-drop, drop-append-le, take-append-le, take_all, drop_all}
 use Rattle.std.proofs.lemmas.List.Sums.{fold-append}
 use Rattle.std.proofs.lemmas.Bool.Decides.{nat_tests}
@@ -91,7 +91,7 @@ follows_step : (old new : LabState) (b : Board) (answer : Stepped) (left : ℕ) 
     → (change_of (next_step b)).answer ≡ answer → (change_of (next_step b)).after.regs.sp ≡ new.machine.regs.sp
     → unwrap_or b.resumed 0 ≤ length b.trace → old.frames ≡ live b.trace → IsSome old.request
     → Follows old.older old.innermost old.is_gone (earlier b) (since b)
-    → Follows new.older new.innermost new.is_gone (earlier (stepped_board b)) (since (stepped_board b))
+    → Follows new.older old.innermost new.is_gone (earlier (stepped_board b)) (since (stepped_board b))
 follows_step old new b answer left m answer-is sp-is within frames asked f =
     let x = next_step b in
     let l = longer b within in
@@ -103,10 +103,9 @@ follows_step old new b answer left m answer-is sp-is within frames asked f =
     let gone : is_gone_after (is_gone (innermost (live (earlier b))) (since b)) (innermost (live (earlier b))) answer new.machine.regs.sp
     ≡ is_gone (innermost (live (earlier b))) (since b ++ x ∷ [])
     = rw (← answer-is, ← sp-is) (gone-append (innermost (live (earlier b))) (since b) x) in
-    let innermost-same : new.innermost ≡ old.innermost = ap (λ (s : LabState). s.innermost) m.rest in
     record {
       older_is = m.older asked ∙ rw (l.earlier_is, l.since_is, f.older_is, stay) (sym counted);
-      innermost_is = innermost-same ∙ rw l.earlier_is f.innermost_is;
+      innermost_is = rw l.earlier_is f.innermost_is;
       gone_is = m.gone asked ∙ rw (l.earlier_is, l.since_is, f.gone_is, f.innermost_is) gone;
     }
 
@@ -123,25 +122,22 @@ stands_step old new b traffic answer left s did m =
     let site-is : (change_of x).before.regs.pc ≡ old.machine.regs.pc = rw change (ap (λ (n : MachineState). n.regs.pc) (sym s.machine)) in
     let is : IsStep x answer old.machine.regs.pc new.machine.regs.sp = record { answer_is = answer-is; site_is = site-is; sp_is = sp-is } in
     let l = longer b s.within in
-    record {
-      machine = step.after_is;
-      devices = step.stands;
-      traffic_is = step.traffic_is ∙ rw s.traffic_is refl;
-      frames = m.frames b.trace x is s.frames;
-      origins = rw (ap (λ (n : LabState). n.origins) m.rest) s.origins;
-      symbols = ap (λ (n : LabState). n.symbols) m.rest ∙ s.symbols;
-      sources = ap (λ (n : LabState). n.sources) m.rest ∙ s.sources;
-      lists = ap (λ (n : LabState). n.breakpoints.lists) m.rest ∙ s.lists;
-      met = rw (ap (λ (n : LabState). n.breakpoints) m.rest) s.met;
-      attached = ap (λ (n : LabState). n.is_attached) m.rest ∙ s.attached;
-      run = ap (λ (n : LabState). n.run) m.rest ∙ s.run;
-      is_halted = ap (λ (n : LabState). n.is_halted) m.rest ∙ rw (← answer-is) (sym (halted-append b.trace x));
-      within = let longer-by = length-append b.trace (x ∷ []) in let before = s.within in omega arith;
-      is_resumed = ap (λ (n : LabState). n.is_resumed) m.rest ∙ s.is_resumed;
-      has_moved = ap (λ (n : LabState). n.has_moved) m.rest ∙ rw l.since_is (sym (any-append (since b) x));
-      request = ap (λ (n : LabState). n.request) m.rest ∙ s.request;
-      follows = λ asked. follows_step old new b answer left m answer-is sp-is s.within s.frames (rw s.request asked) (s.follows asked);
-    }
+    let stands = step.stands in
+    let traffic-is : new.devices.operations ≡ traffic ++ operation_list (next_change b).operation
+    = step.traffic_is ∙ rw s.traffic_is refl in
+    let frames-are = m.frames b.trace x is s.frames in
+    let halts : is_halt answer ≡ ends_in_halt (stepped_board b).trace
+    = rw (← answer-is) (sym (halted-append b.trace x)) in
+    let within : unwrap_or b.resumed 0 ≤ length (stepped_board b).trace
+    = let longer-by = length-append b.trace (x ∷ []) in let before = s.within in omega arith in
+    let moves : true ≡ is_any (since (stepped_board b)) = rw l.since_is (sym (any-append (since b) x)) in
+    let follows : IsSome b.request
+    → Follows new.older old.innermost new.is_gone (earlier (stepped_board b)) (since (stepped_board b))
+    = λ asked.
+    follows_step old new b answer left m answer-is sp-is s.within s.frames (rw s.request asked) (s.follows asked) in
+    let Q : LabState → Type 0 = λ lab.
+    StandsAmid lab (stepped_board b) (traffic ++ operation_list (next_change b).operation) in
+    subst Q (sym m.rest) (search rules)
 
 -- ---- no step
 
@@ -180,25 +176,11 @@ stands_undefined old b traffic machine devices opcode s did =
     let step = subst P s.machine did in
     let n = no_step b.past b.machine opcode step.answer_is in
     let none : operation_list (outcome_of b.machine b.past).operation ≡ [] = rw n.operation_is refl in
-    record {
-      machine = step.after_is ∙ n.after_is;
-      devices = no_operations devices b.past (operations b.machine b.past) n.operations_are step.stands;
-      traffic_is = step.traffic_is ∙ rw (none, append-nil old.devices.operations) s.traffic_is;
-      frames = s.frames;
-      origins = s.origins;
-      symbols = s.symbols;
-      sources = s.sources;
-      lists = s.lists;
-      met = s.met;
-      attached = s.attached;
-      run = s.run;
-      is_halted = s.is_halted;
-      within = s.within;
-      is_resumed = s.is_resumed;
-      has_moved = s.has_moved;
-      request = s.request;
-      follows = s.follows;
-    }
+    let machine-is = step.after_is ∙ n.after_is in
+    let stands = no_operations devices b.past (operations b.machine b.past) n.operations_are step.stands in
+    let traffic-is : devices.operations ≡ traffic
+    = step.traffic_is ∙ rw (none, append-nil old.devices.operations) s.traffic_is in
+    search rules
 
 -- ---- a Resume, or a Step
 
@@ -221,29 +203,13 @@ stands_on old b request older frame older-is frame-is s =
     let on = going_on request b in
     let all : earlier on ≡ b.trace = take_all (length b.trace) b.trace (omega arith) in
     let none : since on ≡ [] = drop_all (length b.trace) b.trace (omega arith) in
-    record {
-      machine = s.machine;
-      devices = s.devices;
-      traffic_is = s.traffic_is;
-      frames = s.frames;
-      origins = s.origins;
-      symbols = s.symbols;
-      sources = s.sources;
-      lists = s.lists;
-      met = s.met;
-      attached = s.attached;
-      run = refl;
-      is_halted = s.is_halted;
-      within = omega arith;
-      is_resumed = refl;
-      has_moved = rw none refl;
-      request = refl;
-      follows = λ asked. record {
-        older_is = rw (all, none, filter-stays-none (live b.trace)) (older-is ∙ ap (λ (fs : List Frame). length fs) s.frames);
-        innermost_is = rw all (frame-is ∙ ap innermost s.frames);
-        gone_is = rw (all, none) (none_gone (innermost (live b.trace)));
-      };
-    }
+    let moves : false ≡ is_any (since on) = rw none refl in
+    let follows : Follows older frame false (earlier on) (since on) = record {
+      older_is = rw (all, none, filter-stays-none (live b.trace)) (older-is ∙ ap (λ (fs : List Frame). length fs) s.frames);
+      innermost_is = rw all (frame-is ∙ ap innermost s.frames);
+      gone_is = rw (all, none) (none_gone (innermost (live b.trace)));
+    } in
+    search (rules, arith)
 
 -- ---- whether a Step is done
 

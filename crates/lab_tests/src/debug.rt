@@ -1,8 +1,12 @@
 //! What a debugger is answered: stops, Steps, breakpoints and views.
 
-use crate::ask::Ask;
-use crate::script::{Play, Step, play_all};
-use lab_core::event::StepKind;
+use crate::ask::Ask::{Code, Frames, Info, Scopes, Source, Variables};
+use crate::script::Step::{
+    Attach, Debug, Detach, Dump, Instruction, Interrupt, Line, Lines, Load, Pause, Press,
+    Registers, Reset, Resume, Show, Slice, Start,
+};
+use crate::script::{Play, play_all};
+use lab_core::event::StepKind::{In, Out, Over};
 use std::rt::HostRuntime;
 
 /// A call, whose routine returns at once.
@@ -16,21 +20,13 @@ const PLAYS: [Play; 17] = [
     (
         "a breakpoint in a routine and a step out",
         &[
-            Step::Load("p", CALL),
-            Step::Attach,
-            Step::Lines("p", &[3]),
-            Step::Start(0),
-            Step::Slice(10),
-            Step::Show(Ask::Frames(0, 0)),
-            Step::Line(StepKind::Out),
-            Step::Slice(10),
-            Step::Show(Ask::Frames(0, 0)),
+            Debug(CALL, &[3]),
+            Show(Frames(0, 0)),
+            Line(Out),
+            Slice(10),
+            Show(Frames(0, 0)),
         ],
         "\
-Loaded { start: Some(0) }
-Accepted
-line 3 true
-Started
 1 Stop(Breakpoint)
 1 F1 3 p 0004
 2 main 1 p 0000
@@ -43,50 +39,24 @@ of 1
     ),
     (
         "a step over a call",
-        &[
-            Step::Load("p", CALL),
-            Step::Attach,
-            Step::Lines("p", &[1]),
-            Step::Start(0),
-            Step::Slice(10),
-            Step::Line(StepKind::Over),
-            Step::Slice(10),
-            Step::Registers,
-        ],
-        "\
-Loaded { start: Some(0) }
-Accepted
-line 1 true
-Started
-0 Stop(Breakpoint)
-Accepted
-2 Stop(Step)
-0003 0000 Off 0
-",
+        &[Debug(CALL, &[1]), Line(Over), Slice(10), Registers],
+        "0 Stop(Breakpoint)\nAccepted\n2 Stop(Step)\n0003 0000 Off 0\n",
     ),
     // The second byte of line 2 begins no statement.
     (
         "a step in by instruction and by line",
         &[
-            Step::Load("p", "MAIN: LXI H,1\nDB 0,0\nHLT\nEND MAIN"),
-            Step::Attach,
-            Step::Lines("p", &[1]),
-            Step::Start(0),
-            Step::Slice(10),
-            Step::Line(StepKind::In),
-            Step::Slice(10),
-            Step::Instruction(StepKind::In),
-            Step::Slice(10),
-            Step::Registers,
-            Step::Line(StepKind::In),
-            Step::Slice(10),
-            Step::Registers,
+            Debug("MAIN: LXI H,1\nDB 0,0\nHLT\nEND MAIN", &[1]),
+            Line(In),
+            Slice(10),
+            Instruction(In),
+            Slice(10),
+            Registers,
+            Line(In),
+            Slice(10),
+            Registers,
         ],
         "\
-Loaded { start: Some(0) }
-Accepted
-line 1 true
-Started
 0 Stop(Breakpoint)
 Accepted
 1 Stop(Step)
@@ -101,24 +71,16 @@ Accepted
     (
         "a breakpoint in a recursion",
         &[
-            Step::Load("p", RECURSION),
-            Step::Attach,
-            Step::Lines("p", &[5]),
-            Step::Start(0),
-            Step::Slice(10),
-            Step::Show(Ask::Variables(1, 0, 0)),
-            Step::Resume,
-            Step::Slice(10),
-            Step::Show(Ask::Frames(0, 0)),
-            Step::Line(StepKind::Out),
-            Step::Slice(10),
-            Step::Show(Ask::Frames(0, 1)),
+            Debug(RECURSION, &[5]),
+            Show(Variables(1, 0, 0)),
+            Resume,
+            Slice(10),
+            Show(Frames(0, 0)),
+            Line(Out),
+            Slice(10),
+            Show(Frames(0, 1)),
         ],
         "\
-Loaded { start: Some(0) }
-Accepted
-line 5 true
-Started
 3 Stop(Breakpoint)
 A=000H B=001H C=000H D=000H E=000H H=000H L=000H SP=0FFFEH PC=00007H 
 Accepted
@@ -137,43 +99,29 @@ of 2
     (
         "a step over a recursive call",
         &[
-            Step::Load("p", RECURSION),
-            Step::Attach,
-            Step::Lines("p", &[5]),
-            Step::Start(0),
-            Step::Slice(10),
-            Step::Lines("p", &[]),
-            Step::Line(StepKind::Over),
-            Step::Slice(10),
-            Step::Show(Ask::Frames(0, 1)),
+            Debug(RECURSION, &[5]),
+            Lines("p", &[]),
+            Line(Over),
+            Slice(10),
+            Show(Frames(0, 1)),
         ],
-        "\
-Loaded { start: Some(0) }
-Accepted
-line 5 true
-Started
-3 Stop(Breakpoint)
-Accepted
-4 Stop(Step)
-1 REC 6 p 000A
-of 2
-",
+        "3 Stop(Breakpoint)\nAccepted\n4 Stop(Step)\n1 REC 6 p 000A\nof 2\n",
     ),
     // A load changes where a line begins: the bits follow it.
     (
         "breakpoints follow the loads",
         &[
-            Step::Load("p", CALL),
-            Step::Attach,
-            Step::Lines("p", &[1]),
-            Step::Load("q", RECURSION),
-            Step::Start(0),
-            Step::Slice(2),
-            Step::Interrupt,
-            Step::Load("p", CALL),
-            Step::Start(0),
-            Step::Slice(2),
-            Step::Load("q", RECURSION),
+            Load("p", CALL),
+            Attach,
+            Lines("p", &[1]),
+            Load("q", RECURSION),
+            Start(0),
+            Slice(2),
+            Interrupt,
+            Load("p", CALL),
+            Start(0),
+            Slice(2),
+            Load("q", RECURSION),
         ],
         "\
 Loaded { start: Some(0) }
@@ -192,14 +140,14 @@ refused: a program runs
     (
         "a stop after the last step is told by that slice",
         &[
-            Step::Load("p", CALL),
-            Step::Attach,
-            Step::Lines("p", &[3]),
-            Step::Start(0),
-            Step::Slice(1),
-            Step::Instruction(StepKind::In),
-            Step::Slice(1),
-            Step::Registers,
+            Load("p", CALL),
+            Attach,
+            Lines("p", &[3]),
+            Start(0),
+            Slice(1),
+            Instruction(In),
+            Slice(1),
+            Registers,
         ],
         "\
 Loaded { start: Some(0) }
@@ -216,24 +164,16 @@ Accepted
     (
         "a detach is no resume",
         &[
-            Step::Load("p", CALL),
-            Step::Attach,
-            Step::Lines("p", &[3]),
-            Step::Start(0),
-            Step::Slice(10),
-            Step::Detach,
-            Step::Show(Ask::Info),
-            Step::Attach,
-            Step::Lines("p", &[3]),
-            Step::Slice(10),
-            Step::Detach,
-            Step::Slice(10),
+            Debug(CALL, &[3]),
+            Detach,
+            Show(Info),
+            Attach,
+            Lines("p", &[3]),
+            Slice(10),
+            Detach,
+            Slice(10),
         ],
         "\
-Loaded { start: Some(0) }
-Accepted
-line 3 true
-Started
 1 Stop(Breakpoint)
 Accepted
 attached false stopped false
@@ -248,26 +188,18 @@ Accepted
     (
         "a step is dropped",
         &[
-            Step::Load("p", CALL),
-            Step::Attach,
-            Step::Lines("p", &[1]),
-            Step::Start(0),
-            Step::Slice(10),
-            Step::Line(StepKind::Out),
-            Step::Slice(1),
-            Step::Detach,
-            Step::Attach,
-            Step::Pause,
-            Step::Line(StepKind::In),
-            Step::Pause,
-            Step::Resume,
-            Step::Slice(10),
+            Debug(CALL, &[1]),
+            Line(Out),
+            Slice(1),
+            Detach,
+            Attach,
+            Pause,
+            Line(In),
+            Pause,
+            Resume,
+            Slice(10),
         ],
         "\
-Loaded { start: Some(0) }
-Accepted
-line 1 true
-Started
 0 Stop(Breakpoint)
 Accepted
 1 More
@@ -282,45 +214,34 @@ Accepted
     ),
     (
         "a step out with no frame never ends",
-        &[
-            Step::Load("p", CALL),
-            Step::Attach,
-            Step::Lines("p", &[1]),
-            Step::Start(0),
-            Step::Slice(10),
-            Step::Instruction(StepKind::Out),
-            Step::Slice(10),
-        ],
-        "\
-Loaded { start: Some(0) }
-Accepted
-line 1 true\nStarted\n0 Stop(Breakpoint)\nAccepted\n3 End(Halted)\n",
+        &[Debug(CALL, &[1]), Instruction(Out), Slice(10)],
+        "0 Stop(Breakpoint)\nAccepted\n3 End(Halted)\n",
     ),
     (
         "a run is paused and resumed",
         &[
-            Step::Load("p", "X: JMP X\nEND X"),
-            Step::Pause,
-            Step::Attach,
-            Step::Pause,
-            Step::Resume,
-            Step::Line(StepKind::In),
-            Step::Show(Ask::Frames(0, 0)),
-            Step::Show(Ask::Scopes(1)),
-            Step::Start(0),
-            Step::Resume,
-            Step::Slice(7),
-            Step::Pause,
-            Step::Pause,
-            Step::Slice(1),
-            Step::Start(0),
-            Step::Show(Ask::Scopes(0)),
-            Step::Show(Ask::Scopes(1)),
-            Step::Show(Ask::Scopes(2)),
-            Step::Show(Ask::Frames(0, 0)),
-            Step::Resume,
-            Step::Slice(7),
-            Step::Interrupt,
+            Load("p", "X: JMP X\nEND X"),
+            Pause,
+            Attach,
+            Pause,
+            Resume,
+            Line(In),
+            Show(Frames(0, 0)),
+            Show(Scopes(1)),
+            Start(0),
+            Resume,
+            Slice(7),
+            Pause,
+            Pause,
+            Slice(1),
+            Start(0),
+            Show(Scopes(0)),
+            Show(Scopes(1)),
+            Show(Scopes(2)),
+            Show(Frames(0, 0)),
+            Resume,
+            Slice(7),
+            Interrupt,
         ],
         "\
 Loaded { start: Some(0) }
@@ -352,26 +273,17 @@ Interrupted
     (
         "reasons come by rank",
         &[
-            Step::Load("p", "MAIN: HLT\nEI\nHLT\nNOP\nEND MAIN"),
-            Step::Attach,
-            Step::Lines("p", &[2, 4]),
-            Step::Start(0),
-            Step::Slice(10),
-            Step::Start(1),
-            Step::Slice(10),
-            Step::Instruction(StepKind::In),
-            Step::Slice(10),
-            Step::Instruction(StepKind::In),
-            Step::Slice(10),
-            Step::Resume,
-            Step::Slice(10),
+            Debug("MAIN: HLT\nEI\nHLT\nNOP\nEND MAIN", &[2, 4]),
+            Start(1),
+            Slice(10),
+            Instruction(In),
+            Slice(10),
+            Instruction(In),
+            Slice(10),
+            Resume,
+            Slice(10),
         ],
         "\
-Loaded { start: Some(0) }
-Accepted
-line 2 true
-line 4 true
-Started
 1 End(Halted)
 Started
 0 Stop(Breakpoint)
@@ -387,49 +299,34 @@ Accepted
     (
         "a step over an accepted request",
         &[
-            Step::Load("p", "MAIN: EI\nNOP\nNOP\nHLT\nORG 8\nRET\nEND MAIN"),
-            Step::Attach,
-            Step::Lines("p", &[3]),
-            Step::Start(0),
-            Step::Slice(10),
-            Step::Lines("p", &[]),
-            Step::Press(1),
-            Step::Line(StepKind::Over),
-            Step::Slice(1),
-            Step::Slice(10),
-            Step::Registers,
+            Debug("MAIN: EI\nNOP\nNOP\nHLT\nORG 8\nRET\nEND MAIN", &[3]),
+            Lines("p", &[]),
+            Press(1),
+            Line(Over),
+            Slice(1),
+            Slice(10),
+            Registers,
         ],
-        "\
-Loaded { start: Some(0) }
-Accepted
-line 3 true
-Started
-2 Stop(Breakpoint)
-Accepted
-Accepted
-1 More
-1 Stop(Step)
-0002 0000 Off 0
-",
+        "2 Stop(Breakpoint)\nAccepted\nAccepted\n1 More\n1 Stop(Step)\n0002 0000 Off 0\n",
     ),
     (
         "lists keep their order",
         &[
-            Step::Lines("x", &[1]),
-            Step::Dump("a", "NOP\nNOP\n"),
-            Step::Dump("b", "FOO"),
-            Step::Dump("b", "BAR"),
-            Step::Lines("a", &[0, 3, 4, 3]),
-            Step::Lines("b", &[1]),
-            Step::Show(Ask::Info),
-            Step::Lines("a", &[2]),
-            Step::Show(Ask::Info),
-            Step::Lines("a", &[]),
-            Step::Lines("a", &[4_294_967_295]),
-            Step::Reset,
-            Step::Show(Ask::Info),
-            Step::Show(Ask::Source("b")),
-            Step::Show(Ask::Source("c")),
+            Lines("x", &[1]),
+            Dump("a", "NOP\nNOP\n"),
+            Dump("b", "FOO"),
+            Dump("b", "BAR"),
+            Lines("a", &[0, 3, 4, 3]),
+            Lines("b", &[1]),
+            Show(Info),
+            Lines("a", &[2]),
+            Show(Info),
+            Lines("a", &[]),
+            Lines("a", &[4_294_967_295]),
+            Reset,
+            Show(Info),
+            Show(Source("b")),
+            Show(Source("c")),
         ],
         "\
 refused: no text has this path
@@ -459,12 +356,7 @@ refused: no text has this path
     ),
     (
         "no debugger meets no breakpoint",
-        &[
-            Step::Load("p", CALL),
-            Step::Lines("p", &[1, 2, 3]),
-            Step::Start(0),
-            Step::Slice(10),
-        ],
+        &[Load("p", CALL), Lines("p", &[1, 2, 3]), Start(0), Slice(10)],
         "\
 Loaded { start: Some(0) }
 line 1 true
@@ -478,36 +370,23 @@ Started
     (
         "an overwritten statement keeps its breakpoint",
         &[
-            Step::Load("p", "MAIN: MVI A,76H\nSTA X\nX: NOP\nEND MAIN"),
-            Step::Attach,
-            Step::Lines("p", &[3]),
-            Step::Start(0),
-            Step::Slice(10),
-            Step::Show(Ask::Code(5, 1)),
-            Step::Resume,
-            Step::Slice(10),
+            Debug("MAIN: MVI A,76H\nSTA X\nX: NOP\nEND MAIN", &[3]),
+            Show(Code(5, 1)),
+            Resume,
+            Slice(10),
         ],
-        "\
-Loaded { start: Some(0) }
-Accepted
-line 3 true
-Started
-2 Stop(Breakpoint)
-0005 76 HLT
-Accepted
-1 End(Halted)
-",
+        "2 Stop(Breakpoint)\n0005 76 HLT\nAccepted\n1 End(Halted)\n",
     ),
     (
         "views at their ends",
         &[
-            Step::Load("p", "ORG 0FFFFH\nDB 0C3H\nEND 0"),
-            Step::Attach,
-            Step::Show(Ask::Variables(5, 0xffff, 5)),
-            Step::Show(Ask::Variables(5, 65_536, 0)),
-            Step::Show(Ask::Variables(6, 0, 0)),
-            Step::Show(Ask::Variables(0, 0, 0)),
-            Step::Show(Ask::Code(0xffff, 2)),
+            Load("p", "ORG 0FFFFH\nDB 0C3H\nEND 0"),
+            Attach,
+            Show(Variables(5, 0xffff, 5)),
+            Show(Variables(5, 65_536, 0)),
+            Show(Variables(6, 0, 0)),
+            Show(Variables(0, 0, 0)),
+            Show(Code(0xffff, 2)),
         ],
         "\
 Loaded { start: Some(0) }

@@ -42,21 +42,28 @@ pub enum Step {
     Lamps,
     /// Loads 1,024 texts under as many paths: x, xx, and so on.
     Fill,
+    /// On a new board: loads a text, attaches a debugger, sets breakpoints on lines that the text has,
+    /// starts at address 0, where the text starts too, and makes a slice of ten steps, whose answer it shows.
+    Debug(&'static str, &'static [u32]),
+}
+
+fn texts(alloc: Global, path: &str, text: &str) -> Result<(Text, Text), AllocError> {
+    let path = Text::copy_of(alloc, path)?;
+    let text = Text::copy_of(alloc, text)?;
+    Ok((path, text))
 }
 
 fn load(alloc: Global, path: &str, text: &str) -> Result<Event, AllocError>
     ensures { IfOk result (λ event. Fits event) }
 {
-    let path = Text::copy_of(alloc, path)?;
-    let text = Text::copy_of(alloc, text)?;
+    let (path, text) = texts(alloc, path, text)?;
     Ok(Event::Load { path, text })
 }
 
 fn dump(alloc: Global, path: &str, text: &str) -> Result<Event, AllocError>
     ensures { IfOk result (λ event. Fits event) }
 {
-    let path = Text::copy_of(alloc, path)?;
-    let text = Text::copy_of(alloc, text)?;
+    let (path, text) = texts(alloc, path, text)?;
     Ok(Event::Dump { path, text })
 }
 
@@ -143,14 +150,57 @@ fn tell_event(lab: &mut Lab, event: Event, told: &mut String) -> Result<(), Allo
     put
 }
 
-/// Adds what a step answers.
-fn tell(alloc: Global, lab: &mut Lab, step: Step, told: &mut String) -> Result<(), AllocError> {
-    if let Step::Fill = step {
-        return fill(alloc, lab);
-    }
+// Adds what an event answers, or what is looked at.
+fn tell_one(alloc: Global, lab: &mut Lab, step: Step, told: &mut String) -> Result<(), AllocError> {
     match event(alloc, step)? {
         Some(event) => tell_event(lab, event, told),
         None => show(lab, step, told),
+    }
+}
+
+// What a debugged run's events up to its start answer.
+fn put_begun(told: &mut String, lines: &[u32]) -> Result<(), AllocError> {
+    told.push_str("Loaded { start: Some(0) }\nAccepted\n")?;
+    for line in lines {
+        write!(told, "line {line} true\n")?;
+    }
+    told.push_str("Started\n")
+}
+
+// Adds what these events answer, where it is something else.
+fn begin(
+    alloc: Global,
+    lab: &mut Lab,
+    text: &'static str,
+    lines: &'static [u32],
+    told: &mut String,
+) -> Result<(), AllocError> {
+    let mut begun = String::new(alloc);
+    for step in [
+        Step::Load("p", text),
+        Step::Attach,
+        Step::Lines("p", lines),
+        Step::Start(0),
+    ] {
+        tell_one(alloc, lab, step, &mut begun)?;
+    }
+    let mut wanted = String::new(alloc);
+    put_begun(&mut wanted, lines)?;
+    if begun.as_str() != wanted.as_str() {
+        told.push_str(begun.as_str())?;
+    }
+    Ok(())
+}
+
+/// Adds what a step answers.
+fn tell(alloc: Global, lab: &mut Lab, step: Step, told: &mut String) -> Result<(), AllocError> {
+    match step {
+        Step::Fill => fill(alloc, lab),
+        Step::Debug(text, lines) => {
+            begin(alloc, lab, text, lines, told)?;
+            tell_one(alloc, lab, Step::Slice(10), told)
+        }
+        _ => tell_one(alloc, lab, step, told),
     }
 }
 

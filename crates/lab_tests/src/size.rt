@@ -50,18 +50,18 @@ fn five_thousand_events_are_answered(rt: HostRuntime) -> Result<(), AllocError> 
     Ok(())
 }
 
-// S0 to S299, each with its number as its value.
-fn symbols(alloc: Global) -> Result<String, AllocError> {
+/// 300 symbols from 0 on, as S0 to S299, each with its number as its value.
+pub fn symbols(alloc: Global, letter: &str) -> Result<String, AllocError> {
     let mut text = String::new(alloc);
     for number in 0..300u32 {
-        write!(text, "S{number} EQU {number}\n")?;
+        write!(text, "{letter}{number} EQU {number}\n")?;
     }
     Ok(text)
 }
 
 // Six bytes that a second cell makes of the symbols of a first one, where both are taken.
 fn bytes_of_two_cells(alloc: Global, lab: &mut Lab) -> Result<Option<[u8; 6]>, AllocError> {
-    let text = symbols(alloc)?;
+    let text = symbols(alloc, "S")?;
     if !load_text(alloc, lab, "a", text.as_str())?
         || !load_text(alloc, lab, "b", "DW S0,S255,S299")?
     {

@@ -1,5 +1,6 @@
 //! Views of a small board: the words of the tables, and the ends of every count.
 use crate::ask::{Ask, view};
+use crate::size::symbols;
 use crate::told::put_shown;
 use asm_build::built::Built;
 use asm_build::cell::build;
@@ -207,15 +208,6 @@ fn devices_and_references(rt: HostRuntime) {
     drop(board);
 }
 
-/// L0 to L299, each with its number as its value.
-fn labels(alloc: Global) -> Result<String, AllocError> {
-    let mut text = String::new(alloc);
-    for n in 0..300u16 {
-        write!(text, "L{n} EQU {n}\n")?;
-    }
-    Ok(text)
-}
-
 /// What is asked, and how much is shown.
 const COUNTS: [(Ask, usize); 19] = [
     (Ask::Variables(4, 0, 0), 256),
@@ -241,7 +233,7 @@ const COUNTS: [(Ask, usize); 19] = [
 
 #[test]
 fn counts_are_cut(rt: HostRuntime) -> Result<(), AllocError> {
-    let text = labels(rt.alloc())?;
+    let text = symbols(rt.alloc(), "L")?;
     let board = loaded(&rt, rt.alloc(), text.as_str());
     for (place, (ask, wanted)) in COUNTS.iter().enumerate() {
         assert!(rt;

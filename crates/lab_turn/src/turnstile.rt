@@ -1,5 +1,5 @@
 //! The turnstile: opened over a value, used by its passes, and closed with all of them.
-ghost use Rattle.std.specs.Prelude.{◌≡◌, ◌≢◌, ◌<◌, ◌≤◌, ◌+◌, ◌↔◌, [], All, length, vec_capacity, IfOk, IfErr, IsErr, OnOk, OnErr, true};
+ghost use Rattle.std.specs.Prelude.{◌≡◌, ◌≢◌, ◌<◌, ◌≤◌, ◌+◌, ◌↔◌, [], All, length, vec_capacity, IfOk, IfErr, IsErr, IsSome, OnOk, OnErr, Some, ◌∷◌, true};
 ghost use Rattle.lab_turn.specs.History.{TurnstileState, FreshFrom, Turned, IsHistoryOf};
 ghost use Rattle.lab_turn.specs.Turns.{Gathered, IsIdle, maker_at};
 
@@ -59,6 +59,32 @@ type Made<J> = (
     Token<J>,
 );
 
+// The slots of the table: the value's alone. Without memory the value comes back.
+fn slots_over<J>(alloc: Global, value: J) -> Result<Vec<Option<J>>, J>
+    ensures ok { IfOk result (λ slots. slots.items ≡ Some value ∷ []) }
+    ensures err { IfErr result (λ v. v ≡ value) }
+{
+    let Ok(mut slots) = Vec::with_capacity(alloc, 1) else {
+        return Err(value);
+    };
+    let pushed = slots.push(Some(value));
+    let Ok(()) = pushed else { unreachable!() };
+    Ok(slots)
+}
+
+// The value that lies in the one slot.
+fn value_in<J>(mut slots: Vec<Option<J>>) -> J
+    requires { (length slots.items ≡ 1) × All IsSome slots.items }
+    ensures { slots.items ≡ Some result ∷ [] }
+{
+    let Some(first) = slots.pop() else {
+        unreachable!()
+    };
+    slots.destroy_empty();
+    let Some(value) = first else { unreachable!() };
+    value
+}
+
 // The table over the value, and the token of its first seat.
 fn table_over<J: Journaled>(alloc: Global, value: J, seats: u32) -> Result<Made<J>, J>
     requires seats { 0 < seats }
@@ -75,21 +101,10 @@ fn table_over<J: Journaled>(alloc: Global, value: J, seats: u32) -> Result<Made<
         over: Snapshot::of(&value),
         seats,
     };
-    let Ok(mut slots) = Vec::with_capacity(alloc, 1) else {
-        return Err(value);
-    };
-    let pushed = slots.push(Some(value));
-    let Ok(()) = pushed else { unreachable!() };
+    let slots = slots_over(alloc, value)?;
     match Table::new(alloc, &[0, 0], slots, &key) {
         Ok(made) => Ok(made),
-        Err(Refused { mut slots }) => {
-            let Some(first) = slots.pop() else {
-                unreachable!()
-            };
-            slots.destroy_empty();
-            let Some(value) = first else { unreachable!() };
-            Err(value)
-        }
+        Err(Refused { slots }) => Err(value_in(slots)),
     }
 }
 

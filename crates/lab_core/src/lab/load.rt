@@ -58,7 +58,9 @@ impl Lab {
         ensures { Gives meaning_in result (assembled self.now.symbols text.now) }
     {
         let statements = statements(self.alloc, text)?;
-        build(self.alloc, &statements, &self.symbols)
+        let built = build(self.alloc, &statements, &self.symbols);
+        drop(statements);
+        built
     }
 
     /// Loads what a cell gave, and keeps its text, which is new where it has no place yet.

@@ -9,5 +9,5 @@ new-requires g c =
     let E = g.J.Journaled.entries in
     let L = g.J.Journaled.limit in
     let u = c.of.result.value in
-    let items : c.push-pushed.new.self.items ≡ Some c.args.value ∷ [] = c.in-Ok-pushed.ensures.items ∙ ap (λ l. l ++ Some c.args.value ∷ []) c.in-Ok.ensures.items in
+    let items : c.in_ok-slots.slots.items ≡ Some c.args.value ∷ [] = c.in_ok-slots.ensures.ok in
     subst (λ xs. Ruled E L c.args.seats (L u) (opening (0 ∷ 0 ∷ []) xs (first_view c.args.seats (L u)))) (sym items) (begins E L (L u) c.args.seats c.args.value c.requires.fresh (ap L (sym c.of.ensures)) c.requires.seats)
