@@ -1,6 +1,5 @@
 //! Calls as plain data.
 
-use crate::desks::join_call;
 use base_text::sequence::{Bytes, Frames};
 use base_text::text::Text;
 use dap_talk::command::{DapCommand, DapRequest};
@@ -45,6 +44,11 @@ pub fn call_of(alloc: Global, action: Action, moment: u64) -> Result<Call, Alloc
         Action::Slice => Ok(Call::Slice { moment }),
         Action::Fetch(connection, from) => Ok(Call::Fetch { connection, from }),
     }
+}
+
+fn join_call(alloc: Global, channel: Channel) -> Result<Call, AllocError> {
+    let identity = Held::new(alloc, Bytes::new(alloc))?;
+    Ok(Call::Join { channel, identity })
 }
 
 fn subscribe_call(alloc: Global, connection: u32, moment: u64) -> Result<Call, AllocError> {

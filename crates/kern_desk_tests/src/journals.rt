@@ -1,9 +1,9 @@
 //! Journals against the calls that were made, and the same calls on a new kernel.
 
 use crate::actions::is_call;
-use crate::desks::MOST_ENTRIES;
 use crate::turns::{Row, Turn, act, expect_at};
 use kern_core::kernel::Kernel;
+use kern_desk::desks::MOST_ENTRIES;
 use kern_desk::seated::Seated;
 use std::alloc::Global;
 use std::process::Abort;

@@ -2,13 +2,11 @@
 // Calls and replies are plain data here, so that it is kept which seat made which call, and its reply.
 // Once a desk is closed, its journal has exactly these calls, those of each seat in their order.
 // Made again in the order of the journal, on a new kernel and one thread, they get the same replies.
-// What posts, replies and refusals must be is written out. Nothing is here but tests, and the desks that
-// other crates' tests use too.
+// What posts, replies and refusals must be is written out. Nothing is here but tests.
 #![tactic(auto)]
 
 #[cfg(test)]
 mod actions;
-pub mod desks;
 #[cfg(test)]
 mod journals;
 #[cfg(test)]

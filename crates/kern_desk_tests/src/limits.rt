@@ -1,6 +1,5 @@
 //! How many posts are kept, and how many entries a journal has.
 use crate::actions::{Action, Question};
-use crate::desks::MOST_ENTRIES;
 use crate::journals::new_kernel;
 use crate::outcomes::Outcome;
 use crate::seats::run_rows;
@@ -8,6 +7,7 @@ use crate::turns::{Row, act, expect_at};
 use jup_wire::channel::Channel;
 use kern_core::fault::KernFault;
 use kern_core::kernel::Kernel;
+use kern_desk::desks::MOST_ENTRIES;
 use std::alloc::Global;
 use std::process::Abort;
 

@@ -57,14 +57,22 @@ fn batch_of(posts: &Posts, next: u64, ended: bool) -> Outcome {
     )
 }
 
-fn numbers_of(posts: &[Post]) -> [u64; TOLD] {
-    let mut numbers = [0; TOLD];
-    for (place, post) in posts.iter().enumerate() {
-        if place < TOLD {
-            numbers[place] = post.number;
-        }
+fn number_at(posts: &[Post], place: usize) -> u64 {
+    match posts.get(place) {
+        Some(post) => post.number,
+        None => 0,
     }
-    numbers
+}
+
+fn numbers_of(posts: &[Post]) -> [u64; TOLD] {
+    [
+        number_at(posts, 0),
+        number_at(posts, 1),
+        number_at(posts, 2),
+        number_at(posts, 3),
+        number_at(posts, 4),
+        number_at(posts, 5),
+    ]
 }
 
 fn interrupts_of(posts: &[Post]) -> usize {

@@ -2,12 +2,12 @@
 ghost use Rattle.std.specs.Prelude.{◌≡◌, ◌<◌, All, IfSome};
 
 use crate::actions::{Action, Question};
-use crate::desks::{MOST_ENTRIES, close_desk, open_desk, take_pass};
 use crate::journals::{Entry, merged, replay};
 use crate::outcomes::Outcome;
 use crate::players::{Part, Player, Script};
 use crate::turns::{Turn, expect_at};
 use jup_wire::channel::Channel;
+use kern_desk::desks::{MOST_ENTRIES, close_desk, open_desk};
 use kern_desk::seated::{Desk, Pass};
 use std::alloc::Global;
 use std::process::Abort;
@@ -95,7 +95,7 @@ fn players_of<R: Abort>(rt: &R, alloc: Global, desk: &Desk, mut passes: Vec<Pass
 {
     let mut players = Vec::new(alloc);
     for _ in 0..passes.len() {
-        let pass = take_pass(desk, &mut passes).expect(rt, "a pass");
+        let pass = passes.pop().expect(rt, "a pass");
         put_first(rt, desk, &mut players, Player::new(alloc, pass));
     }
     players

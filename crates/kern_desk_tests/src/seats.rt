@@ -2,7 +2,6 @@
 ghost use Rattle.std.specs.Prelude.{◌≡◌, ◌≤◌, All};
 
 use crate::actions::{Action, Question, call_of};
-use crate::desks::{MOST_ENTRIES, close_desk, open_desk, take_pass};
 use crate::journals::check_rows;
 use crate::outcomes::{Outcome, outcome_of};
 use crate::turns::{Row, expect_at, make};
@@ -10,6 +9,7 @@ use dap_answers::answer::{Body, Outcome as Answered};
 use jup_wire::channel::Channel;
 use kern_core::call::Reply;
 use kern_core::fault::KernFault;
+use kern_desk::desks::{MOST_ENTRIES, close_desk, open_desk};
 use kern_desk::seated::{Desk, Pass, Seated};
 use kern_post::content::Content;
 use kern_post::post::Post;
@@ -238,7 +238,7 @@ fn refused<R: Abort>(rt: &R, desk: Desk, passes: Vec<Pass>) -> (Desk, Vec<Pass>)
 fn close_late<R: Abort>(rt: &R, desk: Desk, mut passes: Vec<Pass>) -> Seated
     requires { All (λ p. p.turnstile ≡ desk) passes.items }
 {
-    let last = take_pass(&desk, &mut passes).expect(rt, "a pass");
+    let last = passes.pop().expect(rt, "a pass");
     let (desk, mut passes) = refused(rt, desk, passes);
     assert!(rt; passes.len() == 1);
     passes.push(last).expect(rt, "memory for a pass");

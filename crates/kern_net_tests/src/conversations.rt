@@ -6,7 +6,7 @@ use crate::messages::{DEALER, PUB, ROUTER, SUB, push_message};
 use crate::table::open_table;
 use crate::talks::{AMPLE, BYTE_BY_BYTE, Course, Pace, Talk, outcome, talk_at};
 use jup_wire::channel::Channel;
-use kern_desk_tests::desks::MOST_ENTRIES;
+use kern_desk::desks::MOST_ENTRIES;
 use kern_net::end::PumpEnd;
 use std::alloc::{AllocError, Global};
 use std::process::Abort;

@@ -16,7 +16,7 @@ use kern_ask::ask::{Ask, Request};
 use kern_core::call::{Arrival, Call};
 use kern_core::fault::KernFault;
 use kern_core::held::Held;
-use kern_desk_tests::desks::MOST_ENTRIES;
+use kern_desk::desks::MOST_ENTRIES;
 use kern_net::end::PumpEnd;
 use kern_net::pump_in::Place;
 use kern_net::pump_out::Line;

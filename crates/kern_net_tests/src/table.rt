@@ -4,10 +4,12 @@ ghost use Rattle.kern_net.specs.Gates.{IsOpen};
 
 use crate::gates::Measured;
 use base_streams::memory::{Sink, Source};
+use base_text::sequence::Bytes;
 use jup_wire::channel::Channel;
 use kern_core::call::Call;
+use kern_core::held::Held;
+use kern_desk::desks::{close_desk, join, open_desk};
 use kern_desk::seated::{Desk, Pass, Seated};
-use kern_desk_tests::desks::{close_desk, join, open_desk, take_pass};
 use kern_net::end::PumpEnd;
 use kern_net::pump_in::{Place, pump_in};
 use kern_net::pump_out::{Line, pump_out};
@@ -64,8 +66,8 @@ pub fn open_table<R: Abort>(rt: &R, alloc: Global, limit: u32) -> Table
     requires few { limit ≤ 4194304 }
 {
     let (desk, mut passes) = open_desk(alloc, limit, 2).expect(rt, "a desk");
-    let writing = take_pass(&desk, &mut passes).expect(rt, "a pass");
-    let reading = take_pass(&desk, &mut passes).expect(rt, "a pass");
+    let writing = passes.pop().expect(rt, "a pass");
+    let reading = passes.pop().expect(rt, "a pass");
     drop(passes);
     Table {
         desk,
@@ -77,7 +79,9 @@ pub fn open_table<R: Abort>(rt: &R, alloc: Global, limit: u32) -> Table
 impl Table {
     /// A connection without an identity comes; its number.
     pub fn join<R: Wait + Abort>(&mut self, rt: &R, alloc: Global, channel: Channel) -> u32 {
-        join(rt, alloc, &self.desk, &mut self.reading, channel).expect(rt, "a connection")
+        let identity = Held::new(alloc, Bytes::new(alloc)).expect(rt, "memory for an identity");
+        let answer = join(rt, &self.desk, &mut self.reading, channel, identity);
+        answer.expect(rt, "a connection").connection
     }
 
     /// Makes a call, whatever its answer.

@@ -5,7 +5,7 @@ use crate::gates::Measured;
 use crate::table::{Table, open_table};
 use base_streams::memory::{Sink, Source};
 use jup_wire::channel::Channel;
-use kern_desk_tests::desks::MOST_ENTRIES;
+use kern_desk::desks::MOST_ENTRIES;
 use kern_net::end::PumpEnd;
 use kern_net::pump_in::Place;
 use kern_net::pump_out::Line;

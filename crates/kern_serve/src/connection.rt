@@ -10,9 +10,10 @@ use base_streams::std_io::{StdInlet, StdOutlet};
 use base_text::sequence::Bytes;
 use base_text::text::Text;
 use jup_wire::channel::Channel;
-use kern_core::call::{Call, Reply};
+use kern_core::call::Call;
 use kern_core::fault::KernFault;
 use kern_core::held::Held;
+use kern_desk::desks::{Joined, join};
 use kern_desk::seated::{Desk, Pass};
 use kern_net::counts::Counts;
 use kern_net::end::PumpEnd;
@@ -37,14 +38,6 @@ pub struct Shared {
     /// The session's name in the headers of what the kernel sends.
     pub session: Text,
     pub listeners: Listeners,
-}
-
-/// A connection at the kernel.
-#[derive(Clone, Copy)]
-struct Joined {
-    connection: u32,
-    // The number of the first post that may be for it.
-    from: u64,
 }
 
 // The two ends of a connection: its socket, and whether its reader has closed it.
@@ -184,47 +177,33 @@ fn pump<R: Wait + Clock + Threads + Sync>(
     )
 }
 
-// The Join of a peer with its identity, or an empty one.
-fn join_call(alloc: Global, channel: Channel, peer: &Peer) -> Result<Call, AllocError> {
-    let identity = match peer.side.identity() {
-        Some(identity) => Bytes::copy_of(alloc, identity.as_slice())?,
-        None => Bytes::new(alloc),
-    };
-    let identity = Held::new(alloc, identity)?;
-    Ok(Call::Join { channel, identity })
+// The identity of a peer, or an empty one.
+fn identity_of(alloc: Global, peer: &Peer) -> Result<Held<Bytes>, AllocError> {
+    match peer.side.identity() {
+        Some(identity) => Held::new(alloc, Bytes::copy_of(alloc, identity.as_slice())?),
+        None => Held::new(alloc, Bytes::new(alloc)),
+    }
 }
 
 // Joins, if the kernel lets it.
-fn join<R: Wait>(rt: &R, shared: &Shared, pass: &mut Pass, call: Call) -> Option<Joined>
+fn join_as<R: Wait>(
+    rt: &R,
+    shared: &Shared,
+    pass: &mut Pass,
+    channel: Channel,
+    identity: Held<Bytes>,
+) -> Option<Joined>
     requires { pass.old.turnstile ≡ shared.now.desk }
     ensures { pass.new.turnstile ≡ shared.now.desk }
 {
     shared.bell.count_entries(1);
-    let Ok(answer) = shared.desk.turn(rt, pass, call) else {
-        return None;
-    };
-    if is_journal_full(&answer) {
-        shared.bell.ask(rt);
-    }
-    let joined = joined_by(&answer);
-    drop(answer);
-    joined
-}
-
-fn is_journal_full(answer: &Result<Reply, KernFault>) -> bool {
-    match answer {
-        Err(fault) => *fault == KernFault::JournalFull,
-        Ok(_) => false,
-    }
-}
-
-fn joined_by(answer: &Result<Reply, KernFault>) -> Option<Joined> {
-    match answer {
-        Ok(Reply::Joined { connection, from }) => Some(Joined {
-            connection: *connection,
-            from: *from,
-        }),
-        _ => None,
+    match join(rt, &shared.desk, pass, channel, identity) {
+        Ok(joined) => Some(joined),
+        Err(KernFault::JournalFull) => {
+            shared.bell.ask(rt);
+            None
+        }
+        Err(_) => None,
     }
 }
 
@@ -240,8 +219,8 @@ fn join_peer<R: Wait>(
     requires { pass.old.turnstile ≡ shared.now.desk }
     ensures { pass.new.turnstile ≡ shared.now.desk }
 {
-    match join_call(alloc, channel, peer) {
-        Ok(call) => join(rt, shared, pass, call),
+    match identity_of(alloc, peer) {
+        Ok(identity) => join_as(rt, shared, pass, channel, identity),
         Err(_) => None,
     }
 }
@@ -252,7 +231,7 @@ fn leave<R: Wait>(rt: &R, shared: &Shared, pass: &mut Pass, connection: u32)
     ensures { pass.new.turnstile ≡ shared.now.desk }
 {
     shared.bell.count_entries(1);
-    let _ = shared.desk.turn(rt, pass, Call::Leave { connection });
+    drop(shared.desk.turn(rt, pass, Call::Leave { connection }));
 }
 
 /// Serves a connection of a channel until it ends, and gives its passes back. One that makes no handshake
@@ -271,13 +250,16 @@ pub fn serve_connection<R: Wait + Clock + Threads + Sync>(
     ensures first { result.0.turnstile ≡ shared.now.desk }
     ensures second { result.1.turnstile ≡ shared.now.desk }
 {
-    let Ok(Some(met)) = meet(alloc, stream, channel) else {
+    let Some(peer) = meet(alloc, &stream, channel) else {
+        drop(stream);
         return (first, second);
     };
-    let Some(joined) = join_peer(rt, alloc, shared, &mut first, channel, &met.peer) else {
-        drop(met);
+    let Some(joined) = join_peer(rt, alloc, shared, &mut first, channel, &peer) else {
+        drop(peer);
+        drop(stream);
         return (first, second);
     };
+    let met = Met { peer, stream };
     let (mut first, second) = pump(rt, alloc, shared, channel, joined, met, first, second);
     leave(rt, shared, &mut first, joined.connection);
     (first, second)

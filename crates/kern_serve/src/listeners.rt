@@ -2,7 +2,35 @@
 use jup_connection::connection_file::ConnectionFile;
 use jup_wire::channel::Channel;
 use std::io;
-use std::net::{Net, TcpListener, TcpStream};
+use std::net::{Ipv4Addr, Net, TcpListener, TcpStream};
+
+// Two ports, each bound.
+#[derive(Drop)]
+struct Pair(TcpListener, TcpListener);
+
+fn bind_port<R: Net<Listener = TcpListener, Stream = TcpStream>>(
+    rt: &R,
+    ip: Ipv4Addr,
+    port: u16,
+) -> io::Result<TcpListener> {
+    TcpListener::bind(rt, (ip, port))
+}
+
+fn bind_pair<R: Net<Listener = TcpListener, Stream = TcpStream>>(
+    rt: &R,
+    ip: Ipv4Addr,
+    first: u16,
+    second: u16,
+) -> io::Result<Pair> {
+    let first = bind_port(rt, ip, first)?;
+    match bind_port(rt, ip, second) {
+        Ok(second) => Ok(Pair(first, second)),
+        Err(error) => {
+            drop(first);
+            Err(error)
+        }
+    }
+}
 
 /// The five ports of a kernel, each bound.
 #[derive(Drop)]
@@ -14,6 +42,21 @@ pub struct Listeners {
     heartbeat: TcpListener,
 }
 
+// The ports of the channels, in the order of their fields.
+fn bind_channels<R: Net<Listener = TcpListener, Stream = TcpStream>>(
+    rt: &R,
+    file: &ConnectionFile,
+) -> io::Result<(Pair, Pair)> {
+    let first = bind_pair(rt, file.ip, file.shell_port, file.iopub_port)?;
+    match bind_pair(rt, file.ip, file.stdin_port, file.control_port) {
+        Ok(second) => Ok((first, second)),
+        Err(error) => {
+            drop(first);
+            Err(error)
+        }
+    }
+}
+
 impl Listeners {
     /// Binds the ports of a connection file at its address. From then on clients can connect, though they are
     /// answered only once the listeners are served. A port is free again as soon as its server has ended.
@@ -21,13 +64,20 @@ impl Listeners {
         rt: &R,
         file: &ConnectionFile,
     ) -> io::Result<Listeners> {
-        Ok(Listeners {
-            shell: TcpListener::bind(rt, (file.ip, file.shell_port))?,
-            iopub: TcpListener::bind(rt, (file.ip, file.iopub_port))?,
-            stdin: TcpListener::bind(rt, (file.ip, file.stdin_port))?,
-            control: TcpListener::bind(rt, (file.ip, file.control_port))?,
-            heartbeat: TcpListener::bind(rt, (file.ip, file.hb_port))?,
-        })
+        let heartbeat = bind_port(rt, file.ip, file.hb_port)?;
+        match bind_channels(rt, file) {
+            Ok((Pair(shell, iopub), Pair(stdin, control))) => Ok(Listeners {
+                shell,
+                iopub,
+                stdin,
+                control,
+                heartbeat,
+            }),
+            Err(error) => {
+                drop(heartbeat);
+                Err(error)
+            }
+        }
     }
 
     /// The listener of a channel.

@@ -2,8 +2,10 @@
 ghost use Rattle.std.specs.Prelude.{◌≡◌, ◌<◌, ◌≤◌};
 ghost use Rattle.kern_serve.specs.Pacing.{pause, next_gap};
 
+use kern_desk::desks::MOST_ENTRIES;
+
 /// How many entries the journal of a server may have: the most that a kernel allows.
-pub const JOURNAL_LIMIT: u32 = 4_194_304;
+pub const JOURNAL_LIMIT: u32 = MOST_ENTRIES;
 
 /// How many of them are left for the writers to fetch what was posted, once no more slices are made.
 pub const RESERVE: u64 = 32_768;

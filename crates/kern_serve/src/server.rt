@@ -14,11 +14,10 @@ use crate::system::new_session;
 use base_text::text::Text;
 use jup_connection::connection_file::ConnectionFile;
 use jup_wire::channel::Channel;
-use kern_core::kernel::Kernel;
-use kern_desk::seated::{Desk, Pass, Seated};
+use kern_desk::desks::open_desk;
+use kern_desk::seated::Pass;
 use kern_net::end::PumpEnd;
 use kern_net::worker::worker;
-use lab_turn::turnstile::Turnstile;
 use std::alloc::Global;
 use std::net::{TcpListener, TcpStream};
 use std::random::RandomSource;
@@ -113,7 +112,31 @@ fn start_lane<R: Wait + Clock + Threads + Clone + Send + Sync + Drop + 'static>(
     }
 }
 
-// Starts the lanes of a channel, each with two of the passes.
+// Starts a lane with two of the passes.
+fn start_next<R: Wait + Clock + Threads + Clone + Send + Sync + Drop + 'static>(
+    rt: &R,
+    alloc: Global,
+    shared: &Arc<Shared>,
+    channel: Channel,
+    passes: &mut Vec<Pass>,
+) -> Result<(), ServerFault>
+    requires { All (λ p. p.turnstile ≡ (arc_value shared.now).desk) passes.old.items }
+    ensures { All (λ p. p.turnstile ≡ (arc_value shared.now).desk) passes.new.items }
+{
+    let (Some(first), Some(second)) = (passes.pop(), passes.pop()) else {
+        return Err(ServerFault::System);
+    };
+    match Arc::try_clone(shared) {
+        Ok(mine) => start_lane(rt, alloc, mine, channel, first, second),
+        Err(_) => {
+            drop(first);
+            drop(second);
+            Err(ServerFault::OutOfMemory)
+        }
+    }
+}
+
+// Starts the lanes of a channel.
 fn start_lanes<R: Wait + Clock + Threads + Clone + Send + Sync + Drop + 'static>(
     rt: &R,
     alloc: Global,
@@ -125,15 +148,28 @@ fn start_lanes<R: Wait + Clock + Threads + Clone + Send + Sync + Drop + 'static>
     ensures { All (λ p. p.turnstile ≡ (arc_value shared.now).desk) passes.new.items }
 {
     for _ in 0..PLACES {
-        let (Some(first), Some(second)) = (passes.pop(), passes.pop()) else {
-            return Err(ServerFault::System);
-        };
-        let Ok(mine) = Arc::try_clone(shared) else {
-            return Err(ServerFault::OutOfMemory);
-        };
-        start_lane(rt, alloc, mine, channel, first, second)?;
+        start_next(rt, alloc, shared, channel, passes)?;
     }
     Ok(())
+}
+
+// Starts a thread that serves the heartbeat.
+fn start_beat<R: Wait + Clock + Threads + Clone + Send + Sync + Drop + 'static>(
+    rt: &R,
+    alloc: Global,
+    shared: Arc<Shared>,
+) -> Result<(), ServerFault> {
+    let Ok(host) = rt.clone() else {
+        drop(shared);
+        return Err(ServerFault::OutOfMemory);
+    };
+    let started = thread::Builder::new().spawn(rt, move || {
+        beats(&host, alloc, shared.listeners.heartbeat())
+    });
+    match started {
+        Ok(_) => Ok(()),
+        Err(_) => Err(ServerFault::System),
+    }
 }
 
 fn start_beats<R: Wait + Clock + Threads + Clone + Send + Sync + Drop + 'static>(
@@ -142,17 +178,9 @@ fn start_beats<R: Wait + Clock + Threads + Clone + Send + Sync + Drop + 'static>
     shared: &Arc<Shared>,
 ) -> Result<(), ServerFault> {
     for _ in 0..PLACES {
-        let Ok(host) = rt.clone() else {
-            return Err(ServerFault::OutOfMemory);
-        };
-        let Ok(mine) = Arc::try_clone(shared) else {
-            return Err(ServerFault::OutOfMemory);
-        };
-        let started = thread::Builder::new().spawn(rt, move || {
-            beats(&host, alloc, mine.listeners.heartbeat())
-        });
-        if started.is_err() {
-            return Err(ServerFault::System);
+        match Arc::try_clone(shared) {
+            Ok(mine) => start_beat(rt, alloc, mine)?,
+            Err(_) => return Err(ServerFault::OutOfMemory),
         }
     }
     Ok(())
@@ -187,22 +215,6 @@ fn work<R: Wait + Clock>(rt: &R, shared: &Shared, mut pass: Pass) -> Result<Serv
     end_of(end, gate.is_closed())
 }
 
-// A desk over a new kernel, and its passes.
-fn open_desk(alloc: Global) -> Result<(Desk, Vec<Pass>), ServerFault>
-    ensures { IfOk result (λ opened. All (λ p. p.turnstile ≡ opened.0) opened.1.items) }
-{
-    let Ok(kernel) = Kernel::new(alloc, JOURNAL_LIMIT) else {
-        return Err(ServerFault::OutOfMemory);
-    };
-    match Turnstile::open(alloc, Seated::new(alloc, kernel), PASSES) {
-        Ok(opened) => Ok(opened),
-        Err(fault) => {
-            drop(fault);
-            Err(ServerFault::OutOfMemory)
-        }
-    }
-}
-
 // A desk, its passes, and what else the threads share.
 fn open(
     alloc: Global,
@@ -212,7 +224,7 @@ fn open(
 ) -> Result<(Shared, Vec<Pass>), ServerFault>
     ensures { IfOk result (λ opened. All (λ p. p.turnstile ≡ opened.0.desk) opened.1.items) }
 {
-    match open_desk(alloc) {
+    match open_desk(alloc, JOURNAL_LIMIT, PASSES) {
         Ok((desk, passes)) => {
             let shared = Shared {
                 desk,
@@ -223,29 +235,29 @@ fn open(
             };
             Ok((shared, passes))
         }
-        Err(fault) => {
+        Err(_) => {
             drop(listeners);
             drop(key);
             drop(session);
-            Err(fault)
+            Err(ServerFault::OutOfMemory)
         }
     }
 }
 
-// Starts all threads, and gives the pass that is left, the worker's.
+// Starts all threads, and gives a pass that is left, the worker's.
 fn start<R: Wait + Clock + Threads + Clone + Send + Sync + Drop + 'static>(
     rt: &R,
     alloc: Global,
     shared: &Arc<Shared>,
-    mut passes: Vec<Pass>,
+    passes: &mut Vec<Pass>,
 ) -> Result<Pass, ServerFault>
-    requires { All (λ p. p.turnstile ≡ (arc_value shared.now).desk) passes.items }
+    requires { All (λ p. p.turnstile ≡ (arc_value shared.now).desk) passes.old.items }
     ensures { IfOk result (λ pass. pass.turnstile ≡ (arc_value shared.now).desk) }
 {
-    start_lanes(rt, alloc, shared, Channel::Shell, &mut passes)?;
-    start_lanes(rt, alloc, shared, Channel::Iopub, &mut passes)?;
-    start_lanes(rt, alloc, shared, Channel::Stdin, &mut passes)?;
-    start_lanes(rt, alloc, shared, Channel::Control, &mut passes)?;
+    start_lanes(rt, alloc, shared, Channel::Shell, passes)?;
+    start_lanes(rt, alloc, shared, Channel::Iopub, passes)?;
+    start_lanes(rt, alloc, shared, Channel::Stdin, passes)?;
+    start_lanes(rt, alloc, shared, Channel::Control, passes)?;
     start_beats(rt, alloc, shared)?;
     passes.pop().ok_or(ServerFault::System)
 }
@@ -255,12 +267,16 @@ fn run<R: Wait + Clock + Threads + Clone + Send + Sync + Drop + 'static>(
     rt: &R,
     alloc: Global,
     shared: &Arc<Shared>,
-    passes: Vec<Pass>,
+    mut passes: Vec<Pass>,
 ) -> Result<ServerEnd, ServerFault>
     requires { All (λ p. p.turnstile ≡ (arc_value shared.now).desk) passes.items }
 {
-    let pass = start(rt, alloc, shared, passes)?;
-    work(rt, shared, pass)
+    let started = start(rt, alloc, shared, &mut passes);
+    drop(passes);
+    match started {
+        Ok(pass) => work(rt, shared, pass),
+        Err(fault) => Err(fault),
+    }
 }
 
 // Serves under a session's name.

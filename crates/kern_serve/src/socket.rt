@@ -43,19 +43,27 @@ fn prepare(stream: &TcpStream) -> io::Result<()> {
     stream.set_write_timeout(patience)
 }
 
+fn greet(alloc: Global, stream: &TcpStream, channel: Channel) -> Option<Peer> {
+    let mut from = StdInlet::new(stream);
+    let mut to = StdOutlet::new(stream);
+    match handshake(alloc, &mut from, &mut to, role_of(channel)) {
+        Ok(peer) => Some(peer),
+        Err(_) => None,
+    }
+}
+
 /// Makes the handshake on a socket of a channel, in which no read waits longer than ten seconds. From then on
 /// a read may wait for ever, and a write ten seconds.
-pub fn meet(alloc: Global, stream: TcpStream, channel: Channel) -> io::Result<Option<Met>> {
-    prepare(&stream)?;
-    let mut from = StdInlet::new(&stream);
-    let mut to = StdOutlet::new(&stream);
-    match handshake(alloc, &mut from, &mut to, role_of(channel)) {
-        Ok(peer) => {
-            stream.set_read_timeout(None)?;
-            Ok(Some(Met { peer, stream }))
-        }
-        Err(_) => Ok(None),
+pub fn meet(alloc: Global, stream: &TcpStream, channel: Channel) -> Option<Peer> {
+    if prepare(stream).is_err() {
+        return None;
     }
+    let peer = greet(alloc, stream, channel)?;
+    if stream.set_read_timeout(None).is_err() {
+        drop(peer);
+        return None;
+    }
+    Some(peer)
 }
 
 // A socket of the heartbeat, on which reads may wait for ever once more than a greeting came.

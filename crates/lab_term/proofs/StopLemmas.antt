@@ -1,5 +1,5 @@
 -- How far a cell came, and why it went no further.
-use Rattle.std.proofs.Common.{◌≡◌, ℕ, Bool, true, false, List, [], ◌∷◌, ◌++◌, Option, ◌⊎◌, inl, inr, ⊎_elim, refl, sym, ap, ◌∙◌, subst, append-nil, append_assoc, length, arith, ◌≤◌}
+use Rattle.std.proofs.Common.{◌≡◌, ℕ, Bool, true, false, List, [], ◌∷◌, ◌++◌, Option, Result, Ok, Err, IfErr, ◌⊎◌, inl, inr, ⊎_elim, refl, sym, ap, ◌∙◌, subst, append-nil, append_assoc, length, arith, ◌≤◌}
 use Rattle.base_streams.specs.Told.{Told, ToldFront}
 use Rattle.base_streams.proofs.TellLemmas.{told_on}
 use Rattle.zmtp_wire.specs.declared.role.Role.{Role}
@@ -118,6 +118,15 @@ cause_stalls key shell iopub a b c refused ReadFailed w e f s = inr s
 cause_stalls key shell iopub a b c refused WriteFailed w e f s = inr (inr (w s))
 cause_stalls key shell iopub a b c refused (Wire (Stream cause)) w e f s = inr (inr s)
 cause_stalls key shell iopub a b c refused (Wire (Message cause)) w e f s = s
+
+-- the causes of a cell that was followed
+pub causes_followed : (result : Result Bool TermFault) (key : List ℕ) (shell : Reader) (before g1 g2 : Option (List ℕ)) (ended failed refused a b : Bool) (s : Subscriber)
+    → Waited key before g1 s → shell.ended ≡ false → shell.failed ≡ false
+    → IfErr result (λ fault. (before' : Option (List ℕ)) (passed : List (List (List ℕ))) → Holds before' g1 s passed 0 → Stalls key (reader before' g2 ended failed) refused fault)
+    → IfErr result (Causes key shell (reader before g2 ended failed) a b refused)
+causes_followed (Ok good) key shell before g1 g2 ended failed refused a b s w e f i = tt
+causes_followed (Err fault) key shell before g1 g2 ended failed refused a b s w e f i =
+    cause_stalls key shell (reader before g2 ended failed) a b refused refused fault (λ h. h) e f (i before w.passed w.holds)
 
 -- ---- how far
 

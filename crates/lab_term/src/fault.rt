@@ -3,39 +3,67 @@ ghost use Rattle.std.specs.Prelude.{◌≡◌};
 ghost use Rattle.lab_term.specs.Faults.{term_fault_of};
 
 use jup_wire::message::WireFault;
+use std::fmt;
 use thiserror::Error;
 use zmtp_peer::fault::PeerFault;
 use zmtp_wire::fault::StreamFault;
 
 /// What is wrong with what came.
-#[derive(Clone, Copy, PartialEq, Eq, Debug, Error)]
+#[derive(Clone, Copy, PartialEq, Eq, Error)]
 pub enum WireCause {
     /// A stream can't be read on.
-    #[error("{0}")]
     Stream(StreamFault),
     /// A message on iopub doesn't open under the key.
-    #[error("{0}")]
     Message(WireFault),
 }
 
+impl fmt::Display for WireCause {
+    fn fmt<W: fmt::Write>(&self, f: &mut fmt::Formatter<W>) -> fmt::Result {
+        match self {
+            WireCause::Stream(fault) => fmt::Display::fmt(fault, f),
+            WireCause::Message(fault) => fmt::Display::fmt(fault, f),
+        }
+    }
+}
+
+impl fmt::Debug for WireCause {
+    fn fmt<W: fmt::Write>(&self, f: &mut fmt::Formatter<W>) -> fmt::Result {
+        fmt::Display::fmt(self, f)
+    }
+}
+
 /// Why a cell wasn't run to its end.
-#[derive(Clone, Copy, PartialEq, Eq, Debug, Error)]
+#[derive(Clone, Copy, PartialEq, Eq, Error)]
 pub enum TermFault {
     /// The allocator gave no memory.
-    #[error("out of memory")]
     OutOfMemory,
     /// A reader came to its end.
-    #[error("the kernel ended the connection")]
     Ended,
     /// A reader failed, or gave more than a connection may have.
-    #[error("a read failed")]
     ReadFailed,
     /// A writer failed.
-    #[error("a write failed")]
     WriteFailed,
     /// What came isn't what a kernel sends.
-    #[error("{0}")]
     Wire(WireCause),
+}
+
+impl fmt::Display for TermFault {
+    fn fmt<W: fmt::Write>(&self, f: &mut fmt::Formatter<W>) -> fmt::Result {
+        let text = match self {
+            TermFault::OutOfMemory => "out of memory",
+            TermFault::Ended => "the kernel ended the connection",
+            TermFault::ReadFailed => "a read failed",
+            TermFault::WriteFailed => "a write failed",
+            TermFault::Wire(cause) => return fmt::Display::fmt(cause, f),
+        };
+        f.write_str(text)
+    }
+}
+
+impl fmt::Debug for TermFault {
+    fn fmt<W: fmt::Write>(&self, f: &mut fmt::Formatter<W>) -> fmt::Result {
+        fmt::Display::fmt(self, f)
+    }
 }
 
 /// The same fault of a conversation with a peer.

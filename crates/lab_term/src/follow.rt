@@ -3,7 +3,7 @@ ghost use Rattle.std.specs.Prelude.{◌≡◌, ◌||◌, ℕ, ◌+◌, List, [],
 ghost use Rattle.base_streams.specs.Told.{Told, ToldFront};
 ghost use Rattle.lab_term.specs.Causes.{Stalls};
 ghost use Rattle.lab_term.specs.Courses.{Passes, StopsAt, TakesOne, Takes, Cut};
-ghost use Rattle.lab_term.specs.Events.{notice_of, text_of};
+ghost use Rattle.lab_term.specs.Events.{notice_of, text_of, is_status};
 ghost use Rattle.lab_term.specs.Reading.{Holds, Waited};
 ghost use Rattle.lab_term.specs.Running.{Followed};
 ghost use Rattle.lab_term.specs.Stopping.{FollowedFront};
@@ -41,6 +41,15 @@ fn joined(before: Course, next: Course) -> Course
     }
 }
 
+// Whether a message that is needed no more tells a status.
+fn is_status(event: Event) -> bool
+    ensures { result ≡ is_status (notice_of event) }
+{
+    let is_status = event.is_status();
+    drop(event);
+    is_status
+}
+
 // Looks at the messages up to a status, and reports whether there was one.
 #[tactic(auto, using(crate::proofs::CourseLemmas::passing_first, crate::proofs::CourseLemmas::passing_on, crate::proofs::CourseLemmas::passes_status, crate::proofs::CourseLemmas::passes_all, crate::proofs::CourseLemmas::passing_cut))]
 fn pass_status(alloc: Global, queue: &mut VecDeque<Frames>, key: &[u8]) -> Result<bool, TermFault>
@@ -51,7 +60,7 @@ fn pass_status(alloc: Global, queue: &mut VecDeque<Frames>, key: &[u8]) -> Resul
     while let Some(frames) = queue.pop_front() {
         match open_event(alloc, frames, key) {
             Ok(event) => {
-                if event.is_status() {
+                if is_status(event) {
                     return Ok(true);
                 }
             }

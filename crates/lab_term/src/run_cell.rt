@@ -152,7 +152,7 @@ pub fn run_cell<I: Inlet + Drop, W: Outlet + Drop, O: Outlet>(
         (W.failed shell.new.to) (W.failed iopub.new.to) (O.failed output.new)) }
 {
     match greet(alloc, shell, Role::Dealer) {
-        Ok(_) => {}
+        Ok(peer) => drop(peer),
         Err(fault) => return Err(fault),
     }
     let peer = match greet(alloc, iopub, Role::Sub) {
@@ -161,7 +161,10 @@ pub fn run_cell<I: Inlet + Drop, W: Outlet + Drop, O: Outlet>(
     };
     match subscribe(alloc, &mut iopub.to) {
         Ok(()) => {}
-        Err(fault) => return Err(fault),
+        Err(fault) => {
+            drop(peer);
+            return Err(fault);
+        }
     }
     let mut subscriber = match subscriber_of(alloc, peer) {
         Ok(subscriber) => subscriber,

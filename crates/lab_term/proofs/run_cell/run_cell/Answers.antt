@@ -1,7 +1,7 @@
 use Rattle.std.proofs.Common.{refl}
 use Rattle.std.proofs.lemmas.Result.{IfOk-weaker, IfErr-weaker}
 use Rattle.lab_term.proofs.CourseLemmas.{ran_by}
-use Rattle.lab_term.proofs.StopLemmas.{reader, cause_iopub, cause_stalls, stopped_asking, stopped_after}
+use Rattle.lab_term.proofs.StopLemmas.{reader, cause_iopub, causes_followed, stopped_asking, stopped_after}
 use Rattle.lab_term.proofs.run_cell.run_cell.Goals as goal
 
 pub returns-in-Err-greet-clause-cause : goal.returns-in-Err-greet-clause-cause
@@ -39,6 +39,4 @@ pub returns-clause-cause : goal.returns-clause-cause
 returns-clause-cause g c =
     let holds = c.in-Ok-subscriber_of.ensures.holds _ _ 0 c.in-Ok-greet.ensures.heard in
     let w = c.in-Ok-await_status.ensures.waited _ holds in
-    IfErr-weaker c.follow.result _ _
-    (λ fault f. cause_stalls _ (reader _ _ _ _) (reader _ _ _ _) _ _ _ _ fault (λ h. h) c.in-Ok.ensures.good.0 c.in-Ok.ensures.good.1 (f _ w.passed w.holds))
-    c.follow.ensures.stalls
+    causes_followed c.follow.result _ _ _ _ _ _ _ _ _ _ c.await_status.new.subscriber w c.in-Ok.ensures.good.0 c.in-Ok.ensures.good.1 c.follow.ensures.stalls
