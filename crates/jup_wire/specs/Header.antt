@@ -1,5 +1,5 @@
--- The header of a message (Jupyter messaging 5.4, "Message header"). The members of an object stand in the order of their
--- keys' bytes.
+-- The header of a message (Jupyter messaging 5.4, "Message header"). The members of an object stand in the
+-- order of their keys' bytes.
 use Rattle.std.specs.Prelude.{ℕ, List, ◌++◌, codes, decimal}
 use Rattle.serde_json.specs.Data.{Data, string, object, member, no_members}
 

@@ -1,6 +1,7 @@
--- What each request is answered with, and what it makes of a kernel (Jupyter messaging, "Messages on the shell channel"
--- and the sections that follow it).
-use Rattle.std.specs.Prelude.{ℕ, nat_lt, nat_le, List, [], ◌∷◌, ◌++◌, length, Bool, true, false, ◌&&◌, Option, Some, None, option_to_list, Result, Ok, Err, codes, if◌then◌else◌}
+-- What each request is answered with, and what it makes of a kernel (Jupyter messaging, "Messages on the
+-- shell channel" and the sections that follow it).
+use Rattle.std.specs.Prelude.{ℕ, nat_lt, nat_le, List, [], ◌∷◌, ◌++◌, length, Bool, true, false, ◌&&◌, Option}
+use Rattle.std.specs.Prelude.{Some, None, option_to_list, Result, Ok, Err, codes, if◌then◌else◌}
 use Rattle.jup_wire.specs.declared.channel.Channel.TheVariants.{Iopub}
 use Rattle.asm_syntax.specs.declared.fault.FaultKind.{FaultKind}
 use Rattle.asm_syntax.specs.declared.fault.FaultKind.TheVariants.{Conditional}
@@ -64,7 +65,8 @@ completeness_of (Err (line, column, kind)) = completeness_by kind
 -- what is answered by one reply that neither asks the board nor changes anything
 abbrev pub plain_reply : ℕ → Ask → Option Content
 plain_reply count ask.KernelInfo = Some content.KernelInfoReply
-plain_reply count (ask.IsComplete code) = Some (content.IsCompleteReply (completeness_of (statements_of code)))
+plain_reply count (ask.IsComplete code) =
+    Some (content.IsCompleteReply (completeness_of (statements_of code)))
 plain_reply count (ask.Complete cursor_pos) = Some (content.CompleteReply cursor_pos)
 plain_reply count ask.Inspect = Some content.InspectReply
 plain_reply count ask.History = Some content.HistoryReply
@@ -139,7 +141,8 @@ shutting n r true moment s = posting Arrived moment
 -- ---- debug requests
 
 abbrev pub response_to : DapRequest → Outcome → Response
-response_to d outcome = record { request_seq = d.seq; command = spelled (name_of d.command); outcome = outcome }
+response_to d outcome =
+    record { request_seq = d.seq; command = spelled (name_of d.command); outcome = outcome }
 
 abbrev pub debug_reply : ℕ → Request → DapRequest → Outcome → Letter
 debug_reply n r d outcome = reply_to n r (content.DebugReply (response_to d outcome))
@@ -167,7 +170,8 @@ refusing n r d message moment s = posting Arrived moment
 abbrev pub answering : ℕ → Request → DapRequest → ℕ → Session → Result (Body × Board) EventFault → Turn
 answering n r d moment s (Ok (body, b)) = posting Arrived moment
     (around s.present r.header
-    (ended_by d.command s ++ debug_reply n r d (Success body) ∷ option_to_list (after_letter (event_after d.command) r s)))
+    (ended_by d.command s ++ debug_reply n r d (Success body)
+        ∷ option_to_list (after_letter (event_after d.command) r s)))
     (with_board b (work_by d.command s) s)
 answering n r d moment s (Err fault) = refusing n r d (refusal_name fault) moment s
 

@@ -1,5 +1,6 @@
 -- Joining, leaving, subscribing and fetching.
-use Rattle.std.specs.Prelude.{ℕ, ◌+◌, ◌==◌, nat_lt, List, [], ◌∷◌, length, Bool, true, false, ◌||◌, not, Option, Some, None, codes, if◌then◌else◌}
+use Rattle.std.specs.Prelude.{ℕ, ◌+◌, ◌==◌, nat_lt, List, [], ◌∷◌, length, Bool, true, false, ◌||◌, not}
+use Rattle.std.specs.Prelude.{Option, Some, None, codes, if◌then◌else◌}
 use Rattle.std.specs.List.{starts_with}
 use Rattle.lab_core.specs.declared.run_state.RunState.{RunState}
 use Rattle.jup_wire.specs.declared.channel.Channel.{Channel}
@@ -11,7 +12,8 @@ use Rattle.kern_post.specs.declared.post.Head.TheVariants.{Topic}
 use Rattle.kern_post.specs.declared.post.Letter.{Letter}
 use Rattle.kern_post.specs.Posts.{fetched as posts_to, first_kept, next_from}
 use Rattle.kern_peers.specs.declared.peer.Peer.{Peer}
-use Rattle.kern_peers.specs.Present.{Present, has_no_place, joined_by, peer_at, without, is_on, is_full, subscribed_by, cancelled}
+use Rattle.kern_peers.specs.Present.{Present, has_no_place, joined_by, peer_at, without, is_on, is_full}
+use Rattle.kern_peers.specs.Present.{subscribed_by, cancelled}
 use Rattle.kern_exec.specs.declared.execution.Execution.{Execution}
 use Rattle.kern_exec.specs.Boards.{is_run}
 use Rattle.kern_core.specs.declared.call.Reply.TheVariants as reply
@@ -23,7 +25,8 @@ use Rattle.kern_core.specs.Sessions.{Session, Turn, refused, quiet, posting}
 abbrev pub joined : Channel → List ℕ → Session → Turn
 joined channel identity s =
     if has_no_place channel identity s.present.peers then refused Full s else
-    quiet (reply.Joined (s.present.joined + 1) (length s.posts + 1)) (record s { present = joined_by channel identity s.present })
+    quiet (reply.Joined (s.present.joined + 1) (length s.posts + 1))
+        (record s { present = joined_by channel identity s.present })
 
 abbrev pub by_peer : Option Peer → Session → (Peer → Turn) → Turn
 by_peer None s f = refused NoConnection s
@@ -61,11 +64,13 @@ status_to n s = record {
 
 -- who subscribes to statuses is told how the kernel is
 abbrev pub first_status : ℕ → List ℕ → Session → List Letter
-first_status n prefix s = if starts_with (λ x y. x == y) (codes "status") prefix then status_to n s ∷ [] else []
+first_status n prefix s =
+    if starts_with (λ x y. x == y) (codes "status") prefix then status_to n s ∷ [] else []
 
 abbrev pub new_subscription : ℕ → List ℕ → ℕ → Session → Turn
 new_subscription n prefix moment s =
-    posting reply.Subscribed moment (first_status n prefix s) (record s { present = subscribed_by n prefix s.present })
+    posting reply.Subscribed moment (first_status n prefix s)
+        (record s { present = subscribed_by n prefix s.present })
 
 abbrev pub unsubscribed : ℕ → List ℕ → Session → Turn
 unsubscribed n prefix s = quiet reply.Subscribed (record s { present = cancelled n prefix s.present })

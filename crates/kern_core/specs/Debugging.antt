@@ -25,7 +25,8 @@ abbrev pub told_debug : DebugKit → Outcome → Option Letter → List Letter
 told_debug k outcome after = k.around.letters ++ (
     (record {
       envelope = k.envelope;
-      content = content.DebugReply (record { request_seq = k.request_seq; command = k.command; outcome = outcome });
+      content =
+          content.DebugReply (record { request_seq = k.request_seq; command = k.command; outcome = outcome });
     } ∷ option_to_list after) ++
     k.around.idle ∷ [])
 

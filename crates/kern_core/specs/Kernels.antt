@@ -3,7 +3,8 @@ use Rattle.std.specs.Prelude.{◌≡◌, ℕ, ◌*◌, ◌≤◌, Bool, true, fa
 use Rattle.kern_core.specs.declared.call.Call.{Call}
 use Rattle.kern_core.specs.declared.call.Reply.{Reply}
 use Rattle.kern_core.specs.declared.fault.KernFault.{KernFault}
-use Rattle.kern_core.specs.declared.fault.KernFault.TheVariants.{OutOfMemory, Full, Lagged, JournalFull, NoConnection}
+use Rattle.kern_core.specs.declared.fault.KernFault.TheVariants.{OutOfMemory, Full, Lagged, JournalFull}
+use Rattle.kern_core.specs.declared.fault.KernFault.TheVariants.{NoConnection}
 use Rattle.kern_core.specs.Turns.{session_after}
 use Rattle.kern_core.specs.Stands.{SessionState, StandsFor}
 

@@ -21,7 +21,8 @@ pub record Session : Type 0 where
 abbrev pub opened : Session
 opened = record { board = opening; present = nobody; work = nothing; posts = []; is_shut = false }
 
--- what a call gives: the reply, the kernel with its posts so far, and the letters that it posts at this moment
+-- what a call gives: the reply, the kernel with its posts so far, and the letters that it posts at this
+-- moment
 pub record Turn : Type 0 where
   pub answer : Result Reply KernFault
   pub session : Session

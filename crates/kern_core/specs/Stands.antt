@@ -27,14 +27,16 @@ pub record StandsFor (v : SessionState) (s : Session) : Type 0 where
   pub posts : Keeps s.posts v.store
   pub is_shut : v.is_shut ≡ s.is_shut
 
--- Whatever session the fields stood for, the answer is the turn's, and they stand for what it makes of the session. Out
--- of memory isn't in it.
+-- Whatever session the fields stood for, the answer is the turn's, and they stand for what it makes of the
+-- session. Out of memory isn't in it.
 abbrev pub Makes : (Session → Turn) → SessionState → Result Reply KernFault → SessionState → Type 0
 Makes f old answer new =
-    (s : Session) → StandsFor old s → answer ≢ Err OutOfMemory → (answer ≡ (f s).answer) × StandsFor new (after (f s))
+    (s : Session) → StandsFor old s → answer ≢ Err OutOfMemory
+        → (answer ≡ (f s).answer) × StandsFor new (after (f s))
 
 -- so where the run is in this state
-abbrev pub MakesWhere : RunState → (Session → Turn) → SessionState → Result Reply KernFault → SessionState → Type 0
+abbrev pub MakesWhere : RunState → (Session → Turn) → SessionState → Result Reply KernFault → SessionState
+    → Type 0
 MakesWhere run f old answer new =
     (s : Session) → StandsFor old s → s.board.run ≡ run → answer ≢ Err OutOfMemory
     → (answer ≡ (f s).answer) × StandsFor new (after (f s))

@@ -17,5 +17,7 @@ IsJoinAnswer (Err fault) = Unit {0}
 
 -- the call was refused so, or no turn was had
 pub data IsUnjoined (old : PassState Call) (call : Call) (new : PassState Call) : KernFault → Type 0 where
-  IsRefused : (fault : KernFault) → Turned seated_answer is_entry is_full old call (Err fault) new → IsUnjoined old call new fault
-  IsWorn : (fault : KernFault) → fault ≡ JournalFull → new ≡ record old { worn = true } → IsUnjoined old call new fault
+  IsRefused : (fault : KernFault) → Turned seated_answer is_entry is_full old call (Err fault) new
+      → IsUnjoined old call new fault
+  IsWorn : (fault : KernFault) → fault ≡ JournalFull → new ≡ record old { worn = true }
+      → IsUnjoined old call new fault

@@ -1,5 +1,6 @@
 -- What executions ask of the board.
-use Rattle.std.specs.Prelude.{◌≡◌, ℕ, List, Bool, true, false, Option, Some, None, Result, Ok, Err, if◌then◌else◌}
+use Rattle.std.specs.Prelude.{◌≡◌, ℕ, List, Bool, true, false, Option, Some, None, Result, Ok, Err}
+use Rattle.std.specs.Prelude.{if◌then◌else◌}
 use Rattle.lab_core.specs.declared.run_state.RunState.{RunState}
 use Rattle.lab_core.specs.declared.run_state.RunState.TheVariants.{NoRun, Running, Stopped}
 use Rattle.lab_core.specs.declared.event.Event.TheVariants.{Load}

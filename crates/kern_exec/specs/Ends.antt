@@ -1,5 +1,6 @@
 -- What an execution posts: when it is loaded, for each slice of its run, and when it ends.
-use Rattle.std.specs.Prelude.{ℕ, ◌==◌, List, [], ◌∷◌, ◌++◌, Bool, true, false, ◌&&◌, Option, Some, None, if◌then◌else◌}
+use Rattle.std.specs.Prelude.{ℕ, ◌==◌, List, [], ◌∷◌, ◌++◌, Bool, true, false, ◌&&◌, Option, Some, None}
+use Rattle.std.specs.Prelude.{if◌then◌else◌}
 use Rattle.std.specs.List.{filter_map, list_any}
 use Rattle.i80_exec.specs.declared.ports.PortOperation.{PortOperation}
 use Rattle.i80_exec.specs.declared.ports.PortOperation.TheVariants.{In, Out}
@@ -36,7 +37,8 @@ error_letters false who parent (Failed cause) = heard who parent (content.Error 
 abbrev pub end_letters : Present → Current → Ending → List Letter
 end_letters who c ending =
     error_letters c.execution.request.is_silent who c.execution.header ending ++
-    replied c.execution.connection c.execution.identities c.execution.header (content.ExecuteReply c.count ending) ∷
+    replied c.execution.connection c.execution.identities c.execution.header
+        (content.ExecuteReply c.count ending) ∷
     heard who c.execution.header (content.Status Idle) ∷ []
 
 -- ---- the beginning
@@ -80,7 +82,8 @@ input_request_to (Some n) c = replied n c.execution.identities c.execution.heade
 -- of the stdin connection that has the identity with which the requester joined, where the request allows it
 abbrev pub input_request_letters : Present → Current → Bool → List Letter
 input_request_letters who c asks =
-    if asks && c.execution.request.allows_stdin then input_request_to (stdin_of c.execution.identity who.peers) c else []
+    if asks && c.execution.request.allows_stdin
+        then input_request_to (stdin_of c.execution.identity who.peers) c else []
 
 abbrev pub reason_of : Stop → StopReason
 reason_of stop.Breakpoint = reason.Breakpoint
@@ -93,7 +96,8 @@ ending_of (end.Undefined opcode pc) = Failed (UndefinedOpcode opcode pc)
 abbrev pub outcome_letters : Present → Current → SliceOutcome → List Letter
 outcome_letters who c outcome.More = []
 outcome_letters who c outcome.Waiting = []
-outcome_letters who c (outcome.Stop s) = heard who c.execution.header (content.DebugEvent (Stopped (reason_of s))) ∷ []
+outcome_letters who c (outcome.Stop s) =
+    heard who c.execution.header (content.DebugEvent (Stopped (reason_of s))) ∷ []
 outcome_letters who c (outcome.End e) = end_letters who c (ending_of e)
 
 -- what a slice with this traffic posts that ended so

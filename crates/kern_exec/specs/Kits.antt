@@ -1,5 +1,6 @@
 -- Envelopes that are made before the board goes on, and the letters that they become.
-use Rattle.std.specs.Prelude.{◌≡◌, ◌≤◌, ℕ, List, [], ◌∷◌, ◌++◌, Bool, true, false, ◌&&◌, Option, Some, None, codes, vec_capacity, if◌then◌else◌}
+use Rattle.std.specs.Prelude.{◌≡◌, ◌≤◌, ℕ, List, [], ◌∷◌, ◌++◌, Bool, true, false, ◌&&◌, Option, Some, None}
+use Rattle.std.specs.Prelude.{codes, vec_capacity, if◌then◌else◌}
 use Rattle.std.specs.List.{filter_map, list_any}
 use Rattle.i80_exec.specs.declared.ports.PortOperation.{PortOperation}
 use Rattle.dap_answers.specs.declared.answer.Event.TheVariants.{Stopped}
@@ -68,7 +69,8 @@ to_stdin None c = None
 to_stdin (Some n) c = Some (addressed n c.execution.identities c.execution.header)
 
 abbrev pub asked_of : Present → Current → Option Envelope
-asked_of who c = if c.execution.request.allows_stdin then to_stdin (stdin_of c.execution.identity who.peers) c else None
+asked_of who c =
+    if c.execution.request.allows_stdin then to_stdin (stdin_of c.execution.identity who.peers) c else None
 
 abbrev pub asked_line : Option Envelope → Bool → List Letter
 asked_line None asks = []
@@ -77,7 +79,8 @@ asked_line (Some e) asks = if asks then record { envelope = e; content = content
 abbrev pub told_outcome : Envelope → EndKit → SliceOutcome → List Letter
 told_outcome e k outcome.More = []
 told_outcome e k outcome.Waiting = []
-told_outcome e k (outcome.Stop s) = record { envelope = e; content = content.DebugEvent (Stopped (reason_of s)) } ∷ []
+told_outcome e k (outcome.Stop s) =
+    record { envelope = e; content = content.DebugEvent (Stopped (reason_of s)) } ∷ []
 told_outcome e k (outcome.End end) = told_end k (ending_of end)
 
 -- all that a slice of an execution may post, with room for it

@@ -1,5 +1,5 @@
--- Letters: to whom they go, and what stands round them (Jupyter messaging, "Request-Reply" and "Messages on the IOPub
--- channel").
+-- Letters: to whom they go, and what stands round them (Jupyter messaging, "Request-Reply" and "Messages on
+-- the IOPub channel").
 use Rattle.std.specs.Prelude.{ℕ, List, [], ◌∷◌, ◌++◌}
 use Rattle.kern_peers.specs.Present.{Present, hearers}
 use Rattle.kern_post.specs.Topics.{topic_of}

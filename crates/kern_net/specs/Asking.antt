@@ -13,7 +13,8 @@ use Rattle.kern_core.specs.declared.call.Call.{Call}
 use Rattle.kern_core.specs.declared.call.Call.TheVariants.{Arrive, Subscribe}
 
 -- the call for a message that opens under the key
-pub record IsArrival (key : List ℕ) (channel : Channel) (connection : ℕ) (frames : List (List ℕ)) (call : Call)
+pub record IsArrival (key : List ℕ) (channel : Channel) (connection : ℕ) (frames : List (List ℕ))
+    (call : Call)
     : Type 0 where
   pub message : Message
   pub moment : ℕ
@@ -60,7 +61,8 @@ IsDropped key Stdin frames = IsUnopened key frames
 IsDropped key Iopub frames = IsNoSubscription frames
 
 -- one call for each message that asks for something, in order, and none for another
-pub data Asks (key : List ℕ) (channel : Channel) (connection : ℕ) : List (List (List ℕ)) → List Call → Type 0 where
+pub data Asks (key : List ℕ) (channel : Channel) (connection : ℕ) : List (List (List ℕ)) → List Call
+    → Type 0 where
   NoMore : Asks key channel connection [] []
   Asked : (frames : List (List ℕ)) (messages : List (List (List ℕ))) (call : Call) (calls : List Call)
       → IsAsked key channel connection frames call → Asks key channel connection messages calls

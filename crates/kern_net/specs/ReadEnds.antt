@@ -1,5 +1,6 @@
 -- Why reading from a connection ends.
-use Rattle.std.specs.Prelude.{◌≡◌, ◌≤◌, ◌⊎◌, ℕ, Bool, true, false, List, [], ◌∷◌, ◌++◌, length, Some, Result, Err}
+use Rattle.std.specs.Prelude.{◌≡◌, ◌≤◌, ◌⊎◌, ℕ, Bool, true, false, List, [], ◌∷◌, ◌++◌, length, Some, Result}
+use Rattle.std.specs.Prelude.{Err}
 use Rattle.lab_turn.specs.History.{PassState}
 use Rattle.zmtp_wire.specs.Stream.{SideState}
 use Rattle.kern_core.specs.declared.call.Call.{Call}
@@ -19,8 +20,10 @@ IsReaderCall (Leave connection) = ⊥
 IsReaderCall (Slice moment) = ⊥
 IsReaderCall (Fetch connection from) = ⊥
 
--- the last call in the history that the pass has seen is its own and comes after these, and this is the answer to it
-pub record LastAnswer (old : List Call) (pass : PassState Call) (answer : Result Reply KernFault) : Type 0 where
+-- the last call in the history that the pass has seen is its own and comes after these, and this is the
+-- answer to it
+pub record LastAnswer (old : List Call) (pass : PassState Call)
+    (answer : Result Reply KernFault) : Type 0 where
   pub before : List (ℕ × Call)
   pub call : Call
   pub earlier : List Call

@@ -32,21 +32,26 @@ pub data Denied (connection : ℕ) (old new : PassState Call) (from : ℕ) : Pum
       → TurnedBy old (Fetch connection from) (Err fault) new → Denied connection old new from e
 
 -- memory for the posts was wanting, or the writer failed
-pub data Cut (key session : List ℕ) (before after : Option (List ℕ)) (failed : Bool) (posts : List Post) : PumpEnd → Type 0 where
-  IsUnfit : (e : PumpEnd) → e ≡ end.OutOfMemory → after ≡ before → failed ≡ false → Cut key session before after failed posts e
+pub data Cut (key session : List ℕ) (before after : Option (List ℕ)) (failed : Bool)
+    (posts : List Post) : PumpEnd → Type 0 where
+  IsUnfit : (e : PumpEnd) → e ≡ end.OutOfMemory → after ≡ before → failed ≡ false
+      → Cut key session before after failed posts e
   IsFailed : (e : PumpEnd) → e ≡ end.WriteFailed → WroteFront key session before after posts → failed ≡ true
       → Cut key session before after failed posts e
 
 -- a Fetch was answered, and what it gave is written
-pub record Went (key session : List ℕ) (connection : ℕ) (old new : PassState Call) (before after : Option (List ℕ)) (from next : ℕ) (ended : Bool) : Type 0 where
+pub record Went (key session : List ℕ) (connection : ℕ) (old new : PassState Call)
+    (before after : Option (List ℕ)) (from next : ℕ) (ended : Bool) : Type 0 where
   pub posts : List Post
   pub turned : TurnedBy old (Fetch connection from) (Ok (reply.Fetched posts next ended)) new
   pub all : WroteAll key session before after posts
 
 -- or it went no further: it was denied, or what it gave isn't all written
-pub data Halted (key session : List ℕ) (connection : ℕ) (old new : PassState Call) (before after : Option (List ℕ)) (failed : Bool) (from : ℕ) : PumpEnd → Type 0 where
+pub data Halted (key session : List ℕ) (connection : ℕ) (old new : PassState Call)
+    (before after : Option (List ℕ)) (failed : Bool) (from : ℕ) : PumpEnd → Type 0 where
   IsDenied : (e : PumpEnd) → Denied connection old new from e → after ≡ before → failed ≡ false
       → Halted key session connection old new before after failed from e
   IsCut : (e : PumpEnd) (posts : List Post) (next : ℕ) (ended : Bool)
       → TurnedBy old (Fetch connection from) (Ok (reply.Fetched posts next ended)) new
-      → Cut key session before after failed posts e → Halted key session connection old new before after failed from e
+      → Cut key session before after failed posts e
+          → Halted key session connection old new before after failed from e

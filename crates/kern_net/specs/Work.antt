@@ -1,5 +1,6 @@
 -- What the worker did.
-use Rattle.std.specs.Prelude.{◌≡◌, ℕ, ◌+◌, ◌≤◌, ◌⊎◌, Bool, true, false, List, [], ◌∷◌, ◌++◌, length, All, Option, Some, None, Result, Ok, Err}
+use Rattle.std.specs.Prelude.{◌≡◌, ℕ, ◌+◌, ◌≤◌, ◌⊎◌, Bool, true, false, List, [], ◌∷◌, ◌++◌, length, All}
+use Rattle.std.specs.Prelude.{Option, Some, None, Result, Ok, Err}
 use Rattle.lab_turn.specs.History.{PassState}
 use Rattle.kern_core.specs.declared.call.Call.{Call}
 use Rattle.kern_core.specs.declared.call.Call.TheVariants.{Slice}
@@ -64,8 +65,8 @@ pub record SlicedShort (old new : List Call) (a b : Asked) (e : PumpEnd) : Type 
       ⊎ ((b.before_yes ≡ a.before_yes + length added + 1) × (is_short e ≡ true))
   pub idle : idles b ≤ idles a + length added
 
--- Ended comes where the gate has said no, once, or where it hasn't and a shutdown was seen; the others come as a turn said,
--- and the gate has not said no.
+-- Ended comes where the gate has said no, once, or where it hasn't and a shutdown was seen; the others come
+-- as a turn said, and the gate has not said no.
 abbrev pub WorkEnds : PassState Call → Asked → PumpEnd → Type 0
 WorkEnds pass asked end.Ended = (noes asked ≡ 1) ⊎ (IsOpen asked × SawShutdown pass)
 WorkEnds pass asked end.OutOfMemory = IsOpen asked

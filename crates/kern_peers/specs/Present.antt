@@ -1,5 +1,6 @@
 -- Who is connected, and what becomes of it.
-use Rattle.std.specs.Prelude.{ℕ, ◌+◌, ◌==◌, List, [], ◌∷◌, ◌++◌, map, length, Bool, true, false, ◌&&◌, ◌||◌, not, Option, None, option_map, nat_le, count_by, if◌then◌else◌}
+use Rattle.std.specs.Prelude.{ℕ, ◌+◌, ◌==◌, List, [], ◌∷◌, ◌++◌, map, length, Bool, true, false, ◌&&◌, ◌||◌}
+use Rattle.std.specs.Prelude.{not, Option, None, option_map, nat_le, count_by, if◌then◌else◌}
 use Rattle.std.specs.List.{filter, list_any, find, starts_with}
 use Rattle.std.specs.Str.{bytes_eq}
 use Rattle.jup_wire.specs.declared.channel.Channel.{Channel}
@@ -73,7 +74,8 @@ hearers topic peers = map (λ p. p.number) (filter (hears topic) peers)
 -- ---- who comes and goes
 
 abbrev pub new_peer : ℕ → Channel → List ℕ → Peer
-new_peer number channel identity = record { number = number; channel = channel; identity = identity; prefixes = [] }
+new_peer number channel identity =
+    record { number = number; channel = channel; identity = identity; prefixes = [] }
 
 abbrev pub joined_by : Channel → List ℕ → Present → Present
 joined_by channel identity s = record {

@@ -7,7 +7,8 @@ use Rattle.kern_serve.specs.declared.server.ServerEnd.TheVariants.{ShutDown, Jou
 use Rattle.kern_serve.specs.declared.fault.ServerFault.{ServerFault}
 use Rattle.kern_serve.specs.declared.fault.ServerFault.TheVariants.{OutOfMemory, System}
 
--- what the worker's end is for the server, by whether its gate has said no, as it does where the journal is full
+-- what the worker's end is for the server, by whether its gate has said no, as it does where the journal is
+-- full
 abbrev pub served : Bool → PumpEnd → Result ServerEnd ServerFault
 served false pump.Ended = Ok ShutDown
 served true pump.Ended = Ok JournalFull

@@ -1,5 +1,6 @@
 -- Breakpoints: lines of sources, and the addresses at which they are met.
-use Rattle.std.specs.Prelude.{◌≡◌, ℕ, ◌<◌, List, [], ◌∷◌, ◌++◌, Bool, false, ◌&&◌, ◌==◌, Option, Some, None, if◌then◌else◌}
+use Rattle.std.specs.Prelude.{◌≡◌, ℕ, ◌<◌, List, [], ◌∷◌, ◌++◌, Bool, false, ◌&&◌, ◌==◌, Option, Some, None}
+use Rattle.std.specs.Prelude.{if◌then◌else◌}
 use Rattle.std.specs.List.{list_any}
 use Rattle.lab_image.specs.declared.mapped.MappedAddress.{MappedAddress}
 use Rattle.lab_image.specs.declared.origin.Origin.{Origin}

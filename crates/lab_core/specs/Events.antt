@@ -1,5 +1,6 @@
 -- What each event answers, and what it makes of a board.
-use Rattle.std.specs.Prelude.{◌≡◌, ℕ, ◌≤◌, List, [], ◌∷◌, ◌++◌, length, map, Bool, true, false, ◌&&◌, Option, Some, None, Result, Ok, Err, is_some, nat_lt, nat_le, if◌then◌else◌}
+use Rattle.std.specs.Prelude.{◌≡◌, ℕ, ◌≤◌, List, [], ◌∷◌, ◌++◌, length, map, Bool, true, false, ◌&&◌, Option}
+use Rattle.std.specs.Prelude.{Some, None, Result, Ok, Err, is_some, nat_lt, nat_le, if◌then◌else◌}
 use Rattle.i80_exec.specs.State.{MachineState, with_pc, power_on, loaded as with_image}
 use Rattle.i80_devs.specs.Past.{Operation, Typed, Switches, Press, panel_after}
 use Rattle.asm_syntax.specs.declared.fault.AsmFault.TheVariants.{At}
@@ -21,7 +22,8 @@ use Rattle.lab_views.specs.Views.{shown}
 use Rattle.lab_core.specs.declared.event.Event.{Event}
 use Rattle.lab_core.specs.declared.event.Event.TheVariants as event
 use Rattle.lab_core.specs.declared.fault.EventFault.{EventFault}
-use Rattle.lab_core.specs.declared.fault.EventFault.TheVariants.{NotRunning, NotStopped, NotAttached, NoSource, Busy, Latched, Vector, Assembly}
+use Rattle.lab_core.specs.declared.fault.EventFault.TheVariants.{NotRunning, NotStopped, NotAttached}
+use Rattle.lab_core.specs.declared.fault.EventFault.TheVariants.{NoSource, Busy, Latched, Vector, Assembly}
 use Rattle.lab_core.specs.declared.event.StepRequest.{StepRequest}
 use Rattle.lab_core.specs.declared.answer.Breakpoint.{Breakpoint}
 use Rattle.lab_core.specs.declared.answer.SliceOutcome.{SliceOutcome}
@@ -229,27 +231,36 @@ SlicesRun Stopped n b reply new = Gives b (Err NotRunning) reply new
 
 -- On this board the event is answered so, and makes it that board.
 abbrev pub Applies : Board → Event → Result Answer EventFault → Board → Type 0
-Applies b (event.Load path text) reply new = Gives b (without_run b.run (loaded (record { path = path; text = text }) b)) reply new
-Applies b (event.Dump path text) reply new = Gives b (dumped (record { path = path; text = text }) b) reply new
-Applies b (event.Start address) reply new = Gives b (without_run b.run (Ok (answer.Started, started address b))) reply new
+Applies b (event.Load path text) reply new =
+    Gives b (without_run b.run (loaded (record { path = path; text = text }) b)) reply new
+Applies b (event.Dump path text) reply new =
+    Gives b (dumped (record { path = path; text = text }) b) reply new
+Applies b (event.Start address) reply new =
+    Gives b (without_run b.run (Ok (answer.Started, started address b))) reply new
 Applies b (event.Slice n) reply new = SlicesRun b.run n b reply new
-Applies b event.Pause reply new = Gives b (while_attached b.is_attached (while_running b.run (Ok (answer.Accepted, stopped b)))) reply new
-Applies b event.Resume reply new = Gives b (while_stopped b.run (Ok (answer.Accepted, going_on None b))) reply new
-Applies b (event.Step request) reply new = Gives b (while_stopped b.run (Ok (answer.Accepted, going_on (Some request) b))) reply new
+Applies b event.Pause reply new =
+    Gives b (while_attached b.is_attached (while_running b.run (Ok (answer.Accepted, stopped b)))) reply new
+Applies b event.Resume reply new =
+    Gives b (while_stopped b.run (Ok (answer.Accepted, going_on None b))) reply new
+Applies b (event.Step request) reply new =
+    Gives b (while_stopped b.run (Ok (answer.Accepted, going_on (Some request) b))) reply new
 Applies b event.Interrupt reply new = Gives b (with_run b.run (Ok (answer.Interrupted, ended b))) reply new
 Applies b event.Reset reply new = Gives b (Ok (answer.Reset, reset b)) reply new
 Applies b (event.SetBreakpoints path lines) reply new = Gives b (with_breakpoints path lines b) reply new
 Applies b event.Attach reply new = Gives b (Ok (answer.Accepted, attached b)) reply new
 Applies b event.Detach reply new = Gives b (Ok (answer.Accepted, detached b)) reply new
-Applies b (event.Typed bytes) reply new = Gives b (Ok (answer.Accepted, with_operation (Typed bytes) b)) reply new
-Applies b (event.Switches byte) reply new = Gives b (Ok (answer.Accepted, with_operation (Switches byte) b)) reply new
+Applies b (event.Typed bytes) reply new =
+    Gives b (Ok (answer.Accepted, with_operation (Typed bytes) b)) reply new
+Applies b (event.Switches byte) reply new =
+    Gives b (Ok (answer.Accepted, with_operation (Switches byte) b)) reply new
 Applies b (event.Press n) reply new = Gives b (pressed n b) reply new
 Applies b (event.Show view) reply new = Gives b (as_answer (shown view (parts_of b)) b) reply new
 
 -- the events are answered so, in turn
 abbrev pub Runs : Board → List Event → List (Result Answer EventFault) → Board → Type 0
 Runs b [] [] new = new ≡ b
-Runs b (event ∷ events) (reply ∷ replies) new = (mid : Board) × Applies b event reply mid × Runs mid events replies new
+Runs b (event ∷ events) (reply ∷ replies) new =
+    (mid : Board) × Applies b event reply mid × Runs mid events replies new
 Runs b [] (reply ∷ replies) new = ⊥
 Runs b (event ∷ events) [] new = ⊥
 

@@ -11,7 +11,9 @@ use Rattle.lab_core.specs.declared.answer.Answer.{Answer}
 use Rattle.lab_core.specs.declared.answer.Answer.TheVariants as answer
 use Rattle.lab_core.specs.Board.{Board}
 use Rattle.lab_core.specs.Slices.{reason, early_reason, after_steps, traffic_of, left_by}
-use Rattle.lab_core.specs.Events.{Given, without_run, with_run, while_running, while_stopped, while_attached, loaded, dumped, started, stopped, going_on, ended, reset, with_breakpoints, attached, detached, with_operation, pressed, parts_of, as_answer}
+use Rattle.lab_core.specs.Events.{Given, without_run, with_run, while_running, while_stopped, while_attached}
+use Rattle.lab_core.specs.Events.{loaded, dumped, started, stopped, going_on, ended, reset, with_breakpoints}
+use Rattle.lab_core.specs.Events.{attached, detached, with_operation, pressed, parts_of, as_answer}
 
 abbrev pub or_goes_on : Option SliceOutcome → ℕ → ℕ × SliceOutcome → ℕ × SliceOutcome
 or_goes_on (Some ending) k on = (k, ending)

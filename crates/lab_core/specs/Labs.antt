@@ -1,5 +1,6 @@
 -- Which boards a lab stands for.
-use Rattle.std.specs.Prelude.{◌≡◌, ◌≢◌, ◌≤◌, ℕ, List, [], ◌++◌, length, Bool, true, false, Option, None, IsSome, is_some, unwrap_or, Result, Ok, Err}
+use Rattle.std.specs.Prelude.{◌≡◌, ◌≢◌, ◌≤◌, ℕ, List, [], ◌++◌, length, Bool, true, false, Option, None}
+use Rattle.std.specs.Prelude.{IsSome, is_some, unwrap_or, Result, Ok, Err}
 use Rattle.std.specs.List.{filter}
 use Rattle.i80_exec.specs.State.{MachineState}
 use Rattle.i80_exec.specs.declared.ports.PortOperation.{PortOperation}
@@ -45,8 +46,10 @@ pub record LabState : Type 0 where
   pub is_gone : Bool
 
 -- What the lab follows while a Step isn't complete, where these are the run's steps up to it and those since:
--- how many of the frames that were live at its beginning are left, which was innermost, and whether that is gone.
-pub record Follows (older : ℕ) (frame : Option Frame) (gone : Bool) (before steps : List BoardStep) : Type 0 where
+-- how many of the frames that were live at its beginning are left, which was innermost, and whether that is
+-- gone.
+pub record Follows (older : ℕ) (frame : Option Frame) (gone : Bool)
+    (before steps : List BoardStep) : Type 0 where
   pub older_is : older ≡ length (filter (stays steps) (live before))
   pub innermost_is : frame ≡ innermost (live before)
   pub gone_is : gone ≡ is_gone (innermost (live before)) steps
@@ -81,7 +84,8 @@ Advances old new =
 
 -- it stands for the same board
 abbrev pub Keeps : LabState → LabState → Type 0
-Keeps old new = (b : Board) (traffic : List PortOperation) → StandsAmid old b traffic → StandsAmid new b traffic
+Keeps old new =
+    (b : Board) (traffic : List PortOperation) → StandsAmid old b traffic → StandsAmid new b traffic
 
 -- this is found of whatever board the lab stands for
 abbrev pub Finds : {A : Type 0} → (Board → A) → A → LabState → Type 0
@@ -112,10 +116,12 @@ amid lab machine context = record lab {
 
 -- the three above, of every lab that has these
 abbrev pub AdvancesIn : MachineState → Context → MachineState → Context → Type 0
-AdvancesIn machine context machine' context' = (lab : LabState) → Advances (amid lab machine context) (amid lab machine' context')
+AdvancesIn machine context machine' context' =
+    (lab : LabState) → Advances (amid lab machine context) (amid lab machine' context')
 
 abbrev pub KeepsIn : MachineState → Context → MachineState → Context → Type 0
-KeepsIn machine context machine' context' = (lab : LabState) → Keeps (amid lab machine context) (amid lab machine' context')
+KeepsIn machine context machine' context' =
+    (lab : LabState) → Keeps (amid lab machine context) (amid lab machine' context')
 
 abbrev pub FindsIn : {A : Type 0} → (Board → A) → A → MachineState → Context → Type 0
 FindsIn f found machine context = (lab : LabState) → Finds f found (amid lab machine context)
@@ -129,19 +135,22 @@ StandsFor lab b = StandsAmid lab b []
 -- Whatever board the old lab stands for, the new one stands for what the event makes of it.
 abbrev pub AppliesTo : LabState → Event → Result Answer EventFault → LabState → Type 0
 AppliesTo old event reply new =
-    (b : Board) → StandsFor old b → reply ≢ Err OutOfMemory → (b' : Board) × Applies b event reply b' × StandsFor new b'
+    (b : Board) → StandsFor old b → reply ≢ Err OutOfMemory
+        → (b' : Board) × Applies b event reply b' × StandsFor new b'
 
 -- the same of events in turn
 abbrev pub RunsOn : LabState → List Event → List (Result Answer EventFault) → LabState → Type 0
 RunsOn old events replies new =
     (b : Board) → StandsFor old b → (b' : Board) × Runs b events replies b' × StandsFor new b'
 
--- What a function gives of a board is answered, and the lab stands for the board that it gives, or where it refuses
--- for the one before.
-abbrev pub Did : {A : Type 0} → Board → Result (A × Board) EventFault → Result A EventFault → LabState → Type 0
+-- What a function gives of a board is answered, and the lab stands for the board that it gives, or where it
+-- refuses for the one before.
+abbrev pub Did : {A : Type 0} → Board → Result (A × Board) EventFault → Result A EventFault → LabState
+    → Type 0
 Did b (Ok (x, b')) result new = (result ≡ Ok x) × StandsFor new b'
 Did b (Err fault) result new = (result ≡ Err fault) × StandsFor new b
 
 -- so for whatever board the old lab stands for, but where memory was wanting
-abbrev pub Does : {A : Type 0} → (Board → Result (A × Board) EventFault) → LabState → Result A EventFault → LabState → Type 0
+abbrev pub Does : {A : Type 0} → (Board → Result (A × Board) EventFault) → LabState → Result A EventFault
+    → LabState → Type 0
 Does f old result new = (b : Board) → StandsFor old b → result ≢ Err OutOfMemory → Did b (f b) result new

@@ -11,7 +11,8 @@ use Rattle.lab_core.specs.Labs.{LabState, StandsFor}
 
 -- Only where the board doesn't refuse the event; of a Load, where the text's faults aren't known yet.
 abbrev pub Takes : Event → Board → Type 0
-Takes (event.Load path text) b = (b.run ≡ NoRun) × IsOk (place_of (record { path = path; text = text }) b.sources)
+Takes (event.Load path text) b =
+    (b.run ≡ NoRun) × IsOk (place_of (record { path = path; text = text }) b.sources)
 Takes (event.Dump path text) b = IsOk (place_of (record { path = path; text = text }) b.sources)
 Takes (event.SetBreakpoints path lines) b = IsSome (source_at b.sources path)
 Takes (event.Slice n) b = b.run ≡ Running

@@ -1,5 +1,6 @@
 -- Slices: how many steps a run makes at a time, and why it makes no more.
-use Rattle.std.specs.Prelude.{◌≡◌, ℕ, zero, suc, ◌<◌, ◌≤◌, List, [], ◌++◌, Bool, true, false, ◌&&◌, Option, Some, None, is_none, unwrap_or, if◌then◌else◌}
+use Rattle.std.specs.Prelude.{◌≡◌, ℕ, zero, suc, ◌<◌, ◌≤◌, List, [], ◌++◌, Bool, true, false, ◌&&◌, Option}
+use Rattle.std.specs.Prelude.{Some, None, is_none, unwrap_or, if◌then◌else◌}
 use Rattle.std.specs.List.{fold}
 use Rattle.std.specs.Option.{option_or}
 use Rattle.i80_rows.specs.Rows.{row, is_undefined}

@@ -1,5 +1,6 @@
 -- Where a debugger stops a run: at a breakpoint, and where a Step is complete.
-use Rattle.std.specs.Prelude.{ℕ, List, [], ◌∷◌, take, drop, reverse, slice_get, Bool, true, false, not, ◌&&◌, ◌||◌, Option, Some, None, is_none, unwrap_or, if◌then◌else◌}
+use Rattle.std.specs.Prelude.{ℕ, List, [], ◌∷◌, take, drop, reverse, slice_get, Bool, true, false, not, ◌&&◌}
+use Rattle.std.specs.Prelude.{◌||◌, Option, Some, None, is_none, unwrap_or, if◌then◌else◌}
 use Rattle.i80_exec.specs.declared.registers.Stepped.{Stepped}
 use Rattle.lab_frames.specs.declared.frame.Frame.{Frame}
 use Rattle.lab_frames.specs.Live.{BoardStep, ended_by, live, stays}
@@ -33,7 +34,8 @@ since b = drop (unwrap_or b.resumed 0) b.trace
 -- not before a step is made.
 abbrev pub meets_breakpoint : Board → Bool
 meets_breakpoint b =
-    b.is_attached && ((is_any (since b) || is_none b.resumed) && is_met b.breakpoints b.loads b.machine.regs.pc)
+    b.is_attached && ((is_any (since b) || is_none b.resumed)
+        && is_met b.breakpoints b.loads b.machine.regs.pc)
 
 abbrev pub at_breakpoint : Board → Option SliceOutcome
 at_breakpoint b = if meets_breakpoint b then Some (outcome.Stop stop.Breakpoint) else None

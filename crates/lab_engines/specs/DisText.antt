@@ -11,7 +11,8 @@ abbrev pub is_past_end : ℕ → List ℕ → Bool
 is_past_end origin bytes = nat_lt 65536 (origin + length bytes)
 
 abbrev pub listed_text : ℕ → List ℕ → List ℕ
-listed_text origin bytes = if (is_past_end origin bytes) then (line (codes "past end")) else (listing_of origin bytes)
+listed_text origin bytes =
+    if (is_past_end origin bytes) then (line (codes "past end")) else (listing_of origin bytes)
 
 abbrev pub listed_status : ℕ → List ℕ → Status
 listed_status origin bytes = if (is_past_end origin bytes) then Refused else Success

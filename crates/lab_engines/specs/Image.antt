@@ -1,5 +1,6 @@
 -- The image of a cell, bytes with their addresses in order of statements, as text.
-use Rattle.std.specs.Prelude.{ℕ, suc, zero, ◌+◌, ◌-◌, List, [], ◌∷◌, ◌++◌, length, take, replicate, Option, Some, None, slice_set, codes}
+use Rattle.std.specs.Prelude.{ℕ, suc, zero, ◌+◌, ◌-◌, List, [], ◌∷◌, ◌++◌, length, take, replicate, Option}
+use Rattle.std.specs.Prelude.{Some, None, slice_set, codes}
 use Rattle.base_text.specs.Hexadecimal.{upper_word}
 use Rattle.lab_io.specs.Report.{line}
 use Rattle.lab_run.specs.Printed.{field}

@@ -1,5 +1,6 @@
 -- The live frames of a run: which of its calls have not ended.
-use Rattle.std.specs.Prelude.{ℕ, List, [], ◌∷◌, ◌++◌, Option, Bool, true, false, not, ◌||◌, ◌&&◌, ◌==◌, nat_lt, nat_le}
+use Rattle.std.specs.Prelude.{ℕ, List, [], ◌∷◌, ◌++◌, Option, Bool, true, false, not, ◌||◌, ◌&&◌, ◌==◌}
+use Rattle.std.specs.Prelude.{nat_lt, nat_le}
 use Rattle.std.specs.List.{filter}
 use Rattle.i80_exec.specs.declared.registers.Stepped.{Stepped}
 use Rattle.i80_exec.specs.declared.registers.Stepped.TheVariants.{Done, Called, Returned, Halted, Undefined}
@@ -7,7 +8,8 @@ use Rattle.i80_exec.specs.declared.ports.PortOperation.{PortOperation}
 use Rattle.i80_exec.specs.State.{MachineState}
 use Rattle.lab_frames.specs.declared.frame.Frame.{Frame}
 
--- what was done to the machine: the machine before it, what was answered, the port operation, and the machine after it
+-- what was done to the machine: the machine before it, what was answered, the port operation, and the machine
+-- after it
 pub record Change : Type 0 where
   pub before : MachineState
   pub answer : Stepped

@@ -1,5 +1,6 @@
 -- Sorted spans of addresses that don't overlap.
-use Rattle.std.specs.Prelude.{ℕ, ◌+◌, ◌<◌, ◌≤◌, List, [], ◌∷◌, ◌++◌, length, slice_index_or, Bool, ◌&&◌, ◌==◌, nat_le, nat_lt, max, min, Option, Some, None, if◌then◌else◌}
+use Rattle.std.specs.Prelude.{ℕ, ◌+◌, ◌<◌, ◌≤◌, List, [], ◌∷◌, ◌++◌, length, slice_index_or, Bool, ◌&&◌, ◌==◌}
+use Rattle.std.specs.Prelude.{nat_le, nat_lt, max, min, Option, Some, None, if◌then◌else◌}
 use Rattle.std.specs.List.{flat_map}
 use Rattle.asm_build.specs.declared.built.Row.{Row}
 use Rattle.lab_image.specs.declared.origin.Origin.{Origin}
@@ -20,7 +21,8 @@ origin_at r address = record { source = r.source; line = r.line; is_first = addr
 -- the origin of an address
 abbrev pub origin_in : List Span → ℕ → Option Origin
 origin_in [] address = None
-origin_in (r ∷ rs) address = if (lies_in r address) then (Some (origin_at r address)) else (origin_in rs address)
+origin_in (r ∷ rs) address =
+    if (lies_in r address) then (Some (origin_at r address)) else (origin_in rs address)
 
 -- what is read after the last span
 abbrev pub no_span : Span

@@ -37,8 +37,8 @@ two_words word other =
     (if bytes_eq word (codes "kernel") then Some (kernel other) else
     (if bytes_eq word (codes "term") then Some (term other) else None))
 
--- what the words after the program's name ask for: `step`, `asm`, `dis` and an origin, or `kernel` or `term` and a
--- file; nothing else is known
+-- what the words after the program's name ask for: `step`, `asm`, `dis` and an origin, or `kernel` or `term`
+-- and a file; nothing else is known
 abbrev pub command_of : List (List ℕ) → Option Task
 command_of [] = None
 command_of (word ∷ []) = one_word word

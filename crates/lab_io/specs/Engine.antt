@@ -4,8 +4,8 @@ use Rattle.base_streams.specs.Told.{Told, ToldFront}
 use Rattle.lab_io.specs.declared.status.Status.{Status}
 use Rattle.lab_io.specs.declared.status.Status.TheVariants.{Success, Refused, Usage, OutOfMemory, Failed}
 
--- The status is the text's and all of the text was written; where it ran out of memory or a read or a write failed,
--- a front of it.
+-- The status is the text's and all of the text was written; where it ran out of memory or a read or a write
+-- failed, a front of it.
 abbrev pub Answers : Status → List ℕ → Status → Option (List ℕ) → Option (List ℕ) → Type 0
 Answers status text Success old new = (status ≡ Success) × Told old new text
 Answers status text Refused old new = (status ≡ Refused) × Told old new text
@@ -31,8 +31,8 @@ IfFailed Refused some none = none
 IfFailed Usage some none = none
 IfFailed OutOfMemory some none = none
 
--- the program exits with 0, with 1 for refused input, with 2 for a wrong command line, with 3 where it ran out
--- of memory and with 4 where a read or a write failed
+-- the program exits with 0, with 1 for refused input, with 2 for a wrong command line, with 3 where it ran
+-- out of memory and with 4 where a read or a write failed
 abbrev pub exit_status : Status → ℕ
 exit_status Success = 0
 exit_status Refused = 1

@@ -1,5 +1,6 @@
 -- What hexadecimal text on standard input means.
-use Rattle.std.specs.Prelude.{ℕ, ◌+◌, ◌*◌, ◌/◌, ◌%◌, List, [], ◌∷◌, Bool, not, ◌||◌, nat_lt, ◌==◌, is_some, unwrap_or, filter, map, length, if◌then◌else◌}
+use Rattle.std.specs.Prelude.{ℕ, ◌+◌, ◌*◌, ◌/◌, ◌%◌, List, [], ◌∷◌, Bool, not, ◌||◌, nat_lt, ◌==◌, is_some}
+use Rattle.std.specs.Prelude.{unwrap_or, filter, map, length, if◌then◌else◌}
 use Rattle.base_text.specs.Hexadecimal as hexadecimal
 use Rattle.std.specs.List.{list_all}
 

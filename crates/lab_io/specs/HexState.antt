@@ -1,8 +1,10 @@
 -- What is kept of hexadecimal text while it comes in.
-use Rattle.std.specs.Prelude.{◌≡◌, ℕ, ◌%◌, List, [], ◌∷◌, ◌++◌, Bool, true, false, not, if◌then◌else◌, ◌==◌, nat_lt, map, length, take}
+use Rattle.std.specs.Prelude.{◌≡◌, ℕ, ◌%◌, List, [], ◌∷◌, ◌++◌, Bool, true, false, not, if◌then◌else◌, ◌==◌}
+use Rattle.std.specs.Prelude.{nat_lt, map, length, take}
 use Rattle.std.specs.List.{list_all}
 use Rattle.std.specs.Prelude.{Result, Ok, Err}
-use Rattle.lab_io.specs.HexInput.{characters, is_hex_digit, digit_value, paired, Input, BadHex, PastEnd, Bytes}
+use Rattle.lab_io.specs.HexInput.{characters, is_hex_digit, digit_value, paired, Input, BadHex, PastEnd}
+use Rattle.lab_io.specs.HexInput.{Bytes}
 use Rattle.lab_io.specs.declared.hex_input.HexFault.{HexFault}
 use Rattle.lab_io.specs.declared.hex_input.HexFault.TheVariants as fault
 

@@ -1,5 +1,6 @@
 -- A computer: a machine with the past of its devices; and the run of a program from its load to its end.
-use Rattle.std.specs.Prelude.{ℕ, suc, zero, ◌+◌, List, [], ◌∷◌, ◌++◌, map, Bool, Option, Some, None, is_some, ◌==◌, if◌then◌else◌}
+use Rattle.std.specs.Prelude.{ℕ, suc, zero, ◌+◌, List, [], ◌∷◌, ◌++◌, map, Bool, Option, Some, None, is_some}
+use Rattle.std.specs.Prelude.{◌==◌, if◌then◌else◌}
 use Rattle.i80_rows.specs.Rows.{row, is_undefined}
 use Rattle.i80_exec.specs.declared.registers.Stepped.{Stepped}
 use Rattle.i80_exec.specs.declared.registers.Stepped.TheVariants as stepped
@@ -47,13 +48,14 @@ halted_in Off = ending.Halted
 halted_in Arming = ending.Waiting
 halted_in On = ending.Waiting
 
--- How a run whose last step answered so ends at this machine, if it does: after HLT, after as many steps as it may
--- have, or before an undefined opcode.
+-- How a run whose last step answered so ends at this machine, if it does: after HLT, after as many steps as
+-- it may have, or before an undefined opcode.
 abbrev pub end_of : Bool → Stepped → MachineState → Option Ending
 end_of is_last last m =
     if (is_halt last) then (Some (halted_in m.regs.interrupts)) else
     (if is_last then (Some ending.Limit) else
-    (if (is_undefined (row (byte_at m m.regs.pc))) then (Some (ending.Undefined (byte_at m m.regs.pc))) else None))
+    (if (is_undefined (row (byte_at m m.regs.pc))) then (Some (ending.Undefined (byte_at m m.regs.pc)))
+        else None))
 
 -- the same after k of at most limit steps
 unfoldable pub end_at : ℕ → Computer → ℕ → Option Ending

@@ -11,7 +11,8 @@ use Rattle.zmtp_peer.specs.declared.fault.PeerFault.TheVariants as peer
 use Rattle.zmtp_peer.specs.Ends.{Blames, NoPeer, most_bytes}
 use Rattle.zmtp_peer.specs.Hearing.{Heard}
 use Rattle.lab_term.specs.declared.fault.TermFault.{TermFault}
-use Rattle.lab_term.specs.declared.fault.TermFault.TheVariants.{OutOfMemory, Ended, ReadFailed, WriteFailed, Wire}
+use Rattle.lab_term.specs.declared.fault.TermFault.TheVariants.{OutOfMemory, Ended, ReadFailed, WriteFailed}
+use Rattle.lab_term.specs.declared.fault.TermFault.TheVariants.{Wire}
 use Rattle.lab_term.specs.declared.fault.WireCause.TheVariants.{Stream, Message}
 use Rattle.lab_term.specs.Events.{IsUnopened}
 use Rattle.lab_term.specs.Faults.{term_fault_of}
@@ -88,8 +89,8 @@ Stalls key r refused WriteFailed = refused ≡ true
 Stalls key r refused (Wire (Stream cause)) = Breaks r cause
 Stalls key r refused (Wire (Message cause)) = HearsUnopened key r cause
 
--- What each fault says of the readers of shell and iopub, of the writers of shell and iopub, and of the output:
--- whether each of those three has failed.
+-- What each fault says of the readers of shell and iopub, of the writers of shell and iopub, and of the
+-- output: whether each of those three has failed.
 abbrev pub Causes : List ℕ → Reader → Reader → Bool → Bool → Bool → TermFault → Type 0
 Causes key shell iopub asking subscribing printing OutOfMemory =
     (shell.ended ≡ false) × (shell.failed ≡ false) × (iopub.ended ≡ false) × (iopub.failed ≡ false)

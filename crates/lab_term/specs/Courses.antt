@@ -2,10 +2,12 @@
 use Rattle.std.specs.Prelude.{◌≡◌, ℕ, Bool, false, true, ◌&&◌, List, [], ◌∷◌, ◌++◌, Option}
 use Rattle.base_streams.specs.Told.{Told, ToldFront}
 use Rattle.lab_term.specs.declared.fault.TermFault.{TermFault}
-use Rattle.lab_term.specs.declared.fault.TermFault.TheVariants.{OutOfMemory, Ended, ReadFailed, WriteFailed, Wire}
+use Rattle.lab_term.specs.declared.fault.TermFault.TheVariants.{OutOfMemory, Ended, ReadFailed, WriteFailed}
+use Rattle.lab_term.specs.declared.fault.TermFault.TheVariants.{Wire}
 use Rattle.lab_term.specs.declared.fault.WireCause.TheVariants.{Stream, Message}
 use Rattle.lab_term.specs.declared.follow.Course.{Course}
-use Rattle.lab_term.specs.Events.{Notice, IsNotice, IsUnopened, AreNotices, is_of, is_error, is_status, shown, printed, has_error, ends}
+use Rattle.lab_term.specs.Events.{Notice, IsNotice, IsUnopened, AreNotices, is_of, is_error, is_status, shown}
+use Rattle.lab_term.specs.Events.{printed, has_error, ends}
 
 -- the last of these messages tells a status
 pub record EndsInStatus (notices : List Notice) : Type 0 where
@@ -54,7 +56,8 @@ pub record Takes (key header : List ℕ) (queue queue' : List (List (List ℕ)))
   pub all : course.is_idle ≡ false → queue' ≡ []
 
 -- messages were taken, a front of what is printed of them was printed, and then it stopped
-pub record Cut (key header : List ℕ) (queue : List (List (List ℕ))) (out out' : Option (List ℕ)) (refused : Bool)
+pub record Cut (key header : List ℕ) (queue : List (List (List ℕ))) (out out' : Option (List ℕ))
+    (refused : Bool)
     (fault : TermFault) : Type 0 where
   pub taken : List (List (List ℕ))
   pub others : List (List (List ℕ))
@@ -65,7 +68,8 @@ pub record Cut (key header : List ℕ) (queue : List (List (List ℕ))) (out out
   pub stops : StopsAt key others refused fault
 
 -- a message was taken, and printed if it is the request's
-pub record TakesOne (key header : List ℕ) (frames : List (List ℕ)) (out out' : Option (List ℕ)) (course : Course)
+pub record TakesOne (key header : List ℕ) (frames : List (List ℕ)) (out out' : Option (List ℕ))
+    (course : Course)
     : Type 0 where
   pub notice : Notice
   pub is : IsNotice key frames notice

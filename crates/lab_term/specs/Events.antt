@@ -1,6 +1,7 @@
 -- What the kernel tells on iopub, and what of it is printed (Jupyter messaging 5.4, "Messages on the IOPub
 -- (PUB/SUB) channel").
-use Rattle.std.specs.Prelude.{◌≡◌, ℕ, Bool, ◌&&◌, List, [], ◌∷◌, ◌++◌, codes, if◌then◌else◌, flat_map, unwrap_or}
+use Rattle.std.specs.Prelude.{◌≡◌, ℕ, Bool, ◌&&◌, List, [], ◌∷◌, ◌++◌, codes, if◌then◌else◌, flat_map}
+use Rattle.std.specs.Prelude.{unwrap_or}
 use Rattle.std.specs.List.{list_any}
 use Rattle.std.specs.Str.{bytes_eq}
 use Rattle.serde_json.specs.Data.{Data}
@@ -12,7 +13,8 @@ use Rattle.jup_wire.specs.Json.{text_at}
 use Rattle.jup_wire.specs.Wire.{IsMessage, IsRefused}
 use Rattle.lab_term.specs.declared.event.Event.{Event}
 use Rattle.lab_term.specs.declared.fault.TermFault.{TermFault}
-use Rattle.lab_term.specs.declared.fault.TermFault.TheVariants.{OutOfMemory, Ended, ReadFailed, WriteFailed, Wire}
+use Rattle.lab_term.specs.declared.fault.TermFault.TheVariants.{OutOfMemory, Ended, ReadFailed, WriteFailed}
+use Rattle.lab_term.specs.declared.fault.TermFault.TheVariants.{Wire}
 use Rattle.lab_term.specs.declared.fault.WireCause.TheVariants.{Stream, Message}
 
 -- a message on iopub: its type, the header of the request that it belongs to, its content
@@ -49,7 +51,8 @@ abbrev pub is_status : Notice → Bool
 is_status notice = bytes_eq notice.msg_type (codes "status")
 
 abbrev pub is_idle : Notice → Bool
-is_idle notice = is_status notice && bytes_eq (text_in (codes "execution_state") notice.content) (codes "idle")
+is_idle notice =
+    is_status notice && bytes_eq (text_in (codes "execution_state") notice.content) (codes "idle")
 
 abbrev pub is_error : Notice → Bool
 is_error notice = bytes_eq notice.msg_type (codes "error")
@@ -88,6 +91,7 @@ ends header notice = is_of header notice && is_idle notice
 -- each of these frames is the message beside it
 pub data AreNotices (key : List ℕ) : List (List (List ℕ)) → List Notice → Type 0 where
   NoNotice : AreNotices key [] []
-  NextNotice : (frames : List (List ℕ)) (others : List (List (List ℕ))) (notice : Notice) (messages : List Notice)
+  NextNotice : (frames : List (List ℕ)) (others : List (List (List ℕ))) (notice : Notice)
+      (messages : List Notice)
       → IsNotice key frames notice → AreNotices key others messages
       → AreNotices key (frames ∷ others) (notice ∷ messages)

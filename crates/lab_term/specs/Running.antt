@@ -44,8 +44,8 @@ pub record Asked (code key session : List ℕ) (moment : ℕ) (header : List ℕ
   pub request : IsRequest code key session moment header frames
   pub told : Told taken taken' (message_bytes frames)
 
--- The cell was run: the subscription and its request were sent, and nothing else; a status had come before the
--- request was; all that the kernel told of it was printed, up to its idle.
+-- The cell was run: the subscription and its request were sent, and nothing else; a status had come before
+-- the request was; all that the kernel told of it was printed, up to its idle.
 pub record Ran (code key session : List ℕ) (moment : ℕ) (asked asked' : Option (List ℕ))
     (subscribed subscribed' : Option (List ℕ)) (given given' : Option (List ℕ)) (out out' : Option (List ℕ))
     (good : Bool) : Type 0 where

@@ -8,7 +8,8 @@ use Rattle.zmtp_wire.specs.Writing.{message_bytes}
 use Rattle.zmtp_peer.specs.Hearing.{Heard}
 use Rattle.zmtp_peer.specs.Sending.{WroteFront, WroteWhole}
 use Rattle.lab_term.specs.declared.fault.TermFault.{TermFault}
-use Rattle.lab_term.specs.declared.fault.TermFault.TheVariants.{OutOfMemory, Ended, ReadFailed, WriteFailed, Wire}
+use Rattle.lab_term.specs.declared.fault.TermFault.TheVariants.{OutOfMemory, Ended, ReadFailed, WriteFailed}
+use Rattle.lab_term.specs.declared.fault.TermFault.TheVariants.{Wire}
 use Rattle.lab_term.specs.declared.fault.WireCause.TheVariants.{Stream, Message}
 use Rattle.lab_term.specs.Events.{Notice, AreNotices, printed}
 use Rattle.lab_term.specs.Courses.{EndsInStatus}
@@ -22,7 +23,8 @@ pub record SaidFront (taken taken' : Option (List ℕ)) (role : Role) (message :
   pub told : ToldFront between taken' (message_bytes message)
 
 -- a front of the cell's request was sent, or nothing where memory was wanting before there was one
-pub data AskedFront (code key session : List ℕ) (moment : ℕ) (taken taken' : Option (List ℕ)) (fault : TermFault)
+pub data AskedFront (code key session : List ℕ) (moment : ℕ) (taken taken' : Option (List ℕ))
+    (fault : TermFault)
     : Type 0 where
   NoRequest : fault ≡ OutOfMemory → taken' ≡ taken → AskedFront code key session moment taken taken' fault
   RequestFront : (header : List ℕ) (frames : List (List ℕ)) → IsRequest code key session moment header frames
@@ -49,10 +51,11 @@ EndsStream WriteFailed = ⊥
 EndsStream (Wire (Stream cause)) = Unit {0}
 EndsStream (Wire (Message cause)) = ⊥
 
--- After the messages that had passed others were taken, and a front of what is printed of them was printed: of all
--- of them, and whole, where the stream was at its end. All that the reader gave was heard, but where memory was
--- wanting.
-pub record FollowedFront (key header : List ℕ) (given given' : Option (List ℕ)) (passed : List (List (List ℕ)))
+-- After the messages that had passed others were taken, and a front of what is printed of them was printed:
+-- of all of them, and whole, where the stream was at its end. All that the reader gave was heard, but where
+-- memory was wanting.
+pub record FollowedFront (key header : List ℕ) (given given' : Option (List ℕ))
+    (passed : List (List (List ℕ)))
     (out out' : Option (List ℕ)) (fault : TermFault) : Type 0 where
   pub side : SideState
   pub messages : List (List (List ℕ))
@@ -69,7 +72,8 @@ pub record FollowedFront (key header : List ℕ) (given given' : Option (List �
   pub wrote : ToldFront out out' (printed header notices)
   pub whole : EndsStream fault → (others ≡ []) × Told out out' (printed header notices)
 
--- the subscription was sent, and after a status its request; a front was printed of what the kernel told of it
+-- the subscription was sent, and after a status its request; a front was printed of what the kernel told of
+-- it
 pub record RanFront (code key session : List ℕ) (moment : ℕ) (asked asked' : Option (List ℕ))
     (subscribed subscribed' : Option (List ℕ)) (given given' : Option (List ℕ)) (out out' : Option (List ℕ))
     (fault : TermFault) : Type 0 where
@@ -84,8 +88,8 @@ pub record RanFront (code key session : List ℕ) (moment : ℕ) (asked asked' :
   pub status : EndsInStatus earlier
   pub followed : FollowedFront key header given given' passed out out' fault
 
--- It stopped in the handshake of shell, in that of iopub, while it subscribed, while it waited for a status, while
--- it sent its request, or while it followed that.
+-- It stopped in the handshake of shell, in that of iopub, while it subscribed, while it waited for a status,
+-- while it sent its request, or while it followed that.
 pub data Stopped (code key session : List ℕ) (moment : ℕ) (asked asked' : Option (List ℕ))
     (subscribed subscribed' : Option (List ℕ)) (given given' : Option (List ℕ)) (out out' : Option (List ℕ))
     (fault : TermFault) : Type 0 where
@@ -93,7 +97,8 @@ pub data Stopped (code key session : List ℕ) (moment : ℕ) (asked asked' : Op
       → Stopped code key session moment asked asked' subscribed subscribed' given given' out out' fault
   AtIopub : WroteWhole asked asked' Dealer → WroteFront subscribed subscribed' Sub → out' ≡ out
       → Stopped code key session moment asked asked' subscribed subscribed' given given' out out' fault
-  AtSubscription : WroteWhole asked asked' Dealer → SaidFront subscribed subscribed' Sub subscription → out' ≡ out
+  AtSubscription : WroteWhole asked asked' Dealer → SaidFront subscribed subscribed' Sub subscription
+      → out' ≡ out
       → Stopped code key session moment asked asked' subscribed subscribed' given given' out out' fault
   AtStatus : WroteWhole asked asked' Dealer → Said subscribed subscribed' Sub subscription → out' ≡ out
       → Stopped code key session moment asked asked' subscribed subscribed' given given' out out' fault

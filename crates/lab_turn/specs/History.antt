@@ -1,5 +1,6 @@
 -- Histories of calls, and the turnstile and its passes as their users see them.
-use Rattle.std.specs.Prelude.{◌≡◌, ◌≢◌, ℕ, ◌<◌, ◌≤◌, ◌==◌, Bool, true, false, List, [], ◌∷◌, ◌++◌, map, length, All, EachIndex, slice_get, Some, ◌+◌}
+use Rattle.std.specs.Prelude.{◌≡◌, ◌≢◌, ℕ, ◌<◌, ◌≤◌, ◌==◌, Bool, true, false, List, [], ◌∷◌, ◌++◌, map}
+use Rattle.std.specs.Prelude.{length, All, EachIndex, slice_get, Some, ◌+◌}
 use Rattle.std.specs.List.{filter}
 use mathlib.Core.List.{IsPrefix}
 use Rattle.atomic_table.specs.Seated.{TableId}
@@ -19,7 +20,8 @@ pub record TurnstileState : Type 0 where
   pub seats : ℕ
   pub limit : ℕ
 
--- a pass: whose it is, its seat, the history that it has seen, its own calls, and whether it met the end of the tickets
+-- a pass: whose it is, its seat, the history that it has seen, its own calls, and whether it met the end of
+-- the tickets
 pub record PassState (C : Type 0) : Type 0 where
   pub turnstile : TurnstileState
   pub seat : ℕ
@@ -33,10 +35,12 @@ fresh_pass turnstile seat = record { turnstile = turnstile; seat = seat; seen = 
 
 -- the passes of the seats from this one on, with which no call was made
 abbrev pub FreshFrom : {C : Type 0} → ℕ → TurnstileState → List (PassState C) → Type 0
-FreshFrom first turnstile passes = EachIndex passes (λ k. slice_get passes k ≡ Some (fresh_pass turnstile (first + k)))
+FreshFrom first turnstile passes =
+    EachIndex passes (λ k. slice_get passes k ≡ Some (fresh_pass turnstile (first + k)))
 
 module _ {C Y : Type 0} (answer : List (ℕ × C) → C → Y) where
-  -- the call stands at the end of a history that goes on from all that was seen, and the reply is the right one there
+  -- the call stands at the end of a history that goes on from all that was seen, and the reply is the right
+  -- one there
   pub record Enters (old : PassState C) (call : C) (reply : Y) (new : PassState C) : Type 0 where
     pub before : List (ℕ × C)
     pub history : new.seen ≡ before ++ (old.seat, call) ∷ []
@@ -60,7 +64,8 @@ module _ {C Y : Type 0} (answer : List (ℕ × C) → C → Y) (is_entry is_full
     pub full : is_full reply ≡ true → (is_entry reply ≡ false) × (length new.seen ≡ new.turnstile.limit)
 
 -- the history in which all calls of these passes stand, and no others
-pub record IsHistoryOf {C : Type 0} (turnstile : TurnstileState) (passes : List (PassState C)) (history : List (ℕ × C)) : Type 0 where
+pub record IsHistoryOf {C : Type 0} (turnstile : TurnstileState) (passes : List (PassState C))
+    (history : List (ℕ × C)) : Type 0 where
   pub legal : IsLegal turnstile.seats turnstile.limit history
   pub seen : All (λ (p : PassState C). IsPrefix p.seen history) passes
   pub own : All (λ (p : PassState C). calls_of p.seat history ≡ p.calls) passes

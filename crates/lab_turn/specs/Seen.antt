@@ -10,17 +10,20 @@ use Rattle.lab_turn.specs.Tickets.{last_ticket}
 
 -- what is left in place of a pass that another took in
 abbrev pub spent_view : {C : Type 0} → View C
-spent_view = record { seat = 0; seats = 0; limit = 0; makes = false; made = 0; seen = []; calls = []; ticket = None; found = None; worn = false; spent = true; kept = [] }
+spent_view = record { seat = 0; seats = 0; limit = 0; makes = false; made = 0; seen = []; calls = [];
+    ticket = None; found = None; worn = false; spent = true; kept = [] }
 
 -- of a spent pass that another keeps: it was another seat, it saw the history, and its calls stand there
-pub record Keeps {C : Type 0} (log : List (ℕ × C)) (views : List (View C)) (keeper : ℕ) (w : Left C) : Type 0 where
+pub record Keeps {C : Type 0} (log : List (ℕ × C)) (views : List (View C)) (keeper : ℕ)
+    (w : Left C) : Type 0 where
   pub other : w.seat ≢ keeper
   pub seen : IsPrefix w.seen log
   pub calls : calls_of w.seat log ≡ w.calls
   pub gone : get_elem? views w.seat ≡ some spent_view
 
 -- the view v at place j
-pub record Knows {C : Type 0} (seats limit tickets : ℕ) (log : List (ℕ × C)) (views : List (View C)) (j : ℕ) (v : View C) : Type 0 where
+pub record Knows {C : Type 0} (seats limit tickets : ℕ) (log : List (ℕ × C)) (views : List (View C)) (j : ℕ)
+    (v : View C) : Type 0 where
   pub seat : v.seat ≡ j
   pub same_seats : v.seats ≡ seats
   pub same_limit : v.limit ≡ limit
@@ -29,10 +32,13 @@ pub record Knows {C : Type 0} (seats limit tickets : ℕ) (log : List (ℕ × C)
   pub worn : v.worn ≡ true → tickets ≡ last_ticket
   pub made : v.makes ≡ true → (j ≡ 0) × (v.made ≡ length views)
   pub kept : (i : ℕ) (w : Left C) → get_elem? v.kept i ≡ some w → Keeps log views j w
-  pub once : (i i' : ℕ) (w w' : Left C) → get_elem? v.kept i ≡ some w → get_elem? v.kept i' ≡ some w' → w.seat ≡ w'.seat → i ≡ i'
+  pub once : (i i' : ℕ) (w w' : Left C) → get_elem? v.kept i ≡ some w → get_elem? v.kept i' ≡ some w'
+      → w.seat ≡ w'.seat → i ≡ i'
 
-pub record HistoryRule {C : Type 0} (seats limit tickets : ℕ) (log : List (ℕ × C)) (views : List (View C)) : Type 0 where
-  pub knows : (j : ℕ) (v : View C) → get_elem? views j ≡ some v → v.spent ≡ false → Knows seats limit tickets log views j v
+pub record HistoryRule {C : Type 0} (seats limit tickets : ℕ) (log : List (ℕ × C))
+    (views : List (View C)) : Type 0 where
+  pub knows : (j : ℕ) (v : View C) → get_elem? views j ≡ some v → v.spent ≡ false
+      → Knows seats limit tickets log views j v
   pub legal : length log ≤ limit
   pub strangers : (k : ℕ) → length views ≤ k → calls_of k log ≡ []
   pub few : length views ≤ seats

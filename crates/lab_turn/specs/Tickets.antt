@@ -13,7 +13,8 @@ last_ticket = 18446744073709551615
 abbrev pub waits : {C : Type 0} → View C → Bool
 waits v = is_some v.ticket
 
--- a ticket is at least the one that is served and below those to be drawn; who has the value out has the served one
+-- a ticket is at least the one that is served and below those to be drawn; who has the value out has the
+-- served one
 pub record Queues {C : Type 0} (tickets serving : ℕ) (log : List (ℕ × C)) (v : View C) : Type 0 where
   pub turn : (t : ℕ) → v.ticket ≡ Some t → (serving ≤ t) × (t < tickets)
   pub out : (l : List (ℕ × C)) → v.found ≡ Some l → (v.ticket ≡ Some serving) × (l ≡ log)
@@ -36,10 +37,12 @@ module _ {J C : Type 0} (entries : J → List (ℕ × C)) (limit_of : J → ℕ)
     pub found : view.found ≡ Some log
     pub ticket : view.ticket ≡ Some serving
 
-  pub record TicketRule (limit tickets serving : ℕ) (log : List (ℕ × C)) (s : State (Option J) (View C)) : Type 0 where
+  pub record TicketRule (limit tickets serving : ℕ) (log : List (ℕ × C))
+      (s : State (Option J) (View C)) : Type 0 where
     pub words : s.words ≡ tickets ∷ serving ∷ []
     pub fits : tickets ≤ last_ticket
     pub counted : count_by waits s.views + serving ≡ tickets
     pub queue : (j : ℕ) (v : View C) → get_elem? s.views j ≡ some v → Queues tickets serving log v
-    pub apart : (i j : ℕ) (v w : View C) (t : ℕ) → get_elem? s.views i ≡ some v → get_elem? s.views j ≡ some w → v.ticket ≡ Some t → w.ticket ≡ Some t → i ≡ j
+    pub apart : (i j : ℕ) (v w : View C) (t : ℕ) → get_elem? s.views i ≡ some v → get_elem? s.views j ≡ some w
+        → v.ticket ≡ Some t → w.ticket ≡ Some t → i ≡ j
     pub slot : AtHome limit log s ⊎ Away serving log s

@@ -1,6 +1,7 @@
--- The rule of the table: word 0 is the number of tickets that were drawn, word 1 the ticket that is served, and the one slot holds the value.
--- Below it what each step shows.
-use Rattle.std.specs.Prelude.{◌≡◌, ◌≢◌, ℕ, ◌+◌, ◌<◌, ◌≤◌, true, false, List, [], ◌∷◌, ◌++◌, map, length, Option, Some, None}
+-- The rule of the table: word 0 is the number of tickets that were drawn, word 1 the ticket that is served,
+-- and the one slot holds the value. Below it what each step shows.
+use Rattle.std.specs.Prelude.{◌≡◌, ◌≢◌, ℕ, ◌+◌, ◌<◌, ◌≤◌, true, false, List, [], ◌∷◌, ◌++◌, map, length}
+use Rattle.std.specs.Prelude.{Option, Some, None}
 use mathlib.Core.List.{IsPrefix}
 use Rattle.atomic_table.specs.Table.{State, Me, Step}
 use Rattle.atomic_table.specs.Seated.{TableId}
@@ -13,7 +14,8 @@ use Rattle.lab_turn.specs.Seen.{HistoryRule}
 
 -- the pass that makes the others, when so many are made
 abbrev pub maker_at : {C : Type 0} → ℕ → ℕ → ℕ → View C
-maker_at seats limit made = record { seat = 0; seats = seats; limit = limit; makes = true; made = made; seen = []; calls = []; ticket = None; found = None; worn = false; spent = false; kept = [] }
+maker_at seats limit made = record { seat = 0; seats = seats; limit = limit; makes = true; made = made;
+    seen = []; calls = []; ticket = None; found = None; worn = false; spent = false; kept = [] }
 
 abbrev pub first_view : {C : Type 0} → ℕ → ℕ → View C
 first_view seats limit = maker_at seats limit 1
@@ -71,7 +73,8 @@ abbrev pub maker_after : {C : Type 0} → View C → View C
 maker_after v = record v { made = v.made + 1 }
 
 abbrev pub new_pass : {C : Type 0} → View C → View C
-new_pass v = record { seat = v.made; seats = v.seats; limit = v.limit; makes = false; made = 0; seen = v.seen; calls = []; ticket = None; found = None; worn = false; spent = false; kept = [] }
+new_pass v = record { seat = v.made; seats = v.seats; limit = v.limit; makes = false; made = 0; seen = v.seen;
+    calls = []; ticket = None; found = None; worn = false; spent = false; kept = [] }
 
 -- a pass takes in another, and keeps its seat, what it has seen, and its calls
 abbrev pub taker : {C : Type 0} → View C → View C → View C
@@ -79,7 +82,8 @@ taker v w = record v { kept = record { seat = w.seat; seen = w.seen; calls = w.c
 
 -- the pass that a view of this table is
 abbrev pub pass_of : {C : Type 0} → TableId → View C → PassState C
-pass_of table v = record { turnstile = record { table = table; seats = v.seats; limit = v.limit }; seat = v.seat; seen = v.seen; calls = v.calls; worn = v.worn }
+pass_of table v = record { turnstile = record { table = table; seats = v.seats; limit = v.limit };
+    seat = v.seat; seen = v.seen; calls = v.calls; worn = v.worn }
 
 module _ {J C : Type 0} where
   -- no call is under way: no ticket, nothing out, and no other pass was taken in
@@ -104,4 +108,5 @@ pub record Gathered {C : Type 0} (all rest : List (PassState C)) (before after :
   pub taken : List (PassState C)
   pub split : all ≡ rest ++ taken
   pub kept : after.kept ≡ map left_of taken
-  pub same : (after.seat ≡ before.seat) × (after.seen ≡ before.seen) × (after.calls ≡ before.calls) × (after.ticket ≡ None) × (after.found ≡ None) × (after.spent ≡ false)
+  pub same : (after.seat ≡ before.seat) × (after.seen ≡ before.seen) × (after.calls ≡ before.calls)
+      × (after.ticket ≡ None) × (after.found ≡ None) × (after.spent ≡ false)

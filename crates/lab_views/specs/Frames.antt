@@ -1,5 +1,6 @@
 -- The frames of a stopped run, innermost first.
-use Rattle.std.specs.Prelude.{ℕ, ◌+◌, List, [], ◌∷◌, ◌++◌, length, reverse, Bool, true, false, ◌&&◌, ◌==◌, Option, Some, None, option_map, unwrap_or, slice_get, codes}
+use Rattle.std.specs.Prelude.{ℕ, ◌+◌, List, [], ◌∷◌, ◌++◌, length, reverse, Bool, true, false, ◌&&◌, ◌==◌}
+use Rattle.std.specs.Prelude.{Option, Some, None, option_map, unwrap_or, slice_get, codes}
 use Rattle.std.specs.List.{find}
 use Rattle.base_text.specs.Hexadecimal.{upper_word}
 use Rattle.asm_build.specs.declared.symbols.Symbol.{Symbol}

@@ -5,7 +5,8 @@ use Rattle.zmtp_wire.specs.declared.head.Stage.TheVariants.{Traffic}
 use Rattle.zmtp_wire.specs.Stream.{SideState, StandsFor}
 use Rattle.base_streams.specs.Told.{Told}
 use Rattle.zmtp_peer.specs.declared.fault.PeerFault.{PeerFault}
-use Rattle.zmtp_peer.specs.declared.fault.PeerFault.TheVariants.{OutOfMemory, PeerEnded, ReadFailed, WriteFailed, Wire}
+use Rattle.zmtp_peer.specs.declared.fault.PeerFault.TheVariants.{OutOfMemory, PeerEnded, ReadFailed}
+use Rattle.zmtp_peer.specs.declared.fault.PeerFault.TheVariants.{WriteFailed, Wire}
 
 -- what each fault says of whether the reader ended, whether it failed, and whether the writer failed
 abbrev pub Blames : PeerFault → Bool → Bool → Bool → Type 0
