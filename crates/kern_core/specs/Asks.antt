@@ -171,7 +171,7 @@ abbrev pub answering : ℕ → Request → DapRequest → ℕ → Session → Re
 answering n r d moment s (Ok (body, b)) = posting Arrived moment
     (around s.present r.header
     (ended_by d.command s ++ debug_reply n r d (Success body)
-        ∷ option_to_list (after_letter (event_after d.command) r s)))
+    ∷ option_to_list (after_letter (event_after d.command) r s)))
     (with_board b (work_by d.command s) s)
 answering n r d moment s (Err fault) = refusing n r d (refusal_name fault) moment s
 

@@ -26,7 +26,7 @@ abbrev pub joined : Channel → List ℕ → Session → Turn
 joined channel identity s =
     if has_no_place channel identity s.present.peers then refused Full s else
     quiet (reply.Joined (s.present.joined + 1) (length s.posts + 1))
-        (record s { present = joined_by channel identity s.present })
+    (record s { present = joined_by channel identity s.present })
 
 abbrev pub by_peer : Option Peer → Session → (Peer → Turn) → Turn
 by_peer None s f = refused NoConnection s
@@ -70,7 +70,7 @@ first_status n prefix s =
 abbrev pub new_subscription : ℕ → List ℕ → ℕ → Session → Turn
 new_subscription n prefix moment s =
     posting reply.Subscribed moment (first_status n prefix s)
-        (record s { present = subscribed_by n prefix s.present })
+    (record s { present = subscribed_by n prefix s.present })
 
 abbrev pub unsubscribed : ℕ → List ℕ → Session → Turn
 unsubscribed n prefix s = quiet reply.Subscribed (record s { present = cancelled n prefix s.present })

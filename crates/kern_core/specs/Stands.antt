@@ -32,7 +32,7 @@ pub record StandsFor (v : SessionState) (s : Session) : Type 0 where
 abbrev pub Makes : (Session → Turn) → SessionState → Result Reply KernFault → SessionState → Type 0
 Makes f old answer new =
     (s : Session) → StandsFor old s → answer ≢ Err OutOfMemory
-        → (answer ≡ (f s).answer) × StandsFor new (after (f s))
+    → (answer ≡ (f s).answer) × StandsFor new (after (f s))
 
 -- so where the run is in this state
 abbrev pub MakesWhere : RunState → (Session → Turn) → SessionState → Result Reply KernFault → SessionState

@@ -38,7 +38,7 @@ abbrev pub end_letters : Present → Current → Ending → List Letter
 end_letters who c ending =
     error_letters c.execution.request.is_silent who c.execution.header ending ++
     replied c.execution.connection c.execution.identities c.execution.header
-        (content.ExecuteReply c.count ending) ∷
+    (content.ExecuteReply c.count ending) ∷
     heard who c.execution.header (content.Status Idle) ∷ []
 
 -- ---- the beginning
@@ -83,7 +83,7 @@ input_request_to (Some n) c = replied n c.execution.identities c.execution.heade
 abbrev pub input_request_letters : Present → Current → Bool → List Letter
 input_request_letters who c asks =
     if asks && c.execution.request.allows_stdin
-        then input_request_to (stdin_of c.execution.identity who.peers) c else []
+    then input_request_to (stdin_of c.execution.identity who.peers) c else []
 
 abbrev pub reason_of : Stop → StopReason
 reason_of stop.Breakpoint = reason.Breakpoint

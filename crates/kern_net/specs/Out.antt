@@ -76,7 +76,7 @@ pub record WroteOut (key session : List ℕ) (connection : ℕ) (before after : 
 abbrev pub SawEnd : ℕ → PassState Call → Type 0
 SawEnd connection pass =
     (from : ℕ) × (posts : List Post) × LastCall pass (Fetch connection from)
-        (Ok (reply.Fetched posts from true))
+    (Ok (reply.Fetched posts from true))
 
 -- the last Fetch was refused so
 abbrev pub IsRefused : ℕ → PassState Call → KernFault → Type 0

@@ -54,4 +54,4 @@ pub data Halted (key session : List ℕ) (connection : ℕ) (old new : PassState
   IsCut : (e : PumpEnd) (posts : List Post) (next : ℕ) (ended : Bool)
       → TurnedBy old (Fetch connection from) (Ok (reply.Fetched posts next ended)) new
       → Cut key session before after failed posts e
-          → Halted key session connection old new before after failed from e
+      → Halted key session connection old new before after failed from e

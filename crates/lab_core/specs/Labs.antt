@@ -136,7 +136,7 @@ StandsFor lab b = StandsAmid lab b []
 abbrev pub AppliesTo : LabState → Event → Result Answer EventFault → LabState → Type 0
 AppliesTo old event reply new =
     (b : Board) → StandsFor old b → reply ≢ Err OutOfMemory
-        → (b' : Board) × Applies b event reply b' × StandsFor new b'
+    → (b' : Board) × Applies b event reply b' × StandsFor new b'
 
 -- the same of events in turn
 abbrev pub RunsOn : LabState → List Event → List (Result Answer EventFault) → LabState → Type 0

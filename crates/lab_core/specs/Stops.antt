@@ -35,7 +35,7 @@ since b = drop (unwrap_or b.resumed 0) b.trace
 abbrev pub meets_breakpoint : Board → Bool
 meets_breakpoint b =
     b.is_attached && ((is_any (since b) || is_none b.resumed)
-        && is_met b.breakpoints b.loads b.machine.regs.pc)
+    && is_met b.breakpoints b.loads b.machine.regs.pc)
 
 abbrev pub at_breakpoint : Board → Option SliceOutcome
 at_breakpoint b = if meets_breakpoint b then Some (outcome.Stop stop.Breakpoint) else None

@@ -21,13 +21,13 @@ pub record IsStep (step : BoardStep) (answer : Stepped) (site sp : ℕ) : Type 0
 abbrev pub Advances : Stepped → ℕ → ℕ → List Frame → List Frame → Type 0
 Advances answer site sp old new =
     (trace : List BoardStep) (step : BoardStep) → IsStep step answer site sp → old ≡ live trace
-        → new ≡ live (trace ++ step ∷ [])
+    → new ≡ live (trace ++ step ∷ [])
 
 -- however the old frames are cut in two, so many of the older ones are left where this many are of all
 abbrev pub LeavesOldest : Stepped → ℕ → List Frame → ℕ → Type 0
 LeavesOldest answer sp old left =
     (older newer : List Frame) → old ≡ older ++ newer
-        → length (survivors answer sp older) ≡ min (length older) left
+    → length (survivors answer sp older) ≡ min (length older) left
 
 -- the slots fall strictly, from below a bound
 abbrev pub Falls : ℕ → List Frame → Type 0

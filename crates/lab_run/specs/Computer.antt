@@ -55,7 +55,7 @@ end_of is_last last m =
     if (is_halt last) then (Some (halted_in m.regs.interrupts)) else
     (if is_last then (Some ending.Limit) else
     (if (is_undefined (row (byte_at m m.regs.pc))) then (Some (ending.Undefined (byte_at m m.regs.pc)))
-        else None))
+    else None))
 
 -- the same after k of at most limit steps
 unfoldable pub end_at : ℕ → Computer → ℕ → Option Ending

@@ -10,8 +10,20 @@ use Rattle.lab_turn.specs.Tickets.{last_ticket}
 
 -- what is left in place of a pass that another took in
 abbrev pub spent_view : {C : Type 0} → View C
-spent_view = record { seat = 0; seats = 0; limit = 0; makes = false; made = 0; seen = []; calls = [];
-    ticket = None; found = None; worn = false; spent = true; kept = [] }
+spent_view = record {
+  seat = 0;
+  seats = 0;
+  limit = 0;
+  makes = false;
+  made = 0;
+  seen = [];
+  calls = [];
+  ticket = None;
+  found = None;
+  worn = false;
+  spent = true;
+  kept = [];
+}
 
 -- of a spent pass that another keeps: it was another seat, it saw the history, and its calls stand there
 pub record Keeps {C : Type 0} (log : List (ℕ × C)) (views : List (View C)) (keeper : ℕ)

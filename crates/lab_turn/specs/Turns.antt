@@ -14,8 +14,20 @@ use Rattle.lab_turn.specs.Seen.{HistoryRule}
 
 -- the pass that makes the others, when so many are made
 abbrev pub maker_at : {C : Type 0} → ℕ → ℕ → ℕ → View C
-maker_at seats limit made = record { seat = 0; seats = seats; limit = limit; makes = true; made = made;
-    seen = []; calls = []; ticket = None; found = None; worn = false; spent = false; kept = [] }
+maker_at seats limit made = record {
+  seat = 0;
+  seats = seats;
+  limit = limit;
+  makes = true;
+  made = made;
+  seen = [];
+  calls = [];
+  ticket = None;
+  found = None;
+  worn = false;
+  spent = false;
+  kept = [];
+}
 
 abbrev pub first_view : {C : Type 0} → ℕ → ℕ → View C
 first_view seats limit = maker_at seats limit 1
@@ -73,8 +85,20 @@ abbrev pub maker_after : {C : Type 0} → View C → View C
 maker_after v = record v { made = v.made + 1 }
 
 abbrev pub new_pass : {C : Type 0} → View C → View C
-new_pass v = record { seat = v.made; seats = v.seats; limit = v.limit; makes = false; made = 0; seen = v.seen;
-    calls = []; ticket = None; found = None; worn = false; spent = false; kept = [] }
+new_pass v = record {
+  seat = v.made;
+  seats = v.seats;
+  limit = v.limit;
+  makes = false;
+  made = 0;
+  seen = v.seen;
+  calls = [];
+  ticket = None;
+  found = None;
+  worn = false;
+  spent = false;
+  kept = [];
+}
 
 -- a pass takes in another, and keeps its seat, what it has seen, and its calls
 abbrev pub taker : {C : Type 0} → View C → View C → View C
@@ -82,8 +106,13 @@ taker v w = record v { kept = record { seat = w.seat; seen = w.seen; calls = w.c
 
 -- the pass that a view of this table is
 abbrev pub pass_of : {C : Type 0} → TableId → View C → PassState C
-pass_of table v = record { turnstile = record { table = table; seats = v.seats; limit = v.limit };
-    seat = v.seat; seen = v.seen; calls = v.calls; worn = v.worn }
+pass_of table v = record {
+  turnstile = record { table = table; seats = v.seats; limit = v.limit };
+  seat = v.seat;
+  seen = v.seen;
+  calls = v.calls;
+  worn = v.worn;
+}
 
 module _ {J C : Type 0} where
   -- no call is under way: no ticket, nothing out, and no other pass was taken in
