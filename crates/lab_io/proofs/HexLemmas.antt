@@ -75,6 +75,10 @@ bad_among before piece behind bad =
 pub bad_input : (text : List ℕ) → IsBad text → input_of text ≡ BadHex
 bad_input text bad = rw bad refl
 
+-- a bad piece is bad in all that there is to read
+pub bad_around : (before piece behind : List ℕ) → IsBad piece → input_of (before ++ piece ++ behind) ≡ BadHex
+bad_around before piece behind bad = bad_input (before ++ piece ++ behind) (bad_among before piece behind bad)
+
 pub found_odd : (h : HexState) (text : List ℕ) → StandsFor h text → h.is_odd ≡ true → input_of text ≡ BadHex
 found_odd h text s odd =
     let is_odd : (length (characters text) % 2 == 1) ≡ true = ap (λ (x : HexState). x.is_odd) (sym s.kept) ∙ odd in

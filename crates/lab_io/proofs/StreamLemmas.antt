@@ -2,10 +2,7 @@
 use Rattle.std.proofs.Common.{◌≡◌, ℕ, ◌+◌, ◌<◌, ◌≤◌, List, [], ◌++◌, length, Option, Some, None, IfSome, ap, sym, ◌∙◌, subst, arith, append-nil, length-append}
 use Rattle.std.specs.Io.KnownBytes.{Consumes, IsAtEnd}
 use Rattle.std.proofs.KnownBytes.{Consumes-nil, Consumes-trans}
-use Rattle.lab_io.specs.HexInput.{input_of, BadHex}
-use Rattle.lab_io.specs.HexState.{HexState, StandsFor, Reads, IsBad}
 use Rattle.lab_io.specs.Streams.{most_reads, IsEndless}
-use Rattle.lab_io.proofs.HexLemmas.{bad_among, bad_input}
 
 -- so many reads gave these bytes, at least one a read
 pub record Took (reads : ℕ) (old now : Option (List ℕ)) (bytes : List ℕ) : Type 0 where
@@ -47,45 +44,51 @@ took_all reads old now later bytes t none end =
     all (Some xs) (Some ys) c e =
         sym (c ∙ ap (λ (l : List ℕ). bytes ++ [] ++ l) e ∙ append-nil (bytes ++ []) ∙ append-nil bytes)
 
--- these bytes were read so far, and stood for
-pub record HasRead (reads : ℕ) (old now : Option (List ℕ)) (h : HexState) : Type 0 where
+-- these bytes were read so far, and are stood for
+pub record HasRead {S : Type 0} (Stands : S → List ℕ → Type 0) (reads : ℕ) (old now : Option (List ℕ)) (s : S)
+    : Type 0 where
   pub bytes : List ℕ
   pub took : Took reads old now bytes
-  pub stands : StandsFor h bytes
+  pub stands : Stands s bytes
 
-pub read_nothing : (old : Option (List ℕ)) (h : HexState) → StandsFor h [] → HasRead 0 old old h
-read_nothing old h s = record { bytes = []; took = took_nothing old; stands = s }
+pub read_nothing : {S : Type 0} (Stands : S → List ℕ → Type 0) (old : Option (List ℕ)) (s : S) → Stands s []
+    → HasRead Stands 0 old old s
+read_nothing Stands old s h = record { bytes = []; took = took_nothing old; stands = h }
 
-pub read_piece : (reads : ℕ) (old now later : Option (List ℕ)) (h h' : HexState) (piece : List ℕ)
-    → HasRead reads old now h → Consumes now later piece → 0 < length piece → Reads piece h h'
-    → HasRead (reads + 1) old later h'
-read_piece reads old now later h h' piece r consumed some on = record {
+pub read_piece : {S : Type 0} (Stands : S → List ℕ → Type 0) (reads : ℕ) (old now later : Option (List ℕ))
+    (s s' : S) (piece : List ℕ)
+    → HasRead Stands reads old now s → Consumes now later piece → 0 < length piece
+    → ((text : List ℕ) → Stands s text → Stands s' (text ++ piece))
+    → HasRead Stands (reads + 1) old later s'
+read_piece Stands reads old now later s s' piece r consumed some on = record {
   bytes = r.bytes ++ piece;
   took = took_piece reads old now later r.bytes piece r.took consumed some;
   stands = on r.bytes r.stands;
 }
 
 -- at the end all was read
-pub read_all : (reads : ℕ) (old now later : Option (List ℕ)) (h : HexState)
-    → HasRead reads old now h → Consumes now later [] → IsAtEnd later → IfSome old (StandsFor h)
-read_all reads old now later h r none end = all old (took_all reads old now later r.bytes r.took none end)
+pub read_all : {S : Type 0} (Stands : S → List ℕ → Type 0) (reads : ℕ) (old now later : Option (List ℕ)) (s : S)
+    → HasRead Stands reads old now s → Consumes now later [] → IsAtEnd later → IfSome old (Stands s)
+read_all {S} Stands reads old now later s r none end =
+    all old (took_all reads old now later r.bytes r.took none end)
   where
-    all : (old : Option (List ℕ)) → IfSome old (λ input. r.bytes ≡ input) → IfSome old (StandsFor h)
+    all : (old : Option (List ℕ)) → IfSome old (λ input. r.bytes ≡ input) → IfSome old (Stands s)
     all None whole = tt
-    all (Some input) whole = subst (StandsFor h) whole r.stands
+    all (Some input) whole = subst (Stands s) whole r.stands
 
-pub read_most : (reads : ℕ) (old now : Option (List ℕ)) (h : HexState)
-    → HasRead reads old now h → 4294967295 ≤ reads → IsEndless old
-read_most reads old now h r most = took_most reads old now r.bytes r.took most
+pub read_most : {S : Type 0} (Stands : S → List ℕ → Type 0) (reads : ℕ) (old now : Option (List ℕ)) (s : S)
+    → HasRead Stands reads old now s → 4294967295 ≤ reads → IsEndless old
+read_most Stands reads old now s r most = took_most reads old now r.bytes r.took most
 
--- a bad piece is bad in all that there is to read
-pub read_bad : (reads : ℕ) (old now later : Option (List ℕ)) (h : HexState) (piece : List ℕ)
-    → HasRead reads old now h → Consumes now later piece → IsBad piece
-    → IfSome old (λ input. input_of input ≡ BadHex)
-read_bad reads old now later h piece r consumed bad =
+-- what is refused after a piece is refused whatever follows
+pub read_bad : {S : Type 0} (Stands : S → List ℕ → Type 0) (Refuses : List ℕ → Type 0) (reads : ℕ)
+    (old now later : Option (List ℕ)) (s : S) (piece : List ℕ)
+    → HasRead Stands reads old now s → Consumes now later piece
+    → ((text more : List ℕ) → Stands s text → Refuses (text ++ piece ++ more)) → IfSome old Refuses
+read_bad {S} Stands Refuses reads old now later s piece r consumed bad =
     all old later (Consumes-trans old now later r.bytes piece r.took.consumed consumed)
   where
-    all : (old later : Option (List ℕ)) → Consumes old later (r.bytes ++ piece) → IfSome old (λ input. input_of input ≡ BadHex)
+    all : (old later : Option (List ℕ)) → Consumes old later (r.bytes ++ piece) → IfSome old Refuses
     all None later c = tt
     all (Some xs) None c = absurd c
-    all (Some xs) (Some ys) c = bad_input xs (subst IsBad (sym c) (bad_among r.bytes piece ys bad))
+    all (Some xs) (Some ys) c = subst Refuses (sym c) (bad r.bytes ys r.stands)

@@ -5,3 +5,4 @@ pub mod Report
 pub mod Streams
 pub mod TextState
 pub mod Command
+pub mod Pouring

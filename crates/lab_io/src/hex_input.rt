@@ -3,6 +3,7 @@ ghost use Rattle.std.specs.Prelude.{◌≡◌, ◌<◌, ◌++◌, ◌∷◌, [],
 ghost use Rattle.lab_io.specs.HexInput.{is_blank, is_hex_digit, digit_value, input_of, paired};
 ghost use Rattle.lab_io.specs.HexState.{kept_more};
 
+use crate::intake::{Intake, IntakeFault};
 use base_streams::ports::IoFault;
 use base_text::hexadecimal::digit_value;
 use i80_rows::memory::MEMORY_SIZE;
@@ -80,6 +81,27 @@ impl Model for HexInput {
     ghost use Rattle.std.specs.Prelude.{All, ◌<◌};
 
     ghost invariant = { λ h. All (λ d. d < 16) h.digits.items };
+}
+
+impl Intake for HexInput {
+    ghost use Rattle.std.specs.Prelude.{◌≡◌};
+    ghost use Rattle.lab_io.specs.HexInput.{input_of, BadHex};
+    ghost use Rattle.lab_io.specs.HexState.{StandsFor};
+
+    ghost stands = { StandsFor };
+
+    ghost refuses = { λ input. input_of input ≡ BadHex };
+
+    ghost limit = { λ _. 0 };
+
+    #[tactic(auto, using(crate::proofs::HexLemmas::bad_around))]
+    fn take(&mut self, piece: &[u8]) -> Result<(), IntakeFault> {
+        match self.feed(piece) {
+            Ok(()) => Ok(()),
+            Err(HexFault::BadHex) => Err(IntakeFault::Bad),
+            Err(_) => Err(IntakeFault::OutOfMemory),
+        }
+    }
 }
 
 impl HexInput {

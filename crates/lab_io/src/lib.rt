@@ -10,6 +10,7 @@
 
 pub mod command;
 mod hex_input;
+mod intake;
 pub mod reading;
 pub mod report;
 pub mod status;

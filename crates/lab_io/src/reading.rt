@@ -6,6 +6,7 @@ ghost use Rattle.lab_io.specs.TextState.{StandsFor, IsText, IsTextReading};
 
 pub use crate::hex_input::HexFault;
 use crate::hex_input::{HexInput, paired};
+use crate::intake::{PourFault, pour};
 use crate::status::Status;
 pub use crate::text_input::TextFault;
 use crate::text_input::TextInput;
@@ -54,22 +55,12 @@ fn read_digits<R: Inlet>(
         ((R.failed reader.new ≡ true) ⊎ IsEndless (R.left reader.old))
         (R.failed reader.new ≡ R.failed reader.old)) }
 {
-    let mut input = HexInput::new(alloc);
-    for reads in 0..u32::MAX {
-        match reader.read(buffer) {
-            Ok(0) => return Ok(input),
-            Ok(count) => {
-                let (piece, _) = buffer.split_at(count);
-                match input.feed(piece) {
-                    Ok(()) => continue,
-                    Err(HexFault::BadHex) => return Err(HexFault::BadHex),
-                    Err(_) => return Err(HexFault::OutOfMemory),
-                }
-            }
-            Err(_) => return Err(HexFault::Read),
-        }
+    match pour(reader, buffer, HexInput::new(alloc)) {
+        Ok(input) => Ok(input),
+        Err(PourFault::Bad) => Err(HexFault::BadHex),
+        Err(PourFault::OutOfMemory) => Err(HexFault::OutOfMemory),
+        Err(PourFault::Read) => Err(HexFault::Read),
     }
-    Err(HexFault::Read)
 }
 
 /// Reads text to its end, piece by piece: the text, or none where it is longer than so many bytes. Past
@@ -101,7 +92,7 @@ pub fn read_text<R: Inlet>(
 fn read_pieces<R: Inlet>(
     reader: &mut R,
     buffer: &mut [u8],
-    mut input: TextInput,
+    input: TextInput,
 ) -> Result<TextInput, TextFault>
     requires buffer { 0 < length buffer.old }
     requires input { StandsFor input [] }
@@ -113,21 +104,12 @@ fn read_pieces<R: Inlet>(
         ((R.failed reader.new ≡ true) ⊎ IsEndless (R.left reader.old))
         (R.failed reader.new ≡ R.failed reader.old)) }
 {
-    for reads in 0..u32::MAX {
-        match reader.read(buffer) {
-            Ok(0) => return Ok(input),
-            Ok(count) => {
-                let (piece, _) = buffer.split_at(count);
-                match input.feed(piece) {
-                    Ok(()) => continue,
-                    Err(TextFault::BadText) => return Err(TextFault::BadText),
-                    Err(_) => return Err(TextFault::OutOfMemory),
-                }
-            }
-            Err(_) => return Err(TextFault::Read),
-        }
+    match pour(reader, buffer, input) {
+        Ok(read) => Ok(read),
+        Err(PourFault::Bad) => Err(TextFault::BadText),
+        Err(PourFault::OutOfMemory) => Err(TextFault::OutOfMemory),
+        Err(PourFault::Read) => Err(TextFault::Read),
     }
-    Err(TextFault::Read)
 }
 
 /// Reads all bytes to the end, piece by piece.
@@ -146,18 +128,9 @@ pub fn read_all<R: Inlet>(alloc: Global, reader: &mut R) -> Result<Vec<u8>, Stat
     let Ok(mut buffer) = new_buffer(alloc) else {
         return Err(Status::OutOfMemory);
     };
-    let mut bytes = Vec::new(alloc);
-    for reads in 0..u32::MAX {
-        match reader.read(&mut buffer) {
-            Ok(0) => return Ok(bytes),
-            Ok(count) => {
-                let (piece, _) = buffer.split_at(count);
-                if bytes.extend_from_slice(piece).is_err() {
-                    return Err(Status::OutOfMemory);
-                }
-            }
-            Err(_) => return Err(Status::Failed),
-        }
+    match pour(reader, &mut buffer, Vec::new(alloc)) {
+        Ok(bytes) => Ok(bytes),
+        Err(PourFault::Read) => Err(Status::Failed),
+        Err(PourFault::Bad | PourFault::OutOfMemory) => Err(Status::OutOfMemory),
     }
-    Err(Status::Failed)
 }

@@ -2,6 +2,7 @@
 ghost use Rattle.std.specs.Prelude.{◌≡◌, ◌≢◌, ◌||◌, ◌++◌, true, false, ℕ, List, [], nat_lt, length, OnOk, IsErrOf, IfErr, IfSome, IfNone};
 ghost use Rattle.lab_io.specs.TextState.{StandsFor, Takes, IsBad, NeverText, IsText, IsDecoded, Splits, Cuts, KeepsFew};
 
+use crate::intake::{Intake, IntakeFault};
 use std::alloc::{AllocError, Global};
 use std::marker::Model;
 use std::str;
@@ -35,6 +36,26 @@ impl Model for TextInput {
     ghost Value = { TextState };
 
     ghost view = { λ t. record { kept = t.kept.items; limit = t.limit; is_long = t.is_long } };
+}
+
+impl Intake for TextInput {
+    ghost use Rattle.std.specs.Prelude.{◌≡◌, false};
+    ghost use Rattle.std.specs.Str.{is_utf8};
+    ghost use Rattle.lab_io.specs.TextState.{StandsFor};
+
+    ghost stands = { StandsFor };
+
+    ghost refuses = { λ input. is_utf8 input ≡ false };
+
+    ghost limit = { λ t. t.limit };
+
+    fn take(&mut self, piece: &[u8]) -> Result<(), IntakeFault> {
+        match self.feed(piece) {
+            Ok(()) => Ok(()),
+            Err(TextFault::BadText) => Err(IntakeFault::Bad),
+            Err(_) => Err(IntakeFault::OutOfMemory),
+        }
+    }
 }
 
 impl TextInput {

@@ -13,7 +13,7 @@ use Rattle.zmtp_wire.specs.Stream.{SideState, StandsFor, Completes}
 use Rattle.zmtp_wire.specs.Writing.{message_bytes}
 use Rattle.zmtp_wire.specs.declared.role.Role.TheVariants.{Dealer, Sub}
 use Rattle.zmtp_peer.specs.Sending.{WroteWhole}
-use Rattle.lab_term.specs.Running.{Followed, Asked, Ran, subscription}
+use Rattle.lab_term.specs.Running.{Followed, Asked, Began, Ran, subscription}
 use Rattle.zmtp_peer.specs.Hearing.{Heard}
 use Rattle.zmtp_peer.proofs.HearingLemmas.{heard_less}
 use Rattle.lab_term.specs.declared.subscriber.Subscriber.{Subscriber}
@@ -381,18 +381,18 @@ followed key header before g1 s t passed n out o1 o2 failed course p e b i w =
 
 -- ---- the whole
 
-pub ran : (code key session : List ℕ) (moment : ℕ) (header : List ℕ) (a a1 a2 b b1 b2 before g1 g2 out out' : Option (List ℕ)) (s : Subscriber) (good : Bool) → WroteWhole a a1 Dealer → Asked code key session moment header a1 a2 → WroteWhole b b1 Sub → Told b1 b2 (message_bytes subscription) → (w : Waited key before g1 s) → Followed key header before g2 w.passed out out' good → Ran code key session moment a a2 b b2 before g2 out out' good
-ran code key session moment header a a1 a2 b b1 b2 before g1 g2 out out' s good x asked y told w f = record {
-  header = header;
+pub began : (code key session : List ℕ) (moment : ℕ) (header : List ℕ) (a a1 a2 b b1 b2 before given : Option (List ℕ))
+    (s : Subscriber) → WroteWhole a a1 Dealer → Asked code key session moment header a1 a2 → WroteWhole b b1 Sub
+    → Told b1 b2 (message_bytes subscription) → (w : Waited key before given s)
+    → Began code key session moment a a2 b b2 header w.passed
+began code key session moment header a a1 a2 b b1 b2 before given s x asked y told w = record {
   frames = asked.frames;
   request = asked.request;
   asks = record { between = a1; handshake = x; told = asked.told };
   subscribes = record { between = b1; handshake = y; told = told };
-  passed = w.passed;
   earlier = w.notices;
   passed_are = w.are;
   status = w.status;
-  followed = f;
 }
 
 pub follows_by : (key header : List ℕ) (before g1 g2 : Option (List ℕ)) (s t u : Subscriber) (passed : List (List (List ℕ))) (n : ℕ) (out o1 o2 : Option (List ℕ)) (failed total : Bool) (course : Course) → total ≡ failed || course.has_failed → Takes key header s.queue.items t.queue.items o1 o2 course → t.side ≡ s.side → t.broken ≡ s.broken → ((x : Option (List ℕ)) (passed : List (List (List ℕ))) (least : ℕ) → Holds x g1 t passed least → Holds x g2 u passed (least + 1)) → Follows key header before g1 s passed n out o1 failed → Follows key header before g2 u passed (n + 1) out o2 total
@@ -405,7 +405,17 @@ followed_by key header before g1 s t passed n out o1 o2 failed total course is p
     let P : Bool → Type 0 = λ k. Followed key header before g1 passed out o2 (not k) in
     subst P (sym is) (followed key header before g1 s t passed n out o1 o2 failed course p e b i w)
 
-pub ran_by : (code key session : List ℕ) (moment : ℕ) (header shown : List ℕ) (a a1 a2 b b1 b2 before g1 g2 out out' : Option (List ℕ)) (s : Subscriber) (good : Bool) → shown ≡ header → WroteWhole a a1 Dealer → Asked code key session moment header a1 a2 → WroteWhole b b1 Sub → Told b1 b2 (message_bytes subscription) → (w : Waited key before g1 s) → Followed key shown before g2 w.passed out out' good → Ran code key session moment a a2 b b2 before g2 out out' good
+pub ran_by : (code key session : List ℕ) (moment : ℕ) (header shown : List ℕ)
+    (a a1 a2 b b1 b2 before g1 g2 out out' : Option (List ℕ)) (s : Subscriber) (good : Bool) → shown ≡ header
+    → WroteWhole a a1 Dealer → Asked code key session moment header a1 a2 → WroteWhole b b1 Sub
+    → Told b1 b2 (message_bytes subscription) → (w : Waited key before g1 s)
+    → Followed key shown before g2 w.passed out out' good
+    → Ran code key session moment a a2 b b2 before g2 out out' good
 ran_by code key session moment header shown a a1 a2 b b1 b2 before g1 g2 out out' s good is x asked y told w f =
     let P : List ℕ → Type 0 = λ l. Followed key l before g2 w.passed out out' good in
-    ran code key session moment header a a1 a2 b b1 b2 before g1 g2 out out' s good x asked y told w (subst P is f)
+    record {
+      header = header;
+      passed = w.passed;
+      began = began code key session moment header a a1 a2 b b1 b2 before g1 s x asked y told w;
+      followed = subst P is f;
+    }

@@ -23,7 +23,7 @@ use Rattle.lab_term.specs.Faults.{term_fault_of}
 use Rattle.lab_term.specs.Reading.{Holds, Starves, Unheard, Waited}
 use Rattle.lab_term.specs.Running.{Asked, subscription}
 use Rattle.lab_term.specs.Stopping.{EndsStream, AskedFront, Awaited, FollowedFront, Stopped, AtRequest, AtCourse}
-use Rattle.lab_term.proofs.CourseLemmas.{Follows}
+use Rattle.lab_term.proofs.CourseLemmas.{Follows, began}
 use Rattle.lab_term.proofs.EventLemmas.{notices_more, printed_more}
 
 abbrev pub reader : Option (List ℕ) → Option (List ℕ) → Bool → Bool → Reader
@@ -206,13 +206,7 @@ stopped_after code key session moment header shown a a1 a2 b b1 b2 before g1 g2 
     let P : List ℕ → Type 0 = λ l. FollowedFront key l before g2 w.passed out out' fault in
     AtCourse (record {
       header = header;
-      frames = asked.frames;
-      request = asked.request;
-      asks = record { between = a1; handshake = x; told = asked.told };
-      subscribes = record { between = b1; handshake = y; told = told };
       passed = w.passed;
-      earlier = w.notices;
-      passed_are = w.are;
-      status = w.status;
+      began = began code key session moment header a a1 a2 b b1 b2 before g1 s x asked y told w;
       followed = subst P is f;
     })

@@ -44,18 +44,24 @@ pub record Asked (code key session : List ℕ) (moment : ℕ) (header : List ℕ
   pub request : IsRequest code key session moment header frames
   pub told : Told taken taken' (message_bytes frames)
 
--- The cell was run: the subscription and its request were sent, and nothing else; a status had come before
--- the request was; all that the kernel told of it was printed, up to its idle.
-pub record Ran (code key session : List ℕ) (moment : ℕ) (asked asked' : Option (List ℕ))
-    (subscribed subscribed' : Option (List ℕ)) (given given' : Option (List ℕ)) (out out' : Option (List ℕ))
-    (good : Bool) : Type 0 where
-  pub header : List ℕ
+-- The subscription and a request with this header were sent, and nothing else; these messages had come before
+-- the request was, the last of them a status.
+pub record Began (code key session : List ℕ) (moment : ℕ) (asked asked' : Option (List ℕ))
+    (subscribed subscribed' : Option (List ℕ)) (header : List ℕ) (passed : List (List (List ℕ)))
+    : Type 0 where
   pub frames : List (List ℕ)
   pub request : IsRequest code key session moment header frames
   pub asks : Said asked asked' Dealer frames
   pub subscribes : Said subscribed subscribed' Sub subscription
-  pub passed : List (List (List ℕ))
   pub earlier : List Notice
   pub passed_are : AreNotices key passed earlier
   pub status : EndsInStatus earlier
+
+-- The cell was run: all that the kernel told of it was printed, up to its idle.
+pub record Ran (code key session : List ℕ) (moment : ℕ) (asked asked' : Option (List ℕ))
+    (subscribed subscribed' : Option (List ℕ)) (given given' : Option (List ℕ)) (out out' : Option (List ℕ))
+    (good : Bool) : Type 0 where
+  pub header : List ℕ
+  pub passed : List (List (List ℕ))
+  pub began : Began code key session moment asked asked' subscribed subscribed' header passed
   pub followed : Followed key header given given' passed out out' good

@@ -14,7 +14,7 @@ use Rattle.lab_term.specs.declared.fault.WireCause.TheVariants.{Stream, Message}
 use Rattle.lab_term.specs.Events.{Notice, AreNotices, printed}
 use Rattle.lab_term.specs.Courses.{EndsInStatus}
 use Rattle.lab_term.specs.Requests.{IsRequest}
-use Rattle.lab_term.specs.Running.{Said, subscription}
+use Rattle.lab_term.specs.Running.{Said, Began, subscription}
 
 -- the handshake of this role was written, and then a front of this message
 pub record SaidFront (taken taken' : Option (List ℕ)) (role : Role) (message : List (List ℕ)) : Type 0 where
@@ -72,20 +72,13 @@ pub record FollowedFront (key header : List ℕ) (given given' : Option (List �
   pub wrote : ToldFront out out' (printed header notices)
   pub whole : EndsStream fault → (others ≡ []) × Told out out' (printed header notices)
 
--- the subscription was sent, and after a status its request; a front was printed of what the kernel told of
--- it
+-- the cell had begun; a front was printed of what the kernel told of it
 pub record RanFront (code key session : List ℕ) (moment : ℕ) (asked asked' : Option (List ℕ))
     (subscribed subscribed' : Option (List ℕ)) (given given' : Option (List ℕ)) (out out' : Option (List ℕ))
     (fault : TermFault) : Type 0 where
   pub header : List ℕ
-  pub frames : List (List ℕ)
-  pub request : IsRequest code key session moment header frames
-  pub asks : Said asked asked' Dealer frames
-  pub subscribes : Said subscribed subscribed' Sub subscription
   pub passed : List (List (List ℕ))
-  pub earlier : List Notice
-  pub passed_are : AreNotices key passed earlier
-  pub status : EndsInStatus earlier
+  pub began : Began code key session moment asked asked' subscribed subscribed' header passed
   pub followed : FollowedFront key header given given' passed out out' fault
 
 -- It stopped in the handshake of shell, in that of iopub, while it subscribed, while it waited for a status,

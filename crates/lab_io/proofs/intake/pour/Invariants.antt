@@ -1,9 +1,10 @@
 use Rattle.std.proofs.Common.{◌≡◌}
 use Rattle.lab_io.proofs.StreamLemmas.{HasRead}
-use Rattle.lab_io.proofs.reading.read_digits.Given as goal
+use Rattle.lab_io.proofs.intake.pour.Given as goal
 
 abbrev pub invariant-loop-reads : goal.invariant-loop-reads
 invariant-loop-reads g l = record {
   good : g.R.Inlet.failed l.reader ≡ g.R.Inlet.failed l.fn.reader;
-  read : HasRead l.reads (g.R.Inlet.left l.fn.reader) (g.R.Inlet.left l.reader) l.input;
+  limit : g.I.Intake.limit l.input ≡ g.I.Intake.limit l.fn.input;
+  read : HasRead g.I.Intake.stands l.reads (g.R.Inlet.left l.fn.reader) (g.R.Inlet.left l.reader) l.input;
 }
