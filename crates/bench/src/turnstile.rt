@@ -1,4 +1,4 @@
-//! Turns on a turnstile: how many a second 1, 2, 4 and 16 threads make.
+//! Turns of several threads on a turnstile.
 ghost use Rattle.std.specs.Prelude.{◌≡◌, ◌<◌, ◌≤◌};
 
 use anyhow::{Result, bail};
@@ -6,17 +6,9 @@ use lab_turn::pass::Pass;
 use lab_turn::turnstile::Turnstile;
 use lab_turn_tests::Counter;
 use std::alloc::Global;
-use std::rt::Clock;
 use std::sync::Wait;
 use std::thread;
 use std::thread::Threads;
-use std::time::Instant;
-
-/// So many microseconds are timed; a shorter try is made again with twice the turns.
-const LONG_ENOUGH: u128 = 500_000;
-
-/// How many turns each thread makes where they are counted.
-const FEW: u32 = 100;
 
 // Makes turns with one pass.
 fn turns<R: Wait>(
@@ -52,37 +44,15 @@ fn counted<R: Threads + Wait + Sync>(rt: &R, alloc: Global, threads: u32, count:
     Ok(desk.close(passes)?.value())
 }
 
-// Prints how many turns a second so many threads make.
-fn rate<R: Threads + Wait + Sync + Clock + Print>(rt: &R, alloc: Global, threads: u32) -> Result<()>
-    requires some { 0 < threads }
-    requires few { threads ≤ 1024 }
-{
-    let mut count = FEW;
-    for _ in 0..30 {
-        let start = Instant::now(rt)?;
-        let calls = counted(rt, alloc, threads, count)?;
-        let micros = start.elapsed(rt)?.as_micros().max(1);
-        if micros >= LONG_ENOUGH {
-            let rate = u128::from(calls) * 1_000_000 / micros;
-            println!(rt; "{threads} threads: {rate} turns a second")?;
-            return Ok(());
-        }
-        count = count.saturating_mul(2);
+/// So many threads make so many turns each, at most 1,024 threads. How many turns that is.
+pub fn work<R: Threads + Wait + Sync>(
+    rt: &R,
+    alloc: Global,
+    threads: u64,
+    count: u64,
+) -> Result<u64> {
+    if threads == 0 || threads > 1024 || count > 1_000_000_000 {
+        bail!("there are too many threads or turns, or none");
     }
-    bail!("the clock stands still")
-}
-
-/// Two threads make a few turns; the number of calls that were counted is printed.
-pub fn check<R: Threads + Wait + Sync + Print>(rt: &R, alloc: Global) -> Result<()> {
-    let calls = counted(rt, alloc, 2, FEW)?;
-    println!(rt; "2 threads: {calls} turns")?;
-    Ok(())
-}
-
-/// Prints how many turns a second 1, 2, 4 and 16 threads make.
-pub fn time<R: Threads + Wait + Sync + Clock + Print>(rt: &R, alloc: Global) -> Result<()> {
-    for threads in [1, 2, 4, 16] {
-        rate(rt, alloc, threads)?;
-    }
-    Ok(())
+    counted(rt, alloc, threads as u32, count as u32)
 }

@@ -5,8 +5,7 @@ ghost use Rattle.std.specs.Prelude.{◌≤◌};
 use crate::slot::Slot;
 use anyhow::{Result, bail};
 use i80_exec::machine::Machine;
-use i80_exec::registers::Stepped;
-use lab_bench::board::print_registers;
+use i80_exec::registers::{Registers, Stepped};
 use std::alloc::{AllocError, Global};
 
 /// Two nested counters, counted down.
@@ -52,22 +51,13 @@ fn run(given: Machine, ports: &mut Slot, count: u64) -> Machine {
     machine
 }
 
-/// Runs a workload for so many instructions, and prints where it came to.
-pub fn report(rt: &(impl Print + AllocGlobal), name: &str, count: u64) -> Result<()> {
+/// Runs a workload for so many instructions. Its registers then.
+pub fn work(alloc: Global, name: &str, count: u64) -> Result<Registers> {
     let code = match name {
         "loop" => LOOP.as_slice(),
         "sort" => SORT.as_slice(),
         "calls" => CALLS.as_slice(),
         _ => bail!("the workloads are loop, sort and calls"),
     };
-    let regs = run(loaded(rt.alloc(), code)?, &mut Slot::new(), count).regs();
-    print_registers(rt, name, regs)
-}
-
-/// Runs each workload for ten thousand instructions.
-pub fn check(rt: &(impl Print + AllocGlobal)) -> Result<()> {
-    for name in ["loop", "sort", "calls"] {
-        report(rt, name, 10_000)?;
-    }
-    Ok(())
+    Ok(run(loaded(alloc, code)?, &mut Slot::new(), count).regs())
 }

@@ -2,7 +2,7 @@
 ghost use Rattle.std.specs.Prelude.{◌≤◌, IfOk};
 ghost use Rattle.lab_core.specs.Events.{Fits};
 
-use crate::workloads::{Workload, workload_named};
+use crate::cells::{Workload, workload_named};
 use anyhow::{Result, bail};
 use base_text::sequence::Sequence;
 use base_text::text::Text;
@@ -16,23 +16,14 @@ use std::alloc::{AllocError, Global};
 /// The steps of a slice, as many as one turn of the kernel makes.
 const SLICE: u16 = 4096;
 
-const RUNS: [(&str, bool); 6] = [
-    ("loop", false),
-    ("loop", true),
-    ("sort", false),
-    ("sort", true),
-    ("calls", false),
-    ("calls", true),
-];
-
 // Whether an event is accepted.
-pub(crate) fn is_accepted(lab: &mut Lab, event: &Event) -> bool
+pub fn is_accepted(lab: &mut Lab, event: &Event) -> bool
     requires { Fits event.now }
 {
     lab.apply(event).is_ok()
 }
 
-pub(crate) fn load_event(alloc: Global, text: &str) -> Result<Event, AllocError>
+pub fn load_event(alloc: Global, text: &str) -> Result<Event, AllocError>
     ensures { IfOk result (λ event. Fits event) }
 {
     let path = Text::copy_of(alloc, "workload")?;
@@ -108,7 +99,7 @@ fn run(lab: &mut Lab, count: u64) -> bool {
 
 // Loads a workload and makes so many steps of it; attached, with a breakpoint that isn't met, or not
 // attached. Whether all was accepted.
-fn work(
+fn is_run(
     alloc: Global,
     lab: &mut Lab,
     workload: Workload,
@@ -132,7 +123,7 @@ fn registers_after(
     count: u64,
 ) -> Result<Option<Registers>, AllocError> {
     let mut lab = Lab::new(alloc)?;
-    let is_done = work(alloc, &mut lab, workload, is_attached, count)?;
+    let is_done = is_run(alloc, &mut lab, workload, is_attached, count)?;
     Ok(if is_done { Some(lab.regs()) } else { None })
 }
 
@@ -152,26 +143,14 @@ pub fn print_registers(rt: &impl Print, name: &str, regs: Registers) -> Result<(
     Ok(())
 }
 
-/// Runs a workload for so many instructions, and prints where it came to.
-pub fn report(
-    rt: &(impl Print + AllocGlobal),
-    name: &str,
-    is_attached: bool,
-    count: u64,
-) -> Result<()> {
+/// Runs a workload for so many instructions, with a debugger whose breakpoint isn't met, or without one. Its
+/// registers then.
+pub fn work(alloc: Global, name: &str, is_attached: bool, count: u64) -> Result<Registers> {
     let Some(workload) = workload_named(name) else {
-        bail!("the workloads are loop, sort and calls");
+        bail!("the workloads are loop, sort, calls and jump");
     };
-    match registers_after(rt.alloc(), workload, is_attached, count)? {
-        Some(regs) => print_registers(rt, name, regs),
+    match registers_after(alloc, workload, is_attached, count)? {
+        Some(regs) => Ok(regs),
         None => bail!("the board didn't take the workload"),
     }
-}
-
-/// Runs each workload for ten thousand instructions, with and without a debugger.
-pub fn check(rt: &(impl Print + AllocGlobal)) -> Result<()> {
-    for (name, is_attached) in RUNS {
-        report(rt, name, is_attached, 10_000)?;
-    }
-    Ok(())
 }

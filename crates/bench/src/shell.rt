@@ -8,7 +8,7 @@ use kern_render::rendering::render;
 use std::alloc::{AllocError, Global};
 
 /// The greatest limit of a journal.
-pub const LIMIT: u32 = 4_194_304;
+const LIMIT: u32 = 4_194_304;
 
 /// A key as long as Jupyter's are.
 const KEY: &[u8] = b"0123456789abcdef0123456789abcdef0123";
@@ -16,7 +16,7 @@ const KEY: &[u8] = b"0123456789abcdef0123456789abcdef0123";
 const SESSION: &str = "01234567-89ab-4cde-8f01-23456789abcd";
 
 /// A cell that never ends.
-pub const ENDLESS: &str = "X: JMP X\nEND X\n";
+const ENDLESS: &str = "X: JMP X\nEND X\n";
 
 /// A cell that ends at once.
 const SHORT: &str = "HLT\nEND 0\n";
@@ -30,7 +30,7 @@ pub struct Shell {
 }
 
 /// What is timed, each with one unit of work.
-#[derive(Clone, Copy, PartialEq, Eq)]
+#[derive(Clone, Copy)]
 pub enum Work {
     /// A kernel_info_request, the fetch of its reply, and the reply's frames.
     Info,
@@ -40,15 +40,20 @@ pub enum Work {
     Fetch,
     /// A slice of a cell that never ends.
     Slice,
+    /// A slice of a kernel that has nothing to do.
+    Idle,
 }
 
 impl Work {
-    pub fn name(self) -> &'static str {
-        match self {
-            Work::Info => "kernel_info with its frames",
-            Work::Execution => "executions",
-            Work::Fetch => "fetches",
-            Work::Slice => "slices",
+    /// The work of this name.
+    pub fn named(word: &str) -> Option<Work> {
+        match word {
+            "requests" => Some(Work::Info),
+            "executions" => Some(Work::Execution),
+            "fetches" => Some(Work::Fetch),
+            "slices" => Some(Work::Slice),
+            "idle" => Some(Work::Idle),
+            _ => None,
         }
     }
 }
@@ -102,7 +107,7 @@ impl Shell {
     /// Gets the kernel to where units of this work can be done.
     pub fn prepare(&mut self, alloc: Global, work: Work) -> Result<(), AllocError> {
         match work {
-            Work::Info | Work::Execution => {}
+            Work::Info | Work::Execution | Work::Idle => {}
             Work::Fetch => self.ask_often(alloc)?,
             Work::Slice => {
                 arrive(alloc, &mut self.kernel, Question::Execute(ENDLESS))?;
@@ -155,8 +160,8 @@ impl Shell {
         Ok(frames)
     }
 
-    /// One unit of work: how many frames, posts or slices it gave.
-    pub fn unit(&mut self, alloc: Global, work: Work) -> Result<u64, AllocError> {
+    // One unit of work: how many frames, posts or slices it gave.
+    fn unit(&mut self, alloc: Global, work: Work) -> Result<u64, AllocError> {
         match work {
             Work::Info => {
                 arrive(alloc, &mut self.kernel, Question::KernelInfo)?;
@@ -168,7 +173,7 @@ impl Shell {
                 Ok(self.fetch_next())
             }
             Work::Fetch => Ok(self.fetch_from(1).0),
-            Work::Slice => Ok(self.slices(1)),
+            Work::Slice | Work::Idle => Ok(self.slices(1)),
         }
     }
 
@@ -179,11 +184,5 @@ impl Shell {
             made = made.saturating_add(self.unit(alloc, work)?);
         }
         Ok(made)
-    }
-
-    /// So many slices, and whether the journal is full after them.
-    pub fn fill(&mut self, count: u64) -> bool {
-        self.slices(count);
-        self.kernel.full()
     }
 }

@@ -17,7 +17,7 @@ const HEADER: &[u8] = b"{\"date\":\"2026-01-01T00:00:00Z\",\"msg_id\":\"c_1\",\
     \"msg_type\":\"kernel_info_request\",\"session\":\"c\",\"username\":\"u\",\"version\":\"5.4\"}";
 
 /// What is asked.
-#[derive(Clone, Copy, PartialEq, Eq)]
+#[derive(Clone, Copy)]
 pub enum Question {
     KernelInfo,
     Execute(&'static str),

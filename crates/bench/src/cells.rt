@@ -1,5 +1,5 @@
-//! Three endless workloads as cells: those of `bench/core`, byte for byte, and at their end a HLT that
-//! isn't reached.
+//! Four endless workloads as cells: those of `bench/core`, byte for byte, and a jump to itself; at their end a
+//! HLT that isn't reached.
 
 /// Two nested counters, counted down.
 static LOOP: &str = "\
@@ -82,6 +82,9 @@ TWIST: ORA B
        HLT
 ";
 
+/// A jump to itself.
+static JUMP: &str = "X: JMP X\n   HLT\n";
+
 /// A workload: its text, and the line of its HLT.
 #[derive(Clone, Copy)]
 pub struct Workload {
@@ -103,6 +106,10 @@ pub fn workload_named(name: &str) -> Option<Workload> {
         "calls" => Some(Workload {
             text: CALLS,
             last_line: 30,
+        }),
+        "jump" => Some(Workload {
+            text: JUMP,
+            last_line: 2,
         }),
         _ => None,
     }
