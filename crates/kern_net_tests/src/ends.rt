@@ -1,192 +1,115 @@
-//! How the worker and the pumps end: by a full journal, by posts that are gone, by a connection that isn't
-//! there, by a shutdown.
-ghost use Rattle.std.specs.Prelude.{◌≤◌};
-ghost use Rattle.kern_net.specs.Gates.{IsOpen};
+//! How the worker and the pumps end: by a gate, by a full journal, by posts that are gone, by a connection
+//! that isn't there, by a shutdown.
 
-use crate::conversations::on_shell;
-use crate::gates::{MOMENT, Measured};
-use crate::messages::{Asked, DEALER, ROUTER, Sent, given_by, written_by};
+use crate::conversations::expect_told;
+use crate::gates::Measured;
+use crate::messages::{Part, TWO};
+use crate::rows::expect_at;
 use crate::table::{Table, open_table};
-use crate::talks::{AMPLE, Course, Talk, ports, talk_at};
+use crate::talks::{AMPLE, BOTH_END, Client, line_of, read_as, talk_at};
 use crate::texts::count_of;
 use base_streams::memory::Sink;
-use base_text::sequence::{Bytes, Frames};
 use jup_wire::channel::Channel;
-use kern_ask::ask::{Ask, Request};
-use kern_core::call::{Arrival, Call};
 use kern_core::fault::KernFault;
-use kern_core::held::Held;
 use kern_desk::desks::MOST_ENTRIES;
 use kern_net::end::PumpEnd;
-use kern_net::pump_in::Place;
-use kern_net::pump_out::Line;
-use std::alloc::{AllocError, Global};
+use std::alloc::Global;
 use std::process::Abort;
 use std::sync::Wait;
-use zmtp_peer::handshake::handshake;
-use zmtp_wire::role::Role;
+use zmtp_peer::fault::PeerFault;
 
-// How many entries a journal may have, how two requests go then, how many bytes are written, and the calls.
-// Each request has one reply, of 478 bytes, behind the 94 of the handshake.
-const JOURNALS: [(u32, Course, usize, &str); 6] = [
-    (
-        1,
-        Course::Met(PumpEnd::JournalFull, PumpEnd::JournalFull),
-        94,
-        "J",
-    ),
-    (
-        2,
-        Course::Met(PumpEnd::JournalFull, PumpEnd::JournalFull),
-        94,
-        "JA",
-    ),
-    (
-        3,
-        Course::Met(PumpEnd::PeerEnded, PumpEnd::JournalFull),
-        94,
-        "JAA",
-    ),
-    (
-        4,
-        Course::Met(PumpEnd::PeerEnded, PumpEnd::JournalFull),
-        1050,
-        "JAAF",
-    ),
-    (
-        5,
-        Course::Met(PumpEnd::PeerEnded, PumpEnd::JournalFull),
-        1050,
-        "JAAFF",
-    ),
-    (
-        7,
-        Course::Met(PumpEnd::PeerEnded, PumpEnd::Ended),
-        1050,
-        "JAAFFFF",
-    ),
+// How many entries the journal may have, how often `before` and `idle` say yes, how the worker ends, what
+// they have said then, how often yes and no, and the calls in the journal: S for a Slice.
+type Work = (u32, u64, u64, PumpEnd, [u64; 4], &'static str);
+
+const WORK: [Work; 4] = [
+    (MOST_ENTRIES, 2, 99, PumpEnd::Ended, [2, 1, 2, 0], "SS"),
+    (MOST_ENTRIES, 99, 1, PumpEnd::Ended, [2, 0, 1, 1], "SS"),
+    (MOST_ENTRIES, 0, 0, PumpEnd::Ended, [0, 1, 0, 0], ""),
+    // The worker meets a full journal at its fourth slice, for which `before` said yes.
+    (3, 99, 99, PumpEnd::JournalFull, [4, 0, 3, 0], "SSS"),
 ];
 
-const INFO: Asked = Asked(
-    "{\"msg_id\":\"r_1\",\"msg_type\":\"kernel_info_request\",\"session\":\"r\"}",
-    "{}",
-);
-
-const INFO_CONTENT: &str =
-    "{\"banner\":\"Intel 8080 laboratory\",\"debugger\":true,\"help_links\":[],\
-    \"implementation\":\"lab80\",\"implementation_version\":\"1.0\",\
-    \"language_info\":{\"file_extension\":\".asm\",\"mimetype\":\"text/x-asm\",\"name\":\"i8080\",\
-    \"version\":\"1.0\"},\"protocol_version\":\"5.4\",\"status\":\"ok\"}";
-
-const INFO_REPLIES: [Sent; 2] = [
-    Sent(2, "kernel_info_reply", INFO, INFO_CONTENT),
-    Sent(5, "kernel_info_reply", INFO, INFO_CONTENT),
-];
-
-// A conversation at a table with a journal of so many entries, and the calls in it.
-fn talk_within<R: Wait + Abort>(
-    rt: &R,
-    alloc: Global,
-    talk: &Talk<'_>,
-    limit: u32,
-    calls: &str,
-) -> (Course, usize)
-    requires some { 1 ≤ limit }
-    requires few { limit ≤ 4194304 }
-{
+// Without a request the worker makes a slice for each yes, wakes the others and asks `idle` after each.
+fn check_work<R: Wait + Abort>(rt: &R, alloc: Global, row: Work, place: usize) {
+    let (limit, befores, idles, wanted, said, calls) = row;
     let mut table = open_table(rt, alloc, limit);
-    let found = talk_at(rt, alloc, &mut table, talk, AMPLE);
-    table.tells(rt, alloc, calls, limit as usize);
-    found
-}
-
-fn check_journal<R: Wait + Abort>(rt: &R, alloc: Global, row: (u32, Course, usize, &str)) {
-    let (limit, wanted, bytes, calls) = row;
-    assert!(rt; 1 <= limit && limit <= MOST_ENTRIES);
-    let given = given_by(alloc, DEALER, &[INFO, INFO]).expect(rt, "memory");
-    let replies = written_by(alloc, ROUTER, &INFO_REPLIES).expect(rt, "memory");
-    let talk = on_shell(given.as_slice(), replies.as_slice());
-    let (course, written) = talk_within(rt, alloc, &talk, limit, calls);
-    assert!(rt; written == bytes, "{limit} entries: {written} bytes");
-    assert!(rt; course == wanted, "{limit} entries: another course");
+    let mut gate = Measured::new(befores, idles);
+    let end = table.work(rt, &mut gate);
+    let is_called = table.is_told(rt, alloc, calls);
+    expect_at(rt, end == wanted, "another end", place, 0);
+    expect_at(rt, gate.told() == said, "asked otherwise", place, 0);
+    expect_at(rt, gate.is_in_step, "out of step", place, 0);
+    expect_at(rt, gate.wakes == said[0], "wakes", place, gate.wakes);
+    expect_at(rt, is_called, "other calls", place, 0);
 }
 
 #[test]
-fn full_journals(rt: HostRuntime) {
-    for row in JOURNALS {
-        check_journal(&rt, rt.alloc(), row);
+fn work_without_requests(rt: HostRuntime) {
+    for (place, row) in WORK.iter().enumerate() {
+        check_work(&rt, rt.alloc(), *row, place);
     }
 }
 
-// The worker meets a full journal at its fourth slice, for which `before` said yes.
-#[test]
-fn a_journal_full_of_slices(rt: HostRuntime) {
-    let mut table = open_table(&rt, rt.alloc(), 3);
-    let mut gate = Measured::new(99, 99);
-    let end = table.work(&rt, &mut gate);
-    table.tells(&rt, rt.alloc(), "SSS", 0);
-    assert!(rt; end == PumpEnd::JournalFull, "another end");
-    assert!(rt; gate.told() == [4, 0, 3, 0]);
-}
+const REQUEST: &[Part] = &[Part::Dealer, Part::Unsigned, Part::Info];
 
-// What is asked for: a type that is known, or one that isn't.
-#[derive(Clone, Copy)]
-enum Question {
-    KernelInfo,
-    Unknown,
-}
-
-fn ask_of(question: Question) -> Ask {
-    match question {
-        Question::KernelInfo => Ask::KernelInfo,
-        Question::Unknown => Ask::Unknown,
+fn has_ended(read: Result<PumpEnd, PeerFault>, wanted: PumpEnd) -> bool {
+    match read {
+        Ok(end) => end == wanted,
+        Err(_) => false,
     }
 }
 
-fn info_call(alloc: Global, connection: u32, question: Question) -> Result<Call, AllocError> {
-    let header = Bytes::copy_of(alloc, b"{}")?;
-    let request = Request {
-        ask: ask_of(question),
-        identities: Frames::new(alloc),
-        header,
-    };
-    let moment = MOMENT;
-    let arrival = Held::new(alloc, Arrival { request, moment })?;
-    Ok(Call::Arrive {
-        connection,
-        arrival,
-    })
-}
-
-fn send<R: Wait + Abort>(rt: &R, alloc: Global, table: &mut Table, question: Question) {
-    let call = info_call(alloc, 1, question).expect(rt, "memory for a call");
-    table.make(rt, call);
+// Connection 1 makes a request.
+fn ask<R: Wait + Abort>(rt: &R, alloc: Global, table: &mut Table, given: &[Part]) {
+    let mut gate = Measured::new(0, 0);
+    let end = read_as(rt, alloc, table, &mut gate, 1, given);
+    let has_ended = has_ended(end, PumpEnd::PeerEnded);
+    expect_at(rt, has_ended, "another end of a request", 0, 0);
 }
 
 // A connection comes, with the number 1, and asks so often what the kernel is.
 fn ask_often<R: Wait + Abort>(rt: &R, alloc: Global, table: &mut Table, count: u32) {
     let connection = table.join(rt, alloc, Channel::Shell);
-    assert!(rt; connection == 1, "connection {connection}");
+    expect_at(rt, connection == 1, "connection", 0, u64::from(connection));
     for _ in 0..count {
-        send(rt, alloc, table, Question::KernelInfo);
+        ask(rt, alloc, table, REQUEST);
     }
 }
 
-// A connection, 1,365 requests of three posts, and one of an unknown type, which has two: 4,097 posts, of
-// which the first is gone.
-fn after_many_requests<R: Wait + Abort>(rt: &R, alloc: Global) -> Table {
-    let mut table = open_table(rt, alloc, MOST_ENTRIES);
-    ask_often(rt, alloc, &mut table, 1365);
-    send(rt, alloc, &mut table, Question::Unknown);
-    table
+// How writing ends, what its gate said, how many bytes are written, how many replies, and how often those of
+// post 4,034 and 4,094.
+#[derive(Clone, Copy)]
+struct Wrote {
+    end: PumpEnd,
+    said: [u64; 4],
+    bytes: usize,
+    replies: usize,
+    first: usize,
+    last: usize,
 }
 
-fn line_of(connection: u32) -> Line<'static> {
-    Line {
-        connection,
-        key: &[],
-        session: "S",
-    }
+// Writes the posts from a number on.
+fn write_from<R: Wait>(
+    rt: &R,
+    alloc: Global,
+    table: &mut Table,
+    connection: u32,
+    from: u64,
+) -> Wrote {
+    let mut to = Sink::new(alloc, 1 << 20, 9999);
+    let mut gate = Measured::new(0, 2);
+    let end = table.write(rt, alloc, &mut gate, &mut to, &line_of(connection), from);
+    let wrote = Wrote {
+        end,
+        said: gate.told(),
+        bytes: to.as_slice().len(),
+        replies: count_of(to.as_slice(), b"<IDS|MSG>"),
+        first: count_of(to.as_slice(), b"\"S_4034\""),
+        last: count_of(to.as_slice(), b"\"S_4094\""),
+    };
+    drop(to);
+    wrote
 }
 
 // The writer meets a full journal at its second Fetch, with more to write: the first covers 64 of 90 numbers.
@@ -194,15 +117,12 @@ fn line_of(connection: u32) -> Line<'static> {
 fn a_journal_full_of_requests(rt: HostRuntime) {
     let mut table = open_table(&rt, rt.alloc(), 32);
     ask_often(&rt, rt.alloc(), &mut table, 30);
-    let mut to = Sink::new(rt.alloc(), 1 << 20, 9999);
-    let mut gate = Measured::new(0, 99);
-    let end = table.write(&rt, rt.alloc(), &mut gate, &mut to, &line_of(1), 1);
-    table.tells(&rt, rt.alloc(), "JAAAAAAAAAAAAAAAAAAAAAAAAAAAAAAF", 0);
-    let replies = count_of(to.as_slice(), b"<IDS|MSG>");
-    drop(to);
-    assert!(rt; end == PumpEnd::JournalFull, "another end");
-    assert!(rt; gate.told() == [0, 0, 0, 0]);
-    assert!(rt; replies == 21, "{replies} replies");
+    let wrote = write_from(&rt, rt.alloc(), &mut table, 1, 1);
+    let is_called = table.is_told(&rt, rt.alloc(), "JAAAAAAAAAAAAAAAAAAAAAAAAAAAAAAF");
+    expect_at(&rt, is_called, "other calls", 0, 0);
+    expect_at(&rt, wrote.end == PumpEnd::JournalFull, "another end", 0, 0);
+    expect_at(&rt, wrote.said == [0, 0, 0, 0], "asked", 0, 0);
+    expect_at(&rt, wrote.replies == 21, "replies", 0, wrote.replies as u64);
 }
 
 // From which post to write, how that ends, how many replies are written, and how often those of post 4,034
@@ -217,96 +137,49 @@ const STARTS: [(u64, PumpEnd, usize, usize, usize); 7] = [
     (4098, PumpEnd::Ended, 0, 0, 0),
 ];
 
-fn check_start<R: Wait + Abort>(
-    rt: &R,
-    alloc: Global,
-    table: &mut Table,
-    row: (u64, PumpEnd, usize, usize, usize),
-) {
-    let (from, wanted, replies, first, last) = row;
-    let mut to = Sink::new(alloc, 1 << 20, 9999);
-    let mut gate = Measured::new(0, 2);
-    let end = table.write(rt, alloc, &mut gate, &mut to, &line_of(1), from);
-    assert!(rt; end == wanted, "from {from}: another end");
-    check_counts(rt, to.as_slice(), [replies, first, last], from);
-}
-
-fn check_counts<R: Abort>(rt: &R, bytes: &[u8], wanted: [usize; 3], from: u64) {
-    let counts = [
-        count_of(bytes, b"<IDS|MSG>"),
-        count_of(bytes, b"\"S_4034\""),
-        count_of(bytes, b"\"S_4094\""),
-    ];
-    assert!(rt; counts == wanted, "from {from}: {counts:?}");
-}
-
 fn check_starts<R: Wait + Abort>(rt: &R, alloc: Global, table: &mut Table) {
-    for row in STARTS {
-        check_start(rt, alloc, table, row);
+    for (place, (from, end, replies, first, last)) in STARTS.iter().enumerate() {
+        let wrote = write_from(rt, alloc, table, 1, *from);
+        let counts = [wrote.replies, wrote.first, wrote.last];
+        expect_at(rt, wrote.end == *end, "another end", place, *from);
+        let is_wanted = counts == [*replies, *first, *last];
+        expect_at(rt, is_wanted, "replies", place, wrote.replies as u64);
     }
 }
 
-// Posts that are gone end the writing; those that are kept are all written, 64 numbers a Fetch.
+// A connection, 1,365 requests of three posts, and one of an unknown type, which has two: 4,097 posts, of
+// which the first is gone. Posts that are gone end the writing; those that are kept are all written, 64
+// numbers a Fetch.
 #[test]
 fn lagged(rt: HostRuntime) {
-    let mut table = after_many_requests(&rt, rt.alloc());
+    let mut table = open_table(&rt, rt.alloc(), MOST_ENTRIES);
+    ask_often(&rt, rt.alloc(), &mut table, 1365);
+    ask(
+        &rt,
+        rt.alloc(),
+        &mut table,
+        &[Part::Dealer, Part::Unsigned, Part::Unknown],
+    );
     check_starts(&rt, rt.alloc(), &mut table);
-    drop(table);
+    drop(table.close(&rt, rt.alloc()));
 }
 
-// Reads two requests of a connection of this number, at a gate.
-fn read_as<R: Wait + Abort>(
-    rt: &R,
-    alloc: Global,
-    table: &mut Table,
-    gate: &mut Measured,
-    connection: u32,
-) -> PumpEnd
-    requires { IsOpen gate.old.counts }
-{
-    let given = given_by(alloc, DEALER, &[INFO, INFO]).expect(rt, "memory");
-    let (mut from, mut to) = ports(alloc, given.as_slice(), AMPLE).expect(rt, "memory");
-    let peer = handshake(alloc, &mut from, &mut to, Role::Router).expect(rt, "a handshake");
-    let place = Place {
-        connection,
-        channel: Channel::Shell,
-        key: &[],
-    };
-    table.read(rt, alloc, gate, &mut from, peer, &place)
-}
+const REFUSED: PumpEnd = PumpEnd::Refused(KernFault::NoConnection);
 
-// The writer's turn is refused at once, and it writes nothing.
-fn write_refused<R: Wait + Abort>(rt: &R, alloc: Global, table: &mut Table) {
-    let mut to = Sink::new(alloc, 4096, 9999);
-    let mut gate = Measured::new(0, 2);
-    let end = table.write(rt, alloc, &mut gate, &mut to, &line_of(9), 1);
-    let written = to.as_slice().len();
-    drop(to);
-    assert!(rt;
-        end == PumpEnd::Refused(KernFault::NoConnection),
-        "another end"
-    );
-    assert!(rt; gate.told() == [0, 0, 0, 0]);
-    assert!(rt; written == 0, "{written} bytes");
-}
-
-fn read_refused<R: Wait + Abort>(rt: &R, alloc: Global, table: &mut Table) {
-    let mut gate = Measured::new(0, 0);
-    let end = read_as(rt, alloc, table, &mut gate, 9);
-    assert!(rt;
-        end == PumpEnd::Refused(KernFault::NoConnection),
-        "another end"
-    );
-    assert!(rt; gate.wakes == 1);
-}
-
-// Nobody joined: the first turn of each pump is refused, but is an entry.
+// Nobody joined: the first turn of each pump is refused, but is an entry. The writer writes nothing.
 #[test]
 fn no_connection(rt: HostRuntime) {
     let mut table = open_table(&rt, rt.alloc(), MOST_ENTRIES);
-    write_refused(&rt, rt.alloc(), &mut table);
-    read_refused(&rt, rt.alloc(), &mut table);
-    table.tells(&rt, rt.alloc(), "FA", 0);
+    let wrote = write_from(&rt, rt.alloc(), &mut table, 9, 1);
+    let mut gate = Measured::new(0, 0);
+    let end = read_as(&rt, rt.alloc(), &mut table, &mut gate, 9, TWO);
+    let is_called = table.is_told(&rt, rt.alloc(), "FA");
+    expect_at(&rt, wrote.end == REFUSED, "another end of writing", 0, 0);
+    expect_at(&rt, wrote.said == [0, 0, 0, 0], "asked", 0, 0);
+    expect_at(&rt, wrote.bytes == 0, "bytes", 0, wrote.bytes as u64);
+    expect_at(&rt, has_ended(end, REFUSED), "another end of reading", 0, 0);
+    expect_at(&rt, gate.wakes == 1, "wakes", 0, gate.wakes);
+    expect_at(&rt, is_called, "other calls", 0, 0);
 }
 
 // Reading wakes the others after each turn.
@@ -315,49 +188,33 @@ fn wakes(rt: HostRuntime) {
     let mut table = open_table(&rt, rt.alloc(), MOST_ENTRIES);
     let connection = table.join(&rt, rt.alloc(), Channel::Shell);
     let mut gate = Measured::new(0, 0);
-    let end = read_as(&rt, rt.alloc(), &mut table, &mut gate, connection);
-    drop(table);
-    assert!(rt; end == PumpEnd::PeerEnded, "another end");
-    assert!(rt; gate.wakes == 2);
-    assert!(rt; gate.told() == [0, 0, 0, 0]);
-}
-
-const SHUTDOWN: Asked = Asked(
-    "{\"msg_id\":\"r_2\",\"msg_type\":\"shutdown_request\",\"session\":\"r\"}",
-    "{}",
-);
-
-const LAST_REPLIES: [Sent; 2] = [
-    Sent(2, "kernel_info_reply", INFO, INFO_CONTENT),
-    Sent(
-        5,
-        "shutdown_reply",
-        SHUTDOWN,
-        "{\"restart\":false,\"status\":\"ok\"}",
-    ),
-];
-
-fn talk_to_shutdown<R: Wait + Abort>(rt: &R, alloc: Global, table: &mut Table) {
-    let given = given_by(alloc, DEALER, &[INFO, SHUTDOWN]).expect(rt, "memory");
-    let replies = written_by(alloc, ROUTER, &LAST_REPLIES).expect(rt, "memory");
-    let talk = on_shell(given.as_slice(), replies.as_slice());
-    let (course, written) = talk_at(rt, alloc, table, &talk, AMPLE);
-    assert!(rt; written == replies.len(), "{written} bytes");
-    assert!(rt;
-        course == Course::Met(PumpEnd::PeerEnded, PumpEnd::Ended),
-        "another course"
-    );
+    let end = read_as(&rt, rt.alloc(), &mut table, &mut gate, connection, TWO);
+    let is_called = table.is_told(&rt, rt.alloc(), "JAA");
+    expect_at(&rt, is_called, "other calls", 0, 0);
+    let has_ended = has_ended(end, PumpEnd::PeerEnded);
+    expect_at(&rt, has_ended, "another end", 0, 0);
+    expect_at(&rt, gate.wakes == 2, "wakes", 0, gate.wakes);
+    expect_at(&rt, gate.told() == [0, 0, 0, 0], "asked", 0, 0);
 }
 
 // After a shutdown the writer writes what is left and ends, and the worker ends after one slice. Neither
-// gate is asked by `idle`.
+// gate is asked by `idle`. The replies have 478 and 238 bytes, behind the 94 of the handshake.
 #[test]
 fn shut_down(rt: HostRuntime) {
     let mut table = open_table(&rt, rt.alloc(), MOST_ENTRIES);
-    talk_to_shutdown(&rt, rt.alloc(), &mut table);
+    let given = [
+        Part::Dealer,
+        Part::Unsigned,
+        Part::Info,
+        Part::Unsigned,
+        Part::Shutdown,
+    ];
+    let told = talk_at(&rt, rt.alloc(), &mut table, Client::Closing, &given, AMPLE);
     let mut gate = Measured::new(99, 99);
     let end = table.work(&rt, &mut gate);
-    table.tells(&rt, rt.alloc(), "JAAFFS", 0);
-    assert!(rt; end == PumpEnd::Ended, "another end");
-    assert!(rt; gate.told() == [1, 0, 0, 0]);
+    let is_called = table.is_told(&rt, rt.alloc(), "JAAFFS");
+    expect_told(&rt, told, BOTH_END, 810, 0);
+    expect_at(&rt, is_called, "other calls", 0, 0);
+    expect_at(&rt, end == PumpEnd::Ended, "another end", 0, 0);
+    expect_at(&rt, gate.told() == [1, 0, 0, 0], "asked", 0, 0);
 }

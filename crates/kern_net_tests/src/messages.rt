@@ -1,93 +1,203 @@
-//! Messages as bytes, by the rules of RFC 23 and of Jupyter messaging 5.4.
+//! Messages as bytes, by the rules of RFC 23 and of Jupyter messaging 5.4. A message is told in parts that
+//! several messages have: the frames to the signature, then the four behind it. A frame is its flags, 1
+//! where more follow; its size in one byte, or in eight with flag 2; and its bytes.
 
-use std::alloc::{AllocError, Global};
+use std::alloc::Global;
+use std::process::Abort;
 
-/// The greeting and the READY of a client on shell or control.
-pub const DEALER: &[u8] = b"\xFF\0\0\0\0\0\0\0\x01\x7F\x03\0NULL\
+// The greeting and the READY of a client on shell or control.
+const DEALER: &[u8] = b"\xFF\0\0\0\0\0\0\0\x01\x7F\x03\0NULL\
     \0\0\0\0\0\0\0\0\0\0\0\0\0\0\0\0\0\0\0\0\0\0\0\0\0\0\0\0\0\0\0\0\0\0\0\0\0\0\0\0\0\0\0\0\0\0\0\0\
     \x04\x1C\x05READY\x0BSocket-Type\0\0\0\x06DEALER";
 
-/// The greeting and the READY of a client on iopub.
-pub const SUB: &[u8] = b"\xFF\0\0\0\0\0\0\0\x01\x7F\x03\0NULL\
+// The greeting and the READY of a client on iopub.
+const SUB: &[u8] = b"\xFF\0\0\0\0\0\0\0\x01\x7F\x03\0NULL\
     \0\0\0\0\0\0\0\0\0\0\0\0\0\0\0\0\0\0\0\0\0\0\0\0\0\0\0\0\0\0\0\0\0\0\0\0\0\0\0\0\0\0\0\0\0\0\0\0\
     \x04\x19\x05READY\x0BSocket-Type\0\0\0\x03SUB";
 
-/// What the kernel writes first on shell and control.
-pub const ROUTER: &[u8] = b"\xFF\0\0\0\0\0\0\0\0\x7F\x03\0NULL\
+// What the kernel writes first on shell and control.
+const ROUTER: &[u8] = b"\xFF\0\0\0\0\0\0\0\0\x7F\x03\0NULL\
     \0\0\0\0\0\0\0\0\0\0\0\0\0\0\0\0\0\0\0\0\0\0\0\0\0\0\0\0\0\0\0\0\0\0\0\0\0\0\0\0\0\0\0\0\0\0\0\0\
     \x04\x1C\x05READY\x0BSocket-Type\0\0\0\x06ROUTER";
 
-/// What it writes first on iopub.
-pub const PUB: &[u8] = b"\xFF\0\0\0\0\0\0\0\0\x7F\x03\0NULL\
+// What it writes first on iopub.
+const PUB: &[u8] = b"\xFF\0\0\0\0\0\0\0\0\x7F\x03\0NULL\
     \0\0\0\0\0\0\0\0\0\0\0\0\0\0\0\0\0\0\0\0\0\0\0\0\0\0\0\0\0\0\0\0\0\0\0\0\0\0\0\0\0\0\0\0\0\0\0\0\
     \x04\x19\x05READY\x0BSocket-Type\0\0\0\x03PUB";
 
-/// A client's request: its header and its content.
+// The first frames of a message that isn't signed.
+const UNSIGNED: &[u8] = b"\x01\x09<IDS|MSG>\x01\0";
+
+// What a kernel_info_request has behind its signature.
+const INFO: &[u8] =
+    b"\x01\x3F{\"msg_id\":\"r_1\",\"msg_type\":\"kernel_info_request\",\"session\":\"r\"}\
+    \x01\x02{}\x01\x02{}\0\x02{}";
+
+// What a shutdown_request has behind its signature.
+const SHUTDOWN: &[u8] =
+    b"\x01\x3C{\"msg_id\":\"r_2\",\"msg_type\":\"shutdown_request\",\"session\":\"r\"}\
+    \x01\x02{}\x01\x02{}\0\x02{}";
+
+// What a request of a type that no channel has is behind its signature.
+const UNKNOWN: &[u8] =
+    b"\x01\x3B{\"msg_id\":\"r_3\",\"msg_type\":\"unknown_request\",\"session\":\"r\"}\
+    \x01\x02{}\x01\x02{}\0\x02{}";
+
+/// The key of RFC 2104's second example.
+pub const KEY: &[u8] = b"Jefe";
+
+// That example, whose text these four frames are together.
+const EXAMPLE: &[u8] = b"\x01\x09<IDS|MSG>\
+    \x01\x405bdcc146bf60754e6a042426089575c75a003f089d2739839dec58b964ec3843\
+    \x01\x0Bwhat do ya \x01\x05want \x01\x04for \0\x08nothing?";
+
+// The same with another signature.
+const FORGED_EXAMPLE: &[u8] = b"\x01\x09<IDS|MSG>\
+    \x01\x405bdcc146bf60754e6a042426089575c75a003f089d2739839dec58b964ec3844\
+    \x01\x0Bwhat do ya \x01\x05want \x01\x04for \0\x08nothing?";
+
+// The first frames of the kernel_info_request under the key; the signature is what Python's hmac gives.
+const SIGNED: &[u8] = b"\x01\x09<IDS|MSG>\
+    \x01\x40c8a74e75019d6a74a2990240b897b9362af7b291b6269c5eff3d62cb1d345ed9";
+
+// The same with another signature.
+const FORGED: &[u8] = b"\x01\x09<IDS|MSG>\
+    \x01\x40c8a74e75019d6a74a2990240b897b9362af7b291b6269c5eff3d62cb1d345ed8";
+
+// The header of the reply to a kernel_info_request, where it is the kernel's second post.
+const INFO_REPLY_2: &[u8] = b"\x01\x7F{\"date\":\"2000-02-29T00:00:00Z\",\"msg_id\":\"S_2\",\
+    \"msg_type\":\"kernel_info_reply\",\"session\":\"S\",\"username\":\"kernel\",\"version\":\"5.4\"}";
+
+// The same, where it is the fifth.
+const INFO_REPLY_5: &[u8] = b"\x01\x7F{\"date\":\"2000-02-29T00:00:00Z\",\"msg_id\":\"S_5\",\
+    \"msg_type\":\"kernel_info_reply\",\"session\":\"S\",\"username\":\"kernel\",\"version\":\"5.4\"}";
+
+// What such a reply has behind its header: one frame has more than 255 bytes.
+const INFO_REPLY: &[u8] =
+    b"\x01\x3F{\"msg_id\":\"r_1\",\"msg_type\":\"kernel_info_request\",\"session\":\"r\"}\
+    \x01\x02{}\x02\0\0\0\0\0\0\x01\x02\
+    {\"banner\":\"Intel 8080 laboratory\",\"debugger\":true,\"help_links\":[],\
+    \"implementation\":\"lab80\",\"implementation_version\":\"1.0\",\
+    \"language_info\":{\"file_extension\":\".asm\",\"mimetype\":\"text/x-asm\",\"name\":\"i8080\",\
+    \"version\":\"1.0\"},\"protocol_version\":\"5.4\",\"status\":\"ok\"}";
+
+// What the reply to a shutdown_request has behind its signature, where it is the fifth post.
+const SHUTDOWN_REPLY_5: &[u8] = b"\x01\x7C{\"date\":\"2000-02-29T00:00:00Z\",\"msg_id\":\"S_5\",\
+    \"msg_type\":\"shutdown_reply\",\"session\":\"S\",\"username\":\"kernel\",\"version\":\"5.4\"}\
+    \x01\x3C{\"msg_id\":\"r_2\",\"msg_type\":\"shutdown_request\",\"session\":\"r\"}\
+    \x01\x02{}\0\x1F{\"restart\":false,\"status\":\"ok\"}";
+
+// What a subscriber is told first.
+const STATUS: &[u8] = b"\x01\x06status\x01\x09<IDS|MSG>\x01\0\
+    \x01\x74{\"date\":\"2000-02-29T00:00:00Z\",\"msg_id\":\"S_1\",\"msg_type\":\"status\",\
+    \"session\":\"S\",\"username\":\"kernel\",\"version\":\"5.4\"}\
+    \x01\x02{}\x01\x02{}\0\x1A{\"execution_state\":\"idle\"}";
+
+/// A part of what a client or the kernel writes.
 #[derive(Clone, Copy)]
-pub struct Asked(pub &'static str, pub &'static str);
+pub enum Part {
+    Dealer,
+    Sub,
+    Router,
+    Pub,
+    Unsigned,
+    Info,
+    Shutdown,
+    Unknown,
+    Example,
+    ForgedExample,
+    Signed,
+    Forged,
+    InfoReply2,
+    InfoReply5,
+    InfoReply,
+    ShutdownReply5,
+    Status,
+    // What a subscriber sends behind READY.
+    WantsAll,
+    WantsStatus,
+    WantsStream,
+    WantsNoMore,
+    NoSubscription,
+    Empty,
+    TwoFrames,
+    // What breaks a stream, and a frame that is no message.
+    BadFlags,
+    BadSize,
+    BadCommand,
+    Letter,
+}
 
-/// What a kernel sends to who asked: the number of the post, its type, the request that it answers, its
-/// content.
-#[derive(Clone, Copy)]
-pub struct Sent(pub u32, pub &'static str, pub Asked, pub &'static str);
-
-// A frame: its flags, its size in one byte, or in eight with flag 2, and its bytes.
-fn push_frame(bytes: &mut Vec<u8>, frame: &[u8], flags: u8) -> Result<(), AllocError> {
-    match u8::try_from(frame.len()) {
-        Ok(size) => {
-            bytes.push(flags)?;
-            bytes.push(size)?;
+impl Part {
+    fn bytes(self) -> &'static [u8] {
+        match self {
+            Part::Dealer => DEALER,
+            Part::Sub => SUB,
+            Part::Router => ROUTER,
+            Part::Pub => PUB,
+            Part::Unsigned => UNSIGNED,
+            Part::Info => INFO,
+            Part::Shutdown => SHUTDOWN,
+            Part::Unknown => UNKNOWN,
+            Part::Example => EXAMPLE,
+            Part::ForgedExample => FORGED_EXAMPLE,
+            Part::Signed => SIGNED,
+            Part::Forged => FORGED,
+            Part::InfoReply2 => INFO_REPLY_2,
+            Part::InfoReply5 => INFO_REPLY_5,
+            Part::InfoReply => INFO_REPLY,
+            Part::ShutdownReply5 => SHUTDOWN_REPLY_5,
+            Part::Status => STATUS,
+            Part::WantsAll => b"\0\x01\x01",
+            Part::WantsStatus => b"\0\x07\x01status",
+            Part::WantsStream => b"\0\x07\x01stream",
+            Part::WantsNoMore => b"\0\x01\0",
+            Part::NoSubscription => b"\0\x01\x02",
+            Part::Empty => b"\0\0",
+            Part::TwoFrames => b"\x01\x01\x01\0\0",
+            Part::BadFlags => b"\x08",
+            Part::BadSize => b"\x02\x80",
+            Part::BadCommand => b"\x01\0\x04",
+            Part::Letter => b"\0\x01a",
         }
-        Err(_) => {
-            bytes.push(flags | 2)?;
-            bytes.extend_from_slice(&(frame.len() as u64).to_be_bytes())?;
+    }
+}
+
+/// What a client on shell writes that asks twice what the kernel is.
+pub const TWO: &[Part] = &[
+    Part::Dealer,
+    Part::Unsigned,
+    Part::Info,
+    Part::Unsigned,
+    Part::Info,
+];
+
+/// The bytes of some parts.
+pub fn joined<R: Abort>(rt: &R, alloc: Global, parts: &[Part]) -> Vec<u8> {
+    let mut bytes = Vec::new(alloc);
+    for part in parts {
+        bytes
+            .extend_from_slice(part.bytes())
+            .expect(rt, "memory for bytes");
+    }
+    bytes
+}
+
+// Whether bytes begin with a part, or are a front of it.
+fn is_met(bytes: &[u8], part: &[u8]) -> bool {
+    bytes.starts_with(part) || part.starts_with(bytes)
+}
+
+/// Whether bytes are a front of some parts together.
+pub fn is_front(bytes: &[u8], parts: &[Part]) -> bool {
+    let mut rest = bytes;
+    for part in parts {
+        let part = part.bytes();
+        if !is_met(rest, part) {
+            return false;
         }
+        let (_, behind) = rest.split_at(rest.len().min(part.len()));
+        rest = behind;
     }
-    bytes.extend_from_slice(frame)?;
-    Ok(())
-}
-
-/// A message of six frames: all but the last have the flag of more.
-pub fn push_message(bytes: &mut Vec<u8>, frames: &[&str; 6]) -> Result<(), AllocError> {
-    for (place, frame) in frames.iter().enumerate() {
-        let flags = if place < 5 { 1 } else { 0 };
-        push_frame(bytes, frame.as_bytes(), flags)?;
-    }
-    Ok(())
-}
-
-/// A request without identities and without a signature.
-pub fn push_asked(bytes: &mut Vec<u8>, asked: Asked) -> Result<(), AllocError> {
-    push_message(bytes, &["<IDS|MSG>", "", asked.0, "{}", "{}", asked.1])
-}
-
-/// What a client writes: its greeting and its READY, and requests.
-pub fn given_by(alloc: Global, first: &[u8], questions: &[Asked]) -> Result<Vec<u8>, AllocError> {
-    let mut bytes = first.to_vec(alloc)?;
-    for asked in questions {
-        push_asked(&mut bytes, *asked)?;
-    }
-    Ok(bytes)
-}
-
-fn push_sent(alloc: Global, bytes: &mut Vec<u8>, sent: Sent) -> Result<(), AllocError> {
-    let Sent(number, kind, parent, content) = sent;
-    let header = format!(in alloc;
-        "{{\"date\":\"2000-02-29T00:00:00Z\",\"msg_id\":\"S_{number}\",\"msg_type\":\"{kind}\",\
-        \"session\":\"S\",\"username\":\"kernel\",\"version\":\"5.4\"}}"
-    )?;
-    push_message(
-        bytes,
-        &["<IDS|MSG>", "", header.as_str(), parent.0, "{}", content],
-    )?;
-    Ok(())
-}
-
-/// What the kernel writes: its greeting and its READY, or nothing, and what it sends.
-pub fn written_by(alloc: Global, first: &[u8], letters: &[Sent]) -> Result<Vec<u8>, AllocError> {
-    let mut bytes = first.to_vec(alloc)?;
-    for sent in letters {
-        push_sent(alloc, &mut bytes, *sent)?;
-    }
-    Ok(bytes)
+    rest.is_empty()
 }

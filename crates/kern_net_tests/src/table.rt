@@ -1,5 +1,5 @@
 //! A kernel's desk with a pass for what is read and one for what is written.
-ghost use Rattle.std.specs.Prelude.{◌≡◌, ◌≤◌, All, false};
+ghost use Rattle.std.specs.Prelude.{◌≡◌, All, false};
 ghost use Rattle.kern_net.specs.Gates.{IsOpen};
 
 use crate::gates::Measured;
@@ -8,7 +8,7 @@ use base_text::sequence::Bytes;
 use jup_wire::channel::Channel;
 use kern_core::call::Call;
 use kern_core::held::Held;
-use kern_desk::desks::{close_desk, join, open_desk};
+use kern_desk::desks::{MOST_ENTRIES, close_desk, join, open_desk};
 use kern_desk::seated::{Desk, Pass, Seated};
 use kern_net::end::PumpEnd;
 use kern_net::pump_in::{Place, pump_in};
@@ -20,34 +20,32 @@ use std::sync::Wait;
 use zmtp_peer::handshake::Peer;
 
 // What stands for a call in the text of a journal.
-fn letter_of(call: &Call) -> char {
+fn letter_of(call: &Call) -> u8 {
     match call {
-        Call::Join { .. } => 'J',
-        Call::Leave { .. } => 'L',
-        Call::Subscribe { .. } => 'U',
-        Call::Arrive { .. } => 'A',
-        Call::Slice { .. } => 'S',
-        Call::Fetch { .. } => 'F',
+        Call::Join { .. } => b'J',
+        Call::Leave { .. } => b'L',
+        Call::Subscribe { .. } => b'U',
+        Call::Arrive { .. } => b'A',
+        Call::Slice { .. } => b'S',
+        Call::Fetch { .. } => b'F',
     }
 }
 
-fn letter_at(seated: &Seated, place: usize) -> Option<char> {
+fn is_at(seated: &Seated, place: usize, letter: u8) -> bool {
     match seated.entry(place) {
-        Some((_, call)) => Some(letter_of(call)),
-        None => None,
+        Some((_, call)) => letter_of(call) == letter,
+        None => false,
     }
 }
 
-// The first entries of a journal, a letter for each.
-fn letters_of<R: Abort>(rt: &R, alloc: Global, seated: &Seated) -> String {
-    let mut text = String::new(alloc);
-    for place in 0..64 {
-        let Some(letter) = letter_at(seated, place) else {
-            break;
-        };
-        text.push(letter).expect(rt, "memory for a letter");
+// Whether a journal is these calls, a letter for each.
+fn are_entries(seated: &Seated, calls: &str) -> bool {
+    for (place, letter) in calls.as_bytes().iter().enumerate() {
+        if !is_at(seated, place, *letter) {
+            return false;
+        }
     }
-    text
+    seated.entry(calls.len()).is_none()
 }
 
 /// A desk with two passes.
@@ -61,10 +59,8 @@ pub struct Table {
 }
 
 /// A desk over a new kernel, whose journal may have so many entries.
-pub fn open_table<R: Abort>(rt: &R, alloc: Global, limit: u32) -> Table
-    requires some { 1 ≤ limit }
-    requires few { limit ≤ 4194304 }
-{
+pub fn open_table<R: Abort>(rt: &R, alloc: Global, limit: u32) -> Table {
+    assert!(rt; 1 <= limit && limit <= MOST_ENTRIES);
     let (desk, mut passes) = open_desk(alloc, limit, 2).expect(rt, "a desk");
     let writing = passes.pop().expect(rt, "a pass");
     let reading = passes.pop().expect(rt, "a pass");
@@ -82,14 +78,6 @@ impl Table {
         let identity = Held::new(alloc, Bytes::new(alloc)).expect(rt, "memory for an identity");
         let answer = join(rt, &self.desk, &mut self.reading, channel, identity);
         answer.expect(rt, "a connection").connection
-    }
-
-    /// Makes a call, whatever its answer.
-    pub fn make<R: Wait + Abort>(&mut self, rt: &R, call: Call) {
-        let answer = self.desk.turn(rt, &mut self.reading, call);
-        let is_made = answer.is_ok();
-        drop(answer);
-        assert!(rt; is_made, "no turn");
     }
 
     /// Reads from a peer to the end, at a gate.
@@ -150,35 +138,23 @@ impl Table {
         worker(rt, &self.desk, &mut self.reading, gate)
     }
 
-    // The first 64 entries of the journal, a letter for each.
-    fn journal<R: Abort>(self, rt: &R, alloc: Global) -> String {
+    /// Closes the desk.
+    pub fn close<R: Abort>(self, rt: &R, alloc: Global) -> Seated {
         let Table {
             desk,
             reading,
             writing,
         } = self;
         let passes = vec![in alloc; reading, writing].expect(rt, "memory for passes");
-        let seated = close_desk(desk, passes).expect(rt, "all passes");
-        let letters = letters_of(rt, alloc, &seated);
+        close_desk(desk, passes).expect(rt, "all passes")
+    }
+
+    /// Whether the journal is these calls, with a letter for each: J for a Join, U for a Subscribe, A for an
+    /// Arrive, S for a Slice, F for a Fetch.
+    pub fn is_told<R: Abort>(self, rt: &R, alloc: Global, calls: &str) -> bool {
+        let seated = self.close(rt, alloc);
+        let is_told = are_entries(&seated, calls);
         drop(seated);
-        letters
-    }
-
-    /// The first 64 entries of the journal must be these in a row of a test, with a letter for each: J for
-    /// a Join, U for a Subscribe, A for an Arrive, S for a Slice, F for a Fetch.
-    pub fn tells<R: Abort>(self, rt: &R, alloc: Global, calls: &str, row: usize) {
-        let journal = self.journal(rt, alloc);
-        assert!(rt;
-            journal.as_str() == calls,
-            "row {row}: {journal} and not {calls}"
-        );
-    }
-
-    /// How many calls are in the journal, where there are at most 64.
-    pub fn count<R: Abort>(self, rt: &R, alloc: Global) -> u64 {
-        let journal = self.journal(rt, alloc);
-        let count = journal.len() as u64;
-        drop(journal);
-        count
+        is_told
     }
 }

@@ -1,19 +1,20 @@
 //! Conversations over memory: all that a client sends is read, then all that it is sent is written.
-ghost use Rattle.std.specs.Prelude.{◌≡◌, IfOk, false};
+ghost use Rattle.std.specs.Prelude.{◌≡◌, false};
+ghost use Rattle.kern_net.specs.Gates.{IsOpen};
 
 use crate::gates::Measured;
-use crate::table::{Table, open_table};
+use crate::messages::{KEY, Part, is_front, joined};
+use crate::table::Table;
 use base_streams::memory::{Sink, Source};
 use jup_wire::channel::Channel;
-use kern_desk::desks::MOST_ENTRIES;
 use kern_net::end::PumpEnd;
 use kern_net::pump_in::Place;
 use kern_net::pump_out::Line;
-use std::alloc::{AllocError, Global};
+use std::alloc::Global;
 use std::process::Abort;
 use std::sync::Wait;
 use zmtp_peer::fault::PeerFault;
-use zmtp_peer::handshake::{Peer, handshake};
+use zmtp_peer::handshake::handshake;
 use zmtp_wire::role::Role;
 
 /// How much a reader and a writer move a call, and after how many calls they fail.
@@ -42,62 +43,97 @@ pub enum Course {
     Met(PumpEnd, PumpEnd),
 }
 
-/// A client's conversation.
+/// Both ends come as they should.
+pub const BOTH_END: Course = Course::Met(PumpEnd::PeerEnded, PumpEnd::Ended);
+
+/// A client of the kernel.
 #[derive(Clone, Copy)]
-pub struct Talk<'a> {
-    pub channel: Channel,
-    pub role: Role,
-    pub key: &'a [u8],
-    /// What the client writes.
-    pub given: &'a [u8],
-    /// What the kernel writes, if nothing fails.
-    pub wanted: &'a [u8],
+pub enum Client {
+    /// One that asks what the kernel is, on shell, and doesn't sign.
+    Shell,
+    /// The same under the key.
+    Signing,
+    /// One that asks what the kernel is, and then for its end.
+    Closing,
+    Subscriber,
 }
 
-/// A reader of bytes and a writer, of a pace.
-pub fn ports(alloc: Global, given: &[u8], pace: Pace) -> Result<(Source, Sink), AllocError>
-    ensures { IfOk result (λ p. (p.0.ended ≡ false) × (p.0.failed ≡ false) × (p.1.failed ≡ false)) }
-{
-    let from = Source::new(given.to_vec(alloc)?, pace.read.0, pace.read.1);
-    Ok((from, Sink::new(alloc, pace.written.0, pace.written.1)))
+impl Client {
+    fn channel(self) -> Channel {
+        match self {
+            Client::Subscriber => Channel::Iopub,
+            _ => Channel::Shell,
+        }
+    }
+
+    fn role(self) -> Role {
+        match self {
+            Client::Subscriber => Role::Pub,
+            _ => Role::Router,
+        }
+    }
+
+    fn key(self) -> &'static [u8] {
+        match self {
+            Client::Signing => KEY,
+            _ => b"",
+        }
+    }
+
+    // What the kernel writes to it: no more than this, and less if less is asked or something fails.
+    fn wanted(self) -> &'static [Part] {
+        match self {
+            Client::Closing => CLOSED,
+            Client::Subscriber => SUBSCRIBED,
+            _ => TOLD_TWICE,
+        }
+    }
 }
 
-fn read_and_write<R: Wait + Abort>(
-    rt: &R,
-    alloc: Global,
-    table: &mut Table,
-    talk: &Talk<'_>,
-    from: &mut Source,
-    to: &mut Sink,
-    peer: Peer,
-) -> Course
-    requires ended { from.old.ended ≡ false }
-    requires failed { from.old.failed ≡ false }
-    requires good { to.old.failed ≡ false }
-{
-    let connection = table.join(rt, alloc, talk.channel);
-    let place = Place {
+const TOLD_TWICE: &[Part] = &[
+    Part::Router,
+    Part::Unsigned,
+    Part::InfoReply2,
+    Part::InfoReply,
+    Part::Unsigned,
+    Part::InfoReply5,
+    Part::InfoReply,
+];
+
+const CLOSED: &[Part] = &[
+    Part::Router,
+    Part::Unsigned,
+    Part::InfoReply2,
+    Part::InfoReply,
+    Part::Unsigned,
+    Part::ShutdownReply5,
+];
+
+const SUBSCRIBED: &[Part] = &[Part::Pub, Part::Status];
+
+/// How a conversation went, how many bytes were written, and whether they are a front of those that are
+/// wanted.
+#[derive(Clone, Copy)]
+pub struct Told {
+    pub course: Course,
+    pub written: usize,
+    pub is_front: bool,
+}
+
+/// A connection without a key, for writing.
+pub fn line_of(connection: u32) -> Line<'static> {
+    Line {
         connection,
-        channel: talk.channel,
-        key: talk.key,
-    };
-    let line = Line {
-        connection,
-        key: &[],
+        key: b"",
         session: "S",
-    };
-    let mut gate = Measured::new(0, 0);
-    let read = table.read(rt, alloc, &mut gate, from, peer, &place);
-    let mut gate = Measured::new(0, 2);
-    let wrote = table.write(rt, alloc, &mut gate, to, &line, 1);
-    Course::Met(read, wrote)
+    }
 }
 
 fn course_of<R: Wait + Abort>(
     rt: &R,
     alloc: Global,
     table: &mut Table,
-    talk: &Talk<'_>,
+    client: Client,
     from: &mut Source,
     to: &mut Sink,
 ) -> Course
@@ -105,40 +141,86 @@ fn course_of<R: Wait + Abort>(
     requires failed { from.old.failed ≡ false }
     requires good { to.old.failed ≡ false }
 {
-    match handshake(alloc, from, to, talk.role) {
-        Ok(peer) => read_and_write(rt, alloc, table, talk, from, to, peer),
-        Err(fault) => Course::Unmet(fault),
-    }
+    let peer = match handshake(alloc, from, to, client.role()) {
+        Ok(peer) => peer,
+        Err(fault) => return Course::Unmet(fault),
+    };
+    let connection = table.join(rt, alloc, client.channel());
+    let place = Place {
+        connection,
+        channel: client.channel(),
+        key: client.key(),
+    };
+    let mut gate = Measured::new(0, 0);
+    let read = table.read(rt, alloc, &mut gate, from, peer, &place);
+    let mut gate = Measured::new(0, 2);
+    let wrote = table.write(rt, alloc, &mut gate, to, &line_of(connection), 1);
+    Course::Met(read, wrote)
 }
 
-/// How a conversation at a table goes, and how many bytes are written, which are a front of those that
-/// are wanted.
+/// How a conversation at a table goes, in which the client writes some parts.
 pub fn talk_at<R: Wait + Abort>(
     rt: &R,
     alloc: Global,
     table: &mut Table,
-    talk: &Talk<'_>,
+    client: Client,
+    given: &[Part],
     pace: Pace,
-) -> (Course, usize) {
-    let (mut from, mut to) = ports(alloc, talk.given, pace).expect(rt, "memory for ports");
-    let course = course_of(rt, alloc, table, talk, &mut from, &mut to);
-    let is_front = talk.wanted.starts_with(to.as_slice());
-    let written = to.as_slice().len();
+) -> Told {
+    let mut from = Source::new(joined(rt, alloc, given), pace.read.0, pace.read.1);
+    let mut to = Sink::new(alloc, pace.written.0, pace.written.1);
+    let course = course_of(rt, alloc, table, client, &mut from, &mut to);
+    let told = Told {
+        course,
+        written: to.as_slice().len(),
+        is_front: is_front(to.as_slice(), client.wanted()),
+    };
     drop(from);
     drop(to);
-    assert!(rt; is_front, "other bytes");
-    (course, written)
+    told
 }
 
-/// How one with a new kernel goes.
-pub fn outcome<R: Wait + Abort>(
+fn read_met<R: Wait + Abort>(
     rt: &R,
     alloc: Global,
-    talk: &Talk<'_>,
-    pace: Pace,
-) -> (Course, usize) {
-    let mut table = open_table(rt, alloc, MOST_ENTRIES);
-    let found = talk_at(rt, alloc, &mut table, talk, pace);
-    drop(table);
-    found
+    table: &mut Table,
+    gate: &mut Measured,
+    connection: u32,
+    from: &mut Source,
+    to: &mut Sink,
+) -> Result<PumpEnd, PeerFault>
+    requires open { IsOpen gate.old.counts }
+    requires ended { from.old.ended ≡ false }
+    requires failed { from.old.failed ≡ false }
+    requires good { to.old.failed ≡ false }
+{
+    let place = Place {
+        connection,
+        channel: Channel::Shell,
+        key: b"",
+    };
+    match handshake(alloc, from, to, Role::Router) {
+        Ok(peer) => Ok(table.read(rt, alloc, gate, from, peer, &place)),
+        Err(fault) => Err(fault),
+    }
+}
+
+/// How reading from a connection of this number ends, at a gate, or why the handshake isn't made. Nothing
+/// else is written.
+pub fn read_as<R: Wait + Abort>(
+    rt: &R,
+    alloc: Global,
+    table: &mut Table,
+    gate: &mut Measured,
+    connection: u32,
+    given: &[Part],
+) -> Result<PumpEnd, PeerFault>
+    requires { IsOpen gate.old.counts }
+{
+    let mut from = Source::new(joined(rt, alloc, given), 4096, 9999);
+    let mut to = Sink::new(alloc, 4096, 9999);
+    let end = read_met(rt, alloc, table, gate, connection, &mut from, &mut to);
+    drop(from);
+    drop(to);
+    end
 }
