@@ -8,6 +8,7 @@ use Rattle.std.specs.List.{list_any}
 use Rattle.std.proofs.Math.Nat.{mod-add-mod}
 use Rattle.std.proofs.lemmas.Bool.Decides.{Decides-eqb}
 use Rattle.std.proofs.lemmas.List.Folds.{list_any-append}
+use Rattle.std.proofs.lemmas.Bool.{false≢true}
 use Rattle.asm_syntax.specs.declared.fault.FaultKind.TheVariants as fault
 use Rattle.asm_syntax.specs.declared.statement.Operation.{Operation}
 use Rattle.asm_syntax.specs.declared.statement.Statement.{Statement}
@@ -20,7 +21,7 @@ use Rattle.asm_build.specs.Meaning.{Output, at_address, overlaps, with_bytes, pu
 use Rattle.asm_build.specs.Meaning.{with_operation, with_line}
 use Rattle.asm_build.specs.Refusals.{Part, TheDefinition, TheOperand, TheOperation, bytes_given, GivesByte}
 use Rattle.asm_build.specs.Refusals.{WrongInValues, StandsOn}
-use Rattle.asm_build.proofs.DefinitionFaults.{false_true, none_some, some_is, Follows, one_true}
+use Rattle.asm_build.proofs.DefinitionFaults.{none_some, some_is, Follows, one_true}
 use Rattle.asm_build.proofs.DefinitionFaults.{first_true, second_true}
 use Rattle.asm_build.proofs.OperandFaults.{FirstWrong, NoneWrong, Given, ActionVerdict, given_by}
 use Rattle.asm_build.proofs.OperandFaults.{action_judged}
@@ -58,7 +59,7 @@ passes_by test bs place more (inr x) =
 
 passes_if : (test : ℕ → Bool) (bs : List ℕ) (place : ℕ) → tested test place bs ≡ true
     → Passes test (length bs) place
-passes_if test [] place h = absurd (false_true h)
+passes_if test [] place h = absurd (false≢true h)
 passes_if test (b ∷ bs) place h =
     let m = passes_by test bs place (passes_if test bs (place + 1))
     (one_true (test (place % 65536))
@@ -231,7 +232,7 @@ module _ (kept : Entries) (all ps : Lines) (p : Statement × Laid) (o : Operatio
             let i = given_here m.1 m.2 in
             let lt = i.1 in
             let there = (was m.1).1 (given_any ps m.1 m.3) in
-            false_true (sym h
+            false≢true (sym h
             ∙ if_passes (has out.image) bs p.1.place i.0 (omega (arith, lt, long))
             (ap (has out.image) (sym i.2) ∙ there))
 
@@ -286,5 +287,5 @@ line_judged kept all ps p out line was = by p.1.is_assembled refl
         else Ok out)
     by true on = operation_judged kept all ps p p.0.operation refl on out line was
     by false off =
-        gives_nothing kept all ps p out (λ a x. false_true (sym off ∙ x.2))
-        (λ part g h. false_true (sym off ∙ h.0)) was
+        gives_nothing kept all ps p out (λ a x. false≢true (sym off ∙ x.2))
+        (λ part g h. false≢true (sym off ∙ h.0)) was

@@ -1,17 +1,18 @@
 -- What is known of a cell once it was built: that no fault stands, or which fault comes first.
-use Rattle.std.proofs.Common.{◌≡◌, ◌↔◌, ℕ, ◌+◌, ◌≤◌, ◌⊎◌, inl, inr, List, [], ◌∷◌, ◌++◌, length}
+use Rattle.std.proofs.Common.{◌≡◌, ◌↔◌, ◌+◌, ◌≤◌, ◌⊎◌, inl, inr, List, [], ◌∷◌, ◌++◌, length}
 use Rattle.std.proofs.Common.{refl, sym, ap, ◌∙◌, subst, arith, Result, Ok, Err}
+use Rattle.std.proofs.lemmas.Bool.{false≢true}
 use Rattle.asm_syntax.specs.declared.statement.Statement.{Statement}
 use Rattle.asm_syntax.specs.Outcome.{Fault, CellFault, ◌>>=◌, at_line}
+use Rattle.asm_syntax.proofs.FirstFaults.{one_first}
 use Rattle.asm_build.specs.declared.laid.Laid.{Laid}
 use Rattle.asm_build.specs.Reading.{Entries, Lines, IsReading, late_value}
 use Rattle.asm_build.specs.Layout.{layout}
 use Rattle.asm_build.specs.Meaning.{Output, Meaning, with_line, output_of, symbols_after, meaning_of}
 use Rattle.asm_build.specs.Meaning.{built_of}
-use Rattle.asm_build.specs.Refusals.{Part, StandsOn, LayoutFault, ValueFault, rank, ComesBefore, NoneStands}
+use Rattle.asm_build.specs.Refusals.{Part, StandsOn, LayoutFault, ValueFault, rank, NoneStands}
 use Rattle.asm_build.specs.Refusals.{IsFirst, IsFaultOf, IsFaultless}
 use Rattle.asm_build.proofs.ReadingLemmas.{one_reading}
-use Rattle.asm_build.proofs.DefinitionFaults.{false_true}
 use Rattle.asm_build.proofs.LayoutRounds.{Next, on_line, LayoutVerdict, layout_judged}
 use Rattle.asm_build.proofs.ByteFaults.{GivenBy, IsImageOf, LineVerdict, line_judged}
 
@@ -88,7 +89,7 @@ stopped kept all p ps f v = (v.0, inr v.1, after)
 
 nothing_yet : IsImageOf [] []
 unfolding GivenBy
-nothing_yet a = (λ h. false_true h, λ x. absurd x)
+nothing_yet a = (λ h. false≢true h, λ x. absurd x)
 
 all_valued : (ps : Lines) (kept : Entries) (all : Lines) → RoundVerdict kept all ps (output_of kept all ps)
 unfolding output_of Among
@@ -146,30 +147,17 @@ cell_judged kept ss = by (layout kept [] ss) (layout_judged kept ss)
 
 -- ---- the laws
 
-decides_once : (a b : List ℕ) → ComesBefore a b → ComesBefore b a → ⊥
-decides_once [] b h i = h
-decides_once (m ∷ a) [] h i = h
-decides_once (m ∷ a) (n ∷ b) (inl h) (inl i) = omega (arith, h, i)
-decides_once (m ∷ a) (n ∷ b) (inl h) (inr i) = let e = i.0 in omega (arith, h, e)
-decides_once (m ∷ a) (n ∷ b) (inr h) (inl i) = let e = h.0 in omega (arith, i, e)
-decides_once (m ∷ a) (n ∷ b) (inr h) (inr i) = decides_once a b h.1 i.1
-
-one_first : (stands : Part → CellFault → Type 0) (f g : CellFault) → IsFirst stands f → IsFirst stands g
+same_first : (stands : Part → CellFault → Type 0) (f g : CellFault) → IsFirst stands f → IsFirst stands g
     → f ≡ g
-one_first stands f g a b = by (a.2 b.0 g b.1) (b.2 a.0 f a.1)
-  where
-    by : (g ≡ f) ⊎ ComesBefore (f.0 ∷ rank a.0 f.2) (g.0 ∷ rank b.0 g.2)
-        → (f ≡ g) ⊎ ComesBefore (g.0 ∷ rank b.0 g.2) (f.0 ∷ rank a.0 f.2) → f ≡ g
-    by (inl e) y = sym e
-    by (inr x) (inl e) = e
-    by (inr x) (inr y) = absurd (decides_once (f.0 ∷ rank a.0 f.2) (g.0 ∷ rank b.0 g.2) x y)
+same_first stands f g a b =
+    one_first f g (f.0 ∷ rank a.0 f.2) (g.0 ∷ rank b.0 g.2) (a.2 b.0 g b.1) (b.2 a.0 f a.1)
 
 one_fault : (kept : Entries) (ss : List Statement) (f g : CellFault) → IsFaultOf kept ss f
     → IsFaultOf kept ss g → f ≡ g
-one_fault kept ss f g (inl a) (inl b) = one_first (LayoutFault kept ss) f g a b
+one_fault kept ss f g (inl a) (inl b) = same_first (LayoutFault kept ss) f g a b
 one_fault kept ss f g (inl a) (inr b) = absurd (b.0 a.0 f a.1)
 one_fault kept ss f g (inr a) (inl b) = absurd (a.0 b.0 g b.1)
-one_fault kept ss f g (inr a) (inr b) = one_first (ValueFault kept ss) f g a.1 b.1
+one_fault kept ss f g (inr a) (inr b) = same_first (ValueFault kept ss) f g a.1 b.1
 
 no_fault : (kept : Entries) (ss : List Statement) (f : CellFault) → IsFaultless kept ss
     → IsFaultOf kept ss f → ⊥

@@ -7,12 +7,14 @@ use Rattle.std.specs.List.{list_any}
 use Rattle.std.specs.Str.{bytes_eq}
 use Rattle.std.proofs.lemmas.List.Folds.{Any-from_list_any, list_any-from_Any, list_any_at}
 use Rattle.std.proofs.lemmas.Slice.Eq.{bytes_eq-Decides}
+use Rattle.std.proofs.lemmas.Bool.{false≢true}
 use Rattle.indexmap.proofs.CallerLemmas.{Contains-list_any}
 use Rattle.asm_syntax.specs.declared.fault.FaultKind.{FaultKind}
 use Rattle.asm_syntax.specs.declared.fault.FaultKind.TheVariants as fault
 use Rattle.asm_syntax.specs.declared.statement.Label.{Label}
 use Rattle.asm_syntax.specs.declared.statement.Statement.{Statement}
-use Rattle.asm_syntax.specs.Outcome.{Fault}
+use Rattle.asm_syntax.specs.Outcome.{Fault, ComesBefore}
+use Rattle.asm_syntax.proofs.FirstFaults.{fault_is}
 use Rattle.asm_build.specs.declared.symbols.SymbolKind.{SymbolKind}
 use Rattle.asm_build.specs.declared.symbols.SymbolKind.TheVariants as kind
 use Rattle.asm_build.specs.declared.symbols.Symbol.{Symbol}
@@ -23,10 +25,7 @@ use Rattle.asm_build.specs.Layout.{past, is_among, is_late}
 use Rattle.asm_build.specs.Layout.{check_defined, check_definition}
 use Rattle.asm_build.specs.Refusals.{Part, TheDefinition, IsTwice, early_names}
 use Rattle.asm_build.specs.Refusals.{late_names, IsNamed, WrongDefinition}
-use Rattle.asm_build.specs.Refusals.{WrongInLayout, rank, ComesBefore}
-
-pub false_true : false ≡ true → ⊥
-false_true h = cc
+use Rattle.asm_build.specs.Refusals.{WrongInLayout, rank}
 
 pub no_more : {A : Type 0} (x : A) → None ≡ Some x → ⊥
 no_more x h = cc
@@ -42,7 +41,7 @@ ok_err x y r h k = cc
 
 both_true : (a b : Bool) → (a && b) ≡ true → (a ≡ true) × (b ≡ true)
 both_true true b h = (refl, h)
-both_true false b h = absurd (false_true h)
+both_true false b h = absurd (false≢true h)
 
 pub one_true : (a b : Bool) → (a || b) ≡ true → (a ≡ true) ⊎ (b ≡ true)
 one_true true b h = inl refl
@@ -92,8 +91,8 @@ by_named names ps x a =
 
 set_is : (k : SymbolKind) → is_set k ≡ true → k ≡ kind.Set
 set_is kind.Set h = refl
-set_is kind.Label h = absurd (false_true h)
-set_is kind.Equ h = absurd (false_true h)
+set_is kind.Label h = absurd (false≢true h)
+set_is kind.Equ h = absurd (false≢true h)
 
 no_set : (ps : Lines) (x : List ℕ) → last_definition ps x ≡ None → last_set ps x ≡ None
 no_set [] x h = refl
@@ -201,9 +200,6 @@ DefinitionVerdict kept earlier s (Err f) =
     WrongInLayout kept earlier s TheDefinition f
     × ((g : Fault) → WrongInLayout kept earlier s TheDefinition g → Follows TheDefinition f TheDefinition g)
 
-pub fault_same : (f g : Fault) → f.0 ≡ g.0 → f.1 ≡ g.1 → f ≡ g
-fault_same f g a b = ap (λ (n : ℕ). (n, f.1)) a ∙ ap (λ (k : FaultKind). (g.0, k)) b
-
 of_this : (kept : Entries) (earlier : Lines) (s : Statement) (d : Label × SymbolKind)
     → definition_of s ≡ Some d → (g : Fault) → WrongInLayout kept earlier s TheDefinition g
     → (g.0 ≡ d.0.column) × WrongDefinition kept earlier s d g.1
@@ -233,7 +229,7 @@ late kept earlier s d is once w = ((d, is, refl, w), λ g m. after g (of_this ke
 
     after : (g : Fault) → (g.0 ≡ d.0.column) × WrongDefinition kept earlier s d g.1
         → Follows TheDefinition (d.0.column, fault.Early) TheDefinition g
-    after g m = inl (fault_same g (d.0.column, fault.Early) m.0 (kind_is g.1 m.1))
+    after g m = inl (fault_is (d.0.column, fault.Early) g m.0 (kind_is g.1 m.1))
 
 twice : (kept : Entries) (earlier : Lines) (s : Statement) (d : Label × SymbolKind)
     → definition_of s ≡ Some d → IsTwice earlier d
@@ -259,7 +255,7 @@ first_judged kept earlier s d is new true h =
     (late_if kept earlier s d new h)
 first_judged kept earlier s d is new false h =
     right kept earlier s d is (λ t. none_some t.0 (last_definition earlier d.0.name) new t.1)
-    (λ l. false_true (sym h ∙ if_late kept earlier s d l))
+    (λ l. false≢true (sym h ∙ if_late kept earlier s d l))
 
 again_judged : (kept : Entries) (earlier : Lines) (s : Statement) (d : Label × SymbolKind) (was : Symbol)
     → definition_of s ≡ Some d → last_definition earlier d.0.name ≡ Some was → (b : Bool)
@@ -282,7 +278,7 @@ again_judged kept earlier s d was is old false h = twice kept earlier s d is (wa
   where
     once : (was.kind ≡ kind.Set) × (d.1 ≡ kind.Set) → ⊥
     once b =
-        false_true (sym h ∙ are_true (is_set was.kind) (is_set d.1) (ap is_set b.0) (ap is_set b.1))
+        false≢true (sym h ∙ are_true (is_set was.kind) (is_set d.1) (ap is_set b.0) (ap is_set b.1))
 
 defined_judged : (kept : Entries) (earlier : Lines) (s : Statement) (d : Label × SymbolKind)
     → definition_of s ≡ Some d → (w : Option Symbol) → last_definition earlier d.0.name ≡ w

@@ -3,6 +3,7 @@ use Rattle.std.proofs.Common.{◌≡◌, ℕ, ◌+◌, ◌%◌, ◌<◌, inl, in
 use Rattle.std.proofs.Common.{refl, sym, ap, ◌∙◌, subst, arith, Option, Some, None, Result, Ok, Err}
 use Rattle.std.specs.Prelude.{if◌then◌else◌, nat_lt}
 use Rattle.std.proofs.lemmas.Bool.Decides.{nat_tests}
+use Rattle.std.proofs.lemmas.Bool.{false≢true}
 use Rattle.asm_expr.specs.Value.{value_of}
 use Rattle.asm_expr.specs.declared.evaluation.ExprFault.{ExprFault}
 use Rattle.asm_expr.specs.declared.evaluation.ExprFault.TheVariants as expr
@@ -12,7 +13,8 @@ use Rattle.asm_syntax.specs.declared.statement.Operand.{Operand}
 use Rattle.asm_syntax.specs.declared.statement.Action.{Action}
 use Rattle.asm_syntax.specs.declared.statement.Operation.{Operation}
 use Rattle.asm_syntax.specs.declared.statement.Statement.{Statement}
-use Rattle.asm_syntax.specs.Outcome.{Fault, ◌>>=◌}
+use Rattle.asm_syntax.specs.Outcome.{Fault, ComesBefore, ◌>>=◌}
+use Rattle.asm_syntax.proofs.FirstFaults.{fault_is}
 use Rattle.asm_build.specs.declared.laid.Laid.{Laid}
 use Rattle.asm_build.specs.Statements.{on_action, definition_of, early_in}
 use Rattle.asm_build.specs.Statements.{length_of}
@@ -20,13 +22,13 @@ use Rattle.asm_build.specs.Reading.{Entries, Lines}
 use Rattle.asm_build.specs.Reading.{early_value, place_after}
 use Rattle.asm_build.specs.Reading.{parts_after, has_ended, is_selected, Fits}
 use Rattle.asm_build.specs.Layout.{past}
-use Rattle.asm_build.specs.Layout.{check_definition, or_early, early, within, assembled}
+use Rattle.asm_build.specs.Layout.{check_definition, or_fault, early, within, assembled}
 use Rattle.asm_build.specs.Layout.{laid_out, laid_after}
 use Rattle.asm_build.specs.Refusals.{Part, TheDefinition, TheOperand, TheOperation}
 use Rattle.asm_build.specs.Refusals.{WrongEarly, IsPastEnd}
-use Rattle.asm_build.specs.Refusals.{WrongInLayout, StandsAfter, rank, ComesBefore}
+use Rattle.asm_build.specs.Refusals.{WrongInLayout, StandsAfter, rank}
 use Rattle.asm_build.proofs.ReadingLemmas.{row, done, early_is, one_row}
-use Rattle.asm_build.proofs.DefinitionFaults.{false_true, some_is, none_some, ok_err, fault_same, Follows}
+use Rattle.asm_build.proofs.DefinitionFaults.{some_is, none_some, ok_err, Follows}
 use Rattle.asm_build.proofs.DefinitionFaults.{DefinitionVerdict, definition_judged}
 
 -- ---- the operand that the layout needs
@@ -60,7 +62,7 @@ wrong_operand kept earlier s o k is w = ((o, is, refl, refl, w), same)
     same : (i : ℕ) (g : Fault) → WrongInLayout kept earlier s (TheOperand i) g → g ≡ (o.column, k)
     same i g m =
         let it : m.0 ≡ o = some_is m.0 o (on_action early_in None s) m.1 is in
-        fault_same g (o.column, k) (m.3 ∙ ap (λ (e : Operand). e.column) it)
+        fault_is (o.column, k) g (m.3 ∙ ap (λ (e : Operand). e.column) it)
         (one_early (value_here kept earlier o) g.1 k
         (subst (λ (e : Operand). WrongEarly (value_here kept earlier e) g.1) it m.4) w)
 
@@ -71,7 +73,7 @@ no_early v r e k w = w
 
 value_judged : (kept : Entries) (earlier : Lines) (s : Statement) (o : Operand)
     → on_action early_in None s ≡ Some o → (r : Result ℕ ExprFault) → value_here kept earlier o ≡ r
-    → OperandVerdict kept earlier s (or_early o.column r)
+    → OperandVerdict kept earlier s (or_fault fault.Early o.column r)
 value_judged kept earlier s o is (Ok v) e = λ i g m.
     no_early v (value_here kept earlier o) e g.1
     (subst (λ (p : Operand). WrongEarly (value_here kept earlier p) g.1)
@@ -99,7 +101,7 @@ small : (r : Laid) (a : Action) → nat_lt 65536 (r.place + length_of a r.value)
 small r a h lt = by (r.place + length_of a r.value) h lt
   where
     by : (n : ℕ) → nat_lt 65536 n ≡ false → 65536 < n → ⊥
-    by n e l = let f : nat_lt 65536 n ≡ true = grind (arith, nat_tests) in false_true (sym e ∙ f)
+    by n e l = let f : nat_lt 65536 n ≡ true = grind (arith, nat_tests) in false≢true (sym e ∙ f)
 
 large : (n : ℕ) → nat_lt 65536 n ≡ true → 65536 < n
 large n e = grind (arith, nat_tests)
@@ -235,7 +237,7 @@ left_out : (kept : Entries) (earlier : Lines) (s : Statement)
     → StatementVerdict kept earlier s (Ok (row (place_after earlier) false 0))
 left_out kept earlier s off = (
   record { place = refl; assembled = sym off; value = refl },
-  λ part g a. false_true (sym off ∙ a.0),
+  λ part g a. false≢true (sym off ∙ a.0),
 )
 
 pub statement_judged : (kept : Entries) (earlier : Lines) (s : Statement)

@@ -2,11 +2,11 @@
 use Rattle.std.proofs.Common.{◌≡◌, ℕ, ◌+◌, ◌<◌, ◌⊎◌, inl, inr, List, [], ◌∷◌, ◌++◌, length}
 use Rattle.std.proofs.Common.{refl, sym, ap, ◌∙◌, subst, arith, Result, Ok, Err}
 use Rattle.asm_syntax.specs.declared.statement.Statement.{Statement}
-use Rattle.asm_syntax.specs.Outcome.{Fault, CellFault, ◌>>=◌, at_line}
+use Rattle.asm_syntax.specs.Outcome.{Fault, CellFault, ComesBefore, ◌>>=◌, at_line}
 use Rattle.asm_build.specs.declared.laid.Laid.{Laid}
 use Rattle.asm_build.specs.Reading.{Entries, Lines, Fits, Reads, IsReading}
 use Rattle.asm_build.specs.Layout.{laid_after, layout}
-use Rattle.asm_build.specs.Refusals.{Part, StandsAfter, LayoutFault, rank, ComesBefore, NoneStands, IsFirst}
+use Rattle.asm_build.specs.Refusals.{Part, StandsAfter, LayoutFault, rank, NoneStands, IsFirst}
 use Rattle.asm_build.proofs.ReadingLemmas.{one_row}
 use Rattle.asm_build.proofs.DefinitionFaults.{Follows}
 use Rattle.asm_build.proofs.LayoutFaults.{StatementVerdict, statement_judged}

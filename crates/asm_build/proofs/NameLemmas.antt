@@ -14,7 +14,6 @@ use Rattle.std.proofs.lemmas.List.{map-append}
 use Rattle.std.proofs.lemmas.List.{drop_all}
 use Rattle.std.proofs.lemmas.Option.{slice_get_within, get_or_from_slice_get, slice_get-get_or}
 use denote.Bor.{Bor}
-use Rattle.asm_expr.specs.declared.name.Name.{Name}
 use Rattle.indexmap.specs.IndexMap.{insert_entry}
 use Rattle.indexmap.specs.IndexSet.{insert_key}
 use Rattle.asm_build.specs.declared.symbols.Symbol.{Symbol}
@@ -65,30 +64,29 @@ among_texts x [] = refl
 among_texts x (k ∷ ks) = ap (λ b. bytes_eq x k.now || b) (among_texts x ks)
 
 among_there : (x v : List ℕ) (names : List (List ℕ)) (b : Bool) → is_among v names ≡ true → bytes_eq x v ≡ b
-    → is_among x names ≡ (b || is_among x names)
+    → is_among x names ≡ ((b || false) || is_among x names)
 among_there x v names true h e = ap (λ n. is_among n names) ((bytes_eq-Decides x v).0 e) ∙ h
 among_there x v names false h e = refl
 
-or_swap : (a b : Bool) → (a || (b || false)) ≡ (b || a)
+or_swap : (a b : Bool) → (a || (b || false)) ≡ ((b || false) || a)
 or_swap true true = refl
 or_swap true false = refl
 or_swap false true = refl
 or_swap false false = refl
 
 among_more : (x v : List ℕ) (names : List (List ℕ))
-    → is_among x (names ++ v ∷ []) ≡ (bytes_eq x v || is_among x names)
+    → is_among x (names ++ v ∷ []) ≡ (is_among x (v ∷ []) || is_among x names)
 among_more x v names = list_any-append (bytes_eq x) names (v ∷ []) ∙ or_swap (is_among x names) (bytes_eq x v)
 
 insert_by : (x : List ℕ) (v : Text) (ks : List Text) (b : Bool) → is_among v.now (texts ks) ≡ b
-    → is_among x (texts (cond b ks (ks ++ v ∷ []))) ≡ (bytes_eq x v.now || is_among x (texts ks))
-insert_by x v ks true h =
-    among_there x v.now (texts ks) (bytes_eq x v.now) h refl ∙ ap (λ b. b || is_among x (texts ks)) refl
+    → is_among x (texts (cond b ks (ks ++ v ∷ []))) ≡ (is_among x (v.now ∷ []) || is_among x (texts ks))
+insert_by x v ks true h = among_there x v.now (texts ks) (bytes_eq x v.now) h refl
 insert_by x v ks false h =
     ap (is_among x) (map-append (λ (n : Text). n.now) ks (v ∷ [])) ∙ among_more x v.now (texts ks)
 
 pub among_inserted : (x : List ℕ) (v : Text) (ks : List Text)
     → is_among x (texts (insert_key (λ (m n : Text). bytes_eq m.now n.now) ks v))
-    ≡ (bytes_eq x v.now || is_among x (texts ks))
+    ≡ (is_among x (v.now ∷ []) || is_among x (texts ks))
 among_inserted x v ks =
     ap (λ b. is_among x (texts (cond b ks (ks ++ v ∷ [])))) (among_texts v.now ks)
     ∙ insert_by x v ks (is_among v.now (texts ks)) refl
@@ -103,34 +101,6 @@ copied [] [] h = refl
 copied [] (f ∷ fs) h = absurd h
 copied (e ∷ es) [] h = absurd h
 copied (e ∷ es) (f ∷ fs) h = copy_entry e f es fs h.0.0 h.0.1 (copied es fs h.1)
-
--- ---- the names of an expression, one after the other
-
-abbrev pub named : List (Bor Name) → List (List ℕ)
-named ns = map (λ (n : Bor Name). n.now) ns
-
-shifted : (a b c : Bool) → ((a || b) || c) ≡ (b || (a || c))
-shifted true true c = refl
-shifted true false c = refl
-shifted false b c = refl
-
-pub among_goes : (ns : List (Bor Name)) (i : ℕ) (n : Bor Name) (before after : List (List ℕ)) (b : Bool)
-    (x : List ℕ)
-    → i < length ns → n ≡ get_or ns i n → is_among x after ≡ (bytes_eq x n.now || is_among x before)
-    → (is_among x (named (drop i ns)) || is_among x before) ≡ b
-    → (is_among x (named (drop (i + 1) ns)) || is_among x after) ≡ b
-among_goes ns i n before after b x lt e grows was =
-    let more : drop i ns ≡ n ∷ drop (i + 1) ns =
-    drop-cons ns i n lt ∙ ap (λ m. m ∷ drop (suc i) ns) (sym e)
-    ∙ ap (λ k. n ∷ drop k ns) (sym (add-one i)) in
-    ap (λ c. is_among x (named (drop (i + 1) ns)) || c) grows
-    ∙ sym (shifted (bytes_eq x n.now) (is_among x (named (drop (i + 1) ns))) (is_among x before))
-    ∙ sym (ap (λ ms. is_among x (named ms) || is_among x before) more) ∙ was
-
-pub among_ends : (ns : List (Bor Name)) (i : ℕ) (before : List (List ℕ)) (b : Bool) (x : List ℕ)
-    → length ns ≤ i → (is_among x (named (drop i ns)) || is_among x before) ≡ b → is_among x before ≡ b
-among_ends ns i before b x le was =
-    ap (λ ms. is_among x (named ms) || is_among x before) (sym (drop_all i ns le)) ∙ was
 
 -- ---- definitions, one after the other
 

@@ -5,6 +5,7 @@ use Rattle.std.proofs.Common.{Result, Ok, Err, slice_get, ◌||◌, ◌%◌, ◌
 use Rattle.std.specs.Prelude.{if◌then◌else◌, nat_lt, nat_le}
 use Rattle.std.proofs.lemmas.Bool.Decides.{nat_tests}
 use Rattle.std.proofs.lemmas.List.Sums.{sum_by-cons}
+use Rattle.std.proofs.lemmas.Bool.{false≢true}
 use Rattle.asm_expr.specs.Value.{value_of}
 use Rattle.asm_expr.specs.declared.evaluation.ExprFault.{ExprFault}
 use Rattle.asm_expr.specs.declared.evaluation.ExprFault.TheVariants as expr
@@ -13,10 +14,10 @@ use Rattle.i80_rows.specs.declared.instruction.Instr.TheVariants.{Rst}
 use Rattle.i80_rows.specs.Encoding.{encoding_of}
 use Rattle.asm_syntax.specs.declared.fault.FaultKind.{FaultKind}
 use Rattle.asm_syntax.specs.declared.fault.FaultKind.TheVariants as fault
-use Rattle.asm_syntax.specs.declared.statement.ByteOperation.{ByteOperation}
-use Rattle.asm_syntax.specs.declared.statement.ByteOperation.TheVariants as byte_op
-use Rattle.asm_syntax.specs.declared.statement.WordOperation.{WordOperation}
-use Rattle.asm_syntax.specs.declared.statement.WordOperation.TheVariants as word_op
+use Rattle.i80_rows.specs.declared.instruction.ByteOperation.{ByteOperation}
+use Rattle.i80_rows.specs.declared.instruction.ByteOperation.TheVariants as byte_op
+use Rattle.i80_rows.specs.declared.instruction.WordOperation.{WordOperation}
+use Rattle.i80_rows.specs.declared.instruction.WordOperation.TheVariants as word_op
 use Rattle.asm_syntax.specs.declared.statement.Operand.{Operand}
 use Rattle.asm_syntax.specs.declared.statement.Instruction.{Instruction}
 use Rattle.asm_syntax.specs.declared.statement.Instruction.TheVariants as instruction
@@ -24,13 +25,15 @@ use Rattle.asm_syntax.specs.declared.statement.Data.{Data}
 use Rattle.asm_syntax.specs.declared.statement.Data.TheVariants as datum
 use Rattle.asm_syntax.specs.declared.statement.Action.{Action}
 use Rattle.asm_syntax.specs.declared.statement.Action.TheVariants as action
-use Rattle.asm_syntax.specs.Instructions.{byte_instruction, word_instruction}
+use Rattle.i80_rows.specs.Instructions.{byte_instruction, word_instruction}
 use Rattle.asm_syntax.specs.Outcome.{Fault, ◌>>=◌}
+use Rattle.asm_syntax.proofs.FirstFaults.{fault_is}
 use Rattle.asm_build.specs.Statements.{late_in, operands_in_data, length_of_datum}
-use Rattle.asm_build.specs.Meaning.{or_fault, as_byte, vector, as_vector, all_bytes, number, byte, restart}
+use Rattle.asm_build.specs.Layout.{or_fault}
+use Rattle.asm_build.specs.Meaning.{as_byte, vector, as_vector, all_bytes, number, byte, restart}
 use Rattle.asm_build.specs.Meaning.{instruction_bytes, datum_bytes, word_bytes, bytes_of, start_of}
 use Rattle.asm_build.specs.Refusals.{IsOutOfRange, WrongOperand, bytes_given}
-use Rattle.asm_build.proofs.DefinitionFaults.{false_true, no_more, some_is, fault_same, ok_err}
+use Rattle.asm_build.proofs.DefinitionFaults.{no_more, some_is, ok_err}
 
 -- ---- one operand
 
@@ -74,7 +77,7 @@ byte_out : (v : ℕ) → (nat_lt v 256 || nat_le 65280 v) ≡ false → (255 < v
 byte_out v h = by (nat_lt v 256) refl
   where
     by : (b : Bool) → nat_lt v 256 ≡ b → (255 < v) × (v < 65280)
-    by true e = absurd (false_true (sym (rw e at h)))
+    by true e = absurd (false≢true (sym (rw e at h)))
     by false e =
         let f : nat_le 65280 v ≡ false = rw e at h in
         let low : 255 < v = grind (arith, nat_tests) in
@@ -168,7 +171,7 @@ module _ (names : List ℕ → Option ℕ) (here : ℕ) where
       → IsWrong a o (o.column, k) × ((g : Fault) → IsWrong a o g → g ≡ (o.column, k))
   only_wrong a o k w = (
     (refl, w),
-    λ g h. fault_same g (o.column, k) h.0
+    λ g h. fault_is (o.column, k) g h.0
         (one_kind a (value_of names here o.expr) g.1 k h.1 w),
   )
 
@@ -193,7 +196,7 @@ module _ (names : List ℕ → Option ℕ) (here : ℕ) where
 
   valued : {X : Type 0} (a : Action) (o : Operand) (f : ℕ → Result X Fault)
       → ((v : ℕ) → RangeVerdict a o.column v (f v)) → (r : Result ℕ ExprFault)
-      → value_of names here o.expr ≡ r → OneVerdict a o (or_fault o.column r >>= f)
+      → value_of names here o.expr ≡ r → OneVerdict a o (or_fault fault.Undefined o.column r >>= f)
   valued a o f range (Ok v) is = ranged a o v is (f v) (range v)
   valued a o f range (Err expr.Undefined) is = only_wrong a o fault.Undefined is
   valued a o f range (Err expr.Divisor) is = only_wrong a o fault.Divisor is
@@ -203,7 +206,7 @@ module _ (names : List ℕ → Option ℕ) (here : ℕ) where
   number_judged a o any = by (value_of names here o.expr) refl
     where
       by : (r : Result ℕ ExprFault) → value_of names here o.expr ≡ r
-          → OneVerdict a o (or_fault o.column r)
+          → OneVerdict a o (or_fault fault.Undefined o.column r)
       by (Ok v) is = right_value a o v is (any v)
       by (Err expr.Undefined) is = only_wrong a o fault.Undefined is
       by (Err expr.Divisor) is = only_wrong a o fault.Divisor is

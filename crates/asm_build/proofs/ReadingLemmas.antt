@@ -8,13 +8,14 @@ use Rattle.asm_expr.specs.declared.evaluation.ExprFault.TheVariants as expr
 use Rattle.asm_syntax.specs.declared.fault.AsmFault.{AsmFault}
 use Rattle.asm_syntax.specs.declared.statement.Operand.{Operand}
 use Rattle.asm_syntax.specs.declared.statement.Statement.{Statement}
+use Rattle.asm_syntax.specs.declared.fault.FaultKind.TheVariants as fault
 use Rattle.asm_syntax.specs.Outcome.{Fault, ◌>>=◌, at_line, Gives}
 use Rattle.asm_build.specs.declared.laid.Laid.{Laid}
 use Rattle.asm_build.specs.declared.built.Built.{Built}
 use Rattle.asm_build.specs.Statements.{on_action, definition_of, early_in}
 use Rattle.asm_build.specs.Reading.{Entries, Lines, early_value, place_after, parts_after, has_ended}
 use Rattle.asm_build.specs.Reading.{is_selected, EarlyIs, ValueIs, Fits, Reads, IsReading}
-use Rattle.asm_build.specs.Layout.{past, check_definition, or_early, early, within, assembled, laid_out}
+use Rattle.asm_build.specs.Layout.{past, check_definition, or_fault, early, within, assembled, laid_out}
 use Rattle.asm_build.specs.Layout.{laid_after, layout}
 use Rattle.asm_build.specs.Meaning.{Meaning, meaning_of, built_of, meaning_in, IsMeaning, IsOnlyMeaning}
 
@@ -32,7 +33,7 @@ done x = Ok x
 
 -- ---- what the layout gives is a consistent reading
 
-early_ok : (column v : ℕ) (r : Result ℕ ExprFault) → or_early column r ≡ Ok v → r ≡ Ok v
+early_ok : (column v : ℕ) (r : Result ℕ ExprFault) → or_fault fault.Early column r ≡ Ok v → r ≡ Ok v
 early_ok column v (Ok w) e = let same : w ≡ v = cc in ap (λ z. Ok z) same
 early_ok column v (Err expr.Undefined) e = absurd cc
 early_ok column v (Err expr.Divisor) e = absurd cc

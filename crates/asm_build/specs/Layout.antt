@@ -1,11 +1,12 @@
 -- The layout round: where each statement stands, or the first fault on the way.
-use Rattle.std.specs.Prelude.{ℕ, ◌+◌, ◌%◌, List, [], ◌∷◌, length, Bool, true, false, ◌&&◌, ◌||◌, Option, Some}
-use Rattle.std.specs.Prelude.{None, is_some, Result, Ok, Err, if◌then◌else◌, nat_lt}
+use Rattle.std.specs.Prelude.{◌≡◌, ℕ, ◌+◌, ◌%◌, List, [], ◌∷◌, length, Bool, true, false, ◌&&◌, ◌||◌, Option}
+use Rattle.std.specs.Prelude.{Some, None, is_some, Result, Ok, Err, if◌then◌else◌, nat_lt}
 use Rattle.std.specs.Str.{bytes_eq}
 use Rattle.std.specs.List.{list_any}
 use Rattle.asm_expr.specs.Value.{value_of}
 use Rattle.asm_expr.specs.declared.evaluation.ExprFault.{ExprFault}
 use Rattle.asm_expr.specs.declared.evaluation.ExprFault.TheVariants as expr
+use Rattle.asm_syntax.specs.declared.fault.FaultKind.{FaultKind}
 use Rattle.asm_syntax.specs.declared.fault.FaultKind.TheVariants as fault
 use Rattle.asm_syntax.specs.declared.statement.Label.{Label}
 use Rattle.asm_syntax.specs.declared.statement.Operand.{Operand}
@@ -23,6 +24,14 @@ use Rattle.asm_build.specs.Reading.{place_after, parts_after, has_ended, is_sele
 -- a name is one of these
 abbrev pub is_among : List ℕ → List (List ℕ) → Bool
 is_among x names = list_any (bytes_eq x) names
+
+-- from old to new a set of names has got those that pass
+abbrev pub Adds : (List ℕ → Bool) → List (List ℕ) → List (List ℕ) → Type 0
+Adds passes old new = (x : List ℕ) → is_among x new ≡ (passes x || is_among x old)
+
+-- it has got these names
+abbrev pub Notes : List (List ℕ) → List (List ℕ) → List (List ℕ) → Type 0
+Notes names old new = Adds (λ x. is_among x names) old new
 
 -- what can be said of a name after some lines
 pub record Past : Type 0 where
@@ -86,17 +95,17 @@ check_definition before o (Some d) = check_defined before o d (before.defined d.
 
 -- ---- values that the layout needs
 
--- a value, or why there is none, as an early operand's fault
-abbrev pub or_early : ℕ → Result ℕ ExprFault → Result ℕ Fault
-or_early column (Ok v) = Ok v
-or_early column (Err expr.Undefined) = Err (column, fault.Early)
-or_early column (Err expr.Divisor) = Err (column, fault.Divisor)
+-- a value, or why there is none: where a name has none, this fault
+abbrev pub or_fault : FaultKind → ℕ → Result ℕ ExprFault → Result ℕ Fault
+or_fault missing column (Ok v) = Ok v
+or_fault missing column (Err expr.Undefined) = Err (column, missing)
+or_fault missing column (Err expr.Divisor) = Err (column, fault.Divisor)
 
 -- the value of an early operand, 0 where there is none
 abbrev pub early : Past → ℕ → Option Operand → Result ℕ Fault
 early before here None = Ok 0
 early before here (Some o) =
-    or_early o.column
+    or_fault fault.Early o.column
     (value_of (λ x. value_in (or_else (before.defined x) (before.kept x))) here o.expr)
 
 -- ---- places: no statement passes over a byte past the last address

@@ -5,8 +5,6 @@ use Rattle.std.specs.Str.{bytes_eq}
 use Rattle.std.specs.List.{list_any}
 use Rattle.indexmap.specs.IndexMap.{insert_entry}
 use Rattle.asm_expr.specs.Value.{value_of}
-use Rattle.asm_expr.specs.declared.evaluation.ExprFault.{ExprFault}
-use Rattle.asm_expr.specs.declared.evaluation.ExprFault.TheVariants as expr
 use Rattle.i80_rows.specs.declared.instruction.Instr.TheVariants.{Rst}
 use Rattle.i80_rows.specs.declared.instruction.Vector.{Vector}
 use Rattle.i80_rows.specs.declared.instruction.Vector.TheVariants.{V0, V1, V2, V3, V4, V5, V6, V7}
@@ -23,7 +21,7 @@ use Rattle.asm_syntax.specs.declared.statement.Action.TheVariants as action
 use Rattle.asm_syntax.specs.declared.statement.Operation.{Operation}
 use Rattle.asm_syntax.specs.declared.statement.Statement.{Statement}
 use Rattle.asm_syntax.specs.Outcome.{Fault, CellFault, ◌>>=◌, at_line}
-use Rattle.asm_syntax.specs.Instructions.{byte_instruction, word_instruction}
+use Rattle.i80_rows.specs.Instructions.{byte_instruction, word_instruction}
 use Rattle.asm_build.specs.declared.symbols.SymbolKind.{SymbolKind}
 use Rattle.asm_build.specs.declared.symbols.Symbol.{Symbol}
 use Rattle.asm_build.specs.declared.laid.Laid.{Laid}
@@ -32,15 +30,9 @@ use Rattle.asm_build.specs.declared.built.Built.{Built}
 use Rattle.asm_build.specs.Images.{has}
 use Rattle.asm_build.specs.Statements.{definition_of}
 use Rattle.asm_build.specs.Reading.{Entries, Lines, IsReading, given_as, late_value}
-use Rattle.asm_build.specs.Layout.{layout}
+use Rattle.asm_build.specs.Layout.{or_fault, layout}
 
 -- ---- the bytes of an action, where names have these values and `$` is here
-
--- a value, or why there is none, as a late operand's fault
-abbrev pub or_fault : ℕ → Result ℕ ExprFault → Result ℕ Fault
-or_fault column (Ok v) = Ok v
-or_fault column (Err expr.Undefined) = Err (column, fault.Undefined)
-or_fault column (Err expr.Divisor) = Err (column, fault.Divisor)
 
 -- a byte operand: its low byte, in 0 to FFh or FF00h to FFFFh
 abbrev pub as_byte : ℕ → ℕ → Result ℕ Fault
@@ -75,7 +67,7 @@ all_bytes f (x ∷ xs) = do
 module _ (names : List ℕ → Option ℕ) (here : ℕ) where
   -- an operand's value
   abbrev pub number : Operand → Result ℕ Fault
-  number o = or_fault o.column (value_of names here o.expr)
+  number o = or_fault fault.Undefined o.column (value_of names here o.expr)
 
   -- an operand that is a byte
   abbrev pub byte : Operand → Result ℕ Fault

@@ -15,7 +15,7 @@ use Rattle.asm_syntax.specs.declared.statement.Action.{Action}
 use Rattle.asm_syntax.specs.declared.statement.Action.TheVariants as action
 use Rattle.asm_syntax.specs.declared.statement.Operation.{Operation}
 use Rattle.asm_syntax.specs.declared.statement.Statement.{Statement}
-use Rattle.asm_syntax.specs.Outcome.{Fault, CellFault}
+use Rattle.asm_syntax.specs.Outcome.{Fault, CellFault, ComesBefore}
 use Rattle.asm_build.specs.declared.symbols.SymbolKind.{SymbolKind}
 use Rattle.asm_build.specs.declared.symbols.SymbolKind.TheVariants as kind
 use Rattle.asm_build.specs.declared.symbols.Symbol.{Symbol}
@@ -167,11 +167,6 @@ rank TheDefinition fault.Twice = 0 ∷ 0 ∷ []
 rank TheDefinition _ = 0 ∷ 1 ∷ []
 rank (TheOperand i) _ = 1 ∷ i ∷ []
 rank TheOperation _ = 2 ∷ 0 ∷ []
-
--- the first numbers that differ decide
-abbrev pub ComesBefore : List ℕ → List ℕ → Type 0
-ComesBefore (a ∷ more) (b ∷ others) = (a < b) ⊎ ((a ≡ b) × ComesBefore more others)
-ComesBefore _ _ = ⊥
 
 -- no such fault stands
 abbrev pub NoneStands : (Part → CellFault → Type 0) → Type 0

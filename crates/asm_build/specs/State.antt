@@ -13,7 +13,7 @@ use Rattle.asm_build.specs.declared.values.Values.{Values}
 use Rattle.asm_build.specs.Statements.{on_action, is_end, definition_of}
 use Rattle.asm_build.specs.Reading.{Entries, Lines, symbol_at, value_in, late_symbol, parts_past, next_place}
 use Rattle.asm_build.specs.Reading.{place_after, parts_after, has_ended}
-use Rattle.asm_build.specs.Layout.{Past, is_among, needs, uses}
+use Rattle.asm_build.specs.Layout.{Past, is_among, Adds, needs, uses}
 use Rattle.asm_build.specs.Meaning.{Output, with_definition, definitions}
 
 -- statements, each beside how it is laid out, after these lines
@@ -43,8 +43,8 @@ with_line_definition es s r =
 -- from old to new a layout has gone past a statement that is laid out so
 pub record Advances (old new : Layout) (s : Statement) (r : Laid) : Type 0 where
   pub own : new.own ≡ with_line_definition old.own s r
-  pub needed : (x : List ℕ) → is_among x new.needed ≡ (needs (s, r) x || is_among x old.needed)
-  pub used : (x : List ℕ) → is_among x new.used ≡ (uses (s, r) x || is_among x old.used)
+  pub needed : Adds (needs (s, r)) old.needed new.needed
+  pub used : Adds (uses (s, r)) old.used new.used
   pub parts : new.parts ≡ on_action (parts_past old.parts r.value) old.parts s
   pub place : new.place ≡ next_place (s, r)
   pub ended : new.has_ended ≡ (on_action is_end false s || old.has_ended)

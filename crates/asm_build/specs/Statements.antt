@@ -1,8 +1,9 @@
 -- What a statement says by itself (8080/8085 Assembly Language Programming Manual, chapters 2
 -- and 4).
-use Rattle.std.specs.Prelude.{ℕ, ◌*◌, List, [], ◌∷◌, ◌++◌, length, sum, map, Bool, true, false, Option, Some}
+use Rattle.std.specs.Prelude.{ℕ, ◌*◌, List, [], ◌∷◌, length, sum, map, Bool, true, false, Option, Some}
 use Rattle.std.specs.Prelude.{None}
 use Rattle.std.specs.Option.{option_map_or}
+use Rattle.std.specs.List.{flat_map}
 use Rattle.asm_expr.specs.Tree.{names_of}
 use Rattle.asm_syntax.specs.declared.statement.Operand.{Operand}
 use Rattle.asm_syntax.specs.declared.statement.Label.{Label}
@@ -82,8 +83,12 @@ late_in _ = []
 
 -- the names in operands
 abbrev pub names_in : List Operand → List (List ℕ)
-names_in [] = []
-names_in (o ∷ os) = names_of o.expr ++ names_in os
+names_in os = flat_map (λ o. names_of o.expr) os
+
+-- the names in an operand of DB
+abbrev pub names_in_datum : Data → List (List ℕ)
+names_in_datum (datum.Text t) = []
+names_in_datum (datum.Byte o) = names_of o.expr
 
 -- the names in an early operand
 abbrev pub names_in_early : Option Operand → List (List ℕ)

@@ -1,7 +1,9 @@
 //! The bytes of actions.
 ghost use Rattle.std.specs.Prelude.{◌≡◌, ℕ, List, Option, Result, IfOk};
 ghost use Rattle.i80_rows.specs.Encoding.{encoding_of};
+ghost use Rattle.asm_expr.specs.Value.{value_of};
 ghost use Rattle.asm_syntax.specs.Outcome.{Fault, LineGives};
+ghost use Rattle.asm_build.specs.Layout.{or_fault};
 ghost use Rattle.asm_build.specs.Meaning.{as_byte, vector, number, byte, restart};
 ghost use Rattle.asm_build.specs.Meaning.{instruction_bytes, datum_bytes, word_bytes, all_bytes};
 ghost use Rattle.asm_build.specs.Meaning.{bytes_of, start_of};
@@ -16,14 +18,27 @@ use i80_rows::encoding::encode;
 use i80_rows::instruction::{Instr, Vector};
 use std::alloc::{AllocError, Global};
 
-fn number<E: Env>(names: &E, here: u16, operand: &Operand) -> Result<u16, LineFault>
-    ensures { LineGives (λ v. v) result (number (E.values names.now) here operand.now) }
+/// The value of an operand, with this fault where a name has none.
+pub(crate) fn number_or<E: Env>(
+    names: &E,
+    here: u16,
+    operand: &Operand,
+    missing: FaultKind,
+) -> Result<u16, LineFault>
+    ensures { LineGives (λ v. v) result (or_fault missing operand.now.column
+        (value_of (E.values names.now) here operand.now.expr)) }
 {
     match value(&operand.expr, names, here) {
         Ok(v) => Ok(v),
-        Err(ExprFault::Undefined) => Err(at(operand.column, FaultKind::Undefined)),
+        Err(ExprFault::Undefined) => Err(at(operand.column, missing)),
         Err(ExprFault::Divisor) => Err(at(operand.column, FaultKind::Divisor)),
     }
+}
+
+fn number<E: Env>(names: &E, here: u16, operand: &Operand) -> Result<u16, LineFault>
+    ensures { LineGives (λ v. v) result (number (E.values names.now) here operand.now) }
+{
+    number_or(names, here, operand, FaultKind::Undefined)
 }
 
 fn as_byte(column: usize, value: u16) -> Result<u8, LineFault>

@@ -2,27 +2,29 @@
 ghost use Rattle.std.specs.Prelude.{◌≡◌, ◌≤◌, ◌<◌, ◌+◌, ◌++◌, ◌∷◌, ℕ, List, [], false, None};
 ghost use Rattle.std.specs.Prelude.{option_copied, length, IfOk, OnOk, ◌||◌};
 ghost use Rattle.std.specs.Option.{option_map_or};
+ghost use Rattle.std.specs.List.{flat_map};
 ghost use Rattle.asm_expr.specs.Tree.{names_of};
 ghost use Rattle.asm_syntax.specs.Outcome.{Gives, LineGives, at_line};
 ghost use Rattle.asm_build.specs.Statements.{on_action, is_end, definition_of, early_in, late_in};
-ghost use Rattle.asm_build.specs.Statements.{names_in, names_in_early, operands_in_data};
+ghost use Rattle.asm_build.specs.Statements.{names_in, names_in_datum, names_in_early};
 ghost use Rattle.asm_build.specs.Statements.{operands_in_instruction, length_of};
 ghost use Rattle.asm_build.specs.Reading.{given_as, next_place, parts_around, parts_past};
 ghost use Rattle.asm_build.specs.Reading.{is_selected, symbol_at};
 ghost use Rattle.asm_build.specs.Meaning.{definitions};
-ghost use Rattle.asm_build.specs.Layout.{is_among, needs, uses, check_first, check_defined};
+ghost use Rattle.asm_build.specs.Layout.{is_among, Adds, Notes, needs, uses, check_first};
+ghost use Rattle.asm_build.specs.Layout.{check_defined};
 ghost use Rattle.asm_build.specs.Layout.{check_definition, early, within, assembled, laid_out};
 ghost use Rattle.asm_build.specs.Layout.{layout};
 ghost use Rattle.asm_build.specs.State.{placed, past_in, past_of, lines_of, with_line_definition};
 ghost use Rattle.asm_build.specs.State.{Advances, Stands};
 
+use crate::bytes::number_or;
 use crate::laid::Laid;
 use crate::look_up::EarlyNames;
 use crate::name_set::NameSet;
 use crate::parts::Parts;
 use crate::statements::{definition_of, early_operand, length_of};
 use crate::symbols::{Symbol, SymbolKind, Symbols};
-use asm_expr::evaluation::{ExprFault, value};
 use asm_syntax::fault::{AsmFault, FaultKind, LineFault};
 use asm_syntax::statement::{
     Action, Data, Instruction, Label, MOST_LINES, Operand, Operation, Statement,
@@ -98,11 +100,7 @@ fn early(names: EarlyNames<'_>, here: u16, operand: Option<&Operand>) -> Result<
     let Some(operand) = operand else {
         return Ok(0);
     };
-    match value(&operand.expr, &names, here) {
-        Ok(v) => Ok(v),
-        Err(ExprFault::Undefined) => Err(at(operand.column, FaultKind::Early)),
-        Err(ExprFault::Divisor) => Err(at(operand.column, FaultKind::Divisor)),
-    }
+    number_or(&names, here, operand, FaultKind::Early)
 }
 
 // That no byte lies past the last address.
@@ -154,48 +152,45 @@ fn define(
     own.define(alloc, label.name.as_str(), given_as(kind, row))
 }
 
-// Notes the names in operands that the bytes need.
-fn note_operands<'a>(
+// What names stand in: an operand of DW, or one of DB.
+trait Naming {
+    // Its names.
+    ghost names: { Self → List (List ℕ) };
+
+    // Notes them.
+    fn note<'a>(&'a self, alloc: Global, used: &mut NameSet<'a>) -> Result<(), AllocError>
+        ensures { OnOk result (Notes (names self.now) used.old used.new) };
+}
+
+impl Naming for Operand {
+    ghost names = { λ o. names_of o.expr };
+
+    fn note<'a>(&'a self, alloc: Global, used: &mut NameSet<'a>) -> Result<(), AllocError> {
+        used.insert_all(alloc, &self.expr)
+    }
+}
+
+impl Naming for Data {
+    ghost names = { names_in_datum };
+
+    fn note<'a>(&'a self, alloc: Global, used: &mut NameSet<'a>) -> Result<(), AllocError> {
+        match self {
+            Data::Text(_) => Ok(()),
+            Data::Byte(operand) => operand.note(alloc, used),
+        }
+    }
+}
+
+// Notes the names in each of the operands.
+fn note_all<'a, T: Naming>(
     alloc: Global,
     used: &mut NameSet<'a>,
-    operands: &'a [Operand],
+    operands: &'a [T],
 ) -> Result<(), AllocError>
-    ensures { OnOk result ((x : List ℕ) → is_among x used.new
-        ≡ (is_among x (names_in operands.now) || is_among x used.old)) }
+    ensures { OnOk result (Notes (flat_map T.names operands.now) used.old used.new) }
 {
     for operand in operands {
-        used.insert_all(alloc, &operand.expr)?;
-    }
-    Ok(())
-}
-
-fn note_operand<'a>(
-    alloc: Global,
-    used: &mut NameSet<'a>,
-    operand: &'a Operand,
-) -> Result<(), AllocError>
-    ensures { OnOk result ((x : List ℕ) → is_among x used.new
-        ≡ (is_among x (names_in (operand.now ∷ [])) || is_among x used.old)) }
-{
-    used.insert_all(alloc, &operand.expr)
-}
-
-fn note_datum<'a>(alloc: Global, used: &mut NameSet<'a>, datum: &'a Data) -> Result<(), AllocError>
-    ensures { OnOk result ((x : List ℕ) → is_among x used.new
-        ≡ (is_among x (names_in (operands_in_data (datum.now ∷ []))) || is_among x used.old)) }
-{
-    match datum {
-        Data::Text(_) => Ok(()),
-        Data::Byte(operand) => note_operand(alloc, used, operand),
-    }
-}
-
-fn note_data<'a>(alloc: Global, used: &mut NameSet<'a>, items: &'a [Data]) -> Result<(), AllocError>
-    ensures { OnOk result ((x : List ℕ) → is_among x used.new
-        ≡ (is_among x (names_in (operands_in_data items.now)) || is_among x used.old)) }
-{
-    for datum in items {
-        note_datum(alloc, used, datum)?;
+        operand.note(alloc, used)?;
     }
     Ok(())
 }
@@ -205,15 +200,14 @@ fn note_instruction<'a>(
     used: &mut NameSet<'a>,
     instruction: &'a Instruction,
 ) -> Result<(), AllocError>
-    ensures { OnOk result ((x : List ℕ) → is_among x used.new
-        ≡ (is_among x (names_in (operands_in_instruction instruction.now))
-        || is_among x used.old)) }
+    ensures { OnOk result
+        (Notes (names_in (operands_in_instruction instruction.now)) used.old used.new) }
 {
     match instruction {
         Instruction::Alone(_) => Ok(()),
-        Instruction::Byte(_, operand) => note_operand(alloc, used, operand),
-        Instruction::Word(_, operand) => note_operand(alloc, used, operand),
-        Instruction::Restart(operand) => note_operand(alloc, used, operand),
+        Instruction::Byte(_, operand) => operand.note(alloc, used),
+        Instruction::Word(_, operand) => operand.note(alloc, used),
+        Instruction::Restart(operand) => operand.note(alloc, used),
     }
 }
 
@@ -222,14 +216,13 @@ fn note_late<'a>(
     used: &mut NameSet<'a>,
     action: &'a Action,
 ) -> Result<(), AllocError>
-    ensures { OnOk result ((x : List ℕ) → is_among x used.new
-        ≡ (is_among x (names_in (late_in action.now)) || is_among x used.old)) }
+    ensures { OnOk result (Notes (names_in (late_in action.now)) used.old used.new) }
 {
     match action {
         Action::Instruction(instruction) => note_instruction(alloc, used, instruction),
-        Action::Bytes(items) => note_data(alloc, used, items.as_slice()),
-        Action::Words(operands) => note_operands(alloc, used, operands.as_slice()),
-        Action::End(Some(operand)) => note_operand(alloc, used, operand),
+        Action::Bytes(items) => note_all(alloc, used, items.as_slice()),
+        Action::Words(operands) => note_all(alloc, used, operands.as_slice()),
+        Action::End(Some(operand)) => operand.note(alloc, used),
         _ => Ok(()),
     }
 }
@@ -242,10 +235,8 @@ fn note_names<'a>(
     statement: &'a Statement,
     row: Laid,
 ) -> Result<(), AllocError>
-    ensures needed { OnOk result ((x : List ℕ) → is_among x needed.new
-        ≡ (needs (statement.now, row) x || is_among x needed.old)) }
-    ensures used { OnOk result ((x : List ℕ) → is_among x used.new
-        ≡ (uses (statement.now, row) x || is_among x used.old)) }
+    ensures needed { OnOk result (Adds (needs (statement.now, row)) needed.old needed.new) }
+    ensures used { OnOk result (Adds (uses (statement.now, row)) used.old used.new) }
 {
     if !row.is_assembled {
         return Ok(());

@@ -1,6 +1,5 @@
 //! Sets of names.
-ghost use Rattle.std.specs.Prelude.{◌≡◌, [], ℕ, List, ◌||◌, OnOk, IfOk};
-ghost use Rattle.std.specs.Str.{bytes_eq};
+ghost use Rattle.std.specs.Prelude.{◌≡◌, [], ◌∷◌, OnOk};
 
 use asm_expr::expression::Expr;
 use indexmap::IndexSet;
@@ -29,7 +28,7 @@ impl<'a> Model for NameSet<'a> {
 
 impl<'a> NameSet<'a> {
     ghost use Rattle.asm_expr.specs.Tree.{names_of};
-    ghost use Rattle.asm_build.specs.Layout.{is_among};
+    ghost use Rattle.asm_build.specs.Layout.{is_among, Notes};
 
     pub(crate) fn new(alloc: Global) -> Self
         ensures { result ≡ [] }
@@ -46,8 +45,7 @@ impl<'a> NameSet<'a> {
     }
 
     pub(crate) fn insert(&mut self, name: &'a str) -> Result<(), AllocError>
-        ensures { OnOk result ((x : List ℕ) → is_among x self.new
-            ≡ (bytes_eq x name.now || is_among x self.old)) }
+        ensures { OnOk result (Notes (name.now ∷ []) self.old self.new) }
     {
         self.names.insert(name)?;
         Ok(())
@@ -55,8 +53,7 @@ impl<'a> NameSet<'a> {
 
     // Adds the names of an expression.
     pub(crate) fn insert_all(&mut self, alloc: Global, expr: &'a Expr) -> Result<(), AllocError>
-        ensures { OnOk result ((x : List ℕ) → is_among x self.new
-            ≡ (is_among x (names_of expr.now) || is_among x self.old)) }
+        ensures { OnOk result (Notes (names_of expr.now) self.old self.new) }
     {
         let names = expr.names(alloc)?;
         for name in &names {

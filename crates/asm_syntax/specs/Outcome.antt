@@ -1,5 +1,5 @@
 -- What a line or a cell gives, or what is wrong with it, and how a function's answer shows that.
-use Rattle.std.specs.Prelude.{◌≡◌, ℕ, Result, Ok, Err}
+use Rattle.std.specs.Prelude.{◌≡◌, ◌<◌, ◌⊎◌, ℕ, List, ◌∷◌, Result, Ok, Err}
 use Rattle.asm_syntax.specs.declared.fault.FaultKind.{FaultKind}
 use Rattle.asm_syntax.specs.declared.fault.LineFault.{LineFault}
 use Rattle.asm_syntax.specs.declared.fault.LineFault.TheVariants as line
@@ -13,6 +13,11 @@ Fault = ℕ × FaultKind
 -- what is wrong, at a line and a column
 abbrev pub CellFault : Type 0
 CellFault = ℕ × ℕ × FaultKind
+
+-- where a fault comes among others is a list of numbers: the first that differ decide
+abbrev pub ComesBefore : List ℕ → List ℕ → Type 0
+ComesBefore (a ∷ more) (b ∷ others) = (a < b) ⊎ ((a ≡ b) × ComesBefore more others)
+ComesBefore _ _ = ⊥
 
 -- one step after the other, up to the first fault
 infixl 10 ◌>>=◌

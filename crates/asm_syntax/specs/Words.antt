@@ -19,8 +19,8 @@ use Rattle.asm_syntax.specs.declared.keyword.PairOperation.TheVariants as pair_o
 use Rattle.asm_syntax.specs.declared.keyword.RegisterOperation.TheVariants as register_op
 use Rattle.asm_syntax.specs.declared.keyword.RegisterWord.TheVariants as register
 use Rattle.asm_syntax.specs.declared.keyword.StackOperation.TheVariants as stack_op
-use Rattle.asm_syntax.specs.declared.statement.ByteOperation.TheVariants as byte_op
-use Rattle.asm_syntax.specs.declared.statement.WordOperation.TheVariants as word_op
+use Rattle.i80_rows.specs.declared.instruction.ByteOperation.TheVariants as byte_op
+use Rattle.i80_rows.specs.declared.instruction.WordOperation.TheVariants as word_op
 
 -- a word in upper case, and what it means
 abbrev pub Entry : Type 0

@@ -5,9 +5,8 @@ ghost use Rattle.std.specs.Str.{bytes_eq};
 ghost use Rattle.std.specs.Map.{lookup};
 ghost use Rattle.asm_syntax.specs.Words.{keyword_of};
 
-use crate::statement::{ByteOperation, WordOperation};
 use asm_expr::expression::{Binary, Unary};
-use i80_rows::instruction::{Cond, Instr, Operation, Rotation};
+use i80_rows::instruction::{ByteOperation, Cond, Instr, Operation, Rotation, WordOperation};
 
 /// An instruction that lacks a register.
 #[derive(Clone, Copy)]

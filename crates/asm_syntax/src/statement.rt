@@ -1,11 +1,10 @@
 //! What a line says.
 ghost use Rattle.std.specs.Prelude.{◌≡◌, ◌≤◌, ◌<◌, ◌++◌, ◌∷◌, [], length, OnOk, OnErr};
-ghost use Rattle.asm_syntax.specs.Instructions.{byte_instruction, word_instruction};
 
 use asm_expr::expression::Expr;
 use asm_expr::name::Name;
 use base_text::sequence::Sequence;
-use i80_rows::instruction::{Cond, Instr, Operation as AluOperation, Pair, Reg};
+use i80_rows::instruction::{ByteOperation, Instr, WordOperation};
 use std::alloc::{AllocError, Global};
 use std::marker::Model;
 
@@ -24,62 +23,6 @@ pub struct Operand {
 pub struct Label {
     pub column: usize,
     pub name: Name,
-}
-
-/// An instruction that lacks the byte after its opcode.
-#[derive(Clone, Copy)]
-pub enum ByteOperation {
-    Mvi(Reg),
-    AluImmediate(AluOperation),
-    Out,
-    In,
-}
-
-impl ByteOperation {
-    /// The instruction with this byte.
-    pub fn instruction(self, byte: u8) -> Instr
-        ensures { result ≡ byte_instruction self byte }
-    {
-        match self {
-            ByteOperation::Mvi(reg) => Instr::Mvi(reg, byte),
-            ByteOperation::AluImmediate(operation) => Instr::AluImmediate(operation, byte),
-            ByteOperation::Out => Instr::Out(byte),
-            ByteOperation::In => Instr::In(byte),
-        }
-    }
-}
-
-/// An instruction that lacks the word after its opcode.
-#[derive(Clone, Copy)]
-pub enum WordOperation {
-    Lxi(Pair),
-    Shld,
-    Lhld,
-    Sta,
-    Lda,
-    Jmp,
-    JumpIf(Cond),
-    Call,
-    CallIf(Cond),
-}
-
-impl WordOperation {
-    /// The instruction with this word.
-    pub fn instruction(self, word: u16) -> Instr
-        ensures { result ≡ word_instruction self word }
-    {
-        match self {
-            WordOperation::Lxi(pair) => Instr::Lxi(pair, word),
-            WordOperation::Shld => Instr::Shld(word),
-            WordOperation::Lhld => Instr::Lhld(word),
-            WordOperation::Sta => Instr::Sta(word),
-            WordOperation::Lda => Instr::Lda(word),
-            WordOperation::Jmp => Instr::Jmp(word),
-            WordOperation::JumpIf(cond) => Instr::JumpIf(cond, word),
-            WordOperation::Call => Instr::Call(word),
-            WordOperation::CallIf(cond) => Instr::CallIf(cond, word),
-        }
-    }
 }
 
 /// An instruction, with the expression that its operand is.

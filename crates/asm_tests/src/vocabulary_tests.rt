@@ -2,8 +2,8 @@
 
 use asm_syntax::fault::{AsmFault, FaultKind, LineFault};
 use asm_syntax::keyword::{Directive, Keyword, Mnemonic, keyword_of};
-use asm_syntax::statement::{ByteOperation, MOST_LINES, Statement, Statements, WordOperation};
-use i80_rows::instruction::{Cond, Instr, Pair, Reg};
+use asm_syntax::statement::{MOST_LINES, Statement, Statements};
+use i80_rows::instruction::{ByteOperation, Cond, Instr, Pair, Reg, WordOperation};
 use std::alloc::{AllocError, Global};
 
 // Words of other assemblers and of the 8085, and no words, are names.

@@ -5,6 +5,7 @@ use Rattle.std.proofs.Common.{Option, Some, None, Result, Ok, Err, arith, subst,
 use Rattle.std.specs.Prelude.{if◌then◌else◌, nat_lt, ◌||◌, MatchBool}
 use Rattle.std.proofs.lemmas.Bool.Decides.{nat_tests}
 use Rattle.std.specs.Str.Lines.{lines}
+use Rattle.std.proofs.lemmas.Bool.{false≢true}
 use Rattle.asm_syntax.specs.declared.fault.FaultKind.{FaultKind}
 use Rattle.asm_syntax.specs.declared.fault.FaultKind.TheVariants as kind
 use Rattle.asm_syntax.specs.declared.statement.Action.{Action}
@@ -12,11 +13,11 @@ use Rattle.asm_syntax.specs.declared.statement.Action.TheVariants as action
 use Rattle.asm_syntax.specs.declared.statement.Operation.{Operation}
 use Rattle.asm_syntax.specs.declared.statement.Statement.{Statement}
 use Rattle.asm_syntax.specs.Lexemes.{Lexeme, Piece, Name, Keyword, Overlong}
-use Rattle.asm_syntax.specs.Outcome.{Fault, CellFault, ◌>>=◌, at_line}
+use Rattle.asm_syntax.specs.Outcome.{Fault, CellFault, ComesBefore, ◌>>=◌, at_line}
 use Rattle.asm_lex.specs.Spelling.{IsWrong}
 use Rattle.asm_text.specs.declared.open_if.OpenIf.{OpenIf}
 use Rattle.asm_text.specs.Cells.{LinesSay, Ends, LineFault, left_open, Unmatched}
-use Rattle.asm_text.specs.Cells.{Unclosed, IfFault, IsTooLong, StandsInText, stage, order, ComesBefore}
+use Rattle.asm_text.specs.Cells.{Unclosed, IfFault, IsTooLong, StandsInText, stage, order}
 use Rattle.asm_text.specs.Cells.{IsFaultOf}
 use Rattle.asm_text.specs.Conditionals.{with_else, at_if, at_else, open_after_action, open_after, all_closed}
 use Rattle.asm_text.specs.Faults.{IsNoName, StandsAfter, StandsIn, StandsOn, WrongLabel, rank}
@@ -49,8 +50,7 @@ on_one_line g h gs hs at (inl e) =
     let columns : h.1 ≡ g.1 = ap (λ (x : Fault). x.0) e in
     let kinds : h.2 ≡ g.2 = ap (λ (x : Fault). x.1) e in
     inl (cell_fault_is g h (sym at) columns kinds)
-on_one_line g h gs hs at (inr (inl lt)) = inr (inr (gs ∙ sym hs, inr (at, inl lt)))
-on_one_line g h gs hs at (inr (inr x)) = inr (inr (gs ∙ sym hs, inr (at, inr (x.0, inl x.1))))
+on_one_line g h gs hs at (inr x) = inr (inr (gs ∙ sym hs, inr (at, x)))
 
 -- ---- kinds of a line's faults
 
@@ -168,9 +168,6 @@ abbrev OpenVerdict : ℕ → Option Operation → List OpenIf → Result (List O
 OpenVerdict n o os (Ok ps) = (left_open n o os ≡ ps) × ((f : Fault) → Unmatched os o f → ⊥)
 OpenVerdict n o os (Err f) = Unmatched os o f × ((g : Fault) → Unmatched os o g → g ≡ f)
 
-false_true : false ≡ true → ⊥
-false_true h = cc
-
 acted : (n c : ℕ) (a : Action) (os : List OpenIf)
     → OpenVerdict n (Some (record { column = c; action = a })) os (open_after_action n c a os)
 acted n c (action.If e) os = by (nat_lt (length os) 16) refl
@@ -195,7 +192,7 @@ acted n c action.Else (o ∷ os) = by o.has_else refl
     by false is =
         let read : at_else c (o ∷ os) ≡ Ok (with_else o ∷ os) = rw is refl in
         subst (OpenVerdict n (Some (record { column = c; action = action.Else })) (o ∷ os)) (sym read)
-        (refl, λ f h. false_true (sym is ∙ h.1))
+        (refl, λ f h. false≢true (sym is ∙ h.1))
 acted n c action.EndIf [] = ((refl, tt), λ g h. h.0)
 acted n c action.EndIf (o ∷ os) = (refl, λ f h. h.1)
 acted n c a os = (refl, λ f h. h.1)
@@ -403,7 +400,7 @@ goes_on n os ps l ls s v w e (Err g) m = (fault_of n os l ls s v g (stands m.0),
     no_end x =
         let is : is_end_action x.0.operation ≡ is_end_action s.operation =
         ap (λ (t : Statement). is_end_action t.operation) (v.2 x.0 x.1) in
-        false_true (sym e ∙ sym is ∙ x.2)
+        false≢true (sym e ∙ sym is ∙ x.2)
 
     stands : LinesFault (n + 1) ps ls g → Rest n os l ls s g
     stands (inl x) = inl (no_end, x)
@@ -505,16 +502,16 @@ fits_if : (m n : ℕ) (text : List ℕ) → length text ≡ m → length (lines 
 fits_if m n text em en h (inl x) =
     let lt : 1048576 < m = omega (arith, x, em) in
     let e : nat_lt 1048576 m ≡ true = grind (arith, nat_tests) in
-    false_true (sym (rw e at h))
+    false≢true (sym (rw e at h))
 fits_if m n text em en h (inr x) = by (nat_lt 1048576 m) refl
   where
     by : (b : Bool) → nat_lt 1048576 m ≡ b → ⊥
-    by true e = false_true (sym (rw e at h))
+    by true e = false≢true (sym (rw e at h))
     by false e =
         let lt : 65537 < n = omega (arith, x, en) in
         let f : nat_lt 65537 n ≡ true = grind (arith, nat_tests) in
         let i : nat_lt 65537 n ≡ false = rw e at h in
-        false_true (sym i ∙ f)
+        false≢true (sym i ∙ f)
 
 pub text_judged : (text : List ℕ) → OfText text (statements_of text)
 unfolding statements_of

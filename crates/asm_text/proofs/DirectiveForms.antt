@@ -4,6 +4,7 @@ use Rattle.std.proofs.Common.{refl, sym, ap, ◌∙◌}
 use Rattle.std.proofs.Common.{Option, Some, None, Result, Ok, Err, arith, subst}
 use Rattle.std.specs.Prelude.{is_some, ◌||◌, ◌&&◌}
 use Rattle.std.specs.List.{list_all}
+use Rattle.std.proofs.lemmas.Bool.{false≢true}
 use Rattle.asm_expr.specs.Tree as tree
 use Rattle.asm_expr.specs.Tree.{Tree, depth_of}
 use Rattle.asm_syntax.specs.declared.fault.FaultKind.TheVariants as kind
@@ -26,7 +27,7 @@ use Rattle.asm_text.specs.Faults.{IsDeep}
 use Rattle.asm_text.specs.Forms.{is_data, data_by, data_at, each_of, some_operands, end_of}
 use Rattle.asm_text.specs.Forms.{only_expression, directive_of}
 use Rattle.asm_text.specs.Grammar.{Tells, TellsData, IsText, Only, Each, DirectiveSays}
-use Rattle.asm_text.proofs.OperandForms.{Judged, judged, shallow, some_same, none_some, false_true, Verdict}
+use Rattle.asm_text.proofs.OperandForms.{Judged, judged, shallow, some_same, none_some, Verdict}
 use Rattle.asm_text.proofs.OperandForms.{one_expression, none, no_operands}
 
 -- ---- columns rise
@@ -45,7 +46,7 @@ nothing_read : (t : Tree) → Reads t [] → ⊥
 unfolding shape
 nothing_read t r =
     let h : is_expression [] ≡ true = (shape_is []).1 (t, r) in
-    false_true h
+    false≢true h
 
 abbrev OrderFrom : ℕ → List (List Piece) → Type 0
 OrderFrom column os = InOrder os × ((k : ℕ) → IsDeep os k → column ≤ k)
@@ -135,7 +136,7 @@ deep_from o os k c is order (inr d) = let le = order k d in omega (arith, is, le
 
 both_true : (a b : Bool) → (a && b) ≡ true → (a ≡ true) × (b ≡ true)
 both_true true b h = (refl, h)
-both_true false b h = absurd (false_true h)
+both_true false b h = absurd (false≢true h)
 
 each_one : {A : Type 0} (says : A → List Piece → Type 0) (o : List Piece) (os : List (List Piece))
     → ((k : ℕ) → IsDeep os k → first_column o ≤ k)
@@ -212,7 +213,7 @@ some_operands_are {A} {B} says g fits f one back column (p ∷ ps) order =
         rw e (some_lifted says g (operands_of (p ∷ ps)) column (no_operands p ps)
         (each_of f (operands_of (p ∷ ps))) (each_judged says fits f one (operands_of (p ∷ ps)) e order))
     by false e =
-        rw e (inl (refl, λ b s. false_true (sym e ∙ each_fits says fits back s.0 (operands_of (p ∷ ps)) s.1)))
+        rw e (inl (refl, λ b s. false≢true (sym e ∙ each_fits says fits back s.0 (operands_of (p ∷ ps)) s.1)))
 
 -- ---- DW
 
@@ -258,7 +259,7 @@ long_text : (column : ℕ) (t : List ℕ) → number_of t ≡ None → (u : Tree
 unfolding shape
 long_text column t is u r =
     let h : is_expression ((column, Text t) ∷ []) ≡ true = (shape_is ((column, Text t) ∷ [])).1 (u, r) in
-    false_true (rw is at h)
+    false≢true (rw is at h)
 
 text_shallow : (t : List ℕ) (o : List Piece) → IsText t o → (u : Tree) → Reads u o → depth_of u ≤ 64
 text_shallow t o x u r = by (number_of t) refl

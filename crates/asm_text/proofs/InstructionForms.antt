@@ -9,11 +9,11 @@ use Rattle.asm_syntax.specs.declared.fault.FaultKind.TheVariants as kind
 use Rattle.asm_syntax.specs.declared.keyword.Mnemonic.{Mnemonic}
 use Rattle.asm_syntax.specs.declared.keyword.Mnemonic.TheVariants as mnemonic
 use Rattle.asm_syntax.specs.declared.keyword.RegisterWord.{RegisterWord}
-use Rattle.asm_syntax.specs.declared.statement.ByteOperation.TheVariants.{Mvi}
+use Rattle.i80_rows.specs.declared.instruction.ByteOperation.TheVariants.{Mvi}
 use Rattle.asm_syntax.specs.declared.statement.Instruction.{Instruction}
 use Rattle.asm_syntax.specs.declared.statement.Instruction.TheVariants as instruction
 use Rattle.asm_syntax.specs.declared.statement.Operand.{Operand}
-use Rattle.asm_syntax.specs.declared.statement.WordOperation.TheVariants.{Lxi}
+use Rattle.i80_rows.specs.declared.instruction.WordOperation.TheVariants.{Lxi}
 use Rattle.asm_syntax.specs.Lexemes.{Piece}
 use Rattle.asm_syntax.specs.Outcome.{Fault, ◌>>=◌}
 use Rattle.asm_operand.specs.Climb.{expression, first_column}

@@ -13,13 +13,14 @@ use Rattle.asm_syntax.specs.declared.statement.Label.{Label}
 use Rattle.asm_syntax.specs.declared.statement.Operand.{Operand}
 use Rattle.asm_syntax.specs.declared.statement.Operation.{Operation}
 use Rattle.asm_syntax.specs.Lexemes.{Lexeme, Piece, Name, Keyword, Overlong}
-use Rattle.asm_syntax.specs.Outcome.{Fault, ◌>>=◌}
+use Rattle.asm_syntax.specs.Outcome.{Fault, ComesBefore, ◌>>=◌}
+use Rattle.asm_syntax.proofs.FirstFaults.{fault_is}
 use Rattle.asm_operand.specs.Commas.{split_commas}
 use Rattle.asm_operand.specs.Words.{misplaced_from, misplaced_word}
 use Rattle.asm_text.specs.declared.lines.Definition.{Definition}
 use Rattle.asm_text.specs.Fields.{Field, Empty, Defines, Does, field_by, field_of}
 use Rattle.asm_text.specs.Faults.{IsNoName, IsNoOperation, IsMisplaced, StandsAfter, rank}
-use Rattle.asm_text.specs.Faults.{IsBefore, IsFirst}
+use Rattle.asm_text.specs.Faults.{IsFirst, order_in_line}
 use Rattle.asm_text.specs.Forms.{instruction_of, directive_of}
 use Rattle.asm_text.specs.Grammar.{ActionSays, OperationSays, NameSays, Only, Tells}
 use Rattle.asm_text.specs.Lines.{unless_misplaced, definition_in}
@@ -44,9 +45,6 @@ same_kind (Keyword w) j k g h = g ∙ sym h
 same_kind Overlong j k g h = g ∙ sym h
 same_kind l j k g h = g ∙ sym h
 
-pub fault_is : (f g : Fault) → g.0 ≡ f.0 → g.1 ≡ f.1 → g ≡ f
-fault_is f g c k = ap (λ (x : ℕ). (x, g.1)) c ∙ ap (λ (x : FaultKind). (f.0, x)) k
-
 lt_or_same : (k c : ℕ) → k ≤ c → (k < c) ⊎ (c ≡ k)
 lt_or_same k c le = by (nat_lt k c) refl
   where
@@ -58,19 +56,19 @@ lt_or_same k c le = by (nat_lt k c) refl
 
 -- a fault of this rank
 abbrev pub Follows : Fault → Fault → Type 0
-Follows f g = (g ≡ f) ⊎ IsBefore f g
+Follows f g = (g ≡ f) ⊎ ComesBefore (order_in_line f) (order_in_line g)
 
 pub by_rank : (f g : Fault) (m n : ℕ) → rank f.1 ≡ m → rank g.1 ≡ n → m < n → Follows f g
 by_rank f g m n fm gn lt = inr (inl (omega arith))
 
 pub by_column : (f g : Fault) (m : ℕ) → rank f.1 ≡ m → rank g.1 ≡ m → f.0 < g.0 → Follows f g
-by_column f g m fm gm lt = inr (inr (fm ∙ sym gm, lt))
+by_column f g m fm gm lt = inr (inr (fm ∙ sym gm, inl lt))
 
 by_place : (f g : Fault) → g.1 ≡ f.1 → f.0 ≤ g.0 → Follows f g
 by_place f g same le = by (lt_or_same f.0 g.0 le)
   where
     by : (f.0 < g.0) ⊎ (g.0 ≡ f.0) → Follows f g
-    by (inl lt) = inr (inr (ap rank (sym same), lt))
+    by (inl lt) = inr (inr (ap rank (sym same), inl lt))
     by (inr e) = inl (fault_is f g e same)
 
 pub kind_is : (f g : Fault) → g ≡ f → g.1 ≡ f.1

@@ -4,6 +4,7 @@ use Rattle.std.proofs.Common.{sym, ap, ◌∙◌}
 use Rattle.std.proofs.Common.{Option, Some, None, Result, Ok, Err, arith, subst}
 use Rattle.std.specs.Prelude.{nat_le, option_and_then}
 use Rattle.std.proofs.lemmas.Bool.Decides.{nat_tests}
+use Rattle.std.proofs.lemmas.Bool.{false≢true}
 use Rattle.asm_expr.specs.Tree.{Tree, depth_of}
 use Rattle.asm_syntax.specs.declared.fault.FaultKind.TheVariants as kind
 use Rattle.asm_syntax.specs.declared.keyword.Keyword.TheVariants as keyword
@@ -18,7 +19,7 @@ use Rattle.asm_operand.specs.Shape.{is_expression, shape}
 use Rattle.asm_operand.proofs.Meaning.{expression_is, shape_is, no_expression}
 use Rattle.asm_operand.proofs.Operands.{operands_step}
 use Rattle.asm_text.specs.Faults.{IsDeep}
-use Rattle.asm_text.specs.Forms.{fitting, named_by, no_operand, one_operand, only_expression}
+use Rattle.asm_text.specs.Forms.{fitting, named_by, no_operand, only_expression, only_named}
 use Rattle.asm_text.specs.Grammar.{Names, Tells, Only}
 
 -- ---- expressions
@@ -29,9 +30,6 @@ Judged column o (Ok e) = Tells e o × (depth_of e.expr ≤ 64) × ((x : Operand)
 Judged column o (Err f) =
     ((f ≡ (column, kind.Operands)) × ((x : Operand) → Tells x o → ⊥))
     ⊎ ((f ≡ (first_column o, kind.Nesting)) × (t : Tree) × Reads t o × (64 < depth_of t))
-
-pub false_true : false ≡ true → ⊥
-false_true h = cc
 
 err_ok : {A : Type 0} (f : Fault) (a : A) → Err f ≡ Ok a → ⊥
 err_ok f a h = cc
@@ -84,7 +82,7 @@ judged column o = by (is_expression o) refl
     by : (b : Bool) → is_expression o ≡ b → Judged column o (expression column o)
     by true e = let r = (shape_is o).0 e in with_tree column o r.0 r.1
     by false e =
-        let none : (t : Tree) → Reads t o → ⊥ = λ t r. false_true (sym e ∙ (shape_is o).1 (t, r)) in
+        let none : (t : Tree) → Reads t o → ⊥ = λ t r. false≢true (sym e ∙ (shape_is o).1 (t, r)) in
         subst (Judged column o) (sym (no_expression column o none))
         (inl (refl, λ x tells. none x.expr tells.1))
 
@@ -123,7 +121,7 @@ unfolding shape
 register_no_tree column r t x =
     let h : is_expression ((column, Keyword (keyword.Register r)) ∷ []) ≡ true =
     (shape_is ((column, Keyword (keyword.Register r)) ∷ [])).1 (t, x) in
-    false_true h
+    false≢true h
 
 pub no_tree : {A : Type 0} (meaning : RegisterWord → Option A) (a : A) (o : List Piece) → Names meaning a o
     → (t : Tree) → Reads t o → ⊥
@@ -207,7 +205,7 @@ named_lifted meaning f column o (Some a) is = (
 named_one_by : {A B : Type 0} (meaning : RegisterWord → Option B) (f : B → A) (column : ℕ)
     (os : List (List Piece))
     → Verdict (SaysNamed meaning f os) os column
-    (fitting column (single os) >>= λ o. named_by column meaning o >>= λ r. Ok (f r))
+    ((fitting column (single os) >>= named_by column meaning) >>= λ r. Ok (f r))
 named_one_by meaning f column [] = inl (refl, λ b s. s.1)
 named_one_by meaning f column (o ∷ []) =
     named_lifted meaning f column o (option_and_then meaning (register_of o)) refl
@@ -216,7 +214,7 @@ named_one_by meaning f column (o ∷ p ∷ os) = inl (refl, λ b s. s.1)
 pub one_named : {A B : Type 0} (meaning : RegisterWord → Option B) (f : B → A) (column : ℕ) (ps : List Piece)
     → Verdict (λ said. (r : B) × Only (Names meaning r) (split_commas ps) × (said ≡ f r))
     (split_commas ps) column
-    (one_operand column ps >>= λ o. named_by column meaning o >>= λ r. Ok (f r))
+    (only_named column meaning ps >>= λ r. Ok (f r))
 one_named meaning f column ps = named_one_by meaning f column (split_commas ps)
 
 -- no operand

@@ -3,6 +3,7 @@ use Rattle.std.proofs.Common.{◌≡◌, ℕ, ◌+◌, ◌<◌, ◌≤◌, ◌�
 use Rattle.std.proofs.Common.{refl, sym, ap, ◌∙◌}
 use Rattle.std.proofs.Common.{Option, Some, None, Result, Ok, Err, arith, subst, length}
 use Rattle.std.specs.Prelude.{is_some, if◌then◌else◌}
+use Rattle.std.proofs.lemmas.Bool.{false≢true}
 use Rattle.asm_syntax.specs.declared.fault.FaultKind.{FaultKind}
 use Rattle.asm_syntax.specs.declared.fault.FaultKind.TheVariants as kind
 use Rattle.asm_syntax.specs.declared.statement.Label.{Label}
@@ -11,6 +12,7 @@ use Rattle.asm_syntax.specs.declared.statement.Statement.{Statement}
 use Rattle.asm_syntax.specs.Ascii.{colon}
 use Rattle.asm_syntax.specs.Lexemes.{Lexeme, Piece, Name, Keyword, Overlong, Number, Text, Sign}
 use Rattle.asm_syntax.specs.Outcome.{Fault, ◌>>=◌}
+use Rattle.asm_syntax.proofs.FirstFaults.{fault_is}
 use Rattle.asm_lex.specs.Spelling.{SpellsUpTo, IsToken, Begins}
 use Rattle.asm_lex.specs.Tokens.{tokens_of}
 use Rattle.asm_lex.proofs.Readings.{tokens_spelled, fault_broken}
@@ -22,7 +24,7 @@ use Rattle.asm_text.specs.Grammar.{OperationSays, LabelSays, Says, LineSays}
 use Rattle.asm_text.specs.Lines.{name_at, after_label, label_at, definition_in, operation_at}
 use Rattle.asm_text.specs.Lines.{action_of, line_of}
 use Rattle.asm_text.proofs.DirectiveForms.{Rises}
-use Rattle.asm_text.proofs.LineFaults.{AfterVerdict, operated, Follows, by_column, fault_is, kind_is}
+use Rattle.asm_text.proofs.LineFaults.{AfterVerdict, operated, Follows, by_column, kind_is}
 use Rattle.asm_text.proofs.LineFaults.{no_name_rank, same_kind, label_same}
 use Rattle.asm_text.proofs.WordFaults.{misplaced_from_on}
 
@@ -147,12 +149,9 @@ label_only : (c : ℕ) (n : List ℕ) (y : Option Label) → LabelSays (Some (c,
 label_only c n y h =
     h.2 ∙ ap (λ (z : Label). Some z) (label_same (record { column = c; name = n }) h.0 h.1)
 
-false_true : false ≡ true → ⊥
-false_true h = cc
-
 colon_defines_nothing : (l : Lexeme) → is_sign colon l ≡ true → definition_in l ≡ None
 colon_defines_nothing (Sign s) h = refl
-colon_defines_nothing l h = absurd (false_true h)
+colon_defines_nothing l h = absurd (false≢true h)
 
 abbrev labelled_by : List Piece → List Piece → Result (Option Label) Fault → Result Statement Fault
 labelled_by all rest x =

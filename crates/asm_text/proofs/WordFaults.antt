@@ -2,6 +2,7 @@
 use Rattle.std.proofs.Common.{◌≡◌, ℕ, ◌+◌, ◌≤◌, ◌⊎◌, inl, inr, List, [], ◌∷◌, ◌++◌, Bool, true, false}
 use Rattle.std.proofs.Common.{refl, sym, ap, ◌∙◌}
 use Rattle.std.proofs.Common.{Option, Some, None, arith, subst}
+use Rattle.std.proofs.lemmas.Bool.{false≢true}
 use Rattle.asm_syntax.specs.Lexemes.{Piece}
 use Rattle.asm_operand.specs.Commas.{is_comma}
 use Rattle.asm_operand.specs.Words.{leads, is_misplaced, misplaced_from, misplaced_word}
@@ -31,13 +32,10 @@ Scanned operand atom ps None = (c : ℕ) → MisplacedIn operand atom ps c → �
 Scanned operand atom ps (Some k) =
     MisplacedIn operand atom ps k × ((c : ℕ) → MisplacedIn operand atom ps c → k ≤ c)
 
-false_true : false ≡ true → ⊥
-false_true h = cc
-
 only_later : (operand atom : Bool) (p : Piece) (ps : List Piece) (c : ℕ)
     → is_misplaced operand atom p.1 ps ≡ false → MisplacedIn operand atom (p ∷ ps) c
     → MisplacedIn (is_comma p.1) (leads p.1) ps c
-only_later operand atom p ps c well (inl m) = absurd (false_true (sym well ∙ m.1))
+only_later operand atom p ps c well (inl m) = absurd (false≢true (sym well ∙ m.1))
 only_later operand atom p ps c well (inr m) = m
 
 passed : (operand atom : Bool) (p : Piece) (ps : List Piece) → is_misplaced operand atom p.1 ps ≡ false

@@ -14,7 +14,7 @@ use Rattle.asm_syntax.specs.declared.statement.Statement.{Statement}
 use Rattle.asm_syntax.specs.Outcome.{Fault, CellFault}
 use Rattle.asm_text.specs.declared.open_if.OpenIf.{OpenIf}
 use Rattle.asm_text.specs.Conditionals.{with_else}
-use Rattle.asm_text.specs.Faults.{StandsOn, rank}
+use Rattle.asm_text.specs.Faults.{StandsOn, StandsFirst, order_in_line}
 use Rattle.asm_text.specs.Grammar.{LineSays}
 use Rattle.asm_text.specs.Statements.{is_end_action}
 
@@ -95,17 +95,10 @@ stage kind.TooLong = 0
 stage (kind.Conditional true) = 2
 stage _ = 1
 
--- where a fault comes: stage, line, rank in the line, column
+-- where a fault comes: stage, line, and where it does in its line
 abbrev pub order : CellFault → List ℕ
-order g = stage g.2 ∷ g.0 ∷ rank g.2 ∷ g.1 ∷ []
-
--- the first numbers that differ decide
-abbrev pub ComesBefore : List ℕ → List ℕ → Type 0
-ComesBefore (a ∷ more) (b ∷ others) = (a < b) ⊎ ((a ≡ b) × ComesBefore more others)
-ComesBefore _ _ = ⊥
+order g = stage g.2 ∷ g.0 ∷ order_in_line (g.1, g.2)
 
 -- a text's fault: it stands, and comes before each other that does
 abbrev pub IsFaultOf : List ℕ → CellFault → Type 0
-IsFaultOf text g =
-    StandsInText text g
-    × ((h : CellFault) → StandsInText text h → (h ≡ g) ⊎ ComesBefore (order g) (order h))
+IsFaultOf text g = StandsFirst order (StandsInText text) g

@@ -8,7 +8,7 @@ use Rattle.asm_syntax.specs.declared.keyword.Keyword.TheVariants as keyword
 use Rattle.asm_syntax.specs.declared.statement.Action.{Action}
 use Rattle.asm_syntax.specs.declared.statement.Operand.{Operand}
 use Rattle.asm_syntax.specs.Lexemes.{Lexeme, Piece, Name, Keyword, Overlong}
-use Rattle.asm_syntax.specs.Outcome.{Fault}
+use Rattle.asm_syntax.specs.Outcome.{Fault, ComesBefore}
 use Rattle.asm_lex.specs.Spelling.{Spells, Breaks}
 use Rattle.asm_operand.specs.Climb.{first_column}
 use Rattle.asm_operand.specs.Commas.{is_comma}
@@ -108,10 +108,15 @@ rank kind.Nesting = 3
 rank (kind.Conditional e) = 4
 rank _ = 0
 
--- and of one rank the leftmost
-abbrev pub IsBefore : Fault → Fault → Type 0
-IsBefore f g = (rank f.1 < rank g.1) ⊎ ((rank f.1 ≡ rank g.1) × (f.0 < g.0))
+-- and of one rank the leftmost: this is where a fault comes in its line
+abbrev pub order_in_line : Fault → List ℕ
+order_in_line f = rank f.1 ∷ f.0 ∷ []
 
--- a fault that stands and comes before each other one
+-- what stands and in this order comes before all else that does
+abbrev pub StandsFirst : {F : Type 0} → (F → List ℕ) → (F → Type 0) → F → Type 0
+StandsFirst {F} order stands f =
+    stands f × ((g : F) → stands g → (g ≡ f) ⊎ ComesBefore (order f) (order g))
+
+-- a fault that stands and comes before each other one of its line
 abbrev pub IsFirst : (Fault → Type 0) → Fault → Type 0
-IsFirst stands f = stands f × ((g : Fault) → stands g → (g ≡ f) ⊎ IsBefore f g)
+IsFirst stands f = StandsFirst order_in_line stands f

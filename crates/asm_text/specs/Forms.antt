@@ -26,8 +26,8 @@ use Rattle.asm_syntax.specs.declared.keyword.Directive.{Directive}
 use Rattle.asm_syntax.specs.declared.keyword.Directive.TheVariants as directive
 use Rattle.asm_syntax.specs.declared.statement.Data.{Data}
 use Rattle.asm_syntax.specs.declared.statement.Data.TheVariants as data_of_bytes
-use Rattle.asm_syntax.specs.declared.statement.ByteOperation.TheVariants.{Mvi}
-use Rattle.asm_syntax.specs.declared.statement.WordOperation.TheVariants.{Lxi}
+use Rattle.i80_rows.specs.declared.instruction.ByteOperation.TheVariants.{Mvi}
+use Rattle.i80_rows.specs.declared.instruction.WordOperation.TheVariants.{Lxi}
 use Rattle.asm_syntax.specs.declared.statement.Instruction.{Instruction}
 use Rattle.asm_syntax.specs.declared.statement.Instruction.TheVariants as instruction
 use Rattle.asm_syntax.specs.declared.statement.Operand.{Operand}
@@ -67,6 +67,12 @@ only_expression column ps = do
 -- an operand that is a word which stands for something here
 abbrev pub named_by : {A : Type 0} → ℕ → (RegisterWord → Option A) → List Piece → Result A Fault
 named_by column meaning o = fitting column (option_and_then meaning (register_of o))
+
+-- what the word stands for here that an operation's only operand is
+abbrev pub only_named : {A : Type 0} → ℕ → (RegisterWord → Option A) → List Piece → Result A Fault
+only_named column meaning ps = do
+  o ← one_operand column ps
+  named_by column meaning o
 
 -- ---- instructions
 
@@ -110,8 +116,7 @@ move_of column p = do
 unfoldable pub instruction_of : ℕ → Mnemonic → List Piece → Result Instruction Fault
 instruction_of column (mnemonic.Alone i) ps = no_operand column (instruction.Alone i) ps
 instruction_of column (mnemonic.Register op) ps = do
-  o ← one_operand column ps
-  r ← named_by column word.reg_of o
+  r ← only_named column word.reg_of ps
   Ok (instruction.Alone (register_instruction op r))
 instruction_of column mnemonic.Move ps = do
   os ← two_operands column ps
@@ -128,16 +133,13 @@ instruction_of column mnemonic.LoadPair ps = do
   e ← expression column os.1
   Ok (instruction.Word (Lxi p) e)
 instruction_of column (mnemonic.Pair op) ps = do
-  o ← one_operand column ps
-  p ← named_by column word.pair_of o
+  p ← only_named column word.pair_of ps
   Ok (instruction.Alone (pair_instruction op p))
 instruction_of column (mnemonic.Index op) ps = do
-  o ← one_operand column ps
-  p ← named_by column word.index_of o
+  p ← only_named column word.index_of ps
   Ok (instruction.Alone (index_instruction op p))
 instruction_of column (mnemonic.Stack op) ps = do
-  o ← one_operand column ps
-  p ← named_by column word.stack_of o
+  p ← only_named column word.stack_of ps
   Ok (instruction.Alone (stack_instruction op p))
 instruction_of column (mnemonic.Byte op) ps = do
   e ← only_expression column ps

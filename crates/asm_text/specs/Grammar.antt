@@ -14,7 +14,7 @@ use Rattle.asm_syntax.specs.declared.keyword.Mnemonic.TheVariants as mnemonic
 use Rattle.asm_syntax.specs.declared.keyword.RegisterWord.{RegisterWord}
 use Rattle.asm_syntax.specs.declared.statement.Action.{Action}
 use Rattle.asm_syntax.specs.declared.statement.Action.TheVariants as action
-use Rattle.asm_syntax.specs.declared.statement.ByteOperation.TheVariants.{Mvi}
+use Rattle.i80_rows.specs.declared.instruction.ByteOperation.TheVariants.{Mvi}
 use Rattle.asm_syntax.specs.declared.statement.Data.{Data}
 use Rattle.asm_syntax.specs.declared.statement.Data.TheVariants as datum
 use Rattle.asm_syntax.specs.declared.statement.Instruction.{Instruction}
@@ -23,7 +23,7 @@ use Rattle.asm_syntax.specs.declared.statement.Label.{Label}
 use Rattle.asm_syntax.specs.declared.statement.Operand.{Operand}
 use Rattle.asm_syntax.specs.declared.statement.Operation.{Operation}
 use Rattle.asm_syntax.specs.declared.statement.Statement.{Statement}
-use Rattle.asm_syntax.specs.declared.statement.WordOperation.TheVariants.{Lxi}
+use Rattle.i80_rows.specs.declared.instruction.WordOperation.TheVariants.{Lxi}
 use Rattle.asm_syntax.specs.Lexemes.{Lexeme, Piece, Name, Keyword, Text}
 use Rattle.asm_lex.specs.Spelling.{Spells}
 use Rattle.asm_operand.specs.Climb.{first_column}

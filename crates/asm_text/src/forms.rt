@@ -1,10 +1,11 @@
-//! How many operands stand after an operation.
+//! The operands that stand after an operation: how many, and what the only one says.
 ghost use Rattle.std.specs.Prelude.{◌≡◌};
 ghost use Rattle.asm_syntax.specs.Lexemes.{pieces_of};
 ghost use Rattle.asm_syntax.specs.Outcome.{LineGives};
 ghost use Rattle.asm_text.specs.Forms.{no_operand, one_operand, two_operands, only_expression};
+ghost use Rattle.asm_text.specs.Forms.{only_named};
 
-use crate::registers::fitting;
+use crate::registers::{Named, fitting, named_operand};
 use asm_operand::commas::{pair, single};
 use asm_operand::expression::expression;
 use asm_syntax::fault::{FaultKind, LineFault};
@@ -56,4 +57,11 @@ pub fn only_expression(
     ensures { LineGives (λ x. x) result (only_expression column (pieces_of tokens.now)) }
 {
     expression(alloc, column, one_operand(column, tokens)?)
+}
+
+/// What the word stands for that is the only operand after the operation.
+pub fn only_named<T: Named>(column: usize, tokens: &[Placed]) -> Result<T, LineFault>
+    ensures { LineGives (λ x. x) result (only_named column T.meaning (pieces_of tokens.now)) }
+{
+    named_operand(column, one_operand(column, tokens)?)
 }

@@ -2,20 +2,22 @@
 ghost use Rattle.std.specs.Prelude.{◌≡◌};
 ghost use Rattle.asm_syntax.specs.Lexemes.{pieces_of};
 ghost use Rattle.asm_syntax.specs.Outcome.{LineGives};
-ghost use Rattle.asm_text.specs.Forms.{move_of, move_between, one_operand, two_operands, no_operand};
+ghost use Rattle.asm_text.specs.Forms.{move_of, move_between, only_named, two_operands, no_operand};
 ghost use Rattle.asm_text.specs.Forms.{register_instruction, pair_instruction, index_instruction};
 ghost use Rattle.asm_text.specs.Forms.{stack_instruction, instruction_of};
 
-use crate::forms::{no_operand, one_operand, only_expression, two_operands};
+use crate::forms::{no_operand, only_expression, only_named, two_operands};
 use crate::registers::{fitting, named_operand, register_of};
 use asm_operand::expression::expression;
 use asm_syntax::fault::LineFault;
 use asm_syntax::keyword::{
     IndexOperation, Mnemonic, PairOperation, RegisterOperation, StackOperation,
 };
-use asm_syntax::statement::{ByteOperation, Instruction, WordOperation};
+use asm_syntax::statement::Instruction;
 use asm_syntax::token::Placed;
-use i80_rows::instruction::{IndexPair, Instr, Pair, Reg, Register, StackPair};
+use i80_rows::instruction::{
+    ByteOperation, IndexPair, Instr, Pair, Reg, Register, StackPair, WordOperation,
+};
 use std::alloc::Global;
 
 fn register_instruction(operation: RegisterOperation, reg: Reg) -> Instr
@@ -65,62 +67,6 @@ fn move_between(to: Option<Register>, from: Option<Register>) -> Option<Instr>
         (None, Some(from)) => Some(Instr::MovToM(from)),
         (None, None) => None,
     }
-}
-
-// An instruction with a register or M.
-#[tactic(auto, unfolding(crate::specs::Forms::instruction_of))]
-fn on_register(
-    column: usize,
-    operation: RegisterOperation,
-    tokens: &[Placed],
-) -> Result<Instruction, LineFault>
-    ensures { LineGives (λ x. x) result
-        (instruction_of column (Mnemonic.Register operation) (pieces_of tokens.now)) }
-{
-    let reg = named_operand(column, one_operand(column, tokens)?)?;
-    Ok(Instruction::Alone(register_instruction(operation, reg)))
-}
-
-// An instruction with a pair or SP.
-#[tactic(auto, unfolding(crate::specs::Forms::instruction_of))]
-fn on_pair(
-    column: usize,
-    operation: PairOperation,
-    tokens: &[Placed],
-) -> Result<Instruction, LineFault>
-    ensures { LineGives (λ x. x) result
-        (instruction_of column (Mnemonic.Pair operation) (pieces_of tokens.now)) }
-{
-    let pair = named_operand(column, one_operand(column, tokens)?)?;
-    Ok(Instruction::Alone(pair_instruction(operation, pair)))
-}
-
-// STAX or LDAX with its pair.
-#[tactic(auto, unfolding(crate::specs::Forms::instruction_of))]
-fn on_index(
-    column: usize,
-    operation: IndexOperation,
-    tokens: &[Placed],
-) -> Result<Instruction, LineFault>
-    ensures { LineGives (λ x. x) result
-        (instruction_of column (Mnemonic.Index operation) (pieces_of tokens.now)) }
-{
-    let pair = named_operand(column, one_operand(column, tokens)?)?;
-    Ok(Instruction::Alone(index_instruction(operation, pair)))
-}
-
-// PUSH or POP with its pair.
-#[tactic(auto, unfolding(crate::specs::Forms::instruction_of))]
-fn on_stack(
-    column: usize,
-    operation: StackOperation,
-    tokens: &[Placed],
-) -> Result<Instruction, LineFault>
-    ensures { LineGives (λ x. x) result
-        (instruction_of column (Mnemonic.Stack operation) (pieces_of tokens.now)) }
-{
-    let pair = named_operand(column, one_operand(column, tokens)?)?;
-    Ok(Instruction::Alone(stack_instruction(operation, pair)))
 }
 
 // MOV with these operands.
@@ -178,13 +124,25 @@ pub fn instruction(
 {
     match mnemonic {
         Mnemonic::Alone(instr) => no_operand(column, Instruction::Alone(instr), tokens),
-        Mnemonic::Register(operation) => on_register(column, operation, tokens),
+        Mnemonic::Register(operation) => {
+            let reg = only_named(column, tokens)?;
+            Ok(Instruction::Alone(register_instruction(operation, reg)))
+        }
         Mnemonic::Move => move_register(column, tokens),
         Mnemonic::MoveImmediate => move_immediate(alloc, column, tokens),
         Mnemonic::LoadPair => load_pair(alloc, column, tokens),
-        Mnemonic::Pair(operation) => on_pair(column, operation, tokens),
-        Mnemonic::Index(operation) => on_index(column, operation, tokens),
-        Mnemonic::Stack(operation) => on_stack(column, operation, tokens),
+        Mnemonic::Pair(operation) => {
+            let pair = only_named(column, tokens)?;
+            Ok(Instruction::Alone(pair_instruction(operation, pair)))
+        }
+        Mnemonic::Index(operation) => {
+            let pair = only_named(column, tokens)?;
+            Ok(Instruction::Alone(index_instruction(operation, pair)))
+        }
+        Mnemonic::Stack(operation) => {
+            let pair = only_named(column, tokens)?;
+            Ok(Instruction::Alone(stack_instruction(operation, pair)))
+        }
         Mnemonic::Byte(operation) => {
             let byte = only_expression(alloc, column, tokens)?;
             Ok(Instruction::Byte(operation, byte))

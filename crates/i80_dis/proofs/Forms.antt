@@ -4,21 +4,16 @@ use Rattle.asm_expr.specs.Tree as tree
 use Rattle.i80_rows.specs.declared.instruction.Instr.{Instr}
 use Rattle.i80_rows.specs.declared.instruction.Reg.{Reg}
 use Rattle.i80_rows.specs.declared.instruction.Pair.{Pair}
-use Rattle.i80_rows.specs.declared.instruction.IndexPair.{IndexPair}
-use Rattle.i80_rows.specs.declared.instruction.StackPair.{StackPair}
+use Rattle.asm_syntax.specs.declared.keyword.Keyword.{Keyword as Word}
 use Rattle.asm_syntax.specs.declared.keyword.Keyword.TheVariants as keyword
 use Rattle.asm_syntax.specs.declared.keyword.Mnemonic.{Mnemonic}
 use Rattle.asm_syntax.specs.declared.keyword.Mnemonic.TheVariants as mnemonic
 use Rattle.asm_syntax.specs.declared.keyword.Directive.TheVariants as directive
 use Rattle.asm_syntax.specs.declared.keyword.RegisterWord.{RegisterWord}
-use Rattle.asm_syntax.specs.declared.keyword.RegisterOperation.{RegisterOperation}
-use Rattle.asm_syntax.specs.declared.keyword.PairOperation.{PairOperation}
-use Rattle.asm_syntax.specs.declared.keyword.IndexOperation.{IndexOperation}
-use Rattle.asm_syntax.specs.declared.keyword.StackOperation.{StackOperation}
-use Rattle.asm_syntax.specs.declared.statement.ByteOperation.{ByteOperation}
-use Rattle.asm_syntax.specs.declared.statement.ByteOperation.TheVariants.{Mvi}
-use Rattle.asm_syntax.specs.declared.statement.WordOperation.{WordOperation}
-use Rattle.asm_syntax.specs.declared.statement.WordOperation.TheVariants.{Lxi}
+use Rattle.i80_rows.specs.declared.instruction.ByteOperation.{ByteOperation}
+use Rattle.i80_rows.specs.declared.instruction.ByteOperation.TheVariants.{Mvi}
+use Rattle.i80_rows.specs.declared.instruction.WordOperation.{WordOperation}
+use Rattle.i80_rows.specs.declared.instruction.WordOperation.TheVariants.{Lxi}
 use Rattle.asm_syntax.specs.declared.statement.Operand.{Operand}
 use Rattle.asm_syntax.specs.declared.statement.Data.TheVariants as datum
 use Rattle.asm_syntax.specs.declared.statement.Instruction.TheVariants as instruction
@@ -35,6 +30,8 @@ use Rattle.asm_text.specs.Forms.{register_instruction, pair_instruction, index_i
 use Rattle.asm_text.specs.Forms.{move_between, instruction_of, each_of, directive_of}
 use Rattle.asm_text.specs.Lines.{label_at, action_of, operation_at, line_of}
 use Rattle.asm_text.specs.Registers as word
+use Rattle.i80_dis.proofs.Words.{register_for, pair_for, index_for, stack_for, register_back, pair_back}
+use Rattle.i80_dis.proofs.Words.{index_back, stack_back}
 
 -- ---- statements
 
@@ -71,48 +68,47 @@ pub alone_says : (line : List ℕ) (i : Instr) → Spelled line (means (mnemonic
 unfolding line_of label_at operation_at action_of misplaced_from instruction_of
 alone_says line i e = rw e refl
 
-pub register_says : (line : List ℕ) (op : RegisterOperation) (c : ℕ) (w : RegisterWord) (r : Reg)
-    → word.reg_of w ≡ Some r
-    → Spelled line (means (mnemonic.Register op) ∷ names c w ∷ [])
-    → Says line (action.Instruction (instruction.Alone (register_instruction op r)))
-unfolding line_of label_at operation_at action_of misplaced_from instruction_of operands_of
-register_says line op c w r is e = rw (e, is) refl
+-- what a mnemonic and the word of a register or pair say, for each operation and each register
+abbrev pub NameSays : {Op R : Type 0} → (Op → Mnemonic) → (R → RegisterWord) → (Op → R → Instr) → Type 0
+NameSays {Op} {R} mnemonic_of word_for makes =
+    (line : List ℕ) (op : Op) (c : ℕ) (r : R)
+    → Spelled line (means (mnemonic_of op) ∷ names c (word_for r) ∷ [])
+    → Says line (action.Instruction (instruction.Alone (makes op r)))
 
-pub pair_says : (line : List ℕ) (op : PairOperation) (c : ℕ) (w : RegisterWord) (p : Pair)
-    → word.pair_of w ≡ Some p
-    → Spelled line (means (mnemonic.Pair op) ∷ names c w ∷ [])
-    → Says line (action.Instruction (instruction.Alone (pair_instruction op p)))
+pub register_says : NameSays mnemonic.Register register_for register_instruction
 unfolding line_of label_at operation_at action_of misplaced_from instruction_of operands_of
-pair_says line op c w p is e = rw (e, is) refl
+register_says line op c r e = rw (e, register_back r) refl
 
-pub index_says : (line : List ℕ) (op : IndexOperation) (c : ℕ) (w : RegisterWord) (p : IndexPair)
-    → word.index_of w ≡ Some p
-    → Spelled line (means (mnemonic.Index op) ∷ names c w ∷ [])
-    → Says line (action.Instruction (instruction.Alone (index_instruction op p)))
+pub pair_says : NameSays mnemonic.Pair pair_for pair_instruction
 unfolding line_of label_at operation_at action_of misplaced_from instruction_of operands_of
-index_says line op c w p is e = rw (e, is) refl
+pair_says line op c r e = rw (e, pair_back r) refl
 
-pub stack_says : (line : List ℕ) (op : StackOperation) (c : ℕ) (w : RegisterWord) (p : StackPair)
-    → word.stack_of w ≡ Some p
-    → Spelled line (means (mnemonic.Stack op) ∷ names c w ∷ [])
-    → Says line (action.Instruction (instruction.Alone (stack_instruction op p)))
+pub index_says : NameSays mnemonic.Index index_for index_instruction
 unfolding line_of label_at operation_at action_of misplaced_from instruction_of operands_of
-stack_says line op c w p is e = rw (e, is) refl
+index_says line op c r e = rw (e, index_back r) refl
 
-pub byte_says : (line : List ℕ) (op : ByteOperation) (c n : ℕ)
-    → Spelled line (means (mnemonic.Byte op) ∷ (c, Number n) ∷ [])
-    → Says line (action.Instruction (instruction.Byte op (number_at c n)))
+pub stack_says : NameSays mnemonic.Stack stack_for stack_instruction
 unfolding line_of label_at operation_at action_of misplaced_from instruction_of operands_of
-byte_says line op c n e = rw (e, number_read 1 c n) refl
+stack_says line op c r e = rw (e, stack_back r) refl
 
-pub word_says : (line : List ℕ) (op : WordOperation) (c n : ℕ)
-    → Spelled line (means (mnemonic.Word op) ∷ (c, Number n) ∷ [])
-    → Says line (action.Instruction (instruction.Word op (number_at c n)))
+-- what a word and a number say
+abbrev pub NumberSays : Word → (Operand → Action) → Type 0
+NumberSays k does_with =
+    (line : List ℕ) (c n : ℕ) → Spelled line ((1, Keyword k) ∷ (c, Number n) ∷ [])
+    → Says line (does_with (number_at c n))
+
+pub byte_says : (op : ByteOperation)
+    → NumberSays (keyword.Mnemonic (mnemonic.Byte op)) (λ o. action.Instruction (instruction.Byte op o))
 unfolding line_of label_at operation_at action_of misplaced_from instruction_of operands_of
-word_says line op c n e = rw (e, number_read 1 c n) refl
+byte_says op line c n e = rw (e, number_read 1 c n) refl
 
-pub restart_says : (line : List ℕ) (c n : ℕ) → Spelled line (means mnemonic.Restart ∷ (c, Number n) ∷ [])
-    → Says line (action.Instruction (instruction.Restart (number_at c n)))
+pub word_says : (op : WordOperation)
+    → NumberSays (keyword.Mnemonic (mnemonic.Word op)) (λ o. action.Instruction (instruction.Word op o))
+unfolding line_of label_at operation_at action_of misplaced_from instruction_of operands_of
+word_says op line c n e = rw (e, number_read 1 c n) refl
+
+pub restart_says : NumberSays (keyword.Mnemonic mnemonic.Restart)
+    (λ o. action.Instruction (instruction.Restart o))
 unfolding line_of label_at operation_at action_of misplaced_from instruction_of operands_of
 restart_says line c n e = rw (e, number_read 1 c n) refl
 
@@ -138,14 +134,10 @@ load_says line b c d n w p to e = rw (e, to, number_read 1 d n) refl
 
 -- ---- directives
 
-pub datum_says : (line : List ℕ) (c n : ℕ)
-    → Spelled line ((1, Keyword (keyword.Directive directive.Bytes)) ∷ (c, Number n) ∷ [])
-    → Says line (action.Bytes (datum.Byte (number_at c n) ∷ []))
+pub datum_says : NumberSays (keyword.Directive directive.Bytes) (λ o. action.Bytes (datum.Byte o ∷ []))
 unfolding line_of label_at operation_at action_of misplaced_from directive_of operands_of shape each_of
 datum_says line c n e = rw (e, number_read 1 c n) refl
 
-pub origin_says : (line : List ℕ) (c n : ℕ)
-    → Spelled line ((1, Keyword (keyword.Directive directive.Origin)) ∷ (c, Number n) ∷ [])
-    → Says line (action.Origin (number_at c n))
+pub origin_says : NumberSays (keyword.Directive directive.Origin) action.Origin
 unfolding line_of label_at operation_at action_of misplaced_from directive_of operands_of
 origin_says line c n e = rw (e, number_read 1 c n) refl

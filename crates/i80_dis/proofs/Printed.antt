@@ -1,21 +1,21 @@
 -- The tokens of a printed line.
-use Rattle.std.proofs.Common.{◌≡◌, ℕ, ◌+◌, ◌-◌, ◌<◌, ◌≤◌, inl, inr, List, [], ◌∷◌, ◌++◌, true, false, length}
-use Rattle.std.proofs.Common.{Ok, refl, ap, ◌∙◌, arith}
-use Rattle.std.specs.Prelude.{nat_lt, not}
+use Rattle.std.proofs.Common.{◌≡◌, ℕ, ◌+◌, ◌-◌, ◌<◌, ◌≤◌, inl, inr, List, [], ◌∷◌, ◌++◌, Bool, true, false}
+use Rattle.std.proofs.Common.{length, Ok, refl, ap, ◌∙◌, arith}
+use Rattle.std.specs.Prelude.{nat_lt, nat_le, not}
 use Rattle.std.specs.List.{list_all}
-use Rattle.std.proofs.lemmas.Bool.{and_parts, and_from, both_ways, not-true, cases_lt, lt-ltb}
+use Rattle.std.proofs.lemmas.Bool.{and_parts, and_from, both_ways, not-true, cases_lt, lt-ltb, leb-true}
 use Rattle.asm_syntax.specs.declared.keyword.Keyword.{Keyword}
 use Rattle.asm_syntax.specs.Lexemes.{Lexeme, Number, Sign, Piece}
 use Rattle.asm_syntax.specs.Lexemes as lexeme
-use Rattle.std.specs.Char.{is_ascii_alphanumeric}
+use Rattle.std.specs.Char.{is_ascii_digit, is_ascii_alphanumeric}
 use Rattle.asm_lex.specs.Characters.{is_word_part}
 use Rattle.asm_lex.specs.Tokens.{tokens_of}
 use Rattle.asm_lex.specs.Spelling.{Stops, IsToken, Spells}
 use Rattle.asm_lex.proofs.Readings.{spells_read}
 use Rattle.asm_lex.proofs.Spelled.{or_false}
-use Rattle.i80_dis.specs.Text.{operand_field}
-use Rattle.i80_dis.proofs.Words.{IsNamed}
-use Rattle.i80_dis.proofs.Numerals.{IsNumeral, at_below}
+use Rattle.i80_dis.specs.Text.{operand_field, byte_text, word_text}
+use Rattle.i80_dis.proofs.Words.{is_word, IsNamed}
+use Rattle.i80_dis.proofs.Numerals.{IsNumeral, at_below, byte_numeral, word_numeral}
 
 -- ---- a text that is a token by itself
 
@@ -55,13 +55,22 @@ stops (c ∷ rest) h = let o = or_false (is_ascii_alphanumeric c) _ h in o.0
 
 pub word_printed : (k : Keyword) (text : List ℕ) (most : ℕ) → IsNamed text k most
     → IsPrinted (lexeme.Keyword k) text most
-word_printed k text most named = record {
-  token =
-      λ rest ends. record
-      { begins = named.begins; span = record { all = named.all; ends = ends }; says = named.says };
-  plain = all_plain text named.all;
-  short = named.short;
-}
+word_printed k [] most named =
+    let no : false ≡ true = ap (λ (x : Bool × Lexeme). x.0) named in absurd cc
+word_printed k (c ∷ cs) most named =
+    let word : is_word (c ∷ cs) most ≡ true = ap (λ (x : Bool × Lexeme). x.0) named in
+    let first = and_parts (not (is_ascii_digit c)) _ word in
+    let rest = and_parts (list_all is_word_part (c ∷ cs)) (nat_le (length (c ∷ cs)) most) first.1 in
+    record {
+      token =
+          λ more ends. record {
+            begins = first.0;
+            span = record { all = rest.0; ends = ends };
+            says = ap (λ (x : Bool × Lexeme). x.1) named;
+          };
+      plain = all_plain (c ∷ cs) rest.0;
+      short = leb-true (length (c ∷ cs)) most rest.1;
+    }
 
 pub number_printed : (n : ℕ) (text : List ℕ) (most : ℕ) → IsNumeral n text → length text ≤ most
     → IsPrinted (Number n) text most
@@ -75,6 +84,12 @@ number_printed n text most numeral short = record {
   plain = digits_plain text numeral.all;
   short = short;
 }
+
+pub byte_printed : (n : ℕ) → n < 256 → IsPrinted (Number n) (byte_text n) 6
+byte_printed n lt = number_printed n (byte_text n) 6 (byte_numeral n lt) (omega arith)
+
+pub address_printed : (n : ℕ) → n < 65536 → IsPrinted (Number n) (word_text n) 6
+address_printed n lt = number_printed n (word_text n) 6 (word_numeral n lt) (omega arith)
 
 -- ---- a line that is spelled, piece by piece
 
@@ -142,7 +157,7 @@ two_read k l m w o p a b c word first second =
 
 pub record IsShort (line : List ℕ) : Type 0 where
   pub plain : list_all (nat_lt 13) line ≡ true
-  pub most : length line ≤ 13
+  pub most : length line ≤ 14
 
 joined_plain : (xs ys : List ℕ) → list_all (nat_lt 13) xs ≡ true → list_all (nat_lt 13) ys ≡ true
     → list_all (nat_lt 13) (xs ++ ys) ≡ true
@@ -174,12 +189,12 @@ one_short k l w o word operand =
       most = omega (arith, all);
     }
 
-pub two_short : (k l m : Lexeme) (w o p : List ℕ) → IsPrinted k w 3 → IsPrinted l o 2 → IsPrinted m p 6
+pub two_short : (k l m : Lexeme) (w o p : List ℕ) → IsPrinted k w 3 → IsPrinted l o 3 → IsPrinted m p 6
     → IsShort (w ++ operand_field (o ∷ p ∷ []))
 two_short k l m w o p word first second =
     let third = joined_short p [] 6 0 second.short (omega arith) in
-    let tail = joined_short o (44 ∷ (p ++ [])) 2 7 first.short (omega (arith, third)) in
-    let all = joined_short w (32 ∷ (o ++ (44 ∷ (p ++ [])))) 3 10 word.short (omega (arith, tail)) in
+    let tail = joined_short o (44 ∷ (p ++ [])) 3 7 first.short (omega (arith, third)) in
+    let all = joined_short w (32 ∷ (o ++ (44 ∷ (p ++ [])))) 3 11 word.short (omega (arith, tail)) in
     record {
       plain =
           joined_plain w (32 ∷ (o ++ (44 ∷ (p ++ [])))) word.plain

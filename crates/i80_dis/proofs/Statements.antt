@@ -9,14 +9,13 @@ use Rattle.asm_syntax.specs.declared.keyword.Keyword.TheVariants as keyword
 use Rattle.asm_syntax.specs.declared.keyword.Directive.TheVariants as directive
 use Rattle.asm_syntax.specs.declared.statement.Action.TheVariants as action
 use Rattle.asm_syntax.specs.declared.statement.Statement.{Statement}
-use Rattle.asm_syntax.specs.Lexemes.{Keyword, Number}
+use Rattle.asm_syntax.specs.Lexemes.{Number}
 use Rattle.asm_syntax.specs.Words.{keyword_of}
 use Rattle.asm_text.specs.Statements.{step_of, statements_from, statements_of}
 use Rattle.i80_dis.specs.Text.{word_text, operand_field, ended, origin_line}
-use Rattle.i80_dis.proofs.Numerals.{word_numeral}
-use Rattle.i80_dis.proofs.Printed.{IsShort, word_printed, number_printed, one_read, one_short}
+use Rattle.i80_dis.proofs.Printed.{IsShort, address_printed}
 use Rattle.i80_dis.proofs.Forms.{number_at, does, Says, origin_says}
-use Rattle.i80_dis.proofs.Instructions.{Giving, action_by}
+use Rattle.i80_dis.proofs.Instructions.{Giving, action_by, IsSaid, one_said}
 use Rattle.i80_dis.proofs.Cells.{Given, text_given, texts_given, statements_given, first_line}
 
 -- ---- ORG
@@ -27,30 +26,19 @@ origin_text address = codes "ORG" ++ operand_field (word_text address ∷ [])
 abbrev pub origin : ℕ → Statement
 origin address = does (action.Origin (number_at 5 address))
 
-pub record IsOrigin (address : ℕ) : Type 0 where
-  pub says : Says (origin_text address) (action.Origin (number_at 5 address))
-  pub short : IsShort (origin_text address)
-
-pub origin_is : (address : ℕ) → address < 65536 → IsOrigin address
+pub origin_is : (address : ℕ) → address < 65536
+    → IsSaid (origin_text address) (action.Origin (number_at 5 address))
 unfolding keyword_of
 origin_is address lt =
-    let d = keyword.Directive directive.Origin in
-    let w = codes "ORG" in
-    let p = word_printed d w 4 (record { begins = refl; all = refl; says = refl; short = omega arith }) in
-    let q = number_printed address (word_text address) 6 (word_numeral address lt) (omega arith) in
-    record {
-      says =
-          origin_says (origin_text address) 5 address
-          (one_read (Keyword d) (Number address) w (word_text address) 4 6 p q);
-      short = one_short (Keyword d) (Number address) w (word_text address) p q;
-    }
+    one_said (keyword.Directive directive.Origin) (Number address) (codes "ORG") (word_text address)
+    (action.Origin (number_at 5 address)) refl (address_printed address lt) (origin_says _ 5 address)
 
 -- ---- lines
 
 pub given_lines : (gs : List Given) → lines (text_given gs) ≡ texts_given gs
 given_lines [] = refl
 given_lines (g ∷ gs) =
-    first_line g.text (text_given gs) g.line.short.plain ∙ ap (λ ts. g.text ∷ ts) (given_lines gs)
+    first_line g.text (text_given gs) g.line.said.short.plain ∙ ap (λ ts. g.text ∷ ts) (given_lines gs)
 
 -- ---- statements
 
@@ -76,7 +64,7 @@ given_statements : (gs : List Given) (n : ℕ)
     → statements_from n [] (texts_given gs) ≡ Ok (statements_given gs)
 given_statements [] n = none_left n
 given_statements (g ∷ gs) n =
-    giving_goes g.line.acts n g.text (texts_given gs) (statements_given gs) g.line.says
+    giving_goes g.line.acts n g.text (texts_given gs) (statements_given gs) g.line.said.says
     (given_statements gs (n + 1))
 
 origin_goes : (address n : ℕ) (line : List ℕ) (rest : List (List ℕ)) (ss : List Statement)
@@ -87,14 +75,14 @@ origin_goes address n line rest ss says more = rw (says, more) refl
 
 -- ---- how long the text is
 
-ended_short : (line : List ℕ) → IsShort line → length (ended line) ≤ 14
+ended_short : (line : List ℕ) → IsShort line → length (ended line) ≤ 15
 ended_short line short = let e = length-append line (codes "\n") in let m = short.most in omega (arith, e, m)
 
-given_short : (gs : List Given) → length (text_given gs) ≤ 14 * length gs
+given_short : (gs : List Given) → length (text_given gs) ≤ 15 * length gs
 given_short [] = omega arith
 given_short (g ∷ gs) =
     let e = length-append (ended g.text) (text_given gs) in
-    let first = ended_short g.text g.line.short in
+    let first = ended_short g.text g.line.said.short in
     let more = given_short gs in
     omega (arith, e, first, more)
 

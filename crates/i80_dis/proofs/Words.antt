@@ -1,21 +1,18 @@
 -- Printed words are keywords of the language.
-use Rattle.std.proofs.Common.{◌≡◌, ℕ, ◌≤◌, List, true, length, map, Some, refl, arith}
-use Rattle.std.specs.Prelude.{not}
+use Rattle.std.proofs.Common.{◌≡◌, ℕ, List, [], ◌∷◌, Bool, true, false, ◌&&◌, length, map, Some, refl}
+use Rattle.std.specs.Prelude.{not, nat_le}
 use Rattle.std.specs.List.{list_all}
 use Rattle.std.specs.Char.{to_ascii_uppercase}
 use Rattle.i80_rows.specs.declared.instruction.Cond.{Cond}
-use Rattle.i80_rows.specs.declared.instruction.Cond.TheVariants as cond
 use Rattle.i80_rows.specs.declared.instruction.IndexPair.{IndexPair}
 use Rattle.i80_rows.specs.declared.instruction.IndexPair.TheVariants as index
 use Rattle.i80_rows.specs.declared.instruction.Instr.TheVariants as instr
 use Rattle.i80_rows.specs.declared.instruction.Operation.{Operation}
-use Rattle.i80_rows.specs.declared.instruction.Operation.TheVariants as operation
 use Rattle.i80_rows.specs.declared.instruction.Pair.{Pair}
 use Rattle.i80_rows.specs.declared.instruction.Pair.TheVariants as pair
 use Rattle.i80_rows.specs.declared.instruction.Reg.{Reg}
 use Rattle.i80_rows.specs.declared.instruction.Reg.TheVariants as reg
 use Rattle.i80_rows.specs.declared.instruction.Rotation.{Rotation}
-use Rattle.i80_rows.specs.declared.instruction.Rotation.TheVariants as rotation
 use Rattle.i80_rows.specs.declared.instruction.StackPair.{StackPair}
 use Rattle.i80_rows.specs.declared.instruction.StackPair.TheVariants as stack
 use Rattle.asm_syntax.specs.declared.keyword.Keyword.{Keyword}
@@ -25,25 +22,33 @@ use Rattle.asm_syntax.specs.declared.keyword.Mnemonic.TheVariants as mnemonic
 use Rattle.asm_syntax.specs.declared.keyword.RegisterWord.{RegisterWord}
 use Rattle.asm_syntax.specs.declared.keyword.RegisterWord.TheVariants as word
 use Rattle.asm_syntax.specs.declared.keyword.RegisterOperation.TheVariants as register_op
-use Rattle.asm_syntax.specs.declared.statement.ByteOperation.TheVariants as byte_op
-use Rattle.asm_syntax.specs.declared.statement.WordOperation.TheVariants as word_op
+use Rattle.i80_rows.specs.declared.instruction.ByteOperation.TheVariants as byte_op
+use Rattle.i80_rows.specs.declared.instruction.WordOperation.TheVariants as word_op
 use Rattle.asm_syntax.specs.Lexemes.{Lexeme, word_lexeme}
 use Rattle.asm_syntax.specs.Lexemes as lexeme
 use Rattle.asm_syntax.specs.Words.{keyword_of}
 use Rattle.std.specs.Char.{is_ascii_digit}
 use Rattle.asm_lex.specs.Characters.{is_word_part}
-use Rattle.asm_lex.specs.Spelling.{Begins}
 use Rattle.asm_text.specs.Registers.{reg_of, pair_of, index_of, stack_of}
+use Rattle.i80_rows.proofs.Each.{each_reg, each_pair, each_index, each_stack, each_cond, each_operation}
+use Rattle.i80_rows.proofs.Each.{each_rotation}
 use Rattle.i80_dis.specs.Text.{register_word, pair_word, index_word, stack_word, condition_word}
 use Rattle.i80_dis.specs.Text.{operation_word, immediate_word, rotation_word}
 use Rattle.std.specs.Prelude.{codes, ◌++◌}
 
--- a word of at most so many characters is a keyword
-pub record IsNamed (text : List ℕ) (k : Keyword) (most : ℕ) : Type 0 where
-  pub begins : Begins (λ b. not (is_ascii_digit b)) text
-  pub all : list_all is_word_part text ≡ true
-  pub says : word_lexeme (map to_ascii_uppercase text) ≡ lexeme.Keyword k
-  pub short : length text ≤ most
+-- a word of at most so many characters
+abbrev pub is_word : List ℕ → ℕ → Bool
+is_word [] most = false
+is_word (c ∷ cs) most =
+    not (is_ascii_digit c) && (list_all is_word_part (c ∷ cs) && nat_le (length (c ∷ cs)) most)
+
+-- whether a text is such a word, and what word it is
+abbrev pub word_in : List ℕ → ℕ → Bool × Lexeme
+word_in text most = (is_word text most, word_lexeme (map to_ascii_uppercase text))
+
+-- such a word is a keyword
+abbrev pub IsNamed : List ℕ → Keyword → ℕ → Type 0
+IsNamed text k most = word_in text most ≡ (true, lexeme.Keyword k)
 
 -- ---- operands
 
@@ -73,61 +78,33 @@ stack_for stack.D = word.D
 stack_for stack.H = word.H
 stack_for stack.Psw = word.Psw
 
-pub register_named : (r : Reg) → IsNamed (register_word r) (keyword.Register (register_for r)) 2
+pub register_named : (r : Reg) → IsNamed (register_word r) (keyword.Register (register_for r)) 3
 unfolding keyword_of
-register_named reg.B = record { begins = refl; all = refl; says = refl; short = omega arith }
-register_named reg.C = record { begins = refl; all = refl; says = refl; short = omega arith }
-register_named reg.D = record { begins = refl; all = refl; says = refl; short = omega arith }
-register_named reg.E = record { begins = refl; all = refl; says = refl; short = omega arith }
-register_named reg.H = record { begins = refl; all = refl; says = refl; short = omega arith }
-register_named reg.L = record { begins = refl; all = refl; says = refl; short = omega arith }
-register_named reg.M = record { begins = refl; all = refl; says = refl; short = omega arith }
-register_named reg.A = record { begins = refl; all = refl; says = refl; short = omega arith }
+register_named = each_reg _ refl refl refl refl refl refl refl refl
 
-pub pair_named : (p : Pair) → IsNamed (pair_word p) (keyword.Register (pair_for p)) 2
+pub pair_named : (p : Pair) → IsNamed (pair_word p) (keyword.Register (pair_for p)) 3
 unfolding keyword_of
-pair_named pair.B = record { begins = refl; all = refl; says = refl; short = omega arith }
-pair_named pair.D = record { begins = refl; all = refl; says = refl; short = omega arith }
-pair_named pair.H = record { begins = refl; all = refl; says = refl; short = omega arith }
-pair_named pair.Sp = record { begins = refl; all = refl; says = refl; short = omega arith }
+pair_named = each_pair _ refl refl refl refl
 
 pub index_named : (p : IndexPair) → IsNamed (index_word p) (keyword.Register (index_for p)) 3
 unfolding keyword_of
-index_named index.B = record { begins = refl; all = refl; says = refl; short = omega arith }
-index_named index.D = record { begins = refl; all = refl; says = refl; short = omega arith }
+index_named = each_index _ refl refl
 
 pub stack_named : (p : StackPair) → IsNamed (stack_word p) (keyword.Register (stack_for p)) 3
 unfolding keyword_of
-stack_named stack.B = record { begins = refl; all = refl; says = refl; short = omega arith }
-stack_named stack.D = record { begins = refl; all = refl; says = refl; short = omega arith }
-stack_named stack.H = record { begins = refl; all = refl; says = refl; short = omega arith }
-stack_named stack.Psw = record { begins = refl; all = refl; says = refl; short = omega arith }
+stack_named = each_stack _ refl refl refl refl
 
 pub register_back : (r : Reg) → reg_of (register_for r) ≡ Some r
-register_back reg.B = refl
-register_back reg.C = refl
-register_back reg.D = refl
-register_back reg.E = refl
-register_back reg.H = refl
-register_back reg.L = refl
-register_back reg.M = refl
-register_back reg.A = refl
+register_back = each_reg _ refl refl refl refl refl refl refl refl
 
 pub pair_back : (p : Pair) → pair_of (pair_for p) ≡ Some p
-pair_back pair.B = refl
-pair_back pair.D = refl
-pair_back pair.H = refl
-pair_back pair.Sp = refl
+pair_back = each_pair _ refl refl refl refl
 
 pub index_back : (p : IndexPair) → index_of (index_for p) ≡ Some p
-index_back index.B = refl
-index_back index.D = refl
+index_back = each_index _ refl refl
 
 pub stack_back : (p : StackPair) → stack_of (stack_for p) ≡ Some p
-stack_back stack.B = refl
-stack_back stack.D = refl
-stack_back stack.H = refl
-stack_back stack.Psw = refl
+stack_back = each_stack _ refl refl refl refl
 
 -- ---- mnemonics
 
@@ -136,62 +113,24 @@ Means text m = IsNamed text (keyword.Mnemonic m) 4
 
 pub operation_means : (o : Operation) → Means (operation_word o) (mnemonic.Register (register_op.Alu o))
 unfolding keyword_of
-operation_means operation.Add = record { begins = refl; all = refl; says = refl; short = omega arith }
-operation_means operation.Adc = record { begins = refl; all = refl; says = refl; short = omega arith }
-operation_means operation.Sub = record { begins = refl; all = refl; says = refl; short = omega arith }
-operation_means operation.Sbb = record { begins = refl; all = refl; says = refl; short = omega arith }
-operation_means operation.Ana = record { begins = refl; all = refl; says = refl; short = omega arith }
-operation_means operation.Xra = record { begins = refl; all = refl; says = refl; short = omega arith }
-operation_means operation.Ora = record { begins = refl; all = refl; says = refl; short = omega arith }
-operation_means operation.Cmp = record { begins = refl; all = refl; says = refl; short = omega arith }
+operation_means = each_operation _ refl refl refl refl refl refl refl refl
 
 pub immediate_means : (o : Operation) → Means (immediate_word o) (mnemonic.Byte (byte_op.AluImmediate o))
 unfolding keyword_of
-immediate_means operation.Add = record { begins = refl; all = refl; says = refl; short = omega arith }
-immediate_means operation.Adc = record { begins = refl; all = refl; says = refl; short = omega arith }
-immediate_means operation.Sub = record { begins = refl; all = refl; says = refl; short = omega arith }
-immediate_means operation.Sbb = record { begins = refl; all = refl; says = refl; short = omega arith }
-immediate_means operation.Ana = record { begins = refl; all = refl; says = refl; short = omega arith }
-immediate_means operation.Xra = record { begins = refl; all = refl; says = refl; short = omega arith }
-immediate_means operation.Ora = record { begins = refl; all = refl; says = refl; short = omega arith }
-immediate_means operation.Cmp = record { begins = refl; all = refl; says = refl; short = omega arith }
+immediate_means = each_operation _ refl refl refl refl refl refl refl refl
 
 pub rotation_means : (o : Rotation) → Means (rotation_word o) (mnemonic.Alone (instr.Rotate o))
 unfolding keyword_of
-rotation_means rotation.Rlc = record { begins = refl; all = refl; says = refl; short = omega arith }
-rotation_means rotation.Rrc = record { begins = refl; all = refl; says = refl; short = omega arith }
-rotation_means rotation.Ral = record { begins = refl; all = refl; says = refl; short = omega arith }
-rotation_means rotation.Rar = record { begins = refl; all = refl; says = refl; short = omega arith }
+rotation_means = each_rotation _ refl refl refl refl
 
 pub jump_means : (c : Cond) → Means (codes "J" ++ condition_word c) (mnemonic.Word (word_op.JumpIf c))
 unfolding keyword_of
-jump_means cond.NotZero = record { begins = refl; all = refl; says = refl; short = omega arith }
-jump_means cond.Zero = record { begins = refl; all = refl; says = refl; short = omega arith }
-jump_means cond.NoCarry = record { begins = refl; all = refl; says = refl; short = omega arith }
-jump_means cond.Carry = record { begins = refl; all = refl; says = refl; short = omega arith }
-jump_means cond.ParityOdd = record { begins = refl; all = refl; says = refl; short = omega arith }
-jump_means cond.ParityEven = record { begins = refl; all = refl; says = refl; short = omega arith }
-jump_means cond.Plus = record { begins = refl; all = refl; says = refl; short = omega arith }
-jump_means cond.Minus = record { begins = refl; all = refl; says = refl; short = omega arith }
+jump_means = each_cond _ refl refl refl refl refl refl refl refl
 
 pub call_means : (c : Cond) → Means (codes "C" ++ condition_word c) (mnemonic.Word (word_op.CallIf c))
 unfolding keyword_of
-call_means cond.NotZero = record { begins = refl; all = refl; says = refl; short = omega arith }
-call_means cond.Zero = record { begins = refl; all = refl; says = refl; short = omega arith }
-call_means cond.NoCarry = record { begins = refl; all = refl; says = refl; short = omega arith }
-call_means cond.Carry = record { begins = refl; all = refl; says = refl; short = omega arith }
-call_means cond.ParityOdd = record { begins = refl; all = refl; says = refl; short = omega arith }
-call_means cond.ParityEven = record { begins = refl; all = refl; says = refl; short = omega arith }
-call_means cond.Plus = record { begins = refl; all = refl; says = refl; short = omega arith }
-call_means cond.Minus = record { begins = refl; all = refl; says = refl; short = omega arith }
+call_means = each_cond _ refl refl refl refl refl refl refl refl
 
 pub return_means : (c : Cond) → Means (codes "R" ++ condition_word c) (mnemonic.Alone (instr.RetIf c))
 unfolding keyword_of
-return_means cond.NotZero = record { begins = refl; all = refl; says = refl; short = omega arith }
-return_means cond.Zero = record { begins = refl; all = refl; says = refl; short = omega arith }
-return_means cond.NoCarry = record { begins = refl; all = refl; says = refl; short = omega arith }
-return_means cond.Carry = record { begins = refl; all = refl; says = refl; short = omega arith }
-return_means cond.ParityOdd = record { begins = refl; all = refl; says = refl; short = omega arith }
-return_means cond.ParityEven = record { begins = refl; all = refl; says = refl; short = omega arith }
-return_means cond.Plus = record { begins = refl; all = refl; says = refl; short = omega arith }
-return_means cond.Minus = record { begins = refl; all = refl; says = refl; short = omega arith }
+return_means = each_cond _ refl refl refl refl refl refl refl refl

@@ -1,6 +1,7 @@
 pub mod Tables
 pub mod FlagLemmas
 pub mod ArithmeticLemmas
+pub mod Each
 pub mod Encoded
 pub mod OnlyEncoding
 pub mod DecodeLemmas

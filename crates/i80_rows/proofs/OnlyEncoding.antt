@@ -1,194 +1,43 @@
 -- What encodes an instruction by the table of 256 rows is its encoding in numbers.
-use Rattle.std.proofs.Common.{◌≡◌, ◌↔◌, ℕ, zero, suc, ◌+◌, ◌*◌, ◌/◌, ◌%◌, ◌<◌, List, [], ◌∷◌, ◌++◌, get_or}
-use Rattle.std.proofs.Common.{refl, sym, ap, subst, ◌∙◌, arith, zero-add}
+use Rattle.std.proofs.Common.{◌≡◌, ◌↔◌, ℕ, ◌+◌, ◌*◌, ◌/◌, ◌%◌, ◌<◌, inl, inr, List, [], ◌∷◌, get_or}
+use Rattle.std.proofs.Common.{refl, sym, ap, subst, ◌∙◌, arith}
 use Rattle.std.specs.List.{All}
-use Rattle.std.specs.Prelude.{slice_index_or}
+use Rattle.std.proofs.lemmas.Bool.{cases_lt}
+use Rattle.std.proofs.lemmas.List.{get_or_past}
 use Rattle.i80_rows.specs.declared.instruction.Instr.{Instr}
-use Rattle.i80_rows.specs.Rows.{Row, Undefined, Alone, Byte, Word, row, rows, row_0, row_1, row_2, row_3}
-use Rattle.i80_rows.specs.Rows.{row_4, row_5, row_6, row_7, row_8, row_9, row_a, row_b, row_c, row_d, row_e}
-use Rattle.i80_rows.specs.Rows.{row_f}
+use Rattle.i80_rows.specs.Rows.{Row, Undefined, Alone, Byte, Word, row, rows}
 use Rattle.i80_rows.specs.Encoding.{Encodes, IsOperand, with_word, encoding_of}
+use Rattle.i80_rows.proofs.Tables.{agree}
 use Rattle.i80_rows.proofs.Encoded.{encoded}
 
--- the encoding of what a row holds begins with the row's opcode
+-- the encoding of what a row holds, with this operand
+abbrev encoding_in : ℕ → Row → List ℕ
+encoding_in n Undefined = []
+encoding_in n (Alone j) = encoding_of j
+encoding_in n (Byte f) = encoding_of (f n)
+encoding_in n (Word f) = encoding_of (f n)
+
+-- the row's opcode, and this operand
+abbrev bytes_at : ℕ → ℕ → Row → List ℕ
+bytes_at opcode n Undefined = []
+bytes_at opcode n (Alone j) = opcode ∷ []
+bytes_at opcode n (Byte f) = opcode ∷ (n ∷ [])
+bytes_at opcode n (Word f) = with_word opcode n
+
 abbrev Fits : ℕ → Row → Type 0
-Fits opcode Undefined = Unit {0}
-Fits opcode (Alone j) = encoding_of j ≡ opcode ∷ []
-Fits opcode (Byte f) = (b : ℕ) → encoding_of (f b) ≡ opcode ∷ (b ∷ [])
-Fits opcode (Word f) = (w : ℕ) → encoding_of (f w) ≡ with_word opcode w
-
-abbrev AllFit : ℕ → List Row → Type 0
-AllFit opcode [] = Unit {0}
-AllFit opcode (r ∷ rs) = Fits opcode r × AllFit (suc opcode) rs
-
--- a pair, with no brackets round a list of them
-infixr 5 ◌⊳◌
-◌⊳◌ : {A B : Type 0} → A → B → A × B
-a ⊳ b = (a, b)
-
-fits_0 : (rest : List Row) → AllFit 16 rest → AllFit 0 (row_0 ++ rest)
-unfolding encoding_of
-fits_0 rest more =
-    refl ⊳ (λ w. refl) ⊳ refl ⊳ refl ⊳ refl ⊳ refl ⊳ (λ b. refl) ⊳ refl ⊳
-    tt ⊳ refl ⊳ refl ⊳ refl ⊳ refl ⊳ refl ⊳ (λ b. refl) ⊳ refl ⊳ more
-
-fits_1 : (rest : List Row) → AllFit 32 rest → AllFit 16 (row_1 ++ rest)
-unfolding encoding_of
-fits_1 rest more =
-    tt ⊳ (λ w. refl) ⊳ refl ⊳ refl ⊳ refl ⊳ refl ⊳ (λ b. refl) ⊳ refl ⊳
-    tt ⊳ refl ⊳ refl ⊳ refl ⊳ refl ⊳ refl ⊳ (λ b. refl) ⊳ refl ⊳ more
-
-fits_2 : (rest : List Row) → AllFit 48 rest → AllFit 32 (row_2 ++ rest)
-unfolding encoding_of
-fits_2 rest more =
-    tt ⊳ (λ w. refl) ⊳ (λ w. refl) ⊳ refl ⊳ refl ⊳ refl ⊳ (λ b. refl) ⊳ refl ⊳
-    tt ⊳ refl ⊳ (λ w. refl) ⊳ refl ⊳ refl ⊳ refl ⊳ (λ b. refl) ⊳ refl ⊳ more
-
-fits_3 : (rest : List Row) → AllFit 64 rest → AllFit 48 (row_3 ++ rest)
-unfolding encoding_of
-fits_3 rest more =
-    tt ⊳ (λ w. refl) ⊳ (λ w. refl) ⊳ refl ⊳ refl ⊳ refl ⊳ (λ b. refl) ⊳ refl ⊳
-    tt ⊳ refl ⊳ (λ w. refl) ⊳ refl ⊳ refl ⊳ refl ⊳ (λ b. refl) ⊳ refl ⊳ more
-
-fits_4 : (rest : List Row) → AllFit 80 rest → AllFit 64 (row_4 ++ rest)
-unfolding encoding_of
-fits_4 rest more =
-    refl ⊳ refl ⊳ refl ⊳ refl ⊳ refl ⊳ refl ⊳ refl ⊳ refl ⊳
-    refl ⊳ refl ⊳ refl ⊳ refl ⊳ refl ⊳ refl ⊳ refl ⊳ refl ⊳ more
-
-fits_5 : (rest : List Row) → AllFit 96 rest → AllFit 80 (row_5 ++ rest)
-unfolding encoding_of
-fits_5 rest more =
-    refl ⊳ refl ⊳ refl ⊳ refl ⊳ refl ⊳ refl ⊳ refl ⊳ refl ⊳
-    refl ⊳ refl ⊳ refl ⊳ refl ⊳ refl ⊳ refl ⊳ refl ⊳ refl ⊳ more
-
-fits_6 : (rest : List Row) → AllFit 112 rest → AllFit 96 (row_6 ++ rest)
-unfolding encoding_of
-fits_6 rest more =
-    refl ⊳ refl ⊳ refl ⊳ refl ⊳ refl ⊳ refl ⊳ refl ⊳ refl ⊳
-    refl ⊳ refl ⊳ refl ⊳ refl ⊳ refl ⊳ refl ⊳ refl ⊳ refl ⊳ more
-
-fits_7 : (rest : List Row) → AllFit 128 rest → AllFit 112 (row_7 ++ rest)
-unfolding encoding_of
-fits_7 rest more =
-    refl ⊳ refl ⊳ refl ⊳ refl ⊳ refl ⊳ refl ⊳ refl ⊳ refl ⊳
-    refl ⊳ refl ⊳ refl ⊳ refl ⊳ refl ⊳ refl ⊳ refl ⊳ refl ⊳ more
-
-fits_8 : (rest : List Row) → AllFit 144 rest → AllFit 128 (row_8 ++ rest)
-unfolding encoding_of
-fits_8 rest more =
-    refl ⊳ refl ⊳ refl ⊳ refl ⊳ refl ⊳ refl ⊳ refl ⊳ refl ⊳
-    refl ⊳ refl ⊳ refl ⊳ refl ⊳ refl ⊳ refl ⊳ refl ⊳ refl ⊳ more
-
-fits_9 : (rest : List Row) → AllFit 160 rest → AllFit 144 (row_9 ++ rest)
-unfolding encoding_of
-fits_9 rest more =
-    refl ⊳ refl ⊳ refl ⊳ refl ⊳ refl ⊳ refl ⊳ refl ⊳ refl ⊳
-    refl ⊳ refl ⊳ refl ⊳ refl ⊳ refl ⊳ refl ⊳ refl ⊳ refl ⊳ more
-
-fits_a : (rest : List Row) → AllFit 176 rest → AllFit 160 (row_a ++ rest)
-unfolding encoding_of
-fits_a rest more =
-    refl ⊳ refl ⊳ refl ⊳ refl ⊳ refl ⊳ refl ⊳ refl ⊳ refl ⊳
-    refl ⊳ refl ⊳ refl ⊳ refl ⊳ refl ⊳ refl ⊳ refl ⊳ refl ⊳ more
-
-fits_b : (rest : List Row) → AllFit 192 rest → AllFit 176 (row_b ++ rest)
-unfolding encoding_of
-fits_b rest more =
-    refl ⊳ refl ⊳ refl ⊳ refl ⊳ refl ⊳ refl ⊳ refl ⊳ refl ⊳
-    refl ⊳ refl ⊳ refl ⊳ refl ⊳ refl ⊳ refl ⊳ refl ⊳ refl ⊳ more
-
-fits_c : (rest : List Row) → AllFit 208 rest → AllFit 192 (row_c ++ rest)
-unfolding encoding_of
-fits_c rest more =
-    refl ⊳ refl ⊳ (λ w. refl) ⊳ (λ w. refl) ⊳ (λ w. refl) ⊳ refl ⊳ (λ b. refl) ⊳ refl ⊳
-    refl ⊳ refl ⊳ (λ w. refl) ⊳ tt ⊳ (λ w. refl) ⊳ (λ w. refl) ⊳ (λ b. refl) ⊳ refl ⊳ more
-
-fits_d : (rest : List Row) → AllFit 224 rest → AllFit 208 (row_d ++ rest)
-unfolding encoding_of
-fits_d rest more =
-    refl ⊳ refl ⊳ (λ w. refl) ⊳ (λ b. refl) ⊳ (λ w. refl) ⊳ refl ⊳ (λ b. refl) ⊳ refl ⊳
-    refl ⊳ tt ⊳ (λ w. refl) ⊳ (λ b. refl) ⊳ (λ w. refl) ⊳ tt ⊳ (λ b. refl) ⊳ refl ⊳ more
-
-fits_e : (rest : List Row) → AllFit 240 rest → AllFit 224 (row_e ++ rest)
-unfolding encoding_of
-fits_e rest more =
-    refl ⊳ refl ⊳ (λ w. refl) ⊳ refl ⊳ (λ w. refl) ⊳ refl ⊳ (λ b. refl) ⊳ refl ⊳
-    refl ⊳ refl ⊳ (λ w. refl) ⊳ refl ⊳ (λ w. refl) ⊳ tt ⊳ (λ b. refl) ⊳ refl ⊳ more
-
-fits_f : (rest : List Row) → AllFit 256 rest → AllFit 240 (row_f ++ rest)
-unfolding encoding_of
-fits_f rest more =
-    refl ⊳ refl ⊳ (λ w. refl) ⊳ refl ⊳ (λ w. refl) ⊳ refl ⊳ (λ b. refl) ⊳ refl ⊳
-    refl ⊳ refl ⊳ (λ w. refl) ⊳ refl ⊳ (λ w. refl) ⊳ tt ⊳ (λ b. refl) ⊳ refl ⊳ more
-
-abbrev from_f : List Row
-from_f = row_f ++ []
-
-abbrev from_e : List Row
-from_e = row_e ++ from_f
-
-abbrev from_d : List Row
-from_d = row_d ++ from_e
-
-abbrev from_c : List Row
-from_c = row_c ++ from_d
-
-abbrev from_b : List Row
-from_b = row_b ++ from_c
-
-abbrev from_a : List Row
-from_a = row_a ++ from_b
-
-abbrev from_9 : List Row
-from_9 = row_9 ++ from_a
-
-abbrev from_8 : List Row
-from_8 = row_8 ++ from_9
-
-abbrev from_7 : List Row
-from_7 = row_7 ++ from_8
-
-abbrev from_6 : List Row
-from_6 = row_6 ++ from_7
-
-abbrev from_5 : List Row
-from_5 = row_5 ++ from_6
-
-abbrev from_4 : List Row
-from_4 = row_4 ++ from_5
-
-abbrev from_3 : List Row
-from_3 = row_3 ++ from_4
-
-abbrev from_2 : List Row
-from_2 = row_2 ++ from_3
-
-abbrev from_1 : List Row
-from_1 = row_1 ++ from_2
-
-all_fit : AllFit 0 rows
-all_fit =
-    fits_0 from_1 (fits_1 from_2 (fits_2 from_3 (fits_3 from_4 (fits_4 from_5 (fits_5 from_6
-    (fits_6 from_7 (fits_7 from_8 (fits_8 from_9 (fits_9 from_a (fits_a from_b (fits_b from_c
-    (fits_c from_d (fits_d from_e (fits_e from_f (fits_f [] tt)))))))))))))))
-
-fit_at : (rs : List Row) (k i : ℕ) → AllFit k rs → Fits (k + i) (slice_index_or rs i Undefined)
-fit_at [] k i h = tt
-fit_at (r ∷ rs) k zero h = subst (λ n. Fits n r) (omega arith) h.0
-fit_at (r ∷ rs) k (suc i) h =
-    subst (λ n. Fits n (slice_index_or rs i Undefined)) (omega arith) (fit_at rs (suc k) i h.1)
+Fits opcode r = (n : ℕ) → encoding_in n r ≡ bytes_at opcode n r
 
 fits : (opcode : ℕ) → Fits opcode (row opcode)
-unfolding row
-fits opcode =
-    subst (λ n. Fits n (slice_index_or rows opcode Undefined)) (zero-add opcode)
-    (fit_at rows 0 opcode all_fit)
+unfolding row encoding_of
+fits opcode = elim (cases_lt opcode 256) [
+  | inl low ↦ λ n. agree (λ k. encoding_in n (row k)) (λ k. bytes_at k n (row k)) 256 refl opcode low
+  | inr past ↦ λ n. rw (get_or_past rows opcode Undefined past) refl
+]
 
 by_row : (r : Row) (i : Instr) (opcode : ℕ) (operand : List ℕ) → Fits opcode r → get_or operand 0 0 < 256
     → IsOperand r i operand → opcode ∷ operand ≡ encoding_of i
 by_row Undefined i opcode operand fit small h = absurd h
-by_row (Alone j) i opcode [] fit small h = sym (ap encoding_of h ∙ fit)
+by_row (Alone j) i opcode [] fit small h = sym (ap encoding_of h ∙ fit 0)
 by_row (Alone j) i opcode (b ∷ bytes) fit small h = absurd h
 by_row (Byte f) i opcode [] fit small h = absurd h
 by_row (Byte f) i opcode (b ∷ []) fit small h = sym (ap encoding_of h ∙ fit b)

@@ -2,5 +2,6 @@ pub mod FlagValues
 pub mod Arithmetic
 pub mod Codes
 pub mod Rows
+pub mod Instructions
 pub mod TableRows
 pub mod Encoding

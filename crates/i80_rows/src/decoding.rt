@@ -1,13 +1,13 @@
 //! Reading an instruction from bytes, by the table of 256 rows.
 ghost use Rattle.std.specs.Prelude.{◌≡◌, ◌++◌, List, ℕ, length, take, IfOk, Ok};
 ghost use Rattle.i80_rows.specs.Rows.{Byte, Word, read, read_row};
-ghost use Rattle.i80_rows.specs.TableRows.{byte_instr, word_instr};
+ghost use Rattle.i80_rows.specs.Instructions.{byte_instruction, word_instruction};
 ghost use Rattle.i80_rows.specs.Encoding.{Encodes};
 
 mod rows;
 
-use crate::decoding::rows::{ByteRow, Row, WordRow, row_at};
-use crate::instruction::{DecodeFault, Instr};
+use crate::decoding::rows::{Row, row_at};
+use crate::instruction::{ByteOperation, DecodeFault, Instr, WordOperation};
 
 /// The instruction that the bytes begin with, and its length of 1 to 3 bytes.
 pub fn decode(bytes: &[u8]) -> Result<(Instr, u8), DecodeFault>
@@ -31,25 +31,25 @@ fn read_instruction(bytes: &[u8]) -> Result<(Instr, u8), DecodeFault>
     match row_at(*opcode) {
         Row::Undefined => Err(DecodeFault::Undefined),
         Row::Alone(instr) => Ok((instr, 1)),
-        Row::Byte(row) => read_byte(row, rest),
-        Row::Word(row) => read_word(row, rest),
+        Row::Byte(operation) => read_byte(operation, rest),
+        Row::Word(operation) => read_word(operation, rest),
     }
 }
 
-fn read_byte(row: ByteRow, rest: &[u8]) -> Result<(Instr, u8), DecodeFault>
-    ensures { result ≡ read_row (Byte (byte_instr row)) rest.now }
+fn read_byte(operation: ByteOperation, rest: &[u8]) -> Result<(Instr, u8), DecodeFault>
+    ensures { result ≡ read_row (Byte (byte_instruction operation)) rest.now }
 {
     match rest {
-        [byte, ..] => Ok((row.instr(*byte), 2)),
+        [byte, ..] => Ok((operation.instruction(*byte), 2)),
         _ => Err(DecodeFault::Short { needed: 2 }),
     }
 }
 
-fn read_word(row: WordRow, rest: &[u8]) -> Result<(Instr, u8), DecodeFault>
-    ensures { result ≡ read_row (Word (word_instr row)) rest.now }
+fn read_word(operation: WordOperation, rest: &[u8]) -> Result<(Instr, u8), DecodeFault>
+    ensures { result ≡ read_row (Word (word_instruction operation)) rest.now }
 {
     match rest {
-        [low, high, ..] => Ok((row.instr(u16::from_le_bytes([*low, *high])), 3)),
+        [low, high, ..] => Ok((operation.instruction(u16::from_le_bytes([*low, *high])), 3)),
         _ => Err(DecodeFault::Short { needed: 3 }),
     }
 }

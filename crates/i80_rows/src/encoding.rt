@@ -267,6 +267,9 @@ fn opcode_alone(instr: Instr) -> u8
         Instr::Sphl => 0xf9,
         Instr::Di => 0xf3,
         Instr::Ei => 0xfb,
-        _ => unreachable!(),
+        Instr::Out(_) | Instr::In(_) | Instr::Mvi(..) | Instr::AluImmediate(..) => unreachable!(),
+        Instr::Lxi(..) | Instr::Shld(_) | Instr::Lhld(_) | Instr::Sta(_) => unreachable!(),
+        Instr::Lda(_) | Instr::Jmp(_) | Instr::JumpIf(..) | Instr::Call(_) => unreachable!(),
+        Instr::CallIf(..) => unreachable!(),
     }
 }

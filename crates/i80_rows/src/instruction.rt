@@ -1,5 +1,6 @@
 //! What an instruction of the 8080 is made of (8080 User's Manual, chapter 4).
 ghost use Rattle.std.specs.Prelude.{◌≡◌};
+ghost use Rattle.i80_rows.specs.Instructions.{byte_instruction, word_instruction};
 
 /// What a three-bit register code names: a register, or `M`, the byte in memory at HL.
 #[derive(Clone, Copy, PartialEq, Eq)]
@@ -168,6 +169,62 @@ pub enum Instr {
     In(u8),
     Di,
     Ei,
+}
+
+/// An instruction that lacks the byte after its opcode.
+#[derive(Clone, Copy)]
+pub enum ByteOperation {
+    Mvi(Reg),
+    AluImmediate(Operation),
+    Out,
+    In,
+}
+
+impl ByteOperation {
+    /// The instruction with this byte.
+    pub fn instruction(self, byte: u8) -> Instr
+        ensures { result ≡ byte_instruction self byte }
+    {
+        match self {
+            ByteOperation::Mvi(reg) => Instr::Mvi(reg, byte),
+            ByteOperation::AluImmediate(operation) => Instr::AluImmediate(operation, byte),
+            ByteOperation::Out => Instr::Out(byte),
+            ByteOperation::In => Instr::In(byte),
+        }
+    }
+}
+
+/// An instruction that lacks the word after its opcode.
+#[derive(Clone, Copy)]
+pub enum WordOperation {
+    Lxi(Pair),
+    Shld,
+    Lhld,
+    Sta,
+    Lda,
+    Jmp,
+    JumpIf(Cond),
+    Call,
+    CallIf(Cond),
+}
+
+impl WordOperation {
+    /// The instruction with this word.
+    pub fn instruction(self, word: u16) -> Instr
+        ensures { result ≡ word_instruction self word }
+    {
+        match self {
+            WordOperation::Lxi(pair) => Instr::Lxi(pair, word),
+            WordOperation::Shld => Instr::Shld(word),
+            WordOperation::Lhld => Instr::Lhld(word),
+            WordOperation::Sta => Instr::Sta(word),
+            WordOperation::Lda => Instr::Lda(word),
+            WordOperation::Jmp => Instr::Jmp(word),
+            WordOperation::JumpIf(cond) => Instr::JumpIf(cond, word),
+            WordOperation::Call => Instr::Call(word),
+            WordOperation::CallIf(cond) => Instr::CallIf(cond, word),
+        }
+    }
 }
 
 /// Why no instruction was read.

@@ -1,10 +1,11 @@
 //! The table of 256 rows: what stands at each opcode (8080 User's Manual, chapter 4 and the opcode table).
 ghost use Rattle.std.specs.Prelude.{◌≡◌};
 ghost use Rattle.i80_rows.specs.Rows.{row};
-ghost use Rattle.i80_rows.specs.TableRows.{row_of, byte_instr, word_instr};
+ghost use Rattle.i80_rows.specs.TableRows.{row_of};
 
 use crate::instruction::{
-    Cond, IndexPair, Instr, Operation, Pair, Reg, Register, Rotation, StackPair, Vector,
+    ByteOperation, Cond, IndexPair, Instr, Operation, Pair, Reg, Register, Rotation, StackPair,
+    Vector, WordOperation,
 };
 
 /// An undefined row, or an instruction that stands alone, with a byte after it, or with a word.
@@ -12,64 +13,8 @@ use crate::instruction::{
 pub(super) enum Row {
     Undefined,
     Alone(Instr),
-    Byte(ByteRow),
-    Word(WordRow),
-}
-
-/// A row whose instruction has a byte after the opcode.
-#[derive(Clone, Copy)]
-pub(super) enum ByteRow {
-    Mvi(Reg),
-    AluImmediate(Operation),
-    Out,
-    In,
-}
-
-/// A row whose instruction has a word after the opcode.
-#[derive(Clone, Copy)]
-pub(super) enum WordRow {
-    Lxi(Pair),
-    Shld,
-    Lhld,
-    Sta,
-    Lda,
-    Jmp,
-    JumpIf(Cond),
-    Call,
-    CallIf(Cond),
-}
-
-impl ByteRow {
-    /// The instruction with this byte.
-    pub(super) fn instr(self, byte: u8) -> Instr
-        ensures { result ≡ byte_instr self byte }
-    {
-        match self {
-            ByteRow::Mvi(reg) => Instr::Mvi(reg, byte),
-            ByteRow::AluImmediate(operation) => Instr::AluImmediate(operation, byte),
-            ByteRow::Out => Instr::Out(byte),
-            ByteRow::In => Instr::In(byte),
-        }
-    }
-}
-
-impl WordRow {
-    /// The instruction with this word.
-    pub(super) fn instr(self, word: u16) -> Instr
-        ensures { result ≡ word_instr self word }
-    {
-        match self {
-            WordRow::Lxi(pair) => Instr::Lxi(pair, word),
-            WordRow::Shld => Instr::Shld(word),
-            WordRow::Lhld => Instr::Lhld(word),
-            WordRow::Sta => Instr::Sta(word),
-            WordRow::Lda => Instr::Lda(word),
-            WordRow::Jmp => Instr::Jmp(word),
-            WordRow::JumpIf(cond) => Instr::JumpIf(cond, word),
-            WordRow::Call => Instr::Call(word),
-            WordRow::CallIf(cond) => Instr::CallIf(cond, word),
-        }
-    }
+    Byte(ByteOperation),
+    Word(WordOperation),
 }
 
 /// What stands at an opcode.
@@ -82,12 +27,12 @@ pub(super) fn row_at(opcode: u8) -> Row
 /// Rows 00 to FF.
 static ROWS: [Row; 256] = [
     Row::Alone(Instr::Nop),
-    Row::Word(WordRow::Lxi(Pair::B)),
+    Row::Word(WordOperation::Lxi(Pair::B)),
     Row::Alone(Instr::Stax(IndexPair::B)),
     Row::Alone(Instr::Inx(Pair::B)),
     Row::Alone(Instr::Inr(Reg::B)),
     Row::Alone(Instr::Dcr(Reg::B)),
-    Row::Byte(ByteRow::Mvi(Reg::B)),
+    Row::Byte(ByteOperation::Mvi(Reg::B)),
     Row::Alone(Instr::Rotate(Rotation::Rlc)),
     Row::Undefined,
     Row::Alone(Instr::Dad(Pair::B)),
@@ -95,15 +40,15 @@ static ROWS: [Row; 256] = [
     Row::Alone(Instr::Dcx(Pair::B)),
     Row::Alone(Instr::Inr(Reg::C)),
     Row::Alone(Instr::Dcr(Reg::C)),
-    Row::Byte(ByteRow::Mvi(Reg::C)),
+    Row::Byte(ByteOperation::Mvi(Reg::C)),
     Row::Alone(Instr::Rotate(Rotation::Rrc)),
     Row::Undefined,
-    Row::Word(WordRow::Lxi(Pair::D)),
+    Row::Word(WordOperation::Lxi(Pair::D)),
     Row::Alone(Instr::Stax(IndexPair::D)),
     Row::Alone(Instr::Inx(Pair::D)),
     Row::Alone(Instr::Inr(Reg::D)),
     Row::Alone(Instr::Dcr(Reg::D)),
-    Row::Byte(ByteRow::Mvi(Reg::D)),
+    Row::Byte(ByteOperation::Mvi(Reg::D)),
     Row::Alone(Instr::Rotate(Rotation::Ral)),
     Row::Undefined,
     Row::Alone(Instr::Dad(Pair::D)),
@@ -111,39 +56,39 @@ static ROWS: [Row; 256] = [
     Row::Alone(Instr::Dcx(Pair::D)),
     Row::Alone(Instr::Inr(Reg::E)),
     Row::Alone(Instr::Dcr(Reg::E)),
-    Row::Byte(ByteRow::Mvi(Reg::E)),
+    Row::Byte(ByteOperation::Mvi(Reg::E)),
     Row::Alone(Instr::Rotate(Rotation::Rar)),
     Row::Undefined,
-    Row::Word(WordRow::Lxi(Pair::H)),
-    Row::Word(WordRow::Shld),
+    Row::Word(WordOperation::Lxi(Pair::H)),
+    Row::Word(WordOperation::Shld),
     Row::Alone(Instr::Inx(Pair::H)),
     Row::Alone(Instr::Inr(Reg::H)),
     Row::Alone(Instr::Dcr(Reg::H)),
-    Row::Byte(ByteRow::Mvi(Reg::H)),
+    Row::Byte(ByteOperation::Mvi(Reg::H)),
     Row::Alone(Instr::Daa),
     Row::Undefined,
     Row::Alone(Instr::Dad(Pair::H)),
-    Row::Word(WordRow::Lhld),
+    Row::Word(WordOperation::Lhld),
     Row::Alone(Instr::Dcx(Pair::H)),
     Row::Alone(Instr::Inr(Reg::L)),
     Row::Alone(Instr::Dcr(Reg::L)),
-    Row::Byte(ByteRow::Mvi(Reg::L)),
+    Row::Byte(ByteOperation::Mvi(Reg::L)),
     Row::Alone(Instr::Cma),
     Row::Undefined,
-    Row::Word(WordRow::Lxi(Pair::Sp)),
-    Row::Word(WordRow::Sta),
+    Row::Word(WordOperation::Lxi(Pair::Sp)),
+    Row::Word(WordOperation::Sta),
     Row::Alone(Instr::Inx(Pair::Sp)),
     Row::Alone(Instr::Inr(Reg::M)),
     Row::Alone(Instr::Dcr(Reg::M)),
-    Row::Byte(ByteRow::Mvi(Reg::M)),
+    Row::Byte(ByteOperation::Mvi(Reg::M)),
     Row::Alone(Instr::Stc),
     Row::Undefined,
     Row::Alone(Instr::Dad(Pair::Sp)),
-    Row::Word(WordRow::Lda),
+    Row::Word(WordOperation::Lda),
     Row::Alone(Instr::Dcx(Pair::Sp)),
     Row::Alone(Instr::Inr(Reg::A)),
     Row::Alone(Instr::Dcr(Reg::A)),
-    Row::Byte(ByteRow::Mvi(Reg::A)),
+    Row::Byte(ByteOperation::Mvi(Reg::A)),
     Row::Alone(Instr::Cmc),
     Row::Alone(Instr::Mov(Register::B, Register::B)),
     Row::Alone(Instr::Mov(Register::B, Register::C)),
@@ -275,66 +220,66 @@ static ROWS: [Row; 256] = [
     Row::Alone(Instr::Alu(Operation::Cmp, Reg::A)),
     Row::Alone(Instr::RetIf(Cond::NotZero)),
     Row::Alone(Instr::Pop(StackPair::B)),
-    Row::Word(WordRow::JumpIf(Cond::NotZero)),
-    Row::Word(WordRow::Jmp),
-    Row::Word(WordRow::CallIf(Cond::NotZero)),
+    Row::Word(WordOperation::JumpIf(Cond::NotZero)),
+    Row::Word(WordOperation::Jmp),
+    Row::Word(WordOperation::CallIf(Cond::NotZero)),
     Row::Alone(Instr::Push(StackPair::B)),
-    Row::Byte(ByteRow::AluImmediate(Operation::Add)),
+    Row::Byte(ByteOperation::AluImmediate(Operation::Add)),
     Row::Alone(Instr::Rst(Vector::V0)),
     Row::Alone(Instr::RetIf(Cond::Zero)),
     Row::Alone(Instr::Ret),
-    Row::Word(WordRow::JumpIf(Cond::Zero)),
+    Row::Word(WordOperation::JumpIf(Cond::Zero)),
     Row::Undefined,
-    Row::Word(WordRow::CallIf(Cond::Zero)),
-    Row::Word(WordRow::Call),
-    Row::Byte(ByteRow::AluImmediate(Operation::Adc)),
+    Row::Word(WordOperation::CallIf(Cond::Zero)),
+    Row::Word(WordOperation::Call),
+    Row::Byte(ByteOperation::AluImmediate(Operation::Adc)),
     Row::Alone(Instr::Rst(Vector::V1)),
     Row::Alone(Instr::RetIf(Cond::NoCarry)),
     Row::Alone(Instr::Pop(StackPair::D)),
-    Row::Word(WordRow::JumpIf(Cond::NoCarry)),
-    Row::Byte(ByteRow::Out),
-    Row::Word(WordRow::CallIf(Cond::NoCarry)),
+    Row::Word(WordOperation::JumpIf(Cond::NoCarry)),
+    Row::Byte(ByteOperation::Out),
+    Row::Word(WordOperation::CallIf(Cond::NoCarry)),
     Row::Alone(Instr::Push(StackPair::D)),
-    Row::Byte(ByteRow::AluImmediate(Operation::Sub)),
+    Row::Byte(ByteOperation::AluImmediate(Operation::Sub)),
     Row::Alone(Instr::Rst(Vector::V2)),
     Row::Alone(Instr::RetIf(Cond::Carry)),
     Row::Undefined,
-    Row::Word(WordRow::JumpIf(Cond::Carry)),
-    Row::Byte(ByteRow::In),
-    Row::Word(WordRow::CallIf(Cond::Carry)),
+    Row::Word(WordOperation::JumpIf(Cond::Carry)),
+    Row::Byte(ByteOperation::In),
+    Row::Word(WordOperation::CallIf(Cond::Carry)),
     Row::Undefined,
-    Row::Byte(ByteRow::AluImmediate(Operation::Sbb)),
+    Row::Byte(ByteOperation::AluImmediate(Operation::Sbb)),
     Row::Alone(Instr::Rst(Vector::V3)),
     Row::Alone(Instr::RetIf(Cond::ParityOdd)),
     Row::Alone(Instr::Pop(StackPair::H)),
-    Row::Word(WordRow::JumpIf(Cond::ParityOdd)),
+    Row::Word(WordOperation::JumpIf(Cond::ParityOdd)),
     Row::Alone(Instr::Xthl),
-    Row::Word(WordRow::CallIf(Cond::ParityOdd)),
+    Row::Word(WordOperation::CallIf(Cond::ParityOdd)),
     Row::Alone(Instr::Push(StackPair::H)),
-    Row::Byte(ByteRow::AluImmediate(Operation::Ana)),
+    Row::Byte(ByteOperation::AluImmediate(Operation::Ana)),
     Row::Alone(Instr::Rst(Vector::V4)),
     Row::Alone(Instr::RetIf(Cond::ParityEven)),
     Row::Alone(Instr::Pchl),
-    Row::Word(WordRow::JumpIf(Cond::ParityEven)),
+    Row::Word(WordOperation::JumpIf(Cond::ParityEven)),
     Row::Alone(Instr::Xchg),
-    Row::Word(WordRow::CallIf(Cond::ParityEven)),
+    Row::Word(WordOperation::CallIf(Cond::ParityEven)),
     Row::Undefined,
-    Row::Byte(ByteRow::AluImmediate(Operation::Xra)),
+    Row::Byte(ByteOperation::AluImmediate(Operation::Xra)),
     Row::Alone(Instr::Rst(Vector::V5)),
     Row::Alone(Instr::RetIf(Cond::Plus)),
     Row::Alone(Instr::Pop(StackPair::Psw)),
-    Row::Word(WordRow::JumpIf(Cond::Plus)),
+    Row::Word(WordOperation::JumpIf(Cond::Plus)),
     Row::Alone(Instr::Di),
-    Row::Word(WordRow::CallIf(Cond::Plus)),
+    Row::Word(WordOperation::CallIf(Cond::Plus)),
     Row::Alone(Instr::Push(StackPair::Psw)),
-    Row::Byte(ByteRow::AluImmediate(Operation::Ora)),
+    Row::Byte(ByteOperation::AluImmediate(Operation::Ora)),
     Row::Alone(Instr::Rst(Vector::V6)),
     Row::Alone(Instr::RetIf(Cond::Minus)),
     Row::Alone(Instr::Sphl),
-    Row::Word(WordRow::JumpIf(Cond::Minus)),
+    Row::Word(WordOperation::JumpIf(Cond::Minus)),
     Row::Alone(Instr::Ei),
-    Row::Word(WordRow::CallIf(Cond::Minus)),
+    Row::Word(WordOperation::CallIf(Cond::Minus)),
     Row::Undefined,
-    Row::Byte(ByteRow::AluImmediate(Operation::Cmp)),
+    Row::Byte(ByteOperation::AluImmediate(Operation::Cmp)),
     Row::Alone(Instr::Rst(Vector::V7)),
 ];

@@ -1,11 +1,11 @@
--- Instructions whose operand is given.
+-- Instructions that lack their operand, once it is given.
 use Rattle.std.specs.Prelude.{ℕ}
 use Rattle.i80_rows.specs.declared.instruction.Instr.{Instr}
 use Rattle.i80_rows.specs.declared.instruction.Instr.TheVariants as instr
-use Rattle.asm_syntax.specs.declared.statement.ByteOperation.{ByteOperation}
-use Rattle.asm_syntax.specs.declared.statement.ByteOperation.TheVariants as byte
-use Rattle.asm_syntax.specs.declared.statement.WordOperation.{WordOperation}
-use Rattle.asm_syntax.specs.declared.statement.WordOperation.TheVariants as word
+use Rattle.i80_rows.specs.declared.instruction.ByteOperation.{ByteOperation}
+use Rattle.i80_rows.specs.declared.instruction.ByteOperation.TheVariants as byte
+use Rattle.i80_rows.specs.declared.instruction.WordOperation.{WordOperation}
+use Rattle.i80_rows.specs.declared.instruction.WordOperation.TheVariants as word
 
 -- with this byte
 abbrev pub byte_instruction : ByteOperation → ℕ → Instr
