@@ -92,41 +92,31 @@ given-slices Running n b new reply h = record {
   board_is = h.1;
 }
 
+-- the one says what the other says
+alike : (b new : Board) (e : Event) (reply : Result Answer EventFault)
+    → (Applies b e reply new → Gives b (given e b) reply new) × (Gives b (given e b) reply new → Applies b e reply new)
+alike b new (event.Load path text) reply = (λ h. h, λ h. h)
+alike b new (event.Dump path text) reply = (λ h. h, λ h. h)
+alike b new (event.Start address) reply = (λ h. h, λ h. h)
+alike b new (event.Slice n) reply = (slices-given b.run n b new reply, given-slices b.run n b new reply)
+alike b new event.Pause reply = (λ h. h, λ h. h)
+alike b new event.Resume reply = (λ h. h, λ h. h)
+alike b new (event.Step request) reply = (λ h. h, λ h. h)
+alike b new event.Interrupt reply = (λ h. h, λ h. h)
+alike b new event.Reset reply = (λ h. h, λ h. h)
+alike b new (event.SetBreakpoints path lines) reply = (λ h. h, λ h. h)
+alike b new event.Attach reply = (λ h. h, λ h. h)
+alike b new event.Detach reply = (λ h. h, λ h. h)
+alike b new (event.Typed bytes) reply = (λ h. h, λ h. h)
+alike b new (event.Switches byte) reply = (λ h. h, λ h. h)
+alike b new (event.Press n) reply = (λ h. h, λ h. h)
+alike b new (event.Show view) reply = (λ h. h, λ h. h)
+
 pub applies-given : (b new : Board) (e : Event) (reply : Result Answer EventFault) → Applies b e reply new → Gives b (given e b) reply new
-applies-given b new (event.Load path text) reply h = h
-applies-given b new (event.Dump path text) reply h = h
-applies-given b new (event.Start address) reply h = h
-applies-given b new (event.Slice n) reply h = slices-given b.run n b new reply h
-applies-given b new event.Pause reply h = h
-applies-given b new event.Resume reply h = h
-applies-given b new (event.Step request) reply h = h
-applies-given b new event.Interrupt reply h = h
-applies-given b new event.Reset reply h = h
-applies-given b new (event.SetBreakpoints path lines) reply h = h
-applies-given b new event.Attach reply h = h
-applies-given b new event.Detach reply h = h
-applies-given b new (event.Typed bytes) reply h = h
-applies-given b new (event.Switches byte) reply h = h
-applies-given b new (event.Press n) reply h = h
-applies-given b new (event.Show view) reply h = h
+applies-given b new e reply = (alike b new e reply).0
 
 pub given-applies : (b new : Board) (e : Event) (reply : Result Answer EventFault) → Gives b (given e b) reply new → Applies b e reply new
-given-applies b new (event.Load path text) reply h = h
-given-applies b new (event.Dump path text) reply h = h
-given-applies b new (event.Start address) reply h = h
-given-applies b new (event.Slice n) reply h = given-slices b.run n b new reply h
-given-applies b new event.Pause reply h = h
-given-applies b new event.Resume reply h = h
-given-applies b new (event.Step request) reply h = h
-given-applies b new event.Interrupt reply h = h
-given-applies b new event.Reset reply h = h
-given-applies b new (event.SetBreakpoints path lines) reply h = h
-given-applies b new event.Attach reply h = h
-given-applies b new event.Detach reply h = h
-given-applies b new (event.Typed bytes) reply h = h
-given-applies b new (event.Switches byte) reply h = h
-given-applies b new (event.Press n) reply h = h
-given-applies b new (event.Show view) reply h = h
+given-applies b new e reply = (alike b new e reply).1
 
 -- ---- events in turn
 

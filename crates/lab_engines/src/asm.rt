@@ -1,10 +1,10 @@
 //! The word `asm`: the image of a cell, and how the program in it ends.
-ghost use Rattle.std.specs.Prelude.{◌≡◌, ◌++◌, ◌⊎◌, true, List, ℕ, Ok, OnOk, IfOk, IfErr, IfSome, Some, MatchResult, string_bytes};
+ghost use Rattle.std.specs.Prelude.{◌≡◌, ◌++◌, List, ℕ, Ok, OnOk, IfOk, IfErr, Some, string_bytes};
 ghost use Rattle.asm_syntax.specs.Outcome.{Gives};
 ghost use Rattle.asm_build.specs.Meaning.{meaning_in};
-ghost use Rattle.lab_io.specs.Engine.{Answers, IsFailure, IfFailed};
-ghost use Rattle.lab_io.specs.Report.{IsReport};
-ghost use Rattle.lab_io.specs.Streams.{IsEndless};
+ghost use Rattle.lab_io.specs.Engine.{AnswersInput, BlamesStreams, IsFailure, IfFailed};
+ghost use Rattle.lab_io.specs.Report.{IsReport, ReportsInput};
+ghost use Rattle.lab_io.specs.Streams.{BlamesReader};
 ghost use Rattle.lab_io.specs.TextState.{IsText};
 ghost use Rattle.asm_syntax.specs.Faults.{fault_name};
 ghost use Rattle.lab_engines.specs.AsmText.{
@@ -46,17 +46,10 @@ pub const RUN_LIMIT: u64 = 100_000;
 /// kept than of the longest cell.
 /// Nothing is written before all is read.
 pub fn run_asm<R: Inlet, W: Outlet>(alloc: Global, reader: &mut R, writer: &mut W) -> Status
-    // For every input that the reader has: the text and the status of that input, or a front of
-    // the text where it ran out of memory or a read or a write failed.
-    ensures answers { IfSome (R.left reader.old) (λ input.
-        Answers (asm_status input) (asm_text input) result
-        (W.taken writer.old) (W.taken writer.new)) }
-    // It answers that a read or a write failed where one did, or where the input didn't end, and only
-    // there: any other status says that none failed.
-    ensures blame { IfFailed result
-        ((R.failed reader.new ≡ true) ⊎ (W.failed writer.new ≡ true) ⊎ IsEndless (R.left reader.old))
-        ((R.failed reader.new ≡ R.failed reader.old)
-        × (W.failed writer.new ≡ W.failed writer.old)) }
+    ensures answers { AnswersInput asm_status asm_text result (R.left reader.old)
+        (W.taken writer.old) (W.taken writer.new) }
+    ensures blame { BlamesStreams result (R.failed reader.old) (R.failed reader.new)
+        (W.failed writer.old) (W.failed writer.new) (R.left reader.old) }
 {
     match asm_report(alloc, reader) {
         Ok(report) => deliver(writer, &report),
@@ -65,14 +58,10 @@ pub fn run_asm<R: Inlet, W: Outlet>(alloc: Global, reader: &mut R, writer: &mut 
 }
 
 fn asm_report<R: Inlet>(alloc: Global, reader: &mut R) -> Result<Report, Status>
-    ensures report { IfSome (R.left reader.old) (λ input.
-        IfOk result (λ report. IsReport report (asm_status input) (asm_text input))) }
+    ensures report { ReportsInput asm_status asm_text result (R.left reader.old) }
     ensures failure { IfErr result IsFailure }
-    ensures blame { MatchResult result
-        (λ _. R.failed reader.new ≡ R.failed reader.old)
-        (λ status. IfFailed status
-        ((R.failed reader.new ≡ true) ⊎ IsEndless (R.left reader.old))
-        (R.failed reader.new ≡ R.failed reader.old)) }
+    ensures blame { BlamesReader IfFailed result (R.failed reader.old) (R.failed reader.new)
+        (R.left reader.old) }
 {
     match read_text(alloc, MOST_BYTES, reader) {
         Ok(text) => text_report(alloc, text).map_err(|_| Status::OutOfMemory),

@@ -1,9 +1,8 @@
 //! The word `dis`: the listing of bytes.
-ghost use Rattle.std.specs.Prelude.{◌≡◌, ◌⊎◌, true, IfOk, IfErr, IfSome, MatchResult};
-ghost use Rattle.lab_io.specs.HexInput.{input_of};
-ghost use Rattle.lab_io.specs.Engine.{Answers, IsFailure, IfFailed};
-ghost use Rattle.lab_io.specs.Report.{IsReport};
-ghost use Rattle.lab_io.specs.Streams.{IsEndless};
+ghost use Rattle.std.specs.Prelude.{IfOk, IfErr};
+ghost use Rattle.lab_io.specs.Engine.{AnswersInput, BlamesStreams, IsFailure, IfFailed};
+ghost use Rattle.lab_io.specs.Report.{IsReport, ReportsInput};
+ghost use Rattle.lab_io.specs.Streams.{BlamesReader};
 ghost use Rattle.lab_engines.specs.DisText.{listed_text, listed_status, dis_text, dis_status};
 
 use base_streams::ports::{Inlet, Outlet};
@@ -23,17 +22,10 @@ pub fn run_dis<R: Inlet, W: Outlet>(
     reader: &mut R,
     writer: &mut W,
 ) -> Status
-    // For every input that the reader has: the text and the status of that input, or a front of
-    // the text where it ran out of memory or a read or a write failed.
-    ensures answers { IfSome (R.left reader.old) (λ input.
-        Answers (dis_status origin (input_of input)) (dis_text origin (input_of input)) result
-        (W.taken writer.old) (W.taken writer.new)) }
-    // It answers that a read or a write failed where one did, or where the input didn't end, and only
-    // there: any other status says that none failed.
-    ensures blame { IfFailed result
-        ((R.failed reader.new ≡ true) ⊎ (W.failed writer.new ≡ true) ⊎ IsEndless (R.left reader.old))
-        ((R.failed reader.new ≡ R.failed reader.old)
-        × (W.failed writer.new ≡ W.failed writer.old)) }
+    ensures answers { AnswersInput (dis_status origin) (dis_text origin) result (R.left reader.old)
+        (W.taken writer.old) (W.taken writer.new) }
+    ensures blame { BlamesStreams result (R.failed reader.old) (R.failed reader.new)
+        (W.failed writer.old) (W.failed writer.new) (R.left reader.old) }
 {
     match dis_report(alloc, origin, reader) {
         Ok(report) => deliver(writer, &report),
@@ -42,15 +34,10 @@ pub fn run_dis<R: Inlet, W: Outlet>(
 }
 
 fn dis_report<R: Inlet>(alloc: Global, origin: u16, reader: &mut R) -> Result<Report, Status>
-    ensures report { IfSome (R.left reader.old) (λ input.
-        IfOk result (λ report.
-        IsReport report (dis_status origin (input_of input)) (dis_text origin (input_of input)))) }
+    ensures report { ReportsInput (dis_status origin) (dis_text origin) result (R.left reader.old) }
     ensures failure { IfErr result IsFailure }
-    ensures blame { MatchResult result
-        (λ _. R.failed reader.new ≡ R.failed reader.old)
-        (λ status. IfFailed status
-        ((R.failed reader.new ≡ true) ⊎ IsEndless (R.left reader.old))
-        (R.failed reader.new ≡ R.failed reader.old)) }
+    ensures blame { BlamesReader IfFailed result (R.failed reader.old) (R.failed reader.new)
+        (R.left reader.old) }
 {
     match read_hex(alloc, reader) {
         Ok(bytes) => listed_report(alloc, origin, &bytes).map_err(|_| Status::OutOfMemory),

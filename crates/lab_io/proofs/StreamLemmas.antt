@@ -1,6 +1,6 @@
 -- How far reading has come, read by read.
-use Rattle.std.proofs.Common.{◌≡◌, ℕ, ◌+◌, ◌<◌, ◌≤◌, List, [], ◌++◌, length, Option, Some, None, IfSome, ap, sym, ◌∙◌, subst, arith, append-nil, length-append}
-use Rattle.std.specs.Io.KnownBytes.{Consumes, IsAtEnd}
+use Rattle.std.proofs.Common.{ℕ, ◌+◌, ◌<◌, ◌≤◌, List, [], ◌++◌, length, Option, Some, None, IfSome, ap, sym, subst, arith, length-append}
+use Rattle.std.specs.Io.KnownBytes.{Consumes}
 use Rattle.std.proofs.KnownBytes.{Consumes-nil, Consumes-trans}
 use Rattle.lab_io.specs.Streams.{most_reads, IsEndless}
 
@@ -31,19 +31,6 @@ took_most reads (Some input) None bytes t most = absurd t.consumed
 took_most reads (Some input) (Some rest) bytes t most =
     let many = t.many in omega (arith, ap length t.consumed, length-append bytes rest)
 
--- at the end the bytes are all that there were
-pub took_all : (reads : ℕ) (old now later : Option (List ℕ)) (bytes : List ℕ)
-    → Took reads old now bytes → Consumes now later [] → IsAtEnd later → IfSome old (λ input. bytes ≡ input)
-took_all reads old now later bytes t none end =
-    all old later (Consumes-trans old now later bytes [] t.consumed none) end
-  where
-    all : (old later : Option (List ℕ)) → Consumes old later (bytes ++ []) → IsAtEnd later
-        → IfSome old (λ input. bytes ≡ input)
-    all None later c e = tt
-    all (Some xs) None c e = absurd c
-    all (Some xs) (Some ys) c e =
-        sym (c ∙ ap (λ (l : List ℕ). bytes ++ [] ++ l) e ∙ append-nil (bytes ++ []) ∙ append-nil bytes)
-
 -- these bytes were read so far, and are stood for
 pub record HasRead {S : Type 0} (Stands : S → List ℕ → Type 0) (reads : ℕ) (old now : Option (List ℕ)) (s : S)
     : Type 0 where
@@ -65,16 +52,6 @@ read_piece Stands reads old now later s s' piece r consumed some on = record {
   took = took_piece reads old now later r.bytes piece r.took consumed some;
   stands = on r.bytes r.stands;
 }
-
--- at the end all was read
-pub read_all : {S : Type 0} (Stands : S → List ℕ → Type 0) (reads : ℕ) (old now later : Option (List ℕ)) (s : S)
-    → HasRead Stands reads old now s → Consumes now later [] → IsAtEnd later → IfSome old (Stands s)
-read_all {S} Stands reads old now later s r none end =
-    all old (took_all reads old now later r.bytes r.took none end)
-  where
-    all : (old : Option (List ℕ)) → IfSome old (λ input. r.bytes ≡ input) → IfSome old (Stands s)
-    all None whole = tt
-    all (Some input) whole = subst (Stands s) whole r.stands
 
 pub read_most : {S : Type 0} (Stands : S → List ℕ → Type 0) (reads : ℕ) (old now : Option (List ℕ)) (s : S)
     → HasRead Stands reads old now s → 4294967295 ≤ reads → IsEndless old

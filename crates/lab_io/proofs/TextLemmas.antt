@@ -1,18 +1,14 @@
 -- What a further piece makes of what is kept of a text, and what the end of the text shows.
-use Rattle.std.proofs.Common.{◌≡◌, ℕ, ◌+◌, ◌<◌, ◌≤◌, IfSome, Bool, true, false, ◌||◌, nat_lt, Option, Some, None, Result, Ok, Err, List, [], ◌++◌, length, take, drop, IsUtf8, refl, sym, ap, subst, ◌∙◌, arith, append_assoc, append-nil, length-append, take-append-drop}
+use Rattle.std.proofs.Common.{◌≡◌, ℕ, ◌+◌, ◌<◌, Bool, true, false, ◌||◌, nat_lt, Option, Some, None, Result, Ok, Err, List, [], ◌++◌, length, take, drop, IsUtf8, refl, sym, ap, subst, ◌∙◌, arith, append_assoc, append-nil, length-append, take-append-drop}
 use Rattle.std.proofs.lemmas.Bool.Decides.{nat_tests}
 use Rattle.std.proofs.lemmas.Str.{IsUtf8-append, IsUtf8-nil, IsUtf8-from_is_utf8, is_utf8-from_IsUtf8, IsUtf8-string_bytes}
-use Rattle.std.proofs.KnownBytes.{Consumes-trans}
 use Rattle.std.specs.Global.{Global, Vec}
-use Rattle.std.specs.Io.KnownBytes.{Consumes, IsAtEnd}
 use Rattle.std.specs.String.{string_vec, string_bytes}
 use Rattle.std.specs.Prelude.{String}
 use Rattle.std.specs.Str.{is_utf8}
 use Rattle.lab_io.specs.declared.text_input.TextFault.{TextFault}
 use Rattle.lab_io.specs.declared.text_input.TextFault.TheVariants as fault
 use Rattle.lab_io.specs.TextState.{TextState, IsCut, StandsFor, Takes, NeverText, IsBad, Splits, IsDecoded, IsText}
-use Rattle.lab_io.specs.Streams.{IsEndless}
-use Rattle.lab_io.proofs.StreamLemmas.{Took, took_nothing, took_piece, took_most, took_all}
 use Rattle.lab_io.proofs.Utf8Lemmas.{after_whole, never_behind}
 
 abbrev state : List ℕ → ℕ → Bool → TextState

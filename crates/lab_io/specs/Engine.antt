@@ -1,8 +1,9 @@
 -- What every engine promises of what it writes.
-use Rattle.std.specs.Prelude.{◌≡◌, ℕ, List, Option, Bool, if◌then◌else◌}
+use Rattle.std.specs.Prelude.{◌≡◌, ◌⊎◌, ℕ, List, Option, IfSome, Bool, true, if◌then◌else◌}
 use Rattle.base_streams.specs.Told.{Told, ToldFront}
 use Rattle.lab_io.specs.declared.status.Status.{Status}
 use Rattle.lab_io.specs.declared.status.Status.TheVariants.{Success, Refused, Usage, OutOfMemory, Failed}
+use Rattle.lab_io.specs.Streams.{IsEndless}
 
 -- The status is the text's and all of the text was written; where it ran out of memory or a read or a write
 -- failed, a front of it.
@@ -12,6 +13,12 @@ Answers status text Refused old new = (status ≡ Refused) × Told old new text
 Answers status text Usage old new = ⊥
 Answers status text OutOfMemory old new = ToldFront old new text
 Answers status text Failed old new = ToldFront old new text
+
+-- so for every input that the reader has left, with the status and the text of that input
+abbrev pub AnswersInput : (List ℕ → Status) → (List ℕ → List ℕ) → Status → Option (List ℕ) → Option (List ℕ)
+    → Option (List ℕ) → Type 0
+AnswersInput status_of text_of result left old new =
+    IfSome left (λ input. Answers (status_of input) (text_of input) result old new)
 
 abbrev pub answered : Bool → Status
 answered is_refused = if is_refused then Refused else Success
@@ -30,6 +37,14 @@ IfFailed Success some none = none
 IfFailed Refused some none = none
 IfFailed Usage some none = none
 IfFailed OutOfMemory some none = none
+
+-- It answers that a read or a write failed where one did, or where the input didn't end, and only there: any
+-- other status says that none failed. `reader` and `writer` are whether they had failed before, with a prime
+-- after; `left` is what the reader had left.
+abbrev pub BlamesStreams : Status → Bool → Bool → Bool → Bool → Option (List ℕ) → Type 0
+BlamesStreams status reader reader' writer writer' left =
+    IfFailed status ((reader' ≡ true) ⊎ (writer' ≡ true) ⊎ IsEndless left)
+    ((reader' ≡ reader) × (writer' ≡ writer))
 
 -- the program exits with 0, with 1 for refused input, with 2 for a wrong command line, with 3 where it ran
 -- out of memory and with 4 where a read or a write failed

@@ -1,5 +1,6 @@
 -- What was found in all that a reader had.
-use Rattle.std.specs.Prelude.{◌≡◌, ◌≤◌, ℕ, List, length, Option, IfSome, Result, Ok, Err}
+use Rattle.std.specs.Prelude.{◌≡◌, ◌≤◌, ◌⊎◌, ℕ, List, length, Bool, true, Option, IfSome}
+use Rattle.std.specs.Prelude.{Result, Ok, Err, MatchResult}
 use Rattle.std.specs.Global.{Vec}
 use Rattle.lab_io.specs.HexInput.{input_of, BadHex, PastEnd, Bytes}
 use Rattle.lab_io.specs.HexState.{HexState, StandsFor}
@@ -27,6 +28,15 @@ abbrev pub IfTextFailed : TextFault → Type 0 → Type 0 → Type 0
 IfTextFailed text.Read some none = some
 IfTextFailed text.BadText some none = none
 IfTextFailed text.OutOfMemory some none = none
+
+-- A failed read is reported where one failed, or where the input didn't end; any other answer says that none
+-- failed. `IfReported` is the first of two facts at a fault that reports a failed read, else the second.
+-- `before` and `after` are whether the reader had failed, and `left` is what it had left.
+abbrev pub BlamesReader : {A E : Type 0} → (E → Type 0 → Type 0 → Type 0) → Result A E → Bool → Bool
+    → Option (List ℕ) → Type 0
+BlamesReader IfReported result before after left =
+    MatchResult result (λ _. after ≡ before)
+    (λ fault. IfReported fault ((after ≡ true) ⊎ IsEndless left) (after ≡ before))
 
 -- the digits of an input, or that one of its characters is bad
 abbrev pub IsReading : Result HexState HexFault → List ℕ → Type 0

@@ -4,7 +4,6 @@ ghost use Rattle.lab_io.specs.HexInput.{is_blank, is_hex_digit, digit_value, inp
 ghost use Rattle.lab_io.specs.HexState.{kept_more};
 
 use crate::intake::{Intake, IntakeFault};
-use base_streams::ports::IoFault;
 use base_text::hexadecimal::digit_value;
 use i80_rows::memory::MEMORY_SIZE;
 use std::alloc::{AllocError, AllocFailed, Global};
@@ -49,17 +48,6 @@ impl From<AllocFailed<u8>> for HexFault {
 
     fn from(_: AllocFailed<u8>) -> HexFault {
         HexFault::OutOfMemory
-    }
-}
-
-impl From<IoFault> for HexFault {
-    ghost use Rattle.std.specs.Prelude.{◌≡◌};
-    ghost use Rattle.lab_io.specs.declared.hex_input.HexFault.TheVariants.{Read};
-
-    ghost from_gives = { λ _ fault. fault ≡ Read };
-
-    fn from(_: IoFault) -> HexFault {
-        HexFault::Read
     }
 }
 

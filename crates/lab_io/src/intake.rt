@@ -1,6 +1,6 @@
 //! An input that is read to its end, piece by piece, into what takes it.
-ghost use Rattle.std.specs.Prelude.{◌≡◌, ◌<◌, ◌⊎◌, ◌++◌, ℕ, List, [], true, OnOk, IsErrOf, IfOk, IfSome, MatchResult, length};
-ghost use Rattle.lab_io.specs.Streams.{IsEndless};
+ghost use Rattle.std.specs.Prelude.{◌≡◌, ◌<◌, ◌++◌, ℕ, List, [], OnOk, IsErrOf, IfOk, IfSome, length};
+ghost use Rattle.lab_io.specs.Streams.{BlamesReader};
 ghost use Rattle.lab_io.specs.Pouring.{IsPoured, IfPourFailed};
 
 use base_streams::ports::Inlet;
@@ -68,11 +68,8 @@ pub(crate) fn pour<R: Inlet, I: Intake>(
     requires input { I.stands input [] }
     ensures limit { IfOk result (λ read. I.limit read ≡ I.limit input) }
     ensures read { IfSome (R.left reader.old) (IsPoured I.stands I.refuses result) }
-    ensures blame { MatchResult result
-        (λ _. R.failed reader.new ≡ R.failed reader.old)
-        (λ fault. IfPourFailed fault
-        ((R.failed reader.new ≡ true) ⊎ IsEndless (R.left reader.old))
-        (R.failed reader.new ≡ R.failed reader.old)) }
+    ensures blame { BlamesReader IfPourFailed result (R.failed reader.old) (R.failed reader.new)
+        (R.left reader.old) }
 {
     for reads in 0..u32::MAX {
         match reader.read(buffer) {

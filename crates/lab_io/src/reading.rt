@@ -1,7 +1,7 @@
 //! Reading all that a reader has: hexadecimal text as the bytes that it means, or bytes as they are.
-ghost use Rattle.std.specs.Prelude.{◌≡◌, ◌<◌, ◌⊎◌, true, [], IfSome, IfOk, IfErr, MatchResult, length, vec_len};
+ghost use Rattle.std.specs.Prelude.{◌≡◌, ◌<◌, [], IfSome, IfOk, IfErr, length, vec_len};
 ghost use Rattle.lab_io.specs.Engine.{IsFailure, IfFailed};
-ghost use Rattle.lab_io.specs.Streams.{IsReading, IsHex, IsEndless, IfReadFailed, IfTextFailed};
+ghost use Rattle.lab_io.specs.Streams.{IsReading, IsHex, IfReadFailed, IfTextFailed, BlamesReader};
 ghost use Rattle.lab_io.specs.TextState.{StandsFor, IsText, IsTextReading};
 
 pub use crate::hex_input::HexFault;
@@ -26,13 +26,8 @@ fn new_buffer(alloc: Global) -> Result<Vec<u8>, AllocError>
 /// follows a character that is neither a digit nor a blank isn't read.
 pub fn read_hex<R: Inlet>(alloc: Global, reader: &mut R) -> Result<Vec<u8>, HexFault>
     ensures bytes { IfSome (R.left reader.old) (IsHex result) }
-    // A failed read is reported where one failed, or where the input didn't end; any other answer says
-    // that none failed.
-    ensures blame { MatchResult result
-        (λ _. R.failed reader.new ≡ R.failed reader.old)
-        (λ fault. IfReadFailed fault
-        ((R.failed reader.new ≡ true) ⊎ IsEndless (R.left reader.old))
-        (R.failed reader.new ≡ R.failed reader.old)) }
+    ensures blame { BlamesReader IfReadFailed result (R.failed reader.old) (R.failed reader.new)
+        (R.left reader.old) }
 {
     let mut buffer = new_buffer(alloc)?;
     let input = read_digits(alloc, reader, &mut buffer)?;
@@ -49,11 +44,8 @@ fn read_digits<R: Inlet>(
 ) -> Result<HexInput, HexFault>
     requires { 0 < length buffer.old }
     ensures digits { IfSome (R.left reader.old) (IsReading result) }
-    ensures blame { MatchResult result
-        (λ _. R.failed reader.new ≡ R.failed reader.old)
-        (λ fault. IfReadFailed fault
-        ((R.failed reader.new ≡ true) ⊎ IsEndless (R.left reader.old))
-        (R.failed reader.new ≡ R.failed reader.old)) }
+    ensures blame { BlamesReader IfReadFailed result (R.failed reader.old) (R.failed reader.new)
+        (R.left reader.old) }
 {
     match pour(reader, buffer, HexInput::new(alloc)) {
         Ok(input) => Ok(input),
@@ -71,13 +63,8 @@ pub fn read_text<R: Inlet>(
     reader: &mut R,
 ) -> Result<Option<String>, TextFault>
     ensures text { IfSome (R.left reader.old) (IsText limit result) }
-    // A failed read is reported where one failed, or where the input didn't end; any other answer says
-    // that none failed.
-    ensures blame { MatchResult result
-        (λ _. R.failed reader.new ≡ R.failed reader.old)
-        (λ fault. IfTextFailed fault
-        ((R.failed reader.new ≡ true) ⊎ IsEndless (R.left reader.old))
-        (R.failed reader.new ≡ R.failed reader.old)) }
+    ensures blame { BlamesReader IfTextFailed result (R.failed reader.old) (R.failed reader.new)
+        (R.left reader.old) }
 {
     let Ok(mut buffer) = new_buffer(alloc) else {
         return Err(TextFault::OutOfMemory);
@@ -98,11 +85,8 @@ fn read_pieces<R: Inlet>(
     requires input { StandsFor input [] }
     ensures limit { IfOk result (λ read. read.limit ≡ input.limit) }
     ensures text { IfSome (R.left reader.old) (IsTextReading result) }
-    ensures blame { MatchResult result
-        (λ _. R.failed reader.new ≡ R.failed reader.old)
-        (λ fault. IfTextFailed fault
-        ((R.failed reader.new ≡ true) ⊎ IsEndless (R.left reader.old))
-        (R.failed reader.new ≡ R.failed reader.old)) }
+    ensures blame { BlamesReader IfTextFailed result (R.failed reader.old) (R.failed reader.new)
+        (R.left reader.old) }
 {
     match pour(reader, buffer, input) {
         Ok(read) => Ok(read),
@@ -117,13 +101,8 @@ pub fn read_all<R: Inlet>(alloc: Global, reader: &mut R) -> Result<Vec<u8>, Stat
     ensures all { IfSome (R.left reader.old) (λ input.
         IfOk result (λ bytes. bytes.items ≡ input)) }
     ensures failure { IfErr result IsFailure }
-    // A failed read is reported where one failed, or where the input didn't end; any other answer says
-    // that none failed.
-    ensures blame { MatchResult result
-        (λ _. R.failed reader.new ≡ R.failed reader.old)
-        (λ status. IfFailed status
-        ((R.failed reader.new ≡ true) ⊎ IsEndless (R.left reader.old))
-        (R.failed reader.new ≡ R.failed reader.old)) }
+    ensures blame { BlamesReader IfFailed result (R.failed reader.old) (R.failed reader.new)
+        (R.left reader.old) }
 {
     let Ok(mut buffer) = new_buffer(alloc) else {
         return Err(Status::OutOfMemory);

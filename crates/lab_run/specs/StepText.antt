@@ -2,7 +2,7 @@
 use Rattle.std.specs.Prelude.{ℕ, List}
 use Rattle.lab_io.specs.declared.status.Status.{Status}
 use Rattle.lab_io.specs.declared.status.Status.TheVariants.{Success}
-use Rattle.lab_io.specs.HexInput.{Input}
+use Rattle.lab_io.specs.HexInput.{input_of}
 use Rattle.lab_io.specs.Report.{text_for, status_for}
 use Rattle.lab_run.specs.Computer.{programmed}
 use Rattle.lab_run.specs.RunText.{run_text}
@@ -11,8 +11,8 @@ use Rattle.lab_run.specs.RunText.{run_text}
 abbrev pub program_text : List ℕ → List ℕ
 program_text bytes = run_text 1000 (programmed bytes)
 
-abbrev pub step_text : Input → List ℕ
-step_text input = text_for program_text input
+abbrev pub step_text : List ℕ → List ℕ
+step_text input = text_for program_text (input_of input)
 
-abbrev pub step_status : Input → Status
-step_status input = status_for (λ bytes. Success) input
+abbrev pub step_status : List ℕ → Status
+step_status input = status_for (λ bytes. Success) (input_of input)

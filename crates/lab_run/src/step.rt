@@ -1,9 +1,8 @@
 //! The word `step`: what each instruction of a program did.
-ghost use Rattle.std.specs.Prelude.{◌≡◌, ◌⊎◌, true, IfOk, IfErr, IfSome, MatchResult};
-ghost use Rattle.lab_io.specs.HexInput.{input_of};
-ghost use Rattle.lab_io.specs.Engine.{Answers, IsFailure, IfFailed};
-ghost use Rattle.lab_io.specs.Report.{IsReport};
-ghost use Rattle.lab_io.specs.Streams.{IsEndless};
+ghost use Rattle.std.specs.Prelude.{IfOk, IfErr};
+ghost use Rattle.lab_io.specs.Engine.{AnswersInput, BlamesStreams, IsFailure, IfFailed};
+ghost use Rattle.lab_io.specs.Report.{IsReport, ReportsInput};
+ghost use Rattle.lab_io.specs.Streams.{BlamesReader};
 ghost use Rattle.lab_run.specs.StepText.{program_text, step_text, step_status};
 
 use crate::runner::{Runner, load};
@@ -20,17 +19,10 @@ pub const STEP_LIMIT: u64 = 1000;
 /// power-on, and writes the registers after each step and last how the run ended.
 /// What is refused is answered by one line, and nothing is written before all of the text is read.
 pub fn run_step<R: Inlet, W: Outlet>(alloc: Global, reader: &mut R, writer: &mut W) -> Status
-    // For every input that the reader has: the text and the status of that input, or a front of
-    // the text where it ran out of memory or a read or a write failed.
-    ensures answers { IfSome (R.left reader.old) (λ input.
-        Answers (step_status (input_of input)) (step_text (input_of input)) result
-        (W.taken writer.old) (W.taken writer.new)) }
-    // It answers that a read or a write failed where one did, or where the input didn't end, and only
-    // there: any other status says that none failed.
-    ensures blame { IfFailed result
-        ((R.failed reader.new ≡ true) ⊎ (W.failed writer.new ≡ true) ⊎ IsEndless (R.left reader.old))
-        ((R.failed reader.new ≡ R.failed reader.old)
-        × (W.failed writer.new ≡ W.failed writer.old)) }
+    ensures answers { AnswersInput step_status step_text result (R.left reader.old)
+        (W.taken writer.old) (W.taken writer.new) }
+    ensures blame { BlamesStreams result (R.failed reader.old) (R.failed reader.new)
+        (W.failed writer.old) (W.failed writer.new) (R.left reader.old) }
 {
     match step_report(alloc, reader) {
         Ok(report) => deliver(writer, &report),
@@ -39,15 +31,10 @@ pub fn run_step<R: Inlet, W: Outlet>(alloc: Global, reader: &mut R, writer: &mut
 }
 
 fn step_report<R: Inlet>(alloc: Global, reader: &mut R) -> Result<Report, Status>
-    ensures report { IfSome (R.left reader.old) (λ input.
-        IfOk result (λ report.
-        IsReport report (step_status (input_of input)) (step_text (input_of input)))) }
+    ensures report { ReportsInput step_status step_text result (R.left reader.old) }
     ensures failure { IfErr result IsFailure }
-    ensures blame { MatchResult result
-        (λ _. R.failed reader.new ≡ R.failed reader.old)
-        (λ status. IfFailed status
-        ((R.failed reader.new ≡ true) ⊎ IsEndless (R.left reader.old))
-        (R.failed reader.new ≡ R.failed reader.old)) }
+    ensures blame { BlamesReader IfFailed result (R.failed reader.old) (R.failed reader.new)
+        (R.left reader.old) }
 {
     match read_hex(alloc, reader) {
         Ok(bytes) => program_report(alloc, &bytes).map_err(|_| Status::OutOfMemory),

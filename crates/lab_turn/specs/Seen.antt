@@ -8,22 +8,27 @@ use Rattle.lab_turn.specs.declared.view.Left.{Left}
 use Rattle.lab_turn.specs.History.{calls_of}
 use Rattle.lab_turn.specs.Tickets.{last_ticket}
 
--- what is left in place of a pass that another took in
-abbrev pub spent_view : {C : Type 0} → View C
-spent_view = record {
-  seat = 0;
-  seats = 0;
-  limit = 0;
+-- a pass with which no call was made, and which makes no other: its seat, the number of seats, the limit, and
+-- the history that it has seen
+abbrev pub fresh_view : {C : Type 0} → ℕ → ℕ → ℕ → List (ℕ × C) → View C
+fresh_view seat seats limit seen = record {
+  seat = seat;
+  seats = seats;
+  limit = limit;
   makes = false;
   made = 0;
-  seen = [];
+  seen = seen;
   calls = [];
   ticket = None;
   found = None;
   worn = false;
-  spent = true;
+  spent = false;
   kept = [];
 }
+
+-- what is left in place of a pass that another took in
+abbrev pub spent_view : {C : Type 0} → View C
+spent_view = record (fresh_view 0 0 0 []) { spent = true }
 
 -- of a spent pass that another keeps: it was another seat, it saw the history, and its calls stand there
 pub record Keeps {C : Type 0} (log : List (ℕ × C)) (views : List (View C)) (keeper : ℕ)

@@ -10,24 +10,11 @@ use Rattle.lab_turn.specs.declared.view.View.{View}
 use Rattle.lab_turn.specs.declared.view.Left.{Left}
 use Rattle.lab_turn.specs.History.{calls_of, PassState}
 use Rattle.lab_turn.specs.Tickets.{last_ticket, TicketRule}
-use Rattle.lab_turn.specs.Seen.{HistoryRule}
+use Rattle.lab_turn.specs.Seen.{fresh_view, HistoryRule}
 
 -- the pass that makes the others, when so many are made
 abbrev pub maker_at : {C : Type 0} → ℕ → ℕ → ℕ → View C
-maker_at seats limit made = record {
-  seat = 0;
-  seats = seats;
-  limit = limit;
-  makes = true;
-  made = made;
-  seen = [];
-  calls = [];
-  ticket = None;
-  found = None;
-  worn = false;
-  spent = false;
-  kept = [];
-}
+maker_at seats limit made = record (fresh_view 0 seats limit []) { makes = true; made = made }
 
 abbrev pub first_view : {C : Type 0} → ℕ → ℕ → View C
 first_view seats limit = maker_at seats limit 1
@@ -85,20 +72,7 @@ abbrev pub maker_after : {C : Type 0} → View C → View C
 maker_after v = record v { made = v.made + 1 }
 
 abbrev pub new_pass : {C : Type 0} → View C → View C
-new_pass v = record {
-  seat = v.made;
-  seats = v.seats;
-  limit = v.limit;
-  makes = false;
-  made = 0;
-  seen = v.seen;
-  calls = [];
-  ticket = None;
-  found = None;
-  worn = false;
-  spent = false;
-  kept = [];
-}
+new_pass v = fresh_view v.made v.seats v.limit v.seen
 
 -- a pass takes in another, and keeps its seat, what it has seen, and its calls
 abbrev pub taker : {C : Type 0} → View C → View C → View C

@@ -1,4 +1,3 @@
 pub mod ListLemmas
 pub mod CodeLemmas
 pub mod StackLemmas
-pub mod PartLemmas

@@ -17,14 +17,6 @@ made_more made made' left left' all x e f h = rw (e, append_assoc made (x ∷ []
 pub made_all : {A : Type 0} (made left all : List A) → left ≡ [] → made ++ left ≡ all → made ≡ all
 made_all made left all e h = sym (append-nil made) ∙ ap (λ xs. made ++ xs) (sym e) ∙ h
 
--- there is an item within a list
-pub within_has_item : {A B : Type 0} (xs : List A) (i : ℕ) → i < length xs → slice_get xs i ≡ None → B
-within_has_item [] i h e = absurd (omega arith)
-within_has_item (x ∷ xs) zero h e = cc
-within_has_item (x ∷ xs) (suc i) h e =
-    let rest : i < length xs = omega arith in
-    within_has_item xs i rest e
-
 -- a page with one item more
 pub page_more : {A : Type 0} (xs : List A) (start i : ℕ) (x : A) → start ≤ i → slice_get xs i ≡ Some x
     → take (i + 1 - start) (drop start xs) ≡ take (i - start) (drop start xs) ++ x ∷ []

@@ -1,5 +1,5 @@
 //! The frames of a stopped run.
-ghost use Rattle.std.specs.Prelude.{◌≡◌, ◌≤◌, ◌+◌, ◌∷◌, ◌++◌, ◌&&◌, ◌==◌, List, length, map, reverse, option_map, unwrap_or, slice_get, IfOk, Some, codes};
+ghost use Rattle.std.specs.Prelude.{◌≡◌, ◌<◌, ◌≤◌, ◌+◌, ◌∷◌, ◌++◌, ◌&&◌, ◌==◌, List, length, map, reverse, option_map, unwrap_or, slice_get, IfOk, Some, codes};
 ghost use Rattle.base_text.specs.Hexadecimal.{upper_word};
 ghost use Rattle.i80_devs.specs.Past.{Operation};
 ghost use Rattle.lab_image.specs.Loads.{Load, StandsFor};
@@ -36,18 +36,25 @@ fn labels(address: u16, symbol: Symbol) -> bool
     is_label(symbol.kind) && symbol.value == address
 }
 
+/// The name and the symbol at a place, from 0.
+pub(crate) fn symbol_at(symbols: &Symbols, index: usize) -> (&str, Symbol)
+    requires { index < length symbols.now }
+    ensures { slice_get symbols.now index ≡ Some (result.0.now, result.1) }
+{
+    match symbols.at(index) {
+        Some(entry) => entry,
+        None => unreachable!(),
+    }
+}
+
 /// The first label that stands for an address.
 fn label_of(symbols: &Symbols, address: u16) -> Option<&str>
     ensures { option_map (λ name. name.now) result ≡ frames.label_of symbols.now address }
 {
     for index in 0..symbols.len() {
-        match symbols.at(index) {
-            Some((name, symbol)) => {
-                if labels(address, symbol) {
-                    return Some(name);
-                }
-            }
-            None => return None,
+        let (name, symbol) = symbol_at(symbols, index);
+        if labels(address, symbol) {
+            return Some(name);
         }
     }
     None

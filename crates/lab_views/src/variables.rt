@@ -6,6 +6,7 @@ ghost use Rattle.i80_devs.specs.Past.{Operation, StandsFor, panel_after};
 ghost use Rattle.lab_views.specs.Numbers.{asked_for, page};
 ghost use Rattle.lab_views.specs.Variables as variables;
 
+use crate::frames::symbol_at;
 use crate::numbers::{asked_for, end_of};
 use crate::shown::Variable;
 use asm_build::symbols::Symbols;
@@ -227,10 +228,8 @@ pub(crate) fn symbols(
     let end = end_of(start, most, symbols.len());
     let mut shown = Sequence::new(alloc);
     for index in start as usize..end {
-        match symbols.at(index) {
-            Some((name, symbol)) => push_word(alloc, &mut shown, name, symbol.value)?,
-            None => return Ok(shown),
-        }
+        let (name, symbol) = symbol_at(symbols, index);
+        push_word(alloc, &mut shown, name, symbol.value)?;
     }
     Ok(shown)
 }

@@ -1,5 +1,5 @@
 use Rattle.std.proofs.Common.{Err, refl, inr, ap, ◌∙◌, arith, length-take}
-use Rattle.lab_io.proofs.StreamLemmas.{read_nothing, read_piece, read_all, read_most, read_bad}
+use Rattle.lab_io.proofs.StreamLemmas.{read_nothing, read_piece, read_most, read_bad}
 use Rattle.lab_io.proofs.intake.pour.Goals as goal
 
 pub loop-reads-init : goal.loop-reads-init

@@ -1,4 +1,4 @@
-use Rattle.std.proofs.Common.{◌≡◌, ◌∷◌, ◌++◌, [], Some, sym, ap, ◌∙◌, subst}
+use Rattle.std.proofs.Common.{◌≡◌, ◌∷◌, [], Some, sym, ap, subst}
 use Rattle.atomic_table.specs.Table.{opening}
 use Rattle.lab_turn.specs.Turns.{Ruled, first_view}
 use Rattle.lab_turn.proofs.Steps.{begins}

@@ -1,30 +1,32 @@
-use Rattle.std.proofs.Common.{◌≡◌, ◌∙◌, ◌<◌, Some, true, false, sym, ap, refl, length, arith, List, ℕ}
+use Rattle.std.proofs.Common.{◌≡◌, ◌∙◌, ◌+◌, Some, true, false, cond, drop, sym, ap, refl, List, ℕ}
 use Rattle.asm_build.specs.declared.symbols.Symbol.{Symbol}
-use Rattle.std.specs.Prelude.{slice_get, option_map}
+use Rattle.std.specs.Prelude.{option_map}
 use Rattle.std.specs.List.{find}
 use Rattle.lab_views.specs.Frames.{labels}
-use Rattle.lab_views.proofs.ListLemmas.{find-next, within_has_item}
+use Rattle.lab_views.proofs.ListLemmas.{find-next}
 use Rattle.lab_views.proofs.frames.label_of.Goals as goal
+use Rattle.lab_views.proofs.frames.label_of.Goals.{After-labels}
+
+-- the symbol that is looked at
+abbrev entry : After-labels → List ℕ × Symbol
+entry c = (c.symbol_at.result.0.now, c.symbol_at.result.1)
+
+-- the search, from this symbol on
+looks_at : (c : After-labels) → find (labels c.args.address) c.args.symbols.now
+    ≡ cond (labels c.args.address (entry c)) (Some (entry c)) (find (labels c.args.address) (drop (c.loop-index.index + 1) c.args.symbols.now))
+looks_at c =
+    sym c.loop-index.invariant
+    ∙ find-next (labels c.args.address) c.args.symbols.now c.loop-index.index (entry c) c.symbol_at.ensures
 
 pub returns-then-labels : goal.returns-then-labels
 returns-then-labels c =
-    let e : List ℕ × Symbol = (c.in-Some.name.now, c.in-Some.symbol) in
-    let item : slice_get c.args.symbols.now c.loop-index.index ≡ Some e = sym c.in-Some.ensures in
-    let passes : labels c.args.address e ≡ true = sym c.labels.ensures ∙ c.if-labels.true in
-    let next = find-next (labels c.args.address) c.args.symbols.now c.loop-index.index e item in
-    let found : find (labels c.args.address) c.args.symbols.now ≡ Some e =
-    sym c.loop-index.invariant ∙ next ∙ rw passes refl in
+    let at = (goal.at.returns-then-labels c).After-labels in
+    let passes : labels c.args.address (entry at) ≡ true = sym c.labels.ensures ∙ c.if-labels.true in
+    let found : find (labels c.args.address) c.args.symbols.now ≡ Some (entry at) = looks_at at ∙ rw passes refl in
     ap (option_map (λ e. e.0)) (sym found)
-
-pub returns-in-None : goal.returns-in-None
-returns-in-None c =
-    let within : c.loop-index.index < length c.args.symbols.now = omega arith in
-    within_has_item c.args.symbols.now c.loop-index.index within (sym c.in-None.ensures)
 
 pub loop-index-preserved : goal.loop-index-preserved
 loop-index-preserved c =
-    let e : List ℕ × Symbol = (c.in-Some.name.now, c.in-Some.symbol) in
-    let item : slice_get c.args.symbols.now c.loop-index.index ≡ Some e = sym c.in-Some.ensures in
-    let fails : labels c.args.address e ≡ false = sym c.labels.ensures ∙ c.if-labels.false in
-    let next = find-next (labels c.args.address) c.args.symbols.now c.loop-index.index e item in
-    sym (next ∙ rw fails refl) ∙ c.loop-index.invariant
+    let at = (goal.at.loop-index-preserved c).After-labels in
+    let fails : labels c.args.address (entry at) ≡ false = sym c.labels.ensures ∙ c.if-labels.false in
+    sym (looks_at at ∙ rw fails refl)

@@ -1,25 +1,19 @@
-use Rattle.std.proofs.Common.{◌≡◌, ◌∙◌, ◌<◌, ◌∷◌, ◌++◌, [], Some, length, sym, ap, arith, List, ℕ}
-use Rattle.std.specs.Prelude.{slice_get, option_map}
+use Rattle.std.proofs.Common.{◌∙◌, ◌∷◌, ◌++◌, [], sym, ap, List, ℕ}
+use Rattle.std.specs.Prelude.{option_map}
 use Rattle.std.proofs.lemmas.Option.{slice_get-map}
 use Rattle.std.proofs.lemmas.List.{length-map}
 use Rattle.asm_build.specs.declared.symbols.Symbol.{Symbol}
 use Rattle.lab_views.specs.Numbers.{asked_for}
 use Rattle.lab_views.specs.Variables.{symbol_variable, symbol_variables}
-use Rattle.lab_views.proofs.ListLemmas.{page_more, page_done, within_has_item}
+use Rattle.lab_views.proofs.ListLemmas.{page_more, page_done}
 use Rattle.lab_views.proofs.variables.symbols.Goals as goal
-
-pub returns-in-None : goal.returns-in-None
-returns-in-None c =
-    let within : c.loop-index.index < length c.args.symbols.now = omega arith in
-    within_has_item c.args.symbols.now c.loop-index.index within (sym c.in-None.ensures)
 
 pub loop-index-preserved : goal.loop-index-preserved
 loop-index-preserved c =
-    let e : List ℕ × Symbol = (c.in-Some.name.now, c.in-Some.symbol) in
-    let entry : slice_get c.args.symbols.now c.loop-index.index ≡ Some e = sym c.in-Some.ensures in
+    let e : List ℕ × Symbol = (c.symbol_at.result.0.now, c.symbol_at.result.1) in
     let item = slice_get-map symbol_variable c.args.symbols.now c.loop-index.index
-    ∙ ap (option_map symbol_variable) entry in
-    c.in_ok-push_word-in-Some.ensures
+    ∙ ap (option_map symbol_variable) c.symbol_at.ensures in
+    c.in_ok-push_word.ensures
     ∙ ap (λ made. made ++ symbol_variable e ∷ []) c.loop-index.invariant
     ∙ sym (page_more (symbol_variables c.args.symbols.now) c.args.start c.loop-index.index
     (symbol_variable e) c.loop-index.auto.index item)

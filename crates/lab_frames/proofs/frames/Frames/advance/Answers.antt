@@ -1,7 +1,8 @@
 use Rattle.std.proofs.Common.{◌≡◌, ◌+◌, ◌<◌, ◌++◌, length, length-append, ◌∙◌, refl, arith, rules, vec_len}
 use Rattle.lab_frames.specs.Live.{made_by}
-use Rattle.lab_frames.proofs.FrameLemmas.{advanced}
+use Rattle.lab_frames.proofs.FrameLemmas.{Advanced, advanced}
 use Rattle.lab_frames.proofs.frames.Frames.advance.Goals as goal
+use Rattle.lab_frames.proofs.frames.Frames.advance.Goals.{After-push_made}
 
 pub push_made-requires : goal.push_made-requires
 push_made-requires c =
@@ -14,33 +15,26 @@ push_made-requires c =
     let left : vec_len c.pop_ended.new.frames ≡ length popped = search rules in
     omega arith
 
-pub invariant_of-self : goal.invariant_of-self
-invariant_of-self c =
+-- what holds of the frames once the made one is pushed
+after_step : (c : After-push_made) → Advanced c.args.answer c.args.site c.args.sp c.args.self.now c.pop_ended.new.frames.items c.push_made.new.frames.items
+after_step c =
     let sp : c.args.sp < 65536 = omega arith in
-    let after = advanced c.args.answer c.args.site c.args.sp c.args.self.now _ _ _ c.self.view_is sp c.requires.returns c.requires.calls c.self.invariant.0 c.pop_ended.ensures.popped c.push_made.ensures.pushed in
-    (after.falls, omega arith)
+    advanced c.args.answer c.args.site c.args.sp c.args.self.now _ _ _ c.self.view_is sp c.requires.returns c.requires.calls c.self.invariant.0 c.pop_ended.ensures.popped c.push_made.ensures.pushed
+
+pub invariant_of-self : goal.invariant_of-self
+invariant_of-self c = ((after_step (goal.at.invariant_of-self c).After-push_made).falls, omega arith)
 
 pub returns-clause-live : goal.returns-clause-live
-returns-clause-live c =
-    let sp : c.args.sp < 65536 = omega arith in
-    let after = advanced c.args.answer c.args.site c.args.sp c.args.self.now _ _ _ c.self.view_is sp c.requires.returns c.requires.calls c.self.invariant.0 c.pop_ended.ensures.popped c.push_made.ensures.pushed in
-    after.live
+returns-clause-live c = (after_step (goal.at.returns-clause-live c).After-push_made).live
 
 pub returns-clause-oldest : goal.returns-clause-oldest
 returns-clause-oldest c =
-    let sp : c.args.sp < 65536 = omega arith in
-    let after = advanced c.args.answer c.args.site c.args.sp c.args.self.now _ _ _ c.self.view_is sp c.requires.returns c.requires.calls c.self.invariant.0 c.pop_ended.ensures.popped c.push_made.ensures.pushed in
+    let after = after_step (goal.at.returns-clause-oldest c).After-push_made in
     let left : c.len-left.result ≡ length c.pop_ended.new.frames.items = c.len-left.ensures ∙ search rules in
     λ older newer split. rw left (after.oldest older newer split)
 
 pub returns-clause-falls : goal.returns-clause-falls
-returns-clause-falls c =
-    let sp : c.args.sp < 65536 = omega arith in
-    let after = advanced c.args.answer c.args.site c.args.sp c.args.self.now _ _ _ c.self.view_is sp c.requires.returns c.requires.calls c.self.invariant.0 c.pop_ended.ensures.popped c.push_made.ensures.pushed in
-    after.falls
+returns-clause-falls c = (after_step (goal.at.returns-clause-falls c).After-push_made).falls
 
 pub returns-clause-above : goal.returns-clause-above
-returns-clause-above c =
-    let sp : c.args.sp < 65536 = omega arith in
-    let after = advanced c.args.answer c.args.site c.args.sp c.args.self.now _ _ _ c.self.view_is sp c.requires.returns c.requires.calls c.self.invariant.0 c.pop_ended.ensures.popped c.push_made.ensures.pushed in
-    after.above
+returns-clause-above c = (after_step (goal.at.returns-clause-above c).After-push_made).above
