@@ -182,23 +182,23 @@ body_json (body.DebugState d) = debug_state_json d
 
 -- ---- messages
 
+-- what a response has besides its command
+abbrev pub bare_response : ℕ → ℕ → Bool → List (List ℕ × Data)
+bare_response seq request_seq success =
+    (codes "request_seq", whole_number request_seq) ∷
+    (codes "seq", whole_number seq) ∷
+    (codes "success", boolean success) ∷
+    (codes "type", string (codes "response")) ∷ []
+
 abbrev pub success_json : ℕ → ℕ → List ℕ → Body → Data
 success_json seq request_seq command b = object_of (
     (codes "body", body_json b) ∷
-    (codes "command", string command) ∷
-    (codes "request_seq", whole_number request_seq) ∷
-    (codes "seq", whole_number seq) ∷
-    (codes "success", boolean true) ∷
-    (codes "type", string (codes "response")) ∷ [])
+    (codes "command", string command) ∷ bare_response seq request_seq true)
 
 abbrev pub refusal_json : ℕ → ℕ → List ℕ → List ℕ → Data
 refusal_json seq request_seq command message = object_of (
     (codes "command", string command) ∷
-    (codes "message", string message) ∷
-    (codes "request_seq", whole_number request_seq) ∷
-    (codes "seq", whole_number seq) ∷
-    (codes "success", boolean false) ∷
-    (codes "type", string (codes "response")) ∷ [])
+    (codes "message", string message) ∷ bare_response seq request_seq false)
 
 -- a success has a body and no message, a refusal a message and no body
 abbrev pub outcome_json : ℕ → ℕ → List ℕ → Outcome → Data
@@ -225,22 +225,19 @@ continued_json = object_of (
     (codes "allThreadsContinued", boolean true) ∷
     (codes "threadId", whole_number 1) ∷ [])
 
-abbrev pub bare_event : ℕ → List ℕ → Data
-bare_event seq name = object_of (
+-- what an event has, with a body or without one
+abbrev pub bare_event : ℕ → List ℕ → List (List ℕ × Data)
+bare_event seq name =
     (codes "event", string name) ∷
     (codes "seq", whole_number seq) ∷
-    (codes "type", string (codes "event")) ∷ [])
+    (codes "type", string (codes "event")) ∷ []
 
 abbrev pub event_with_body : ℕ → List ℕ → Data → Data
-event_with_body seq name b = object_of (
-    (codes "body", b) ∷
-    (codes "event", string name) ∷
-    (codes "seq", whole_number seq) ∷
-    (codes "type", string (codes "event")) ∷ [])
+event_with_body seq name b = object_of ((codes "body", b) ∷ bare_event seq name)
 
 -- `initialized` has no body
 abbrev pub event_json : ℕ → Event → Data
-event_json seq event.Initialized = bare_event seq (codes "initialized")
+event_json seq event.Initialized = object_of (bare_event seq (codes "initialized"))
 event_json seq (event.Stopped reason) =
     event_with_body seq (codes "stopped") (stopped_json reason)
 event_json seq event.Continued = event_with_body seq (codes "continued") continued_json

@@ -1,11 +1,14 @@
 //! The JSON of responses and events.
 ghost use Rattle.std.specs.Prelude.{◌≡◌, IfOk};
 ghost use Rattle.serde_json.specs.View.{view};
+ghost use Rattle.dap_answers.specs.Object.{HasMembers};
 ghost use Rattle.dap_answers.specs.Json.{
+  members_from,
   stopped_json,
   continued_json,
   bare_event,
   event_with_body,
+  bare_response,
   success_json,
   refusal_json,
   response_json,
@@ -18,6 +21,17 @@ use crate::object::Object;
 use serde_json::Value;
 use std::alloc::{AllocError, Global};
 
+// What a response has besides its command.
+fn bare_response(alloc: Global, seq: u64, request_seq: u32, is_success: bool) -> Object
+    ensures { HasMembers result (members_from (bare_response seq request_seq is_success)) }
+{
+    Object::new(alloc)
+        .number("seq", seq)
+        .text("type", "response")
+        .number("request_seq", u64::from(request_seq))
+        .flag("success", is_success)
+}
+
 fn success(
     alloc: Global,
     seq: u64,
@@ -28,13 +42,9 @@ fn success(
     ensures { IfOk result (λ v. view v ≡ success_json seq request_seq command.now body.now) }
 {
     let body = body_json(alloc, body)?;
-    Object::new(alloc)
-        .value("body", body)
-        .number("seq", seq)
-        .text("type", "response")
-        .number("request_seq", u64::from(request_seq))
-        .flag("success", true)
+    bare_response(alloc, seq, request_seq, true)
         .text("command", command)
+        .value("body", body)
         .finish()
 }
 
@@ -47,11 +57,7 @@ fn refusal(
 ) -> Result<Value, AllocError>
     ensures { IfOk result (λ v. view v ≡ refusal_json seq request_seq command.now message.now) }
 {
-    Object::new(alloc)
-        .number("seq", seq)
-        .text("type", "response")
-        .number("request_seq", u64::from(request_seq))
-        .flag("success", false)
+    bare_response(alloc, seq, request_seq, false)
         .text("command", command)
         .text("message", message)
         .finish()
@@ -89,25 +95,20 @@ fn continued(alloc: Global) -> Result<Value, AllocError>
         .finish()
 }
 
-fn bare_event(alloc: Global, seq: u64, name: &str) -> Result<Value, AllocError>
-    ensures { IfOk result (λ v. view v ≡ bare_event seq name.now) }
+// What an event has, with a body or without one.
+fn bare_event(alloc: Global, seq: u64, name: &str) -> Object
+    ensures { HasMembers result (members_from (bare_event seq name.now)) }
 {
     Object::new(alloc)
         .number("seq", seq)
         .text("type", "event")
         .text("event", name)
-        .finish()
 }
 
 fn event_with_body(alloc: Global, seq: u64, name: &str, body: Value) -> Result<Value, AllocError>
     ensures { IfOk result (λ v. view v ≡ event_with_body seq name.now (view body)) }
 {
-    Object::new(alloc)
-        .value("body", body)
-        .number("seq", seq)
-        .text("type", "event")
-        .text("event", name)
-        .finish()
+    bare_event(alloc, seq, name).value("body", body).finish()
 }
 
 /// The JSON of an event with this number (Debug Adapter Protocol, "Events").
@@ -115,7 +116,7 @@ pub fn event(alloc: Global, seq: u64, event: Event) -> Result<Value, AllocError>
     ensures { IfOk result (λ v. view v ≡ event_json seq event) }
 {
     match event {
-        Event::Initialized => bare_event(alloc, seq, "initialized"),
+        Event::Initialized => bare_event(alloc, seq, "initialized").finish(),
         Event::Stopped(reason) => event_with_body(alloc, seq, "stopped", stopped(alloc, reason)?),
         Event::Continued => event_with_body(alloc, seq, "continued", continued(alloc)?),
     }

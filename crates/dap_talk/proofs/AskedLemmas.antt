@@ -68,28 +68,7 @@ use Rattle.dap_talk.specs.Table.{
 
 name_of-command_of : (n : CommandName) (vs : List Found) → name_of (command_of n vs) ≡ n
 name_of-command_of name.Initialize vs = refl
-name_of-command_of name.Attach vs = refl
-name_of-command_of name.Disconnect vs = refl
-name_of-command_of name.ConfigurationDone vs = refl
-name_of-command_of name.SetBreakpoints vs = refl
-name_of-command_of name.Threads vs = refl
-name_of-command_of name.StackTrace vs = refl
-name_of-command_of name.Scopes vs = refl
-name_of-command_of name.Variables vs = refl
-name_of-command_of name.Continue vs = refl
-name_of-command_of name.Next vs = refl
-name_of-command_of name.StepIn vs = refl
-name_of-command_of name.StepOut vs = refl
-name_of-command_of name.Pause vs = refl
-name_of-command_of name.Disassemble vs = refl
-name_of-command_of name.Source vs = refl
-name_of-command_of name.DumpCell vs = refl
-name_of-command_of name.DebugInfo vs = refl
-name_of-command_of name.InspectVariables vs = refl
-name_of-command_of name.BoardSwitches vs = refl
-name_of-command_of name.BoardPress vs = refl
-name_of-command_of name.BoardType vs = refl
-name_of-command_of name.BoardReset vs = refl
+name_of-command_of _ vs = refl
 
 -- the values that a command was made of
 made_of : (n : CommandName) (o : Option (List Found)) (c : DapCommand)
@@ -251,26 +230,6 @@ free n d c all e =
     subst IsBounded made.2 (all made.0)
 
 pub asked_bounded : (n : CommandName) (d : Data) (c : DapCommand) → asked n d ≡ Some c → IsBounded c
-asked_bounded name.Initialize d c e = free name.Initialize d c (λ vs. tt) e
-asked_bounded name.Attach d c e = free name.Attach d c (λ vs. tt) e
-asked_bounded name.Disconnect d c e = free name.Disconnect d c (λ vs. tt) e
-asked_bounded name.ConfigurationDone d c e = free name.ConfigurationDone d c (λ vs. tt) e
 asked_bounded name.SetBreakpoints d c e = set_breakpoints_bounded d c e
-asked_bounded name.Threads d c e = free name.Threads d c (λ vs. tt) e
-asked_bounded name.StackTrace d c e = free name.StackTrace d c (λ vs. tt) e
-asked_bounded name.Scopes d c e = free name.Scopes d c (λ vs. tt) e
-asked_bounded name.Variables d c e = free name.Variables d c (λ vs. tt) e
-asked_bounded name.Continue d c e = free name.Continue d c (λ vs. tt) e
-asked_bounded name.Next d c e = free name.Next d c (λ vs. tt) e
-asked_bounded name.StepIn d c e = free name.StepIn d c (λ vs. tt) e
-asked_bounded name.StepOut d c e = free name.StepOut d c (λ vs. tt) e
-asked_bounded name.Pause d c e = free name.Pause d c (λ vs. tt) e
 asked_bounded name.Disassemble d c e = disassemble_bounded d c e
-asked_bounded name.Source d c e = free name.Source d c (λ vs. tt) e
-asked_bounded name.DumpCell d c e = free name.DumpCell d c (λ vs. tt) e
-asked_bounded name.DebugInfo d c e = free name.DebugInfo d c (λ vs. tt) e
-asked_bounded name.InspectVariables d c e = free name.InspectVariables d c (λ vs. tt) e
-asked_bounded name.BoardSwitches d c e = free name.BoardSwitches d c (λ vs. tt) e
-asked_bounded name.BoardPress d c e = free name.BoardPress d c (λ vs. tt) e
-asked_bounded name.BoardType d c e = free name.BoardType d c (λ vs. tt) e
-asked_bounded name.BoardReset d c e = free name.BoardReset d c (λ vs. tt) e
+asked_bounded n d c e = free n d c (λ vs. tt) e

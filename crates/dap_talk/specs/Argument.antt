@@ -60,6 +60,10 @@ whole_between low high d = option_and_then (when_between low high) (whole d)
 abbrev pub text_at : List ℕ → Data → Option (List ℕ)
 text_at key d = option_and_then as_str (get key d)
 
+-- what stands at a key of an object, if anything does
+abbrev pub member_at : List ℕ → Data → Option (Option Data)
+member_at key d = option_map (get_member key) (as_object d)
+
 -- conditions, hit counts and log messages aren't supported, whatever their values are
 abbrev pub is_plain : Data → Bool
 is_plain d =
@@ -114,7 +118,7 @@ optional key kind absent = record { key = key; kind = kind; absent = Some absent
 -- what stands at a key of the arguments, where these are an object; absent ones are an empty one
 abbrev pub member_of : List ℕ → Option Data → Option (Option Data)
 member_of key None = Some None
-member_of key (Some arguments) = option_map (get_member key) (as_object arguments)
+member_of key (Some arguments) = member_at key arguments
 
 abbrev pub argument_at : List ℕ → Data → Option (Option Data)
 argument_at key request = member_of key (get (codes "arguments") request)

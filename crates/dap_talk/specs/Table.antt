@@ -118,27 +118,19 @@ nth (suc n) (value ∷ values) = nth n values
 
 abbrev pub number_in : Found → ℕ
 number_in (found_number n) = n
-number_in (found_text t) = 0
-number_in (found_lines ls) = 0
-number_in (found_granularity g) = 0
+number_in _ = 0
 
 abbrev pub text_in : Found → List ℕ
-text_in (found_number n) = []
 text_in (found_text t) = t
-text_in (found_lines ls) = []
-text_in (found_granularity g) = []
+text_in _ = []
 
 abbrev pub lines_in : Found → List ℕ
-lines_in (found_number n) = []
-lines_in (found_text t) = []
 lines_in (found_lines ls) = ls
-lines_in (found_granularity g) = []
+lines_in _ = []
 
 abbrev pub granularity_in : Found → Granularity
-granularity_in (found_number n) = Line
-granularity_in (found_text t) = Line
-granularity_in (found_lines ls) = Line
 granularity_in (found_granularity g) = g
+granularity_in _ = Line
 
 -- the command with the values that were found for its arguments
 abbrev pub command_of : CommandName → List Found → DapCommand

@@ -13,7 +13,6 @@ ghost use Rattle.dap_talk.specs.Argument.{
   found_lines,
   found_granularity,
   whole_between,
-  text_at,
   is_plain,
   line_of,
   lines_of,
@@ -27,6 +26,7 @@ ghost use Rattle.dap_talk.specs.Table.{byte, count_to_256, number_or_0, breakpoi
 ghost use Rattle.dap_talk.specs.Table.{granularity_or_line};
 
 use crate::command::Granularity;
+use crate::members::{self, member_at};
 use base_text::hexadecimal::read_word;
 use base_text::sequence::Sequence;
 use serde_json::Value;
@@ -63,13 +63,10 @@ fn argument_at<'a>(request: &'a Value, key: &str) -> Option<Option<&'a Value>>
     ensures { option_map (option_map (λ v. view v.now)) result
         ≡ argument_at key.now (view request.now) }
 {
-    let Some(arguments) = request.get("arguments") else {
-        return Some(None);
-    };
-    if !arguments.is_object() {
-        return None;
+    match request.get("arguments") {
+        None => Some(None),
+        Some(arguments) => member_at(arguments, key),
     }
-    Some(arguments.get(key))
 }
 
 /// A whole number in these bounds, which is required.
@@ -107,13 +104,6 @@ pub fn count_at(request: &Value, key: &str) -> Option<u16>
     u16::try_from(n).ok()
 }
 
-/// The text at a key of a value.
-pub fn member_text<'a>(value: &'a Value, key: &str) -> Option<&'a str>
-    ensures { option_map (λ t. t.now) result ≡ text_at key.now (view value.now) }
-{
-    value.get(key)?.as_str()
-}
-
 /// A text, which is required.
 pub fn text_at<'a>(request: &'a Value, key: &str) -> Option<&'a str>
     ensures { option_map (λ t. found_text t.now) result
@@ -127,7 +117,7 @@ pub fn source_at<'a>(request: &'a Value, key: &str) -> Option<&'a str>
     ensures { option_map (λ t. found_text t.now) result
         ≡ found (required key.now source) (view request.now) }
 {
-    member_text(argument_at(request, key)??, "path")
+    members::text_at(argument_at(request, key)??, "path")
 }
 
 /// A granularity, by line where it is absent.

@@ -7,10 +7,11 @@ ghost use Rattle.dap_talk.specs.Reading.{command_text, envelope_of, envelope_wit
 
 use crate::arguments::{
     ArgumentFault, address_at, breakpoints_or_none, byte_at, count_at, granularity_or_line,
-    lines_of, member_text, number_at, number_or_0, source_at, text_at, whole_between,
+    lines_of, number_at, number_or_0, source_at, text_at, whole_between,
 };
 use crate::command::{CommandName, DapCommand, DapRequest, StepKind};
 use crate::fault::DapFault;
+use crate::members;
 use base_text::text::Text;
 use serde_json::Value;
 use std::alloc::Global;
@@ -18,15 +19,9 @@ use std::alloc::Global;
 fn set_breakpoints(alloc: Global, request: &Value) -> Result<DapCommand, ArgumentFault>
     ensures { IsAnswer (asked CommandName.SetBreakpoints (view request.now)) result }
 {
-    let Some(path) = source_at(request, "source") else {
-        return Err(ArgumentFault::Arguments);
-    };
-    let Some(breakpoints) = breakpoints_or_none(request, "breakpoints") else {
-        return Err(ArgumentFault::Arguments);
-    };
-    let Some(lines) = lines_of(alloc, breakpoints)? else {
-        return Err(ArgumentFault::Arguments);
-    };
+    let path = source_at(request, "source").ok_or(ArgumentFault::Arguments)?;
+    let breakpoints = breakpoints_or_none(request, "breakpoints").ok_or(ArgumentFault::Arguments)?;
+    let lines = lines_of(alloc, breakpoints)?.ok_or(ArgumentFault::Arguments)?;
     let path = Text::copy_of(alloc, path)?;
     Ok(DapCommand::SetBreakpoints { path, lines })
 }
@@ -88,9 +83,7 @@ fn disassemble(request: &Value) -> Option<DapCommand>
 fn source(alloc: Global, request: &Value) -> Result<DapCommand, ArgumentFault>
     ensures { IsAnswer (asked CommandName.Source (view request.now)) result }
 {
-    let Some(path) = source_at(request, "source") else {
-        return Err(ArgumentFault::Arguments);
-    };
+    let path = source_at(request, "source").ok_or(ArgumentFault::Arguments)?;
     let path = Text::copy_of(alloc, path)?;
     Ok(DapCommand::Source { path })
 }
@@ -98,9 +91,7 @@ fn source(alloc: Global, request: &Value) -> Result<DapCommand, ArgumentFault>
 fn dump_cell(alloc: Global, request: &Value) -> Result<DapCommand, ArgumentFault>
     ensures { IsAnswer (asked CommandName.DumpCell (view request.now)) result }
 {
-    let Some(code) = text_at(request, "code") else {
-        return Err(ArgumentFault::Arguments);
-    };
+    let code = text_at(request, "code").ok_or(ArgumentFault::Arguments)?;
     let code = Text::copy_of(alloc, code)?;
     Ok(DapCommand::DumpCell { code })
 }
@@ -122,9 +113,7 @@ fn board_press(request: &Value) -> Option<DapCommand>
 fn board_type(alloc: Global, request: &Value) -> Result<DapCommand, ArgumentFault>
     ensures { IsAnswer (asked CommandName.BoardType (view request.now)) result }
 {
-    let Some(text) = text_at(request, "text") else {
-        return Err(ArgumentFault::Arguments);
-    };
+    let text = text_at(request, "text").ok_or(ArgumentFault::Arguments)?;
     let text = Text::copy_of(alloc, text)?;
     Ok(DapCommand::BoardType { text })
 }
@@ -132,10 +121,7 @@ fn board_type(alloc: Global, request: &Value) -> Result<DapCommand, ArgumentFaul
 fn or_refused(command: Option<DapCommand>) -> Result<DapCommand, ArgumentFault>
     ensures { IsAnswer command result }
 {
-    match command {
-        Some(command) => Ok(command),
-        None => Err(ArgumentFault::Arguments),
-    }
+    command.ok_or(ArgumentFault::Arguments)
 }
 
 fn read_command(
@@ -179,11 +165,11 @@ fn envelope_of(value: &Value) -> Option<(u32, &str)>
     ensures command { IfSome result
         (λ e. command_text (view value.now) ≡ Some e.1.now) }
 {
-    if member_text(value, "type")? != "request" {
+    if members::text_at(value, "type")? != "request" {
         return None;
     }
     let seq = whole_between(value.get("seq")?, 0, u32::MAX)?;
-    let command = member_text(value, "command")?;
+    let command = members::text_at(value, "command")?;
     Some((seq, command))
 }
 

@@ -10,6 +10,4 @@ use Rattle.kern_ask.specs.Asks.{debug_asked}
 pub bad_debug : (reading : Reading) (f : DapFault) → f ≢ fault.OutOfMemory → Answers reading (Err f)
     → debug_asked reading ≡ BadDebug (refused f)
 bad_debug reading fault.OutOfMemory other answers = absurd (other refl)
-bad_debug reading fault.NotRequest other answers = rw answers refl
-bad_debug reading (fault.Command seq command) other answers = rw answers refl
-bad_debug reading (fault.Arguments seq command) other answers = rw answers refl
+bad_debug reading _ other answers = rw answers refl

@@ -16,12 +16,12 @@ use Rattle.std.specs.Prelude.{
   codes,
 }
 use Rattle.serde_json.specs.Data.{Data}
-use Rattle.serde_json.specs.Find.{get, get_member, as_bool, as_object}
+use Rattle.serde_json.specs.Find.{get, as_bool}
 use Rattle.serde_json.specs.View.{view}
 use Rattle.base_latin.specs.Latin.{latin_bytes}
 use Rattle.jup_wire.specs.declared.channel.Channel.{Channel}
 use Rattle.jup_wire.specs.declared.message.Message.{Message}
-use Rattle.dap_talk.specs.Argument.{whole, text_at}
+use Rattle.dap_talk.specs.Argument.{whole, text_at, member_at}
 use Rattle.dap_talk.specs.Fault.{refusal}
 use Rattle.dap_talk.specs.Reading.{Reading, not_request, unknown_command, bad_arguments, request, reading}
 use Rattle.kern_ask.specs.declared.ask.Ask.{Ask}
@@ -34,10 +34,6 @@ use Rattle.kern_ask.specs.declared.message_type.MessageType.TheVariants as messa
 use Rattle.kern_ask.specs.MessageTypes.{named}
 
 -- ---- what stands in a content
-
--- what stands at a key of an object, if anything does
-abbrev pub member_at : List ℕ → Data → Option (Option Data)
-member_at key content = option_map (get_member key) (as_object content)
 
 abbrev pub truth_in : Bool → Option Data → Option Bool
 truth_in absent None = Some absent

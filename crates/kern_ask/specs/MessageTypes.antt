@@ -4,42 +4,29 @@ use Rattle.std.specs.Str.{bytes_eq}
 use Rattle.jup_wire.specs.declared.channel.Channel.{Channel}
 use Rattle.jup_wire.specs.declared.channel.Channel.TheVariants.{Shell, Control, Stdin, Iopub}
 use Rattle.kern_ask.specs.declared.message_type.MessageType.{MessageType}
-use Rattle.kern_ask.specs.declared.message_type.MessageType.TheVariants.{
-  KernelInfo,
-  Execute,
-  IsComplete,
-  Complete,
-  Inspect,
-  History,
-  CommInfo,
-  CommOpen,
-  Shutdown,
-  Interrupt,
-  Debug,
-  InputReply,
-}
+use Rattle.kern_ask.specs.declared.message_type.MessageType.TheVariants as message
 
 abbrev pub spelled : MessageType → List ℕ
-spelled KernelInfo = codes "kernel_info_request"
-spelled Execute = codes "execute_request"
-spelled IsComplete = codes "is_complete_request"
-spelled Complete = codes "complete_request"
-spelled Inspect = codes "inspect_request"
-spelled History = codes "history_request"
-spelled CommInfo = codes "comm_info_request"
-spelled CommOpen = codes "comm_open"
-spelled Shutdown = codes "shutdown_request"
-spelled Interrupt = codes "interrupt_request"
-spelled Debug = codes "debug_request"
-spelled InputReply = codes "input_reply"
+spelled message.KernelInfo = codes "kernel_info_request"
+spelled message.Execute = codes "execute_request"
+spelled message.IsComplete = codes "is_complete_request"
+spelled message.Complete = codes "complete_request"
+spelled message.Inspect = codes "inspect_request"
+spelled message.History = codes "history_request"
+spelled message.CommInfo = codes "comm_info_request"
+spelled message.CommOpen = codes "comm_open"
+spelled message.Shutdown = codes "shutdown_request"
+spelled message.Interrupt = codes "interrupt_request"
+spelled message.Debug = codes "debug_request"
+spelled message.InputReply = codes "input_reply"
 
 -- what is answered on a channel
 abbrev pub types_on : Channel → List MessageType
 types_on Shell =
-    KernelInfo ∷ Execute ∷ IsComplete ∷ Complete ∷ Inspect ∷ History ∷ CommInfo ∷ CommOpen ∷
-    Shutdown ∷ Interrupt ∷ []
-types_on Control = KernelInfo ∷ Shutdown ∷ Interrupt ∷ Debug ∷ []
-types_on Stdin = InputReply ∷ []
+    message.KernelInfo ∷ message.Execute ∷ message.IsComplete ∷ message.Complete ∷ message.Inspect ∷
+    message.History ∷ message.CommInfo ∷ message.CommOpen ∷ message.Shutdown ∷ message.Interrupt ∷ []
+types_on Control = message.KernelInfo ∷ message.Shutdown ∷ message.Interrupt ∷ message.Debug ∷ []
+types_on Stdin = message.InputReply ∷ []
 types_on Iopub = []
 
 -- the first of these that is spelled so

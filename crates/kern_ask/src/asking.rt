@@ -18,11 +18,12 @@ ghost use Rattle.kern_ask.specs.Asks.{
 };
 
 use crate::ask::{Ask, ExecuteRequest, NeedyRequest, Request};
-use crate::content::{text_at, truth_or, whole_at};
+use crate::content::{truth_or, whole_at};
 use crate::message_type::MessageType;
 use base_latin::latin::to_bytes;
 use base_text::text::Text;
 use dap_talk::fault::DapFault;
+use dap_talk::members::text_at;
 use dap_talk::reading::read_request;
 use jup_wire::channel::Channel;
 use jup_wire::message::{Message, Parts};

@@ -43,26 +43,7 @@ by_command : (n : ℕ) (r : Request) (seq : ℕ) (c : DapCommand) (moment : ℕ)
     → performing n r (request_with seq c) moment s ≡ resetting n r (request_with seq c) moment s
 unfolding performed
 by_command n r seq command.BoardReset moment s is = refl
-by_command n r seq command.Initialize moment s is = absurd (false≢true is)
-by_command n r seq command.Attach moment s is = absurd (false≢true is)
-by_command n r seq command.Disconnect moment s is = absurd (false≢true is)
-by_command n r seq command.ConfigurationDone moment s is = absurd (false≢true is)
-by_command n r seq (command.SetBreakpoints path lines) moment s is = absurd (false≢true is)
-by_command n r seq command.Threads moment s is = absurd (false≢true is)
-by_command n r seq (command.StackTrace start levels) moment s is = absurd (false≢true is)
-by_command n r seq (command.Scopes frame) moment s is = absurd (false≢true is)
-by_command n r seq (command.Variables reference start count) moment s is = absurd (false≢true is)
-by_command n r seq command.Continue moment s is = absurd (false≢true is)
-by_command n r seq (command.Step kind granularity) moment s is = absurd (false≢true is)
-by_command n r seq command.Pause moment s is = absurd (false≢true is)
-by_command n r seq (command.Disassemble address offset instruction_offset count) moment s is = absurd (false≢true is)
-by_command n r seq (command.Source path) moment s is = absurd (false≢true is)
-by_command n r seq (command.DumpCell code) moment s is = absurd (false≢true is)
-by_command n r seq command.DebugInfo moment s is = absurd (false≢true is)
-by_command n r seq command.InspectVariables moment s is = absurd (false≢true is)
-by_command n r seq (command.BoardSwitches value) moment s is = absurd (false≢true is)
-by_command n r seq (command.BoardPress vector) moment s is = absurd (false≢true is)
-by_command n r seq (command.BoardType text) moment s is = absurd (false≢true is)
+by_command n r seq _ moment s is = absurd (false≢true is)
 
 pub by_reset : (n : ℕ) (r : Request) (d : DapRequest) (moment : ℕ) (s : Session) → is_reset d.command ≡ true
     → performing n r d moment s ≡ resetting n r d moment s
@@ -75,50 +56,47 @@ told_is : (who : Present) (n : ℕ) (r : Request) (d : DapRequest) (k : DebugKit
     → told_debug k outcome letter ≡ around who r.header (debug_reply n r d outcome ∷ option_to_list letter)
 told_is who n r d k outcome letter kit = rw (kit.around.letters, kit.around.idle, kit.envelope, kit.request_seq, kit.command) refl
 
-abbrev Stood : Turn → SessionState → Type 0
+abbrev pub Stood : Turn → SessionState → Type 0
 Stood t new = (Ok Arrived ≡ t.answer) × StandsFor new (after t)
 
--- the fields stand for a session with this board and these letters
-stood : (moment : ℕ) (s : Session) (old new : SessionState) (b : Board) (letters : List Letter) → StandsFor old s → LabStandsFor new.lab b
-    → new ≡ record old { lab = new.lab; store = new.store } → Keeps (posted moment letters s.posts) new.store
-    → Stood (posting Arrived moment letters (with_board b s.work s)) new
-stood moment s old new b letters stands board same kept = (
-  refl,
-  record {
-    board = board;
-    present = ap (λ (v : SessionState). v.present) same ∙ stands.present;
-    work = ap (λ (v : SessionState). v.work) same ∙ stands.work;
-    posts = kept;
-    is_shut = ap (λ (v : SessionState). v.is_shut) same ∙ stands.is_shut;
-  },
-)
+-- the fields stand for a session with this board, and what was told of it
+told_stands : (n : ℕ) (r : Request) (d : DapRequest) (moment : ℕ) (s : Session) (old : SessionState) (lab : LabState) (store : StoreState)
+    (k : DebugKit) (b : Board) (outcome : Outcome) (letter : Option Letter) (letters : List Letter)
+    → StandsFor old s → LabStandsFor lab b → IsDebugKit s.present n r d k → letters ≡ told_debug k outcome letter
+    → Keeps (posted moment letters s.posts) store
+    → Stood (posting Arrived moment (around s.present r.header (debug_reply n r d outcome ∷ option_to_list letter)) (with_board b s.work s))
+    (record old { lab = lab; store = store })
+told_stands n r d moment s old lab store k b outcome letter letters stands board kit told kept =
+    let P : List Letter → Type 0 = λ ls. Keeps (posted moment ls s.posts) store in (
+      refl,
+      record {
+        board = board;
+        present = stands.present;
+        work = stands.work;
+        posts = subst P (told ∙ told_is s.present n r d k outcome letter kit) kept;
+        is_shut = stands.is_shut;
+      },
+    )
 
-by_performed : (g : Result (Body × Board) EventFault) (n : ℕ) (r : Request) (d : DapRequest) (moment : ℕ) (s : Session) (old new : SessionState)
-    (res : Result Body EventFault) (k : DebugKit) (letters : List Letter)
-    → StandsFor old s → is_reset d.command ≡ false → Did s.board g res new.lab → IsDebugKit s.present n r d k
+by_performed : (g : Result (Body × Board) EventFault) (n : ℕ) (r : Request) (d : DapRequest) (moment : ℕ) (s : Session) (old : SessionState)
+    (lab : LabState) (store : StoreState) (res : Result Body EventFault) (k : DebugKit) (letters : List Letter)
+    → StandsFor old s → is_reset d.command ≡ false → Did s.board g res lab → IsDebugKit s.present n r d k
     → letters ≡ told_by k res (after_letter (event_after d.command) r s)
-    → new ≡ record old { lab = new.lab; store = new.store } → Keeps (posted moment letters s.posts) new.store
-    → Stood (answering n r d moment s g) new
-by_performed (Ok (body, b)) n r d moment s old new res k letters stands other did kit told same kept =
+    → Keeps (posted moment letters s.posts) store
+    → Stood (answering n r d moment s g) (record old { lab = lab; store = store })
+by_performed (Ok (body, b)) n r d moment s old lab store res k letters stands other did kit told kept =
     let letter = after_letter (event_after d.command) r s in
     let L : Result Body EventFault → List Letter = λ x. told_by k x letter in
-    let are : letters ≡ around s.present r.header (debug_reply n r d (Success body) ∷ option_to_list letter) =
-    told ∙ (ap L did.0 ∙ told_is s.present n r d k (Success body) letter kit) in
-    let P : List Letter → Type 0 = λ ls. Keeps (posted moment ls s.posts) new.store in
-    rw other (stood moment s old new b (around s.present r.header (debug_reply n r d (Success body) ∷ option_to_list letter)) stands did.1 same (subst P are kept))
-by_performed (Err fault) n r d moment s old new res k letters stands other did kit told same kept =
-    let letter = after_letter (event_after d.command) r s in
-    let L : Result Body EventFault → List Letter = λ x. told_by k x letter in
-    let are : letters ≡ around s.present r.header (debug_reply n r d (Refused (refusal_name fault)) ∷ []) =
-    told ∙ (ap L did.0 ∙ told_is s.present n r d k (Refused (refusal_name fault)) None kit) in
-    let P : List Letter → Type 0 = λ ls. Keeps (posted moment ls s.posts) new.store in
-    stood moment s old new s.board (around s.present r.header (debug_reply n r d (Refused (refusal_name fault)) ∷ [])) stands did.1 same (subst P are kept)
+    rw other (told_stands n r d moment s old lab store k b (Success body) letter letters stands did.1 kit (told ∙ ap L did.0) kept)
+by_performed (Err fault) n r d moment s old lab store res k letters stands other did kit told kept =
+    let L : Result Body EventFault → List Letter = λ x. told_by k x (after_letter (event_after d.command) r s) in
+    told_stands n r d moment s old lab store k s.board (Refused (refusal_name fault)) None letters stands did.1 kit (told ∙ ap L did.0) kept
 
-pub performed_stands : (n : ℕ) (r : Request) (d : DapRequest) (moment : ℕ) (s : Session) (old new : SessionState)
+pub performed_stands : (n : ℕ) (r : Request) (d : DapRequest) (moment : ℕ) (s : Session) (old : SessionState) (lab : LabState) (store : StoreState)
     (res : Result Body EventFault) (k : DebugKit) (letters : List Letter)
-    → StandsFor old s → is_reset d.command ≡ false → Does (performed d.command) old.lab res new.lab → res ≢ Err OutOfMemory
+    → StandsFor old s → is_reset d.command ≡ false → Does (performed d.command) old.lab res lab → res ≢ Err OutOfMemory
     → IsDebugKit s.present n r d k → letters ≡ told_by k res (after_letter (event_after d.command) r s)
-    → new ≡ record old { lab = new.lab; store = new.store } → Keeps (posted moment letters s.posts) new.store
-    → (Ok Arrived ≡ (performing n r d moment s).answer) × StandsFor new (after (performing n r d moment s))
-performed_stands n r d moment s old new res k letters stands other does want kit told same kept =
-    by_performed (performed d.command s.board) n r d moment s old new res k letters stands other (does s.board stands.board want) kit told same kept
+    → Keeps (posted moment letters s.posts) store
+    → Stood (performing n r d moment s) (record old { lab = lab; store = store })
+performed_stands n r d moment s old lab store res k letters stands other does want kit told kept =
+    by_performed (performed d.command s.board) n r d moment s old lab store res k letters stands other (does s.board stands.board want) kit told kept

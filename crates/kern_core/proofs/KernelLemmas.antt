@@ -8,7 +8,7 @@ use Rattle.kern_core.specs.declared.fault.KernFault.{KernFault}
 use Rattle.kern_core.specs.declared.fault.KernFault.TheVariants.{OutOfMemory}
 use Rattle.kern_core.specs.Sessions.{Session, opened, after}
 use Rattle.kern_core.specs.Turns.{turn, next, session_after}
-use Rattle.kern_core.specs.Stands.{SessionState, StandsFor, Makes, Grows}
+use Rattle.kern_core.specs.Stands.{SessionState, StandsFor, Takes}
 use Rattle.kern_core.specs.Kernels.{IsKept, is_entry}
 
 session_after-more : (calls : List Call) (call : Call) → session_after (calls ++ call ∷ []) ≡ after (turn call (session_after calls))
@@ -18,17 +18,17 @@ no_want : (answer : Result Reply KernFault) → is_entry answer ≡ true → ans
 no_want answer entry want = let is : false ≡ true = ap is_entry (sym want) ∙ entry in absurd (false≢true is)
 
 pub kept_more : (old new : SessionState) (calls : List Call) (limit : ℕ) (call : Call) (answer : Result Reply KernFault)
-    → IsKept old calls limit → length calls < limit → Makes (turn call) old answer new → Grows old new → is_entry answer ≡ true
+    → IsKept old calls limit → length calls < limit → Takes (turn call) old answer new → is_entry answer ≡ true
     → IsKept new (calls ++ call ∷ []) limit
-kept_more old new calls limit call answer kept room makes grows entry =
-    let made = makes (session_after calls) kept.stands (no_want answer entry) in
+kept_more old new calls limit call answer kept room takes entry =
+    let made = takes.0 (session_after calls) kept.stands (no_want answer entry) in
     let more = length-append calls (call ∷ []) in
     let posts = kept.posts in
     let peers = kept.peers in
     let count = kept.count in
-    let fewer_posts = grows.posts in
-    let fewer_peers = grows.peers in
-    let smaller_count = grows.count in
+    let fewer_posts = takes.1.0.posts in
+    let fewer_peers = takes.1.0.peers in
+    let smaller_count = takes.1.0.count in
     record {
       stands = subst (StandsFor new) (sym (session_after-more calls call)) made.1;
       posts = omega (arith, more);

@@ -24,42 +24,33 @@ one_more false n = omega arith
 counted : (x : Execution) (n : ℕ) → count_with x n ≤ n + 1
 counted x n = one_more (not x.request.is_silent && x.request.stores_history) n
 
--- what is changed by loading a cell and by what follows
-abbrev pub OtherLab : SessionState → SessionState → Type 0
-OtherLab old mid = mid ≡ record old { lab = mid.lab }
+-- loading a cell changes the board, the executions and the posts
+abbrev pub IsLoaded : SessionState → LabState → SessionState → Type 0
+IsLoaded old lab new = new ≡ record old { lab = lab; work = new.work; store = new.store }
 
-abbrev pub OtherWork : SessionState → SessionState → Type 0
-OtherWork mid new = new ≡ record mid { work = new.work; store = new.store }
-
-pub load_grows : (old mid new : SessionState) (x : Execution) (rest : List Execution) (l : Loading)
-    → OtherLab old mid → OtherWork mid new → new.work ≡ taken x rest l mid.work → new.store.made ≤ mid.store.made + 8
+pub load_grows : (old new : SessionState) (lab : LabState) (x : Execution) (rest : List Execution) (l : Loading)
+    → IsLoaded old lab new → new.work ≡ taken x rest l old.work → new.store.made ≤ old.store.made + 8
     → Grows old new
-load_grows old mid new x rest l lab other work made =
-    let before : mid.work ≡ old.work = ap (λ (v : SessionState). v.work) lab in
-    let after_it : new.work.count ≡ count_with x mid.work.count = ap (λ (w : Work). w.count) work in
-    let counts : mid.work.count ≡ old.work.count = ap (λ (w : Work). w.count) before in
-    let store : mid.store.made ≡ old.store.made = ap (λ (v : SessionState). v.store.made) lab in
-    let joined : new.present.joined ≡ mid.present.joined = ap (λ (v : SessionState). v.present.joined) other in
-    let joined' : mid.present.joined ≡ old.present.joined = ap (λ (v : SessionState). v.present.joined) lab in
-    let less = counted x mid.work.count in
+load_grows old new lab x rest l loaded work made =
+    let counts : new.work.count ≡ count_with x old.work.count = ap (λ (w : Work). w.count) work in
+    let joined : new.present.joined ≡ old.present.joined = ap (λ (v : SessionState). v.present.joined) loaded in
+    let less = counted x old.work.count in
     record {
-      posts = omega arith;
+      posts = made;
       peers = omega arith;
       count = omega arith;
     }
 
-pub load_stands : (moment : ℕ) (s : Session) (old mid new : SessionState) (x : Execution) (rest : List Execution) (c : Current) (l : Loading)
+pub load_stands : (moment : ℕ) (s : Session) (old new : SessionState) (lab : LabState) (x : Execution) (rest : List Execution) (c : Current) (l : Loading)
     → StandsFor old s → old.work.queue ≡ x ∷ rest → c ≡ current_of x old.work.count
     → l ≡ loading_of (cell_given x.request.code s.board)
-    → LabStandsFor mid.lab (board_after s.board (cell_given x.request.code s.board))
-    → OtherLab old mid → OtherWork mid new → new.work ≡ taken x rest l mid.work
-    → Keeps (posted moment (loading_letters mid.present c l) s.posts) new.store
+    → LabStandsFor lab (board_after s.board (cell_given x.request.code s.board))
+    → IsLoaded old lab new → new.work ≡ taken x rest l old.work
+    → Keeps (posted moment (loading_letters old.present c l) s.posts) new.store
     → (Ok More ≡ (loading moment s.work.queue s).answer) × StandsFor new (after (loading moment s.work.queue s))
-load_stands moment s old mid new x rest c l stands queue current is_loading board lab other work kept =
+load_stands moment s old new lab x rest c l stands queue current is_loading board loaded work kept =
     let g = cell_given x.request.code s.board in
     let waits : s.work.queue ≡ x ∷ rest = ap (λ (w : Work). w.queue) (sym stands.work) ∙ queue in
-    let who : mid.present ≡ s.present = ap (λ (v : SessionState). v.present) lab ∙ stands.present in
-    let works : mid.work ≡ s.work = ap (λ (v : SessionState). v.work) lab ∙ stands.work in
     let it : c ≡ current_of x s.work.count = current ∙ ap (λ (w : Work). current_of x w.count) stands.work in
     let B : LabState → Type 0 = λ v. LabStandsFor v (board_after s.board g) in
     let P : Present → Type 0 = λ w. Keeps (posted moment (loading_letters w c l) s.posts) new.store in
@@ -69,10 +60,10 @@ load_stands moment s old mid new x rest c l stands queue current is_loading boar
     rw waits (
       refl,
       record {
-        board = subst B (sym (ap (λ (v : SessionState). v.lab) other)) board;
-        present = ap (λ (v : SessionState). v.present) other ∙ who;
-        work = subst W is_loading (work ∙ ap (taken x rest l) works);
-        posts = subst R is_loading (subst Q it (subst P who kept));
-        is_shut = ap (λ (v : SessionState). v.is_shut) other ∙ (ap (λ (v : SessionState). v.is_shut) lab ∙ stands.is_shut);
+        board = subst B (sym (ap (λ (v : SessionState). v.lab) loaded)) board;
+        present = ap (λ (v : SessionState). v.present) loaded ∙ stands.present;
+        work = subst W is_loading (work ∙ ap (taken x rest l) stands.work);
+        posts = subst R is_loading (subst Q it (subst P stands.present kept));
+        is_shut = ap (λ (v : SessionState). v.is_shut) loaded ∙ stands.is_shut;
       },
     )

@@ -29,7 +29,7 @@ use Rattle.kern_ask.specs.declared.ask.NeedyRequest.{NeedyRequest}
 use Rattle.kern_ask.specs.declared.ask.NeedyRequest.TheVariants as needy
 use Rattle.kern_ask.specs.declared.ask.Request.{Request}
 use Rattle.kern_peers.specs.declared.peer.Peer.{Peer}
-use Rattle.kern_peers.specs.Present.{is_on}
+use Rattle.kern_peers.specs.Present.{Present, is_on}
 use Rattle.kern_post.specs.declared.content.Cause.{Cause}
 use Rattle.kern_post.specs.declared.content.Cause.TheVariants as cause
 use Rattle.kern_post.specs.declared.content.Completeness.{Completeness}
@@ -86,11 +86,15 @@ replying n r c moment s = posting Arrived moment (around s.present r.header (rep
 
 -- ---- executions
 
+-- the error, where the request isn't silent, and the reply
+abbrev pub full_letters : ℕ → Request → Bool → Present → ℕ → List Letter
+full_letters n r is_silent who count =
+    error_letters is_silent who r.header (Failed cause.QueueFull) ++
+    reply_to n r (content.ExecuteReply count (Failed cause.QueueFull)) ∷ []
+
 abbrev pub queue_full : ℕ → Request → ExecuteRequest → ℕ → Session → Turn
 queue_full n r x moment s = posting Arrived moment
-    (around s.present r.header
-    (error_letters x.is_silent s.present r.header (Failed cause.QueueFull) ++
-    reply_to n r (content.ExecuteReply s.work.count (Failed cause.QueueFull)) ∷ [])) s
+    (around s.present r.header (full_letters n r x.is_silent s.present s.work.count)) s
 
 abbrev pub executing : ℕ → List ℕ → Request → ExecuteRequest → ℕ → Session → Turn
 executing n identity r x moment s =

@@ -14,20 +14,13 @@ pub record KernelState : Type 0 where
 
 -- out of memory and a full journal leave no entry
 abbrev pub is_entry : Result Reply KernFault → Bool
-is_entry (Ok reply) = true
 is_entry (Err OutOfMemory) = false
 is_entry (Err JournalFull) = false
-is_entry (Err Full) = true
-is_entry (Err (Lagged first)) = true
-is_entry (Err NoConnection) = true
+is_entry _ = true
 
 abbrev pub is_full : Result Reply KernFault → Bool
-is_full (Ok reply) = false
 is_full (Err JournalFull) = true
-is_full (Err OutOfMemory) = false
-is_full (Err Full) = false
-is_full (Err (Lagged first)) = false
-is_full (Err NoConnection) = false
+is_full _ = false
 
 -- the fields stand for the entries, and the entries fit
 pub record IsKept (session : SessionState) (entries : List Call) (limit : ℕ) : Type 0 where

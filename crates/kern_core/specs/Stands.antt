@@ -1,5 +1,5 @@
 -- Which sessions the fields of a kernel stand for.
-use Rattle.std.specs.Prelude.{◌≡◌, ◌≢◌, ℕ, ◌+◌, ◌<◌, ◌≤◌, ◌^◌, Bool, List, Result, Ok, Err}
+use Rattle.std.specs.Prelude.{◌≡◌, ◌≢◌, ℕ, ◌+◌, ◌<◌, ◌≤◌, ◌^◌, Bool, List, Result, Ok, Err, OnErr}
 use Rattle.lab_core.specs.Labs.{LabState, StandsFor as LabStandsFor}
 use Rattle.lab_core.specs.Board.{Board}
 use Rattle.lab_core.specs.declared.run_state.RunState.{RunState}
@@ -56,3 +56,14 @@ pub record Grows (old new : SessionState) : Type 0 where
   pub posts : new.store.made ≤ old.store.made + 8
   pub peers : new.present.joined ≤ old.present.joined + 1
   pub count : new.work.count ≤ old.work.count + 1
+
+-- The session takes this turn: it makes it, no number grows by more than one call lets it, and where it
+-- answers an `Err` it is as it was.
+abbrev pub Takes : (Session → Turn) → SessionState → Result Reply KernFault → SessionState → Type 0
+Takes f old answer new = Makes f old answer new × (Grows old new × OnErr answer (new ≡ old))
+
+-- so where the run is in this state
+abbrev pub TakesWhere : RunState → (Session → Turn) → SessionState → Result Reply KernFault → SessionState
+    → Type 0
+TakesWhere run f old answer new =
+    MakesWhere run f old answer new × (Grows old new × OnErr answer (new ≡ old))

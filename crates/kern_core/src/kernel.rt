@@ -38,7 +38,8 @@ impl Model for Kernel {
     ghost invariant = { λ k. IsKept k.session k.entries.items k.limit };
 }
 
-fn is_entry(answer: &Result<Reply, KernFault>) -> bool
+/// Whether a call that was answered so is an entry of the journal.
+pub fn is_entry(answer: &Result<Reply, KernFault>) -> bool
     ensures { result ≡ is_entry answer.now }
 {
     !matches!(answer, Err(KernFault::OutOfMemory | KernFault::JournalFull))

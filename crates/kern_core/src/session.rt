@@ -1,11 +1,11 @@
 //! A kernel without its journal.
-ghost use Rattle.std.specs.Prelude.{◌≡◌, ◌≤◌, ◌+◌, List, length, IfOk, OnErr};
+ghost use Rattle.std.specs.Prelude.{◌≡◌, ◌≤◌, ◌+◌, List, length, IfOk};
 ghost use Rattle.kern_post.specs.declared.post.Letter.{Letter};
 ghost use Rattle.kern_post.specs.declared.post.Post.{Post};
 ghost use Rattle.kern_post.specs.Posts.{Keeps, posted};
 ghost use Rattle.kern_core.specs.Sessions.{opened};
 ghost use Rattle.kern_core.specs.Turns.{turn};
-ghost use Rattle.kern_core.specs.Stands.{StandsFor, Stands, Makes, HasRoom, Grows};
+ghost use Rattle.kern_core.specs.Stands.{StandsFor, Stands, Takes, HasRoom};
 
 mod asks;
 mod connections;
@@ -77,9 +77,7 @@ impl Session {
     pub fn make(&mut self, call: &Call) -> Result<Reply, KernFault>
         requires room { HasRoom self.old }
         requires stands { Stands self.old }
-        ensures turn { Makes (turn call.now) self.old result self.new }
-        ensures grows { Grows self.old self.new }
-        ensures err { OnErr result (self.new ≡ self.old) }
+        ensures { Takes (turn call.now) self.old result self.new }
     {
         match call {
             Call::Join { channel, identity } => self.join(*channel, identity.get()),

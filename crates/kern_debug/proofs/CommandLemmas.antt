@@ -7,12 +7,12 @@ use Rattle.dap_answers.specs.declared.answer.Body.{Body}
 use Rattle.dap_answers.specs.declared.answer.Body.TheVariants as body
 use Rattle.dap_answers.specs.Murmur.{cell_path}
 use Rattle.dap_talk.specs.declared.command.DapCommand.{DapCommand}
-use Rattle.kern_debug.specs.Commands.{performed, done, dumped}
+use Rattle.kern_debug.specs.Commands.{performed, done, dumped, Performs}
 
 -- each arm of a match knows its command
 pub of_known : (command known : DapCommand) (old new : LabState) (reply : Result Body EventFault)
-    → command ≡ known → Does (performed known) old reply new → Does (performed command) old reply new
-of_known command known old new reply is does = rw is does
+    → command ≡ known → Performs (performed known) old reply new → Performs (performed command) old reply new
+of_known command known old new reply is performs = rw is performs
 
 -- a cell's text is kept under its path, and the path is answered: done with copies of both
 pub does_dump : (old new : LabState) (path text answer code : List ℕ) (reply : Result Body EventFault)

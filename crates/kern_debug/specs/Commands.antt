@@ -1,6 +1,6 @@
 -- What each debug command makes of a board (Debug Adapter Protocol, "Requests"; Jupyter messaging,
 -- "Debug request").
-use Rattle.std.specs.Prelude.{ℕ, ◌+◌, List, Result, Ok, Err}
+use Rattle.std.specs.Prelude.{ℕ, ◌+◌, List, Result, Ok, Err, OnErr, ◌≡◌}
 use Rattle.base_latin.specs.Latin.{latin_bytes}
 use Rattle.i80_exec.specs.State.{MachineState, wrapped}
 use Rattle.lab_views.specs.declared.view.View.TheVariants as view
@@ -16,6 +16,7 @@ use Rattle.lab_core.specs.declared.event.StepRequest.{StepRequest}
 use Rattle.lab_core.specs.declared.fault.EventFault.{EventFault}
 use Rattle.lab_core.specs.Board.{Board}
 use Rattle.lab_core.specs.Events.{Given}
+use Rattle.lab_core.specs.Labs.{LabState, Does}
 use Rattle.lab_core.specs.Given.{given}
 use Rattle.dap_answers.specs.declared.answer.Body.{Body}
 use Rattle.dap_answers.specs.declared.answer.Body.TheVariants as body
@@ -30,6 +31,10 @@ use Rattle.kern_debug.specs.Bodies.{body_of}
 
 abbrev pub Performed : Type 0
 Performed = Result (Body × Board) EventFault
+
+-- The lab does what is performed of its board, and where it answers an `Err` it is as it was.
+abbrev pub Performs : (Board → Performed) → LabState → Result Body EventFault → LabState → Type 0
+Performs f old result new = Does f old result new × OnErr result (new ≡ old)
 
 -- what an event gives, with a body in place of the answer
 abbrev pub with_body : (Answer → Body) → Given → Performed

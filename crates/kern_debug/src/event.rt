@@ -1,8 +1,6 @@
 //! Events of a board, each with the body of a response.
-ghost use Rattle.std.specs.Prelude.{◌≡◌, OnErr};
 ghost use Rattle.lab_core.specs.Events.{Fits};
-ghost use Rattle.lab_core.specs.Labs.{Does};
-ghost use Rattle.kern_debug.specs.Commands.{answered, done};
+ghost use Rattle.kern_debug.specs.Commands.{answered, done, Performs};
 
 use crate::body::body_of;
 use dap_answers::answer::Body;
@@ -13,8 +11,7 @@ use lab_core::lab::Lab;
 /// Does an event, and gives the body that carries its answer.
 pub fn answered(lab: &mut Lab, event: &Event) -> Result<Body, EventFault>
     requires { Fits event.now }
-    ensures done { Does (answered event.now) lab.old result lab.new }
-    ensures err { OnErr result (lab.new ≡ lab.old) }
+    ensures { Performs (answered event.now) lab.old result lab.new }
 {
     let answer = lab.apply(event)?;
     Ok(body_of(answer))
@@ -23,8 +20,7 @@ pub fn answered(lab: &mut Lab, event: &Event) -> Result<Body, EventFault>
 /// Does an event, and gives this body.
 pub fn done(lab: &mut Lab, event: &Event, body: Body) -> Result<Body, EventFault>
     requires { Fits event.now }
-    ensures done { Does (done event.now body) lab.old result lab.new }
-    ensures err { OnErr result (lab.new ≡ lab.old) }
+    ensures { Performs (done event.now body) lab.old result lab.new }
 {
     match lab.apply(event) {
         Ok(_) => Ok(body),

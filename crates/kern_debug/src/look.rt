@@ -1,8 +1,7 @@
 //! The commands that look at a board and change nothing.
-ghost use Rattle.std.specs.Prelude.{◌≡◌, ◌+◌, OnErr};
+ghost use Rattle.std.specs.Prelude.{◌≡◌, ◌+◌};
 ghost use Rattle.i80_exec.specs.State.{wrapped};
-ghost use Rattle.lab_core.specs.Labs.{Does};
-ghost use Rattle.kern_debug.specs.Commands.{performed, answered, disassembled, IsLook};
+ghost use Rattle.kern_debug.specs.Commands.{performed, answered, disassembled, Performs, IsLook};
 
 use crate::event::answered;
 use crate::far::after_instructions;
@@ -19,30 +18,26 @@ const REGISTERS: u32 = 1;
 
 /// What a view shows.
 fn show(lab: &mut Lab, view: View) -> Result<Body, EventFault>
-    ensures done { Does (answered (Event.Show view)) lab.old result lab.new }
-    ensures err { OnErr result (lab.new ≡ lab.old) }
+    ensures { Performs (answered (Event.Show view)) lab.old result lab.new }
 {
     answered(lab, &Event::Show(view))
 }
 
 fn source(lab: &mut Lab, path: &Text) -> Result<Body, EventFault>
-    ensures done { Does (answered (Event.Show (View.Source path.now))) lab.old result lab.new }
-    ensures err { OnErr result (lab.new ≡ lab.old) }
+    ensures { Performs (answered (Event.Show (View.Source path.now))) lab.old result lab.new }
 {
     let path = path.clone()?;
     show(lab, View::Source(path))
 }
 
 fn stack_trace(lab: &mut Lab, start: u32, levels: u32) -> Result<Body, EventFault>
-    ensures done { Does (answered (Event.Show (View.Frames start levels))) lab.old result lab.new }
-    ensures err { OnErr result (lab.new ≡ lab.old) }
+    ensures { Performs (answered (Event.Show (View.Frames start levels))) lab.old result lab.new }
 {
     show(lab, View::Frames { start, levels })
 }
 
 fn variables(lab: &mut Lab, reference: u32, start: u32, count: u32) -> Result<Body, EventFault>
-    ensures done { Does (answered (Event.Show (View.Variables reference start count))) lab.old result lab.new }
-    ensures err { OnErr result (lab.new ≡ lab.old) }
+    ensures { Performs (answered (Event.Show (View.Variables reference start count))) lab.old result lab.new }
 {
     show(
         lab,
@@ -68,8 +63,7 @@ fn disassemble(
     instruction_offset: u32,
     count: u16,
 ) -> Result<Body, EventFault>
-    ensures done { Does (disassembled address offset instruction_offset count) lab.old result lab.new }
-    ensures err { OnErr result (lab.new ≡ lab.old) }
+    ensures { Performs (disassembled address offset instruction_offset count) lab.old result lab.new }
 {
     let first = after_instructions(lab, address_after(address, offset), instruction_offset);
     show(
@@ -85,8 +79,7 @@ fn disassemble(
 #[tactic(auto, using(crate::proofs::CommandLemmas::of_known), unfolding(crate::specs::Commands::performed))]
 pub fn look(lab: &mut Lab, command: &DapCommand) -> Result<Body, EventFault>
     requires { IsLook command.now }
-    ensures done { Does (performed command.now) lab.old result lab.new }
-    ensures err { OnErr result (lab.new ≡ lab.old) }
+    ensures { Performs (performed command.now) lab.old result lab.new }
 {
     match command {
         DapCommand::StackTrace {

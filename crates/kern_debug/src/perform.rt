@@ -1,9 +1,8 @@
 //! Debug commands, each carried out on a board.
-ghost use Rattle.std.specs.Prelude.{◌≡◌, ◌≤◌, length, OnErr};
-ghost use Rattle.lab_core.specs.Labs.{Does};
+ghost use Rattle.std.specs.Prelude.{◌≤◌, length};
 ghost use Rattle.dap_talk.specs.Table.{IsBounded};
 ghost use Rattle.base_latin.specs.Latin.{latin_bytes};
-ghost use Rattle.kern_debug.specs.Commands.{performed, answered, done, dumped, step_request};
+ghost use Rattle.kern_debug.specs.Commands.{performed, answered, done, dumped, step_request, Performs};
 
 use crate::event::{answered, done};
 use crate::look::look;
@@ -21,8 +20,7 @@ use std::alloc::Global;
 
 fn set_breakpoints(lab: &mut Lab, path: &Text, lines: &Sequence<u32>) -> Result<Body, EventFault>
     requires { length lines.now ≤ 256 }
-    ensures done { Does (answered (Event.SetBreakpoints path.now lines.now)) lab.old result lab.new }
-    ensures err { OnErr result (lab.new ≡ lab.old) }
+    ensures { Performs (answered (Event.SetBreakpoints path.now lines.now)) lab.old result lab.new }
 {
     let path = path.clone()?;
     let lines = lines.clone()?;
@@ -30,8 +28,7 @@ fn set_breakpoints(lab: &mut Lab, path: &Text, lines: &Sequence<u32>) -> Result<
 }
 
 fn step(lab: &mut Lab, kind: StepKind, granularity: Granularity) -> Result<Body, EventFault>
-    ensures done { Does (done (Event.Step (step_request kind granularity)) Body.Empty) lab.old result lab.new }
-    ensures err { OnErr result (lab.new ≡ lab.old) }
+    ensures { Performs (done (Event.Step (step_request kind granularity)) Body.Empty) lab.old result lab.new }
 {
     let request = step_request(kind, granularity);
     done(lab, &Event::Step(request), Body::Empty)
@@ -40,8 +37,7 @@ fn step(lab: &mut Lab, kind: StepKind, granularity: Granularity) -> Result<Body,
 /// Keeps a cell's text under the path by which a frontend knows it, and answers the path. The copies
 /// are made first, so that want of memory can't come once the text is kept.
 fn dump_cell(alloc: Global, lab: &mut Lab, code: &Text) -> Result<Body, EventFault>
-    ensures done { Does (dumped code.now) lab.old result lab.new }
-    ensures err { OnErr result (lab.new ≡ lab.old) }
+    ensures { Performs (dumped code.now) lab.old result lab.new }
 {
     let path = cell_path(alloc, code.as_str())?;
     let text = code.clone()?;
@@ -51,8 +47,7 @@ fn dump_cell(alloc: Global, lab: &mut Lab, code: &Text) -> Result<Body, EventFau
 
 /// Types a text at the console: each character as its byte in ISO 8859-1, `?` where it has none.
 fn type_text(alloc: Global, lab: &mut Lab, text: &Text) -> Result<Body, EventFault>
-    ensures done { Does (done (Event.Typed (latin_bytes text.now)) Body.Empty) lab.old result lab.new }
-    ensures err { OnErr result (lab.new ≡ lab.old) }
+    ensures { Performs (done (Event.Typed (latin_bytes text.now)) Body.Empty) lab.old result lab.new }
 {
     let bytes = to_bytes(alloc, text.as_str())?;
     done(lab, &Event::Typed(bytes), Body::Empty)
@@ -64,8 +59,7 @@ fn type_text(alloc: Global, lab: &mut Lab, text: &Text) -> Result<Body, EventFau
 #[tactic(auto, using(crate::proofs::CommandLemmas::of_known), unfolding(crate::specs::Commands::performed))]
 pub fn perform(alloc: Global, lab: &mut Lab, command: &DapCommand) -> Result<Body, EventFault>
     requires { IsBounded command.now }
-    ensures done { Does (performed command.now) lab.old result lab.new }
-    ensures err { OnErr result (lab.new ≡ lab.old) }
+    ensures { Performs (performed command.now) lab.old result lab.new }
 {
     match command {
         DapCommand::Initialize => Ok(Body::Capabilities),

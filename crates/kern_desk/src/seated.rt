@@ -1,11 +1,10 @@
 //! A kernel with the seat of each entry.
 ghost use Rattle.std.specs.Prelude.{◌≡◌, [], option_map, slice_get};
-ghost use Rattle.kern_core.specs.Kernels.{is_entry};
 ghost use Rattle.kern_desk.specs.Seats.{calls_of};
 
 use kern_core::call::{Call, Reply};
 use kern_core::fault::KernFault;
-use kern_core::kernel::Kernel;
+use kern_core::kernel::{Kernel, is_entry};
 use lab_turn::journaled::Journaled;
 use lab_turn::turnstile::Turnstile;
 use std::alloc::Global;
@@ -74,12 +73,6 @@ impl Seated {
         let Seated { kernel, .. } = self;
         kernel
     }
-}
-
-fn is_entry(answer: &Result<Reply, KernFault>) -> bool
-    ensures { result ≡ is_entry answer.now }
-{
-    !matches!(answer, Err(KernFault::OutOfMemory | KernFault::JournalFull))
 }
 
 impl Journaled for Seated {

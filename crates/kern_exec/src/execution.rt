@@ -5,6 +5,7 @@ ghost use Rattle.kern_exec.specs.Executions.{execution_of};
 use base_text::sequence::{Bytes, Frames};
 use base_text::text::Text;
 use kern_ask::ask::{ExecuteRequest, Request};
+use kern_post::post::copy_bytes;
 use std::alloc::{AllocError, Global};
 
 /// An execution that was asked for, and what its posts repeat of the request.
@@ -23,13 +24,6 @@ pub struct Execution {
 pub struct Current {
     pub execution: Execution,
     pub count: u64,
-}
-
-/// A copy.
-pub fn copy_bytes(bytes: &Bytes) -> Result<Bytes, AllocError>
-    ensures { IfOk result (λ copy. copy ≡ bytes.now) }
-{
-    bytes.clone()
 }
 
 pub(crate) fn copy_frames(frames: &Frames) -> Result<Frames, AllocError>

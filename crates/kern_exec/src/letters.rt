@@ -3,12 +3,12 @@ ghost use Rattle.std.specs.Prelude.{◌≡◌, [], ◌∷◌, IfOk};
 ghost use Rattle.kern_exec.specs.Letters.{heard_under, heard, addressed, replied};
 ghost use Rattle.kern_exec.specs.Kits.{IsAround};
 
-use crate::execution::{copy_bytes, copy_frames};
+use crate::execution::copy_frames;
 use base_text::sequence::{Bytes, Frames, Sequence};
 use kern_peers::peers::Peers;
 use kern_post::content::{Content, ExecutionState};
 use kern_post::letters::Letters;
-use kern_post::post::{Envelope, Head, Letter};
+use kern_post::post::{Envelope, Head, Letter, copy_bytes};
 use std::alloc::{AllocError, Global};
 
 /// The envelope of what goes to all who subscribed to a topic.

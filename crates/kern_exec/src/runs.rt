@@ -8,8 +8,8 @@ ghost use Rattle.lab_core.specs.Labs.{StandsFor};
 ghost use Rattle.kern_exec.specs.Boards.{interrupted};
 
 use crate::board::ask;
-use crate::execution::copy_bytes;
 use base_text::sequence::Bytes;
+use kern_post::post::copy_bytes;
 use lab_core::answer::Answer;
 use lab_core::event::Event;
 use lab_core::fault::EventFault;

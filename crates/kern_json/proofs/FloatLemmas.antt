@@ -59,18 +59,12 @@ in_state d =
     rw (no_float_in source_breakpoints_json in_source d.breakpoints, stopped d.is_stopped) refl
 
 in_body : (b : Body) → has_float (body_json b) ≡ false
-in_body body.Empty = refl
-in_body body.Capabilities = refl
 in_body (body.Breakpoints bs) = rw (no_float_in breakpoint_json (λ b. refl) bs) refl
-in_body body.Threads = refl
 in_body (body.StackTrace fs total) = rw (no_float_in frame_json (λ f. framed f f.source) fs) refl
-in_body body.Scopes = refl
 in_body (body.Variables vs) = rw (no_float_in variable_json (λ v. refl) vs) refl
-in_body body.Continued = refl
 in_body (body.Instructions is) = rw (no_float_in instruction_json (λ i. refl) is) refl
-in_body (body.Content t) = refl
-in_body (body.SourcePath path) = refl
 in_body (body.DebugState d) = in_state d
+in_body _ = refl
 
 in_outcome : (seq request_seq : ℕ) (command : List ℕ) (o : Outcome)
     → has_float (outcome_json seq request_seq command o) ≡ false
@@ -79,8 +73,7 @@ in_outcome seq request_seq command (Refused message) = refl
 
 in_event : (seq : ℕ) (e : Event) → has_float (event_json seq e) ≡ false
 in_event seq event.Initialized = refl
-in_event seq (event.Stopped reason) = refl
-in_event seq event.Continued = refl
+in_event seq _ = refl
 
 in_execute_reply : (count : ℕ) (e : Ending) → has_float (execute_reply_json count e) ≡ false
 in_execute_reply count ending.Done = refl
@@ -88,26 +81,12 @@ in_execute_reply count (ending.Failed c) = refl
 
 in_completeness : (c : Completeness) → has_float (is_complete_json c) ≡ false
 in_completeness completeness.Complete = refl
-in_completeness completeness.Incomplete = refl
-in_completeness completeness.Invalid = refl
+in_completeness _ = refl
 
 pub content_has_no_float : (number : ℕ) (c : Content) → has_float (content_json number c) ≡ false
-content_has_no_float number (content.Status state) = refl
-content_has_no_float number (content.ExecuteInput code count) = refl
-content_has_no_float number (content.Stream bytes) = refl
-content_has_no_float number content.InputRequest = refl
-content_has_no_float number (content.Error cause) = refl
-content_has_no_float number (content.CommClose comm_id) = refl
 content_has_no_float number (content.DebugEvent e) = in_event number e
-content_has_no_float number content.KernelInfoReply = refl
 content_has_no_float number (content.ExecuteReply count e) = in_execute_reply count e
 content_has_no_float number (content.IsCompleteReply c) = in_completeness c
-content_has_no_float number (content.CompleteReply cursor_pos) = refl
-content_has_no_float number content.InspectReply = refl
-content_has_no_float number content.HistoryReply = refl
-content_has_no_float number content.CommInfoReply = refl
-content_has_no_float number (content.ShutdownReply restarts) = refl
-content_has_no_float number content.InterruptReply = refl
 content_has_no_float number (content.DebugReply r) =
     in_outcome number r.request_seq r.command r.outcome
-content_has_no_float number (content.BadContentReply request) = refl
+content_has_no_float number _ = refl

@@ -30,12 +30,7 @@ fault_text (asm.At line column kind) =
 abbrev pub evalue_of : Cause → List ℕ
 evalue_of (cause.Assembly f) = fault_text f
 evalue_of (cause.UndefinedOpcode opcode pc) = upper_byte opcode ++ codes " at " ++ upper_word pc
-evalue_of cause.Interrupted = []
-evalue_of cause.Reset = []
-evalue_of cause.QueueFull = []
-evalue_of cause.BadContent = []
-evalue_of cause.SourceNameTaken = []
-evalue_of cause.SourcesFull = []
+evalue_of _ = []
 
 -- the blank stands also before an empty value
 abbrev pub error_line : Cause → List ℕ

@@ -98,7 +98,8 @@ fn copy_head(head: &Head) -> Result<Head, AllocError>
     head.clone()
 }
 
-fn copy_bytes(bytes: &Bytes) -> Result<Bytes, AllocError>
+/// A copy.
+pub fn copy_bytes(bytes: &Bytes) -> Result<Bytes, AllocError>
     ensures { IfOk result (λ copy. copy ≡ bytes.now) }
 {
     bytes.clone()

@@ -11,7 +11,7 @@ use jup_wire::header::{empty_object, header_json};
 use jup_wire::sealing::{Draft, seal_message};
 use kern_json::content::content_json;
 use kern_post::content::Content;
-use kern_post::post::{Head, Post};
+use kern_post::post::{Head, Post, copy_bytes};
 use std::alloc::{AllocError, Global};
 
 fn one_frame(alloc: Global, text: &str) -> Result<Frames, AllocError>
@@ -30,12 +30,6 @@ fn head_frames(alloc: Global, head: &Head, content: &Content) -> Result<Frames, 
         Head::Topic => one_frame(alloc, content.topic()),
         Head::Identities(frames) => frames.clone(),
     }
-}
-
-fn copy_bytes(bytes: &Bytes) -> Result<Bytes, AllocError>
-    ensures { IfOk result (λ copy. copy ≡ bytes.now) }
-{
-    bytes.clone()
 }
 
 fn draft_of(alloc: Global, post: &Post, date: &str, session: &str) -> Result<Draft, AllocError>

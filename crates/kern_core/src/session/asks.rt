@@ -6,10 +6,10 @@ ghost use Rattle.kern_exec.specs.Executions.{ended};
 ghost use Rattle.kern_exec.specs.Ends.{error_letters};
 ghost use Rattle.kern_exec.specs.Kits.{IsAround};
 ghost use Rattle.kern_exec.specs.Boards.{is_run};
-ghost use Rattle.kern_core.specs.Asks.{reply_to, replying, queue_full, executing, cut_kit_of, cut_letters, interrupting, shutting, typing, closing, passing, unanswered, other, arriving, with_board, cut_work};
+ghost use Rattle.kern_core.specs.Asks.{reply_to, replying, full_letters, executing, cut_kit_of, cut_letters, interrupting, shutting, typing, closing, passing, unanswered, other, arriving, with_board, cut_work};
 ghost use Rattle.lab_core.specs.Events.{reset as reset_of};
 ghost use Rattle.kern_core.specs.Sessions.{Session as SessionOf, after, posting};
-ghost use Rattle.kern_core.specs.Stands.{StandsFor, Makes, HasRoom, Grows};
+ghost use Rattle.kern_core.specs.Stands.{StandsFor, Takes, HasRoom, Grows};
 
 use crate::call::Reply;
 use crate::fault::KernFault;
@@ -20,12 +20,12 @@ use base_text::sequence::Bytes;
 use base_text::text::Text;
 use kern_ask::ask::{Ask, ExecuteRequest, NeedyRequest, Request};
 use kern_exec::ends::{EndKit, cut_letters, end_kit};
-use kern_exec::execution::{Execution, copy_bytes};
+use kern_exec::execution::Execution;
 use kern_exec::letters::{BusyIdle, around, heard, replied};
 use kern_exec::runs::{interrupt, reset, type_bytes};
 use kern_post::content::{Cause, Content, Ending};
 use kern_post::letters::Letters;
-use kern_post::post::Letter;
+use kern_post::post::{Letter, copy_bytes};
 use lab_core::run_state::RunState;
 use std::alloc::AllocError;
 
@@ -47,9 +47,7 @@ impl Session {
         moment: u64,
     ) -> Result<Reply, KernFault>
         requires { HasRoom self.old }
-        ensures turn { Makes (arriving connection request.now moment) self.old result self.new }
-        ensures grows { Grows self.old self.new }
-        ensures err { OnErr result (self.new ≡ self.old) }
+        ensures { Takes (arriving connection request.now moment) self.old result self.new }
     {
         let Some(peer) = self.peers.get(connection) else {
             return Err(KernFault::NoConnection);
@@ -108,9 +106,7 @@ impl Session {
         moment: u64,
     ) -> Result<Reply, KernFault>
         requires { HasRoom self.old }
-        ensures turn { Makes (replying connection request.now content moment) self.old result self.new }
-        ensures grows { Grows self.old self.new }
-        ensures err { OnErr result (self.new ≡ self.old) }
+        ensures { Takes (replying connection request.now content moment) self.old result self.new }
     {
         let letter = self.reply_to(connection, request, content)?;
         let letters = self.around_one(&request.header, letter)?;
@@ -126,9 +122,7 @@ impl Session {
         moment: u64,
     ) -> Result<Reply, KernFault>
         requires { HasRoom self.old }
-        ensures turn { Makes (other connection identity request.now request.now.ask moment) self.old result self.new }
-        ensures grows { Grows self.old self.new }
-        ensures err { OnErr result (self.new ≡ self.old) }
+        ensures { Takes (other connection identity request.now request.now.ask moment) self.old result self.new }
     {
         match &request.ask {
             Ask::Execute(execute) => self.execute(connection, identity, request, execute, moment),
@@ -157,9 +151,7 @@ impl Session {
         moment: u64,
     ) -> Result<Reply, KernFault>
         requires { HasRoom self.old }
-        ensures turn { Makes (unanswered request.now lacking moment) self.old result self.new }
-        ensures grows { Grows self.old self.new }
-        ensures err { OnErr result (self.new ≡ self.old) }
+        ensures { Takes (unanswered request.now lacking moment) self.old result self.new }
     {
         match lacking {
             NeedyRequest::InputReply => Ok(Reply::Arrived),
@@ -180,9 +172,7 @@ impl Session {
         moment: u64,
     ) -> Result<Reply, KernFault>
         requires { HasRoom self.old }
-        ensures turn { Makes (executing connection identity request.now execute.now moment) self.old result self.new }
-        ensures grows { Grows self.old self.new }
-        ensures err { OnErr result (self.new ≡ self.old) }
+        ensures { Takes (executing connection identity request.now execute.now moment) self.old result self.new }
     {
         if self.executions.has_place() {
             let execution = Execution::copy_of(self.alloc, connection, identity, request, execute)?;
@@ -201,8 +191,7 @@ impl Session {
         is_silent: bool,
     ) -> Result<Letters, AllocError>
         ensures { IfOk result (λ letters. letters ≡ around_of self.now.present request.now.header
-            (error_letters is_silent self.now.present request.now.header (Failed Cause.QueueFull) ++
-            reply_to connection request.now (Content.ExecuteReply self.now.work.count (Failed Cause.QueueFull)) ∷ [])) }
+            (full_letters connection request.now is_silent self.now.present self.now.work.count)) }
     {
         let BusyIdle { mut letters, idle } = around(self.alloc, &self.peers, &request.header)?;
         match self.push_full(&mut letters, connection, request, is_silent) {
@@ -228,8 +217,7 @@ impl Session {
     ) -> Result<(), AllocError>
         requires { length letters.old ≤ 1 }
         ensures said { IfOk result (λ _. letters.new ≡ letters.old ++
-            (error_letters is_silent self.now.present request.now.header (Failed Cause.QueueFull) ++
-            reply_to connection request.now (Content.ExecuteReply self.now.work.count (Failed Cause.QueueFull)) ∷ [])) }
+            full_letters connection request.now is_silent self.now.present self.now.work.count) }
         ensures few { length letters.new ≤ length letters.old + 2 }
     {
         self.push_error(letters, request, is_silent)?;
@@ -270,9 +258,7 @@ impl Session {
         moment: u64,
     ) -> Result<Reply, KernFault>
         requires { HasRoom self.old }
-        ensures turn { Makes (closing request.now comm_id.now moment) self.old result self.new }
-        ensures grows { Grows self.old self.new }
-        ensures err { OnErr result (self.new ≡ self.old) }
+        ensures { Takes (closing request.now comm_id.now moment) self.old result self.new }
     {
         let comm_id = Text::copy_of(self.alloc, comm_id.as_str())?;
         let content = Content::CommClose { comm_id };
@@ -284,9 +270,7 @@ impl Session {
 
     fn pass(&mut self, request: &Request, moment: u64) -> Result<Reply, KernFault>
         requires { HasRoom self.old }
-        ensures turn { Makes (passing request.now moment) self.old result self.new }
-        ensures grows { Grows self.old self.new }
-        ensures err { OnErr result (self.new ≡ self.old) }
+        ensures { Takes (passing request.now moment) self.old result self.new }
     {
         let frame = around(self.alloc, &self.peers, &request.header)?;
         let mut letters = frame.letters;
@@ -296,9 +280,7 @@ impl Session {
     }
 
     fn type_line(&mut self, typed: &Bytes) -> Result<Reply, KernFault>
-        ensures turn { Makes (typing typed.now) self.old result self.new }
-        ensures grows { Grows self.old self.new }
-        ensures err { OnErr result (self.new ≡ self.old) }
+        ensures { Takes (typing typed.now) self.old result self.new }
     {
         type_bytes(&mut self.lab, typed)?;
         Ok(Reply::Arrived)
@@ -372,9 +354,7 @@ impl Session {
         moment: u64,
     ) -> Result<Reply, KernFault>
         requires { HasRoom self.old }
-        ensures turn { Makes (interrupting connection request.now moment) self.old result self.new }
-        ensures grows { Grows self.old self.new }
-        ensures err { OnErr result (self.new ≡ self.old) }
+        ensures { Takes (interrupting connection request.now moment) self.old result self.new }
     {
         let letters = self.cut_letters(
             connection,
@@ -412,9 +392,7 @@ impl Session {
         moment: u64,
     ) -> Result<Reply, KernFault>
         requires { HasRoom self.old }
-        ensures turn { Makes (shutting connection request.now restarts moment) self.old result self.new }
-        ensures grows { Grows self.old self.new }
-        ensures err { OnErr result (self.new ≡ self.old) }
+        ensures { Takes (shutting connection request.now restarts moment) self.old result self.new }
     {
         let content = Content::ShutdownReply { restarts };
         if restarts {

@@ -1,9 +1,9 @@
 //! Joining, leaving, subscribing and fetching.
-ghost use Rattle.std.specs.Prelude.{◌≡◌, ◌==◌, IfOk, OnErr, codes};
+ghost use Rattle.std.specs.Prelude.{◌≡◌, ◌==◌, IfOk, codes};
 ghost use Rattle.std.specs.List.{starts_with};
 ghost use Rattle.kern_core.specs.Connections.{joined, left, subscribing, new_subscription, fetching, fetched, status_to, first_status, is_busy, state_of};
 ghost use Rattle.kern_peers.specs.Present.{same_channel};
-ghost use Rattle.kern_core.specs.Stands.{StandsFor, Makes, HasRoom, Grows};
+ghost use Rattle.kern_core.specs.Stands.{StandsFor, Makes, Takes, HasRoom};
 ghost use Rattle.kern_core.specs.Sessions.{Session as SessionOf};
 
 use crate::call::Reply;
@@ -11,10 +11,9 @@ use crate::fault::KernFault;
 use crate::session::Session;
 use base_text::sequence::{Bytes, Sequence};
 use jup_wire::channel::Channel;
-use kern_exec::execution::copy_bytes;
 use kern_post::content::{Content, ExecutionState};
 use kern_post::letters::Letters;
-use kern_post::post::{Envelope, Head, Letter};
+use kern_post::post::{Envelope, Head, Letter, copy_bytes};
 use std::alloc::AllocError;
 
 pub(super) fn is_iopub(channel: Channel) -> bool
@@ -32,9 +31,7 @@ fn begins_status(prefix: &[u8]) -> bool
 impl Session {
     pub(super) fn join(&mut self, channel: Channel, identity: &Bytes) -> Result<Reply, KernFault>
         requires { HasRoom self.old }
-        ensures turn { Makes (joined channel identity.now) self.old result self.new }
-        ensures grows { Grows self.old self.new }
-        ensures err { OnErr result (self.new ≡ self.old) }
+        ensures { Takes (joined channel identity.now) self.old result self.new }
     {
         if self.peers.has_no_place(channel, identity.as_slice()) {
             return Err(KernFault::Full);
@@ -49,9 +46,7 @@ impl Session {
 
     pub(super) fn leave(&mut self, connection: u32) -> Result<Reply, KernFault>
         requires { HasRoom self.old }
-        ensures turn { Makes (left connection) self.old result self.new }
-        ensures grows { Grows self.old self.new }
-        ensures err { OnErr result (self.new ≡ self.old) }
+        ensures { Takes (left connection) self.old result self.new }
     {
         if self.peers.get(connection).is_none() {
             return Err(KernFault::NoConnection);
@@ -137,9 +132,7 @@ impl Session {
         moment: u64,
     ) -> Result<Reply, KernFault>
         requires { HasRoom self.old }
-        ensures turn { Makes (new_subscription connection prefix.now moment) self.old result self.new }
-        ensures grows { Grows self.old self.new }
-        ensures err { OnErr result (self.new ≡ self.old) }
+        ensures { Takes (new_subscription connection prefix.now moment) self.old result self.new }
     {
         let letters = self.first_status(connection, prefix.as_slice())?;
         let prefix = copy_bytes(prefix)?;
@@ -156,9 +149,7 @@ impl Session {
         moment: u64,
     ) -> Result<Reply, KernFault>
         requires { HasRoom self.old }
-        ensures turn { Makes (subscribing connection wants prefix.now moment) self.old result self.new }
-        ensures grows { Grows self.old self.new }
-        ensures err { OnErr result (self.new ≡ self.old) }
+        ensures { Takes (subscribing connection wants prefix.now moment) self.old result self.new }
     {
         let Some(peer) = self.peers.get(connection) else {
             return Err(KernFault::NoConnection);

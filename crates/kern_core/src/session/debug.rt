@@ -1,5 +1,5 @@
 //! Requests of a debugger.
-ghost use Rattle.std.specs.Prelude.{◌≡◌, ◌<◌, ◌≤◌, ◌+◌, ◌++◌, length, true, false, option_to_list, None, Err, IfOk, IsOk, IsErr, OnErr, IsTrue, codes};
+ghost use Rattle.std.specs.Prelude.{◌≡◌, ◌<◌, ◌≤◌, ◌+◌, ◌++◌, length, true, false, option_to_list, None, Err, IfOk, IsOk, IsErr, IsTrue, codes};
 ghost use Rattle.dap_talk.specs.Table.{IsBounded};
 ghost use Rattle.kern_debug.specs.Names.{event_after};
 ghost use Rattle.kern_core.specs.Asks.{is_reset, after_letter, is_bounded, refusing, performing, debugging};
@@ -7,7 +7,7 @@ ghost use Rattle.kern_core.specs.Debugging.{IsDebugKit, told_debug, told_by};
 ghost use Rattle.dap_answers.specs.declared.answer.Outcome.TheVariants.{Refused};
 ghost use Rattle.kern_debug.specs.Names.{refusal_name};
 ghost use Rattle.kern_core.specs.Sessions.{Session as SessionOf};
-ghost use Rattle.kern_core.specs.Stands.{StandsFor, Makes, HasRoom, Grows};
+ghost use Rattle.kern_core.specs.Stands.{StandsFor, Takes, HasRoom};
 
 use crate::call::Reply;
 use crate::fault::KernFault;
@@ -142,9 +142,7 @@ impl Session {
         moment: u64,
     ) -> Result<Reply, KernFault>
         requires { HasRoom self.old }
-        ensures turn { Makes (debugging connection request.now debug.now moment) self.old result self.new }
-        ensures grows { Grows self.old self.new }
-        ensures err { OnErr result (self.new ≡ self.old) }
+        ensures { Takes (debugging connection request.now debug.now moment) self.old result self.new }
     {
         if !is_bounded(&debug.command) {
             return self.refuse(connection, request, debug, moment);
@@ -220,9 +218,7 @@ impl Session {
         moment: u64,
     ) -> Result<Reply, KernFault>
         requires { HasRoom self.old }
-        ensures turn { Makes (refusing connection request.now debug.now (codes "Arguments") moment) self.old result self.new }
-        ensures grows { Grows self.old self.new }
-        ensures err { OnErr result (self.new ≡ self.old) }
+        ensures { Takes (refusing connection request.now debug.now (codes "Arguments") moment) self.old result self.new }
     {
         let message = Text::copy_of(self.alloc, "Arguments")?;
         let kit = self.debug_kit(connection, request, debug)?;
@@ -241,9 +237,7 @@ impl Session {
     ) -> Result<Reply, KernFault>
         requires room { HasRoom self.old }
         requires reset { is_reset debug.now.command ≡ true }
-        ensures turn { Makes (performing connection request.now debug.now moment) self.old result self.new }
-        ensures grows { Grows self.old self.new }
-        ensures err { OnErr result (self.new ≡ self.old) }
+        ensures { Takes (performing connection request.now debug.now moment) self.old result self.new }
     {
         let command = Text::copy_of(self.alloc, debug.command.name().as_str())?;
         let content = Content::DebugReply(Response {
@@ -266,9 +260,7 @@ impl Session {
         requires room { HasRoom self.old }
         requires bounded { IsBounded debug.now.command }
         requires other { is_reset debug.now.command ≡ false }
-        ensures turn { Makes (performing connection request.now debug.now moment) self.old result self.new }
-        ensures grows { Grows self.old self.new }
-        ensures err { OnErr result (self.new ≡ self.old) }
+        ensures { Takes (performing connection request.now debug.now moment) self.old result self.new }
     {
         let (kit, after) = self.prepare(connection, request, debug)?;
         let result = perform(self.alloc, &mut self.lab, &debug.command);

@@ -1,5 +1,5 @@
 //! Slices: the next piece of the run, its start, or the next cell.
-ghost use Rattle.std.specs.Prelude.{◌≡◌, ◌<◌, ◌≤◌, ◌+◌, [], ◌∷◌, List, length, vec_capacity, IfOk, IfSome, OnErr, Ok};
+ghost use Rattle.std.specs.Prelude.{◌≡◌, ◌<◌, ◌≤◌, ◌+◌, [], ◌∷◌, List, length, vec_capacity, IfOk, IfSome, Ok};
 ghost use Rattle.lab_core.specs.declared.run_state.RunState.TheVariants.{NoRun, Running};
 ghost use Rattle.kern_post.specs.Posts.{Keeps, posted};
 ghost use Rattle.kern_post.specs.declared.post.Post.{Post};
@@ -11,7 +11,7 @@ ghost use Rattle.kern_exec.specs.Kits.{IsLoadingKit};
 ghost use Rattle.kern_core.specs.Slices.{letters_of as slice_letters_of, work_after, reply_of, running, beginning, by_start, loading, slicing};
 ghost use Rattle.kern_core.specs.Running.{IsKitOf};
 ghost use Rattle.kern_core.specs.Sessions.{Session as SessionOf};
-ghost use Rattle.kern_core.specs.Stands.{StandsFor, Stands, Makes, MakesWhere, HasRoom, Grows};
+ghost use Rattle.kern_core.specs.Stands.{StandsFor, Stands, Takes, TakesWhere, HasRoom};
 
 use crate::call::Reply;
 use crate::fault::KernFault;
@@ -30,9 +30,7 @@ impl Session {
     pub(super) fn slice(&mut self, moment: u64) -> Result<Reply, KernFault>
         requires room { HasRoom self.old }
         requires stands { Stands self.old }
-        ensures turn { Makes (slicing moment) self.old result self.new }
-        ensures grows { Grows self.old self.new }
-        ensures err { OnErr result (self.new ≡ self.old) }
+        ensures { Takes (slicing moment) self.old result self.new }
     {
         if self.is_shut {
             return Ok(Reply::Ended);
@@ -46,9 +44,7 @@ impl Session {
 
     fn go_on(&mut self, moment: u64) -> Result<Reply, KernFault>
         requires { HasRoom self.old }
-        ensures turn { MakesWhere NoRun (λ s. by_start s.work.pending moment s) self.old result self.new }
-        ensures grows { Grows self.old self.new }
-        ensures err { OnErr result (self.new ≡ self.old) }
+        ensures { TakesWhere NoRun (λ s. by_start s.work.pending moment s) self.old result self.new }
     {
         match self.executions.pending() {
             None => self.load(moment),
@@ -57,8 +53,7 @@ impl Session {
     }
 
     fn begin(&mut self, address: u16) -> Reply
-        ensures turn { MakesWhere NoRun (beginning address) self.old (Ok result) self.new }
-        ensures grows { Grows self.old self.new }
+        ensures { TakesWhere NoRun (beginning address) self.old (Ok result) self.new }
     {
         start(&mut self.lab, address);
         self.executions.begin();
@@ -67,9 +62,7 @@ impl Session {
 
     fn load(&mut self, moment: u64) -> Result<Reply, KernFault>
         requires { HasRoom self.old }
-        ensures turn { MakesWhere NoRun (λ s. loading moment s.work.queue s) self.old result self.new }
-        ensures grows { Grows self.old self.new }
-        ensures err { OnErr result (self.new ≡ self.old) }
+        ensures { TakesWhere NoRun (λ s. loading moment s.work.queue s) self.old result self.new }
     {
         let Some(execution) = self.executions.first() else {
             return Ok(Reply::Idle);
@@ -120,9 +113,7 @@ impl Session {
     fn run(&mut self, moment: u64) -> Result<Reply, KernFault>
         requires room { HasRoom self.old }
         requires stands { Stands self.old }
-        ensures turn { MakesWhere Running (running moment) self.old result self.new }
-        ensures grows { Grows self.old self.new }
-        ensures err { OnErr result (self.new ≡ self.old) }
+        ensures { TakesWhere Running (running moment) self.old result self.new }
     {
         let kit = self.kit()?;
         match slice(&mut self.lab) {

@@ -1,28 +1,23 @@
-use Rattle.std.proofs.Common.{◌≡◌, ◌∙◌, refl, sym, ap, subst}
+use Rattle.std.proofs.Common.{◌∙◌, sym, ap, subst, rules}
 use Rattle.std.proofs.lemmas.Bool.{false≢true}
 use Rattle.kern_peers.specs.Present.{Present}
 use Rattle.kern_core.specs.Debugging.{IsDebugKit, told_by}
-use Rattle.kern_core.specs.Stands.{SessionState, StandsFor}
+use Rattle.kern_core.specs.Stands.{StandsFor}
 use Rattle.kern_core.proofs.DebugLemmas.{performed_stands}
 use Rattle.kern_core.proofs.session.Session.perform.Goals as goal
 
-pub returns-clause-turn : goal.returns-clause-turn
-returns-clause-turn c = λ s stands ne.
-    let viewed : StandsFor _ s = subst (λ v. StandsFor v s) (sym c.self.view_is) stands in
-    let n = c.args.connection in
-    let r = c.args.request.now in
-    let d = c.args.debug.now in
-    let old : SessionState = record {
-      lab = c.self.inside.lab;
-      present = c.self.inside.peers;
-      work = c.self.inside.executions;
-      store = c.self.inside.store;
-      is_shut = c.self.inside.is_shut;
-    } in
-    let new : SessionState = record old { lab = c.perform-result.new.lab; store = c.push_all.new.self } in
-    let K : Present → Type 0 = λ w. IsDebugKit w n r d c.in_ok-kit.kit in
-    let kit = subst K stands.present c.in_ok-kit.ensures.kit in
-    let letter = c.in_ok-kit.ensures.after s stands in
-    let told = c.in_ok-letters.ensures.told ∙ ap (told_by c.in_ok-kit.kit c.perform-result.result) letter in
-    performed_stands n r d c.args.moment s old new c.perform-result.result c.in_ok-kit.kit c.in_ok-letters.letters
-    viewed c.requires.other c.perform-result.ensures.done (λ e. absurd (false≢true (c.in_ok-letters.ensures.want e))) kit told refl (c.push_all.ensures.keeps s.posts viewed.posts)
+pub returns : goal.returns
+returns c = (
+  λ s stands ne.
+      let viewed : StandsFor _ s = subst (λ v. StandsFor v s) (sym c.self.view_is) stands in
+      let n = c.args.connection in
+      let r = c.args.request.now in
+      let d = c.args.debug.now in
+      let K : Present → Type 0 = λ w. IsDebugKit w n r d c.in_ok-kit.kit in
+      let kit = subst K stands.present c.in_ok-kit.ensures.kit in
+      let letter = c.in_ok-kit.ensures.after s stands in
+      let told = c.in_ok-letters.ensures.told ∙ ap (told_by c.in_ok-kit.kit c.perform-result.result) letter in
+      performed_stands n r d c.args.moment s _ c.perform-result.new.lab c.push_all.new.self c.perform-result.result c.in_ok-kit.kit c.in_ok-letters.letters
+      viewed c.requires.other c.perform-result.ensures.0 (λ e. absurd (false≢true (c.in_ok-letters.ensures.want e))) kit told (c.push_all.ensures.keeps s.posts viewed.posts),
+  search rules,
+)
