@@ -1,2 +1,1 @@
-pub mod JsonLemmas
 pub mod AddressLemmas

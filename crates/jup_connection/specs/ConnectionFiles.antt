@@ -12,7 +12,7 @@ use Rattle.std.specs.Prelude.{
   codes,
   option_and_then,
 }
-use Rattle.std.specs.Str.{is_utf8}
+use Rattle.std.specs.Str.{IsUtf8}
 use Rattle.std.specs.Net.Grammar.{IsIpv4Text}
 use Rattle.std.specs.declared.net.ipv4_addr.Ipv4Addr.{Ipv4Addr}
 use Rattle.serde_json.specs.Data.{Data}
@@ -22,10 +22,14 @@ use Rattle.jup_connection.specs.declared.connection_file.ConnectionFile.{Connect
 use Rattle.jup_connection.specs.declared.connection_file.FileFault.{FileFault}
 use Rattle.jup_connection.specs.declared.connection_file.FileFault.TheVariants.{OutOfMemory, Json, Field}
 
--- The value of a file, where it is one JSON text (RFC 8259): in UTF-8, with arrays and objects nested at
--- most 127 deep; of a key that comes twice the last value counts.
-unfoldable pub value_of : List ℕ → Option Data
-value_of file = if is_utf8 file then read file else None
+-- The file is one JSON text (RFC 8259) with this value: in UTF-8, with arrays and objects nested at most 127
+-- deep; of a key that comes twice the last value counts.
+abbrev pub HasValue : List ℕ → Data → Type 0
+HasValue file d = IsUtf8 file × (read file ≡ Some d)
+
+-- or it is none
+abbrev pub HasNoValue : List ℕ → Type 0
+HasNoValue file = IsUtf8 file → read file ≡ None
 
 -- the text that an object has at a key
 abbrev pub text_at : List ℕ → Data → Option (List ℕ)
@@ -60,7 +64,7 @@ pub record IsConnectionFile (d : Data) (file : ConnectionFile) : Type 0 where
 
 -- the bytes are a connection file with these values
 abbrev pub Reads : List ℕ → ConnectionFile → Type 0
-Reads bytes file = (d : Data) × (value_of bytes ≡ Some d) × IsConnectionFile d file
+Reads bytes file = (d : Data) × HasValue bytes d × IsConnectionFile d file
 
 abbrev pub IsNone : Data → Type 0
 IsNone d = (file : ConnectionFile) → ¬ IsConnectionFile d file
@@ -68,8 +72,8 @@ IsNone d = (file : ConnectionFile) → ¬ IsConnectionFile d file
 -- why bytes are no connection file; memory may be wanting for any
 abbrev pub IsRefused : List ℕ → FileFault → Type 0
 IsRefused bytes OutOfMemory = Unit {0}
-IsRefused bytes Json = value_of bytes ≡ None
-IsRefused bytes Field = (d : Data) × (value_of bytes ≡ Some d) × IsNone d
+IsRefused bytes Json = HasNoValue bytes
+IsRefused bytes Field = (d : Data) × HasValue bytes d × IsNone d
 
 -- out of memory, or a field where P says so
 abbrev pub FieldFault : FileFault → Type 0 → Type 0

@@ -3,7 +3,8 @@ ghost use Rattle.std.specs.Prelude.{◌≡◌, ◌↔◌, Some, None, IsTrue, If
 ghost use Rattle.std.specs.declared.net.ipv4_addr.Ipv4Addr.{Ipv4Addr};
 ghost use Rattle.serde_json.specs.View.{view};
 ghost use Rattle.jup_connection.specs.ConnectionFiles.{
-  value_of,
+  HasValue,
+  HasNoValue,
   text_at,
   port_at,
   a_port,
@@ -50,8 +51,8 @@ pub enum FileFault {
 }
 
 fn read_value(alloc: Global, bytes: &[u8]) -> Result<Value, FileFault>
-    ensures value { IfOk result (λ v. value_of bytes.now ≡ Some (view v)) }
-    ensures fault { IfErr result (λ e. JsonFault e (value_of bytes.now ≡ None)) }
+    ensures value { IfOk result (λ v. HasValue bytes.now (view v)) }
+    ensures fault { IfErr result (λ e. JsonFault e (HasNoValue bytes.now)) }
 {
     match Value::from_slice(alloc, bytes) {
         Ok(value) => Ok(value),

@@ -1,14 +1,7 @@
 -- What the steps of opening may refuse.
 use Rattle.std.specs.Prelude.{◌≡◌, List, ℕ, Some, take, slice_get}
 use Rattle.jup_wire.specs.declared.message.WireFault.{WireFault}
-use Rattle.jup_wire.specs.declared.message.WireFault.TheVariants.{
-  OutOfMemory,
-  Delimiter,
-  Count,
-  Signature,
-  Json,
-  Header,
-}
+use Rattle.jup_wire.specs.declared.message.WireFault.TheVariants.{OutOfMemory, Json, Header}
 use Rattle.serde_json.specs.Data.{Data}
 use Rattle.jup_wire.specs.declared.message.Parts.{Parts}
 use Rattle.jup_wire.specs.declared.message.Header as declared
@@ -19,19 +12,13 @@ use Rattle.jup_wire.specs.Wire.{delimiter, NoDelimiter, AreJson}
 abbrev pub JsonFault : WireFault → Type 0 → Type 0
 JsonFault OutOfMemory P = Unit {0}
 JsonFault Json P = P
-JsonFault Delimiter P = ⊥
-JsonFault Count P = ⊥
-JsonFault Signature P = ⊥
-JsonFault Header P = ⊥
+JsonFault _ P = ⊥
 
 -- out of memory, or no header where P says so
 abbrev pub HeaderFault : WireFault → Type 0 → Type 0
 HeaderFault OutOfMemory P = Unit {0}
 HeaderFault Header P = P
-HeaderFault Delimiter P = ⊥
-HeaderFault Count P = ⊥
-HeaderFault Signature P = ⊥
-HeaderFault Json P = ⊥
+HeaderFault _ P = ⊥
 
 -- the parts are JSON, with this header and this content
 pub record IsRead (p : Parts) (h : declared.Header) (content : Data) : Type 0 where

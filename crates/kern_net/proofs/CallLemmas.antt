@@ -1,5 +1,5 @@
 -- What one turn makes of a pass.
-use Rattle.std.proofs.Common.{◌≡◌, ℕ, Bool, true, false, [], ◌∷◌, ◌++◌, Result, refl, sym, ap, ◌∙◌, subst, append-nil}
+use Rattle.std.proofs.Common.{◌≡◌, ℕ, Bool, true, false, List, [], ◌∷◌, ◌++◌, Result, refl, sym, ap, ◌∙◌, subst, append-nil, append_assoc}
 use mathlib.Core.List.{IsPrefix}
 use Rattle.lab_turn.specs.History.{PassState, calls_of}
 use Rattle.lab_turn.proofs.HistoryLemmas.{calls_own, prefix_trans}
@@ -8,6 +8,10 @@ use Rattle.kern_core.specs.declared.call.Reply.{Reply}
 use Rattle.kern_core.specs.declared.fault.KernFault.{KernFault}
 use Rattle.kern_core.specs.Kernels.{is_entry}
 use Rattle.kern_net.specs.Calls.{TurnedBy, LastCall}
+
+-- calls, and then more of them
+pub calls_on : (old mid new added more : List Call) → mid ≡ old ++ added → new ≡ mid ++ more → new ≡ old ++ (added ++ more)
+calls_on old mid new added more is then = then ∙ ap (λ (l : List Call). l ++ more) is ∙ append_assoc old added more
 
 pub entry_calls : (v w : PassState Call) (call : Call) (answer : Result Reply KernFault) → TurnedBy v call answer w → is_entry answer ≡ true → w.calls ≡ v.calls ++ call ∷ []
 entry_calls v w call answer t h = (t.entered h).counted

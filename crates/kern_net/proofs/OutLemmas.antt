@@ -1,5 +1,5 @@
 -- What a pump wrote, from Fetch to Fetch.
-use Rattle.std.proofs.Common.{◌≡◌, ℕ, zero, suc, zero-add, ◌+◌, ◌-◌, ◌<◌, ◌≤◌, ◌⊎◌, inl, inr, Bool, true, false, List, [], ◌∷◌, ◌++◌, length, take, drop, Option, Some, None, Result, Ok, Err, refl, arith, sym, ap, ◌∙◌, subst, append_assoc, append-nil, length-append, All}
+use Rattle.std.proofs.Common.{◌≡◌, ℕ, zero, suc, zero-add, ◌+◌, ◌-◌, ◌<◌, ◌≤◌, ◌⊎◌, inl, inr, Bool, true, false, List, [], ◌∷◌, ◌++◌, length, take, drop, Option, Result, Ok, Err, refl, arith, sym, ap, ◌∙◌, subst, append_assoc, append-nil, length-append, All}
 use Rattle.std.specs.List.{filter}
 use Rattle.std.specs.Result.{IfErr}
 use mathlib.Core.List.{IsPrefix}
@@ -8,8 +8,10 @@ use Rattle.std.proofs.lemmas.Bool.{cases_lt}
 use Rattle.std.proofs.lemmas.List.{take-append-le, drop-append-le, drop-drop, length-drop}
 use Rattle.std.proofs.lemmas.List.Elements.{filter-append, All-push}
 use Rattle.lab_turn.specs.History.{PassState}
-use Rattle.base_streams.specs.Told.{Told, ToldFront}
+use Rattle.base_streams.specs.Told.{ToldFront}
 use Rattle.base_streams.proofs.TellLemmas.{told_on}
+use Rattle.zmtp_peer.proofs.HearingLemmas.{told_none}
+use Rattle.zmtp_peer.proofs.SendingLemmas.{front_all, front_on}
 use Rattle.kern_post.specs.declared.post.Post.{Post}
 use Rattle.kern_post.specs.Posts.{is_to}
 use Rattle.kern_core.specs.declared.call.Call.{Call}
@@ -24,7 +26,7 @@ use Rattle.kern_net.specs.declared.end.PumpEnd.TheVariants as end
 use Rattle.kern_net.specs.Ends.{end_by_kernel}
 use Rattle.kern_net.specs.Gates.{Asked, idle_said, idles, IsOpen, SameBefore}
 use Rattle.kern_net.specs.Calls.{TurnedBy, LastCall}
-use Rattle.kern_net.proofs.CallLemmas.{turned_prefix, last_call, last_kept}
+use Rattle.kern_net.proofs.CallLemmas.{calls_on, turned_prefix, last_call, last_kept}
 use Rattle.kern_net.specs.declared.pump_out.Batch.{Batch}
 use Rattle.kern_net.specs.Streams.{posts_in, window, IsStreamOf}
 use Rattle.kern_net.specs.Out.{IsFetch, HasFetched, Reaches, is_whole, WroteFront, WroteAll, WroteOut, OutEnds}
@@ -75,13 +77,6 @@ window_none c from P = let z : from - from ≡ 0 = omega arith in rw z refl
 
 -- ---- what was told
 
-pub told_none : (a : Option (List ℕ)) → Told a a []
-told_none None = tt
-told_none (Some v) = ap Some (sym (append-nil v))
-
-front_on : (a b c : Option (List ℕ)) (x y : List ℕ) → Told a b x → ToldFront b c y → ToldFront a c (x ++ y)
-front_on a b c x y t f = record { front = x ++ f.front; others = f.others; told = told_on a b c x f.front t f.told; whole = ap (λ l. x ++ l) f.whole ∙ sym (append_assoc x f.front f.others) }
-
 pub all_none : (key session : List ℕ) (a : Option (List ℕ)) → WroteAll key session a a []
 all_none key session a = record { bytes = []; stream = no_posts key session; told = told_none a }
 
@@ -110,7 +105,7 @@ no_front key session a xs = record {
   split = refl;
   bytes = [];
   stream = no_posts key session;
-  front = record { front = []; others = []; told = told_none a; whole = refl };
+  front = front_all a a [] (told_none a);
 }
 
 whole_front : (key session : List ℕ) (a b : Option (List ℕ)) (xs : List Post) → WroteAll key session a b xs → WroteFront key session a b xs
@@ -120,7 +115,7 @@ whole_front key session a b xs s = record {
   split = sym (append-nil xs);
   bytes = s.bytes;
   stream = s.stream;
-  front = record { front = s.bytes; others = []; told = s.told; whole = sym (append-nil s.bytes) };
+  front = front_all a b s.bytes s.told;
 }
 
 pub front_of : (key session : List ℕ) (a b : Option (List ℕ)) (posts : List Post) (bytes slice : List ℕ) → IsStreamOf key session posts bytes → slice ≡ bytes → ToldFront a b slice → WroteFront key session a b posts
@@ -213,7 +208,7 @@ fetching_none c old = record { added = []; calls = sym (append-nil old); fetches
 fetching_on : (c f : ℕ) (old mid new : List Call) → Fetching c old mid → new ≡ mid ++ Fetch c f ∷ [] → Fetching c old new
 fetching_on c f old mid new r e = record {
   added = r.added ++ Fetch c f ∷ [];
-  calls = e ∙ ap (λ (l : List Call). l ++ Fetch c f ∷ []) r.calls ∙ append_assoc old r.added (Fetch c f ∷ []);
+  calls = calls_on old mid new r.added (Fetch c f ∷ []) r.calls e;
   fetches = All-push (IsFetch c) r.added (Fetch c f) r.fetches (f, refl);
 }
 

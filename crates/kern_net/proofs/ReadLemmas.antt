@@ -1,9 +1,11 @@
 -- From messages to pieces, and from pieces to a whole stream.
-use Rattle.std.proofs.Common.{◌≡◌, ◌∙◌, ◌≤◌, ◌<◌, ◌+◌, zero, suc, take, inl, inr, ℕ, Bool, true, false, List, [], ◌∷◌, ◌++◌, length, Option, Some, None, refl, sym, ap, subst, append_assoc, append-nil, length-append, arith}
+use Rattle.std.proofs.Common.{◌≡◌, ◌∙◌, ◌≤◌, ◌<◌, ◌+◌, zero, suc, take, inl, inr, ℕ, Bool, true, false, List, [], ◌∷◌, ◌++◌, length, Option, refl, sym, ap, subst, append_assoc, append-nil, length-append, arith}
 use Rattle.std.proofs.lemmas.List.{length-take-le}
 use Rattle.base_streams.specs.Told.{Told}
 use Rattle.base_streams.proofs.TellLemmas.{told_on}
 use Rattle.zmtp_wire.specs.Stream.{SideState, StandsFor, Completes}
+use Rattle.zmtp_peer.proofs.EchoLemmas.{completes_none}
+use Rattle.zmtp_peer.proofs.HearingLemmas.{told_none}
 use Rattle.lab_turn.specs.History.{PassState}
 use Rattle.jup_wire.specs.declared.channel.Channel.{Channel}
 use Rattle.kern_core.specs.declared.call.Call.{Call}
@@ -13,10 +15,7 @@ use Rattle.kern_net.specs.Asking.{Asks, NoMore, Asked, Dropped}
 use Rattle.kern_net.specs.ReadEnds.{StopsBy, StopsPiece, EndsBy, IsWornOut, most_reads, asks_all}
 use Rattle.kern_net.specs.Reading.{AsksFront, Hears, ReadOut}
 use Rattle.kern_net.proofs.AskLemmas.{asks_not}
-
-told_none : (given : Option (List ℕ)) → Told given given []
-told_none None = tt
-told_none (Some bytes) = ap Some (sym (append-nil bytes))
+use Rattle.kern_net.proofs.CallLemmas.{calls_on}
 
 -- ---- ends
 
@@ -47,8 +46,7 @@ later (pump.Refused fault) old mid added pass is stops = record {
   call = stops.call;
   earlier = added ++ stops.earlier;
   history = stops.history;
-  own = stops.own ∙ ap (λ (l : List Call). l ++ (stops.earlier ++ stops.call ∷ [])) is
-      ∙ append_assoc old added (stops.earlier ++ stops.call ∷ [])
+  own = calls_on old mid pass.calls added (stops.earlier ++ stops.call ∷ []) is stops.own
       ∙ ap (λ (l : List Call). old ++ l) (sym (append_assoc added stops.earlier (stops.call ∷ [])));
   answered = stops.answered;
 }
@@ -94,15 +92,6 @@ ends_by pump.Worn old pass ended failed bytes side on good stops = (on, good, st
 
 -- ---- what a side completes
 
-completes_none : (side : SideState) → Completes side [] [] side
-completes_none side = record {
-  role = refl;
-  stands = λ stream messages k.
-      let P : List ℕ → Type 0 = λ l. StandsFor side l (messages ++ []) in
-      let Q : List (List (List ℕ)) → Type 0 = λ l. StandsFor side stream l in
-      subst P (sym (append-nil stream)) (subst Q (sym (append-nil messages)) k);
-}
-
 completes_on : (s t u : SideState) (x y : List ℕ) (m n : List (List (List ℕ))) → Completes s x m t → Completes t y n u
     → Completes s (x ++ y) (m ++ n) u
 completes_on s t u x y m n p q = record {
@@ -147,7 +136,7 @@ front_on key channel connection m n old mid new is_all p q =
       added = p.added ++ q.added;
       messages_are = ap (λ (l : List (List (List ℕ))). l ++ n) m_is ∙ ap (λ (l : List (List (List ℕ))). p.front ++ l) q.messages_are ∙ sym (append_assoc p.front q.front q.others);
       asks = asks_on key channel connection p.front q.front p.added q.added p.asks q.asks;
-      calls = q.calls ∙ ap (λ (l : List Call). l ++ q.added) p.calls ∙ append_assoc old p.added q.added;
+      calls = calls_on old mid new p.added q.added p.calls q.calls;
       all = q.all;
     }
 
@@ -354,27 +343,32 @@ stopped key channel connection s t u held g h k ended failed reads x old new mid
 told_more : (g h k : Option (List ℕ)) (x : List ℕ) → Told g h x → Told h k [] → Told g k x
 told_more g h k x p q = let T : List ℕ → Type 0 = λ l. Told g k l in subst T (append-nil x) (told_on g h k x [] p q)
 
+-- no more was read, and reading ended so
+ends_there : (key : List ℕ) (channel : Channel) (connection : ℕ) (s t : SideState) (held : List (List (List ℕ))) (g h k : Option (List ℕ)) (ended failed : Bool) (reads : ℕ) (old new : PassState Call) (e : PumpEnd)
+    → UnderWay key channel connection s t held g h reads old.calls new.calls → Told h k [] → asks_all e ≡ true
+    → ((bytes : List ℕ) → reads ≤ length bytes → EndsBy e old.calls new ended failed bytes t)
+    → ReadOut key channel connection s held g k ended failed old new e
+ends_there key channel connection s t held g h k ended failed reads old new e p told all cause =
+    let H : Bool → Type 0 = λ b. Hears key channel connection s t held p.bytes old.calls new.calls b in
+    record {
+      bytes = p.bytes;
+      after = t;
+      told = told_more g h k p.bytes p.told told;
+      hears = subst H (sym all) p.hears;
+      cause = cause p.bytes p.many;
+    }
+
 pub ended_there : (key : List ℕ) (channel : Channel) (connection : ℕ) (s t : SideState) (held : List (List (List ℕ))) (g h k : Option (List ℕ)) (ended failed : Bool) (reads : ℕ) (old new : PassState Call)
     → UnderWay key channel connection s t held g h reads old.calls new.calls → Told h k [] → ended ≡ true → failed ≡ false
     → ReadOut key channel connection s held g k ended failed old new pump.PeerEnded
-ended_there key channel connection s t held g h k ended failed reads old new p told end good = record {
-  bytes = p.bytes;
-  after = t;
-  told = told_more g h k p.bytes p.told told;
-  hears = p.hears;
-  cause = (end, good);
-}
+ended_there key channel connection s t held g h k ended failed reads old new p told end good =
+    ends_there key channel connection s t held g h k ended failed reads old new pump.PeerEnded p told refl (λ bytes many. (end, good))
 
 pub failed_there : (key : List ℕ) (channel : Channel) (connection : ℕ) (s t : SideState) (held : List (List (List ℕ))) (g h k : Option (List ℕ)) (ended failed : Bool) (reads : ℕ) (old new : PassState Call)
     → UnderWay key channel connection s t held g h reads old.calls new.calls → Told h k [] → ended ≡ false → failed ≡ true
     → ReadOut key channel connection s held g k ended failed old new pump.ReadFailed
-failed_there key channel connection s t held g h k ended failed reads old new p told on bad = record {
-  bytes = p.bytes;
-  after = t;
-  told = told_more g h k p.bytes p.told told;
-  hears = p.hears;
-  cause = (on, inl bad);
-}
+failed_there key channel connection s t held g h k ended failed reads old new p told on bad =
+    ends_there key channel connection s t held g h k ended failed reads old new pump.ReadFailed p told refl (λ bytes many. (on, inl bad))
 
 worn_out : (reads : ℕ) (bytes : List ℕ) → 4294967295 ≤ reads → reads ≤ length bytes → IsWornOut bytes
 unfolding most_reads
@@ -383,10 +377,6 @@ worn_out reads bytes enough many = omega arith
 pub read_enough : (key : List ℕ) (channel : Channel) (connection : ℕ) (s t : SideState) (held : List (List (List ℕ))) (g h : Option (List ℕ)) (ended failed : Bool) (reads : ℕ) (old new : PassState Call)
     → UnderWay key channel connection s t held g h reads old.calls new.calls → 4294967295 ≤ reads → ended ≡ false → failed ≡ false
     → ReadOut key channel connection s held g h ended failed old new pump.ReadFailed
-read_enough key channel connection s t held g h ended failed reads old new p enough on good = record {
-  bytes = p.bytes;
-  after = t;
-  told = p.told;
-  hears = p.hears;
-  cause = (on, inr (good, worn_out reads p.bytes enough p.many));
-}
+read_enough key channel connection s t held g h ended failed reads old new p enough on good =
+    ends_there key channel connection s t held g h h ended failed reads old new pump.ReadFailed p (told_none h) refl
+    (λ bytes many. (on, inr (good, worn_out reads bytes enough many)))

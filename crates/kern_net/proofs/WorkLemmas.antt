@@ -1,5 +1,5 @@
 -- Rounds of the worker.
-use Rattle.std.proofs.Common.{◌≡◌, ℕ, ◌+◌, inl, inr, ⊎_elim, Bool, true, List, ◌++◌, length, Option, Some, Result, Ok, Err, refl, arith, ap, ◌∙◌, subst, append_assoc, length-append}
+use Rattle.std.proofs.Common.{◌≡◌, ℕ, ◌+◌, inl, inr, ⊎_elim, Bool, true, List, ◌++◌, length, Option, Some, Result, Ok, Err, refl, arith, subst, length-append}
 use Rattle.std.specs.Result.{IfErr}
 use Rattle.std.proofs.lemmas.List.Elements.{All-append}
 use Rattle.lab_turn.specs.History.{PassState}
@@ -14,7 +14,7 @@ use Rattle.kern_net.specs.declared.end.PumpEnd.TheVariants as end
 use Rattle.kern_net.specs.Gates.{Asked}
 use Rattle.kern_net.specs.Calls.{TurnedBy}
 use Rattle.kern_net.specs.Work.{outcome_of, IsSlice, is_short, SliceEnds, Sliced, SlicedShort}
-use Rattle.kern_net.proofs.CallLemmas.{entry_calls, no_entry_calls, last_call}
+use Rattle.kern_net.proofs.CallLemmas.{calls_on, entry_calls, no_entry_calls, last_call}
 
 -- what a Slice's answer says is so
 ended_as : (v w : PassState Call) (o : Option (Result Bool PumpEnd)) (e e' : PumpEnd) → o ≡ Some (Err e) → SliceEnds v w e → o ≡ Some (Err e') → SliceEnds v w e'
@@ -50,7 +50,7 @@ sliced_then old mid new a b d s t =
     let c = s.count in let q = s.idle in let c' = t.count in let q' = t.idle in
     record {
       added = s.added ++ t.added;
-      calls = t.calls ∙ ap (λ (x : List Call). x ++ t.added) s.calls ∙ append_assoc old s.added t.added;
+      calls = calls_on old mid new s.added t.added s.calls t.calls;
       slices = All-append IsSlice s.added t.added s.slices t.slices;
       count = omega (arith, l, c, c');
       idle = omega (arith, l, q, q');
@@ -63,7 +63,7 @@ sliced_end old mid new a b d e s t =
     let c = s.count in let q = s.idle in let q' = t.idle in
     record {
       added = s.added ++ t.added;
-      calls = t.calls ∙ ap (λ (x : List Call). x ++ t.added) s.calls ∙ append_assoc old s.added t.added;
+      calls = calls_on old mid new s.added t.added s.calls t.calls;
       slices = All-append IsSlice s.added t.added s.slices t.slices;
       count = ⊎_elim (λ (c' : d.before_yes ≡ b.before_yes + length t.added). inl (omega (arith, l, c, c')))
           (λ (c' : (d.before_yes ≡ b.before_yes + length t.added + 1) × (is_short e ≡ true)). let f = c'.0 in inr (omega (arith, l, c, f), c'.1)) t.count;

@@ -8,7 +8,7 @@ ghost use Rattle.kern_core.specs.declared.call.Call.TheVariants.{Arrive, Subscri
 ghost use Rattle.kern_core.specs.Kernels.{is_entry};
 ghost use Rattle.kern_net.specs.Asking.{subscription_frames, IsUnopened, IsNoSubscription};
 ghost use Rattle.kern_net.specs.ReadEnds.{IsReaderCall, StopsBy};
-ghost use Rattle.kern_net.specs.Reading.{AsksFront};
+ghost use Rattle.kern_net.specs.Reading.{AskedFor};
 
 use crate::end::PumpEnd;
 use crate::gate::Gate;
@@ -172,13 +172,8 @@ fn subscribe<R: Wait, G: Gate>(
     requires iopub { place.now.channel ≡ Iopub }
     ensures same { (pass.new.turnstile ≡ desk.now) × (pass.new.seat ≡ pass.old.seat) }
     ensures gate { G.asked gate.new ≡ G.asked gate.old }
-    ensures ok { OnOk result
-        (AsksFront place.now.key.now Iopub place.now.connection (frames.now ∷ [])
-        pass.old.calls pass.new.calls true) }
-    ensures err { IfErr result (λ e. StopsBy e pass.old.calls pass.new) }
-    ensures front { OnErr result
-        (AsksFront place.now.key.now Iopub place.now.connection (frames.now ∷ [])
-        pass.old.calls pass.new.calls false) }
+    ensures asked { AskedFor place.now.key.now Iopub place.now.connection (frames.now ∷ [])
+        pass.old pass.new result }
 {
     let Some(Wanted { wants, prefix }) = wanted_in(frames) else {
         return Ok(());
@@ -207,13 +202,8 @@ fn arrive<R: Wait, G: Gate>(
     requires other { place.now.channel ≡ Iopub → ⊥ }
     ensures same { (pass.new.turnstile ≡ desk.now) × (pass.new.seat ≡ pass.old.seat) }
     ensures gate { G.asked gate.new ≡ G.asked gate.old }
-    ensures ok { OnOk result
-        (AsksFront place.now.key.now place.now.channel place.now.connection (frames ∷ [])
-        pass.old.calls pass.new.calls true) }
-    ensures err { IfErr result (λ e. StopsBy e pass.old.calls pass.new) }
-    ensures front { OnErr result
-        (AsksFront place.now.key.now place.now.channel place.now.connection (frames ∷ [])
-        pass.old.calls pass.new.calls false) }
+    ensures asked { AskedFor place.now.key.now place.now.channel place.now.connection (frames ∷ [])
+        pass.old pass.new result }
 {
     match opened(alloc, frames, place.key) {
         Ok(Some(message)) => {
@@ -244,13 +234,8 @@ pub(crate) fn ask_for<R: Wait, G: Gate>(
     requires { pass.old.turnstile ≡ desk.now }
     ensures same { (pass.new.turnstile ≡ desk.now) × (pass.new.seat ≡ pass.old.seat) }
     ensures gate { G.asked gate.new ≡ G.asked gate.old }
-    ensures ok { OnOk result
-        (AsksFront place.now.key.now place.now.channel place.now.connection (frames ∷ [])
-        pass.old.calls pass.new.calls true) }
-    ensures err { IfErr result (λ e. StopsBy e pass.old.calls pass.new) }
-    ensures front { OnErr result
-        (AsksFront place.now.key.now place.now.channel place.now.connection (frames ∷ [])
-        pass.old.calls pass.new.calls false) }
+    ensures asked { AskedFor place.now.key.now place.now.channel place.now.connection (frames ∷ [])
+        pass.old pass.new result }
 {
     if place.channel == Channel::Iopub {
         return subscribe(rt, alloc, desk, pass, gate, place, &frames);

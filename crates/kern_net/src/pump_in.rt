@@ -1,10 +1,9 @@
 //! Reading from a connection to its end.
-ghost use Rattle.std.specs.Prelude.{◌≡◌, ◌++◌, ◌∷◌, ◌<◌, ◌≤◌, [], ℕ, length, true, false, OnOk, OnErr, IfErr};
+ghost use Rattle.std.specs.Prelude.{◌≡◌, false};
 ghost use Rattle.zmtp_wire.specs.declared.fault.StreamFault.{StreamFault};
 ghost use Rattle.kern_net.specs.declared.end.PumpEnd.TheVariants as pump;
 ghost use Rattle.kern_net.specs.Gates.{IsOpen};
-ghost use Rattle.kern_net.specs.ReadEnds.{StopsBy, StopsPiece, asks_all};
-ghost use Rattle.kern_net.specs.Reading.{AsksFront, Hears, ReadOut};
+ghost use Rattle.kern_net.specs.Reading.{AskedFor, PieceAskedFor, ReadOut};
 
 use crate::asking::ask_for;
 use crate::end::PumpEnd;
@@ -43,13 +42,8 @@ fn ask_for_all<R: Wait, G: Gate>(
     requires { pass.old.turnstile ≡ desk.now }
     ensures same { (pass.new.turnstile ≡ desk.now) × (pass.new.seat ≡ pass.old.seat) }
     ensures gate { G.asked gate.new ≡ G.asked gate.old }
-    ensures ok { OnOk result
-        (AsksFront place.now.key.now place.now.channel place.now.connection messages
-        pass.old.calls pass.new.calls true) }
-    ensures err { IfErr result (λ e. StopsBy e pass.old.calls pass.new) }
-    ensures front { OnErr result
-        (AsksFront place.now.key.now place.now.channel place.now.connection messages
-        pass.old.calls pass.new.calls false) }
+    ensures asked { AskedFor place.now.key.now place.now.channel place.now.connection messages
+        pass.old pass.new result }
 {
     for frames in messages.into_vec() {
         match ask_for(rt, alloc, desk, pass, gate, place, frames) {
@@ -74,13 +68,8 @@ fn take_piece<R: Wait, G: Gate>(
     requires { pass.old.turnstile ≡ desk.now }
     ensures same { (pass.new.turnstile ≡ desk.now) × (pass.new.seat ≡ pass.old.seat) }
     ensures gate { G.asked gate.new ≡ G.asked gate.old }
-    ensures ok { OnOk result
-        (Hears place.now.key.now place.now.channel place.now.connection side.old side.new [] piece.now
-        pass.old.calls pass.new.calls true) }
-    ensures hears { IfErr result (λ e.
-        Hears place.now.key.now place.now.channel place.now.connection side.old side.new [] piece.now
-        pass.old.calls pass.new.calls (asks_all e)) }
-    ensures err { IfErr result (λ e. StopsPiece e pass.old.calls pass.new side.new) }
+    ensures asked { PieceAskedFor place.now.key.now place.now.channel place.now.connection
+        side.old side.new piece.now pass.old pass.new result }
 {
     match feed(alloc, side, piece) {
         Ok(Fed { messages, broken }) => {

@@ -1,2 +1,3 @@
-pub mod Pacing
 pub mod Ends
+pub mod Lanes
+pub mod Pacing

@@ -1,5 +1,6 @@
 //! One connection, from its handshake to its Leave.
 ghost use Rattle.std.specs.Prelude.{◌≡◌};
+ghost use Rattle.kern_serve.specs.Lanes.{AreOf};
 
 use crate::bell::Bell;
 use crate::gates::{InGate, OutGate};
@@ -38,6 +39,13 @@ pub struct Shared {
     /// The session's name in the headers of what the kernel sends.
     pub session: Text,
     pub listeners: Listeners,
+}
+
+/// The two passes that a lane has for good.
+#[derive(Drop)]
+pub struct Seats {
+    pub first: Pass,
+    pub second: Pass,
 }
 
 // The two ends of a connection: its socket, and whether its reader has closed it.
@@ -144,15 +152,13 @@ fn pump<R: Wait + Clock + Threads + Sync>(
     channel: Channel,
     joined: Joined,
     met: Met,
-    first: Pass,
-    second: Pass,
-) -> (Pass, Pass)
-    requires first { first.turnstile ≡ shared.now.desk }
-    requires second { second.turnstile ≡ shared.now.desk }
-    ensures first { result.0.turnstile ≡ shared.now.desk }
-    ensures second { result.1.turnstile ≡ shared.now.desk }
+    seats: Seats,
+) -> Seats
+    requires { AreOf shared.now.desk seats }
+    ensures { AreOf shared.now.desk result }
 {
     let Met { peer, stream } = met;
+    let Seats { first, second } = seats;
     // The reader takes the peer out of here.
     let mut peer = Some(peer);
     let place = Place {
@@ -164,7 +170,7 @@ fn pump<R: Wait + Clock + Threads + Sync>(
         stream,
         is_closed: AtomicBool::new(false),
     };
-    thread::join(
+    let (first, second) = thread::join(
         rt,
         || -> Pass
             requires { first.turnstile ≡ shared.now.desk }
@@ -174,7 +180,8 @@ fn pump<R: Wait + Clock + Threads + Sync>(
             requires { second.turnstile ≡ shared.now.desk }
             ensures { result.turnstile ≡ shared.entry.now.desk }
         { write_on(rt, alloc, shared, second, joined, &ends) },
-    )
+    );
+    Seats { first, second }
 }
 
 // The identity of a peer, or an empty one.
@@ -242,25 +249,22 @@ pub fn serve_connection<R: Wait + Clock + Threads + Sync>(
     shared: &Shared,
     channel: Channel,
     stream: TcpStream,
-    mut first: Pass,
-    second: Pass,
-) -> (Pass, Pass)
-    requires first { first.turnstile ≡ shared.now.desk }
-    requires second { second.turnstile ≡ shared.now.desk }
-    ensures first { result.0.turnstile ≡ shared.now.desk }
-    ensures second { result.1.turnstile ≡ shared.now.desk }
+    mut seats: Seats,
+) -> Seats
+    requires { AreOf shared.now.desk seats }
+    ensures { AreOf shared.now.desk result }
 {
     let Some(peer) = meet(alloc, &stream, channel) else {
         drop(stream);
-        return (first, second);
+        return seats;
     };
-    let Some(joined) = join_peer(rt, alloc, shared, &mut first, channel, &peer) else {
+    let Some(joined) = join_peer(rt, alloc, shared, &mut seats.first, channel, &peer) else {
         drop(peer);
         drop(stream);
-        return (first, second);
+        return seats;
     };
     let met = Met { peer, stream };
-    let (mut first, second) = pump(rt, alloc, shared, channel, joined, met, first, second);
-    leave(rt, shared, &mut first, joined.connection);
-    (first, second)
+    seats = pump(rt, alloc, shared, channel, joined, met, seats);
+    leave(rt, shared, &mut seats.first, joined.connection);
+    seats
 }

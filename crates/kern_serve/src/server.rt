@@ -2,9 +2,10 @@
 ghost use Rattle.std.specs.Prelude.{◌≡◌, All, IfOk};
 ghost use Rattle.std.specs.Arc.{arc_value};
 ghost use Rattle.kern_serve.specs.Ends.{served};
+ghost use Rattle.kern_serve.specs.Lanes.{AreOf, IsOf};
 
 use crate::bell::Bell;
-use crate::connection::{Shared, serve_connection};
+use crate::connection::{Seats, Shared, serve_connection};
 use crate::fault::ServerFault;
 use crate::gates::WorkGate;
 use crate::listeners::Listeners;
@@ -54,19 +55,15 @@ fn lane<R: Wait + Clock + Threads + Sync>(
     alloc: Global,
     shared: &Shared,
     channel: Channel,
-    mut first: Pass,
-    mut second: Pass,
+    mut seats: Seats,
 )
-    requires first { first.turnstile ≡ shared.now.desk }
-    requires second { second.turnstile ≡ shared.now.desk }
+    requires { AreOf shared.now.desk seats }
 {
     let listener = shared.listeners.of(channel);
     for _ in rt.forever() {
         match listener.accept() {
             Ok((stream, _)) => {
-                (first, second) = serve_connection(
-                    rt, alloc, shared, channel, stream, first, second,
-                );
+                seats = serve_connection(rt, alloc, shared, channel, stream, seats);
             }
             Err(_) => thread::sleep(rt, Duration::from_millis(RETRY_MILLIS)),
         }
@@ -85,26 +82,45 @@ fn beats<R: Wait + Clock>(rt: &R, alloc: Global, listener: &TcpListener) {
     }
 }
 
-fn start_lane<R: Wait + Clock + Threads + Clone + Send + Sync + Drop + 'static>(
+// What a thread of the server does for good.
+#[derive(Drop)]
+enum Task {
+    // Serves one connection of a channel after another.
+    Lane(Channel, Seats),
+    // Serves one connection of the heartbeat after another.
+    Beats,
+}
+
+fn perform<R: Wait + Clock + Threads + Sync>(rt: &R, alloc: Global, shared: &Shared, task: Task)
+    requires { IsOf shared.now.desk task }
+{
+    match task {
+        Task::Lane(channel, seats) => lane(rt, alloc, shared, channel, seats),
+        Task::Beats => beats(rt, alloc, shared.listeners.heartbeat()),
+    }
+}
+
+fn start_task<R: Wait + Clock + Threads + Clone + Send + Sync + Drop + 'static>(
     rt: &R,
     alloc: Global,
-    shared: Arc<Shared>,
-    channel: Channel,
-    first: Pass,
-    second: Pass,
+    shared: &Arc<Shared>,
+    task: Task,
 ) -> Result<(), ServerFault>
-    requires first { first.turnstile ≡ (arc_value shared).desk }
-    requires second { second.turnstile ≡ (arc_value shared).desk }
+    requires { IsOf (arc_value shared.now).desk task }
 {
     let Ok(host) = rt.clone() else {
+        drop(task);
+        return Err(ServerFault::OutOfMemory);
+    };
+    let Ok(mine) = Arc::try_clone(shared) else {
+        drop(task);
         return Err(ServerFault::OutOfMemory);
     };
     let started = thread::Builder::new().spawn(
         rt,
         move ||
-            requires first { first.turnstile ≡ (arc_value shared).desk }
-            requires second { second.turnstile ≡ (arc_value shared).desk }
-        { lane(&host, alloc, &shared, channel, first, second) },
+            requires { IsOf (arc_value mine).desk task }
+        { perform(&host, alloc, &mine, task) },
     );
     match started {
         Ok(_) => Ok(()),
@@ -112,31 +128,7 @@ fn start_lane<R: Wait + Clock + Threads + Clone + Send + Sync + Drop + 'static>(
     }
 }
 
-// Starts a lane with two of the passes.
-fn start_next<R: Wait + Clock + Threads + Clone + Send + Sync + Drop + 'static>(
-    rt: &R,
-    alloc: Global,
-    shared: &Arc<Shared>,
-    channel: Channel,
-    passes: &mut Vec<Pass>,
-) -> Result<(), ServerFault>
-    requires { All (λ p. p.turnstile ≡ (arc_value shared.now).desk) passes.old.items }
-    ensures { All (λ p. p.turnstile ≡ (arc_value shared.now).desk) passes.new.items }
-{
-    let (Some(first), Some(second)) = (passes.pop(), passes.pop()) else {
-        return Err(ServerFault::System);
-    };
-    match Arc::try_clone(shared) {
-        Ok(mine) => start_lane(rt, alloc, mine, channel, first, second),
-        Err(_) => {
-            drop(first);
-            drop(second);
-            Err(ServerFault::OutOfMemory)
-        }
-    }
-}
-
-// Starts the lanes of a channel.
+// Starts the lanes of a channel, each with two of the passes.
 fn start_lanes<R: Wait + Clock + Threads + Clone + Send + Sync + Drop + 'static>(
     rt: &R,
     alloc: Global,
@@ -148,40 +140,27 @@ fn start_lanes<R: Wait + Clock + Threads + Clone + Send + Sync + Drop + 'static>
     ensures { All (λ p. p.turnstile ≡ (arc_value shared.now).desk) passes.new.items }
 {
     for _ in 0..PLACES {
-        start_next(rt, alloc, shared, channel, passes)?;
+        let (Some(first), Some(second)) = (passes.pop(), passes.pop()) else {
+            return Err(ServerFault::System);
+        };
+        start_task(
+            rt,
+            alloc,
+            shared,
+            Task::Lane(channel, Seats { first, second }),
+        )?;
     }
     Ok(())
 }
 
-// Starts a thread that serves the heartbeat.
-fn start_beat<R: Wait + Clock + Threads + Clone + Send + Sync + Drop + 'static>(
-    rt: &R,
-    alloc: Global,
-    shared: Arc<Shared>,
-) -> Result<(), ServerFault> {
-    let Ok(host) = rt.clone() else {
-        drop(shared);
-        return Err(ServerFault::OutOfMemory);
-    };
-    let started = thread::Builder::new().spawn(rt, move || {
-        beats(&host, alloc, shared.listeners.heartbeat())
-    });
-    match started {
-        Ok(_) => Ok(()),
-        Err(_) => Err(ServerFault::System),
-    }
-}
-
+// Starts the threads that serve the heartbeat.
 fn start_beats<R: Wait + Clock + Threads + Clone + Send + Sync + Drop + 'static>(
     rt: &R,
     alloc: Global,
     shared: &Arc<Shared>,
 ) -> Result<(), ServerFault> {
     for _ in 0..PLACES {
-        match Arc::try_clone(shared) {
-            Ok(mine) => start_beat(rt, alloc, mine)?,
-            Err(_) => return Err(ServerFault::OutOfMemory),
-        }
+        start_task(rt, alloc, shared, Task::Beats)?;
     }
     Ok(())
 }

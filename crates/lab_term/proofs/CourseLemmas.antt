@@ -8,7 +8,7 @@ use Rattle.lab_term.specs.declared.fault.TermFault.{TermFault}
 use Rattle.lab_term.specs.declared.fault.TermFault.TheVariants.{OutOfMemory, Ended, ReadFailed, WriteFailed, Wire}
 use Rattle.lab_term.specs.declared.fault.WireCause.TheVariants.{Stream, Message}
 use Rattle.lab_term.specs.declared.follow.Course.{Course}
-use Rattle.lab_term.specs.Events.{Notice, IsNotice, IsUnopened, AreNotices, NoNotice, is_of, is_error, is_idle, is_status, text_of, shown, printed, has_error}
+use Rattle.lab_term.specs.Events.{Notice, IsNotice, IsUnopened, AreNotices, NoNotice, is_of, is_error, is_idle, is_status, text_of, shown, printed, has_error, ends}
 use Rattle.zmtp_wire.specs.Stream.{SideState, StandsFor, Completes}
 use Rattle.zmtp_wire.specs.Writing.{message_bytes}
 use Rattle.zmtp_wire.specs.declared.role.Role.TheVariants.{Dealer, Sub}
@@ -18,7 +18,7 @@ use Rattle.zmtp_peer.specs.Hearing.{Heard}
 use Rattle.zmtp_peer.proofs.HearingLemmas.{heard_less}
 use Rattle.lab_term.specs.declared.subscriber.Subscriber.{Subscriber}
 use Rattle.lab_term.specs.Reading.{Holds, Waited}
-use Rattle.lab_term.specs.Courses.{StopsAt, Passes, Takes, TakesOne, Cut}
+use Rattle.lab_term.specs.Courses.{EndsIn, StopsAt, Passes, Takes, TakesOne, Cut}
 use Rattle.lab_term.proofs.EventLemmas.{notices_more, notice_one, printed_more, printed_one, error_more}
 
 -- ---- one message
@@ -133,7 +133,7 @@ takes_idle key header q q1 q2 frames out o1 o2 failed next course e p t i j f =
       are = g.are;
       wrote = g.wrote;
       failed = f ∙ g.failed_is;
-      idle = λ _. record { before = p.notices; last = t.notice; are = refl; idle = sym t.idle ∙ i };
+      idle = λ _. record { before = p.notices; last = t.notice; are = refl; is = sym t.idle ∙ i };
       all = λ h. absurd cc;
     }
 
@@ -200,7 +200,7 @@ passes_status key q q1 q2 frames n e p is s =
       queue_is = g.queue_is;
       notices = g.notices;
       are = g.are;
-      status = λ _. record { before = p.notices; last = n; are = refl; status = s };
+      status = λ _. record { before = p.notices; last = n; are = refl; is = s };
       all = λ h. absurd cc;
     }
 
@@ -282,6 +282,15 @@ holds_on before g1 g2 s t passed out piece n empty r o fits q b h =
       broken_is = b;
     }
 
+-- messages end as the last of them do
+ends_behind : (holds : Notice → Bool) (before notices : List Notice) → EndsIn holds notices → EndsIn holds (before ++ notices)
+ends_behind holds before notices e = record {
+  before = before ++ e.before;
+  last = e.last;
+  are = ap (λ (l : List Notice). before ++ l) e.are ∙ sym (append_assoc before e.before (e.last ∷ []));
+  is = e.is;
+}
+
 pub waiting_first : (key : List ℕ) (before given : Option (List ℕ)) (s : Subscriber) (n : ℕ) → Holds before given s [] n → Waiting key before given s n
 waiting_first key before given s n h = record { passed = []; holds = h; notices = []; are = NoNotice }
 
@@ -295,18 +304,12 @@ waiting_on key before g1 g2 s t u n found none p e b f w = record {
 
 pub waited : (key : List ℕ) (before g1 : Option (List ℕ)) (s t : Subscriber) (n : ℕ) (found : Bool) → found ≡ true → Passes key s.queue.items t.queue.items found → t.side ≡ s.side → t.broken ≡ s.broken → Waiting key before g1 s n → Waited key before g1 t
 waited key before g1 s t n found some p e b w =
-    let last = p.status some in
     record {
       passed = w.passed ++ p.taken;
       holds = holds_less before g1 t (w.passed ++ p.taken) n (holds_passed before g1 s t w.passed p.taken n e b p.queue_is w.holds);
       notices = w.notices ++ p.notices;
       are = notices_more key w.passed p.taken w.notices p.notices w.are p.are;
-      status = record {
-        before = w.notices ++ last.before;
-        last = last.last;
-        are = ap (λ (l : List Notice). w.notices ++ l) last.are ∙ sym (append_assoc w.notices last.before (last.last ∷ []));
-        status = last.status;
-      };
+      status = ends_behind is_status w.notices p.notices (p.status some);
     }
 
 -- the request's messages were printed up to the subscriber's queue, and its idle wasn't among them
@@ -357,7 +360,6 @@ follows_read key header before g1 g2 t u passed n out o1 failed f w = record {
 
 pub followed : (key header : List ℕ) (before g1 : Option (List ℕ)) (s t : Subscriber) (passed : List (List (List ℕ))) (n : ℕ) (out o1 o2 : Option (List ℕ)) (failed : Bool) (course : Course) → Takes key header s.queue.items t.queue.items o1 o2 course → t.side ≡ s.side → t.broken ≡ s.broken → course.is_idle ≡ true → Follows key header before g1 s passed n out o1 failed → Followed key header before g1 passed out o2 (not (failed || course.has_failed))
 followed key header before g1 s t passed n out o1 o2 failed course p e b i w =
-    let last = p.idle i in
     let h = holds_passed before g1 s t (passed ++ w.taken) p.taken n e b p.queue_is w.holds in
     let Q : List (List (List ℕ)) → Type 0 = λ l. h.messages ≡ l ++ t.queue.items in
     record {
@@ -369,12 +371,7 @@ followed key header before g1 s t passed n out o1 o2 failed course p e b i w =
       messages_are = subst Q (append_assoc passed w.taken p.taken) h.messages_are;
       notices = w.notices ++ p.notices;
       are = notices_more key w.taken p.taken w.notices p.notices w.are p.are;
-      idle = record {
-        before = w.notices ++ last.before;
-        last = last.last;
-        are = ap (λ (l : List Notice). w.notices ++ l) last.are ∙ sym (append_assoc w.notices last.before (last.last ∷ []));
-        idle = last.idle;
-      };
+      idle = ends_behind (ends header) w.notices p.notices (p.idle i);
       wrote = wrote_more header out o1 o2 w.notices p.notices w.wrote p.wrote;
       good_is = ap not (failed_more header w.notices p.notices failed course.has_failed w.failed_is p.failed);
     }

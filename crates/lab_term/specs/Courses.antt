@@ -9,19 +9,20 @@ use Rattle.lab_term.specs.declared.follow.Course.{Course}
 use Rattle.lab_term.specs.Events.{Notice, IsNotice, IsUnopened, AreNotices, is_of, is_error, is_status, shown}
 use Rattle.lab_term.specs.Events.{printed, has_error, ends}
 
--- the last of these messages tells a status
-pub record EndsInStatus (notices : List Notice) : Type 0 where
+-- the last of these messages is one for which this is true
+pub record EndsIn (holds : Notice → Bool) (notices : List Notice) : Type 0 where
   pub before : List Notice
   pub last : Notice
   pub are : notices ≡ before ++ last ∷ []
-  pub status : is_status last ≡ true
+  pub is : holds last ≡ true
+
+-- the last of these messages tells a status
+abbrev pub EndsInStatus : List Notice → Type 0
+EndsInStatus notices = EndsIn is_status notices
 
 -- the last of these messages says that the kernel is done with the request
-pub record EndsInIdle (header : List ℕ) (notices : List Notice) : Type 0 where
-  pub before : List Notice
-  pub last : Notice
-  pub are : notices ≡ before ++ last ∷ []
-  pub idle : ends header last ≡ true
+abbrev pub EndsInIdle : List ℕ → List Notice → Type 0
+EndsInIdle header notices = EndsIn (ends header) notices
 
 -- why messages were taken no further: memory was wanting, the writer failed, or the next one doesn't open
 abbrev pub StopsAt : List ℕ → List (List (List ℕ)) → Bool → TermFault → Type 0

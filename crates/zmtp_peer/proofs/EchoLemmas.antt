@@ -14,7 +14,7 @@ use Rattle.zmtp_peer.specs.Ends.{Ends, EndsReading, Explains, NoPeer, Stops, Ref
 use Rattle.zmtp_peer.specs.Hearing.{Heard}
 use Rattle.zmtp_peer.specs.Sending.{IsHandshakeOf, WroteFront, WroteWhole, messages_bytes, Echoes}
 use Rattle.zmtp_peer.specs.Beating.{EchoedPiece, EchoedRound, LostPiece, LostRound}
-use Rattle.zmtp_peer.proofs.HearingLemmas.{most_is, told_none}
+use Rattle.zmtp_peer.proofs.HearingLemmas.{explains_stop, most_is, told_none, told_whole}
 use Rattle.zmtp_peer.proofs.SendingLemmas.{front_all, front_before, front_on}
 
 pub bytes_on : (m n : List (List (List ℕ))) → messages_bytes (m ++ n) ≡ messages_bytes m ++ messages_bytes n
@@ -39,6 +39,7 @@ echo_cut a b c items i m fits e o f =
     subst P whole (front_before a c (messages_bytes (take (i + 1) items)) (messages_bytes (drop (i + 1) items))
     (subst P bytes (front_on a b c (messages_bytes (take i items)) (message_bytes m) o f)))
 
+-- a side completes nothing of no bytes
 pub completes_none : (s : SideState) → Completes s [] [] s
 completes_none s = record {
   role = refl;
@@ -110,13 +111,6 @@ piece_wire piece s t taken taken' messages failed cause r e o = record {
   front = front_all taken taken' (messages_bytes messages) o;
   whole = λ _. o;
 }
-
-explains_stop : (fault : PeerFault) (ended failed : Bool) (s : SideState) (heard : List ℕ) → Stops fault ended failed → Explains fault failed s heard []
-explains_stop OutOfMemory ended failed s heard h = absurd h
-explains_stop PeerEnded ended failed s heard h = refl
-explains_stop ReadFailed ended failed s heard h = (refl, inl h.1)
-explains_stop WriteFailed ended failed s heard h = absurd h
-explains_stop (Wire cause) ended failed s heard h = absurd h
 
 -- the reader ended or failed
 pub round_stop : (given given' : Option (List ℕ)) (s : SideState) (taken : Option (List ℕ)) (fault : PeerFault) (ended failed : Bool) → Told given given' [] → Stops fault ended failed → LostRound given given' s s taken taken failed fault
@@ -197,9 +191,6 @@ beats_first given given' taken t1 t2 s m e h w o = record {
   is = w.is;
   told = told_on taken t1 t2 w.handshake (messages_bytes m) w.told o;
 }
-
-told_whole : (g h : Option (List ℕ)) (x : List ℕ) → Told g h x → Told g h (x ++ [])
-told_whole g h x o = let P : List ℕ → Type 0 = λ l. Told g h l in subst P (sym (append-nil x)) o
 
 pub ended_first : (given given' taken t1 t2 : Option (List ℕ)) (s : SideState) (m : List (List (List ℕ))) (failed refused : Bool) (fault : PeerFault) → s.role ≡ Rep → Heard given given' s m 0 → WroteWhole taken t1 Rep → Refuses fault refused → ToldFront t1 t2 (messages_bytes m) → Ended given given' taken t2 failed fault
 ended_first given given' taken t1 t2 s m failed refused fault e h w r f = (

@@ -13,6 +13,7 @@ use Rattle.zmtp_peer.specs.Ends.{most_bytes, Ends, Explains, NoPeer, Stops, Blam
 use Rattle.zmtp_peer.specs.Hearing.{Heard}
 use Rattle.zmtp_peer.proofs.QuietLemmas.{side_quiet}
 
+-- nothing was told
 pub told_none : (given : Option (List ℕ)) → Told given given []
 told_none None = tt
 told_none (Some v) = ap Some (sym (append-nil v))
@@ -40,11 +41,11 @@ heard_on g h k s t x m out n c unready r o fits p =
 pub heard_less : (g h : Option (List ℕ)) (s : SideState) (m : List (List (List ℕ))) (n c : ℕ) → c ≤ n → Heard g h s m n → Heard g h s m c
 heard_less g h s m n c fits p = let least = p.long in record { stream = p.stream; told = p.told; stands = p.stands; long = omega arith }
 
-told_whole : (g h : Option (List ℕ)) (x : List ℕ) → Told g h x → Told g h (x ++ [])
+pub told_whole : (g h : Option (List ℕ)) (x : List ℕ) → Told g h x → Told g h (x ++ [])
 told_whole g h x o = let P : List ℕ → Type 0 = λ l. Told g h l in subst P (sym (append-nil x)) o
 
 -- the reader ended or failed
-explains_stop : (fault : PeerFault) (ended failed : Bool) (s : SideState) (heard : List ℕ) → Stops fault ended failed → Explains fault failed s heard []
+pub explains_stop : (fault : PeerFault) (ended failed : Bool) (s : SideState) (heard : List ℕ) → Stops fault ended failed → Explains fault failed s heard []
 explains_stop OutOfMemory ended failed s heard h = absurd h
 explains_stop PeerEnded ended failed s heard h = refl
 explains_stop ReadFailed ended failed s heard h = (refl, inl h.1)

@@ -1,5 +1,5 @@
 -- What is written to a peer (RFC 23).
-use Rattle.std.specs.Prelude.{◌≡◌, ℕ, List, ◌++◌, Option, flat_map}
+use Rattle.std.specs.Prelude.{◌≡◌, ℕ, Bool, false, List, ◌++◌, Option, Result, MatchResult, flat_map}
 use Rattle.zmtp_wire.specs.declared.role.Role.{Role}
 use Rattle.zmtp_wire.specs.declared.role.Role.TheVariants.{Rep}
 use Rattle.zmtp_wire.specs.declared.head.Stage.TheVariants.{Traffic}
@@ -7,13 +7,19 @@ use Rattle.zmtp_wire.specs.Stream.{SideState}
 use Rattle.zmtp_wire.specs.Writing.{written_greeting, IsReadyOf, message_bytes}
 use Rattle.base_streams.specs.Told.{Told, ToldFront}
 use Rattle.zmtp_peer.specs.declared.fault.PeerFault.{PeerFault}
-use Rattle.zmtp_peer.specs.Ends.{EndsReading}
+use Rattle.zmtp_peer.specs.Ends.{EndsReading, Refuses}
 
 -- what a side of this role writes before any message: its greeting, and its READY
 pub record IsHandshakeOf (bytes : List ℕ) (role : Role) : Type 0 where
   pub ready : List ℕ
   pub is_ready : IsReadyOf ready role
   pub spelled : bytes ≡ written_greeting ++ ready
+
+-- these bytes were written where it goes on; else a front of them, and the fault says why
+abbrev pub Writes : List ℕ → Option (List ℕ) → Option (List ℕ) → Bool → Result (Unit {0}) PeerFault → Type 0
+Writes bytes taken taken' failed result = MatchResult result
+    (λ _. Told taken taken' bytes × (failed ≡ false))
+    (λ fault. ToldFront taken taken' bytes × Refuses fault failed)
 
 -- a front of the role's handshake was written
 pub record WroteFront (taken taken' : Option (List ℕ)) (role : Role) : Type 0 where

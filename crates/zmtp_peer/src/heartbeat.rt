@@ -3,9 +3,8 @@ ghost use Rattle.std.specs.Prelude.{◌≡◌, ℕ, List, false, length, IfErr, 
 ghost use Rattle.zmtp_wire.specs.declared.role.Role.TheVariants.{Rep};
 ghost use Rattle.zmtp_wire.specs.Stream.{SideState, Completes};
 ghost use Rattle.zmtp_wire.specs.Writing.{message_bytes};
-ghost use Rattle.base_streams.specs.Told.{Told, ToldFront};
-ghost use Rattle.zmtp_peer.specs.Ends.{Blames, Ends, Refuses};
-ghost use Rattle.zmtp_peer.specs.Sending.{Echoes, messages_bytes};
+ghost use Rattle.zmtp_peer.specs.Ends.{Blames, Ends};
+ghost use Rattle.zmtp_peer.specs.Sending.{Echoes, Writes, messages_bytes};
 ghost use Rattle.zmtp_peer.specs.Beating.{EchoedPiece, EchoedRound, LostPiece, LostRound};
 
 use crate::fault::PeerFault;
@@ -24,10 +23,7 @@ use zmtp_wire::writing::put_message;
 // Writes a message; one of no frames has no bytes.
 fn echo_message<W: Outlet>(alloc: Global, to: &mut W, message: &Frames) -> Result<(), PeerFault>
     requires { W.failed to.old ≡ false }
-    ensures front { ToldFront (W.taken to.old) (W.taken to.new) (message_bytes message.now) }
-    ensures all { OnOk result (Told (W.taken to.old) (W.taken to.new) (message_bytes message.now)) }
-    ensures good { OnOk result (W.failed to.new ≡ false) }
-    ensures err { IfErr result (λ fault. Refuses fault (W.failed to.new)) }
+    ensures { Writes (message_bytes message.now) (W.taken to.old) (W.taken to.new) (W.failed to.new) result }
 {
     if message.len() == 0 {
         return Ok(());
@@ -41,10 +37,7 @@ fn echo_message<W: Outlet>(alloc: Global, to: &mut W, message: &Frames) -> Resul
 // Writes messages in their order.
 fn echo<W: Outlet>(alloc: Global, to: &mut W, messages: &Incomings) -> Result<(), PeerFault>
     requires { W.failed to.old ≡ false }
-    ensures front { ToldFront (W.taken to.old) (W.taken to.new) (messages_bytes messages.now) }
-    ensures all { OnOk result (Told (W.taken to.old) (W.taken to.new) (messages_bytes messages.now)) }
-    ensures good { OnOk result (W.failed to.new ≡ false) }
-    ensures err { IfErr result (λ fault. Refuses fault (W.failed to.new)) }
+    ensures { Writes (messages_bytes messages.now) (W.taken to.old) (W.taken to.new) (W.failed to.new) result }
 {
     for message in messages.as_slice() {
         match echo_message(alloc, to, message) {

@@ -8,7 +8,7 @@ returns-in-Err-take_piece-2-clause-read g c =
     stopped _ _ _ _ _ _ _ _ _ _ _ _ _ _ _ _ _ _ c.loop-reads.invariant.read c.in-Ok-read.ensures.given
     (c.in-Ok-read.ensures.ended.0 some ∙ c.loop-reads.invariant.ended)
     (c.in-Ok-read.ensures.failed ∙ c.loop-reads.invariant.failed)
-    c.in-Err-take_piece-2.ensures.err c.in-Err-take_piece-2.ensures.hears
+    c.in-Err-take_piece-2.ensures.asked.1 c.in-Err-take_piece-2.ensures.asked.0
 
 pub loop-reads-preserved : goal.loop-reads-preserved
 loop-reads-preserved g c =
@@ -21,7 +21,7 @@ loop-reads-preserved g c =
       failed = c.in-Ok-read.ensures.failed ∙ c.loop-reads.invariant.failed;
       read =
           under_way_on _ _ _ _ _ _ _ _ _ _ _ _ _ _ _ c.loop-reads.invariant.read c.in-Ok-read.ensures.given
-          c.in-Ok-take_piece-2.ensures.ok
+          c.in-Ok-take_piece-2.ensures.asked
           (gives_some c.in-Ok-read.count c.read.new.buffer c.in-Ok-read.count-test.1 c.in-Ok-read.ensures.count);
     }
 

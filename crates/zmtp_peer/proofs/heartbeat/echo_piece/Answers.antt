@@ -5,4 +5,4 @@ pub returns-in_default-clause-err : goal.returns-in_default-clause-err
 returns-in_default-clause-err g c = piece_memory c.args.piece.now c.args.side.now c.feed.new.side _ _ c.in_default.ensures.err
 
 pub returns-in-Err-clause-err : goal.returns-in-Err-clause-err
-returns-in-Err-clause-err g c = piece_refused c.args.piece.now c.args.side.now c.feed.new.side _ _ _ _ _ c.in-Err.fault c.in-Ok.ensures.completes c.in-Err.ensures.err c.in-Err.ensures.front
+returns-in-Err-clause-err g c = piece_refused c.args.piece.now c.args.side.now c.feed.new.side _ _ _ _ _ c.in-Err.fault c.in-Ok.ensures.completes c.in-Err.ensures.1 c.in-Err.ensures.0

@@ -8,17 +8,17 @@ returns-in-Err-clause-echoes g c = ended_early _ _ _ _ _ c.in-Err.fault c.in-Err
 
 pub returns-in-Err-echo-clause-echoes : goal.returns-in-Err-echo-clause-echoes
 returns-in-Err-echo-clause-echoes g c =
-    ended_first _ _ _ _ _ c.in-Ok.peer.side c.in-Ok.peer.messages _ _ c.in-Err-echo.fault c.in-Ok.ensures.role c.in-Ok.ensures.heard c.in-Ok.ensures.whole c.in-Err-echo.ensures.err c.in-Err-echo.ensures.front
+    ended_first _ _ _ _ _ c.in-Ok.peer.side c.in-Ok.peer.messages _ _ c.in-Err-echo.fault c.in-Ok.ensures.role c.in-Ok.ensures.heard c.in-Ok.ensures.whole c.in-Err-echo.ensures.1 c.in-Err-echo.ensures.0
 
 pub returns-in-Err-echo_piece-clause-echoes : goal.returns-in-Err-echo_piece-clause-echoes
 returns-in-Err-echo_piece-clause-echoes g c =
-    let first = beats_first _ _ _ _ _ c.in-Ok.peer.side c.in-Ok.peer.messages c.in-Ok.ensures.role c.in-Ok.ensures.heard c.in-Ok.ensures.whole c.in-Ok-echo.ensures.all in
+    let first = beats_first _ _ _ _ _ c.in-Ok.peer.side c.in-Ok.peer.messages c.in-Ok.ensures.role c.in-Ok.ensures.heard c.in-Ok.ensures.whole c.in-Ok-echo.ensures.0 in
     ended_round _ _ _ _ _ _ c.in-Ok.peer.side c.echo_piece.new.side 0 _ c.in-Err-echo_piece.fault
     (round_lost _ _ [] c.in-Ok.peer.side c.echo_piece.new.side _ _ _ c.in-Err-echo_piece.fault (told_none _) c.in-Err-echo_piece.ensures.err) first
 
 pub loop-init : goal.loop-init
 loop-init g c =
-    let first = beats_first _ _ _ _ _ c.in-Ok.peer.side c.in-Ok.peer.messages c.in-Ok.ensures.role c.in-Ok.ensures.heard c.in-Ok.ensures.whole c.in-Ok-echo.ensures.all in
+    let first = beats_first _ _ _ _ _ c.in-Ok.peer.side c.in-Ok.peer.messages c.in-Ok.ensures.role c.in-Ok.ensures.heard c.in-Ok.ensures.whole c.in-Ok-echo.ensures.0 in
     record {
       ended = c.in-Ok.ensures.good.0;
       failed = c.in-Ok.ensures.good.1;

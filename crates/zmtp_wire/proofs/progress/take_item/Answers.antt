@@ -1,12 +1,13 @@
-use Rattle.std.proofs.Common.{ℕ, None, get_or, refl, sym, ap, arith, take, drop, ◌-◌, ◌+◌, ◌≡◌}
-use Rattle.std.proofs.Common.{◌<◌, length}
+use Rattle.std.proofs.Common.{ℕ, get_or, refl, sym, ap, arith, take, drop, ◌-◌, ◌+◌, ◌≡◌}
+use Rattle.std.proofs.Common.{◌<◌, length, List}
 use Rattle.zmtp_wire.specs.Progress.{got_in}
-use Rattle.zmtp_wire.proofs.FramingLemmas.{next_of}
+use Rattle.zmtp_wire.proofs.FramingLemmas.{Next, next_of}
 use Rattle.zmtp_wire.proofs.StreamLemmas.{opened}
 use Rattle.zmtp_wire.proofs.ReadingLemmas.{partial_wants, partial_short, fault_at}
 use Rattle.zmtp_wire.proofs.ProgressLemmas.{step_of, command_fault, greet_step}
 use Rattle.zmtp_wire.proofs.progress.take_item.Goals.{then-from-bytes-via-then-from-bytes}
 use Rattle.zmtp_wire.proofs.progress.take_item.Goals.{then-from-bytes-via-else-from-bytes+then-size-bytes}
+use Rattle.zmtp_wire.proofs.progress.take_item.Goals.{In-Sized}
 use Rattle.zmtp_wire.proofs.progress.take_item.Goals as goal
 
 short : (c : goal.Joined-then-from-bytes) → length c.args.bytes.now < c.in-Sized.from + c.in-Sized.size
@@ -47,39 +48,36 @@ returns-in-Greets-clause-ok c =
           c.args.bytes.now o,
     )
 
+-- the frame at the front of the bytes, as its head says
+next : (c : In-Sized)
+    → Next c.args.progress.now.stage (length c.args.progress.now.frames) c.args.bytes.now c.in-Sized.kind
+    c.in-Sized.from c.in-Sized.size
+next c =
+    let h = rw c.len.ensures at c.in-Sized.ensures in
+    let low : (i : ℕ) → get_or c.args.bytes.now i 0 < 256 = λ i. (let k = c.type_inv.bytes i in omega (arith, k)) in
+    next_of c.args.progress.now.stage _ c.args.bytes.now c.in-Sized.kind c.in-Sized.from c.in-Sized.size low (sym h)
+
+body : (from size : ℕ) (bytes : List ℕ) → take (from + size - from) (drop from bytes) ≡ take size (drop from bytes)
+body from size bytes = let k : from + size - from ≡ size = omega arith in ap (λ x. take x (drop from bytes)) k
+
 pub returns-in-None-clause-ok : goal.returns-in-None-clause-ok
 returns-in-None-clause-ok c =
-    let bytes = c.args.bytes.now in
-    let kind = c.in-Sized.kind in
-    let from = c.in-Sized.from in
-    let size = c.in-Sized.size in
-    let old = got_in c.args.progress.now in
+    let s = c.in-Sized in
     let e = rw c.in-None.is at c.in_ok-take_body-in-Sized.ensures.ok in
-    let h = rw c.len.ensures at c.in-Sized.ensures in
-    let low : (i : ℕ) → get_or bytes i 0 < 256 = λ i. (let k = c.type_inv.bytes i in omega (arith, k)) in
-    let n = next_of (old None).stage (length (old None).frames) bytes kind from size low (sym h) in
-    let k : from + size - from ≡ size = omega arith in
+    let n = next (goal.at.returns-in-None-clause-ok c).In-Sized in
     let p = n.positive in (
       omega (arith, p),
       omega arith,
-      λ before. step_of c.args.role (old before) (got_in c.take_body.new.progress before) bytes
-          _ kind from size n
-          (omega arith) (ap (λ x. take x (drop from bytes)) k) (e before),
+      λ before. step_of c.args.role (got_in c.args.progress.now before) (got_in c.take_body.new.progress before)
+          c.args.bytes.now _ s.kind s.from s.size n (omega arith) (body s.from s.size c.args.bytes.now) (e before),
     )
 
 pub returns-in-Some-clause-ok : goal.returns-in-Some-clause-ok
 returns-in-Some-clause-ok c =
-    let bytes = c.args.bytes.now in
-    let kind = c.in-Sized.kind in
-    let from = c.in-Sized.from in
-    let size = c.in-Sized.size in
-    let old = got_in c.args.progress.now in
+    let s = c.in-Sized in
     let e = rw c.in-Some.is at c.in_ok-take_body-in-Sized.ensures.ok in
-    let h = rw c.len.ensures at c.in-Sized.ensures in
-    let low : (i : ℕ) → get_or bytes i 0 < 256 = λ i. (let k = c.type_inv.bytes i in omega (arith, k)) in
-    let n = next_of (old None).stage (length (old None).frames) bytes kind from size low (sym h) in
-    let k : from + size - from ≡ size = omega arith in (
+    let n = next (goal.at.returns-in-Some-clause-ok c).In-Sized in (
       e.0,
-      λ before. command_fault c.args.role (old before) bytes _ kind from size c.in-Some.cause n
-          (omega arith) (ap (λ x. take x (drop from bytes)) k) e.1 e.2,
+      λ before. command_fault c.args.role (got_in c.args.progress.now before) c.args.bytes.now _ s.kind s.from s.size
+          c.in-Some.cause n (omega arith) (body s.from s.size c.args.bytes.now) e.1 e.2,
     )
