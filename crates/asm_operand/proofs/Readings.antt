@@ -3,6 +3,7 @@ use Rattle.std.proofs.Common.{◌≡◌, ℕ, zero, suc, ◌+◌, ◌<◌, ◌�
 use Rattle.std.proofs.Common.{length, Option, Some, None, refl, sym, ap, ◌∙◌, arith, append_assoc, append-nil}
 use Rattle.std.proofs.Common.{subst}
 use Rattle.std.specs.Prelude.{nat_lt, ◌==◌}
+use Rattle.std.proofs.lemmas.Bool.{false≢true}
 use Rattle.std.proofs.lemmas.Bool.Decides.{nat_tests}
 use Rattle.asm_expr.specs.Tree as tree
 use Rattle.asm_expr.specs.Tree.{Tree}
@@ -204,9 +205,6 @@ open_step opened l ls p s =
     let next : next_place (BeforeOperand opened) l ≡ Some (BeforeOperand (suc opened)) = rw (p, s) refl in
     ap (λ (q : Option Place). shape q ls) next
 
-false_true : false ≡ true → ⊥
-false_true h = cc
-
 no_less : (m n : ℕ) → m < n → n ≤ 0 → ⊥
 no_less m n h le = omega arith
 
@@ -289,7 +287,7 @@ parens_front k opened level l ls below le small p s h =
 operand_front : (k opened level : ℕ) (ls : List Lexeme) → Reads_below k → length ls ≤ suc k → level ≤ 8
     → shape (Some (BeforeOperand opened)) ls ≡ true → Front opened level ls
 unfolding shape
-operand_front k opened level [] below le small h = absurd (false_true h)
+operand_front k opened level [] below le small h = absurd (false≢true h)
 operand_front k opened level (l ∷ ls) below le small h = by (prefix_of l) refl
   where
     by : (o : Option Unary) → prefix_of l ≡ o → Front opened level (l ∷ ls)
@@ -362,7 +360,7 @@ extend (suc j) k opened level ls below f lej lek =
 
 reads_below : (k : ℕ) → Reads_below k
 unfolding shape
-reads_below zero opened level [] le small h = absurd (false_true h)
+reads_below zero opened level [] le small h = absurd (false≢true h)
 reads_below zero opened level (l ∷ ls) le small h = absurd (no_less 0 (length (l ∷ ls)) (omega arith) le)
 reads_below (suc k) opened level ls le small h =
     let f = operand_front k opened level ls (reads_below k) le small h in

@@ -4,7 +4,9 @@ use Rattle.std.proofs.Common.{sym, ◌∙◌}
 use Rattle.std.specs.Option.{is_some}
 use Rattle.std.specs.Map.{lookup}
 use Rattle.std.specs.Str.{bytes_eq}
+use Rattle.std.proofs.lemmas.Option.{none-some}
 use Rattle.std.proofs.lemmas.Slice.Eq.{bytes_eq-Decides}
+use Rattle.i80_rows.proofs.Tables.{head_same, tail_same}
 use Rattle.asm_syntax.specs.declared.keyword.Keyword.{Keyword}
 use Rattle.asm_syntax.specs.declared.keyword.TheConstants.{KEYWORDS}
 use Rattle.asm_syntax.specs.Words.{Entry, reserved_words, keyword_of}
@@ -17,29 +19,20 @@ found_by es word = lookup (bytes_eq word) es
 abbrev pub table : List Entry
 table = map (λ e. (e.0.now, e.1)) KEYWORDS
 
-head_is : {X : Type 0} (x y : X) (xs ys : List X) → (x ∷ xs) ≡ (y ∷ ys) → x ≡ y
-head_is x y xs ys h = cc
-
-tail_is : {X : Type 0} (x y : X) (xs ys : List X) → (x ∷ xs) ≡ (y ∷ ys) → xs ≡ ys
-tail_is x y xs ys h = cc
-
-none_some : (k : Keyword) → None ≡ Some k → ⊥
-none_some k h = cc
-
 some_none : (found : Option Keyword) → is_some found ≡ true → found ≡ None → ⊥
 some_none None h n = cc
 some_none (Some k) h n = cc
 
 found : (s t : List Entry) → map (λ e. found_by s e.0) t ≡ map (λ e. Some e.1) t
     → (w : List ℕ) (k : Keyword) → found_by t w ≡ Some k → found_by s w ≡ Some k
-found s [] h w k e = absurd (none_some k e)
-found s (x ∷ xs) h w k e = by (λ i. found s xs (tail_is _ _ _ _ h) w k i) (bytes_eq w x.0) refl
+found s [] h w k e = absurd (none-some k e)
+found s (x ∷ xs) h w k e = by (λ i. found s xs (tail_same _ _ _ _ h) w k i) (bytes_eq w x.0) refl
   where
     by : (found_by xs w ≡ Some k → found_by s w ≡ Some k)
         → (b : Bool) → bytes_eq w x.0 ≡ b → found_by s w ≡ Some k
     by next true t =
         let same : w ≡ x.0 = (bytes_eq-Decides w x.0).0 t in
-        let here : found_by s x.0 ≡ Some x.1 = head_is _ _ _ _ h in
+        let here : found_by s x.0 ≡ Some x.1 = head_same _ _ _ _ h in
         let is : Some x.1 ≡ Some k = rw t at e in
         rw same (here ∙ is)
     by next false t = let i : found_by xs w ≡ Some k = rw t at e in next i
@@ -47,12 +40,12 @@ found s (x ∷ xs) h w k e = by (λ i. found s xs (tail_is _ _ _ _ h) w k i) (by
 missing : (s t : List Entry) → map (λ e. is_some (found_by t e.0)) s ≡ map (λ e. true) s
     → (w : List ℕ) → found_by t w ≡ None → found_by s w ≡ None
 missing [] t h w n = refl
-missing (x ∷ xs) t h w n = by (missing xs t (tail_is _ _ _ _ h) w n) (bytes_eq w x.0) refl
+missing (x ∷ xs) t h w n = by (missing xs t (tail_same _ _ _ _ h) w n) (bytes_eq w x.0) refl
   where
     by : found_by xs w ≡ None → (b : Bool) → bytes_eq w x.0 ≡ b → found_by (x ∷ xs) w ≡ None
     by next true e =
         let same : w ≡ x.0 = (bytes_eq-Decides w x.0).0 e in
-        let some : is_some (found_by t x.0) ≡ true = head_is _ _ _ _ h in
+        let some : is_some (found_by t x.0) ≡ true = head_same _ _ _ _ h in
         let none : found_by t x.0 ≡ None = rw same at n in
         absurd (some_none _ some none)
     by next false e = rw e next

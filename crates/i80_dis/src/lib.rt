@@ -10,4 +10,5 @@ pub mod laws;
 pub mod line;
 pub mod listing;
 mod mnemonic;
+pub mod numeral;
 mod operand;

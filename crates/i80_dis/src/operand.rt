@@ -1,10 +1,10 @@
-//! Operands as they are written (8080/8085 Assembly Language Programming Manual, chapter 3): words,
-//! and numbers in upper-case hexadecimal that begin with the digit 0 and end with H.
+//! Operands as they are written (8080/8085 Assembly Language Programming Manual, chapter 3): words and
+//! numbers.
 ghost use Rattle.std.specs.Prelude.{◌≡◌, ◌++◌, OnOk, string_bytes};
-ghost use Rattle.i80_dis.specs.Text.{byte_text, word_text, register_word, pair_word, index_word, stack_word, vector_word, operands, operand_field};
+ghost use Rattle.i80_dis.specs.Text.{register_word, pair_word, index_word, stack_word, vector_word, operands, operand_field};
 ghost use Rattle.i80_dis.specs.State.{operand_text, texts_of};
 
-use base_text::hexadecimal;
+use crate::numeral::{push_byte, push_word};
 use i80_rows::instruction::{IndexPair, Instr, Pair, Reg, StackPair, Vector};
 use std::alloc::AllocError;
 
@@ -128,26 +128,6 @@ pub fn operands_of(instr: Instr) -> Operands
         | Instr::Di
         | Instr::Ei => Operands::Zero,
     }
-}
-
-/// Adds a byte as `0hhH`.
-pub fn push_byte(text: &mut String, byte: u8) -> Result<(), AllocError>
-    ensures { OnOk result (string_bytes text.new ≡ string_bytes text.old ++ byte_text byte) }
-{
-    text.push_str("0")?;
-    hexadecimal::push_byte(text, byte)?;
-    text.push_str("H")?;
-    Ok(())
-}
-
-/// Adds a word as `0hhhhH`.
-pub fn push_word(text: &mut String, word: u16) -> Result<(), AllocError>
-    ensures { OnOk result (string_bytes text.new ≡ string_bytes text.old ++ word_text word) }
-{
-    text.push_str("0")?;
-    hexadecimal::push_word(text, word)?;
-    text.push_str("H")?;
-    Ok(())
 }
 
 fn push_operand(text: &mut String, operand: Operand) -> Result<(), AllocError>

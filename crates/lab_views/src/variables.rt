@@ -14,6 +14,7 @@ use base_text::hexadecimal;
 use base_text::sequence::Sequence;
 use base_text::text::Text;
 use i80_devs::devices::Devices;
+use i80_dis::numeral;
 use i80_exec::machine::Machine;
 use i80_exec::registers::{Interrupts, Registers};
 use i80_rows::memory::MEMORY_SIZE;
@@ -33,18 +34,16 @@ const USUAL_BYTES: u32 = 16;
 fn byte_text(alloc: Global, byte: u8) -> Result<Text, AllocError>
     ensures { IfOk result (λ text. text ≡ byte_text byte) }
 {
-    let mut text = String::from_str(alloc, "0")?;
-    hexadecimal::push_byte(&mut text, byte)?;
-    text.push_str("H")?;
+    let mut text = String::new(alloc);
+    numeral::push_byte(&mut text, byte)?;
     Ok(Text::from(text))
 }
 
 fn word_text(alloc: Global, word: u16) -> Result<Text, AllocError>
     ensures { IfOk result (λ text. text ≡ word_text word) }
 {
-    let mut text = String::from_str(alloc, "0")?;
-    hexadecimal::push_word(&mut text, word)?;
-    text.push_str("H")?;
+    let mut text = String::new(alloc);
+    numeral::push_word(&mut text, word)?;
     Ok(Text::from(text))
 }
 
