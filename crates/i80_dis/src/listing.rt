@@ -5,7 +5,7 @@ ghost use Rattle.i80_dis.specs.Shown.{lines_of};
 ghost use Rattle.i80_dis.specs.Text.{text_of, ended, origin_line, text_of_lines, listing_of};
 
 use crate::line::{Shown, next_shown, push_text};
-use crate::operand::push_word;
+use crate::numeral::push_word;
 use std::alloc::{AllocError, Global};
 
 /// No line has more bytes than this, with its end: the longest is `LXI SP,0FFFFH`.
