@@ -1,5 +1,6 @@
 -- The rows 40 to BF as what the bits of their opcodes name; and DCR, which leaves the interrupt state alone.
-use Rattle.std.proofs.Common.{◌≡◌, ℕ, ◌+◌, ◌-◌, ◌/◌, ◌%◌, ◌<◌, ◌≤◌, ◌==◌, true, false, cond, None, refl, ap, subst, ◌∙◌, arith}
+use Rattle.std.proofs.Common.{◌≡◌, ℕ, ◌+◌, ◌-◌, ◌/◌, ◌%◌, ◌<◌, ◌≤◌, ◌==◌, true, false, cond, None, refl, ap}
+use Rattle.std.proofs.Common.{subst, ◌∙◌, arith}
 use Rattle.std.proofs.lemmas.Bool.Decides.{nat_tests}
 use Rattle.i80_rows.specs.declared.instruction.Instr.TheVariants.{Nop}
 use Rattle.i80_rows.specs.declared.instruction.Reg.{Reg}

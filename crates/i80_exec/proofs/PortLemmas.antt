@@ -1,5 +1,6 @@
 -- A row that asks no port is the same whatever the ports answer.
-use Rattle.std.proofs.Common.{◌≡◌, ℕ, ◌<◌, ◌==◌, false, List, None, cond, refl, ap, subst, sym, ◌∙◌, append-nil, add-zero, arith}
+use Rattle.std.proofs.Common.{◌≡◌, ℕ, ◌<◌, ◌==◌, false, List, None, cond, refl, ap, subst, sym, ◌∙◌}
+use Rattle.std.proofs.Common.{append-nil, add-zero, arith}
 use Rattle.std.proofs.lemmas.Bool.Decides.{nat_tests}
 use Rattle.std.proofs.lemmas.Option.{none-some}
 use Rattle.i80_rows.specs.Rows.{row}
@@ -44,14 +45,16 @@ unasked_row opcode input m low silent =
     (λ same. input_asks m (subst (λ k. (unasked k m).operation ≡ None) same silent))
 
 -- what asked no port is the outcome, whatever the ports would answer, and nothing was done at them
-pub outcome_without_port : {S : Type 0} (opcode : ℕ) (input : ℕ → ℕ) (m after : MachineState) (answer : Stepped)
+pub outcome_without_port : {S : Type 0} (opcode : ℕ) (input : ℕ → ℕ) (m after : MachineState)
+    (answer : Stepped)
     (next : S → PortOperation → S) (operations operations' : List PortOperation) (state state' : S)
     (spare spare' : ℕ) → opcode < 256
     → IsWithoutPort (by_row (row opcode) (λ _. 0) m) after answer
     → operations' ≡ operations → state' ≡ state → spare' ≡ spare
     → IsOutcome (by_row (row opcode) input m) after answer
     × Performs (by_row (row opcode) input m).operation next operations operations' state state' spare spare'
-outcome_without_port opcode input m after answer next operations operations' state state' spare spare' low does
+outcome_without_port opcode input m after answer next operations operations' state state' spare spare' low
+    does
     same_operations same_state same_spare =
     let row = unasked_row opcode input m low does.operation_is in (
       rw row (record { after_is = does.after_is; answer_is = does.answer_is }),

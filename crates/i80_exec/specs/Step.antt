@@ -30,10 +30,7 @@ use Rattle.i80_exec.specs.Effect.{Outcome, effect, called}
 -- whether a step was HLT
 abbrev pub is_halt : Stepped → Bool
 is_halt stepped.Halted = true
-is_halt stepped.Done = false
-is_halt (stepped.Called slot target) = false
-is_halt (stepped.Returned slot) = false
-is_halt (stepped.Undefined opcode) = false
+is_halt _ = false
 
 -- the interrupt state after an instruction that began in one: EI leaves arming, DI leaves off,
 -- and any other instruction that began in arming ends in on

@@ -455,9 +455,7 @@ impl Machine {
 
     #[inline(always)]
     fn jump_if(&mut self, cond: Cond) -> Stepped
-        ensures after { self.new ≡ (by_row (Word (JumpIf cond)) (λ _. 0) self.old).after }
-        ensures operation { (by_row (Word (JumpIf cond)) (λ _. 0) self.old).operation ≡ None }
-        ensures answer { result ≡ (by_row (Word (JumpIf cond)) (λ _. 0) self.old).answer }
+        ensures { IsWithoutPort (by_row (Word (JumpIf cond)) (λ _. 0) self.old) self.new result }
     {
         let target = self.operand_word();
         self.advance(3);
@@ -469,9 +467,7 @@ impl Machine {
 
     #[inline(always)]
     fn call_if(&mut self, cond: Cond) -> Stepped
-        ensures after { self.new ≡ (by_row (Word (CallIf cond)) (λ _. 0) self.old).after }
-        ensures operation { (by_row (Word (CallIf cond)) (λ _. 0) self.old).operation ≡ None }
-        ensures answer { result ≡ (by_row (Word (CallIf cond)) (λ _. 0) self.old).answer }
+        ensures { IsWithoutPort (by_row (Word (CallIf cond)) (λ _. 0) self.old) self.new result }
     {
         let target = self.operand_word();
         self.advance(3);
@@ -484,9 +480,7 @@ impl Machine {
 
     #[inline(always)]
     fn ret_if(&mut self, cond: Cond) -> Stepped
-        ensures after { self.new ≡ (by_row (Alone (RetIf cond)) (λ _. 0) self.old).after }
-        ensures operation { (by_row (Alone (RetIf cond)) (λ _. 0) self.old).operation ≡ None }
-        ensures answer { result ≡ (by_row (Alone (RetIf cond)) (λ _. 0) self.old).answer }
+        ensures { IsWithoutPort (by_row (Alone (RetIf cond)) (λ _. 0) self.old) self.new result }
     {
         self.advance(1);
         if self.holds(cond) {
@@ -501,9 +495,7 @@ impl Machine {
     fn step_00(&mut self, opcode: u8) -> Stepped
         requires opcode { opcode ≡ byte_at self.old self.old.regs.pc }
         requires high { opcode < 32 }
-        ensures after { self.new ≡ (by_row (row opcode) (λ _. 0) self.old).after }
-        ensures operation { (by_row (row opcode) (λ _. 0) self.old).operation ≡ None }
-        ensures answer { result ≡ (by_row (row opcode) (λ _. 0) self.old).answer }
+        ensures { IsWithoutPort (by_row (row opcode) (λ _. 0) self.old) self.new result }
     {
         let m = self;
         opcodes! { m opcode;
@@ -548,9 +540,7 @@ impl Machine {
         requires opcode { opcode ≡ byte_at self.old self.old.regs.pc }
         requires low { 32 ≤ opcode }
         requires high { opcode < 64 }
-        ensures after { self.new ≡ (by_row (row opcode) (λ _. 0) self.old).after }
-        ensures operation { (by_row (row opcode) (λ _. 0) self.old).operation ≡ None }
-        ensures answer { result ≡ (by_row (row opcode) (λ _. 0) self.old).answer }
+        ensures { IsWithoutPort (by_row (row opcode) (λ _. 0) self.old) self.new result }
     {
         let m = self;
         opcodes! { m opcode;
@@ -623,9 +613,7 @@ impl Machine {
         requires opcode { opcode ≡ byte_at self.old self.old.regs.pc }
         requires low { 64 ≤ opcode }
         requires high { opcode < 128 }
-        ensures after { self.new ≡ (by_row (row opcode) (λ _. 0) self.old).after }
-        ensures operation { (by_row (row opcode) (λ _. 0) self.old).operation ≡ None }
-        ensures answer { result ≡ (by_row (row opcode) (λ _. 0) self.old).answer }
+        ensures { IsWithoutPort (by_row (row opcode) (λ _. 0) self.old) self.new result }
     {
         self.advance(1);
         if opcode == 0x76 {
@@ -644,9 +632,7 @@ impl Machine {
         requires opcode { opcode ≡ byte_at self.old self.old.regs.pc }
         requires low { 128 ≤ opcode }
         requires high { opcode < 192 }
-        ensures after { self.new ≡ (by_row (row opcode) (λ _. 0) self.old).after }
-        ensures operation { (by_row (row opcode) (λ _. 0) self.old).operation ≡ None }
-        ensures answer { result ≡ (by_row (row opcode) (λ _. 0) self.old).answer }
+        ensures { IsWithoutPort (by_row (row opcode) (λ _. 0) self.old) self.new result }
     {
         self.advance(1);
         if opcode == 0x9f {
@@ -667,9 +653,7 @@ impl Machine {
         requires high { opcode < 224 }
         requires output { opcode ≢ 211 }
         requires input { opcode ≢ 219 }
-        ensures after { self.new ≡ (by_row (row opcode) (λ _. 0) self.old).after }
-        ensures operation { (by_row (row opcode) (λ _. 0) self.old).operation ≡ None }
-        ensures answer { result ≡ (by_row (row opcode) (λ _. 0) self.old).answer }
+        ensures { IsWithoutPort (by_row (row opcode) (λ _. 0) self.old) self.new result }
     {
         let m = self;
         opcodes! { m opcode;
@@ -712,9 +696,7 @@ impl Machine {
         requires opcode { opcode ≡ byte_at self.old self.old.regs.pc }
         requires low { 224 ≤ opcode }
         requires high { opcode < 256 }
-        ensures after { self.new ≡ (by_row (row opcode) (λ _. 0) self.old).after }
-        ensures operation { (by_row (row opcode) (λ _. 0) self.old).operation ≡ None }
-        ensures answer { result ≡ (by_row (row opcode) (λ _. 0) self.old).answer }
+        ensures { IsWithoutPort (by_row (row opcode) (λ _. 0) self.old) self.new result }
     {
         let m = self;
         opcodes! { m opcode;

@@ -7,9 +7,9 @@ returns-then-opcode-eq118 c =
     let row = halt_row c.args.opcode (λ _. 0) c.args.self.now c.requires.low c.requires.high
     c.if-opcode-eq118.true in
     record {
-      after = rw (row, c.advance.ensures) refl;
-      operation = rw row refl;
-      answer = rw row refl;
+      after_is = rw (row, c.advance.ensures) refl;
+      operation_is = rw row refl;
+      answer_is = rw row refl;
     }
 
 pub returns : goal.returns
@@ -17,7 +17,7 @@ returns c =
     let row = move_row c.args.opcode (λ _. 0) c.args.self.now c.requires.low c.requires.high
     c.if-opcode-eq118.false in
     record {
-      after = rw (
+      after_is = rw (
         row,
         c.put.ensures,
         c.get-byte.ensures,
@@ -25,6 +25,6 @@ returns c =
         c.reg_at-to.ensures,
         c.advance.ensures,
       ) refl;
-      operation = rw row refl;
-      answer = rw row refl;
+      operation_is = rw row refl;
+      answer_is = rw row refl;
     }
