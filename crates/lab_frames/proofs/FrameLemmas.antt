@@ -1,11 +1,12 @@
 -- Popping frames whose slots fall leaves those that the step doesn't end.
-use Rattle.std.proofs.Common.{◌≡◌, ℕ, ◌-◌, ◌<◌, ◌≤◌, List, [], ◌∷◌, ◌++◌, true, false, not, Some, suc, length, take, min, refl, sym, ap, ◌∙◌, subst, arith, append-nil, inl, inr}
+use Rattle.std.proofs.Common.{◌≡◌, ℕ, ◌-◌, ◌<◌, ◌≤◌, List, [], ◌∷◌, ◌++◌, true, false, not, Some, suc, length}
+use Rattle.std.proofs.Common.{take, min, refl, sym, ap, ◌∙◌, subst, arith, append-nil, inl, inr}
 use Rattle.std.proofs.lemmas.Bool.{cases_Bool, cond_both, both_ways}
 use Rattle.std.proofs.lemmas.Bool.Decides.{nat_tests}
 use Rattle.std.proofs.lemmas.Grind.{common_steps}
 use Rattle.std.specs.List.{slice_get}
 use Rattle.i80_exec.specs.declared.registers.Stepped.{Stepped}
-use Rattle.i80_exec.specs.declared.registers.Stepped.TheVariants.{Done, Called, Returned, Halted, Undefined}
+use Rattle.i80_exec.specs.declared.registers.Stepped.TheVariants.{Called, Returned}
 use Rattle.lab_frames.specs.declared.frame.Frame.{Frame}
 use Rattle.lab_frames.specs.Live.{made_by, ended_by}
 use Rattle.lab_frames.specs.Frames.{survivors, Advances, LeavesOldest, Falls, AtLeast, ReturnsBelow, CallsAt}
@@ -22,7 +23,8 @@ falls-last bound (f ∷ rest) top falls =
     let below : top.slot < f.slot = falls-last f.slot rest top falls.1 in
     omega arith
 
-falls-front : (bound : ℕ) (rest : List Frame) (top : Frame) → Falls bound (rest ++ top ∷ []) → Falls bound rest
+falls-front : (bound : ℕ) (rest : List Frame) (top : Frame) → Falls bound (rest ++ top ∷ [])
+    → Falls bound rest
 falls-front bound [] top falls = tt
 falls-front bound (f ∷ rest) top falls = (falls.0, falls-front f.slot rest top falls.1)
 
@@ -34,7 +36,8 @@ falls-length bound (f ∷ fs) falls =
     let fewer = falls-length f.slot fs falls.1 in
     omega arith
 
-at_least-front : (low : ℕ) (rest : List Frame) (top : Frame) → AtLeast low (rest ++ top ∷ []) → AtLeast low rest
+at_least-front : (low : ℕ) (rest : List Frame) (top : Frame) → AtLeast low (rest ++ top ∷ [])
+    → AtLeast low rest
 at_least-front low [] top h = tt
 at_least-front low (f ∷ rest) top h = (h.0, at_least-front low rest top h.1)
 
@@ -42,81 +45,71 @@ at_least-last : (low : ℕ) (rest : List Frame) (top : Frame) → AtLeast low (r
 at_least-last low [] top h = h.0
 at_least-last low (f ∷ rest) top h = at_least-last low rest top h.1
 
-at_least-push : (low : ℕ) (fs : List Frame) (g : Frame) → AtLeast low fs → low ≤ g.slot → AtLeast low (fs ++ g ∷ [])
+at_least-push : (low : ℕ) (fs : List Frame) (g : Frame) → AtLeast low fs → low ≤ g.slot
+    → AtLeast low (fs ++ g ∷ [])
 at_least-push low [] g h b = (b, tt)
 at_least-push low (f ∷ fs) g h b = (h.0, at_least-push low fs g h.1 b)
 
--- of a return, that it is from a slot at or below this one
+-- a return is from a slot at or below this one
 abbrev ReturnsBelowSlot : Stepped → ℕ → Type 0
-ReturnsBelowSlot (Returned from) slot = from ≤ slot
-ReturnsBelowSlot (Called called target) slot = Unit {0}
-ReturnsBelowSlot Done slot = Unit {0}
-ReturnsBelowSlot Halted slot = Unit {0}
-ReturnsBelowSlot (Undefined opcode) slot = Unit {0}
+ReturnsBelowSlot answer slot = (from : ℕ) → answer ≡ Returned from → from ≤ slot
 
-returns-first : (answer : Stepped) (f : Frame) (fs : List Frame) → ReturnsBelow answer (f ∷ fs) → ReturnsBelowSlot answer f.slot
-returns-first (Returned from) f fs h = h.0
-returns-first (Called called target) f fs h = tt
-returns-first Done f fs h = tt
-returns-first Halted f fs h = tt
-returns-first (Undefined opcode) f fs h = tt
+returns-first : (answer : Stepped) (f : Frame) (fs : List Frame) → ReturnsBelow answer (f ∷ fs)
+    → ReturnsBelowSlot answer f.slot
+returns-first answer f fs h = λ from is. (h from is).0
 
-returns-rest : (answer : Stepped) (f : Frame) (fs : List Frame) → ReturnsBelow answer (f ∷ fs) → ReturnsBelow answer fs
-returns-rest (Returned from) f fs h = h.1
-returns-rest (Called called target) f fs h = tt
-returns-rest Done f fs h = tt
-returns-rest Halted f fs h = tt
-returns-rest (Undefined opcode) f fs h = tt
+returns-rest : (answer : Stepped) (f : Frame) (fs : List Frame) → ReturnsBelow answer (f ∷ fs)
+    → ReturnsBelow answer fs
+returns-rest answer f fs h = λ from is. (h from is).1
 
-returns-front : (answer : Stepped) (rest : List Frame) (top : Frame) → ReturnsBelow answer (rest ++ top ∷ []) → ReturnsBelow answer rest
-returns-front (Returned from) rest top h = at_least-front from rest top h
-returns-front (Called called target) rest top h = tt
-returns-front Done rest top h = tt
-returns-front Halted rest top h = tt
-returns-front (Undefined opcode) rest top h = tt
+returns-front : (answer : Stepped) (rest : List Frame) (top : Frame) → ReturnsBelow answer (rest ++ top ∷ [])
+    → ReturnsBelow answer rest
+returns-front answer rest top h = λ from is. at_least-front from rest top (h from is)
 
-returns-last : (answer : Stepped) (rest : List Frame) (top : Frame) → ReturnsBelow answer (rest ++ top ∷ []) → ReturnsBelowSlot answer top.slot
-returns-last (Returned from) rest top h = at_least-last from rest top h
-returns-last (Called called target) rest top h = tt
-returns-last Done rest top h = tt
-returns-last Halted rest top h = tt
-returns-last (Undefined opcode) rest top h = tt
+returns-last : (answer : Stepped) (rest : List Frame) (top : Frame) → ReturnsBelow answer (rest ++ top ∷ [])
+    → ReturnsBelowSlot answer top.slot
+returns-last answer rest top h = λ from is. at_least-last from rest top (h from is)
 
 -- a frame at or above one that stays does too
 stays-up : (answer : Stepped) (sp slot higher : ℕ) → slot ≤ higher → ReturnsBelowSlot answer slot
     → ended_by answer sp slot ≡ false → ended_by answer sp higher ≡ false
-stays-up (Returned from) sp slot higher h below e = grind (arith, nat_tests)
-stays-up (Called called target) sp slot higher h below e = grind (arith, nat_tests)
-stays-up Done sp slot higher h below e = grind (arith, nat_tests)
-stays-up Halted sp slot higher h below e = grind (arith, nat_tests)
-stays-up (Undefined opcode) sp slot higher h below e = grind (arith, nat_tests)
+stays-up (Returned from) sp slot higher h below e =
+    let from-below : from ≤ slot = below from refl in
+    grind (arith, nat_tests)
+stays-up answer sp slot higher h below e = grind (arith, nat_tests)
 
 -- where the newest of falling frames stays, all do
-survivors-all : (answer : Stepped) (sp bound : ℕ) (rest : List Frame) (top : Frame) → Falls bound (rest ++ top ∷ []) → ReturnsBelowSlot answer top.slot
+survivors-all : (answer : Stepped) (sp bound : ℕ) (rest : List Frame) (top : Frame)
+    → Falls bound (rest ++ top ∷ []) → ReturnsBelowSlot answer top.slot
     → ended_by answer sp top.slot ≡ false → survivors answer sp (rest ++ top ∷ []) ≡ rest ++ top ∷ []
 survivors-all answer sp bound [] top falls below e = rw e refl
 survivors-all answer sp bound (f ∷ rest) top falls below e =
     let under : top.slot < f.slot = falls-last f.slot rest top falls.1 in
-    let stays : ended_by answer sp f.slot ≡ false = stays-up answer sp top.slot f.slot (omega arith) below e in
+    let stays : ended_by answer sp f.slot ≡ false =
+    stays-up answer sp top.slot f.slot (omega arith) below e in
     rw stays (ap (λ r. f ∷ r) (survivors-all answer sp f.slot rest top falls.1 below e))
 
 -- where the newest is ended, it goes
-survivors-pop : (answer : Stepped) (sp : ℕ) (rest : List Frame) (top : Frame) → ended_by answer sp top.slot ≡ true → survivors answer sp (rest ++ top ∷ []) ≡ survivors answer sp rest
+survivors-pop : (answer : Stepped) (sp : ℕ) (rest : List Frame) (top : Frame)
+    → ended_by answer sp top.slot ≡ true → survivors answer sp (rest ++ top ∷ []) ≡ survivors answer sp rest
 survivors-pop answer sp [] top e = rw e refl
 survivors-pop answer sp (f ∷ rest) top e = rw (survivors-pop answer sp rest top e) refl
 
 -- a list that has a newest element
-split-last : (fs : List Frame) (top : Frame) → slice_get fs (length fs - 1) ≡ Some top → fs ≡ take (length fs - 1) fs ++ top ∷ []
+split-last : (fs : List Frame) (top : Frame) → slice_get fs (length fs - 1) ≡ Some top
+    → fs ≡ take (length fs - 1) fs ++ top ∷ []
 split-last [] top e = cc
 split-last (f ∷ []) top e = grind (arith, common_steps)
 split-last (f ∷ g ∷ fs) top e =
     let two : suc (suc (length fs)) - 1 ≡ suc (length fs) = omega arith in
     let one : suc (length fs) - 1 ≡ length fs = omega arith in
-    let shorter : slice_get (g ∷ fs) (length fs) ≡ Some top → g ∷ fs ≡ take (length fs) (g ∷ fs) ++ top ∷ [] = rw one at (split-last (g ∷ fs) top) in
+    let shorter : slice_get (g ∷ fs) (length fs) ≡ Some top → g ∷ fs ≡ take (length fs) (g ∷ fs) ++ top ∷ [] =
+    rw one at (split-last (g ∷ fs) top) in
     rw two (ap (λ r. f ∷ r) (shorter (rw two at e)))
 
 -- the loop of the pops, where it ends
-pub survivors-last : (answer : Stepped) (sp bound : ℕ) (fs : List Frame) (top : Frame) → slice_get fs (length fs - 1) ≡ Some top → Falls bound fs → ReturnsBelow answer fs
+pub survivors-last : (answer : Stepped) (sp bound : ℕ) (fs : List Frame) (top : Frame)
+    → slice_get fs (length fs - 1) ≡ Some top → Falls bound fs → ReturnsBelow answer fs
     → ended_by answer sp top.slot ≡ false → survivors answer sp fs ≡ fs
 survivors-last answer sp bound fs top is falls returns e =
     let rest : List Frame = take (length fs - 1) fs in
@@ -124,7 +117,8 @@ survivors-last answer sp bound fs top is falls returns e =
     let P : List Frame → Type 0 = λ xs. survivors answer sp xs ≡ xs in
     let F : List Frame → Type 0 = λ xs. Falls bound xs in
     let R : List Frame → Type 0 = λ xs. ReturnsBelow answer xs in
-    subst P (sym split) (survivors-all answer sp bound rest top (subst F split falls) (returns-last answer rest top (subst R split returns)) e)
+    subst P (sym split) (survivors-all answer sp bound rest top (subst F split falls)
+    (returns-last answer rest top (subst R split returns)) e)
 
 -- the frames without the newest one, which is ended
 pub record Popped (answer : Stepped) (sp bound : ℕ) (fs rest : List Frame) : Type 0 where
@@ -133,7 +127,9 @@ pub record Popped (answer : Stepped) (sp bound : ℕ) (fs rest : List Frame) : T
   pub returns : ReturnsBelow answer rest
 
 -- the loop of the pops, where it goes on
-pub popped : (answer : Stepped) (sp bound : ℕ) (fs rest : List Frame) (top : Frame) → slice_get fs (length fs - 1) ≡ Some top → rest ≡ take (length fs - 1) fs → Falls bound fs → ReturnsBelow answer fs
+pub popped : (answer : Stepped) (sp bound : ℕ) (fs rest : List Frame) (top : Frame)
+    → slice_get fs (length fs - 1) ≡ Some top → rest ≡ take (length fs - 1) fs → Falls bound fs
+    → ReturnsBelow answer fs
     → ended_by answer sp top.slot ≡ true → Popped answer sp bound fs rest
 popped answer sp bound fs rest top is rest-is falls returns e =
     let split : fs ≡ rest ++ top ∷ [] = rw rest-is (split-last fs top is) in
@@ -150,63 +146,89 @@ survivors-at_least : (answer : Stepped) (sp : ℕ) (fs : List Frame) → AtLeast
 survivors-at_least answer sp [] = tt
 survivors-at_least answer sp (f ∷ fs) =
     let P : List Frame → Type 0 = λ xs. AtLeast sp xs in
-    cond_both (not (ended_by answer sp f.slot)) (f ∷ survivors answer sp fs) (survivors answer sp fs) P (λ e. (grind (arith, nat_tests), survivors-at_least answer sp fs)) (λ e. survivors-at_least answer sp fs)
+    cond_both (not (ended_by answer sp f.slot)) (f ∷ survivors answer sp fs) (survivors answer sp fs) P
+    (λ e. (grind (arith, nat_tests), survivors-at_least answer sp fs))
+    (λ e. survivors-at_least answer sp fs)
 
-survivors-falls : (answer : Stepped) (sp bound : ℕ) (fs : List Frame) → Falls bound fs → Falls bound (survivors answer sp fs)
+survivors-falls : (answer : Stepped) (sp bound : ℕ) (fs : List Frame) → Falls bound fs
+    → Falls bound (survivors answer sp fs)
 survivors-falls answer sp bound [] falls = tt
 survivors-falls answer sp bound (f ∷ fs) falls =
     let below : f.slot < bound = falls.0 in
     let P : List Frame → Type 0 = λ xs. Falls bound xs in
-    cond_both (not (ended_by answer sp f.slot)) (f ∷ survivors answer sp fs) (survivors answer sp fs) P (λ e. (below, survivors-falls answer sp f.slot fs falls.1)) (λ e. falls-more f.slot bound (survivors answer sp fs) (omega arith) (survivors-falls answer sp f.slot fs falls.1))
+    cond_both (not (ended_by answer sp f.slot)) (f ∷ survivors answer sp fs) (survivors answer sp fs) P
+    (λ e. (below, survivors-falls answer sp f.slot fs falls.1))
+    (λ e. falls-more f.slot bound (survivors answer sp fs) (omega arith)
+    (survivors-falls answer sp f.slot fs falls.1))
 
 -- a call's slot is below each that the call leaves
-falls-call : (sp slot target bound : ℕ) (fs : List Frame) (g : Frame) → g.slot ≡ slot → slot < bound → Falls bound fs → Falls bound (survivors (Called slot target) sp fs ++ g ∷ [])
+falls-call : (sp slot target bound : ℕ) (fs : List Frame) (g : Frame) → g.slot ≡ slot → slot < bound
+    → Falls bound fs → Falls bound (survivors (Called slot target) sp fs ++ g ∷ [])
 falls-call sp slot target bound [] g is h falls = (rw is h, tt)
 falls-call sp slot target bound (f ∷ fs) g is h falls =
     let P : List Frame → Type 0 = λ xs. Falls bound (xs ++ g ∷ []) in
     let below : f.slot < bound = falls.0 in
-    cond_both (not (ended_by (Called slot target) sp f.slot)) (f ∷ survivors (Called slot target) sp fs) (survivors (Called slot target) sp fs) P
+    cond_both (not (ended_by (Called slot target) sp f.slot)) (f ∷ survivors (Called slot target) sp fs)
+    (survivors (Called slot target) sp fs) P
     (λ e. (below, falls-call sp slot target f.slot fs g is (grind (arith, nat_tests)) falls.1))
     (λ e. falls-call sp slot target bound fs g is h (falls-more f.slot bound fs (omega arith) falls.1))
 
 -- the frames after a step still fall, and none is below SP
-advanced-falls : (answer : Stepped) (site sp : ℕ) (fs : List Frame) → sp < 65536 → CallsAt answer sp → Falls 65536 fs → Falls 65536 (survivors answer sp fs ++ made_by answer site)
-advanced-falls (Called slot target) site sp fs h is falls = falls-call sp slot target 65536 fs (record { slot = slot; target = target; site = site }) refl (omega arith) falls
-advanced-falls (Returned from) site sp fs h is falls = rw (append-nil (survivors (Returned from) sp fs)) (survivors-falls (Returned from) sp 65536 fs falls)
-advanced-falls Done site sp fs h is falls = rw (append-nil (survivors Done sp fs)) (survivors-falls Done sp 65536 fs falls)
-advanced-falls Halted site sp fs h is falls = rw (append-nil (survivors Halted sp fs)) (survivors-falls Halted sp 65536 fs falls)
-advanced-falls (Undefined opcode) site sp fs h is falls = rw (append-nil (survivors (Undefined opcode) sp fs)) (survivors-falls (Undefined opcode) sp 65536 fs falls)
+advanced-falls : (answer : Stepped) (site sp : ℕ) (fs : List Frame) → sp < 65536 → CallsAt answer sp
+    → Falls 65536 fs → Falls 65536 (survivors answer sp fs ++ made_by answer site)
+advanced-falls (Called slot target) site sp fs h calls falls =
+    let is : slot ≡ sp = calls slot target refl in
+    falls-call sp slot target 65536 fs (record { slot = slot; target = target; site = site }) refl
+    (omega arith) falls
+advanced-falls answer site sp fs h calls falls =
+    rw (append-nil (survivors answer sp fs)) (survivors-falls answer sp 65536 fs falls)
 
-advanced-above : (answer : Stepped) (site sp : ℕ) (fs : List Frame) → CallsAt answer sp → AtLeast sp (survivors answer sp fs ++ made_by answer site)
-advanced-above (Called slot target) site sp fs is = at_least-push sp (survivors (Called slot target) sp fs) (record { slot = slot; target = target; site = site }) (survivors-at_least (Called slot target) sp fs) (omega arith)
-advanced-above (Returned from) site sp fs is = rw (append-nil (survivors (Returned from) sp fs)) (survivors-at_least (Returned from) sp fs)
-advanced-above Done site sp fs is = rw (append-nil (survivors Done sp fs)) (survivors-at_least Done sp fs)
-advanced-above Halted site sp fs is = rw (append-nil (survivors Halted sp fs)) (survivors-at_least Halted sp fs)
-advanced-above (Undefined opcode) site sp fs is = rw (append-nil (survivors (Undefined opcode) sp fs)) (survivors-at_least (Undefined opcode) sp fs)
+advanced-above : (answer : Stepped) (site sp : ℕ) (fs : List Frame) → CallsAt answer sp
+    → AtLeast sp (survivors answer sp fs ++ made_by answer site)
+advanced-above (Called slot target) site sp fs calls =
+    let is : slot ≡ sp = calls slot target refl in
+    at_least-push sp (survivors (Called slot target) sp fs)
+    (record { slot = slot; target = target; site = site }) (survivors-at_least (Called slot target) sp fs)
+    (omega arith)
+advanced-above answer site sp fs calls =
+    rw (append-nil (survivors answer sp fs)) (survivors-at_least answer sp fs)
 
 -- below a frame that is ended, all are
-ended-down : (answer : Stepped) (sp : ℕ) (f : Frame) (fs : List Frame) → Falls f.slot fs → ReturnsBelow answer fs → ended_by answer sp f.slot ≡ true → survivors answer sp fs ≡ []
+ended-down : (answer : Stepped) (sp : ℕ) (f : Frame) (fs : List Frame) → Falls f.slot fs
+    → ReturnsBelow answer fs → ended_by answer sp f.slot ≡ true → survivors answer sp fs ≡ []
 ended-down answer sp f [] falls returns e = refl
 ended-down answer sp f (g ∷ gs) falls returns e =
     let below : g.slot < f.slot = falls.0 in
-    let ended : ended_by answer sp g.slot ≡ true = elim (cases_Bool (ended_by answer sp g.slot)) [ inl t ↦ t | inr n ↦ absurd (both_ways (ended_by answer sp f.slot) (stays-up answer sp g.slot f.slot (omega arith) (returns-first answer g gs returns) n) e) ] in
-    rw ended (ended-down answer sp f gs (falls-more g.slot f.slot gs (omega arith) falls.1) (returns-rest answer g gs returns) e)
+    let ended : ended_by answer sp g.slot ≡ true =
+    elim (cases_Bool (ended_by answer sp g.slot)) [
+      | inl t ↦ t
+      | inr n ↦
+          absurd (both_ways (ended_by answer sp f.slot) (stays-up answer sp g.slot f.slot (omega arith)
+          (returns-first answer g gs returns) n) e)
+    ] in
+    rw ended (ended-down answer sp f gs (falls-more g.slot f.slot gs (omega arith) falls.1)
+    (returns-rest answer g gs returns) e)
 
 -- how many of the older frames are left, from how many are left of all
-older-left : (answer : Stepped) (sp bound : ℕ) (older newer : List Frame) → Falls bound (older ++ newer) → ReturnsBelow answer (older ++ newer)
+older-left : (answer : Stepped) (sp bound : ℕ) (older newer : List Frame) → Falls bound (older ++ newer)
+    → ReturnsBelow answer (older ++ newer)
     → length (survivors answer sp older) ≡ min (length older) (length (survivors answer sp (older ++ newer)))
 older-left answer sp bound [] newer falls returns = omega arith
 older-left answer sp bound (f ∷ older) newer falls returns =
-    let shorter = older-left answer sp f.slot older newer falls.1 (returns-rest answer f (older ++ newer) returns) in
+    let shorter =
+    older-left answer sp f.slot older newer falls.1 (returns-rest answer f (older ++ newer) returns) in
     elim (cases_Bool (ended_by answer sp f.slot)) [
       | inr n ↦ rw n (omega (arith, shorter))
       | inl t ↦
-          let none : survivors answer sp (older ++ newer) ≡ [] = ended-down answer sp f (older ++ newer) falls.1 (returns-rest answer f (older ++ newer) returns) t in
+          let none : survivors answer sp (older ++ newer) ≡ [] =
+          ended-down answer sp f (older ++ newer) falls.1 (returns-rest answer f (older ++ newer) returns)
+          t in
           let left : length (survivors answer sp older) ≡ min (length older) 0 = rw none at shorter in
           rw (t, none) (omega arith)
     ]
 
-leaves_oldest : (answer : Stepped) (sp bound : ℕ) (fs : List Frame) → Falls bound fs → ReturnsBelow answer fs → LeavesOldest answer sp fs (length (survivors answer sp fs))
+leaves_oldest : (answer : Stepped) (sp bound : ℕ) (fs : List Frame) → Falls bound fs → ReturnsBelow answer fs
+    → LeavesOldest answer sp fs (length (survivors answer sp fs))
 leaves_oldest answer sp bound fs falls returns older newer split =
     let F : List Frame → Type 0 = λ xs. Falls bound xs in
     let R : List Frame → Type 0 = λ xs. ReturnsBelow answer xs in
@@ -220,19 +242,24 @@ pub record Advanced (answer : Stepped) (site sp : ℕ) (old popped new : List Fr
   pub above : AtLeast sp new
   pub few : length new ≤ 65536
 
-pub advanced : (answer : Stepped) (site sp : ℕ) (old inside popped new : List Frame) → inside ≡ old → sp < 65536 → ReturnsBelow answer old → CallsAt answer sp → Falls 65536 inside
-    → popped ≡ survivors answer sp inside → new ≡ popped ++ made_by answer site → Advanced answer site sp old popped new
+pub advanced : (answer : Stepped) (site sp : ℕ) (old inside popped new : List Frame) → inside ≡ old
+    → sp < 65536 → ReturnsBelow answer old → CallsAt answer sp → Falls 65536 inside
+    → popped ≡ survivors answer sp inside → new ≡ popped ++ made_by answer site
+    → Advanced answer site sp old popped new
 advanced answer site sp old inside popped new view-is h returns calls falls popped-is new-is =
     let F : List Frame → Type 0 = λ xs. Falls 65536 xs in
     let A : List Frame → Type 0 = λ xs. AtLeast sp xs in
     let L : ℕ → Type 0 = λ n. LeavesOldest answer sp old n in
     let left : popped ≡ survivors answer sp old = rw (← view-is) popped-is in
-    let now : survivors answer sp old ++ made_by answer site ≡ new = sym (new-is ∙ ap (λ xs. xs ++ made_by answer site) left) in
+    let now : survivors answer sp old ++ made_by answer site ≡ new =
+    sym (new-is ∙ ap (λ xs. xs ++ made_by answer site) left) in
     let falls-old : Falls 65536 old = subst F view-is falls in
     let falls-new : Falls 65536 new = subst F now (advanced-falls answer site sp old h calls falls-old) in
     record {
       live = advances answer site sp old new (sym now);
-      oldest = subst L (ap (λ (xs : List Frame). length xs) (sym left)) (leaves_oldest answer sp 65536 old falls-old returns);
+      oldest =
+          subst L (ap (λ (xs : List Frame). length xs) (sym left))
+          (leaves_oldest answer sp 65536 old falls-old returns);
       falls = falls-new;
       above = subst A now (advanced-above answer site sp old calls);
       few = falls-length 65536 new falls-new;

@@ -1,14 +1,15 @@
 -- What an answer tells of SP, for every instruction and acceptance of the machine.
-use Rattle.std.proofs.Common.{◌≡◌, ℕ, ◌+◌, ◌*◌, List, Some, Bool, if◌then◌else◌, refl, sym, subst}
+use Rattle.std.proofs.Common.{◌≡◌, ℕ, ◌+◌, ◌*◌, List, Some, Bool, if◌then◌else◌, refl, sym, subst, inl, inr}
+use Rattle.std.proofs.Common.{◌⊎◌}
 use Rattle.std.proofs.lemmas.Bool.{cond_both}
 use Rattle.i80_rows.specs.declared.instruction.Instr.{Instr}
-use Rattle.i80_rows.specs.declared.instruction.Instr.TheVariants.{Nop, Lxi, Stax, Ldax, Shld, Lhld, Sta, Lda, Inx, Dcx, Dad, Inr, Dcr, Mvi, Rotate, Daa, Cma, Stc, Cmc, Mov, MovFromM, MovToM, Hlt, Alu, AluImmediate, Jmp, JumpIf, Call, CallIf, Ret, RetIf, Rst, Push, Pop, Xthl, Xchg, Pchl, Sphl, Out, In, Di, Ei}
+use Rattle.i80_rows.specs.declared.instruction.Instr.TheVariants.{Hlt, JumpIf, Call, CallIf, Ret, RetIf, Rst}
 use Rattle.i80_rows.specs.Codes.{vector_code}
 use Rattle.i80_rows.specs.Rows.{Row, Undefined, Alone, Byte, Word, row}
 use Rattle.i80_exec.specs.declared.registers.Interrupts.{Interrupts}
 use Rattle.i80_exec.specs.declared.registers.Interrupts.TheVariants.{Off, Arming, On}
 use Rattle.i80_exec.specs.declared.registers.Stepped.{Stepped}
-use Rattle.i80_exec.specs.declared.registers.Stepped.TheVariants as stepped
+use Rattle.i80_exec.specs.declared.registers.Stepped.TheVariants.{Done, Halted}
 use Rattle.i80_exec.specs.State.{MachineState, wrapped, byte_at, word_at, with_pc, with_interrupts}
 use Rattle.i80_exec.specs.Effect.{Outcome, done, effect, called, returned, holds}
 use Rattle.i80_exec.specs.Step.{by_row, instruction, accepted_in, acceptance}
@@ -20,64 +21,41 @@ abbrev Tells : ℕ → Outcome → Type 0
 Tells sp o = TellsSp o.answer sp o.after.regs.sp
 
 called-tells : (m : MachineState) (target : ℕ) → Tells m.regs.sp (called m target)
-called-tells m target = record { returns = tt; calls = refl; keeps = tt }
+called-tells m target = record { returns = λ from is. cc; calls = λ slot to is. cc; keeps = λ opcode is. cc }
 
 returned-tells : (m : MachineState) → Tells m.regs.sp (returned m)
-returned-tells m = record { returns = refl; calls = tt; keeps = tt }
+returned-tells m = record { returns = λ from is. cc; calls = λ slot to is. cc; keeps = λ opcode is. cc }
 
-done-tells : (sp : ℕ) (m : MachineState) → Tells sp (done m)
-done-tells sp m = record { returns = tt; calls = tt; keeps = tt }
+-- no call, no return, and defined
+quiet : (answer : Stepped) (before after : ℕ) → answer ≡ Done ⊎ answer ≡ Halted → TellsSp answer before after
+quiet answer before after (inl done) =
+    record { returns = λ from is. cc; calls = λ slot to is. cc; keeps = λ opcode is. cc }
+quiet answer before after (inr halted) =
+    record { returns = λ from is. cc; calls = λ slot to is. cc; keeps = λ opcode is. cc }
 
 -- of two outcomes the one that a condition chooses
 choice-tells : (sp : ℕ) (b : Bool) (o p : Outcome) → Tells sp o → Tells sp p → Tells sp (if b then o else p)
 choice-tells sp b o p left right = cond_both b o p (Tells sp) (λ _. left) (λ _. right)
 
 effect-tells : (i : Instr) (input : ℕ → ℕ) (m : MachineState) → Tells m.regs.sp (effect i input m)
-effect-tells Nop input m = record { returns = tt; calls = tt; keeps = tt }
-effect-tells (Lxi p word) input m = record { returns = tt; calls = tt; keeps = tt }
-effect-tells (Stax p) input m = record { returns = tt; calls = tt; keeps = tt }
-effect-tells (Ldax p) input m = record { returns = tt; calls = tt; keeps = tt }
-effect-tells (Shld address) input m = record { returns = tt; calls = tt; keeps = tt }
-effect-tells (Lhld address) input m = record { returns = tt; calls = tt; keeps = tt }
-effect-tells (Sta address) input m = record { returns = tt; calls = tt; keeps = tt }
-effect-tells (Lda address) input m = record { returns = tt; calls = tt; keeps = tt }
-effect-tells (Inx p) input m = record { returns = tt; calls = tt; keeps = tt }
-effect-tells (Dcx p) input m = record { returns = tt; calls = tt; keeps = tt }
-effect-tells (Dad p) input m = record { returns = tt; calls = tt; keeps = tt }
-effect-tells (Inr r) input m = record { returns = tt; calls = tt; keeps = tt }
-effect-tells (Dcr r) input m = record { returns = tt; calls = tt; keeps = tt }
-effect-tells (Mvi r byte) input m = record { returns = tt; calls = tt; keeps = tt }
-effect-tells (Rotate x) input m = record { returns = tt; calls = tt; keeps = tt }
-effect-tells Daa input m = record { returns = tt; calls = tt; keeps = tt }
-effect-tells Cma input m = record { returns = tt; calls = tt; keeps = tt }
-effect-tells Stc input m = record { returns = tt; calls = tt; keeps = tt }
-effect-tells Cmc input m = record { returns = tt; calls = tt; keeps = tt }
-effect-tells (Mov to from) input m = record { returns = tt; calls = tt; keeps = tt }
-effect-tells (MovFromM to) input m = record { returns = tt; calls = tt; keeps = tt }
-effect-tells (MovToM from) input m = record { returns = tt; calls = tt; keeps = tt }
-effect-tells Hlt input m = record { returns = tt; calls = tt; keeps = tt }
-effect-tells (Alu x r) input m = record { returns = tt; calls = tt; keeps = tt }
-effect-tells (AluImmediate x byte) input m = record { returns = tt; calls = tt; keeps = tt }
-effect-tells (Jmp address) input m = record { returns = tt; calls = tt; keeps = tt }
-effect-tells (JumpIf c address) input m = choice-tells m.regs.sp (holds c m.regs.flags) (done (with_pc m address)) (done m) (done-tells m.regs.sp (with_pc m address)) (done-tells m.regs.sp m)
+effect-tells Hlt input m = quiet _ _ _ (inr refl)
+effect-tells (JumpIf c address) input m =
+    choice-tells m.regs.sp (holds c m.regs.flags) (done (with_pc m address)) (done m) (quiet _ _ _ (inl refl))
+    (quiet _ _ _ (inl refl))
 effect-tells (Call address) input m = called-tells m address
-effect-tells (CallIf c address) input m = choice-tells m.regs.sp (holds c m.regs.flags) (called m address) (done m) (called-tells m address) (done-tells m.regs.sp m)
+effect-tells (CallIf c address) input m =
+    choice-tells m.regs.sp (holds c m.regs.flags) (called m address) (done m) (called-tells m address)
+    (quiet _ _ _ (inl refl))
 effect-tells Ret input m = returned-tells m
-effect-tells (RetIf c) input m = choice-tells m.regs.sp (holds c m.regs.flags) (returned m) (done m) (returned-tells m) (done-tells m.regs.sp m)
+effect-tells (RetIf c) input m =
+    choice-tells m.regs.sp (holds c m.regs.flags) (returned m) (done m) (returned-tells m)
+    (quiet _ _ _ (inl refl))
 effect-tells (Rst n) input m = called-tells m (8 * vector_code n)
-effect-tells (Push p) input m = record { returns = tt; calls = tt; keeps = tt }
-effect-tells (Pop p) input m = record { returns = tt; calls = tt; keeps = tt }
-effect-tells Xthl input m = record { returns = tt; calls = tt; keeps = tt }
-effect-tells Xchg input m = record { returns = tt; calls = tt; keeps = tt }
-effect-tells Pchl input m = record { returns = tt; calls = tt; keeps = tt }
-effect-tells Sphl input m = record { returns = tt; calls = tt; keeps = tt }
-effect-tells (Out p) input m = record { returns = tt; calls = tt; keeps = tt }
-effect-tells (In p) input m = record { returns = tt; calls = tt; keeps = tt }
-effect-tells Di input m = record { returns = tt; calls = tt; keeps = tt }
-effect-tells Ei input m = record { returns = tt; calls = tt; keeps = tt }
+effect-tells i input m = quiet _ _ _ (inl refl)
 
 row-tells : (r : Row) (input : ℕ → ℕ) (m : MachineState) → Tells m.regs.sp (by_row r input m)
-row-tells Undefined input m = record { returns = tt; calls = tt; keeps = refl }
+row-tells Undefined input m =
+    record { returns = λ from is. cc; calls = λ slot to is. cc; keeps = λ opcode is. refl }
 row-tells (Alone i) input m =
     let e = effect-tells i input (with_pc m (wrapped (m.regs.pc + 1))) in
     record { returns = e.returns; calls = e.calls; keeps = e.keeps }
@@ -89,10 +67,12 @@ row-tells (Word f) input m =
     record { returns = e.returns; calls = e.calls; keeps = e.keeps }
 
 -- the instruction at PC, whatever the ports answer
-pub instruction-tells : (input : ℕ → ℕ) (m : MachineState) → TellsSp (instruction input m).answer m.regs.sp (instruction input m).after.regs.sp
+pub instruction-tells : (input : ℕ → ℕ) (m : MachineState)
+    → TellsSp (instruction input m).answer m.regs.sp (instruction input m).after.regs.sp
 instruction-tells input m = row-tells (row (byte_at m m.regs.pc)) input m
 
-accepted-tells : (state : Interrupts) (n : ℕ) (m : MachineState) (o : Outcome) → accepted_in state n m ≡ Some o → Tells m.regs.sp o
+accepted-tells : (state : Interrupts) (n : ℕ) (m : MachineState) (o : Outcome)
+    → accepted_in state n m ≡ Some o → Tells m.regs.sp o
 accepted-tells On n m o is =
     let same : called (with_interrupts m Off) (8 * n) ≡ o = cc in
     subst (Tells m.regs.sp) same (called-tells (with_interrupts m Off) (8 * n))
@@ -100,15 +80,13 @@ accepted-tells Arming n m o is = cc
 accepted-tells Off n m o is = cc
 
 -- an accepted request
-pub acceptance-tells : (n : ℕ) (m : MachineState) (o : Outcome) → acceptance n m ≡ Some o → TellsSp o.answer m.regs.sp o.after.regs.sp
+pub acceptance-tells : (n : ℕ) (m : MachineState) (o : Outcome) → acceptance n m ≡ Some o
+    → TellsSp o.answer m.regs.sp o.after.regs.sp
 acceptance-tells n m o is = accepted-tells m.regs.interrupts n m o is
 
 -- a step from an SP that no slot is below returns from below them all
-pub returns_below : (answer : Stepped) (before after : ℕ) (fs : List Frame) → TellsSp answer before after → AtLeast before fs → ReturnsBelow answer fs
-returns_below (stepped.Returned from) before after fs tells above =
+pub returns_below : (answer : Stepped) (before after : ℕ) (fs : List Frame) → TellsSp answer before after
+    → AtLeast before fs → ReturnsBelow answer fs
+returns_below answer before after fs tells above = λ from is.
     let P : ℕ → Type 0 = λ n. AtLeast n fs in
-    subst P (sym tells.returns) above
-returns_below (stepped.Called slot target) before after fs tells above = tt
-returns_below stepped.Done before after fs tells above = tt
-returns_below stepped.Halted before after fs tells above = tt
-returns_below (stepped.Undefined opcode) before after fs tells above = tt
+    subst P (sym (tells.returns from is)) above

@@ -2,7 +2,7 @@
 use Rattle.std.specs.Prelude.{◌≡◌, ℕ, ◌<◌, ◌≤◌, List, [], ◌∷◌, ◌++◌, length, min, not}
 use Rattle.std.specs.List.{filter}
 use Rattle.i80_exec.specs.declared.registers.Stepped.{Stepped}
-use Rattle.i80_exec.specs.declared.registers.Stepped.TheVariants.{Done, Called, Returned, Halted, Undefined}
+use Rattle.i80_exec.specs.declared.registers.Stepped.TheVariants.{Called, Returned, Undefined}
 use Rattle.lab_frames.specs.declared.frame.Frame.{Frame}
 use Rattle.lab_frames.specs.Live.{BoardStep, change_of, ended_by, live}
 
@@ -41,35 +41,19 @@ AtLeast low (f ∷ fs) = (low ≤ f.slot) × AtLeast low fs
 
 -- a return is from a slot at or below those of the frames
 abbrev pub ReturnsBelow : Stepped → List Frame → Type 0
-ReturnsBelow (Returned from) frames = AtLeast from frames
-ReturnsBelow (Called called target) frames = Unit {0}
-ReturnsBelow Done frames = Unit {0}
-ReturnsBelow Halted frames = Unit {0}
-ReturnsBelow (Undefined opcode) frames = Unit {0}
+ReturnsBelow answer frames = (from : ℕ) → answer ≡ Returned from → AtLeast from frames
 
 -- a call leaves SP at its slot
 abbrev pub CallsAt : Stepped → ℕ → Type 0
-CallsAt (Called called target) sp = called ≡ sp
-CallsAt (Returned from) sp = Unit {0}
-CallsAt Done sp = Unit {0}
-CallsAt Halted sp = Unit {0}
-CallsAt (Undefined opcode) sp = Unit {0}
+CallsAt answer sp = (slot target : ℕ) → answer ≡ Called slot target → slot ≡ sp
 
 -- a return is from this SP, the one before the step
 abbrev pub ReturnsFrom : Stepped → ℕ → Type 0
-ReturnsFrom (Returned from) sp = from ≡ sp
-ReturnsFrom (Called called target) sp = Unit {0}
-ReturnsFrom Done sp = Unit {0}
-ReturnsFrom Halted sp = Unit {0}
-ReturnsFrom (Undefined opcode) sp = Unit {0}
+ReturnsFrom answer sp = (from : ℕ) → answer ≡ Returned from → from ≡ sp
 
 -- an undefined opcode leaves SP as it was
 abbrev pub KeepsSp : Stepped → ℕ → ℕ → Type 0
-KeepsSp (Undefined opcode) before after = after ≡ before
-KeepsSp (Called called target) before after = Unit {0}
-KeepsSp (Returned from) before after = Unit {0}
-KeepsSp Done before after = Unit {0}
-KeepsSp Halted before after = Unit {0}
+KeepsSp answer before after = (opcode : ℕ) → answer ≡ Undefined opcode → after ≡ before
 
 -- SP before a step and after it, as its answer has them
 pub record TellsSp (answer : Stepped) (before after : ℕ) : Type 0 where

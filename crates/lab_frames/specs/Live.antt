@@ -3,7 +3,7 @@ use Rattle.std.specs.Prelude.{ℕ, List, [], ◌∷◌, ◌++◌, Option, Bool, 
 use Rattle.std.specs.Prelude.{nat_lt, nat_le}
 use Rattle.std.specs.List.{filter}
 use Rattle.i80_exec.specs.declared.registers.Stepped.{Stepped}
-use Rattle.i80_exec.specs.declared.registers.Stepped.TheVariants.{Done, Called, Returned, Halted, Undefined}
+use Rattle.i80_exec.specs.declared.registers.Stepped.TheVariants.{Called, Returned}
 use Rattle.i80_exec.specs.declared.ports.PortOperation.{PortOperation}
 use Rattle.i80_exec.specs.State.{MachineState}
 use Rattle.lab_frames.specs.declared.frame.Frame.{Frame}
@@ -28,10 +28,7 @@ change_of (Acceptance change) = change
 -- the frame of a call that was made at this site; no other answer makes one
 abbrev pub made_by : Stepped → ℕ → List Frame
 made_by (Called slot target) site = record { slot = slot; target = target; site = site } ∷ []
-made_by (Returned from) site = []
-made_by Done site = []
-made_by Halted site = []
-made_by (Undefined opcode) site = []
+made_by answer site = []
 
 -- PC before the step is the site: the call instruction's address, or the PC that an acceptance pushes
 abbrev pub made : BoardStep → List Frame
@@ -41,9 +38,7 @@ made step = made_by (change_of step).answer (change_of step).before.regs.pc
 abbrev pub returned_or_covered : Stepped → ℕ → Bool
 returned_or_covered (Called called target) slot = nat_le slot called
 returned_or_covered (Returned from) slot = slot == from
-returned_or_covered Done slot = false
-returned_or_covered Halted slot = false
-returned_or_covered (Undefined opcode) slot = false
+returned_or_covered answer slot = false
 
 -- or where SP is left above the slot
 abbrev pub ended_by : Stepped → ℕ → ℕ → Bool

@@ -9,17 +9,22 @@ push_made-requires c =
     let sp : c.args.sp < 65536 = omega arith in
     let popped = c.pop_ended.new.frames.items in
     let made = made_by c.args.answer c.args.site in
-    let after = advanced c.args.answer c.args.site c.args.sp c.args.self.now _ popped (popped ++ made) c.self.view_is sp c.requires.returns c.requires.calls c.self.invariant.0 c.pop_ended.ensures.popped refl in
+    let after =
+    advanced c.args.answer c.args.site c.args.sp c.args.self.now _ popped (popped ++ made) c.self.view_is
+    sp c.requires.returns c.requires.calls c.self.invariant.0 c.pop_ended.ensures.popped refl in
     let few = after.few in
     let both : length (popped ++ made) ≡ length popped + length made = length-append popped made in
     let left : vec_len c.pop_ended.new.frames ≡ length popped = search rules in
     omega arith
 
 -- what holds of the frames once the made one is pushed
-after_step : (c : After-push_made) → Advanced c.args.answer c.args.site c.args.sp c.args.self.now c.pop_ended.new.frames.items c.push_made.new.frames.items
+after_step : (c : After-push_made)
+    → Advanced c.args.answer c.args.site c.args.sp c.args.self.now c.pop_ended.new.frames.items
+    c.push_made.new.frames.items
 after_step c =
     let sp : c.args.sp < 65536 = omega arith in
-    advanced c.args.answer c.args.site c.args.sp c.args.self.now _ _ _ c.self.view_is sp c.requires.returns c.requires.calls c.self.invariant.0 c.pop_ended.ensures.popped c.push_made.ensures.pushed
+    advanced c.args.answer c.args.site c.args.sp c.args.self.now _ _ _ c.self.view_is sp c.requires.returns
+    c.requires.calls c.self.invariant.0 c.pop_ended.ensures.popped c.push_made.ensures.pushed
 
 pub invariant_of-self : goal.invariant_of-self
 invariant_of-self c = ((after_step (goal.at.invariant_of-self c).After-push_made).falls, omega arith)
