@@ -12,7 +12,7 @@ use Rattle.asm_syntax.specs.declared.fault.FaultKind.{FaultKind}
 use Rattle.asm_syntax.specs.declared.fault.FaultKind.TheVariants as kind
 use Rattle.asm_syntax.specs.declared.keyword.Keyword as keyword
 use Rattle.asm_syntax.specs.Words.{keyword_of}
-use Rattle.asm_syntax.specs.Lexemes.{Lexeme, Name, Keyword, Overlong, Number, Text, Sign, Piece, word_lexeme}
+use Rattle.asm_syntax.specs.Lexemes.{Lexeme, Keyword, Overlong, Number, Text, Sign, Piece, word_lexeme}
 use Rattle.asm_syntax.specs.Lexemes.{name_or_keyword}
 use Rattle.asm_syntax.specs.Outcome.{Fault}
 use Rattle.std.specs.Char.{is_ascii_digit, is_ascii_alphanumeric}
@@ -86,19 +86,7 @@ wrong_reads : (k : FaultKind) (c : ℕ) (line : List ℕ) → IsWrong k line →
 wrong_reads kind.Character c line h = wrong_character c line h
 wrong_reads kind.Number c line (text, rest, is, digits, e) = rw is (wrong_number c text rest digits e)
 wrong_reads kind.Text c line (q, h) = wrong_text c line q h
-wrong_reads kind.Name c line h = absurd h
-wrong_reads kind.Mnemonic c line h = absurd h
-wrong_reads kind.Operands c line h = absurd h
-wrong_reads (kind.Conditional m) c line h = absurd h
-wrong_reads kind.TooLong c line h = absurd h
-wrong_reads kind.Undefined c line h = absurd h
-wrong_reads kind.Divisor c line h = absurd h
-wrong_reads kind.Nesting c line h = absurd h
-wrong_reads kind.Twice c line h = absurd h
-wrong_reads kind.Early c line h = absurd h
-wrong_reads kind.ByteRange c line h = absurd h
-wrong_reads kind.Overlap c line h = absurd h
-wrong_reads kind.PastEnd c line h = absurd h
+wrong_reads _ c line h = absurd h
 
 pub breaks_read : (c : ℕ) (line : List ℕ) (f : Fault) → Breaks c line f → tokens_from 0 c line ≡ Err f
 breaks_read c line f (ps, rest, upto, wrong) =
@@ -112,12 +100,10 @@ data Front (bs : List ℕ) : Type 0 where
   wrong : (k : FaultKind) → IsWrong k bs → Front bs
 
 is_word_lexeme : Lexeme → Bool
-is_word_lexeme (Name n) = true
-is_word_lexeme (Keyword k) = true
-is_word_lexeme Overlong = true
 is_word_lexeme (Number n) = false
 is_word_lexeme (Text cs) = false
 is_word_lexeme (Sign s) = false
+is_word_lexeme _ = true
 
 word_by : (v : Bool) (o : Option keyword.Keyword) (w : List ℕ)
     → is_word_lexeme (cond v Overlong (name_or_keyword w o)) ≡ true
@@ -132,12 +118,10 @@ word_is l w e = sym (ap is_word_lexeme e) ∙ word_by (nat_lt 31 (length w)) (ke
 word_token : (l : Lexeme) (text rest : List ℕ) → is_word_lexeme l ≡ true → IsWord l text rest
     → IsToken l text rest
 unfolding is_word_lexeme
-word_token (Name n) text rest e h = h
-word_token (Keyword k) text rest e h = h
-word_token Overlong text rest e h = h
 word_token (Number n) text rest e h = absurd cc
 word_token (Text cs) text rest e h = absurd cc
 word_token (Sign s) text rest e h = absurd cc
+word_token _ text rest e h = h
 
 by_value : (b : ℕ) (bs : List ℕ) (r : First is_ascii_alphanumeric b bs) (o : Option ℕ)
     → number_of (b ∷ r.text) ≡ o → IsDigits (b ∷ r.text) r.rest → Front (b ∷ bs)

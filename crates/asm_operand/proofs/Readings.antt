@@ -110,11 +110,7 @@ stop_strength level (l ∷ ls) h = by (infix_of l) refl
 
 is_sign-is : (character : ℕ) (l : Lexeme) → is_sign character l ≡ true → l ≡ Sign character
 is_sign-is character (Sign s) h = ap (λ (x : ℕ). Sign x) (grind (arith, nat_tests))
-is_sign-is character (Name x) h = cc
-is_sign-is character (Keyword x) h = cc
-is_sign-is character Overlong h = cc
-is_sign-is character (Number x) h = cc
-is_sign-is character (Text x) h = cc
+is_sign-is character _ h = cc
 
 -- an atom spells its tree
 AtomReads : Lexeme → Option Tree → Type 0

@@ -1,5 +1,6 @@
 -- Texts that are written character by character, and read back.
-use Rattle.std.proofs.Common.{◌≡◌, ℕ, suc, ◌+◌, ◌<◌, [], List, ◌∷◌, ◌++◌, true, length, map, take, slice_index_or, refl, ap, ◌∙◌, arith}
+use Rattle.std.proofs.Common.{◌≡◌, ℕ, suc, ◌+◌, ◌<◌, [], List, ◌∷◌, ◌++◌, true, length, map, take}
+use Rattle.std.proofs.Common.{slice_index_or, refl, ap, ◌∙◌, arith}
 use Rattle.std.proofs.lemmas.Bool.Decides.{nat_tests}
 use Rattle.std.proofs.lemmas.List.{take_more, append-nil}
 use Rattle.std.proofs.lemmas.Str.{encodes-append, chars-encodes}

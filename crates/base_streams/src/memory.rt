@@ -95,7 +95,14 @@ impl Source {
     /// A reader of these bytes that gives at most so many a call, and fails after so many calls.
     /// One that may give none fails at once: a read of no bytes would be the end.
     pub fn new(bytes: Vec<u8>, most: usize, calls: u64) -> Source
-        ensures { result ≡ record { given = []; left = bytes.items; most = most; calls = calls; failed = false; ended = false } }
+        ensures { result ≡ record {
+          given = [];
+          left = bytes.items;
+          most = most;
+          calls = calls;
+          failed = false;
+          ended = false;
+        } }
     {
         Source {
             held: bytes,

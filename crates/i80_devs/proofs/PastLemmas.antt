@@ -28,10 +28,6 @@ use Rattle.i80_exec.specs.declared.ports.PortOperation.TheVariants.{In, Out}
 use Rattle.i80_devs.specs.Past.{
   Operation,
   Port,
-  Typed,
-  Switches,
-  Press,
-  Taken,
   PanelState,
   last_set,
   waiting_after,
@@ -78,10 +74,6 @@ set_after past o =
     ) refl
 
 set_next : (p : PanelState) (o : Operation) → set_by p o ≡ panel_next p o
-set_next p (Typed bytes) = refl
-set_next p (Switches byte) = refl
-set_next p (Press n) = refl
-set_next p Taken = refl
 set_next p (Port (In port byte)) =
     elim (port == 1) as (λ (b : Bool).
     (let q : PanelState = record p { waiting = cond b (drop 1 p.waiting) p.waiting } in q)
@@ -90,6 +82,7 @@ set_next p (Port (Out port byte)) =
     elim (port == 2) as (λ (b : Bool).
     (let q : PanelState = record p { lamps = unwrap_or (cond b (Some byte) None) p.lamps } in q)
     ≡ cond b (record p { lamps = byte }) p) [ true ↦ refl | false ↦ refl ]
+set_next p _ = refl
 
 pub panel_more : (past : List Operation) (o : Operation)
     → panel_after (past ++ o ∷ []) ≡ panel_next (panel_after past) o

@@ -31,35 +31,23 @@ pub data Operation : Type 0 where
 abbrev pub waiting_after : List ℕ → Operation → List ℕ
 waiting_after waiting (Typed bytes) = waiting ++ bytes
 waiting_after waiting (Port (In port byte)) = if port == 1 then (drop 1 waiting) else waiting
-waiting_after waiting (Port (Out port byte)) = waiting
-waiting_after waiting (Switches byte) = waiting
-waiting_after waiting (Press n) = waiting
-waiting_after waiting Taken = waiting
+waiting_after waiting _ = waiting
 
 -- what an operation sets the switches to
 abbrev pub switches_of : Operation → Option ℕ
 switches_of (Switches byte) = Some byte
-switches_of (Port o) = None
-switches_of (Typed bytes) = None
-switches_of (Press n) = None
-switches_of Taken = None
+switches_of _ = None
 
 -- OUT 2 sets the lamps
 abbrev pub lamps_of : Operation → Option ℕ
 lamps_of (Port (Out port byte)) = if port == 2 then (Some byte) else None
-lamps_of (Port (In port byte)) = None
-lamps_of (Typed bytes) = None
-lamps_of (Switches byte) = None
-lamps_of (Press n) = None
-lamps_of Taken = None
+lamps_of _ = None
 
 -- a press latches a request, and its taking leaves none
 abbrev pub latched_of : Operation → Option (Option ℕ)
 latched_of (Press n) = Some (Some n)
 latched_of Taken = Some None
-latched_of (Port o) = None
-latched_of (Typed bytes) = None
-latched_of (Switches byte) = None
+latched_of _ = None
 
 -- what the answers of the devices rest on
 pub record PanelState : Type 0 where

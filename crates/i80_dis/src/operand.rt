@@ -1,7 +1,8 @@
 //! Operands as they are written (8080/8085 Assembly Language Programming Manual, chapter 3): words and
 //! numbers.
 ghost use Rattle.std.specs.Prelude.{◌≡◌, ◌++◌, OnOk, string_bytes};
-ghost use Rattle.i80_dis.specs.Text.{register_word, pair_word, index_word, stack_word, vector_word, operands, operand_field};
+ghost use Rattle.i80_dis.specs.Text.{register_word, pair_word, index_word, stack_word, vector_word, operands};
+ghost use Rattle.i80_dis.specs.Text.{operand_field};
 ghost use Rattle.i80_dis.specs.State.{operand_text, texts_of};
 
 use crate::numeral::{push_byte, push_word};

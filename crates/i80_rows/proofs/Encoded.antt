@@ -1,12 +1,11 @@
 -- The encoding in numbers encodes its instruction by the table of 256 rows.
 use Rattle.std.proofs.Common.{◌≡◌, ℕ, ◌+◌, ◌*◌, ◌/◌, ◌%◌, [], ◌∷◌, refl, ap, arith}
 use Rattle.i80_rows.specs.declared.instruction.Instr.{Instr}
-use Rattle.i80_rows.specs.declared.instruction.Instr.TheVariants.{Nop, Lxi, Stax, Ldax, Shld, Lhld, Sta, Lda}
-use Rattle.i80_rows.specs.declared.instruction.Instr.TheVariants.{Inx, Dcx, Dad, Inr, Dcr, Mvi, Rotate, Daa}
-use Rattle.i80_rows.specs.declared.instruction.Instr.TheVariants.{Cma, Stc, Cmc, Mov, MovFromM, MovToM, Hlt}
+use Rattle.i80_rows.specs.declared.instruction.Instr.TheVariants.{Lxi, Stax, Ldax, Shld, Lhld, Sta, Lda}
+use Rattle.i80_rows.specs.declared.instruction.Instr.TheVariants.{Inx, Dcx, Dad, Inr, Dcr, Mvi, Rotate}
+use Rattle.i80_rows.specs.declared.instruction.Instr.TheVariants.{Mov, MovFromM, MovToM}
 use Rattle.i80_rows.specs.declared.instruction.Instr.TheVariants.{Alu, AluImmediate, Jmp, JumpIf, Call}
-use Rattle.i80_rows.specs.declared.instruction.Instr.TheVariants.{CallIf, Ret, RetIf, Rst, Push, Pop, Xthl}
-use Rattle.i80_rows.specs.declared.instruction.Instr.TheVariants.{Xchg, Pchl, Sphl, Out, In, Di, Ei}
+use Rattle.i80_rows.specs.declared.instruction.Instr.TheVariants.{CallIf, RetIf, Rst, Push, Pop}
 use Rattle.i80_rows.specs.declared.instruction.Reg.{Reg}
 use Rattle.i80_rows.specs.declared.instruction.Register.{Register}
 use Rattle.i80_rows.specs.declared.instruction.Register.TheVariants as register
@@ -67,21 +66,6 @@ call_row = each_cond _ refl refl refl refl refl refl refl refl
 
 pub encoded : (i : Instr) → Encodes i (encoding_of i)
 unfolding row encoding_of
-encoded Nop = refl
-encoded Daa = refl
-encoded Cma = refl
-encoded Stc = refl
-encoded Cmc = refl
-encoded Hlt = refl
-encoded Ret = refl
-encoded Xthl = refl
-encoded Xchg = refl
-encoded Pchl = refl
-encoded Sphl = refl
-encoded Di = refl
-encoded Ei = refl
-encoded (Out b) = refl
-encoded (In b) = refl
 encoded (Shld w) = ap Shld (whole w)
 encoded (Lhld w) = ap Lhld (whole w)
 encoded (Sta w) = ap Sta (whole w)
@@ -110,3 +94,4 @@ encoded (Stax p) = each_index (λ q. IsEncoded (Stax q)) refl refl p
 encoded (Ldax p) = each_index (λ q. IsEncoded (Ldax q)) refl refl p
 encoded (JumpIf c w) = word_encoded (row (194 + 8 * cond_code c)) (JumpIf c) w (jump_row c)
 encoded (CallIf c w) = word_encoded (row (196 + 8 * cond_code c)) (CallIf c) w (call_row c)
+encoded _ = refl

@@ -36,21 +36,15 @@ fits opcode = elim (cases_lt opcode 256) [
 
 by_row : (r : Row) (i : Instr) (opcode : ℕ) (operand : List ℕ) → Fits opcode r → get_or operand 0 0 < 256
     → IsOperand r i operand → opcode ∷ operand ≡ encoding_of i
-by_row Undefined i opcode operand fit small h = absurd h
 by_row (Alone j) i opcode [] fit small h = sym (ap encoding_of h ∙ fit 0)
-by_row (Alone j) i opcode (b ∷ bytes) fit small h = absurd h
-by_row (Byte f) i opcode [] fit small h = absurd h
 by_row (Byte f) i opcode (b ∷ []) fit small h = sym (ap encoding_of h ∙ fit b)
-by_row (Byte f) i opcode (b ∷ (c ∷ bytes)) fit small h = absurd h
-by_row (Word f) i opcode [] fit small h = absurd h
-by_row (Word f) i opcode (low ∷ []) fit small h = absurd h
 by_row (Word f) i opcode (low ∷ (high ∷ [])) fit small h =
     let first : low ≡ (low + 256 * high) % 256 = omega (arith, small) in
     let second : high ≡ (low + 256 * high) / 256 = omega (arith, small) in
     ap (λ n. opcode ∷ (n ∷ (high ∷ []))) first
     ∙ ap (λ n. opcode ∷ ((low + 256 * high) % 256 ∷ (n ∷ []))) second
     ∙ sym (ap encoding_of h ∙ fit (low + 256 * high))
-by_row (Word f) i opcode (low ∷ (high ∷ (b ∷ bytes))) fit small h = absurd h
+by_row _ i opcode _ fit small h = absurd h
 
 pub encoding_is : (i : Instr) (bytes : List ℕ) → Encodes i bytes → get_or bytes 1 0 < 256
     → bytes ≡ encoding_of i

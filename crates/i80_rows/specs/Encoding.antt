@@ -9,7 +9,7 @@ use Rattle.i80_rows.specs.declared.instruction.Instr.TheVariants.{CallIf, Ret, R
 use Rattle.i80_rows.specs.declared.instruction.Instr.TheVariants.{Xchg, Pchl, Sphl, Out, In, Di, Ei}
 use Rattle.i80_rows.specs.Codes.{reg_of, reg_code, pair_code, stack_pair_code, index_pair_code, cond_code}
 use Rattle.i80_rows.specs.Codes.{operation_code, rotation_code, vector_code}
-use Rattle.i80_rows.specs.Rows.{Row, Undefined, Alone, Byte, Word, row}
+use Rattle.i80_rows.specs.Rows.{Row, Alone, Byte, Word, row}
 
 -- ---- by the table
 
@@ -18,13 +18,7 @@ abbrev pub IsOperand : Row → Instr → List ℕ → Type 0
 IsOperand (Alone j) i [] = i ≡ j
 IsOperand (Byte f) i (b ∷ []) = i ≡ f b
 IsOperand (Word f) i (low ∷ (high ∷ [])) = i ≡ f (low + 256 * high)
-IsOperand Undefined i bytes = ⊥
-IsOperand (Alone j) i (b ∷ bytes) = ⊥
-IsOperand (Byte f) i [] = ⊥
-IsOperand (Byte f) i (b ∷ (c ∷ bytes)) = ⊥
-IsOperand (Word f) i [] = ⊥
-IsOperand (Word f) i (low ∷ []) = ⊥
-IsOperand (Word f) i (low ∷ (high ∷ (b ∷ bytes))) = ⊥
+IsOperand _ i _ = ⊥
 
 -- The first byte names a row with that mnemonic and those registers, and the others are the operand.
 abbrev pub Encodes : Instr → List ℕ → Type 0

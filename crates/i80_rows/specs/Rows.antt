@@ -217,9 +217,7 @@ row opcode = slice_index_or rows opcode Undefined
 -- no instruction has this row's opcode
 abbrev pub is_undefined : Row → Bool
 is_undefined Undefined = true
-is_undefined (Alone i) = false
-is_undefined (Byte f) = false
-is_undefined (Word f) = false
+is_undefined _ = false
 
 -- what bytes after an opcode of this row read as: the instruction and its length; words stand low byte first
 abbrev pub read_row : Row → List ℕ → Result (Instr × ℕ) DecodeFault

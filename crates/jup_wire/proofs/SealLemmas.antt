@@ -1,5 +1,6 @@
 -- What is sealed can be opened.
-use Rattle.std.proofs.Common.{◌≡◌, inl, inr, ℕ, List, [], ◌∷◌, Option, Some, IsSome, Result, Ok, Err, IfOk, refl, sym, ap, ◌∙◌, subst}
+use Rattle.std.proofs.Common.{◌≡◌, inl, inr, ℕ, List, [], ◌∷◌, Option, Some, IsSome, Result, Ok, Err, IfOk}
+use Rattle.std.proofs.Common.{refl, sym, ap, ◌∙◌, subst}
 use Rattle.serde_json.specs.View.{view}
 use Rattle.jup_wire.specs.declared.message.Parts.{Parts}
 use Rattle.jup_wire.specs.declared.message.Header.{Header}
@@ -15,7 +16,8 @@ signed_frame : (key : List ℕ) (p : Parts) → IsSigned key (signature_frame ke
 signed_frame [] p = inl refl
 signed_frame (byte ∷ bytes) p = inr refl
 
-pub opens_again : (key : List ℕ) (d : Draft) (frames : List (List ℕ)) → IsSealed key d frames → (h : Header) → IsOpenable d h
+pub opens_again : (key : List ℕ) (d : Draft) (frames : List (List ℕ)) → IsSealed key d frames → (h : Header)
+    → IsOpenable d h
     → (parts : Parts) × IsMessage key frames parts h (view d.content)
     × (parts.identities ≡ d.identities) × (parts.parent_header ≡ d.parent_header)
 opens_again key d frames s h o =

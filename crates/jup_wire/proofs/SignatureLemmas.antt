@@ -1,7 +1,9 @@
 -- When bytes differ in no bit.
-use Rattle.std.proofs.Common.{◌≡◌, ℕ, ◌+◌, ◌<◌, List, [], ◌∷◌, ◌++◌, length, get_or, set, take, drop, map, bit_or, bit_xor, arith, refl, sym, ap, ◌∙◌, below_more}
+use Rattle.std.proofs.Common.{◌≡◌, ℕ, ◌+◌, ◌<◌, List, [], ◌∷◌, ◌++◌, length, get_or, set, take, drop, map}
+use Rattle.std.proofs.Common.{bit_or, bit_xor, arith, refl, sym, ap, ◌∙◌, below_more}
 use Rattle.std.proofs.lemmas.Nat.{le_or_l, le_or_r, and_le_l, and_le_r}
-use Rattle.std.proofs.lemmas.List.{append-nil, take_more, take-append-drop, length-append, length-map, get_or_default}
+use Rattle.std.proofs.lemmas.List.{append-nil, take_more, take-append-drop, length-append, length-map}
+use Rattle.std.proofs.lemmas.List.{get_or_default}
 use Rattle.std.proofs.lemmas.List.Edits.{map_over_more}
 use Rattle.std.proofs.lemmas.List.Folds.{concat-append}
 use Rattle.std.specs.List.{concat}
@@ -37,10 +39,13 @@ concat_more xs i x inside at =
 -- one more byte of the block is changed
 pub padded_more : (pad : ℕ) (block items : List ℕ) (i : ℕ) → i < length block
     → items ≡ map (λ byte. bit_xor byte pad) (take i block) ++ drop i block
-    → set items i (bit_xor (get_or items i 0) pad) ≡ map (λ byte. bit_xor byte pad) (take (i + 1) block) ++ drop (i + 1) block
+    → set items i (bit_xor (get_or items i 0) pad) ≡ map (λ byte. bit_xor byte pad) (take (i + 1) block)
+    ++ drop (i + 1) block
 padded_more pad block items i inside e =
     let long : length items ≡ length block =
-    ap length e ∙ length-append _ (drop i block) ∙ ap (λ (n : ℕ). n + length (drop i block)) (length-map (take i block) (λ byte. bit_xor byte pad))
+    ap length e ∙ length-append _ (drop i block) ∙ ap (λ (n : ℕ). n + length (drop i block))
+    (length-map (take i block) (λ byte. bit_xor byte pad))
     ∙ sym (length-append (take i block) (drop i block)) ∙ ap length (take-append-drop i block) in
     let here : i < length items = omega arith in
-    map_over_more (λ byte. bit_xor byte pad) block items i (get_or items i 0) inside e (get_or_default items i 0 _ here)
+    map_over_more (λ byte. bit_xor byte pad) block items i (get_or items i 0) inside e
+    (get_or_default items i 0 _ here)

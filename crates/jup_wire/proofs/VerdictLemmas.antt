@@ -1,5 +1,6 @@
 -- Frames are one message or are refused for one reason.
-use Rattle.std.proofs.Common.{◌≡◌, ◌≢◌, ◌⊎◌, inl, inr, ℕ, suc, ◌<◌, List, [], ◌∷◌, ◌++◌, length, Some, Result, Ok, Err, IfOk, IfErr, IsErrAnd, MatchResult, arith, refl, sym, ap, ◌∙◌, subst}
+use Rattle.std.proofs.Common.{◌≡◌, ◌≢◌, ◌⊎◌, inl, inr, ℕ, suc, ◌<◌, List, [], ◌∷◌, ◌++◌, length, Some, Result}
+use Rattle.std.proofs.Common.{Ok, Err, IfOk, IfErr, IsErrAnd, MatchResult, arith, refl, sym, ap, ◌∙◌, subst}
 use Rattle.serde_json.specs.Data.{Data}
 use Rattle.serde_json.specs.View.{view}
 use Rattle.jup_wire.specs.declared.message.Parts.{Parts}
@@ -8,7 +9,8 @@ use Rattle.jup_wire.specs.declared.message.Message.{Message}
 use Rattle.jup_wire.specs.declared.message.WireFault.{WireFault}
 use Rattle.jup_wire.specs.declared.message.WireFault.TheVariants as fault
 use Rattle.jup_wire.specs.Json.{json_of, IsHeader}
-use Rattle.jup_wire.specs.Wire.{delimiter, NoDelimiter, HasParts, IsSigned, AreJson, IsMessage, LacksFrames, OpensUpTo, IsRefused}
+use Rattle.jup_wire.specs.Wire.{delimiter, NoDelimiter, HasParts, IsSigned, AreJson, IsMessage, LacksFrames}
+use Rattle.jup_wire.specs.Wire.{OpensUpTo, IsRefused}
 use Rattle.jup_wire.specs.Fault.{JsonFault, HeaderFault}
 
 -- ---- the first delimiter is one
@@ -17,7 +19,8 @@ no_delimiter_in : (xs ys : List (List ℕ)) → NoDelimiter (xs ++ delimiter ∷
 no_delimiter_in [] ys none = none.0 refl
 no_delimiter_in (x ∷ xs) ys none = no_delimiter_in xs ys none.1
 
-one_split : (xs ys us vs : List (List ℕ)) → NoDelimiter xs → NoDelimiter us → xs ++ delimiter ∷ ys ≡ us ++ delimiter ∷ vs
+one_split : (xs ys us vs : List (List ℕ)) → NoDelimiter xs → NoDelimiter us
+    → xs ++ delimiter ∷ ys ≡ us ++ delimiter ∷ vs
     → (xs ≡ us) × (ys ≡ vs)
 one_split [] ys [] vs none_x none_u e = (refl, cc)
 one_split [] ys (u ∷ us) vs none_x none_u e = absurd (none_u.0 (cc))
@@ -27,7 +30,8 @@ one_split (x ∷ xs) ys (u ∷ us) vs none_x none_u e =
     let head : x ≡ u = cc in
     (ap (λ (y : List ℕ). y ∷ xs) head ∙ ap (λ (zs : List (List ℕ)). u ∷ zs) more.0, more.1)
 
-same_parts : (p q : Parts) → p.identities ≡ q.identities → p.header ≡ q.header → p.parent_header ≡ q.parent_header
+same_parts : (p q : Parts) → p.identities ≡ q.identities → p.header ≡ q.header
+    → p.parent_header ≡ q.parent_header
     → p.metadata ≡ q.metadata → p.content ≡ q.content → p ≡ q
 same_parts p q i h ph m c =
     ap (λ (x : List (List ℕ)). record p { identities = x }) i
@@ -36,7 +40,8 @@ same_parts p q i h ph m c =
     ∙ ap (λ (x : List ℕ). record q { metadata = x; content = p.content }) m
     ∙ ap (λ (x : List ℕ). record q { content = x }) c
 
-one_parts : (frames : List (List ℕ)) (s t : List ℕ) (p q : Parts) → HasParts frames s p → HasParts frames t q → (s ≡ t) × (p ≡ q)
+one_parts : (frames : List (List ℕ)) (s t : List ℕ) (p q : Parts) → HasParts frames s p → HasParts frames t q
+    → (s ≡ t) × (p ≡ q)
 one_parts frames s t p q a b =
     let split = one_split p.identities _ q.identities _ a.first b.first (sym a.whole ∙ b.whole) in
     (cc split.1, same_parts p q split.0 (cc split.1) (cc split.1) (cc split.1) (cc split.1))
@@ -57,14 +62,18 @@ one_header d g h a b =
 opens_same : (key : List ℕ) (frames : List (List ℕ)) (P : Parts → Type 0) (s : List ℕ) (p : Parts)
     → HasParts frames s p → OpensUpTo key frames P → IsSigned key s p × P p
 opens_same key frames P s p a (t, q, b, signed, holds) =
-    let one = one_parts frames t s q p b a in
-    (subst (λ (x : List ℕ). IsSigned key x p) one.0 (subst (λ (x : Parts). IsSigned key t x) one.1 signed), subst P one.1 holds)
+    let one = one_parts frames t s q p b a in (
+      subst (λ (x : List ℕ). IsSigned key x p) one.0 (subst (λ (x : Parts). IsSigned key t x) one.1 signed),
+      subst P one.1 holds,
+    )
 
 -- a reason that comes before the parts are known
-no_parts_delimiter : (frames : List (List ℕ)) (s : List ℕ) (p : Parts) → HasParts frames s p → NoDelimiter frames → ⊥
+no_parts_delimiter : (frames : List (List ℕ)) (s : List ℕ) (p : Parts) → HasParts frames s p
+    → NoDelimiter frames → ⊥
 no_parts_delimiter frames s p a none = no_delimiter_in p.identities _ (subst NoDelimiter a.whole none)
 
-no_parts_count : (frames : List (List ℕ)) (s : List ℕ) (p : Parts) → HasParts frames s p → LacksFrames frames → ⊥
+no_parts_count : (frames : List (List ℕ)) (s : List ℕ) (p : Parts) → HasParts frames s p → LacksFrames frames
+    → ⊥
 no_parts_count frames s p a lacks =
     let split = one_split p.identities _ lacks.before _ a.first lacks.first (sym a.whole ∙ lacks.whole) in
     let long : suc (suc (suc (suc (suc (length a.buffers))))) ≡ length lacks.after = ap length split.1 in
@@ -72,17 +81,20 @@ no_parts_count frames s p a lacks =
     omega arith
 
 delimiter_or_count : (frames : List (List ℕ)) → NoDelimiter frames → LacksFrames frames → ⊥
-delimiter_or_count frames none lacks = no_delimiter_in lacks.before lacks.after (subst NoDelimiter lacks.whole none)
+delimiter_or_count frames none lacks =
+    no_delimiter_in lacks.before lacks.after (subst NoDelimiter lacks.whole none)
 
 signature_or_opens : (key : List ℕ) (frames : List (List ℕ)) (P : Parts → Type 0)
     → IsRefused key frames fault.Signature → OpensUpTo key frames P → ⊥
 signature_or_opens key frames P (s, p, a, wrong) opens = wrong (opens_same key frames P s p a opens).0
 
-json_or_header : (key : List ℕ) (frames : List (List ℕ)) → IsRefused key frames fault.Json → IsRefused key frames fault.Header → ⊥
+json_or_header : (key : List ℕ) (frames : List (List ℕ)) → IsRefused key frames fault.Json
+    → IsRefused key frames fault.Header → ⊥
 json_or_header key frames (s, p, a, signed, no_json) opens =
     no_json (opens_same key frames _ s p a opens).1.0
 
-pub one_fault : (key : List ℕ) (frames : List (List ℕ)) (e f : WireFault) → IsRefused key frames e → IsRefused key frames f
+pub one_fault : (key : List ℕ) (frames : List (List ℕ)) (e f : WireFault) → IsRefused key frames e
+    → IsRefused key frames f
     → (f ≡ e) ⊎ ((e ≡ fault.OutOfMemory) ⊎ (f ≡ fault.OutOfMemory))
 one_fault key frames fault.OutOfMemory f a b = inr (inl refl)
 one_fault key frames e fault.OutOfMemory a b = inr (inr refl)
@@ -112,15 +124,18 @@ one_fault key frames fault.Header fault.Signature a b = absurd (signature_or_ope
 one_fault key frames fault.Header fault.Json a b = absurd (json_or_header key frames b a)
 one_fault key frames fault.Header fault.Header a b = inl refl
 
-message_or_refused : (key : List ℕ) (frames : List (List ℕ)) (p : Parts) (h : Header) (d : Data) → IsMessage key frames p h d
+message_or_refused : (key : List ℕ) (frames : List (List ℕ)) (p : Parts) (h : Header) (d : Data)
+    → IsMessage key frames p h d
     → (e : WireFault) → IsRefused key frames e → e ≡ fault.OutOfMemory
 message_or_refused key frames p h d m fault.OutOfMemory r = refl
-message_or_refused key frames p h d m fault.Delimiter r = absurd (no_parts_delimiter frames m.digits p m.parts r)
+message_or_refused key frames p h d m fault.Delimiter r =
+    absurd (no_parts_delimiter frames m.digits p m.parts r)
 message_or_refused key frames p h d m fault.Count r = absurd (no_parts_count frames m.digits p m.parts r)
 message_or_refused key frames p h d m fault.Signature r =
     let opens : OpensUpTo key frames (λ q. Unit {0}) = (m.digits, p, m.parts, m.signed, tt) in
     absurd (signature_or_opens key frames (λ q. Unit {0}) r opens)
-message_or_refused key frames p h d m fault.Json r = absurd ((opens_same key frames _ m.digits p m.parts r).1 m.json)
+message_or_refused key frames p h d m fault.Json r =
+    absurd ((opens_same key frames _ m.digits p m.parts r).1 m.json)
 message_or_refused key frames p h d m fault.Header r =
     absurd ((opens_same key frames _ m.digits p m.parts r).1.1 m.header_value h m.header_json m.header)
 
@@ -131,8 +146,11 @@ one_message key frames p q h g c d m n =
     let header_json : json_of p.header ≡ json_of q.header = ap (λ (x : Parts). json_of x.header) parts in
     let content_json : json_of p.content ≡ json_of q.content = ap (λ (x : Parts). json_of x.content) parts in
     let value : n.header_value ≡ m.header_value = cc (header_json, m.header_json, n.header_json) in
-    let content : c ≡ d = cc (content_json, m.content_json, n.content_json) in
-    (parts, one_header m.header_value h g m.header (subst (λ (x : Data). IsHeader x g) value n.header), content)
+    let content : c ≡ d = cc (content_json, m.content_json, n.content_json) in (
+      parts,
+      one_header m.header_value h g m.header (subst (λ (x : Data). IsHeader x g) value n.header),
+      content,
+    )
 
 -- ---- what a result that is right one way is the other way
 
@@ -158,22 +176,27 @@ first_fault key frames (Err f) message refused e is other =
 
 -- ---- the faults of the steps
 
-pub json_refused : (key : List ℕ) (frames : List (List ℕ)) (s : List ℕ) (p : Parts) → HasParts frames s p → IsSigned key s p
+pub json_refused : (key : List ℕ) (frames : List (List ℕ)) (s : List ℕ) (p : Parts) → HasParts frames s p
+    → IsSigned key s p
     → (e : WireFault) → JsonFault e (¬ AreJson p) → IsRefused key frames e
 json_refused key frames s p parts signed fault.OutOfMemory f = (s, p, parts, signed, tt)
 json_refused key frames s p parts signed fault.Json f = (s, p, parts, signed, f)
-json_refused key frames s p parts signed fault.Delimiter f = absurd f
-json_refused key frames s p parts signed fault.Count f = absurd f
-json_refused key frames s p parts signed fault.Signature f = absurd f
-json_refused key frames s p parts signed fault.Header f = absurd f
+json_refused key frames s p parts signed _ f = absurd f
 
-pub header_refused : (key : List ℕ) (frames : List (List ℕ)) (s : List ℕ) (p : Parts) (d : Data) → HasParts frames s p
+pub header_refused : (key : List ℕ) (frames : List (List ℕ)) (s : List ℕ) (p : Parts) (d : Data)
+    → HasParts frames s p
     → IsSigned key s p → AreJson p → json_of p.header ≡ Some d
     → (e : WireFault) → HeaderFault e ((h : Header) → ¬ IsHeader d h) → IsRefused key frames e
 header_refused key frames s p d parts signed json reads fault.OutOfMemory f = (s, p, parts, signed, tt)
-header_refused key frames s p d parts signed json reads fault.Header f =
-    (s, p, parts, signed, (json, λ v h is. let same : d ≡ v = cc (reads, is) in subst (λ (x : Data). ¬ IsHeader x h) same (f h)))
-header_refused key frames s p d parts signed json reads fault.Delimiter f = absurd f
-header_refused key frames s p d parts signed json reads fault.Count f = absurd f
-header_refused key frames s p d parts signed json reads fault.Signature f = absurd f
-header_refused key frames s p d parts signed json reads fault.Json f = absurd f
+header_refused key frames s p d parts signed json reads fault.Header f = (
+  s,
+  p,
+  parts,
+  signed,
+  (
+    json,
+    λ v h is. let same : d ≡ v = cc (reads, is) in
+        subst (λ (x : Data). ¬ IsHeader x h) same (f h),
+  ),
+)
+header_refused key frames s p d parts signed json reads _ f = absurd f

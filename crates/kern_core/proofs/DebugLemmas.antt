@@ -1,5 +1,6 @@
 -- A reset of the board, asked by a debugger.
-use Rattle.std.proofs.Common.{◌≡◌, ◌≢◌, ◌∙◌, ℕ, List, [], ◌∷◌, ◌++◌, Bool, true, false, Option, None, Result, Ok, Err, refl, sym, ap, subst, option_to_list}
+use Rattle.std.proofs.Common.{◌≡◌, ◌≢◌, ◌∙◌, ℕ, List, [], ◌∷◌, ◌++◌, Bool, true, false, Option, None, Result}
+use Rattle.std.proofs.Common.{Ok, Err, refl, sym, ap, subst, option_to_list}
 use Rattle.std.proofs.lemmas.Bool.{false≢true}
 use Rattle.lab_core.specs.Events.{reset}
 use Rattle.dap_talk.specs.declared.command.DapCommand.{DapCommand}
@@ -27,7 +28,8 @@ use Rattle.kern_core.specs.declared.call.Reply.TheVariants.{Arrived}
 use Rattle.kern_core.specs.declared.fault.KernFault.{KernFault}
 use Rattle.kern_core.specs.declared.session.debug.DebugKit.{DebugKit}
 use Rattle.kern_core.specs.Sessions.{Session, Turn, after, posting}
-use Rattle.kern_core.specs.Asks.{is_reset, ended_by, work_by, cut_letters, cut_work, with_board, debug_reply, after_letter, answering, performing}
+use Rattle.kern_core.specs.Asks.{is_reset, ended_by, work_by, cut_letters, cut_work, with_board, debug_reply}
+use Rattle.kern_core.specs.Asks.{after_letter, answering, performing}
 use Rattle.kern_core.specs.Debugging.{IsDebugKit, told_debug, told_by}
 use Rattle.kern_core.specs.Stands.{SessionState, StandsFor}
 
@@ -51,20 +53,25 @@ by_reset n r d moment s is = by_command n r d.seq d.command moment s is
 
 -- ---- the other commands
 
-told_is : (who : Present) (n : ℕ) (r : Request) (d : DapRequest) (k : DebugKit) (outcome : Outcome) (letter : Option Letter)
+told_is : (who : Present) (n : ℕ) (r : Request) (d : DapRequest) (k : DebugKit) (outcome : Outcome)
+    (letter : Option Letter)
     → IsDebugKit who n r d k
     → told_debug k outcome letter ≡ around who r.header (debug_reply n r d outcome ∷ option_to_list letter)
-told_is who n r d k outcome letter kit = rw (kit.around.letters, kit.around.idle, kit.envelope, kit.request_seq, kit.command) refl
+told_is who n r d k outcome letter kit =
+    rw (kit.around.letters, kit.around.idle, kit.envelope, kit.request_seq, kit.command) refl
 
 abbrev pub Stood : Turn → SessionState → Type 0
 Stood t new = (Ok Arrived ≡ t.answer) × StandsFor new (after t)
 
 -- the fields stand for a session with this board, and what was told of it
-told_stands : (n : ℕ) (r : Request) (d : DapRequest) (moment : ℕ) (s : Session) (old : SessionState) (lab : LabState) (store : StoreState)
+told_stands : (n : ℕ) (r : Request) (d : DapRequest) (moment : ℕ) (s : Session) (old : SessionState)
+    (lab : LabState) (store : StoreState)
     (k : DebugKit) (b : Board) (outcome : Outcome) (letter : Option Letter) (letters : List Letter)
-    → StandsFor old s → LabStandsFor lab b → IsDebugKit s.present n r d k → letters ≡ told_debug k outcome letter
+    → StandsFor old s → LabStandsFor lab b → IsDebugKit s.present n r d k
+    → letters ≡ told_debug k outcome letter
     → Keeps (posted moment letters s.posts) store
-    → Stood (posting Arrived moment (around s.present r.header (debug_reply n r d outcome ∷ option_to_list letter)) (with_board b s.work s))
+    → Stood (posting Arrived moment (around s.present r.header
+    (debug_reply n r d outcome ∷ option_to_list letter)) (with_board b s.work s))
     (record old { lab = lab; store = store })
 told_stands n r d moment s old lab store k b outcome letter letters stands board kit told kept =
     let P : List Letter → Type 0 = λ ls. Keeps (posted moment ls s.posts) store in (
@@ -78,8 +85,10 @@ told_stands n r d moment s old lab store k b outcome letter letters stands board
       },
     )
 
-by_performed : (g : Result (Body × Board) EventFault) (n : ℕ) (r : Request) (d : DapRequest) (moment : ℕ) (s : Session) (old : SessionState)
-    (lab : LabState) (store : StoreState) (res : Result Body EventFault) (k : DebugKit) (letters : List Letter)
+by_performed : (g : Result (Body × Board) EventFault) (n : ℕ) (r : Request) (d : DapRequest) (moment : ℕ)
+    (s : Session) (old : SessionState)
+    (lab : LabState) (store : StoreState) (res : Result Body EventFault) (k : DebugKit)
+    (letters : List Letter)
     → StandsFor old s → is_reset d.command ≡ false → Did s.board g res lab → IsDebugKit s.present n r d k
     → letters ≡ told_by k res (after_letter (event_after d.command) r s)
     → Keeps (posted moment letters s.posts) store
@@ -87,16 +96,22 @@ by_performed : (g : Result (Body × Board) EventFault) (n : ℕ) (r : Request) (
 by_performed (Ok (body, b)) n r d moment s old lab store res k letters stands other did kit told kept =
     let letter = after_letter (event_after d.command) r s in
     let L : Result Body EventFault → List Letter = λ x. told_by k x letter in
-    rw other (told_stands n r d moment s old lab store k b (Success body) letter letters stands did.1 kit (told ∙ ap L did.0) kept)
+    rw other (told_stands n r d moment s old lab store k b (Success body) letter letters stands did.1 kit
+    (told ∙ ap L did.0) kept)
 by_performed (Err fault) n r d moment s old lab store res k letters stands other did kit told kept =
-    let L : Result Body EventFault → List Letter = λ x. told_by k x (after_letter (event_after d.command) r s) in
-    told_stands n r d moment s old lab store k s.board (Refused (refusal_name fault)) None letters stands did.1 kit (told ∙ ap L did.0) kept
+    let L : Result Body EventFault → List Letter =
+    λ x. told_by k x (after_letter (event_after d.command) r s) in
+    told_stands n r d moment s old lab store k s.board (Refused (refusal_name fault)) None letters stands
+    did.1 kit (told ∙ ap L did.0) kept
 
-pub performed_stands : (n : ℕ) (r : Request) (d : DapRequest) (moment : ℕ) (s : Session) (old : SessionState) (lab : LabState) (store : StoreState)
+pub performed_stands : (n : ℕ) (r : Request) (d : DapRequest) (moment : ℕ) (s : Session) (old : SessionState)
+    (lab : LabState) (store : StoreState)
     (res : Result Body EventFault) (k : DebugKit) (letters : List Letter)
-    → StandsFor old s → is_reset d.command ≡ false → Does (performed d.command) old.lab res lab → res ≢ Err OutOfMemory
+    → StandsFor old s → is_reset d.command ≡ false → Does (performed d.command) old.lab res lab
+    → res ≢ Err OutOfMemory
     → IsDebugKit s.present n r d k → letters ≡ told_by k res (after_letter (event_after d.command) r s)
     → Keeps (posted moment letters s.posts) store
     → Stood (performing n r d moment s) (record old { lab = lab; store = store })
 performed_stands n r d moment s old lab store res k letters stands other does want kit told kept =
-    by_performed (performed d.command s.board) n r d moment s old lab store res k letters stands other (does s.board stands.board want) kit told kept
+    by_performed (performed d.command s.board) n r d moment s old lab store res k letters stands other
+    (does s.board stands.board want) kit told kept

@@ -1,5 +1,6 @@
 -- The next cell: its letters, and the fields after it.
-use Rattle.std.proofs.Common.{◌≡◌, ◌∙◌, ℕ, ◌+◌, ◌≤◌, Bool, true, false, List, ◌∷◌, not, ◌&&◌, Result, Ok, refl, sym, ap, subst, arith, if◌then◌else◌}
+use Rattle.std.proofs.Common.{◌≡◌, ◌∙◌, ℕ, ◌+◌, ◌≤◌, Bool, true, false, List, ◌∷◌, not, ◌&&◌, Result, Ok}
+use Rattle.std.proofs.Common.{refl, sym, ap, subst, arith, if◌then◌else◌}
 use Rattle.lab_core.specs.Labs.{LabState, StandsFor as LabStandsFor}
 use Rattle.kern_post.specs.declared.post.Letter.{Letter}
 use Rattle.kern_post.specs.Posts.{StoreState, Keeps, posted}
@@ -28,12 +29,14 @@ counted x n = one_more (not x.request.is_silent && x.request.stores_history) n
 abbrev pub IsLoaded : SessionState → LabState → SessionState → Type 0
 IsLoaded old lab new = new ≡ record old { lab = lab; work = new.work; store = new.store }
 
-pub load_grows : (old new : SessionState) (lab : LabState) (x : Execution) (rest : List Execution) (l : Loading)
+pub load_grows : (old new : SessionState) (lab : LabState) (x : Execution) (rest : List Execution)
+    (l : Loading)
     → IsLoaded old lab new → new.work ≡ taken x rest l old.work → new.store.made ≤ old.store.made + 8
     → Grows old new
 load_grows old new lab x rest l loaded work made =
     let counts : new.work.count ≡ count_with x old.work.count = ap (λ (w : Work). w.count) work in
-    let joined : new.present.joined ≡ old.present.joined = ap (λ (v : SessionState). v.present.joined) loaded in
+    let joined : new.present.joined ≡ old.present.joined =
+    ap (λ (v : SessionState). v.present.joined) loaded in
     let less = counted x old.work.count in
     record {
       posts = made;
@@ -41,13 +44,15 @@ load_grows old new lab x rest l loaded work made =
       count = omega arith;
     }
 
-pub load_stands : (moment : ℕ) (s : Session) (old new : SessionState) (lab : LabState) (x : Execution) (rest : List Execution) (c : Current) (l : Loading)
+pub load_stands : (moment : ℕ) (s : Session) (old new : SessionState) (lab : LabState) (x : Execution)
+    (rest : List Execution) (c : Current) (l : Loading)
     → StandsFor old s → old.work.queue ≡ x ∷ rest → c ≡ current_of x old.work.count
     → l ≡ loading_of (cell_given x.request.code s.board)
     → LabStandsFor lab (board_after s.board (cell_given x.request.code s.board))
     → IsLoaded old lab new → new.work ≡ taken x rest l old.work
     → Keeps (posted moment (loading_letters old.present c l) s.posts) new.store
-    → (Ok More ≡ (loading moment s.work.queue s).answer) × StandsFor new (after (loading moment s.work.queue s))
+    → (Ok More ≡ (loading moment s.work.queue s).answer)
+    × StandsFor new (after (loading moment s.work.queue s))
 load_stands moment s old new lab x rest c l stands queue current is_loading board loaded work kept =
     let g = cell_given x.request.code s.board in
     let waits : s.work.queue ≡ x ∷ rest = ap (λ (w : Work). w.queue) (sym stands.work) ∙ queue in
@@ -55,7 +60,9 @@ load_stands moment s old new lab x rest c l stands queue current is_loading boar
     let B : LabState → Type 0 = λ v. LabStandsFor v (board_after s.board g) in
     let P : Present → Type 0 = λ w. Keeps (posted moment (loading_letters w c l) s.posts) new.store in
     let Q : Current → Type 0 = λ k. Keeps (posted moment (loading_letters s.present k l) s.posts) new.store in
-    let R : Loading → Type 0 = λ k. Keeps (posted moment (loading_letters s.present (current_of x s.work.count) k) s.posts) new.store in
+    let R : Loading → Type 0 =
+    λ k. Keeps (posted moment (loading_letters s.present (current_of x s.work.count) k) s.posts)
+    new.store in
     let W : Loading → Type 0 = λ k. new.work ≡ taken x rest k s.work in
     rw waits (
       refl,

@@ -4,7 +4,6 @@ use Rattle.lab_core.specs.declared.run_state.RunState.{RunState}
 use Rattle.lab_core.specs.declared.run_state.RunState.TheVariants.{NoRun, Running, Stopped}
 use Rattle.lab_core.specs.declared.answer.SliceOutcome.{SliceOutcome}
 use Rattle.lab_core.specs.declared.answer.SliceOutcome.TheVariants as outcome
-use Rattle.lab_core.specs.Board.{Board}
 use Rattle.lab_core.specs.Slices.{traffic_of}
 use Rattle.lab_core.specs.Events.{Given, started}
 use Rattle.i80_exec.specs.declared.ports.PortOperation.{PortOperation}
@@ -26,17 +25,13 @@ letters_of who None traffic ending = []
 letters_of who (Some c) traffic ending = slice_letters who c traffic ending
 
 abbrev pub work_after : SliceOutcome → Work → Work
-work_after outcome.More w = w
-work_after outcome.Waiting w = w
-work_after (outcome.Stop s) w = w
 work_after (outcome.End e) w = ended w
+work_after _ w = w
 
 -- there is nothing to do for a run that waits
 abbrev pub reply_of : SliceOutcome → Reply
-reply_of outcome.More = More
 reply_of outcome.Waiting = Idle
-reply_of (outcome.Stop s) = More
-reply_of (outcome.End e) = More
+reply_of _ = More
 
 abbrev pub running_to : ℕ × SliceOutcome → ℕ → Session → Turn
 running_to (k, ending) moment s = posting (reply_of ending) moment

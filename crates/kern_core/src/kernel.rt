@@ -1,5 +1,6 @@
 //! The kernel.
-ghost use Rattle.std.specs.Prelude.{◌≡◌, ◌<◌, ◌≤◌, ◌++◌, ◌∷◌, [], length, nat_le, true, false, Err, IfOk, option_map, slice_get};
+ghost use Rattle.std.specs.Prelude.{◌≡◌, ◌<◌, ◌≤◌, ◌++◌, ◌∷◌, [], length, nat_le, true, false, Err, IfOk};
+ghost use Rattle.std.specs.Prelude.{option_map, slice_get};
 ghost use Rattle.kern_core.specs.declared.fault.KernFault.TheVariants.{JournalFull};
 ghost use Rattle.kern_core.specs.Turns.{answer_after};
 ghost use Rattle.kern_core.specs.Kernels.{is_entry, is_full};
@@ -68,7 +69,8 @@ impl Kernel {
         ensures answered { is_entry result ≡ true → result ≡ answer_after self.old.entries call }
         ensures room { is_entry result ≡ true → length self.old.entries < self.old.limit }
         ensures refused { is_entry result ≡ false → self.new ≡ self.old }
-        ensures full { is_full result ≡ true → (is_entry result ≡ false) × (length self.old.entries ≡ self.old.limit) }
+        ensures full { is_full result ≡ true
+            → (is_entry result ≡ false) × (length self.old.entries ≡ self.old.limit) }
         // Where the journal is full, that is told, and not that memory was wanting.
         ensures limited { length self.old.entries ≡ self.old.limit → result ≡ Err JournalFull }
     {

@@ -20,7 +20,8 @@ after_sum m address (suc i) j =
 
 -- one part, and what is left
 pub after_part : (m : MachineState) (address part count : ℕ) → part ≤ count
-    → after_instructions m (after_instructions m address part) (count - part) ≡ after_instructions m address count
+    → after_instructions m (after_instructions m address part) (count - part)
+    ≡ after_instructions m address count
 after_part m address part count within =
     let e : part + (count - part) ≡ count = omega arith in
     sym (after_sum m address part (count - part)) ∙ ap (after_instructions m address) e

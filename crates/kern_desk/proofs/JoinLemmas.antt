@@ -1,5 +1,6 @@
 -- What a Join is answered.
-use Rattle.std.proofs.Common.{◌≡◌, ℕ, Bool, true, false, if◌then◌else◌, List, Result, Ok, Err, IfOk, IfErr, refl, sym, subst}
+use Rattle.std.proofs.Common.{◌≡◌, ℕ, Bool, true, false, if◌then◌else◌, List, Result, Ok, Err, IfOk, IfErr}
+use Rattle.std.proofs.Common.{refl, sym, subst}
 use Rattle.jup_wire.specs.declared.channel.Channel.{Channel}
 use Rattle.lab_turn.specs.History.{PassState, Turned}
 use Rattle.kern_core.specs.declared.call.Call.{Call}
@@ -15,28 +16,33 @@ use Rattle.kern_desk.specs.declared.desks.Joined.{Joined}
 use Rattle.kern_desk.specs.Joins.{IsJoinAnswer, IsUnjoined, IsRefused}
 use Rattle.kern_desk.specs.Seats.{calls_of, seated_answer}
 
-join_at : (b : Bool) (s t : Session) (c f : ℕ) → IsJoinAnswer (if b then refused Full s else quiet (reply.Joined c f) t).answer
+join_at : (b : Bool) (s t : Session) (c f : ℕ)
+    → IsJoinAnswer (if b then refused Full s else quiet (reply.Joined c f) t).answer
 join_at true s t c f = tt
 join_at false s t c f = tt
 
-join_fits : (channel : Channel) (identity : List ℕ) (s : Session) → IsJoinAnswer (turn (Join channel identity) s).answer
+join_fits : (channel : Channel) (identity : List ℕ) (s : Session)
+    → IsJoinAnswer (turn (Join channel identity) s).answer
 unfolding turn
 join_fits channel identity s = join_at _ s _ _ _
 
 entry_fits : (v w : PassState Call) (channel : Channel) (identity : List ℕ) (answer : Result Reply KernFault)
-    → Turned seated_answer is_entry is_full v (Join channel identity) answer w → is_entry answer ≡ true → IsJoinAnswer answer
+    → Turned seated_answer is_entry is_full v (Join channel identity) answer w → is_entry answer ≡ true
+    → IsJoinAnswer answer
 entry_fits v w channel identity answer t h =
     let e = t.entered h in
     let P : Result Reply KernFault → Type 0 = λ a. IsJoinAnswer a in
     subst P (sym e.answered) (join_fits channel identity (session_after (calls_of e.before)))
 
-pub join_answer : (v w : PassState Call) (channel : Channel) (identity : List ℕ) (answer : Result Reply KernFault)
+pub join_answer : (v w : PassState Call) (channel : Channel) (identity : List ℕ)
+    (answer : Result Reply KernFault)
     → Turned seated_answer is_entry is_full v (Join channel identity) answer w → IsJoinAnswer answer
 join_answer v w channel identity (Ok r) t = entry_fits v w channel identity (Ok r) t refl
 join_answer v w channel identity (Err f) t = tt
 
 -- a refusal
-pub unjoined_by : {J : Type 0} (v w : PassState Call) (call : Call) (answer : Result Reply KernFault) (result : Result J KernFault)
+pub unjoined_by : {J : Type 0} (v w : PassState Call) (call : Call) (answer : Result Reply KernFault)
+    (result : Result J KernFault)
     → Turned seated_answer is_entry is_full v call answer w → IfErr result (λ f. answer ≡ Err f)
     → IfErr result (IsUnjoined v call w)
 unjoined_by v w call answer (Ok j) t e = tt
@@ -45,10 +51,12 @@ unjoined_by v w call answer (Err f) t e =
     IsRefused f (subst T e t)
 
 -- a number, and where to begin
-pub came_by : (v w : PassState Call) (call : Call) (answer : Result Reply KernFault) (result : Result Joined KernFault)
+pub came_by : (v w : PassState Call) (call : Call) (answer : Result Reply KernFault)
+    (result : Result Joined KernFault)
     → Turned seated_answer is_entry is_full v call answer w
     → IfOk result (λ j. answer ≡ Ok (reply.Joined j.connection j.from))
-    → IfOk result (λ j. Turned seated_answer is_entry is_full v call (Ok (reply.Joined j.connection j.from)) w)
+    → IfOk result (λ j. Turned seated_answer is_entry is_full v call (Ok (reply.Joined j.connection j.from))
+    w)
 came_by v w call answer (Err f) t e = tt
 came_by v w call answer (Ok j) t e =
     let T : Result Reply KernFault → Type 0 = λ a. Turned seated_answer is_entry is_full v call a w in

@@ -1,5 +1,6 @@
 -- Seats and calls, as many of the one as of the other.
-use Rattle.std.proofs.Common.{◌≡◌, ℕ, suc, zero, List, [], ◌∷◌, ◌++◌, length, Option, Some, None, slice_get, refl, sym, ap, arith}
+use Rattle.std.proofs.Common.{◌≡◌, ℕ, suc, zero, List, [], ◌∷◌, ◌++◌, length, Option, Some, None, slice_get}
+use Rattle.std.proofs.Common.{refl, sym, ap, arith}
 use Rattle.std.specs.List.{zip}
 use Rattle.std.specs.Option.{option_zip}
 use Rattle.kern_core.specs.declared.call.Call.{Call}

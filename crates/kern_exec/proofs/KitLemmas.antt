@@ -1,5 +1,7 @@
 -- What the letters that are made of a kit are.
-use Rattle.std.proofs.Common.{◌≡◌, ◌∙◌, ℕ, List, [], ◌∷◌, ◌++◌, Bool, true, false, Option, Some, None, codes, refl, sym, ap, append_assoc, ◌&&◌, ◌+◌, ◌<◌, length, take, get_or, if◌then◌else◌}
+use Rattle.std.proofs.Common.{◌≡◌, ◌∙◌, ℕ, List, [], ◌∷◌, ◌++◌, Bool, true, false, Option, Some, None, codes}
+use Rattle.std.proofs.Common.{refl, sym, ap, append_assoc, ◌&&◌, ◌+◌, ◌<◌, length, take, get_or}
+use Rattle.std.proofs.Common.{if◌then◌else◌}
 use Rattle.std.proofs.lemmas.List.{take_more}
 use Rattle.std.proofs.lemmas.List.Elements.{filter_map-append}
 use Rattle.std.specs.List.{filter_map, list_any}
@@ -15,12 +17,17 @@ use Rattle.kern_exec.specs.declared.loading.Loading.TheVariants.{Starts, Ends}
 use Rattle.kern_exec.specs.Letters.{heard_under}
 use Rattle.kern_exec.specs.declared.slices.SliceKit.{SliceKit}
 use Rattle.kern_exec.specs.declared.cells.LoadingKit.{LoadingKit}
-use Rattle.kern_exec.specs.Ends.{printed, is_asking, slice_letters, loading_letters, input_letters, error_letters, end_letters, end_of_loading, stream_letters, input_request_to, input_request_letters, outcome_letters, ending_of}
-use Rattle.kern_exec.specs.Kits.{end_kit_of, told_error, told_end, told_loading, streamed, to_stdin, asked_of, asked_line, told_outcome, told_slice, IsSliceKit, IsLoadingKit}
+use Rattle.kern_exec.specs.Ends.{printed, is_asking, slice_letters, loading_letters, error_letters}
+use Rattle.kern_exec.specs.Ends.{end_letters, end_of_loading, stream_letters, input_request_to}
+use Rattle.kern_exec.specs.Ends.{input_request_letters, outcome_letters, ending_of}
+use Rattle.kern_exec.specs.Kits.{end_kit_of, told_error, told_end, told_loading, streamed, to_stdin, asked_of}
+use Rattle.kern_exec.specs.Kits.{asked_line, told_outcome, told_slice, IsSliceKit, IsLoadingKit}
 
-pub grouped : {A : Type 0} (first second third : List A) (x : A) → ((first ++ second) ++ third) ++ x ∷ [] ≡ first ++ ((second ++ third) ++ x ∷ [])
+pub grouped : {A : Type 0} (first second third : List A) (x : A)
+    → ((first ++ second) ++ third) ++ x ∷ [] ≡ first ++ ((second ++ third) ++ x ∷ [])
 grouped first second third x =
-    append_assoc (first ++ second) third (x ∷ []) ∙ (append_assoc first second (third ++ x ∷ []) ∙ ap (λ rest. first ++ rest) (sym (append_assoc second third (x ∷ []))))
+    append_assoc (first ++ second) third (x ∷ []) ∙ (append_assoc first second (third ++ x ∷ [])
+    ∙ ap (λ rest. first ++ rest) (sym (append_assoc second third (x ∷ []))))
 
 error_is : (is_silent : Bool) (who : Present) (parent : List ℕ) (e : Ending)
     → told_error is_silent (heard_under who parent (codes "error")) e ≡ error_letters is_silent who parent e
@@ -31,51 +38,59 @@ error_is false who parent (Failed cause) = refl
 pub end_is : (who : Present) (c : Current) (e : Ending) → told_end (end_kit_of who c) e ≡ end_letters who c e
 end_is who c e = rw (error_is c.execution.request.is_silent who c.execution.header e) refl
 
-pub loading_is : (who : Present) (c : Current) (l : Loading) → told_loading (end_kit_of who c) l ≡ end_of_loading who c l
+pub loading_is : (who : Present) (c : Current) (l : Loading)
+    → told_loading (end_kit_of who c) l ≡ end_of_loading who c l
 loading_is who c (Starts address) = refl
 loading_is who c (Ends e) = end_is who c e
 
 -- ---- a slice
 
-stream_by : (is_silent : Bool) (who : Present) (c : Current) (bytes : List ℕ) → c.execution.request.is_silent ≡ is_silent
-    → streamed is_silent (heard_under who c.execution.header (codes "stream")) bytes ≡ stream_letters who c bytes
+stream_by : (is_silent : Bool) (who : Present) (c : Current) (bytes : List ℕ)
+    → c.execution.request.is_silent ≡ is_silent
+    → streamed is_silent (heard_under who c.execution.header (codes "stream")) bytes
+    ≡ stream_letters who c bytes
 stream_by is_silent who c [] is = refl
 stream_by true who c (byte ∷ bytes) is = rw is refl
 stream_by false who c (byte ∷ bytes) is = rw is refl
 
 pub stream_is : (who : Present) (c : Current) (bytes : List ℕ)
-    → streamed c.execution.request.is_silent (heard_under who c.execution.header (codes "stream")) bytes ≡ stream_letters who c bytes
+    → streamed c.execution.request.is_silent (heard_under who c.execution.header (codes "stream")) bytes
+    ≡ stream_letters who c bytes
 stream_is who c bytes = stream_by c.execution.request.is_silent who c bytes refl
 
-line_to : (to : Option ℕ) (c : Current) (asks : Bool) → asked_line (to_stdin to c) asks ≡ (if asks then input_request_to to c else [])
+line_to : (to : Option ℕ) (c : Current) (asks : Bool)
+    → asked_line (to_stdin to c) asks ≡ (if asks then input_request_to to c else [])
 line_to None c true = refl
 line_to None c false = refl
 line_to (Some n) c true = refl
 line_to (Some n) c false = refl
 
 line_by : (allows asks : Bool) (to : Option ℕ) (c : Current)
-    → asked_line (if allows then to_stdin to c else None) asks ≡ (if asks && allows then input_request_to to c else [])
+    → asked_line (if allows then to_stdin to c else None) asks
+    ≡ (if asks && allows then input_request_to to c else [])
 line_by true true to c = line_to to c true
 line_by true false to c = line_to to c false
 line_by false true to c = refl
 line_by false false to c = refl
 
-pub line_is : (who : Present) (c : Current) (asks : Bool) → asked_line (asked_of who c) asks ≡ input_request_letters who c asks
+pub line_is : (who : Present) (c : Current) (asks : Bool)
+    → asked_line (asked_of who c) asks ≡ input_request_letters who c asks
 line_is who c asks = line_by c.execution.request.allows_stdin asks (stdin_of c.execution.identity who.peers) c
 
 pub outcome_is : (who : Present) (c : Current) (e : SliceOutcome)
-    → told_outcome (heard_under who c.execution.header (codes "debug_event")) (end_kit_of who c) e ≡ outcome_letters who c e
-outcome_is who c outcome.More = refl
-outcome_is who c outcome.Waiting = refl
-outcome_is who c (outcome.Stop s) = refl
+    → told_outcome (heard_under who c.execution.header (codes "debug_event")) (end_kit_of who c) e
+    ≡ outcome_letters who c e
 outcome_is who c (outcome.End e) = end_is who c (ending_of e)
+outcome_is who c _ = refl
 
 -- printing goes operation by operation
 pub printed_more : (xs : List PortOperation) (i : ℕ) (d : PortOperation) → i < length xs
-    → filter_map printed (take (i + 1) xs) ≡ filter_map printed (take i xs) ++ filter_map printed (get_or xs i d ∷ [])
+    → filter_map printed (take (i + 1) xs) ≡ filter_map printed (take i xs)
+    ++ filter_map printed (get_or xs i d ∷ [])
 printed_more xs i d h = rw (take_more xs i d h) (filter_map-append printed (take i xs) (get_or xs i d ∷ []))
 
-pub slice_is : (who : Present) (c : Current) (k : SliceKit) (traffic : List PortOperation) (e : SliceOutcome) → IsSliceKit who c k
+pub slice_is : (who : Present) (c : Current) (k : SliceKit) (traffic : List PortOperation) (e : SliceOutcome)
+    → IsSliceKit who c k
     → told_slice k traffic e ≡ slice_letters who c traffic e
 slice_is who c k traffic e kit = rw (
   kit.end,

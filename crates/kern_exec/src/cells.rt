@@ -77,7 +77,8 @@ pub fn loading_kit(
 pub fn letters_of(kit: LoadingKit, loading: Loading) -> Letters
     requires { length kit.letters ≤ 2 }
     ensures told { result ≡ kit.letters ++ told_loading kit.end loading }
-    ensures letters { (who : Present) (c : Current) → IsLoadingKit who c kit → result ≡ loading_letters who c loading }
+    ensures letters { (who : Present) (c : Current) → IsLoadingKit who c kit
+        → result ≡ loading_letters who c loading }
 {
     let LoadingKit { mut letters, end } = kit;
     match loading {

@@ -1,5 +1,6 @@
 //! The executions of a kernel: those that wait, and the one that is under way.
-ghost use Rattle.std.specs.Prelude.{◌≡◌, ◌<◌, ◌+◌, ◌^◌, [], ◌∷◌, List, length, drop, nat_lt, IfOk, None, option_map, MatchOption};
+ghost use Rattle.std.specs.Prelude.{◌≡◌, ◌<◌, ◌+◌, ◌^◌, [], ◌∷◌, List, length, drop, nat_lt, IfOk, None};
+ghost use Rattle.std.specs.Prelude.{option_map, MatchOption};
 ghost use Rattle.kern_exec.specs.declared.execution.Execution.{Execution};
 ghost use Rattle.kern_exec.specs.Executions.{nothing, queued, taken, begun, ended, count_with, under_way, start_of};
 
@@ -139,7 +140,8 @@ impl Executions {
     pub fn take(&mut self, loading: Loading)
         requires some { 0 < length self.old.queue }
         requires room { self.old.count + 1 < 2 ^ 63 }
-        ensures { (x : Execution) (rest : List Execution) → self.old.queue ≡ x ∷ rest → self.new ≡ taken x rest loading self.old }
+        ensures { (x : Execution) (rest : List Execution) → self.old.queue ≡ x ∷ rest
+            → self.new ≡ taken x rest loading self.old }
     {
         let Some(execution) = self.queue.pop_front() else {
             return;

@@ -94,7 +94,8 @@ pub struct BusyIdle {
 
 // Letters that begin with busy.
 pub(crate) fn busy(alloc: Global, peers: &Peers, header: &Bytes) -> Result<Letters, AllocError>
-    ensures { IfOk result (λ letters. letters ≡ heard peers.now header.now (Content.Status ExecutionState.Busy) ∷ []) }
+    ensures { IfOk result (λ letters. letters ≡ heard peers.now header.now
+        (Content.Status ExecutionState.Busy) ∷ []) }
 {
     let mut letters = Letters::new(alloc)?;
     let busy = heard(alloc, peers, header, Content::Status(ExecutionState::Busy))?;

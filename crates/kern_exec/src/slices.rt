@@ -1,5 +1,6 @@
 //! Slices of a run, and what they post.
-ghost use Rattle.std.specs.Prelude.{◌≡◌, ◌<◌, ◌≤◌, ◌+◌, ◌++◌, ◌∷◌, [], length, IfOk, OnErr, vec_capacity, vec_len, codes};
+ghost use Rattle.std.specs.Prelude.{◌≡◌, ◌<◌, ◌≤◌, ◌+◌, ◌++◌, ◌∷◌, [], length, IfOk, OnErr, vec_capacity};
+ghost use Rattle.std.specs.Prelude.{vec_len, codes};
 ghost use Rattle.std.specs.List.{filter_map, list_any};
 ghost use Rattle.lab_core.specs.declared.run_state.RunState.TheVariants.{Running};
 ghost use Rattle.lab_core.specs.Board.{Board};
@@ -10,7 +11,8 @@ ghost use Rattle.kern_exec.specs.declared.execution.Current.{Current};
 ghost use Rattle.kern_exec.specs.Boards.{slice_end, after_slice};
 ghost use Rattle.kern_exec.specs.Ends.{printed, is_asking, reason_of, ending_of, slice_letters};
 ghost use Rattle.kern_exec.specs.Letters.{heard_under};
-ghost use Rattle.kern_exec.specs.Kits.{IsSliceKit, end_kit_of, asked_of, streamed, asked_line, told_outcome, told_slice};
+ghost use Rattle.kern_exec.specs.Kits.{IsSliceKit, end_kit_of, asked_of, streamed, asked_line, told_outcome};
+ghost use Rattle.kern_exec.specs.Kits.{told_slice};
 
 use crate::board::ask;
 use crate::ends::{EndKit, end_kit, push_end};

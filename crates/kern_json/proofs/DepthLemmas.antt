@@ -1,5 +1,6 @@
 -- How deep contents nest.
-use Rattle.std.proofs.Common.{◌≡◌, ◌≤◌, ℕ, nat_le, ◌++◌, Bool, true, false, Option, Some, None, List, [], ◌∷◌, map, refl, arith}
+use Rattle.std.proofs.Common.{◌≡◌, ◌≤◌, ℕ, nat_le, ◌++◌, Bool, true, false, Option, Some, None, List, [], ◌∷◌}
+use Rattle.std.proofs.Common.{map, refl, arith}
 use Rattle.std.proofs.lemmas.Bool.Decides.{nat_tests}
 use Rattle.serde_json.specs.Data.{Data, depth, items_depth}
 use Rattle.serde_json.specs.View.{items_of}
@@ -12,7 +13,9 @@ use Rattle.dap_answers.specs.declared.answer.Outcome.{Outcome}
 use Rattle.dap_answers.specs.declared.answer.Outcome.TheVariants.{Success, Refused}
 use Rattle.dap_answers.specs.declared.answer.Event.{Event}
 use Rattle.dap_answers.specs.declared.answer.Event.TheVariants as event
-use Rattle.dap_answers.specs.Json.{object_of, source_members, bare_frame, frame_json, breakpoint_json, variable_json, instruction_json, line_json, source_breakpoints_json, stopped_threads, debug_state_json, body_json, outcome_json, event_json}
+use Rattle.dap_answers.specs.Json.{object_of, source_members, bare_frame, frame_json, breakpoint_json}
+use Rattle.dap_answers.specs.Json.{variable_json, instruction_json, line_json, source_breakpoints_json}
+use Rattle.dap_answers.specs.Json.{stopped_threads, debug_state_json, body_json, outcome_json, event_json}
 use Rattle.kern_post.specs.declared.content.Ending.{Ending}
 use Rattle.kern_post.specs.declared.content.Ending.TheVariants as ending
 use Rattle.kern_post.specs.declared.content.Completeness.{Completeness}

@@ -1,5 +1,6 @@
 -- What a Slice may be answered.
-use Rattle.std.proofs.Common.{◌≡◌, ℕ, Bool, true, false, if◌then◌else◌, List, [], ◌∷◌, Option, Some, None, Result, Ok, Err, refl, sym, subst}
+use Rattle.std.proofs.Common.{◌≡◌, ℕ, Bool, true, false, if◌then◌else◌, List, [], ◌∷◌, Option, Some, None}
+use Rattle.std.proofs.Common.{Result, Ok, Err, refl, sym, subst}
 use Rattle.std.specs.Option.{IsSome}
 use Rattle.lab_turn.specs.History.{PassState}
 use Rattle.lab_core.specs.declared.answer.SliceOutcome.{SliceOutcome}
@@ -51,15 +52,19 @@ state_heard run.NoRun moment s = start_heard s.work.pending moment s
 
 slice_heard : (moment : ℕ) (s : Session) → IsHeard (turn (Slice moment) s)
 unfolding turn
-slice_heard moment s = either s.is_shut (quiet reply.Ended s) (by_run s.board.run moment s) refl (state_heard s.board.run moment s)
+slice_heard moment s =
+    either s.is_shut (quiet reply.Ended s) (by_run s.board.run moment s) refl
+    (state_heard s.board.run moment s)
 
-entry_heard : (v w : PassState Call) (moment : ℕ) (answer : Result Reply KernFault) → TurnedBy v (Slice moment) answer w → is_entry answer ≡ true → IsSome (outcome_of answer)
+entry_heard : (v w : PassState Call) (moment : ℕ) (answer : Result Reply KernFault)
+    → TurnedBy v (Slice moment) answer w → is_entry answer ≡ true → IsSome (outcome_of answer)
 entry_heard v w moment answer t h =
     let e = t.entered h in
     let P : Result Reply KernFault → Type 0 = λ a. IsSome (outcome_of a) in
     subst P (sym e.answered) (slice_heard moment (session_after (calls_of e.before)))
 
-pub heard : (v w : PassState Call) (moment : ℕ) (answer : Result Reply KernFault) → TurnedBy v (Slice moment) answer w → IsSome (outcome_of answer)
+pub heard : (v w : PassState Call) (moment : ℕ) (answer : Result Reply KernFault)
+    → TurnedBy v (Slice moment) answer w → IsSome (outcome_of answer)
 heard v w moment (Ok r) t = entry_heard v w moment (Ok r) t refl
 heard v w moment (Err fault.OutOfMemory) t = refl
 heard v w moment (Err fault.JournalFull) t = refl

@@ -1,5 +1,7 @@
 -- What a Fetch is answered.
-use Rattle.std.proofs.Common.{◌≡◌, ℕ, ◌+◌, ◌-◌, ◌≤◌, Bool, true, false, if◌then◌else◌, List, length, take, drop, Option, Some, None, Result, Ok, Err, refl, arith, sym, ap, ◌∙◌, subst, take-append-drop}
+use Rattle.std.proofs.Common.{◌≡◌, ℕ, ◌+◌, ◌-◌, ◌≤◌, Bool, true, false, if◌then◌else◌, List, length, take}
+use Rattle.std.proofs.Common.{drop, Option, Some, None, Result, Ok, Err, refl, arith, sym, ap, ◌∙◌, subst}
+use Rattle.std.proofs.Common.{take-append-drop}
 use Rattle.std.specs.Prelude.{nat_lt, min, max}
 use Rattle.std.specs.List.{filter}
 use Rattle.std.proofs.Math.Nat.{le-max_left}
@@ -26,27 +28,33 @@ use Rattle.kern_net.specs.Streams.{posts_in, window}
 use Rattle.kern_net.specs.Rounds.{IsFetchAnswer}
 
 -- only a Fetch's answers come
-fits_if : (b : Bool) (t u : Turn) → IsFetchAnswer t.answer → IsFetchAnswer u.answer → IsFetchAnswer (if b then t else u).answer
+fits_if : (b : Bool) (t u : Turn) → IsFetchAnswer t.answer → IsFetchAnswer u.answer
+    → IsFetchAnswer (if b then t else u).answer
 fits_if true t u p q = p
 fits_if false t u p q = q
 
-fits_at : (peer : Option Peer) (connection from : ℕ) (s : Session) → IsFetchAnswer (by_peer peer s (λ p. fetching connection from s)).answer
+fits_at : (peer : Option Peer) (connection from : ℕ) (s : Session)
+    → IsFetchAnswer (by_peer peer s (λ p. fetching connection from s)).answer
 fits_at None connection from s = tt
 fits_at (Some p) connection from s =
-    fits_if (nat_lt from (first_kept (length s.posts))) (refused (fault.Lagged (first_kept (length s.posts))) s)
-    (quiet (reply.Fetched (posts_to connection from s.posts) (next_from from (length s.posts)) s.is_shut) s) tt tt
+    fits_if (nat_lt from (first_kept (length s.posts)))
+    (refused (fault.Lagged (first_kept (length s.posts))) s)
+    (quiet (reply.Fetched (posts_to connection from s.posts) (next_from from (length s.posts)) s.is_shut) s)
+    tt tt
 
 fetch_fits : (connection from : ℕ) (s : Session) → IsFetchAnswer (turn (Fetch connection from) s).answer
 unfolding turn
 fetch_fits connection from s = fits_at _ connection from s
 
-entry_fits : (v w : PassState Call) (connection from : ℕ) (answer : Result Reply KernFault) → TurnedBy v (Fetch connection from) answer w → is_entry answer ≡ true → IsFetchAnswer answer
+entry_fits : (v w : PassState Call) (connection from : ℕ) (answer : Result Reply KernFault)
+    → TurnedBy v (Fetch connection from) answer w → is_entry answer ≡ true → IsFetchAnswer answer
 entry_fits v w connection from answer t h =
     let e = t.entered h in
     let P : Result Reply KernFault → Type 0 = λ a. IsFetchAnswer a in
     subst P (sym e.answered) (fetch_fits connection from (session_after (calls_of e.before)))
 
-pub fetch_answer : (v w : PassState Call) (connection from : ℕ) (answer : Result Reply KernFault) → TurnedBy v (Fetch connection from) answer w → IsFetchAnswer answer
+pub fetch_answer : (v w : PassState Call) (connection from : ℕ) (answer : Result Reply KernFault)
+    → TurnedBy v (Fetch connection from) answer w → IsFetchAnswer answer
 fetch_answer v w connection from (Ok r) t = entry_fits v w connection from (Ok r) t refl
 fetch_answer v w connection from (Err f) t = tt
 
@@ -66,7 +74,8 @@ took n X =
 covered : (k f n l : ℕ) → 1 ≤ f → l ≡ n - (f - 1) → max f (min (f + k) (n + 1)) - f ≡ min k l
 covered k f n l one is = omega arith
 
-covers : (k c f : ℕ) (P : List Post) → 1 ≤ f → filter (is_to c) (take k (drop (f - 1) P)) ≡ window c f (max f (min (f + k) (length P + 1))) P
+covers : (k c f : ℕ) (P : List Post) → 1 ≤ f
+    → filter (is_to c) (take k (drop (f - 1) P)) ≡ window c f (max f (min (f + k) (length P + 1))) P
 unfolding window
 covers k c f P one =
     let X = drop (f - 1) P in
@@ -82,9 +91,11 @@ onwards k f n = omega arith
 from_one : (f x : ℕ) → nat_lt f (max 1 x) ≡ false → 1 ≤ f
 from_one f x h = let b = ltb-false f (max 1 x) h in let m = le-max_left 1 x in omega (arith, b, m)
 
-gives_if : (b : Bool) (c f : ℕ) (s : Session) (lagged : KernFault) (posts : List Post) (next : ℕ) (ended : Bool)
+gives_if : (b : Bool) (c f : ℕ) (s : Session) (lagged : KernFault) (posts : List Post) (next : ℕ)
+    (ended : Bool)
     → nat_lt f (first_kept (length s.posts)) ≡ b
-    → Ok (reply.Fetched posts next ended) ≡ (if b then refused lagged s else quiet (reply.Fetched (posts_to c f s.posts) (next_from f (length s.posts)) s.is_shut) s).answer
+    → Ok (reply.Fetched posts next ended) ≡ (if b then refused lagged s else quiet
+    (reply.Fetched (posts_to c f s.posts) (next_from f (length s.posts)) s.is_shut) s).answer
     → Gives c f s.posts posts next
 gives_if true c f s lagged posts next ended h e = absurd cc
 gives_if false c f s lagged posts next ended h e =
@@ -103,10 +114,12 @@ gives_if false c f s lagged posts next ended h e =
     }
 
 gives_at : (peer : Option Peer) (c f : ℕ) (s : Session) (posts : List Post) (next : ℕ) (ended : Bool)
-    → Ok (reply.Fetched posts next ended) ≡ (by_peer peer s (λ p. fetching c f s)).answer → Gives c f s.posts posts next
+    → Ok (reply.Fetched posts next ended) ≡ (by_peer peer s (λ p. fetching c f s)).answer
+    → Gives c f s.posts posts next
 gives_at None c f s posts next ended e = absurd cc
 gives_at (Some p) c f s posts next ended e =
-    gives_if (nat_lt f (first_kept (length s.posts))) c f s (fault.Lagged (first_kept (length s.posts))) posts next ended refl e
+    gives_if (nat_lt f (first_kept (length s.posts))) c f s (fault.Lagged (first_kept (length s.posts))) posts
+    next ended refl e
 
 gives_there : (c f : ℕ) (s : Session) (posts : List Post) (next : ℕ) (ended : Bool)
     → Ok (reply.Fetched posts next ended) ≡ (turn (Fetch c f) s).answer → Gives c f s.posts posts next
@@ -114,5 +127,6 @@ unfolding turn
 gives_there c f s posts next ended e = gives_at _ c f s posts next ended e
 
 pub gives : (before : List (ℕ × Call)) (c f : ℕ) (posts : List Post) (next : ℕ) (ended : Bool)
-    → Ok (reply.Fetched posts next ended) ≡ seated_answer before (Fetch c f) → Gives c f (posts_in before) posts next
+    → Ok (reply.Fetched posts next ended) ≡ seated_answer before (Fetch c f)
+    → Gives c f (posts_in before) posts next
 gives before c f posts next ended e = gives_there c f (session_after (calls_of before)) posts next ended e

@@ -1,5 +1,6 @@
 -- Posts only come behind those that there are.
-use Rattle.std.proofs.Common.{◌≡◌, ℕ, List, [], ◌∷◌, ◌++◌, length, sym, ap, ◌∙◌, subst, append_assoc, append-nil}
+use Rattle.std.proofs.Common.{◌≡◌, ℕ, List, [], ◌∷◌, ◌++◌, length, sym, ap, ◌∙◌, subst, append_assoc}
+use Rattle.std.proofs.Common.{append-nil}
 use Rattle.std.specs.List.{fold}
 use Rattle.std.proofs.lemmas.List.{map-append}
 use Rattle.std.proofs.lemmas.List.Sums.{fold-append}
@@ -35,12 +36,16 @@ calls_grow s [] = grows_none s.posts
 calls_grow s (call ∷ calls) =
     let a = step_grows s call in
     let b = calls_grow (next s call) calls in
-    record { more = a.more ++ b.more; whole = b.whole ∙ ap (λ (p : List Post). p ++ b.more) a.whole ∙ append_assoc s.posts a.more b.more }
+    record {
+      more = a.more ++ b.more;
+      whole = b.whole ∙ ap (λ (p : List Post). p ++ b.more) a.whole ∙ append_assoc s.posts a.more b.more;
+    }
 
 pub posts_grow : (a b : List (ℕ × Call)) → IsPrefix a b → Grows (posts_in a) (posts_in b)
 posts_grow a b p =
     let G : List (ℕ × Call) → Type 0 = λ l. Grows (posts_in a) (posts_in l) in
     let H : Session → Type 0 = λ (s : Session). Grows (posts_in a) s.posts in
     let joined : session_after (calls_of (a ++ p.0)) ≡ fold next (session_after (calls_of a)) (calls_of p.0) =
-    ap (fold next opened) (map-append (λ (e : ℕ × Call). e.1) a p.0) ∙ fold-append next opened (calls_of a) (calls_of p.0) in
+    ap (fold next opened) (map-append (λ (e : ℕ × Call). e.1) a p.0)
+    ∙ fold-append next opened (calls_of a) (calls_of p.0) in
     subst G p.1 (subst H (sym joined) (calls_grow (session_after (calls_of a)) (calls_of p.0)))

@@ -1,5 +1,6 @@
 -- No call adds a post but by its letters.
-use Rattle.std.proofs.Common.{◌≡◌, ℕ, ◌+◌, Bool, true, false, if◌then◌else◌, List, [], ◌∷◌, length, Option, Some, None, Result, Ok, Err, refl}
+use Rattle.std.proofs.Common.{◌≡◌, ℕ, ◌+◌, Bool, true, false, if◌then◌else◌, List, [], ◌∷◌, length, Option}
+use Rattle.std.proofs.Common.{Some, None, Result, Ok, Err, refl}
 use Rattle.std.specs.Prelude.{not, nat_lt, codes}
 use Rattle.jup_wire.specs.declared.channel.Channel.{Channel}
 use Rattle.jup_wire.specs.declared.channel.Channel.TheVariants.{Iopub}
@@ -30,7 +31,8 @@ use Rattle.kern_core.specs.declared.call.Reply.TheVariants as reply
 use Rattle.kern_core.specs.declared.fault.KernFault.TheVariants as fault
 use Rattle.kern_core.specs.Sessions.{Session, Turn, refused, quiet}
 use Rattle.kern_core.specs.Connections.{by_peer, joined, unsubscribed, new_subscription, fetching}
-use Rattle.kern_core.specs.Asks.{plain_reply, by_reply, other, executing, queue_full, shutting, answering, performing, refusing, is_bounded, debugging, unanswered}
+use Rattle.kern_core.specs.Asks.{plain_reply, by_reply, other, executing, queue_full, shutting, answering}
+use Rattle.kern_core.specs.Asks.{performing, refusing, is_bounded, debugging, unanswered}
 use Rattle.kern_core.specs.Slices.{running_to, by_run, by_start, loading, slicing}
 use Rattle.kern_core.specs.Turns.{turn}
 
@@ -43,25 +45,31 @@ either s false t u p q = q
 
 -- ---- requests
 
-executes : (n : ℕ) (identity : List ℕ) (r : Request) (x : ExecuteRequest) (moment : ℕ) (s : Session) → Leaves s (executing n identity r x moment s)
+executes : (n : ℕ) (identity : List ℕ) (r : Request) (x : ExecuteRequest) (moment : ℕ) (s : Session)
+    → Leaves s (executing n identity r x moment s)
 executes n identity r x moment s =
-    either s (nat_lt (length s.work.queue) 64) (quiet reply.Arrived (record s { work = queued (execution_of n identity r x) s.work }))
+    either s (nat_lt (length s.work.queue) 64) (quiet reply.Arrived
+    (record s { work = queued (execution_of n identity r x) s.work }))
     (queue_full n r x moment s) (record { same = refl }) (record { same = refl })
 
-shuts : (n : ℕ) (r : Request) (restarts : Bool) (moment : ℕ) (s : Session) → Leaves s (shutting n r restarts moment s)
+shuts : (n : ℕ) (r : Request) (restarts : Bool) (moment : ℕ) (s : Session)
+    → Leaves s (shutting n r restarts moment s)
 shuts n r false moment s = record { same = refl }
 shuts n r true moment s = record { same = refl }
 
-answers : (n : ℕ) (r : Request) (d : DapRequest) (moment : ℕ) (s : Session) (given : Result (Body × Board) EventFault) → Leaves s (answering n r d moment s given)
+answers : (n : ℕ) (r : Request) (d : DapRequest) (moment : ℕ) (s : Session)
+    (given : Result (Body × Board) EventFault) → Leaves s (answering n r d moment s given)
 answers n r d moment s (Ok (body, board)) = record { same = refl }
 answers n r d moment s (Err fault) = record { same = refl }
 
-debugs : (n : ℕ) (r : Request) (d : DapRequest) (moment : ℕ) (s : Session) → Leaves s (debugging n r d moment s)
+debugs : (n : ℕ) (r : Request) (d : DapRequest) (moment : ℕ) (s : Session)
+    → Leaves s (debugging n r d moment s)
 debugs n r d moment s =
     either s (is_bounded d.command) (performing n r d moment s) (refusing n r d (codes "Arguments") moment s)
     (answers n r d moment s (performed d.command s.board)) (record { same = refl })
 
-passes_over : (r : Request) (lacking : NeedyRequest) (moment : ℕ) (s : Session) → Leaves s (unanswered r lacking moment s)
+passes_over : (r : Request) (lacking : NeedyRequest) (moment : ℕ) (s : Session)
+    → Leaves s (unanswered r lacking moment s)
 passes_over r needy.InputReply moment s = record { same = refl }
 passes_over r needy.Execute moment s = record { same = refl }
 passes_over r needy.IsComplete moment s = record { same = refl }
@@ -69,24 +77,16 @@ passes_over r needy.Complete moment s = record { same = refl }
 passes_over r needy.CommOpen moment s = record { same = refl }
 passes_over r needy.Shutdown moment s = record { same = refl }
 
-others : (n : ℕ) (identity : List ℕ) (r : Request) (a : Ask) (moment : ℕ) (s : Session) → Leaves s (other n identity r a moment s)
+others : (n : ℕ) (identity : List ℕ) (r : Request) (a : Ask) (moment : ℕ) (s : Session)
+    → Leaves s (other n identity r a moment s)
 others n identity r (ask.Execute x) moment s = executes n identity r x moment s
-others n identity r (ask.CommOpen comm_id) moment s = record { same = refl }
 others n identity r (ask.Shutdown restarts) moment s = shuts n r restarts moment s
-others n identity r ask.Interrupt moment s = record { same = refl }
 others n identity r (ask.Debug d) moment s = debugs n r d moment s
-others n identity r (ask.InputReply typed) moment s = record { same = refl }
 others n identity r (ask.BadContent lacking) moment s = passes_over r lacking moment s
-others n identity r ask.KernelInfo moment s = record { same = refl }
-others n identity r (ask.IsComplete code) moment s = record { same = refl }
-others n identity r (ask.Complete cursor_pos) moment s = record { same = refl }
-others n identity r ask.Inspect moment s = record { same = refl }
-others n identity r ask.History moment s = record { same = refl }
-others n identity r ask.CommInfo moment s = record { same = refl }
-others n identity r (ask.BadDebug response) moment s = record { same = refl }
-others n identity r ask.Unknown moment s = record { same = refl }
+others n identity r _ moment s = record { same = refl }
 
-replies : (plain : Option Content) (n : ℕ) (identity : List ℕ) (r : Request) (moment : ℕ) (s : Session) → Leaves s (by_reply plain n identity r moment s)
+replies : (plain : Option Content) (n : ℕ) (identity : List ℕ) (r : Request) (moment : ℕ) (s : Session)
+    → Leaves s (by_reply plain n identity r moment s)
 replies (Some c) n identity r moment s = record { same = refl }
 replies None n identity r moment s = others n identity r r.ask moment s
 
@@ -113,43 +113,56 @@ goes_on run.NoRun moment s = starts s.work.pending moment s
 joins : (channel : Channel) (identity : List ℕ) (s : Session) → Leaves s (joined channel identity s)
 joins channel identity s =
     either s (has_no_place channel identity s.present.peers) (refused fault.Full s)
-    (quiet (reply.Joined (s.present.joined + 1) (length s.posts + 1)) (record s { present = joined_by channel identity s.present }))
+    (quiet (reply.Joined (s.present.joined + 1) (length s.posts + 1))
+    (record s { present = joined_by channel identity s.present }))
     (record { same = refl }) (record { same = refl })
 
-leaves : (peer : Option Peer) (n : ℕ) (s : Session) → Leaves s (by_peer peer s (λ p. quiet reply.Left (record s { present = without n s.present })))
+leaves : (peer : Option Peer) (n : ℕ) (s : Session)
+    → Leaves s (by_peer peer s (λ p. quiet reply.Left (record s { present = without n s.present })))
 leaves None n s = record { same = refl }
 leaves (Some p) n s = record { same = refl }
 
-subscribes : (peer : Option Peer) (n : ℕ) (wants : Bool) (prefix : List ℕ) (moment : ℕ) (s : Session) → Leaves s (by_peer peer s (λ p.
+subscribes : (peer : Option Peer) (n : ℕ) (wants : Bool) (prefix : List ℕ) (moment : ℕ) (s : Session)
+    → Leaves s (by_peer peer s (λ p.
     if not (is_on Iopub p) then refused fault.NoConnection s else
     if not wants then unsubscribed n prefix s else
     if is_full p then refused fault.Full s else new_subscription n prefix moment s))
 subscribes None n wants prefix moment s = record { same = refl }
 subscribes (Some p) n wants prefix moment s =
-    let last = either s (is_full p) (refused fault.Full s) (new_subscription n prefix moment s) (record { same = refl }) (record { same = refl }) in
-    let first = either s (not wants) (unsubscribed n prefix s) (if is_full p then refused fault.Full s else new_subscription n prefix moment s)
+    let last =
+    either s (is_full p) (refused fault.Full s) (new_subscription n prefix moment s)
+    (record { same = refl }) (record { same = refl }) in
+    let first =
+    either s (not wants) (unsubscribed n prefix s)
+    (if is_full p then refused fault.Full s else new_subscription n prefix moment s)
     (record { same = refl }) last in
     either s (not (is_on Iopub p)) (refused fault.NoConnection s)
-    (if not wants then unsubscribed n prefix s else (if is_full p then refused fault.Full s else new_subscription n prefix moment s))
+    (if not wants then unsubscribed n prefix s else (if is_full p then refused fault.Full s else
+    new_subscription n prefix moment s))
     (record { same = refl }) first
 
-arrives : (peer : Option Peer) (n : ℕ) (r : Request) (moment : ℕ) (s : Session) → Leaves s (by_peer peer s (λ p.
-    if is_on Iopub p then refused fault.NoConnection s else by_reply (plain_reply s.work.count r.ask) n p.identity r moment s))
+arrives : (peer : Option Peer) (n : ℕ) (r : Request) (moment : ℕ) (s : Session)
+    → Leaves s (by_peer peer s (λ p.
+    if is_on Iopub p then refused fault.NoConnection s else by_reply (plain_reply s.work.count r.ask) n
+    p.identity r moment s))
 arrives None n r moment s = record { same = refl }
 arrives (Some p) n r moment s =
-    either s (is_on Iopub p) (refused fault.NoConnection s) (by_reply (plain_reply s.work.count r.ask) n p.identity r moment s)
+    either s (is_on Iopub p) (refused fault.NoConnection s)
+    (by_reply (plain_reply s.work.count r.ask) n p.identity r moment s)
     (record { same = refl }) (replies (plain_reply s.work.count r.ask) n p.identity r moment s)
 
 fetches : (peer : Option Peer) (n from : ℕ) (s : Session) → Leaves s (by_peer peer s (λ p. fetching n from s))
 fetches None n from s = record { same = refl }
 fetches (Some p) n from s =
-    either s (nat_lt from (first_kept (length s.posts))) (refused (fault.Lagged (first_kept (length s.posts))) s)
+    either s (nat_lt from (first_kept (length s.posts)))
+    (refused (fault.Lagged (first_kept (length s.posts))) s)
     (quiet (reply.Fetched (posts_to n from s.posts) (next_from from (length s.posts)) s.is_shut) s)
     (record { same = refl }) (record { same = refl })
 
 slices : (moment : ℕ) (s : Session) → Leaves s (slicing moment s)
 slices moment s =
-    either s s.is_shut (quiet reply.Ended s) (by_run s.board.run moment s) (record { same = refl }) (goes_on s.board.run moment s)
+    either s s.is_shut (quiet reply.Ended s) (by_run s.board.run moment s) (record { same = refl })
+    (goes_on s.board.run moment s)
 
 turn_leaves : (c : Call) (s : Session) → Leaves s (turn c s)
 unfolding turn

@@ -3,7 +3,7 @@ use Rattle.std.specs.Prelude.{◌≡◌, ◌≤◌, ℕ, Bool, true, false, List
 use Rattle.serde_json.specs.Data.{Data}
 use Rattle.serde_json.specs.View.{view}
 use Rattle.jup_wire.specs.declared.channel.Channel.{Channel}
-use Rattle.jup_wire.specs.declared.channel.Channel.TheVariants.{Shell, Control, Stdin, Iopub}
+use Rattle.jup_wire.specs.declared.channel.Channel.TheVariants.{Iopub}
 use Rattle.jup_wire.specs.declared.message.Header.{Header}
 use Rattle.jup_wire.specs.declared.message.Message.{Message}
 use Rattle.jup_wire.specs.declared.message.Parts.{Parts}
@@ -41,10 +41,8 @@ pub record IsSubscription (connection : ℕ) (frames : List (List ℕ)) (call : 
   pub call_is : call ≡ Subscribe connection (record { wants = wants; prefix = prefix; moment = moment })
 
 abbrev pub IsAsked : List ℕ → Channel → ℕ → List (List ℕ) → Call → Type 0
-IsAsked key Shell connection frames call = IsArrival key Shell connection frames call
-IsAsked key Control connection frames call = IsArrival key Control connection frames call
-IsAsked key Stdin connection frames call = IsArrival key Stdin connection frames call
 IsAsked key Iopub connection frames call = IsSubscription connection frames call
+IsAsked key channel connection frames call = IsArrival key channel connection frames call
 
 -- the frames are no message under the key
 abbrev pub IsUnopened : List ℕ → List (List ℕ) → Type 0
@@ -55,10 +53,8 @@ abbrev pub IsNoSubscription : List (List ℕ) → Type 0
 IsNoSubscription frames = (wants : Bool) (prefix : List ℕ) → frames ≡ subscription_frames wants prefix → ⊥
 
 abbrev pub IsDropped : List ℕ → Channel → List (List ℕ) → Type 0
-IsDropped key Shell frames = IsUnopened key frames
-IsDropped key Control frames = IsUnopened key frames
-IsDropped key Stdin frames = IsUnopened key frames
 IsDropped key Iopub frames = IsNoSubscription frames
+IsDropped key _ frames = IsUnopened key frames
 
 -- one call for each message that asks for something, in order, and none for another
 pub data Asks (key : List ℕ) (channel : Channel) (connection : ℕ) : List (List (List ℕ)) → List Call

@@ -4,7 +4,7 @@ use Rattle.std.specs.Prelude.{Err}
 use Rattle.lab_turn.specs.History.{PassState}
 use Rattle.zmtp_wire.specs.Stream.{SideState}
 use Rattle.kern_core.specs.declared.call.Call.{Call}
-use Rattle.kern_core.specs.declared.call.Call.TheVariants.{Join, Leave, Subscribe, Arrive, Slice, Fetch}
+use Rattle.kern_core.specs.declared.call.Call.TheVariants.{Subscribe, Arrive}
 use Rattle.kern_core.specs.declared.call.Reply.{Reply}
 use Rattle.kern_core.specs.declared.fault.KernFault.{KernFault}
 use Rattle.kern_desk.specs.Seats.{seated_answer}
@@ -15,10 +15,7 @@ use Rattle.kern_net.specs.declared.end.PumpEnd.TheVariants as pump
 abbrev pub IsReaderCall : Call → Type 0
 IsReaderCall (Subscribe connection subscription) = Unit {0}
 IsReaderCall (Arrive connection arrival) = Unit {0}
-IsReaderCall (Join channel identity) = ⊥
-IsReaderCall (Leave connection) = ⊥
-IsReaderCall (Slice moment) = ⊥
-IsReaderCall (Fetch connection from) = ⊥
+IsReaderCall _ = ⊥
 
 -- the last call in the history that the pass has seen is its own and comes after these, and this is the
 -- answer to it
@@ -37,12 +34,7 @@ StopsBy pump.OutOfMemory old pass = Unit {0}
 StopsBy pump.JournalFull old pass = length pass.seen ≡ pass.turnstile.limit
 StopsBy (pump.Refused fault) old pass = LastAnswer old pass (Err fault)
 StopsBy pump.Worn old pass = pass.worn ≡ true
-StopsBy pump.PeerEnded old pass = ⊥
-StopsBy pump.ReadFailed old pass = ⊥
-StopsBy pump.WriteFailed old pass = ⊥
-StopsBy (pump.Wire cause) old pass = ⊥
-StopsBy pump.Lagged old pass = ⊥
-StopsBy pump.Ended old pass = ⊥
+StopsBy _ old pass = ⊥
 
 -- or the stream broke
 abbrev pub StopsPiece : PumpEnd → List Call → PassState Call → SideState → Type 0

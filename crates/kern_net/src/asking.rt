@@ -1,5 +1,6 @@
 //! Asking for one message.
-ghost use Rattle.std.specs.Prelude.{◌≡◌, ◌≤◌, ◌⊎◌, ◌++◌, ◌∷◌, [], true, false, OnOk, OnErr, Err, IfOk, IfErr, IfSome, IfNone};
+ghost use Rattle.std.specs.Prelude.{◌≡◌, ◌≤◌, ◌⊎◌, ◌++◌, ◌∷◌, [], true, false, OnOk, OnErr, Err, IfOk, IfErr};
+ghost use Rattle.std.specs.Prelude.{IfSome, IfNone};
 ghost use Rattle.serde_json.specs.View.{view};
 ghost use Rattle.jup_wire.specs.declared.channel.Channel.TheVariants.{Iopub};
 ghost use Rattle.jup_wire.specs.Wire.{IsMessage};

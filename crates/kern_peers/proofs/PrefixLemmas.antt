@@ -1,5 +1,6 @@
 -- A subscription more or less, at the place of its connection, and at its own.
-use Rattle.std.proofs.Common.{◌≡◌, ℕ, ◌<◌, List, [], ◌∷◌, Some, None, Bool, refl, ap, arith, length, zero, suc, slice_set, slice_index_or, inl, inr, not}
+use Rattle.std.proofs.Common.{◌≡◌, ℕ, ◌<◌, List, [], ◌∷◌, Some, None, Bool, refl, ap, arith, length, zero}
+use Rattle.std.proofs.Common.{suc, slice_set, slice_index_or, inl, inr, not}
 use Rattle.std.specs.List.{position, position_or_len, remove}
 use Rattle.std.specs.Str.{bytes_eq}
 use Rattle.std.proofs.lemmas.Bool.{cases_Bool, cases_lt, lt-ltb, le-ltb}

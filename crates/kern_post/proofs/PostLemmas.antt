@@ -1,5 +1,6 @@
 -- Posting in turn, and fetching from what is kept.
-use Rattle.std.proofs.Common.{◌≡◌, ◌∙◌, ℕ, ◌+◌, ◌-◌, ◌<◌, List, [], ◌∷◌, ◌++◌, length, take, drop, get_or, min, refl, ap, arith, append_assoc, length-append, length-drop, Bool, inl, inr}
+use Rattle.std.proofs.Common.{◌≡◌, ◌∙◌, ℕ, ◌+◌, ◌-◌, ◌<◌, List, [], ◌∷◌, ◌++◌, length, take, drop, get_or}
+use Rattle.std.proofs.Common.{min, refl, ap, arith, append_assoc, length-append, length-drop, Bool, inl, inr}
 use Rattle.std.proofs.lemmas.List.{take_more, drop_all, take_all, drop-drop}
 use Rattle.std.proofs.lemmas.List.Elements.{filter-append}
 use Rattle.std.proofs.lemmas.Bool.{cases_lt}
@@ -39,7 +40,8 @@ take_min m n xs is = elim (cases_lt n m) [
 
 -- what a fetch looks at is what it is said to look at
 pub looked_at : (posts kept : List Post) (from skipped start count : ℕ)
-    → kept ≡ drop (length posts - 4096) posts → length posts < from + length kept → skipped + (length posts - length kept) + 1 ≡ from
+    → kept ≡ drop (length posts - 4096) posts → length posts < from + length kept
+    → skipped + (length posts - length kept) + 1 ≡ from
     → start ≡ min skipped (length kept) → count ≡ min (length kept - start) 64
     → take count (drop start kept) ≡ take 64 (drop (from - 1) posts)
 looked_at posts kept from skipped start count is late skips starts counts =

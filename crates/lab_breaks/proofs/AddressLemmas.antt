@@ -1,5 +1,6 @@
 -- A bit for each address.
-use Rattle.std.proofs.Common.{◌≡◌, ℕ, ◌<◌, ◌*◌, ◌/◌, ◌%◌, ◌^◌, ◌==◌, ◌||◌, List, false, refl, sym, ap, ◌∙◌, arith, length, slice_index, slice_set, bit_or, inl, inr, subst}
+use Rattle.std.proofs.Common.{◌≡◌, ℕ, ◌<◌, ◌*◌, ◌/◌, ◌%◌, ◌^◌, ◌==◌, ◌||◌, List, false, refl, sym, ap, ◌∙◌}
+use Rattle.std.proofs.Common.{arith, length, slice_index, slice_set, bit_or, inl, inr, subst}
 use Rattle.std.specs.Int.{bit_at, w64}
 use Rattle.std.proofs.Math.Bool.{or-true, or-false}
 use Rattle.std.proofs.lemmas.Bool.{cases_eq}

@@ -1,5 +1,6 @@
 -- What an event gives where it isn't refused.
-use Rattle.std.proofs.Common.{◌≡◌, ℕ, ◌<◌, List, [], ◌∷◌, Option, Some, None, Ok, Err, cond, false, refl, sym, arith, ◌++◌, Result}
+use Rattle.std.proofs.Common.{◌≡◌, ℕ, ◌<◌, List, [], ◌∷◌, Option, Some, None, Ok, Err, cond, false, refl, sym}
+use Rattle.std.proofs.Common.{arith, ◌++◌, Result}
 use Rattle.std.specs.Option.{is_some, IsSome}
 use Rattle.std.specs.Prelude.{nat_lt}
 use Rattle.std.proofs.lemmas.Bool.Decides.{nat_tests}
@@ -14,10 +15,12 @@ use Rattle.lab_core.specs.declared.fault.EventFault.TheVariants.{Latched}
 use Rattle.lab_core.specs.Board.{Board}
 use Rattle.lab_core.specs.Events.{Given, Gives, Applies, Runs, without_run, with_run, pressed, with_operation}
 
-pub gives_without : (b new : Board) (a : Answer) → b.run ≡ NoRun → Gives b (without_run b.run (Ok (a, new))) (Ok a) new
+pub gives_without : (b new : Board) (a : Answer) → b.run ≡ NoRun
+    → Gives b (without_run b.run (Ok (a, new))) (Ok a) new
 gives_without b new a none = rw none (refl, refl)
 
-pub gives_with : (b new : Board) (a : Answer) → b.run ≡ Running → Gives b (with_run b.run (Ok (a, new))) (Ok a) new
+pub gives_with : (b new : Board) (a : Answer) → b.run ≡ Running
+    → Gives b (with_run b.run (Ok (a, new))) (Ok a) new
 gives_with b new a running = rw running (refl, refl)
 
 by_request : (latched : Option ℕ) (given : Given) → (IsSome latched → ⊥)
@@ -41,8 +44,10 @@ loaded-regs m [] = refl
 loaded-regs m (p ∷ image) = loaded-regs (stored m p.0 p.1) image
 
 -- one event more
-pub Runs-append : (b mid new : Board) (events : List Event) (replies : List (Result Answer EventFault)) (event : Event) (reply : Result Answer EventFault)
-    → Runs b events replies mid → Applies mid event reply new → Runs b (events ++ event ∷ []) (replies ++ reply ∷ []) new
+pub Runs-append : (b mid new : Board) (events : List Event) (replies : List (Result Answer EventFault))
+    (event : Event) (reply : Result Answer EventFault)
+    → Runs b events replies mid → Applies mid event reply new
+    → Runs b (events ++ event ∷ []) (replies ++ reply ∷ []) new
 Runs-append b mid new [] [] event reply runs applies = (new, rw (sym runs) applies, refl)
 Runs-append b mid new (e ∷ events) (r ∷ replies) event reply runs applies =
     (runs.0, runs.1, Runs-append runs.0 mid new events replies event reply runs.2 applies)

@@ -1,5 +1,6 @@
 -- What a lab answers to an event, in terms of the function that gives it.
-use Rattle.std.proofs.Common.{◌≡◌, ◌≢◌, ℕ, zero, suc, ◌≤◌, length, Result, Ok, Err, IfOk, subst, arith, length-append, Option, Some, None}
+use Rattle.std.proofs.Common.{◌≡◌, ◌≢◌, ℕ, zero, suc, ◌≤◌, length, Result, Ok, Err, IfOk, subst, arith}
+use Rattle.std.proofs.Common.{length-append, Option, Some, None}
 use Rattle.i80_exec.specs.declared.ports.PortOperation.{PortOperation}
 use Rattle.i80_exec.specs.Step.{operation_list}
 use Rattle.lab_core.specs.declared.run_state.RunState.{RunState}
@@ -16,11 +17,13 @@ use Rattle.lab_core.specs.Given.{slice_from, sliced_at, given, traffic_in}
 use Rattle.lab_core.specs.Labs.{LabState, StandsFor, AppliesTo, Did, Does}
 use Rattle.lab_core.proofs.LawLemmas.{applies-given, slice_within}
 
-did : (b new : Board) (g : Given) (reply : Result Answer EventFault) (lab : LabState) → Gives b g reply new → StandsFor lab new → Did b g reply lab
+did : (b new : Board) (g : Given) (reply : Result Answer EventFault) (lab : LabState) → Gives b g reply new
+    → StandsFor lab new → Did b g reply lab
 did b new (Ok (a, b')) reply lab h stands = (h.0, subst (StandsFor lab) h.1 stands)
 did b new (Err fault) reply lab h stands = (h.0, subst (StandsFor lab) h.1 stands)
 
-pub does_given : (old new : LabState) (e : Event) (reply : Result Answer EventFault) → AppliesTo old e reply new → Does (given e) old reply new
+pub does_given : (old new : LabState) (e : Event) (reply : Result Answer EventFault)
+    → AppliesTo old e reply new → Does (given e) old reply new
 does_given old new e reply applies = λ b stands no_want.
     let a = applies b stands no_want in
     did b a.0 (given e b) reply new (applies-given b a.0 e reply a.1) a.2
@@ -43,7 +46,8 @@ pub slice_traffic_within : (n : ℕ) (b : Board) → length (traffic_of (slice_f
 slice_traffic_within n b = omega (arith, traffic_within (slice_from n 0 b).0 b, slice_within n b)
 
 few_by : (run : RunState) (n : ℕ) (b : Board) (reply : Result Answer EventFault) (lab : LabState)
-    → Did b (while_running run (Ok (sliced_at b (slice_from n 0 b)))) reply lab → IfOk reply (λ a. length (traffic_in a) ≤ n)
+    → Did b (while_running run (Ok (sliced_at b (slice_from n 0 b)))) reply lab
+    → IfOk reply (λ a. length (traffic_in a) ≤ n)
 few_by NoRun n b reply lab h = rw h.0 tt
 few_by Stopped n b reply lab h = rw h.0 tt
 few_by Running n b reply lab h = rw h.0 (slice_traffic_within n b)
@@ -62,7 +66,9 @@ few_of : (n : ℕ) (b : Board) (old new : LabState) (reply : Result Answer Event
 few_of n b old new (Err fault) stands does = tt
 few_of n b old new (Ok a) stands does = few_by b.run n b (Ok a) new (does b stands (no_want a))
 
-pub few_operations : (old new : LabState) (e : Event) (reply : Result Answer EventFault) → AppliesTo old e reply new
+pub few_operations : (old new : LabState) (e : Event) (reply : Result Answer EventFault)
+    → AppliesTo old e reply new
     → (n : ℕ) (b : Board) → e ≡ event.Slice n → StandsFor old b → IfOk reply (λ a. length (traffic_in a) ≤ n)
 few_operations old new e reply applies n b is stands =
-    few_of n b old new reply stands (subst (λ x. Does (given x) old reply new) is (does_given old new e reply applies))
+    few_of n b old new reply stands (subst (λ x. Does (given x) old reply new) is
+    (does_given old new e reply applies))

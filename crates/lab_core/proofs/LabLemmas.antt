@@ -1,5 +1,6 @@
 -- Which board a lab stands for after an event that changes some of its parts.
-use Rattle.std.proofs.Common.{◌≡◌, ℕ, List, [], ◌∷◌, ◌++◌, true, false, Option, Some, None, Result, Ok, length, map, refl, ap, ◌∙◌, rules}
+use Rattle.std.proofs.Common.{◌≡◌, ℕ, List, [], ◌∷◌, ◌++◌, true, false, Option, Some, None, Result, Ok}
+use Rattle.std.proofs.Common.{length, map, refl, ap, ◌∙◌, rules}
 use Rattle.i80_exec.specs.State.{MachineState, power_on, with_pc, loaded as with_image}
 use Rattle.i80_devs.specs.Past as devices
 use Rattle.asm_build.specs.Reading.{Entries}
@@ -19,19 +20,22 @@ use Rattle.lab_core.specs.declared.answer.Answer.TheVariants.{Dumped, Breakpoint
 use Rattle.lab_core.specs.declared.answer.Breakpoint.{Breakpoint}
 use Rattle.lab_core.specs.declared.fault.EventFault.{EventFault}
 use Rattle.lab_core.specs.Board.{Board}
-use Rattle.lab_core.specs.Events.{Gives, GivesSlice, SlicesRun, while_attached, while_running, stopped, started, reset, with_built, with_cell, dumped, verified, with_breakpoints}
+use Rattle.lab_core.specs.Events.{Gives, GivesSlice, SlicesRun, while_attached, while_running, stopped}
+use Rattle.lab_core.specs.Events.{started, reset, with_built, with_cell, dumped, verified, with_breakpoints}
 use Rattle.lab_core.specs.Labs.{LabState, StandsAmid, StandsFor}
 
 pub gives_paused : (b new : Board) (a : Answer) → b.is_attached ≡ true → b.run ≡ Running
     → Gives b (while_attached b.is_attached (while_running b.run (Ok (a, new)))) (Ok a) new
 gives_paused b new a attached running = rw (attached, running) (refl, refl)
 
-pub stands_stopped : (old : LabState) (b : Board) → StandsFor old b → StandsFor (record old { run = Stopped; request = None }) (stopped b)
+pub stands_stopped : (old : LabState) (b : Board) → StandsFor old b
+    → StandsFor (record old { run = Stopped; request = None }) (stopped b)
 stands_stopped old b s = search rules
 
 -- with no step known
 abbrev pub forgotten : LabState → LabState
-forgotten lab = record lab { frames = []; is_halted = false; is_resumed = false; has_moved = false; request = None }
+forgotten lab =
+    record lab { frames = []; is_halted = false; is_resumed = false; has_moved = false; request = None }
 
 pub stands_started : (old : LabState) (b : Board) (machine : MachineState) (address : ℕ) → StandsFor old b
     → machine ≡ with_pc old.machine address
@@ -40,21 +44,31 @@ stands_started old b machine address s machine-is =
     let moved = machine-is ∙ ap (λ (m : MachineState). with_pc m address) s.machine in
     search rules
 
-pub stands_reset : (old : LabState) (b : Board) (machine : MachineState) (panel : devices.DeviceState) (spans : List Span) (points : BreakpointState)
-    → StandsFor old b → machine ≡ power_on → devices.StandsFor panel [] → panel.operations ≡ [] → origins.StandsFor spans []
+pub stands_reset : (old : LabState) (b : Board) (machine : MachineState) (panel : devices.DeviceState)
+    (spans : List Span) (points : BreakpointState)
+    → StandsFor old b → machine ≡ power_on → devices.StandsFor panel [] → panel.operations ≡ []
+    → origins.StandsFor spans []
     → points.lists ≡ old.breakpoints.lists → breakpoints.StandsFor points []
-    → StandsFor (record (forgotten old) { machine = machine; devices = panel; origins = spans; breakpoints = points; run = NoRun }) (reset b)
+    → StandsFor (record (forgotten old) {
+      machine = machine;
+      devices = panel;
+      origins = spans;
+      breakpoints = points;
+      run = NoRun;
+    }) (reset b)
 stands_reset old b machine panel spans points s machine-is past none cleared lists met =
     let listed = lists ∙ s.lists in
     search rules
 
-pub stands_built : (old : LabState) (b : Board) (number : ℕ) (m : Meaning) (machine : MachineState) (spans : List Span) (points : BreakpointState) (symbols : Entries)
+pub stands_built : (old : LabState) (b : Board) (number : ℕ) (m : Meaning) (machine : MachineState)
+    (spans : List Span) (points : BreakpointState) (symbols : Entries)
     → StandsFor old b → machine ≡ with_image old.machine m.output.image
     → origins.StandsFor spans (b.loads ++ record { source = number; rows = m.output.rows } ∷ [])
     → points.lists ≡ old.breakpoints.lists
     → breakpoints.StandsFor points (b.loads ++ record { source = number; rows = m.output.rows } ∷ [])
     → symbols ≡ m.symbols
-    → StandsFor (record old { machine = machine; origins = spans; breakpoints = points; symbols = symbols }) (with_built number m b)
+    → StandsFor (record old { machine = machine; origins = spans; breakpoints = points; symbols = symbols })
+    (with_built number m b)
 stands_built old b number m machine spans points symbols s machine-is put lists met symbols-are =
     let changed = machine-is ∙ ap (λ (n : MachineState). with_image n m.output.image) s.machine in
     let listed = lists ∙ s.lists in
@@ -63,20 +77,24 @@ stands_built old b number m machine spans points symbols s machine-is put lists 
 -- ---- devices with another room, or whose traffic was taken
 
 pub stands_reserved : (old : LabState) (b : Board) (panel : devices.DeviceState) → StandsFor old b
-    → panel.panel ≡ old.devices.panel → panel.operations ≡ old.devices.operations → StandsFor (record old { devices = panel }) b
+    → panel.panel ≡ old.devices.panel → panel.operations ≡ old.devices.operations
+    → StandsFor (record old { devices = panel }) b
 stands_reserved old b panel s same operations =
     let panel-is = same ∙ s.devices in
     let traffic-is = operations ∙ s.traffic_is in
     search rules
 
-pub stands_taken : (lab : LabState) (b : Board) (traffic : List PortOperation) (panel : devices.DeviceState) → StandsAmid lab b traffic
-    → panel ≡ record { panel = lab.devices.panel; operations = []; spare = 0 } → StandsFor (record lab { devices = panel }) b
+pub stands_taken : (lab : LabState) (b : Board) (traffic : List PortOperation) (panel : devices.DeviceState)
+    → StandsAmid lab b traffic
+    → panel ≡ record { panel = lab.devices.panel; operations = []; spare = 0 }
+    → StandsFor (record lab { devices = panel }) b
 stands_taken lab b traffic panel s is =
     let panel-is = ap (λ (d : devices.DeviceState). d.panel) is ∙ s.devices in
     let none = ap (λ (d : devices.DeviceState). d.operations) is in
     search rules
 
-pub slices_running : (run : RunState) (n : ℕ) (b new : Board) (reply : Result Answer EventFault) → run ≡ Running
+pub slices_running : (run : RunState) (n : ℕ) (b new : Board) (reply : Result Answer EventFault)
+    → run ≡ Running
     → GivesSlice n b reply new → SlicesRun run n b reply new
 slices_running run n b new reply is g = rw is g
 
@@ -97,14 +115,18 @@ pub stands_kept : (lab : LabState) (b : Board) (s : Source) (place : Option ℕ)
 stands_kept lab b s place n m sources none number stands same =
     rw (none, ← number) (stands_dumped lab (with_built n m b) sources (b.sources ++ s ∷ []) stands same)
 
-pub gives_breakpoints : (b : Board) (path lines : List ℕ) (number : ℕ) (text : List ℕ) (answers : List Breakpoint)
+pub gives_breakpoints : (b : Board) (path lines : List ℕ) (number : ℕ) (text : List ℕ)
+    (answers : List Breakpoint)
     → source_at b.sources path ≡ Some (number, text) → answers ≡ map (verified text) lines
-    → Gives b (with_breakpoints path lines b) (Ok (Breakpoints answers)) (record b { breakpoints = with_lines number lines b.breakpoints })
+    → Gives b (with_breakpoints path lines b) (Ok (Breakpoints answers))
+    (record b { breakpoints = with_lines number lines b.breakpoints })
 gives_breakpoints b path lines number text answers found are = rw (found, are) (refl, refl)
 
-pub stands_listed : (old : LabState) (b : Board) (points : BreakpointState) (number : ℕ) (lines : List ℕ) → StandsFor old b
+pub stands_listed : (old : LabState) (b : Board) (points : BreakpointState) (number : ℕ) (lines : List ℕ)
+    → StandsFor old b
     → points.lists ≡ with_lines number lines old.breakpoints.lists → breakpoints.StandsFor points b.loads
-    → StandsFor (record old { breakpoints = points }) (record b { breakpoints = with_lines number lines b.breakpoints })
+    → StandsFor (record old { breakpoints = points })
+    (record b { breakpoints = with_lines number lines b.breakpoints })
 stands_listed old b points number lines s lists met =
     let listed : points.lists ≡ with_lines number lines b.breakpoints = rw (← s.lists) lists in
     search rules

@@ -1,5 +1,6 @@
 -- What events answer and leave is what the function gives, and nothing else.
-use Rattle.std.proofs.Common.{◌≡◌, ℕ, zero, suc, ◌+◌, ◌<◌, ◌≤◌, List, [], ◌∷◌, Option, Some, None, Result, Ok, Err, refl, sym, ◌∙◌, arith, inl, inr, subst}
+use Rattle.std.proofs.Common.{◌≡◌, ℕ, zero, suc, ◌+◌, ◌<◌, ◌≤◌, List, [], ◌∷◌, Option, Some, None, Result, Ok}
+use Rattle.std.proofs.Common.{Err, refl, sym, ◌∙◌, arith, inl, inr, subst}
 use Rattle.std.proofs.lemmas.Bool.{cases_lt}
 use borrow.Author.Count.{below_more}
 use Rattle.std.specs.Option.{unwrap_or}
@@ -28,7 +29,8 @@ slice-from n b k e s zero j le is =
     rw (here, all, s.last all) refl
 slice-from n b k e s (suc more) j le is = elim (cases_lt j k) [
   | inl less ↦ rw (s.none_before j less) (slice-from n b k e s more (j + 1) (omega arith) (omega arith))
-  | inr late ↦ (let here : j ≡ k = omega arith in let below : k < n = omega arith in rw (here, s.early below) refl)
+  | inr late ↦
+      (let here : j ≡ k = omega arith in let below : k < n = omega arith in rw (here, s.early below) refl)
 ]
 
 -- and where it says, a slice ends
@@ -39,7 +41,8 @@ Ends n b end = IsSlice n b end.0 end.1
 abbrev NoneBelow : Board → ℕ → Type 0
 NoneBelow b k = (i : ℕ) → i < k → reason (after_steps i b) ≡ None
 
-ends-all : (n : ℕ) (b : Board) (j : ℕ) → j ≡ n → NoneBelow b j → Ends n b (j, unwrap_or (early_reason (after_steps j b)) More)
+ends-all : (n : ℕ) (b : Board) (j : ℕ) → j ≡ n → NoneBelow b j
+    → Ends n b (j, unwrap_or (early_reason (after_steps j b)) More)
 ends-all n b j here none = record {
   within = omega arith;
   none_before = none;
@@ -47,7 +50,8 @@ ends-all n b j here none = record {
   last = λ all. rw here refl;
 }
 
-ends-here : (n : ℕ) (b : Board) (j : ℕ) (e : SliceOutcome) → j < n → NoneBelow b j → reason (after_steps j b) ≡ Some e → Ends n b (j, e)
+ends-here : (n : ℕ) (b : Board) (j : ℕ) (e : SliceOutcome) → j < n → NoneBelow b j
+    → reason (after_steps j b) ≡ Some e → Ends n b (j, e)
 ends-here n b j e below none is = record {
   within = omega arith;
   none_before = none;
@@ -55,7 +59,8 @@ ends-here n b j e below none is = record {
   last = λ all. absurd (omega arith);
 }
 
-ends-by : (r : Option SliceOutcome) (n : ℕ) (b : Board) (j : ℕ) (on : ℕ × SliceOutcome) → j < n → NoneBelow b j
+ends-by : (r : Option SliceOutcome) (n : ℕ) (b : Board) (j : ℕ) (on : ℕ × SliceOutcome) → j < n
+    → NoneBelow b j
     → reason (after_steps j b) ≡ r → (NoneBelow b (j + 1) → Ends n b on) → Ends n b (or_goes_on r j on)
 ends-by (Some e) n b j on below none is goes = ends-here n b j e below none is
 ends-by None n b j on below none is goes = goes (below_more (λ i. reason (after_steps i b) ≡ None) j none is)
@@ -64,7 +69,8 @@ ends : (n : ℕ) (b : Board) (more j : ℕ) → j + more ≡ n → NoneBelow b j
 unfolding slice_from
 ends n b zero j is none = ends-all n b j (omega arith) none
 ends n b (suc more) j is none =
-    ends-by (reason (after_steps j b)) n b j (slice_from more (j + 1) b) (omega arith) none refl (ends n b more (j + 1) (omega arith))
+    ends-by (reason (after_steps j b)) n b j (slice_from more (j + 1) b) (omega arith) none refl
+    (ends n b more (j + 1) (omega arith))
 
 -- it makes no more steps than it may
 pub slice_within : (n : ℕ) (b : Board) → (slice_from n 0 b).0 ≤ n
@@ -72,7 +78,8 @@ slice_within n b = (ends n b n 0 (omega arith) (λ i below. absurd (omega arith)
 
 -- ---- an event
 
-slices-given : (run : RunState) (n : ℕ) (b new : Board) (reply : Result Answer EventFault) → SlicesRun run n b reply new
+slices-given : (run : RunState) (n : ℕ) (b new : Board) (reply : Result Answer EventFault)
+    → SlicesRun run n b reply new
     → Gives b (while_running run (Ok (sliced_at b (slice_from n 0 b)))) reply new
 slices-given NoRun n b new reply h = h
 slices-given Stopped n b new reply h = h
@@ -81,7 +88,8 @@ slices-given Running n b new reply h =
     rw end (h.reply_is, h.board_is)
 
 given-slices : (run : RunState) (n : ℕ) (b new : Board) (reply : Result Answer EventFault)
-    → Gives b (while_running run (Ok (sliced_at b (slice_from n 0 b)))) reply new → SlicesRun run n b reply new
+    → Gives b (while_running run (Ok (sliced_at b (slice_from n 0 b)))) reply new
+    → SlicesRun run n b reply new
 given-slices NoRun n b new reply h = h
 given-slices Stopped n b new reply h = h
 given-slices Running n b new reply h = record {
@@ -94,41 +102,34 @@ given-slices Running n b new reply h = record {
 
 -- the one says what the other says
 alike : (b new : Board) (e : Event) (reply : Result Answer EventFault)
-    → (Applies b e reply new → Gives b (given e b) reply new) × (Gives b (given e b) reply new → Applies b e reply new)
-alike b new (event.Load path text) reply = (λ h. h, λ h. h)
-alike b new (event.Dump path text) reply = (λ h. h, λ h. h)
-alike b new (event.Start address) reply = (λ h. h, λ h. h)
+    → (Applies b e reply new → Gives b (given e b) reply new)
+    × (Gives b (given e b) reply new → Applies b e reply new)
 alike b new (event.Slice n) reply = (slices-given b.run n b new reply, given-slices b.run n b new reply)
-alike b new event.Pause reply = (λ h. h, λ h. h)
-alike b new event.Resume reply = (λ h. h, λ h. h)
-alike b new (event.Step request) reply = (λ h. h, λ h. h)
-alike b new event.Interrupt reply = (λ h. h, λ h. h)
-alike b new event.Reset reply = (λ h. h, λ h. h)
-alike b new (event.SetBreakpoints path lines) reply = (λ h. h, λ h. h)
-alike b new event.Attach reply = (λ h. h, λ h. h)
-alike b new event.Detach reply = (λ h. h, λ h. h)
-alike b new (event.Typed bytes) reply = (λ h. h, λ h. h)
-alike b new (event.Switches byte) reply = (λ h. h, λ h. h)
-alike b new (event.Press n) reply = (λ h. h, λ h. h)
-alike b new (event.Show view) reply = (λ h. h, λ h. h)
+alike b new _ reply = (λ h. h, λ h. h)
 
-pub applies-given : (b new : Board) (e : Event) (reply : Result Answer EventFault) → Applies b e reply new → Gives b (given e b) reply new
+pub applies-given : (b new : Board) (e : Event) (reply : Result Answer EventFault) → Applies b e reply new
+    → Gives b (given e b) reply new
 applies-given b new e reply = (alike b new e reply).0
 
-pub given-applies : (b new : Board) (e : Event) (reply : Result Answer EventFault) → Gives b (given e b) reply new → Applies b e reply new
+pub given-applies : (b new : Board) (e : Event) (reply : Result Answer EventFault)
+    → Gives b (given e b) reply new → Applies b e reply new
 given-applies b new e reply = (alike b new e reply).1
 
 -- ---- events in turn
 
-gives-once : (b new new' : Board) (g : Given) (r r' : Result Answer EventFault) → Gives b g r new → Gives b g r' new' → (r ≡ r') × (new ≡ new')
+gives-once : (b new new' : Board) (g : Given) (r r' : Result Answer EventFault) → Gives b g r new
+    → Gives b g r' new' → (r ≡ r') × (new ≡ new')
 gives-once b new new' (Ok (a, after)) r r' h h' = (h.0 ∙ sym h'.0, h.1 ∙ sym h'.1)
 gives-once b new new' (Err e) r r' h h' = (h.0 ∙ sym h'.0, h.1 ∙ sym h'.1)
 
-pub runs_once : (b : Board) (events : List Event) (rs rs' : List (Result Answer EventFault)) (new new' : Board)
+pub runs_once : (b : Board) (events : List Event) (rs rs' : List (Result Answer EventFault))
+    (new new' : Board)
     → Runs b events rs new → Runs b events rs' new' → (rs ≡ rs') × (new ≡ new')
 runs_once b [] [] [] new new' g g' = (refl, g ∙ sym g')
 runs_once b (e ∷ es) (r ∷ rs) (r' ∷ rs') new new' g g' =
-    let first = gives-once b g.0 g'.0 (given e b) r r' (applies-given b g.0 e r g.1) (applies-given b g'.0 e r' g'.1) in
+    let first =
+    gives-once b g.0 g'.0 (given e b) r r' (applies-given b g.0 e r g.1)
+    (applies-given b g'.0 e r' g'.1) in
     let P : Board → Type 0 = λ mid. Runs mid es rs' new' in
     let rest = runs_once g.0 es rs rs' new new' g.2 (subst P (sym first.1) g'.2) in
     (rw (first.0, rest.0) refl, rest.1)

@@ -1,5 +1,7 @@
 -- What a lab stands for after a step, a Resume and a Step.
-use Rattle.std.proofs.Common.{◌≡◌, ℕ, ◌+◌, ◌≤◌, List, [], ◌∷◌, ◌++◌, Bool, true, false, not, ◌||◌, ◌&&◌, ◌==◌, Option, Some, None, length, min, refl, sym, ap, ◌∙◌, subst, rules, arith, length-append, append-nil}
+use Rattle.std.proofs.Common.{◌≡◌, ℕ, ◌+◌, ◌≤◌, List, [], ◌∷◌, ◌++◌, Bool, true, false, not, ◌||◌, ◌&&◌, ◌==◌}
+use Rattle.std.proofs.Common.{Option, Some, None, length, min, refl, sym, ap, ◌∙◌, subst, rules, arith}
+use Rattle.std.proofs.Common.{length-append, append-nil}
 use Rattle.std.proofs.lemmas.List.{take-append-drop, drop-append-le, take-append-le, take_all, drop_all}
 use Rattle.std.proofs.lemmas.List.Sums.{fold-append}
 use Rattle.std.proofs.lemmas.Bool.Decides.{nat_tests}
@@ -18,7 +20,8 @@ use Rattle.lab_frames.specs.Frames.{Advances, LeavesOldest, IsStep, survivors}
 use Rattle.lab_frames.proofs.LiveLemmas.{live-append, stays-step, filter-stays-step, filter-stays-none}
 use Rattle.lab_core.specs.declared.event.StepRequest.{StepRequest}
 use Rattle.lab_core.specs.declared.run_state.RunState.TheVariants.{Running}
-use Rattle.lab_core.specs.Board.{Board, accepted, as_step, next_change, next_step, operations, outcome as outcome_of, stepped as stepped_board}
+use Rattle.lab_core.specs.Board.{Board, accepted, as_step, next_change, next_step, operations}
+use Rattle.lab_core.specs.Board.{outcome as outcome_of, stepped as stepped_board}
 use Rattle.lab_core.specs.Stops.{earlier, since, innermost, is_any, is_gone, is_gone_after}
 use Rattle.lab_core.specs.declared.answer.SliceOutcome.TheVariants as outcome
 use Rattle.lab_core.specs.declared.answer.End.TheVariants as end
@@ -38,8 +41,10 @@ any-append : {A : Type 0} → (xs : List A) (x : A) → is_any (xs ++ x ∷ []) 
 any-append [] x = refl
 any-append (y ∷ xs) x = refl
 
-halted-append : (steps : List BoardStep) (step : BoardStep) → ends_in_halt (steps ++ step ∷ []) ≡ is_halt (change_of step).answer
-halted-append steps step = fold-append (λ (before : Bool) (s : BoardStep). is_halt (change_of s).answer) false steps (step ∷ [])
+halted-append : (steps : List BoardStep) (step : BoardStep)
+    → ends_in_halt (steps ++ step ∷ []) ≡ is_halt (change_of step).answer
+halted-append steps step =
+    fold-append (λ (before : Bool) (s : BoardStep). is_halt (change_of s).answer) false steps (step ∷ [])
 
 not_both : (x y : Bool) → (not y || x) ≡ not (not x && y)
 not_both true true = refl
@@ -48,9 +53,11 @@ not_both false true = refl
 not_both false false = refl
 
 gone-append : (frame : Option Frame) (steps : List BoardStep) (step : BoardStep)
-    → is_gone_after (is_gone frame steps) frame (change_of step).answer (change_of step).after.regs.sp ≡ is_gone frame (steps ++ step ∷ [])
+    → is_gone_after (is_gone frame steps) frame (change_of step).answer (change_of step).after.regs.sp
+    ≡ is_gone frame (steps ++ step ∷ [])
 gone-append None steps step = refl
-gone-append (Some f) steps step = not_both (ends step f) (stays steps f) ∙ ap not (sym (stays-step steps step f))
+gone-append (Some f) steps step =
+    not_both (ends step f) (stays steps f) ∙ ap not (sym (stays-step steps step f))
 
 -- ---- a step
 
@@ -68,7 +75,8 @@ pub record Moves (old new : LabState) (answer : Stepped) (left : ℕ) : Type 0 w
   pub frames : Advances answer old.machine.regs.pc new.machine.regs.sp old.frames new.frames
   pub oldest : LeavesOldest answer new.machine.regs.sp old.frames left
   pub older : IsSome old.request → new.older ≡ min old.older left
-  pub gone : IsSome old.request → new.is_gone ≡ is_gone_after old.is_gone old.innermost answer new.machine.regs.sp
+  pub gone : IsSome old.request
+      → new.is_gone ≡ is_gone_after old.is_gone old.innermost answer new.machine.regs.sp
 
 -- the parts of a trace, one step on
 record Longer (b : Board) : Type 0 where
@@ -88,7 +96,8 @@ parts-live b =
 
 -- what a Step follows, one step on
 follows_step : (old new : LabState) (b : Board) (answer : Stepped) (left : ℕ) → Moves old new answer left
-    → (change_of (next_step b)).answer ≡ answer → (change_of (next_step b)).after.regs.sp ≡ new.machine.regs.sp
+    → (change_of (next_step b)).answer ≡ answer
+    → (change_of (next_step b)).after.regs.sp ≡ new.machine.regs.sp
     → unwrap_or b.resumed 0 ≤ length b.trace → old.frames ≡ live b.trace → IsSome old.request
     → Follows old.older old.innermost old.is_gone (earlier b) (since b)
     → Follows new.older old.innermost new.is_gone (earlier (stepped_board b)) (since (stepped_board b))
@@ -98,9 +107,11 @@ follows_step old new b answer left m answer-is sp-is within frames asked f =
     let survived : List Frame = filter (stays (since b)) (live (earlier b)) in
     let counted : length (survivors answer new.machine.regs.sp survived) ≡ min (length survived) left
     = m.oldest survived (live (since b)) (frames ∙ parts-live b) in
-    let stay : filter (stays (since b ++ x ∷ [])) (live (earlier b)) ≡ survivors answer new.machine.regs.sp survived
+    let stay : filter (stays (since b ++ x ∷ [])) (live (earlier b))
+    ≡ survivors answer new.machine.regs.sp survived
     = filter-stays-step (since b) x (live (earlier b)) ∙ rw (answer-is, sp-is) refl in
-    let gone : is_gone_after (is_gone (innermost (live (earlier b))) (since b)) (innermost (live (earlier b))) answer new.machine.regs.sp
+    let gone : is_gone_after (is_gone (innermost (live (earlier b))) (since b)) (innermost (live (earlier b)))
+    answer new.machine.regs.sp
     ≡ is_gone (innermost (live (earlier b))) (since b ++ x ∷ [])
     = rw (← answer-is, ← sp-is) (gone-append (innermost (live (earlier b))) (since b) x) in
     record {
@@ -109,18 +120,24 @@ follows_step old new b answer left m answer-is sp-is within frames asked f =
       gone_is = m.gone asked ∙ rw (l.earlier_is, l.since_is, f.gone_is, f.innermost_is) gone;
     }
 
-pub stands_step : (old new : LabState) (b : Board) (traffic : List PortOperation) (answer : Stepped) (left : ℕ)
-    → StandsAmid old b traffic → IsBoardStep b.past old.machine old.devices new.machine new.devices answer → Moves old new answer left
+pub stands_step : (old new : LabState) (b : Board) (traffic : List PortOperation) (answer : Stepped)
+    (left : ℕ)
+    → StandsAmid old b traffic → IsBoardStep b.past old.machine old.devices new.machine new.devices answer
+    → Moves old new answer left
     → StandsAmid new (stepped_board b) (traffic ++ operation_list (next_change b).operation)
 stands_step old new b traffic answer left s did m =
     let x = next_step b in
-    let P : MachineState → Type 0 = λ machine. IsBoardStep b.past machine old.devices new.machine new.devices answer in
+    let P : MachineState → Type 0 =
+    λ machine. IsBoardStep b.past machine old.devices new.machine new.devices answer in
     let step = subst P s.machine did in
     let change : change_of x ≡ next_change b = as_step-change (accepted b.machine b.past) (next_change b) in
     let answer-is : (change_of x).answer ≡ answer = rw change (sym step.answer_is) in
-    let sp-is : (change_of x).after.regs.sp ≡ new.machine.regs.sp = rw change (ap (λ (n : MachineState). n.regs.sp) (sym step.after_is)) in
-    let site-is : (change_of x).before.regs.pc ≡ old.machine.regs.pc = rw change (ap (λ (n : MachineState). n.regs.pc) (sym s.machine)) in
-    let is : IsStep x answer old.machine.regs.pc new.machine.regs.sp = record { answer_is = answer-is; site_is = site-is; sp_is = sp-is } in
+    let sp-is : (change_of x).after.regs.sp ≡ new.machine.regs.sp =
+    rw change (ap (λ (n : MachineState). n.regs.sp) (sym step.after_is)) in
+    let site-is : (change_of x).before.regs.pc ≡ old.machine.regs.pc =
+    rw change (ap (λ (n : MachineState). n.regs.pc) (sym s.machine)) in
+    let is : IsStep x answer old.machine.regs.pc new.machine.regs.sp =
+    record { answer_is = answer-is; site_is = site-is; sp_is = sp-is } in
     let l = longer b s.within in
     let stands = step.stands in
     let traffic-is : new.devices.operations ≡ traffic ++ operation_list (next_change b).operation
@@ -134,7 +151,8 @@ stands_step old new b traffic answer left s did m =
     let follows : IsSome b.request
     → Follows new.older old.innermost new.is_gone (earlier (stepped_board b)) (since (stepped_board b))
     = λ asked.
-    follows_step old new b answer left m answer-is sp-is s.within s.frames (rw s.request asked) (s.follows asked) in
+    follows_step old new b answer left m answer-is sp-is s.within s.frames (rw s.request asked)
+    (s.follows asked) in
     let Q : LabState → Type 0 = λ lab.
     StandsAmid lab (stepped_board b) (traffic ++ operation_list (next_change b).operation) in
     subst Q (sym m.rest) (search rules)
@@ -142,7 +160,8 @@ stands_step old new b traffic answer left s did m =
 -- ---- no step
 
 -- the devices after nothing was done to them
-no_operations : (devices : DeviceState) (past done : List Operation) → done ≡ [] → DevicesStandFor devices (past ++ done)
+no_operations : (devices : DeviceState) (past done : List Operation) → done ≡ []
+    → DevicesStandFor devices (past ++ done)
     → DevicesStandFor devices past
 no_operations devices past done none stands =
     let P : List Operation → Type 0 = λ all. DevicesStandFor devices all in
@@ -150,15 +169,19 @@ no_operations devices past done none stands =
     subst P same stands
 
 -- an undefined opcode is found where it is answered, and nowhere else
-pub finds_undefined : (old : LabState) (b : Board) (traffic : List PortOperation) (machine : MachineState) (devices : DeviceState) (opcode pc : ℕ)
-    → StandsAmid old b traffic → IsBoardStep b.past old.machine old.devices machine devices (stepped.Undefined opcode)
+pub finds_undefined : (old : LabState) (b : Board) (traffic : List PortOperation) (machine : MachineState)
+    (devices : DeviceState) (opcode pc : ℕ)
+    → StandsAmid old b traffic
+    → IsBoardStep b.past old.machine old.devices machine devices (stepped.Undefined opcode)
     → pc ≡ old.machine.regs.pc → Some (outcome.End (end.Undefined opcode pc)) ≡ undefined b
 finds_undefined old b traffic machine devices opcode pc s did at_pc =
-    let P : MachineState → Type 0 = λ m. IsBoardStep b.past m old.devices machine devices (stepped.Undefined opcode) in
+    let P : MachineState → Type 0 =
+    λ m. IsBoardStep b.past m old.devices machine devices (stepped.Undefined opcode) in
     let n = no_step b.past b.machine opcode (subst P s.machine did).answer_is in
     rw (n.finds, n.opcode_is, at_pc, s.machine) refl
 
-pub finds_no_undefined : (old : LabState) (b : Board) (traffic : List PortOperation) (machine : MachineState) (devices : DeviceState) (answer : Stepped)
+pub finds_no_undefined : (old : LabState) (b : Board) (traffic : List PortOperation) (machine : MachineState)
+    (devices : DeviceState) (answer : Stepped)
     → StandsAmid old b traffic → IsBoardStep b.past old.machine old.devices machine devices answer
     → ((opcode : ℕ) → answer ≡ stepped.Undefined opcode → ⊥) → None ≡ undefined b
 finds_no_undefined old b traffic machine devices answer s did other =
@@ -168,11 +191,14 @@ finds_no_undefined old b traffic machine devices answer s did other =
     rw none refl
 
 -- it leaves the lab as it was
-pub stands_undefined : (old : LabState) (b : Board) (traffic : List PortOperation) (machine : MachineState) (devices : DeviceState) (opcode : ℕ)
-    → StandsAmid old b traffic → IsBoardStep b.past old.machine old.devices machine devices (stepped.Undefined opcode)
+pub stands_undefined : (old : LabState) (b : Board) (traffic : List PortOperation) (machine : MachineState)
+    (devices : DeviceState) (opcode : ℕ)
+    → StandsAmid old b traffic
+    → IsBoardStep b.past old.machine old.devices machine devices (stepped.Undefined opcode)
     → StandsAmid (record old { machine = machine; devices = devices }) b traffic
 stands_undefined old b traffic machine devices opcode s did =
-    let P : MachineState → Type 0 = λ m. IsBoardStep b.past m old.devices machine devices (stepped.Undefined opcode) in
+    let P : MachineState → Type 0 =
+    λ m. IsBoardStep b.past m old.devices machine devices (stepped.Undefined opcode) in
     let step = subst P s.machine did in
     let n = no_step b.past b.machine opcode step.answer_is in
     let none : operation_list (outcome_of b.machine b.past).operation ≡ [] = rw n.operation_is refl in
@@ -205,7 +231,9 @@ stands_on old b request older frame older-is frame-is s =
     let none : since on ≡ [] = drop_all (length b.trace) b.trace (omega arith) in
     let moves : false ≡ is_any (since on) = rw none refl in
     let follows : Follows older frame false (earlier on) (since on) = record {
-      older_is = rw (all, none, filter-stays-none (live b.trace)) (older-is ∙ ap (λ (fs : List Frame). length fs) s.frames);
+      older_is =
+          rw (all, none, filter-stays-none (live b.trace))
+          (older-is ∙ ap (λ (fs : List Frame). length fs) s.frames);
       innermost_is = rw all (frame-is ∙ ap innermost s.frames);
       gone_is = rw (all, none) (none_gone (innermost (live b.trace)));
     } in
@@ -218,10 +246,14 @@ same_count n [] = grind (arith, nat_tests)
 same_count n (x ∷ xs) = grind (arith, nat_tests)
 
 -- as many frames are live as are left of the older ones, where no frame since is
-pub over_done : (frames : List Frame) (older : ℕ) (frame : Option Frame) (gone : Bool) (b : Board) → frames ≡ live b.trace
-    → Follows older frame gone (earlier b) (since b) → (length frames == older) ≡ not (is_any (live (since b)))
+pub over_done : (frames : List Frame) (older : ℕ) (frame : Option Frame) (gone : Bool) (b : Board)
+    → frames ≡ live b.trace
+    → Follows older frame gone (earlier b) (since b)
+    → (length frames == older) ≡ not (is_any (live (since b)))
 over_done frames older frame gone b frames-are f =
     let survived : List Frame = filter (stays (since b)) (live (earlier b)) in
     let counts : length frames ≡ length survived + length (live (since b))
-    = ap (λ (fs : List Frame). length fs) (frames-are ∙ parts-live b) ∙ length-append survived (live (since b)) in
+    =
+    ap (λ (fs : List Frame). length fs) (frames-are ∙ parts-live b)
+    ∙ length-append survived (live (since b)) in
     rw (counts, f.older_is) (same_count (length survived) (live (since b)))

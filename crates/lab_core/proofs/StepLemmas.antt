@@ -1,11 +1,13 @@
 -- A board step, told by the past of the devices.
-use Rattle.std.proofs.Common.{◌≡◌, List, ◌++◌, ◌∷◌, [], map, Option, Some, None, append-nil, sym, ap, ◌∙◌, subst}
+use Rattle.std.proofs.Common.{◌≡◌, List, ◌++◌, ◌∷◌, [], map, Option, Some, None, append-nil, sym, ap, ◌∙◌}
+use Rattle.std.proofs.Common.{subst}
 use Rattle.i80_exec.specs.declared.registers.Stepped.{Stepped}
 use Rattle.i80_exec.specs.declared.ports.PortOperation.{PortOperation}
 use Rattle.i80_exec.specs.State.{MachineState}
 use Rattle.i80_exec.specs.Effect.{Outcome}
 use Rattle.i80_exec.specs.Step.{instruction, operation_list, state_after, IsOutcome, Performs}
-use Rattle.i80_devs.specs.Past.{Operation, Port, DeviceState, StandsFor, answer, after, panel_after, panel_next}
+use Rattle.i80_devs.specs.Past.{Operation, Port, DeviceState, StandsFor, answer, after, panel_after}
+use Rattle.i80_devs.specs.Past.{panel_next}
 use Rattle.lab_core.specs.Board.{accepted, or_instruction, taken_or_done}
 use Rattle.lab_core.specs.Steps.{IsBoardStep}
 
@@ -21,16 +23,21 @@ panel_ported law past None = ap panel_after (sym (append-nil past))
 panel_ported law past (Some p) = sym (law past (Port p))
 
 -- where no request is accepted, the instruction at PC is the step
-pub by_instruction : PanelLaw → (past : List Operation) (old new : MachineState) (devices devices' : DeviceState) (did : Stepped)
+pub by_instruction : PanelLaw
+    → (past : List Operation) (old new : MachineState) (devices devices' : DeviceState) (did : Stepped)
     → accepted old past ≡ None → StandsFor devices past
     → IsOutcome (instruction (answer devices.panel) old) new did
-    → Performs (instruction (answer devices.panel) old).operation after devices.operations devices'.operations devices.panel devices'.panel devices.spare devices'.spare
+    → Performs (instruction (answer devices.panel) old).operation after devices.operations devices'.operations
+    devices.panel devices'.panel devices.spare devices'.spare
     → IsBoardStep past old devices new devices' did
 by_instruction law past old new devices devices' did none stands o p =
-    let P : Option Outcome → Type 0 = λ a. devices'.panel ≡ panel_after (past ++ taken_or_done a (or_instruction a past old)) in
+    let P : Option Outcome → Type 0 =
+    λ a. devices'.panel ≡ panel_after (past ++ taken_or_done a (or_instruction a past old)) in
     record {
       after_is = rw (none, ← stands) o.after_is;
       answer_is = rw (none, ← stands) o.answer_is;
-      stands = subst P (sym none) (rw stands at p.state_is ∙ panel_ported law past (instruction (answer (panel_after past)) old).operation);
+      stands =
+          subst P (sym none) (rw stands at p.state_is ∙ panel_ported law past
+          (instruction (answer (panel_after past)) old).operation);
       traffic_is = rw (none, ← stands) p.appended;
     }

@@ -1,9 +1,10 @@
 -- Undefined is answered exactly where an undefined opcode stands at PC and no request is accepted.
-use Rattle.std.proofs.Common.{◌≡◌, ℕ, ◌+◌, List, [], Bool, true, false, ◌&&◌, Option, Some, None, if◌then◌else◌, refl, sym, subst}
+use Rattle.std.proofs.Common.{◌≡◌, ℕ, ◌+◌, List, [], Bool, true, false, ◌&&◌, Option, Some, None}
+use Rattle.std.proofs.Common.{if◌then◌else◌, refl, sym, subst}
 use Rattle.std.specs.Option.{is_none, IfSome}
 use Rattle.std.proofs.lemmas.Bool.{cond_both}
 use Rattle.i80_rows.specs.declared.instruction.Instr.{Instr}
-use Rattle.i80_rows.specs.declared.instruction.Instr.TheVariants.{Nop, Lxi, Stax, Ldax, Shld, Lhld, Sta, Lda, Inx, Dcx, Dad, Inr, Dcr, Mvi, Rotate, Daa, Cma, Stc, Cmc, Mov, MovFromM, MovToM, Hlt, Alu, AluImmediate, Jmp, JumpIf, Call, CallIf, Ret, RetIf, Rst, Push, Pop, Xthl, Xchg, Pchl, Sphl, Out, In, Di, Ei}
+use Rattle.i80_rows.specs.declared.instruction.Instr.TheVariants.{JumpIf, CallIf, RetIf}
 use Rattle.i80_rows.specs.Rows.{Row, Undefined, Alone, Byte, Word, row, is_undefined}
 use Rattle.i80_exec.specs.declared.registers.Interrupts.{Interrupts}
 use Rattle.i80_exec.specs.declared.registers.Interrupts.TheVariants.{Off, Arming, On}
@@ -18,17 +19,11 @@ use Rattle.lab_core.specs.Board.{accepted, acceptance_of, or_instruction, outcom
 -- an answer other than Undefined
 abbrev pub IsDefined : Stepped → Type 0
 IsDefined (stepped.Undefined opcode) = ⊥
-IsDefined (stepped.Called slot target) = Unit {0}
-IsDefined (stepped.Returned from) = Unit {0}
-IsDefined stepped.Done = Unit {0}
-IsDefined stepped.Halted = Unit {0}
+IsDefined _ = Unit {0}
 
 pub defined : (answer : Stepped) → ((opcode : ℕ) → answer ≡ stepped.Undefined opcode → ⊥) → IsDefined answer
 defined (stepped.Undefined opcode) other = other opcode refl
-defined (stepped.Called slot target) other = tt
-defined (stepped.Returned from) other = tt
-defined stepped.Done other = tt
-defined stepped.Halted other = tt
+defined _ other = tt
 
 abbrev Defines : Outcome → Type 0
 Defines o = IsDefined o.answer
@@ -37,48 +32,12 @@ choice-defined : (b : Bool) (o p : Outcome) → Defines o → Defines p → Defi
 choice-defined b o p left right = cond_both b o p Defines (λ _. left) (λ _. right)
 
 effect-defined : (i : Instr) (input : ℕ → ℕ) (m : MachineState) → Defines (effect i input m)
-effect-defined Nop input m = tt
-effect-defined (Lxi p word) input m = tt
-effect-defined (Stax p) input m = tt
-effect-defined (Ldax p) input m = tt
-effect-defined (Shld address) input m = tt
-effect-defined (Lhld address) input m = tt
-effect-defined (Sta address) input m = tt
-effect-defined (Lda address) input m = tt
-effect-defined (Inx p) input m = tt
-effect-defined (Dcx p) input m = tt
-effect-defined (Dad p) input m = tt
-effect-defined (Inr r) input m = tt
-effect-defined (Dcr r) input m = tt
-effect-defined (Mvi r byte) input m = tt
-effect-defined (Rotate x) input m = tt
-effect-defined Daa input m = tt
-effect-defined Cma input m = tt
-effect-defined Stc input m = tt
-effect-defined Cmc input m = tt
-effect-defined (Mov to from) input m = tt
-effect-defined (MovFromM to) input m = tt
-effect-defined (MovToM from) input m = tt
-effect-defined Hlt input m = tt
-effect-defined (Alu x r) input m = tt
-effect-defined (AluImmediate x byte) input m = tt
-effect-defined (Jmp address) input m = tt
-effect-defined (JumpIf c address) input m = choice-defined (holds c m.regs.flags) (done (with_pc m address)) (done m) tt tt
-effect-defined (Call address) input m = tt
-effect-defined (CallIf c address) input m = choice-defined (holds c m.regs.flags) (called m address) (done m) tt tt
-effect-defined Ret input m = tt
+effect-defined (JumpIf c address) input m =
+    choice-defined (holds c m.regs.flags) (done (with_pc m address)) (done m) tt tt
+effect-defined (CallIf c address) input m =
+    choice-defined (holds c m.regs.flags) (called m address) (done m) tt tt
 effect-defined (RetIf c) input m = choice-defined (holds c m.regs.flags) (returned m) (done m) tt tt
-effect-defined (Rst n) input m = tt
-effect-defined (Push p) input m = tt
-effect-defined (Pop p) input m = tt
-effect-defined Xthl input m = tt
-effect-defined Xchg input m = tt
-effect-defined Pchl input m = tt
-effect-defined Sphl input m = tt
-effect-defined (Out p) input m = tt
-effect-defined (In p) input m = tt
-effect-defined Di input m = tt
-effect-defined Ei input m = tt
+effect-defined _ input m = tt
 
 -- an acceptance answers a call
 accepted-defined : (state : Interrupts) (n : ℕ) (m : MachineState) → IfSome (accepted_in state n m) Defines
@@ -102,12 +61,20 @@ record Nothing (r : Row) (m : MachineState) (o : Outcome) (opcode : ℕ) : Type 
 not_defined : (o : Outcome) (opcode : ℕ) → stepped.Undefined opcode ≡ o.answer → Defines o → ⊥
 not_defined o opcode is defined = subst IsDefined (sym is) defined
 
-row-nothing : (r : Row) (input : ℕ → ℕ) (m : MachineState) (opcode : ℕ) → stepped.Undefined opcode ≡ (by_row r input m).answer
+row-nothing : (r : Row) (input : ℕ → ℕ) (m : MachineState) (opcode : ℕ)
+    → stepped.Undefined opcode ≡ (by_row r input m).answer
     → Nothing r m (by_row r input m) opcode
-row-nothing Undefined input m opcode is = record { row_is = refl; opcode_is = cc; after_is = refl; operation_is = refl }
-row-nothing (Alone i) input m opcode is = absurd (not_defined (effect i input (with_pc m (wrapped (m.regs.pc + 1)))) opcode is (effect-defined i input (with_pc m (wrapped (m.regs.pc + 1)))))
-row-nothing (Byte f) input m opcode is = absurd (not_defined (effect (f (byte_at m (m.regs.pc + 1))) input (with_pc m (wrapped (m.regs.pc + 2)))) opcode is (effect-defined (f (byte_at m (m.regs.pc + 1))) input (with_pc m (wrapped (m.regs.pc + 2)))))
-row-nothing (Word f) input m opcode is = absurd (not_defined (effect (f (word_at m (m.regs.pc + 1))) input (with_pc m (wrapped (m.regs.pc + 3)))) opcode is (effect-defined (f (word_at m (m.regs.pc + 1))) input (with_pc m (wrapped (m.regs.pc + 3)))))
+row-nothing Undefined input m opcode is =
+    record { row_is = refl; opcode_is = cc; after_is = refl; operation_is = refl }
+row-nothing (Alone i) input m opcode is =
+    absurd (not_defined (effect i input (with_pc m (wrapped (m.regs.pc + 1)))) opcode is
+    (effect-defined i input (with_pc m (wrapped (m.regs.pc + 1)))))
+row-nothing (Byte f) input m opcode is =
+    absurd (not_defined (effect (f (byte_at m (m.regs.pc + 1))) input (with_pc m (wrapped (m.regs.pc + 2))))
+    opcode is (effect-defined (f (byte_at m (m.regs.pc + 1))) input (with_pc m (wrapped (m.regs.pc + 2)))))
+row-nothing (Word f) input m opcode is =
+    absurd (not_defined (effect (f (word_at m (m.regs.pc + 1))) input (with_pc m (wrapped (m.regs.pc + 3))))
+    opcode is (effect-defined (f (word_at m (m.regs.pc + 1))) input (with_pc m (wrapped (m.regs.pc + 3)))))
 
 -- no step is made: no request is accepted, and the opcode at PC is undefined
 pub record NoStep (past : List Operation) (m : MachineState) (opcode : ℕ) : Type 0 where
@@ -117,7 +84,8 @@ pub record NoStep (past : List Operation) (m : MachineState) (opcode : ℕ) : Ty
   pub operation_is : (outcome m past).operation ≡ None
   pub operations_are : operations m past ≡ []
 
-no_step_by : (a : Option Outcome) (past : List Operation) (m : MachineState) (opcode : ℕ) → accepted m past ≡ a → IfSome a Defines
+no_step_by : (a : Option Outcome) (past : List Operation) (m : MachineState) (opcode : ℕ)
+    → accepted m past ≡ a → IfSome a Defines
     → stepped.Undefined opcode ≡ (or_instruction a past m).answer → NoStep past m opcode
 no_step_by (Some o) past m opcode is-a defined is = absurd (not_defined o opcode is defined)
 no_step_by None past m opcode is-a defined is =
@@ -133,7 +101,8 @@ no_step_by None past m opcode is-a defined is =
       operations_are = subst T (sym is-a) (rw (n.operation_is) refl);
     }
 
-pub no_step : (past : List Operation) (m : MachineState) (opcode : ℕ) → stepped.Undefined opcode ≡ (outcome m past).answer
+pub no_step : (past : List Operation) (m : MachineState) (opcode : ℕ)
+    → stepped.Undefined opcode ≡ (outcome m past).answer
     → NoStep past m opcode
 no_step past m opcode is =
     no_step_by (accepted m past) past m opcode refl (acceptance-defined (panel_after past).latched m) is
@@ -142,9 +111,7 @@ no_step past m opcode is =
 
 row-some : (r : Row) (input : ℕ → ℕ) (m : MachineState) → Defines (by_row r input m) → is_undefined r ≡ false
 row-some Undefined input m defined = absurd defined
-row-some (Alone i) input m defined = refl
-row-some (Byte f) input m defined = refl
-row-some (Word f) input m defined = refl
+row-some _ input m defined = refl
 
 and_false : (b : Bool) → (b && false) ≡ false
 and_false true = refl
@@ -153,7 +120,8 @@ and_false false = refl
 step_by : (a : Option Outcome) (past : List Operation) (m : MachineState) → Defines (or_instruction a past m)
     → (is_undefined (row (byte_at m m.regs.pc)) && is_none a) ≡ false
 step_by (Some o) past m defined = and_false (is_undefined (row (byte_at m m.regs.pc)))
-step_by None past m defined = rw (row-some (row (byte_at m m.regs.pc)) (answer (panel_after past)) m defined) refl
+step_by None past m defined =
+    rw (row-some (row (byte_at m m.regs.pc)) (answer (panel_after past)) m defined) refl
 
 pub some_step : (past : List Operation) (m : MachineState) → IsDefined (outcome m past).answer
     → (is_undefined (row (byte_at m m.regs.pc)) && is_none (accepted m past)) ≡ false

@@ -19,15 +19,7 @@ Takes (event.Slice n) b = b.run ≡ Running
 Takes (event.Show view) b = IsOk (shown view (parts_of b))
 Takes event.Reset b = Unit {0}
 Takes (event.Typed bytes) b = Unit {0}
-Takes (event.Start address) b = ⊥
-Takes event.Interrupt b = ⊥
-Takes event.Pause b = ⊥
-Takes event.Resume b = ⊥
-Takes (event.Step request) b = ⊥
-Takes event.Attach b = ⊥
-Takes event.Detach b = ⊥
-Takes (event.Switches byte) b = ⊥
-Takes (event.Press n) b = ⊥
+Takes _ b = ⊥
 
 abbrev pub MayLackMemory : Event → LabState → Type 0
 MayLackMemory event lab = (b : Board) → StandsFor lab b → Takes event b

@@ -32,7 +32,8 @@ fn accept(machine: &mut Machine, devices: &mut Devices) -> Option<Stepped>
     ensures taken { IfSome result (λ answer. (past : List Operation) → StandsFor devices.old past
         → IsBoardStep past machine.old devices.old machine.new devices.new answer) }
     ensures sp { IfSome result (λ answer. TellsSp answer machine.old.regs.sp machine.new.regs.sp) }
-    ensures none { IfNone result ((past : List Operation) → StandsFor devices.old past → accepted machine.old past ≡ None) }
+    ensures none { IfNone result ((past : List Operation) → StandsFor devices.old past
+        → accepted machine.old past ≡ None) }
     ensures unchanged { IfNone result ((machine.new ≡ machine.old) × (devices.new ≡ devices.old)) }
     ensures spare { devices.new.spare ≡ devices.old.spare }
 {

@@ -1,5 +1,6 @@
 -- A text that is longer than a cell's may be, and the line that says where a program starts.
-use Rattle.std.proofs.Common.{◌≡◌, ℕ, ◌<◌, true, List, [], ◌∷◌, ◌++◌, length, nat_lt, Err, refl, sym, subst, arith, append_assoc, codes}
+use Rattle.std.proofs.Common.{◌≡◌, ℕ, ◌<◌, true, List, [], ◌∷◌, ◌++◌, length, nat_lt, Err, refl, sym, subst}
+use Rattle.std.proofs.Common.{arith, append_assoc, codes}
 use Rattle.std.proofs.lemmas.Bool.Decides.{nat_tests}
 use Rattle.std.specs.Prelude.{Result, Ok, Option, None, IfOk, String, string_bytes}
 use Rattle.std.specs.Global.{Global}
@@ -45,7 +46,8 @@ long_reported (Ok report) text none is =
 long_reported (Err e) text none is = tt
 
 pub start_added : (text : List ℕ) (address : ℕ) (run : List ℕ) →
-    text ++ codes "start " ++ upper_word address ++ 10 ∷ [] ++ run ≡ text ++ (line (codes "start " ++ upper_word address) ++ run)
+    text ++ codes "start " ++ upper_word address ++ 10 ∷ [] ++ run ≡ text
+    ++ (line (codes "start " ++ upper_word address) ++ run)
 start_added text address run = joined text (codes "start ") (upper_word address) (10 ∷ []) run
   where
     joined : (t a b c d : List ℕ) → t ++ a ++ b ++ c ++ d ≡ t ++ (a ++ b ++ c ++ d)

@@ -1,5 +1,6 @@
 //! The image of a cell: bytes with their addresses, put into a machine, and printed.
-ghost use Rattle.std.specs.Prelude.{◌≡◌, ◌<◌, ◌≤◌, ◌+◌, ◌++◌, ◌∷◌, List, ℕ, OnOk, IfOk, length, drop, take, string_bytes};
+ghost use Rattle.std.specs.Prelude.{◌≡◌, ◌<◌, ◌≤◌, ◌+◌, ◌++◌, ◌∷◌, List, ℕ, OnOk, IfOk, length, drop, take};
+ghost use Rattle.std.specs.Prelude.{string_bytes};
 ghost use Rattle.i80_exec.specs.State.{loaded};
 ghost use Rattle.lab_engines.specs.Image.{
   filled,

@@ -1,5 +1,6 @@
 -- What sorted spans map is what their origins have as first bytes.
-use Rattle.std.proofs.Common.{◌≡◌, ℕ, ◌<◌, ◌≤◌, ◌==◌, List, [], ◌∷◌, Some, None, Bool, true, false, refl, ◌∙◌, arith, cond, inl, inr}
+use Rattle.std.proofs.Common.{◌≡◌, ℕ, ◌<◌, ◌≤◌, ◌==◌, List, [], ◌∷◌, Some, None, Bool, true, false, refl, ◌∙◌}
+use Rattle.std.proofs.Common.{arith, cond, inl, inr}
 use Rattle.std.specs.List.{filter, cons_option}
 use Rattle.std.proofs.lemmas.Bool.{cases_Bool}
 use Rattle.std.proofs.lemmas.Bool.Decides.{nat_tests, eqb_tells}

@@ -1,14 +1,18 @@
 -- What a further piece makes of what is kept of a text, and what the end of the text shows.
-use Rattle.std.proofs.Common.{◌≡◌, ℕ, ◌+◌, ◌<◌, Bool, true, false, ◌||◌, nat_lt, Option, Some, None, Result, Ok, Err, List, [], ◌++◌, length, take, drop, IsUtf8, refl, sym, ap, subst, ◌∙◌, arith, append_assoc, append-nil, length-append, take-append-drop}
+use Rattle.std.proofs.Common.{◌≡◌, ℕ, ◌+◌, ◌<◌, Bool, true, false, ◌||◌, nat_lt, Option, Some, Result, Ok}
+use Rattle.std.proofs.Common.{Err, List, [], ◌++◌, length, take, drop, IsUtf8, refl, sym, ap, subst, ◌∙◌}
+use Rattle.std.proofs.Common.{arith, append_assoc, append-nil, length-append, take-append-drop}
 use Rattle.std.proofs.lemmas.Bool.Decides.{nat_tests}
-use Rattle.std.proofs.lemmas.Str.{IsUtf8-append, IsUtf8-nil, IsUtf8-from_is_utf8, is_utf8-from_IsUtf8, IsUtf8-string_bytes}
+use Rattle.std.proofs.lemmas.Str.{IsUtf8-append, IsUtf8-nil, IsUtf8-from_is_utf8, is_utf8-from_IsUtf8}
+use Rattle.std.proofs.lemmas.Str.{IsUtf8-string_bytes}
 use Rattle.std.specs.Global.{Global, Vec}
 use Rattle.std.specs.String.{string_vec, string_bytes}
 use Rattle.std.specs.Prelude.{String}
 use Rattle.std.specs.Str.{is_utf8}
 use Rattle.lab_io.specs.declared.text_input.TextFault.{TextFault}
 use Rattle.lab_io.specs.declared.text_input.TextFault.TheVariants as fault
-use Rattle.lab_io.specs.TextState.{TextState, IsCut, StandsFor, Takes, NeverText, IsBad, Splits, IsDecoded, IsText}
+use Rattle.lab_io.specs.TextState.{TextState, IsCut, StandsFor, Takes, NeverText, IsBad, Splits, IsDecoded}
+use Rattle.lab_io.specs.TextState.{IsText}
 use Rattle.lab_io.proofs.Utf8Lemmas.{after_whole, never_behind}
 
 abbrev state : List ℕ → ℕ → Bool → TextState
@@ -86,11 +90,9 @@ pub found_text : (limit : ℕ) (r : Result (Option (String Global)) TextFault) (
 found_text limit (Ok (Some t)) kept is_long text s short d =
     let same = within_limit kept limit is_long text s short in
     (subst (λ xs. is_utf8 xs ≡ true) same d.0, d.1 ∙ same)
-found_text limit (Ok None) kept is_long text s short d = absurd d
 found_text limit (Err fault.BadText) kept is_long text s short d =
     subst (λ xs. is_utf8 xs ≡ false) (within_limit kept limit is_long text s short) d
-found_text limit (Err fault.OutOfMemory) kept is_long text s short d = absurd d
-found_text limit (Err fault.Read) kept is_long text s short d = absurd d
+found_text limit _ kept is_long text s short d = absurd d
 
 pub found_long : (kept : List ℕ) (limit : ℕ) (is_long : Bool) (text : List ℕ)
     → StandsFor (state kept limit is_long) text
@@ -147,8 +149,7 @@ takes_cut v mid new piece n kept past splits cut =
     subst (Takes piece v) (sym cut) (subst P (sym kept) there past splits)
 
 pub bad_kept : (v mid : TextState) (piece : List ℕ) → mid ≡ record v {
-  kept =
-      v.kept ++ piece;
+  kept = v.kept ++ piece;
 } → NeverText mid.kept
     → IsBad piece v
 bad_kept v mid piece kept never =

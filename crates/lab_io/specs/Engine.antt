@@ -24,19 +24,14 @@ abbrev pub answered : Bool → Status
 answered is_refused = if is_refused then Refused else Success
 
 abbrev pub IsFailure : Status → Type 0
-IsFailure Success = ⊥
-IsFailure Refused = ⊥
-IsFailure Usage = ⊥
 IsFailure OutOfMemory = Unit {0}
 IsFailure Failed = Unit {0}
+IsFailure _ = ⊥
 
 -- the one where the status is that a read or a write failed, else the other
 abbrev pub IfFailed : Status → Type 0 → Type 0 → Type 0
 IfFailed Failed some none = some
-IfFailed Success some none = none
-IfFailed Refused some none = none
-IfFailed Usage some none = none
-IfFailed OutOfMemory some none = none
+IfFailed _ some none = none
 
 -- It answers that a read or a write failed where one did, or where the input didn't end, and only there: any
 -- other status says that none failed. `reader` and `writer` are whether they had failed before, with a prime

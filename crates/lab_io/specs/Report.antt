@@ -33,9 +33,7 @@ Refuses fault.Read report = ⊥
 -- the status in place of a report: a failed read is reported as one, and nothing else is
 abbrev pub IsToldBy : HexFault → Status → Type 0
 IsToldBy fault.Read status = status ≡ Failed
-IsToldBy fault.BadHex status = status ≡ OutOfMemory
-IsToldBy fault.PastEnd status = status ≡ OutOfMemory
-IsToldBy fault.OutOfMemory status = status ≡ OutOfMemory
+IsToldBy _ status = status ≡ OutOfMemory
 
 -- the same of refused text
 abbrev pub RefusesText : TextFault → Report → Type 0

@@ -20,9 +20,7 @@ IsEndless left = IfSome left (λ input. most_reads ≤ length input)
 -- the one where the fault is that a read failed, else the other
 abbrev pub IfReadFailed : HexFault → Type 0 → Type 0 → Type 0
 IfReadFailed fault.Read some none = some
-IfReadFailed fault.BadHex some none = none
-IfReadFailed fault.PastEnd some none = none
-IfReadFailed fault.OutOfMemory some none = none
+IfReadFailed _ some none = none
 
 abbrev pub IfTextFailed : TextFault → Type 0 → Type 0 → Type 0
 IfTextFailed text.Read some none = some

@@ -58,10 +58,8 @@ KeepsFew t = (t.is_long ≡ false → length t.kept ≤ t.limit) × (t.is_long �
 -- the bytes as a text, or that they aren't UTF-8
 abbrev pub IsDecoded : Result (Option (String Global)) TextFault → List ℕ → Type 0
 IsDecoded (Ok (Some text)) bytes = (is_utf8 bytes ≡ true) × (string_bytes text ≡ bytes)
-IsDecoded (Ok None) bytes = ⊥
 IsDecoded (Err fault.BadText) bytes = is_utf8 bytes ≡ false
-IsDecoded (Err fault.OutOfMemory) bytes = ⊥
-IsDecoded (Err fault.Read) bytes = ⊥
+IsDecoded _ bytes = ⊥
 
 -- the input as a text, or that it is longer than the limit allows, or that it isn't UTF-8
 abbrev pub IsText : ℕ → Result (Option (String Global)) TextFault → List ℕ → Type 0

@@ -1,5 +1,6 @@
 //! Hexadecimal text that comes in pieces.
-ghost use Rattle.std.specs.Prelude.{◌≡◌, ◌<◌, ◌++◌, ◌∷◌, [], List, ℕ, Option, Some, None, OnOk, IsErrOf, IfOk, IfSome, All, if◌then◌else◌};
+ghost use Rattle.std.specs.Prelude.{◌≡◌, ◌<◌, ◌++◌, ◌∷◌, [], List, ℕ, Option, Some, None, OnOk, IsErrOf};
+ghost use Rattle.std.specs.Prelude.{IfOk, IfSome, All, if◌then◌else◌};
 ghost use Rattle.lab_io.specs.HexInput.{is_blank, is_hex_digit, digit_value, input_of, paired};
 ghost use Rattle.lab_io.specs.HexState.{kept_more};
 

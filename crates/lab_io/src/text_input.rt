@@ -1,6 +1,8 @@
 //! Text that comes in pieces, of which no more is kept than a limit allows.
-ghost use Rattle.std.specs.Prelude.{◌≡◌, ◌≢◌, ◌||◌, ◌++◌, true, false, ℕ, List, [], nat_lt, length, OnOk, IsErrOf, IfErr, IfSome, IfNone};
-ghost use Rattle.lab_io.specs.TextState.{StandsFor, Takes, IsBad, NeverText, IsText, IsDecoded, Splits, Cuts, KeepsFew};
+ghost use Rattle.std.specs.Prelude.{◌≡◌, ◌≢◌, ◌||◌, ◌++◌, true, false, ℕ, List, [], nat_lt, length, OnOk};
+ghost use Rattle.std.specs.Prelude.{IsErrOf, IfErr, IfSome, IfNone};
+ghost use Rattle.lab_io.specs.TextState.{StandsFor, Takes, IsBad, NeverText, IsText, IsDecoded, Splits, Cuts};
+ghost use Rattle.lab_io.specs.TextState.{KeepsFew};
 
 use crate::intake::{Intake, IntakeFault};
 use std::alloc::{AllocError, Global};

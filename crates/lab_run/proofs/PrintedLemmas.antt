@@ -6,7 +6,8 @@ use Rattle.base_text.specs.Hexadecimal.{upper_word}
 use Rattle.lab_run.specs.Printed.{field, register_line}
 
 pub register_line_added : (text : List ℕ) (r : Registers) →
-    text ++ codes "PC=" ++ upper_word r.pc ++ field (codes " A=") r.a ++ field (codes " F=") (flag_byte r.flags)
+    text ++ codes "PC=" ++ upper_word r.pc ++ field (codes " A=") r.a
+    ++ field (codes " F=") (flag_byte r.flags)
     ++ field (codes " B=") r.b ++ field (codes " C=") r.c ++ field (codes " D=") r.d
     ++ field (codes " E=") r.e ++ field (codes " H=") r.h ++ field (codes " L=") r.l
     ++ codes " SP=" ++ upper_word r.sp ++ 10 ∷ []

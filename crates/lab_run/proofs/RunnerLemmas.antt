@@ -26,11 +26,13 @@ pub stepped : (old new : RunnerState) (panel : PanelState) → panel ≡ old.dev
 stepped old new panel same machine last devices b s =
     let panel_is : panel ≡ panel_after b.past = same ∙ s.devices in
     let outcome : outcome_on panel old.machine ≡ outcome_on (panel_after b.past) b.machine =
-    ap (λ (p : PanelState). outcome_on p old.machine) panel_is ∙ ap (λ (m : MachineState). outcome_on (panel_after b.past) m) s.machine in
+    ap (λ (p : PanelState). outcome_on p old.machine) panel_is
+    ∙ ap (λ (m : MachineState). outcome_on (panel_after b.past) m) s.machine in
     record {
       machine = machine ∙ ap (λ (o : Outcome). o.after) outcome;
       devices = devices ∙ ap (λ (o : Outcome). state_after panel_then panel o.operation) outcome
-          ∙ ap (λ (p : PanelState). state_after panel_then p (outcome_on (panel_after b.past) b.machine).operation) panel_is
+          ∙ ap (λ (p : PanelState). state_after panel_then p
+          (outcome_on (panel_after b.past) b.machine).operation) panel_is
           ∙ panel_performed b.past (outcome_on (panel_after b.past) b.machine).operation;
       last = last ∙ ap (λ (o : Outcome). o.answer) outcome;
     }

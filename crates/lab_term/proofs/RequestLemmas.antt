@@ -6,10 +6,12 @@ use Rattle.jup_wire.specs.Header.{empty_object}
 use Rattle.jup_wire.specs.Seal.{IsSealed, frames_of, signature_frame}
 use Rattle.jup_wire.proofs.PartLemmas.{same_parts, text_is}
 use Rattle.jup_date.specs.Dates.{IsDate}
-use Rattle.lab_term.specs.Requests.{request_header, request_content, request_parts, request_frames, IsDraftOf, IsRequest}
+use Rattle.lab_term.specs.Requests.{request_header, request_content, request_parts, request_frames, IsDraftOf}
+use Rattle.lab_term.specs.Requests.{IsRequest}
 
 pub sealed_is_request : (key date session code : List ℕ) (draft : Draft) (frames : List (List ℕ))
-    → IsDraftOf date session code draft → IsSealed key draft frames → frames ≡ request_frames key date session code
+    → IsDraftOf date session code draft → IsSealed key draft frames
+    → frames ≡ request_frames key date session code
 sealed_is_request key date session code draft frames of s =
     let header = text_is s.parts.header _ (request_header date session) s.header of.header refl in
     let metadata = text_is s.parts.metadata _ empty_object s.metadata of.metadata refl in

@@ -66,19 +66,13 @@ pub record Ungreeted (role : Role) (r : Reader) (refused : Bool) (fault : TermFa
 -- why a message wasn't sent: memory was wanting, or the writer failed
 abbrev pub Unsent : Bool → TermFault → Type 0
 Unsent refused OutOfMemory = Unit {0}
-Unsent refused Ended = ⊥
-Unsent refused ReadFailed = ⊥
 Unsent refused WriteFailed = refused ≡ true
-Unsent refused (Wire cause) = ⊥
+Unsent refused _ = ⊥
 
 -- a stream is broken
 abbrev pub IsBroken : TermFault → Type 0
-IsBroken OutOfMemory = ⊥
-IsBroken Ended = ⊥
-IsBroken ReadFailed = ⊥
-IsBroken WriteFailed = ⊥
 IsBroken (Wire (Stream cause)) = Unit {0}
-IsBroken (Wire (Message cause)) = ⊥
+IsBroken _ = ⊥
 
 -- why no more messages were taken, by what was read and by whether the output failed
 abbrev pub Stalls : List ℕ → Reader → Bool → TermFault → Type 0

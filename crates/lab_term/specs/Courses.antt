@@ -2,9 +2,9 @@
 use Rattle.std.specs.Prelude.{◌≡◌, ℕ, Bool, false, true, ◌&&◌, List, [], ◌∷◌, ◌++◌, Option}
 use Rattle.base_streams.specs.Told.{Told, ToldFront}
 use Rattle.lab_term.specs.declared.fault.TermFault.{TermFault}
-use Rattle.lab_term.specs.declared.fault.TermFault.TheVariants.{OutOfMemory, Ended, ReadFailed, WriteFailed}
+use Rattle.lab_term.specs.declared.fault.TermFault.TheVariants.{OutOfMemory, WriteFailed}
 use Rattle.lab_term.specs.declared.fault.TermFault.TheVariants.{Wire}
-use Rattle.lab_term.specs.declared.fault.WireCause.TheVariants.{Stream, Message}
+use Rattle.lab_term.specs.declared.fault.WireCause.TheVariants.{Message}
 use Rattle.lab_term.specs.declared.follow.Course.{Course}
 use Rattle.lab_term.specs.Events.{Notice, IsNotice, IsUnopened, AreNotices, is_of, is_error, is_status, shown}
 use Rattle.lab_term.specs.Events.{printed, has_error, ends}
@@ -27,13 +27,11 @@ EndsInIdle header notices = EndsIn (ends header) notices
 -- why messages were taken no further: memory was wanting, the writer failed, or the next one doesn't open
 abbrev pub StopsAt : List ℕ → List (List (List ℕ)) → Bool → TermFault → Type 0
 StopsAt key others refused OutOfMemory = refused ≡ false
-StopsAt key others refused Ended = ⊥
-StopsAt key others refused ReadFailed = ⊥
 StopsAt key others refused WriteFailed = refused ≡ true
-StopsAt key others refused (Wire (Stream cause)) = ⊥
 StopsAt key others refused (Wire (Message cause)) =
     (refused ≡ false) × (frames : List (List ℕ)) × (rest : List (List (List ℕ)))
     × (others ≡ frames ∷ rest) × IsUnopened key frames (Wire (Message cause))
+StopsAt key others refused _ = ⊥
 
 -- messages were looked at up to a status, or all of them
 pub record Passes (key : List ℕ) (queue queue' : List (List (List ℕ))) (found : Bool) : Type 0 where

@@ -13,9 +13,9 @@ use Rattle.jup_wire.specs.Json.{text_at}
 use Rattle.jup_wire.specs.Wire.{IsMessage, IsRefused}
 use Rattle.lab_term.specs.declared.event.Event.{Event}
 use Rattle.lab_term.specs.declared.fault.TermFault.{TermFault}
-use Rattle.lab_term.specs.declared.fault.TermFault.TheVariants.{OutOfMemory, Ended, ReadFailed, WriteFailed}
+use Rattle.lab_term.specs.declared.fault.TermFault.TheVariants.{OutOfMemory}
 use Rattle.lab_term.specs.declared.fault.TermFault.TheVariants.{Wire}
-use Rattle.lab_term.specs.declared.fault.WireCause.TheVariants.{Stream, Message}
+use Rattle.lab_term.specs.declared.fault.WireCause.TheVariants.{Message}
 
 -- a message on iopub: its type, the header of the request that it belongs to, its content
 pub record Notice : Type 0 where
@@ -37,11 +37,8 @@ pub record IsNotice (key : List ℕ) (frames : List (List ℕ)) (notice : Notice
 -- the faults of opening: want of memory, or frames that are refused under this key
 abbrev pub IsUnopened : List ℕ → List (List ℕ) → TermFault → Type 0
 IsUnopened key frames OutOfMemory = Unit {0}
-IsUnopened key frames Ended = ⊥
-IsUnopened key frames ReadFailed = ⊥
-IsUnopened key frames WriteFailed = ⊥
-IsUnopened key frames (Wire (Stream cause)) = ⊥
 IsUnopened key frames (Wire (Message cause)) = (cause ≡ wire.OutOfMemory → ⊥) × IsRefused key frames cause
+IsUnopened key frames _ = ⊥
 
 -- the text that a content has at a key, or none
 abbrev pub text_in : List ℕ → Data → List ℕ

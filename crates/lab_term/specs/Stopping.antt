@@ -8,9 +8,9 @@ use Rattle.zmtp_wire.specs.Writing.{message_bytes}
 use Rattle.zmtp_peer.specs.Hearing.{Heard}
 use Rattle.zmtp_peer.specs.Sending.{WroteFront, WroteWhole}
 use Rattle.lab_term.specs.declared.fault.TermFault.{TermFault}
-use Rattle.lab_term.specs.declared.fault.TermFault.TheVariants.{OutOfMemory, Ended, ReadFailed, WriteFailed}
+use Rattle.lab_term.specs.declared.fault.TermFault.TheVariants.{OutOfMemory, Ended}
 use Rattle.lab_term.specs.declared.fault.TermFault.TheVariants.{Wire}
-use Rattle.lab_term.specs.declared.fault.WireCause.TheVariants.{Stream, Message}
+use Rattle.lab_term.specs.declared.fault.WireCause.TheVariants.{Stream}
 use Rattle.lab_term.specs.Events.{Notice, AreNotices, printed}
 use Rattle.lab_term.specs.Courses.{EndsInStatus}
 use Rattle.lab_term.specs.Requests.{IsRequest}
@@ -44,12 +44,9 @@ pub record Awaited (key : List ℕ) (given given' : Option (List ℕ)) : Type 0 
 
 -- the kernel ended the stream, or broke it
 abbrev pub EndsStream : TermFault → Type 0
-EndsStream OutOfMemory = ⊥
 EndsStream Ended = Unit {0}
-EndsStream ReadFailed = ⊥
-EndsStream WriteFailed = ⊥
 EndsStream (Wire (Stream cause)) = Unit {0}
-EndsStream (Wire (Message cause)) = ⊥
+EndsStream _ = ⊥
 
 -- After the messages that had passed others were taken, and a front of what is printed of them was printed:
 -- of all of them, and whole, where the stream was at its end. All that the reader gave was heard, but where

@@ -56,7 +56,8 @@ fn draft_of(alloc: Global, date: &str, session: &str, code: &str) -> Result<Draf
 
 // The frames of the request of this date.
 fn dated_frames(alloc: Global, cell: &Cell<'_>, date: &str) -> Result<Frames, AllocError>
-    ensures { IfOk result (λ frames. frames ≡ request_frames cell.now.key.now date.now cell.now.session.now cell.now.code.now) }
+    ensures { IfOk result (λ frames. frames ≡ request_frames cell.now.key.now date.now cell.now.session.now
+        cell.now.code.now) }
 {
     let draft = draft_of(alloc, date, cell.session, cell.code)?;
     seal_message(alloc, draft, cell.key)

@@ -2,7 +2,8 @@
 ghost use Rattle.std.specs.Prelude.{◌≡◌, List, ℕ, IfOk, IfErr};
 ghost use Rattle.serde_json.specs.View.{view};
 ghost use Rattle.jup_wire.specs.Wire.{IsRefused};
-ghost use Rattle.lab_term.specs.Events.{notice_of, IsNotice, IsUnopened, text_in, is_status, is_idle, is_error, is_of, error_line, text_of};
+ghost use Rattle.lab_term.specs.Events.{notice_of, IsNotice, IsUnopened, text_in, is_status, is_idle};
+ghost use Rattle.lab_term.specs.Events.{is_error, is_of, error_line, text_of};
 
 use crate::fault::{TermFault, WireCause};
 use base_text::sequence::{Bytes, Frames};

@@ -55,7 +55,8 @@ fn is_status(event: Event) -> bool
 fn pass_status(alloc: Global, queue: &mut VecDeque<Frames>, key: &[u8]) -> Result<bool, TermFault>
     ensures passes { IfOk result (Passes key.now queue.old.items queue.new.items) }
     ensures rest { IfOk result (λ found. found ≡ false → queue.new.items ≡ []) }
-    ensures cut { IfErr result (λ fault. (out : Option (List ℕ)) → Cut key.now [] queue.old.items out out false fault) }
+    ensures cut { IfErr result (λ fault. (out : Option (List ℕ))
+        → Cut key.now [] queue.old.items out out false fault) }
 {
     while let Some(frames) = queue.pop_front() {
         match open_event(alloc, frames, key) {
@@ -135,9 +136,11 @@ fn take_message<O: Outlet>(
     header: &[u8],
 ) -> Result<Course, TermFault>
     requires { O.failed output.old ≡ false }
-    ensures takes { IfOk result (λ course. TakesOne key.now header.now frames (O.taken output.old) (O.taken output.new) course) }
+    ensures takes { IfOk result (λ course. TakesOne key.now header.now frames (O.taken output.old)
+        (O.taken output.new) course) }
     ensures good { OnOk result (O.failed output.new ≡ false) }
-    ensures cut { IfErr result (Cut key.now header.now (frames ∷ []) (O.taken output.old) (O.taken output.new) (O.failed output.new)) }
+    ensures cut { IfErr result (Cut key.now header.now (frames ∷ []) (O.taken output.old) (O.taken output.new)
+        (O.failed output.new)) }
 {
     let event = match open_event(alloc, frames, key) {
         Ok(event) => event,
@@ -169,9 +172,11 @@ fn take_messages<O: Outlet>(
 ) -> Result<Course, TermFault>
     requires { O.failed output.old ≡ false }
     ensures rest { IfOk result (λ course. course.is_idle ≡ false → queue.new.items ≡ []) }
-    ensures takes { IfOk result (Takes key.now header.now queue.old.items queue.new.items (O.taken output.old) (O.taken output.new)) }
+    ensures takes { IfOk result (Takes key.now header.now queue.old.items queue.new.items (O.taken output.old)
+        (O.taken output.new)) }
     ensures good { OnOk result (O.failed output.new ≡ false) }
-    ensures cut { IfErr result (Cut key.now header.now queue.old.items (O.taken output.old) (O.taken output.new) (O.failed output.new)) }
+    ensures cut { IfErr result (Cut key.now header.now queue.old.items (O.taken output.old)
+        (O.taken output.new) (O.failed output.new)) }
 {
     let mut course = Course {
         is_idle: false,
@@ -204,7 +209,8 @@ pub(crate) fn follow<I: Inlet, O: Outlet>(
     requires refused { O.failed output.old ≡ false }
     ensures followed { IfOk result (λ good. (before : Option (List ℕ)) (passed : List (List (List ℕ)))
         → Holds before (I.given from.old) subscriber.old passed 0
-        → Followed key.now header.now before (I.given from.new) passed (O.taken output.old) (O.taken output.new) good) }
+        → Followed key.now header.now before (I.given from.new) passed (O.taken output.old)
+        (O.taken output.new) good) }
     ensures front { IfErr result (λ fault. (before : Option (List ℕ)) (passed : List (List (List ℕ)))
         → Holds before (I.given from.old) subscriber.old passed 0
         → FollowedFront key.now header.now before (I.given from.new) passed (O.taken output.old)

@@ -127,8 +127,10 @@ pub fn run_cell<I: Inlet + Drop, W: Outlet + Drop, O: Outlet>(
     cell: &Cell<'_>,
 ) -> Result<bool, TermFault>
     requires moment { cell.now.moment ≤ last_moment }
-    requires shell { (I.ended shell.old.from ≡ false) × (I.failed shell.old.from ≡ false) × (W.failed shell.old.to ≡ false) }
-    requires iopub { (I.ended iopub.old.from ≡ false) × (I.failed iopub.old.from ≡ false) × (W.failed iopub.old.to ≡ false) }
+    requires shell { (I.ended shell.old.from ≡ false) × (I.failed shell.old.from ≡ false)
+        × (W.failed shell.old.to ≡ false) }
+    requires iopub { (I.ended iopub.old.from ≡ false) × (I.failed iopub.old.from ≡ false)
+        × (W.failed iopub.old.to ≡ false) }
     requires output { O.failed output.old ≡ false }
     ensures ran { IfOk result (Ran cell.now.code.now cell.now.key.now cell.now.session.now cell.now.moment
         (W.taken shell.old.to) (W.taken shell.new.to) (W.taken iopub.old.to) (W.taken iopub.new.to)

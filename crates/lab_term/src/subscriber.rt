@@ -1,5 +1,6 @@
 //! The messages of iopub, as they come.
-ghost use Rattle.std.specs.Prelude.{◌≡◌, ◌<◌, ◌≤◌, ◌+◌, ℕ, List, [], Option, false, take, length, IfOk, IfErr, OnOk, OnErr};
+ghost use Rattle.std.specs.Prelude.{◌≡◌, ◌<◌, ◌≤◌, ◌+◌, ℕ, List, [], Option, false, take, length, IfOk};
+ghost use Rattle.std.specs.Prelude.{IfErr, OnOk, OnErr};
 ghost use Rattle.base_streams.specs.Told.{Told};
 ghost use Rattle.lab_term.specs.declared.subscriber.Subscriber.{Subscriber};
 ghost use Rattle.zmtp_peer.specs.Hearing.{Heard};

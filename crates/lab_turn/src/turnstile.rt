@@ -1,5 +1,6 @@
 //! The turnstile: opened over a value, used by its passes, and closed with all of them.
-ghost use Rattle.std.specs.Prelude.{◌≡◌, ◌≢◌, ◌<◌, ◌≤◌, ◌+◌, ◌↔◌, [], All, length, vec_capacity, IfOk, IfErr, IsErr, IsSome, OnOk, OnErr, Some, ◌∷◌, true};
+ghost use Rattle.std.specs.Prelude.{◌≡◌, ◌≢◌, ◌<◌, ◌≤◌, ◌+◌, ◌↔◌, [], All, length, vec_capacity, IfOk, IfErr};
+ghost use Rattle.std.specs.Prelude.{IsErr, IsSome, OnOk, OnErr, Some, ◌∷◌, true};
 ghost use Rattle.lab_turn.specs.History.{TurnstileState, FreshFrom, Turned, IsHistoryOf};
 ghost use Rattle.lab_turn.specs.Turns.{Gathered, IsIdle, maker_at};
 

@@ -1,5 +1,6 @@
 //! The frames of a stopped run.
-ghost use Rattle.std.specs.Prelude.{◌≡◌, ◌<◌, ◌≤◌, ◌+◌, ◌∷◌, ◌++◌, ◌&&◌, ◌==◌, List, length, map, reverse, option_map, unwrap_or, slice_get, IfOk, Some, codes};
+ghost use Rattle.std.specs.Prelude.{◌≡◌, ◌<◌, ◌≤◌, ◌+◌, ◌∷◌, ◌++◌, ◌&&◌, ◌==◌, List, length, map, reverse};
+ghost use Rattle.std.specs.Prelude.{option_map, unwrap_or, slice_get, IfOk, Some, codes};
 ghost use Rattle.base_text.specs.Hexadecimal.{upper_word};
 ghost use Rattle.i80_devs.specs.Past.{Operation};
 ghost use Rattle.lab_image.specs.Loads.{Load, StandsFor};

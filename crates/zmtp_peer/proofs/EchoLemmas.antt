@@ -1,5 +1,7 @@
 -- What was echoed, message by message and piece by piece.
-use Rattle.std.proofs.Common.{◌≡◌, ℕ, ◌+◌, ◌≤◌, ◌<◌, inl, inr, Bool, false, List, [], ◌∷◌, ◌++◌, length, take, drop, get_or, Option, Some, refl, sym, ap, ◌∙◌, subst, arith, append-nil, append_assoc, length-append}
+use Rattle.std.proofs.Common.{◌≡◌, ℕ, ◌+◌, ◌≤◌, ◌<◌, inl, inr, Bool, false, List, [], ◌∷◌, ◌++◌, length, take}
+use Rattle.std.proofs.Common.{drop, get_or, Option, Some, refl, sym, ap, ◌∙◌, subst, arith, append-nil}
+use Rattle.std.proofs.Common.{append_assoc, length-append}
 use Rattle.std.proofs.lemmas.List.{take_more, take-append-drop}
 use Rattle.std.proofs.lemmas.Grind.{flat_map-append}
 use Rattle.zmtp_wire.specs.declared.fault.StreamFault.{StreamFault}
@@ -9,7 +11,7 @@ use Rattle.zmtp_wire.specs.Writing.{message_bytes}
 use Rattle.base_streams.specs.Told.{Told, ToldFront}
 use Rattle.base_streams.proofs.TellLemmas.{told_on}
 use Rattle.zmtp_peer.specs.declared.fault.PeerFault.{PeerFault}
-use Rattle.zmtp_peer.specs.declared.fault.PeerFault.TheVariants.{OutOfMemory, PeerEnded, ReadFailed, WriteFailed, Wire}
+use Rattle.zmtp_peer.specs.declared.fault.PeerFault.TheVariants.{OutOfMemory, ReadFailed, WriteFailed, Wire}
 use Rattle.zmtp_peer.specs.Ends.{Ends, EndsReading, Explains, NoPeer, Stops, Refuses, Blames}
 use Rattle.zmtp_peer.specs.Hearing.{Heard}
 use Rattle.zmtp_peer.specs.Sending.{IsHandshakeOf, WroteFront, WroteWhole, messages_bytes, Echoes}
@@ -24,19 +26,32 @@ bytes_one : (m : List (List ℕ)) → messages_bytes (m ∷ []) ≡ message_byte
 bytes_one m = append-nil (message_bytes m)
 
 -- one message more was written
-pub echo_on : (a b c : Option (List ℕ)) (items : List (List (List ℕ))) (i : ℕ) (m : List (List ℕ)) → i < length items → m ≡ get_or items i m → Told a b (messages_bytes (take i items)) → Told b c (message_bytes m) → Told a c (messages_bytes (take (i + 1) items))
+pub echo_on : (a b c : Option (List ℕ)) (items : List (List (List ℕ))) (i : ℕ) (m : List (List ℕ))
+    → i < length items → m ≡ get_or items i m → Told a b (messages_bytes (take i items))
+    → Told b c (message_bytes m) → Told a c (messages_bytes (take (i + 1) items))
 echo_on a b c items i m fits e o p =
     let P : List ℕ → Type 0 = λ l. Told a c l in
-    let bytes = ap (λ (l : List ℕ). messages_bytes (take i items) ++ l) (sym (bytes_one m)) ∙ sym (bytes_on (take i items) (m ∷ [])) ∙ ap messages_bytes (ap (λ (y : List (List ℕ)). take i items ++ y ∷ []) e ∙ sym (take_more items i m fits)) in
+    let bytes =
+    ap (λ (l : List ℕ). messages_bytes (take i items) ++ l) (sym (bytes_one m))
+    ∙ sym (bytes_on (take i items) (m ∷ [])) ∙ ap messages_bytes
+    (ap (λ (y : List (List ℕ)). take i items ++ y ∷ []) e ∙ sym (take_more items i m fits)) in
     subst P bytes (told_on a b c (messages_bytes (take i items)) (message_bytes m) o p)
 
 -- a front of one message more was written
-pub echo_cut : (a b c : Option (List ℕ)) (items : List (List (List ℕ))) (i : ℕ) (m : List (List ℕ)) → i < length items → m ≡ get_or items i m → Told a b (messages_bytes (take i items)) → ToldFront b c (message_bytes m) → ToldFront a c (messages_bytes items)
+pub echo_cut : (a b c : Option (List ℕ)) (items : List (List (List ℕ))) (i : ℕ) (m : List (List ℕ))
+    → i < length items → m ≡ get_or items i m → Told a b (messages_bytes (take i items))
+    → ToldFront b c (message_bytes m) → ToldFront a c (messages_bytes items)
 echo_cut a b c items i m fits e o f =
     let P : List ℕ → Type 0 = λ l. ToldFront a c l in
-    let bytes = ap (λ (l : List ℕ). messages_bytes (take i items) ++ l) (sym (bytes_one m)) ∙ sym (bytes_on (take i items) (m ∷ [])) ∙ ap messages_bytes (ap (λ (y : List (List ℕ)). take i items ++ y ∷ []) e ∙ sym (take_more items i m fits)) in
-    let whole = sym (bytes_on (take (i + 1) items) (drop (i + 1) items)) ∙ ap messages_bytes (take-append-drop (i + 1) items) in
-    subst P whole (front_before a c (messages_bytes (take (i + 1) items)) (messages_bytes (drop (i + 1) items))
+    let bytes =
+    ap (λ (l : List ℕ). messages_bytes (take i items) ++ l) (sym (bytes_one m))
+    ∙ sym (bytes_on (take i items) (m ∷ [])) ∙ ap messages_bytes
+    (ap (λ (y : List (List ℕ)). take i items ++ y ∷ []) e ∙ sym (take_more items i m fits)) in
+    let whole =
+    sym (bytes_on (take (i + 1) items) (drop (i + 1) items))
+    ∙ ap messages_bytes (take-append-drop (i + 1) items) in
+    subst P whole (front_before a c (messages_bytes (take (i + 1) items))
+    (messages_bytes (drop (i + 1) items))
     (subst P bytes (front_on a b c (messages_bytes (take i items)) (message_bytes m) o f)))
 
 -- a side completes nothing of no bytes
@@ -50,29 +65,26 @@ completes_none s = record {
 }
 
 -- the faults of a writer, or of memory
-explains_refused : (fault : PeerFault) (refused failed : Bool) (s : SideState) (heard : List ℕ) → Refuses fault refused → Explains fault failed s heard []
+explains_refused : (fault : PeerFault) (refused failed : Bool) (s : SideState) (heard : List ℕ)
+    → Refuses fault refused → Explains fault failed s heard []
 explains_refused OutOfMemory refused failed s heard h = tt
-explains_refused PeerEnded refused failed s heard h = absurd h
-explains_refused ReadFailed refused failed s heard h = absurd h
 explains_refused WriteFailed refused failed s heard h = refl
-explains_refused (Wire cause) refused failed s heard h = absurd h
+explains_refused _ refused failed s heard h = absurd h
 
 refused_reading : (fault : PeerFault) (refused : Bool) → Refuses fault refused → EndsReading fault → ⊥
 refused_reading OutOfMemory refused h r = r
-refused_reading PeerEnded refused h r = h
-refused_reading ReadFailed refused h r = h
 refused_reading WriteFailed refused h r = r
-refused_reading (Wire cause) refused h r = h
+refused_reading _ refused h r = h
 
-pub blames_refused : (fault : PeerFault) (ended failed refused : Bool) → Refuses fault refused → ended ≡ false → failed ≡ false → Blames fault ended failed refused
+pub blames_refused : (fault : PeerFault) (ended failed refused : Bool) → Refuses fault refused → ended ≡ false
+    → failed ≡ false → Blames fault ended failed refused
 blames_refused OutOfMemory ended failed refused h e f = (e, f, h)
-blames_refused PeerEnded ended failed refused h e f = absurd h
-blames_refused ReadFailed ended failed refused h e f = absurd h
 blames_refused WriteFailed ended failed refused h e f = (e, f, h)
-blames_refused (Wire cause) ended failed refused h e f = absurd h
+blames_refused _ ended failed refused h e f = absurd h
 
 -- memory was wanting before the side took the piece
-pub piece_memory : (piece : List ℕ) (s t : SideState) (taken : Option (List ℕ)) (failed : Bool) → t ≡ s → LostPiece piece s t taken taken failed OutOfMemory
+pub piece_memory : (piece : List ℕ) (s t : SideState) (taken : Option (List ℕ)) (failed : Bool) → t ≡ s
+    → LostPiece piece s t taken taken failed OutOfMemory
 piece_memory piece s t taken failed e =
     let P : SideState → Type 0 = λ (x : SideState). Completes s [] [] x in
     record {
@@ -87,7 +99,10 @@ piece_memory piece s t taken failed e =
     }
 
 -- the writer failed, or memory was wanting, while the messages were written
-pub piece_refused : (piece : List ℕ) (s t : SideState) (taken taken' : Option (List ℕ)) (messages : List (List (List ℕ))) (failed refused : Bool) (fault : PeerFault) → Completes s piece messages t → Refuses fault refused → ToldFront taken taken' (messages_bytes messages) → LostPiece piece s t taken taken' failed fault
+pub piece_refused : (piece : List ℕ) (s t : SideState) (taken taken' : Option (List ℕ))
+    (messages : List (List (List ℕ))) (failed refused : Bool) (fault : PeerFault)
+    → Completes s piece messages t → Refuses fault refused → ToldFront taken taken' (messages_bytes messages)
+    → LostPiece piece s t taken taken' failed fault
 piece_refused piece s t taken taken' messages failed refused fault r h f = record {
   heard = piece;
   unheard = [];
@@ -100,7 +115,10 @@ piece_refused piece s t taken taken' messages failed refused fault r h f = recor
 }
 
 -- the stream is broken after the messages
-pub piece_wire : (piece : List ℕ) (s t : SideState) (taken taken' : Option (List ℕ)) (messages : List (List (List ℕ))) (failed : Bool) (cause : StreamFault) → Completes s piece messages t → t.fault ≡ Some cause → Told taken taken' (messages_bytes messages) → LostPiece piece s t taken taken' failed (Wire cause)
+pub piece_wire : (piece : List ℕ) (s t : SideState) (taken taken' : Option (List ℕ))
+    (messages : List (List (List ℕ))) (failed : Bool) (cause : StreamFault) → Completes s piece messages t
+    → t.fault ≡ Some cause → Told taken taken' (messages_bytes messages)
+    → LostPiece piece s t taken taken' failed (Wire cause)
 piece_wire piece s t taken taken' messages failed cause r e o = record {
   heard = piece;
   unheard = [];
@@ -113,7 +131,9 @@ piece_wire piece s t taken taken' messages failed cause r e o = record {
 }
 
 -- the reader ended or failed
-pub round_stop : (given given' : Option (List ℕ)) (s : SideState) (taken : Option (List ℕ)) (fault : PeerFault) (ended failed : Bool) → Told given given' [] → Stops fault ended failed → LostRound given given' s s taken taken failed fault
+pub round_stop : (given given' : Option (List ℕ)) (s : SideState) (taken : Option (List ℕ))
+    (fault : PeerFault) (ended failed : Bool) → Told given given' [] → Stops fault ended failed
+    → LostRound given given' s s taken taken failed fault
 round_stop given given' s taken fault ended failed o h = record {
   piece = [];
   told = o;
@@ -129,15 +149,16 @@ round_stop given given' s taken fault ended failed o h = record {
   };
 }
 
-explains_any : (fault : PeerFault) (failed : Bool) (s : SideState) (heard unheard : List ℕ) → Explains fault false s heard unheard → Explains fault failed s heard unheard
+explains_any : (fault : PeerFault) (failed : Bool) (s : SideState) (heard unheard : List ℕ)
+    → Explains fault false s heard unheard → Explains fault failed s heard unheard
 explains_any OutOfMemory failed s heard unheard h = tt
-explains_any PeerEnded failed s heard unheard h = h
 explains_any ReadFailed failed s heard unheard (e, inl f) = absurd cc
 explains_any ReadFailed failed s heard unheard (e, inr f) = (e, inr f)
-explains_any WriteFailed failed s heard unheard h = h
-explains_any (Wire cause) failed s heard unheard h = h
+explains_any _ failed s heard unheard h = h
 
-pub round_lost : (given given' : Option (List ℕ)) (piece : List ℕ) (s t : SideState) (taken taken' : Option (List ℕ)) (failed : Bool) (fault : PeerFault) → Told given given' piece → LostPiece piece s t taken taken' false fault → LostRound given given' s t taken taken' failed fault
+pub round_lost : (given given' : Option (List ℕ)) (piece : List ℕ) (s t : SideState)
+    (taken taken' : Option (List ℕ)) (failed : Bool) (fault : PeerFault) → Told given given' piece
+    → LostPiece piece s t taken taken' false fault → LostRound given given' s t taken taken' failed fault
 round_lost given given' piece s t taken taken' failed fault o l = record {
   piece = piece;
   told = o;
@@ -153,7 +174,8 @@ round_lost given given' piece s t taken taken' failed fault o l = record {
   };
 }
 
--- how far a heartbeat has come: all that was read was heard, and its messages were written after the handshake
+-- how far a heartbeat has come: all that was read was heard, and its messages were written after the
+-- handshake
 pub record Beats (given given' taken taken' : Option (List ℕ)) (side : SideState) (least : ℕ) : Type 0 where
   pub messages : List (List (List ℕ))
   pub heard : Heard given given' side messages least
@@ -162,13 +184,16 @@ pub record Beats (given given' taken taken' : Option (List ℕ)) (side : SideSta
   pub is : IsHandshakeOf handshake Rep
   pub told : Told taken taken' (handshake ++ messages_bytes messages)
 
-abbrev pub Ended : Option (List ℕ) → Option (List ℕ) → Option (List ℕ) → Option (List ℕ) → Bool → PeerFault → Type 0
+abbrev pub Ended : Option (List ℕ) → Option (List ℕ) → Option (List ℕ) → Option (List ℕ) → Bool → PeerFault
+    → Type 0
 Ended given given' taken taken' failed fault =
     (side : SideState) × (messages : List (List (List ℕ)))
     × Ends Rep given given' failed fault side messages × Echoes taken taken' side messages fault
 
 -- the handshake gave no peer
-pub ended_early : (given given' taken taken' : Option (List ℕ)) (failed : Bool) (fault : PeerFault) → NoPeer Rep given given' failed fault → WroteFront taken taken' Rep → Ended given given' taken taken' failed fault
+pub ended_early : (given given' taken taken' : Option (List ℕ)) (failed : Bool) (fault : PeerFault)
+    → NoPeer Rep given given' failed fault → WroteFront taken taken' Rep
+    → Ended given given' taken taken' failed fault
 ended_early given given' taken taken' failed fault n w = (
   n.side,
   n.messages,
@@ -182,7 +207,9 @@ ended_early given given' taken taken' failed fault n w = (
 )
 
 -- the messages that came with READY were written
-pub beats_first : (given given' taken t1 t2 : Option (List ℕ)) (s : SideState) (m : List (List (List ℕ))) → s.role ≡ Rep → Heard given given' s m 0 → WroteWhole taken t1 Rep → Told t1 t2 (messages_bytes m) → Beats given given' taken t2 s 0
+pub beats_first : (given given' taken t1 t2 : Option (List ℕ)) (s : SideState) (m : List (List (List ℕ)))
+    → s.role ≡ Rep → Heard given given' s m 0 → WroteWhole taken t1 Rep → Told t1 t2 (messages_bytes m)
+    → Beats given given' taken t2 s 0
 beats_first given given' taken t1 t2 s m e h w o = record {
   messages = m;
   heard = h;
@@ -192,7 +219,10 @@ beats_first given given' taken t1 t2 s m e h w o = record {
   told = told_on taken t1 t2 w.handshake (messages_bytes m) w.told o;
 }
 
-pub ended_first : (given given' taken t1 t2 : Option (List ℕ)) (s : SideState) (m : List (List (List ℕ))) (failed refused : Bool) (fault : PeerFault) → s.role ≡ Rep → Heard given given' s m 0 → WroteWhole taken t1 Rep → Refuses fault refused → ToldFront t1 t2 (messages_bytes m) → Ended given given' taken t2 failed fault
+pub ended_first : (given given' taken t1 t2 : Option (List ℕ)) (s : SideState) (m : List (List (List ℕ)))
+    (failed refused : Bool) (fault : PeerFault) → s.role ≡ Rep → Heard given given' s m 0
+    → WroteWhole taken t1 Rep → Refuses fault refused → ToldFront t1 t2 (messages_bytes m)
+    → Ended given given' taken t2 failed fault
 ended_first given given' taken t1 t2 s m failed refused fault e h w r f = (
   s,
   m,
@@ -212,18 +242,28 @@ ended_first given given' taken t1 t2 s m failed refused fault e h w r f = (
   },
 )
 
-wrote_on : (taken t1 t2 : Option (List ℕ)) (h : List ℕ) (m n : List (List (List ℕ))) → Told taken t1 (h ++ messages_bytes m) → Told t1 t2 (messages_bytes n) → Told taken t2 (h ++ messages_bytes (m ++ n))
+wrote_on : (taken t1 t2 : Option (List ℕ)) (h : List ℕ) (m n : List (List (List ℕ)))
+    → Told taken t1 (h ++ messages_bytes m) → Told t1 t2 (messages_bytes n)
+    → Told taken t2 (h ++ messages_bytes (m ++ n))
 wrote_on taken t1 t2 h m n o p =
     let P : List ℕ → Type 0 = λ l. Told taken t2 l in
-    subst P (append_assoc h (messages_bytes m) (messages_bytes n) ∙ ap (λ (l : List ℕ). h ++ l) (sym (bytes_on m n))) (told_on taken t1 t2 (h ++ messages_bytes m) (messages_bytes n) o p)
+    subst P (append_assoc h (messages_bytes m) (messages_bytes n)
+    ∙ ap (λ (l : List ℕ). h ++ l) (sym (bytes_on m n)))
+    (told_on taken t1 t2 (h ++ messages_bytes m) (messages_bytes n) o p)
 
-wrote_front : (taken t1 t2 : Option (List ℕ)) (h : List ℕ) (m n : List (List (List ℕ))) → Told taken t1 (h ++ messages_bytes m) → ToldFront t1 t2 (messages_bytes n) → ToldFront taken t2 (h ++ messages_bytes (m ++ n))
+wrote_front : (taken t1 t2 : Option (List ℕ)) (h : List ℕ) (m n : List (List (List ℕ)))
+    → Told taken t1 (h ++ messages_bytes m) → ToldFront t1 t2 (messages_bytes n)
+    → ToldFront taken t2 (h ++ messages_bytes (m ++ n))
 wrote_front taken t1 t2 h m n o p =
     let P : List ℕ → Type 0 = λ l. ToldFront taken t2 l in
-    subst P (append_assoc h (messages_bytes m) (messages_bytes n) ∙ ap (λ (l : List ℕ). h ++ l) (sym (bytes_on m n))) (front_on taken t1 t2 (h ++ messages_bytes m) (messages_bytes n) o p)
+    subst P (append_assoc h (messages_bytes m) (messages_bytes n)
+    ∙ ap (λ (l : List ℕ). h ++ l) (sym (bytes_on m n)))
+    (front_on taken t1 t2 (h ++ messages_bytes m) (messages_bytes n) o p)
 
 -- one piece more
-pub beats_piece : (given g1 g2 taken t1 t2 : Option (List ℕ)) (piece : List ℕ) (s t : SideState) (n c : ℕ) → c ≤ length piece → Told g1 g2 piece → EchoedPiece piece s t t1 t2 → Beats given g1 taken t1 s n → Beats given g2 taken t2 t (n + c)
+pub beats_piece : (given g1 g2 taken t1 t2 : Option (List ℕ)) (piece : List ℕ) (s t : SideState) (n c : ℕ)
+    → c ≤ length piece → Told g1 g2 piece → EchoedPiece piece s t t1 t2 → Beats given g1 taken t1 s n
+    → Beats given g2 taken t2 t (n + c)
 beats_piece given g1 g2 taken t1 t2 piece s t n c fits o p b =
     let size = length-append b.heard.stream piece in
     let least = b.heard.long in
@@ -241,21 +281,24 @@ beats_piece given g1 g2 taken t1 t2 piece s t n c fits o p b =
       told = wrote_on taken t1 t2 b.handshake b.messages p.messages b.told p.told;
     }
 
-pub beats_round : (given g1 g2 taken t1 t2 : Option (List ℕ)) (s t : SideState) (n : ℕ) → EchoedRound g1 g2 s t t1 t2 → Beats given g1 taken t1 s n → Beats given g2 taken t2 t (n + 1)
+pub beats_round : (given g1 g2 taken t1 t2 : Option (List ℕ)) (s t : SideState) (n : ℕ)
+    → EchoedRound g1 g2 s t t1 t2 → Beats given g1 taken t1 s n → Beats given g2 taken t2 t (n + 1)
 beats_round given g1 g2 taken t1 t2 s t n r b =
     let some = r.some in
     beats_piece given g1 g2 taken t1 t2 r.piece s t n 1 (omega arith) r.told r.echoed b
 
-explains_on : (fault : PeerFault) (failed : Bool) (s : SideState) (before heard unheard : List ℕ) → Explains fault failed s heard unheard → Explains fault failed s (before ++ heard) unheard
+explains_on : (fault : PeerFault) (failed : Bool) (s : SideState) (before heard unheard : List ℕ)
+    → Explains fault failed s heard unheard → Explains fault failed s (before ++ heard) unheard
 explains_on OutOfMemory failed s before heard unheard h = tt
-explains_on PeerEnded failed s before heard unheard h = h
 explains_on ReadFailed failed s before heard unheard (e, inl f) = (e, inl f)
-explains_on ReadFailed failed s before heard unheard (e, inr f) = let size = length-append before heard in (e, inr (omega arith))
-explains_on WriteFailed failed s before heard unheard h = h
-explains_on (Wire cause) failed s before heard unheard h = h
+explains_on ReadFailed failed s before heard unheard (e, inr f) =
+    let size = length-append before heard in (e, inr (omega arith))
+explains_on _ failed s before heard unheard h = h
 
 -- a round ended it
-pub ended_round : (given g1 g2 taken t1 t2 : Option (List ℕ)) (s t : SideState) (n : ℕ) (failed : Bool) (fault : PeerFault) → LostRound g1 g2 s t t1 t2 failed fault → Beats given g1 taken t1 s n → Ended given g2 taken t2 failed fault
+pub ended_round : (given g1 g2 taken t1 t2 : Option (List ℕ)) (s t : SideState) (n : ℕ) (failed : Bool)
+    (fault : PeerFault) → LostRound g1 g2 s t t1 t2 failed fault → Beats given g1 taken t1 s n
+    → Ended given g2 taken t2 failed fault
 ended_round given g1 g2 taken t1 t2 s t n failed fault r b =
     let l = r.lost in
     let P : List ℕ → Type 0 = λ x. Told given g2 x in (
@@ -264,7 +307,10 @@ ended_round given g1 g2 taken t1 t2 s t n failed fault r b =
       record {
         heard = b.heard.stream ++ l.heard;
         unheard = l.unheard;
-        told = subst P (ap (λ (x : List ℕ). b.heard.stream ++ x) l.piece_is ∙ sym (append_assoc b.heard.stream l.heard l.unheard)) (told_on given g1 g2 b.heard.stream r.piece b.heard.told r.told);
+        told =
+            subst P (ap (λ (x : List ℕ). b.heard.stream ++ x) l.piece_is
+            ∙ sym (append_assoc b.heard.stream l.heard l.unheard))
+            (told_on given g1 g2 b.heard.stream r.piece b.heard.told r.told);
         role_is = l.completes.role ∙ b.role;
         stands = l.completes.stands b.heard.stream b.messages b.heard.stands;
         explains = explains_on fault failed t b.heard.stream l.heard l.unheard l.explains;
@@ -278,7 +324,8 @@ ended_round given g1 g2 taken t1 t2 s t n failed fault r b =
     )
 
 -- as many pieces came as a conversation may have
-pub ended_most : (given g1 taken t1 : Option (List ℕ)) (s : SideState) (n : ℕ) (failed : Bool) → 4294967295 ≤ n → Beats given g1 taken t1 s n → Ended given g1 taken t1 failed ReadFailed
+pub ended_most : (given g1 taken t1 : Option (List ℕ)) (s : SideState) (n : ℕ) (failed : Bool)
+    → 4294967295 ≤ n → Beats given g1 taken t1 s n → Ended given g1 taken t1 failed ReadFailed
 ended_most given g1 taken t1 s n failed most b = let long = b.heard.long in (
   s,
   b.messages,

@@ -1,5 +1,7 @@
 -- What was heard of a handshake, piece by piece.
-use Rattle.std.proofs.Common.{◌≡◌, ◌↔◌, IsTrue, ℕ, ◌+◌, ◌≤◌, inl, inr, Bool, false, List, [], ◌++◌, length, take, Option, Some, None, refl, sym, ap, subst, arith, append-nil, length-append}
+use Rattle.std.proofs.Common.{◌≡◌, ◌↔◌, IsTrue, ℕ, ◌+◌, ◌≤◌, inl, inr, Bool, false, List, [], ◌++◌, length}
+use Rattle.std.proofs.Common.{take, Option, Some, None, refl, sym, ap, subst, arith, append-nil}
+use Rattle.std.proofs.Common.{length-append}
 use Rattle.std.proofs.lemmas.List.{length-take-le}
 use Rattle.zmtp_wire.specs.declared.fault.StreamFault.{StreamFault}
 use Rattle.zmtp_wire.specs.declared.role.Role.{Role}
@@ -8,7 +10,8 @@ use Rattle.zmtp_wire.specs.Stream.{SideState, StandsFor, Completes}
 use Rattle.base_streams.specs.Told.{Told}
 use Rattle.base_streams.proofs.TellLemmas.{told_on}
 use Rattle.zmtp_peer.specs.declared.fault.PeerFault.{PeerFault}
-use Rattle.zmtp_peer.specs.declared.fault.PeerFault.TheVariants.{OutOfMemory, PeerEnded, ReadFailed, WriteFailed, Wire}
+use Rattle.zmtp_peer.specs.declared.fault.PeerFault.TheVariants.{OutOfMemory, PeerEnded, ReadFailed}
+use Rattle.zmtp_peer.specs.declared.fault.PeerFault.TheVariants.{WriteFailed, Wire}
 use Rattle.zmtp_peer.specs.Ends.{most_bytes, Ends, Explains, NoPeer, Stops, Blames}
 use Rattle.zmtp_peer.specs.Hearing.{Heard}
 use Rattle.zmtp_peer.proofs.QuietLemmas.{side_quiet}
@@ -19,13 +22,16 @@ told_none None = tt
 told_none (Some v) = ap Some (sym (append-nil v))
 
 -- nothing has been heard yet
-pub heard_first : (given : Option (List ℕ)) (s : SideState) (m : List (List (List ℕ))) → StandsFor s [] [] → m ≡ [] → Heard given given s m 0
+pub heard_first : (given : Option (List ℕ)) (s : SideState) (m : List (List (List ℕ))) → StandsFor s [] []
+    → m ≡ [] → Heard given given s m 0
 heard_first given s m k e =
     let P : List (List (List ℕ)) → Type 0 = λ l. StandsFor s [] l in
     record { stream = []; told = told_none given; stands = subst P (sym e) k; long = omega arith }
 
 -- one piece more, before READY
-pub heard_on : (g h k : Option (List ℕ)) (s t : SideState) (x : List ℕ) (m out : List (List (List ℕ))) (n c : ℕ) → (s.stage ≡ Traffic → ⊥) → Completes s x out t → Told h k x → c ≤ length x → Heard g h s m n → Heard g k t out (n + c)
+pub heard_on : (g h k : Option (List ℕ)) (s t : SideState) (x : List ℕ) (m out : List (List (List ℕ)))
+    (n c : ℕ) → (s.stage ≡ Traffic → ⊥) → Completes s x out t → Told h k x → c ≤ length x → Heard g h s m n
+    → Heard g k t out (n + c)
 heard_on g h k s t x m out n c unready r o fits p =
     let P : List (List (List ℕ)) → Type 0 = λ l. StandsFor t (p.stream ++ x) (l ++ out) in
     let size : length (p.stream ++ x) ≡ length p.stream + length x = length-append p.stream x in
@@ -38,21 +44,24 @@ heard_on g h k s t x m out n c unready r o fits p =
     }
 
 -- fewer bytes at least
-pub heard_less : (g h : Option (List ℕ)) (s : SideState) (m : List (List (List ℕ))) (n c : ℕ) → c ≤ n → Heard g h s m n → Heard g h s m c
-heard_less g h s m n c fits p = let least = p.long in record { stream = p.stream; told = p.told; stands = p.stands; long = omega arith }
+pub heard_less : (g h : Option (List ℕ)) (s : SideState) (m : List (List (List ℕ))) (n c : ℕ) → c ≤ n
+    → Heard g h s m n → Heard g h s m c
+heard_less g h s m n c fits p =
+    let least = p.long in record { stream = p.stream; told = p.told; stands = p.stands; long = omega arith }
 
 pub told_whole : (g h : Option (List ℕ)) (x : List ℕ) → Told g h x → Told g h (x ++ [])
 told_whole g h x o = let P : List ℕ → Type 0 = λ l. Told g h l in subst P (sym (append-nil x)) o
 
 -- the reader ended or failed
-pub explains_stop : (fault : PeerFault) (ended failed : Bool) (s : SideState) (heard : List ℕ) → Stops fault ended failed → Explains fault failed s heard []
-explains_stop OutOfMemory ended failed s heard h = absurd h
+pub explains_stop : (fault : PeerFault) (ended failed : Bool) (s : SideState) (heard : List ℕ)
+    → Stops fault ended failed → Explains fault failed s heard []
 explains_stop PeerEnded ended failed s heard h = refl
 explains_stop ReadFailed ended failed s heard h = (refl, inl h.1)
-explains_stop WriteFailed ended failed s heard h = absurd h
-explains_stop (Wire cause) ended failed s heard h = absurd h
+explains_stop _ ended failed s heard h = absurd h
 
-pub ends_stop : (g h k : Option (List ℕ)) (s : SideState) (m : List (List (List ℕ))) (n : ℕ) (fault : PeerFault) (ended failed : Bool) → Stops fault ended failed → Told h k [] → Heard g h s m n → Ends s.role g k failed fault s m
+pub ends_stop : (g h k : Option (List ℕ)) (s : SideState) (m : List (List (List ℕ))) (n : ℕ)
+    (fault : PeerFault) (ended failed : Bool) → Stops fault ended failed → Told h k [] → Heard g h s m n
+    → Ends s.role g k failed fault s m
 ends_stop g h k s m n fault ended failed stops o p = record {
   heard = p.stream;
   unheard = [];
@@ -62,14 +71,15 @@ ends_stop g h k s m n fault ended failed stops o p = record {
   explains = explains_stop fault ended failed s p.stream stops;
 }
 
-pub blames_stop : (fault : PeerFault) (ended failed refused : Bool) → Stops fault ended failed → refused ≡ false → Blames fault ended failed refused
-blames_stop OutOfMemory ended failed refused h r = absurd h
+pub blames_stop : (fault : PeerFault) (ended failed refused : Bool) → Stops fault ended failed
+    → refused ≡ false → Blames fault ended failed refused
 blames_stop PeerEnded ended failed refused h r = (h.0, h.1, r)
 blames_stop ReadFailed ended failed refused h r = (h.0, r)
-blames_stop WriteFailed ended failed refused h r = absurd h
-blames_stop (Wire cause) ended failed refused h r = absurd h
+blames_stop _ ended failed refused h r = absurd h
 
-pub lost_stop : (g h k : Option (List ℕ)) (s : SideState) (m : List (List (List ℕ))) (n : ℕ) (fault : PeerFault) (ended failed : Bool) → (s.stage ≡ Traffic → ⊥) → Stops fault ended failed → Told h k [] → Heard g h s m n → NoPeer s.role g k failed fault
+pub lost_stop : (g h k : Option (List ℕ)) (s : SideState) (m : List (List (List ℕ))) (n : ℕ)
+    (fault : PeerFault) (ended failed : Bool) → (s.stage ≡ Traffic → ⊥) → Stops fault ended failed
+    → Told h k [] → Heard g h s m n → NoPeer s.role g k failed fault
 lost_stop g h k s m n fault ended failed unready stops o p = record {
   side = s;
   messages = m;
@@ -78,53 +88,95 @@ lost_stop g h k s m n fault ended failed unready stops o p = record {
 }
 
 -- memory was wanting after this piece was read
-pub lost_memory : (g h k : Option (List ℕ)) (s : SideState) (x : List ℕ) (m : List (List (List ℕ))) (n : ℕ) (failed : Bool) → Told h k x → Heard g h s m n → NoPeer s.role g k failed OutOfMemory
+pub lost_memory : (g h k : Option (List ℕ)) (s : SideState) (x : List ℕ) (m : List (List (List ℕ))) (n : ℕ)
+    (failed : Bool) → Told h k x → Heard g h s m n → NoPeer s.role g k failed OutOfMemory
 lost_memory g h k s x m n failed o p = record {
   side = s;
   messages = m;
-  ends = record { heard = p.stream; unheard = x; told = told_on g h k p.stream x p.told o; role_is = refl; stands = p.stands; explains = tt };
+  ends =
+      record {
+        heard = p.stream;
+        unheard = x;
+        told = told_on g h k p.stream x p.told o;
+        role_is = refl;
+        stands = p.stands;
+        explains = tt;
+      };
   unready = λ r. absurd r;
 }
 
 -- the stream is broken before READY
-pub lost_wire : (g k : Option (List ℕ)) (role : Role) (t : SideState) (m : List (List (List ℕ))) (n : ℕ) (failed : Bool) (cause : StreamFault) → t.role ≡ role → (t.stage ≡ Traffic → ⊥) → t.fault ≡ Some cause → Heard g k t m n → NoPeer role g k failed (Wire cause)
+pub lost_wire : (g k : Option (List ℕ)) (role : Role) (t : SideState) (m : List (List (List ℕ))) (n : ℕ)
+    (failed : Bool) (cause : StreamFault) → t.role ≡ role → (t.stage ≡ Traffic → ⊥) → t.fault ≡ Some cause
+    → Heard g k t m n → NoPeer role g k failed (Wire cause)
 lost_wire g k role t m n failed cause e unready broken p = record {
   side = t;
   messages = m;
-  ends = record { heard = p.stream; unheard = []; told = told_whole g k p.stream p.told; role_is = e; stands = p.stands; explains = (refl, broken) };
+  ends =
+      record {
+        heard = p.stream;
+        unheard = [];
+        told = told_whole g k p.stream p.told;
+        role_is = e;
+        stands = p.stands;
+        explains = (refl, broken);
+      };
   unready = λ r. unready;
 }
 
-lost_write : (g k : Option (List ℕ)) (role : Role) (t : SideState) (m : List (List (List ℕ))) (n : ℕ) (failed : Bool) → t.role ≡ role → Heard g k t m n → NoPeer role g k failed WriteFailed
+lost_write : (g k : Option (List ℕ)) (role : Role) (t : SideState) (m : List (List (List ℕ))) (n : ℕ)
+    (failed : Bool) → t.role ≡ role → Heard g k t m n → NoPeer role g k failed WriteFailed
 lost_write g k role t m n failed e p = record {
   side = t;
   messages = m;
-  ends = record { heard = p.stream; unheard = []; told = told_whole g k p.stream p.told; role_is = e; stands = p.stands; explains = refl };
+  ends =
+      record {
+        heard = p.stream;
+        unheard = [];
+        told = told_whole g k p.stream p.told;
+        role_is = e;
+        stands = p.stands;
+        explains = refl;
+      };
   unready = λ r. absurd r;
 }
 
 -- the writer failed
-pub lost_writer : (g k : Option (List ℕ)) (role : Role) (t : SideState) (m : List (List (List ℕ))) (n : ℕ) (failed : Bool) (fault : PeerFault) → fault ≡ WriteFailed → t.role ≡ role → Heard g k t m n → NoPeer role g k failed fault
+pub lost_writer : (g k : Option (List ℕ)) (role : Role) (t : SideState) (m : List (List (List ℕ))) (n : ℕ)
+    (failed : Bool) (fault : PeerFault) → fault ≡ WriteFailed → t.role ≡ role → Heard g k t m n
+    → NoPeer role g k failed fault
 lost_writer g k role t m n failed fault w e p =
     let P : PeerFault → Type 0 = λ (x : PeerFault). NoPeer role g k failed x in
     subst P (sym w) (lost_write g k role t m n failed e p)
 
-pub lost_as : (g k : Option (List ℕ)) (role other : Role) (failed : Bool) (fault : PeerFault) → other ≡ role → NoPeer other g k failed fault → NoPeer role g k failed fault
+pub lost_as : (g k : Option (List ℕ)) (role other : Role) (failed : Bool) (fault : PeerFault) → other ≡ role
+    → NoPeer other g k failed fault → NoPeer role g k failed fault
 lost_as g k role other failed fault e p =
     let P : Role → Type 0 = λ (x : Role). NoPeer x g k failed fault in
     subst P e p
 
 -- as many bytes came as a conversation may have
-pub lost_most : (g k : Option (List ℕ)) (role : Role) (t : SideState) (m : List (List (List ℕ))) (n : ℕ) (failed : Bool) → most_bytes ≡ n → t.role ≡ role → (t.stage ≡ Traffic → ⊥) → Heard g k t m n → NoPeer role g k failed ReadFailed
+pub lost_most : (g k : Option (List ℕ)) (role : Role) (t : SideState) (m : List (List (List ℕ))) (n : ℕ)
+    (failed : Bool) → most_bytes ≡ n → t.role ≡ role → (t.stage ≡ Traffic → ⊥) → Heard g k t m n
+    → NoPeer role g k failed ReadFailed
 lost_most g k role t m n failed most e unready p = let long = p.long in record {
   side = t;
   messages = m;
-  ends = record { heard = p.stream; unheard = []; told = told_whole g k p.stream p.told; role_is = e; stands = p.stands; explains = (refl, inr (rw most long)) };
+  ends =
+      record {
+        heard = p.stream;
+        unheard = [];
+        told = told_whole g k p.stream p.told;
+        role_is = e;
+        stands = p.stands;
+        explains = (refl, inr (rw most long));
+      };
   unready = λ r. unready;
 }
 
 -- a side that isn't ready
-pub unready_by : (b : Bool) (s : SideState) → IsTrue b ↔ (s.stage ≡ Traffic) → b ≡ false → s.stage ≡ Traffic → ⊥
+pub unready_by : (b : Bool) (s : SideState) → IsTrue b ↔ (s.stage ≡ Traffic) → b ≡ false → s.stage ≡ Traffic
+    → ⊥
 unready_by b s same e t = absurd (let i = same.1 t in cc)
 
 pub taken_size : (n : ℕ) (buffer : List ℕ) → n ≤ length buffer → n ≤ length (take n buffer)

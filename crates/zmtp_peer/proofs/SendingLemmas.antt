@@ -17,7 +17,8 @@ front_before a b x y f = record {
   whole = ap (λ (l : List ℕ). l ++ y) f.whole ∙ append_assoc f.front f.others y;
 }
 
-pub front_on : (a b c : Option (List ℕ)) (x y : List ℕ) → Told a b x → ToldFront b c y → ToldFront a c (x ++ y)
+pub front_on : (a b c : Option (List ℕ)) (x y : List ℕ) → Told a b x → ToldFront b c y
+    → ToldFront a c (x ++ y)
 front_on a b c x y o f = record {
   front = x ++ f.front;
   others = f.others;
@@ -25,11 +26,14 @@ front_on a b c x y o f = record {
   whole = ap (λ (l : List ℕ). x ++ l) f.whole ∙ sym (append_assoc x f.front f.others);
 }
 
-spelled : (greeting ready : List ℕ) (role : Role) → greeting ≡ written_greeting → IsReadyOf ready role → IsHandshakeOf (greeting ++ ready) role
-spelled greeting ready role e r = record { ready = ready; is_ready = r; spelled = ap (λ (l : List ℕ). l ++ ready) e }
+spelled : (greeting ready : List ℕ) (role : Role) → greeting ≡ written_greeting → IsReadyOf ready role
+    → IsHandshakeOf (greeting ++ ready) role
+spelled greeting ready role e r =
+    record { ready = ready; is_ready = r; spelled = ap (λ (l : List ℕ). l ++ ready) e }
 
 -- a front of the greeting was written
-pub wrote_greeting : (a b : Option (List ℕ)) (greeting ready : List ℕ) (role : Role) → greeting ≡ written_greeting → IsReadyOf ready role → ToldFront a b greeting → WroteFront a b role
+pub wrote_greeting : (a b : Option (List ℕ)) (greeting ready : List ℕ) (role : Role)
+    → greeting ≡ written_greeting → IsReadyOf ready role → ToldFront a b greeting → WroteFront a b role
 wrote_greeting a b greeting ready role e r f = record {
   handshake = greeting ++ ready;
   is = spelled greeting ready role e r;
@@ -37,11 +41,15 @@ wrote_greeting a b greeting ready role e r f = record {
 }
 
 -- the greeting was written whole
-pub wrote_greeting_whole : (a b : Option (List ℕ)) (greeting ready : List ℕ) (role : Role) → greeting ≡ written_greeting → IsReadyOf ready role → Told a b greeting → WroteFront a b role
-wrote_greeting_whole a b greeting ready role e r o = wrote_greeting a b greeting ready role e r (front_all a b greeting o)
+pub wrote_greeting_whole : (a b : Option (List ℕ)) (greeting ready : List ℕ) (role : Role)
+    → greeting ≡ written_greeting → IsReadyOf ready role → Told a b greeting → WroteFront a b role
+wrote_greeting_whole a b greeting ready role e r o =
+    wrote_greeting a b greeting ready role e r (front_all a b greeting o)
 
 -- and then a front of READY
-pub wrote_ready : (a b c : Option (List ℕ)) (greeting ready : List ℕ) (role : Role) → greeting ≡ written_greeting → IsReadyOf ready role → Told a b greeting → ToldFront b c ready → WroteFront a c role
+pub wrote_ready : (a b c : Option (List ℕ)) (greeting ready : List ℕ) (role : Role)
+    → greeting ≡ written_greeting → IsReadyOf ready role → Told a b greeting → ToldFront b c ready
+    → WroteFront a c role
 wrote_ready a b c greeting ready role e r o f = record {
   handshake = greeting ++ ready;
   is = spelled greeting ready role e r;
@@ -49,12 +57,17 @@ wrote_ready a b c greeting ready role e r o f = record {
 }
 
 -- and then READY whole
-pub wrote_whole : (a b c : Option (List ℕ)) (greeting ready : List ℕ) (role : Role) → greeting ≡ written_greeting → IsReadyOf ready role → Told a b greeting → Told b c ready → WroteWhole a c role
+pub wrote_whole : (a b c : Option (List ℕ)) (greeting ready : List ℕ) (role : Role)
+    → greeting ≡ written_greeting → IsReadyOf ready role → Told a b greeting → Told b c ready
+    → WroteWhole a c role
 wrote_whole a b c greeting ready role e r o p = record {
   handshake = greeting ++ ready;
   is = spelled greeting ready role e r;
   told = told_on a b c greeting ready o p;
 }
 
-pub wrote_ready_whole : (a b c : Option (List ℕ)) (greeting ready : List ℕ) (role : Role) → greeting ≡ written_greeting → IsReadyOf ready role → Told a b greeting → Told b c ready → WroteFront a c role
-wrote_ready_whole a b c greeting ready role e r o p = wrote_ready a b c greeting ready role e r o (front_all b c ready p)
+pub wrote_ready_whole : (a b c : Option (List ℕ)) (greeting ready : List ℕ) (role : Role)
+    → greeting ≡ written_greeting → IsReadyOf ready role → Told a b greeting → Told b c ready
+    → WroteFront a c role
+wrote_ready_whole a b c greeting ready role e r o p =
+    wrote_ready a b c greeting ready role e r o (front_all b c ready p)

@@ -43,26 +43,20 @@ pub record Ends (role : Role) (given given' : Option (List ℕ)) (failed : Bool)
 -- the fault came from reading
 abbrev pub EndsReading : PeerFault → Type 0
 EndsReading OutOfMemory = ⊥
-EndsReading PeerEnded = Unit {0}
-EndsReading ReadFailed = Unit {0}
 EndsReading WriteFailed = ⊥
-EndsReading (Wire cause) = Unit {0}
+EndsReading _ = Unit {0}
 
 -- the reader ended or failed, as the fault says
 abbrev pub Stops : PeerFault → Bool → Bool → Type 0
-Stops OutOfMemory ended failed = ⊥
 Stops PeerEnded ended failed = (ended ≡ true) × (failed ≡ false)
 Stops ReadFailed ended failed = (ended ≡ false) × (failed ≡ true)
-Stops WriteFailed ended failed = ⊥
-Stops (Wire cause) ended failed = ⊥
+Stops _ ended failed = ⊥
 
 -- memory was wanting, or the writer failed, as the fault says
 abbrev pub Refuses : PeerFault → Bool → Type 0
 Refuses OutOfMemory refused = refused ≡ false
-Refuses PeerEnded refused = ⊥
-Refuses ReadFailed refused = ⊥
 Refuses WriteFailed refused = refused ≡ true
-Refuses (Wire cause) refused = ⊥
+Refuses _ refused = ⊥
 
 -- a handshake ended without a peer: where the fault came from reading, READY wasn't accepted
 pub record NoPeer (role : Role) (given given' : Option (List ℕ)) (failed : Bool) (fault : PeerFault)

@@ -58,7 +58,8 @@ fn echo_piece<W: Outlet>(
     requires { W.failed to.old ≡ false }
     ensures ok { OnOk result (EchoedPiece piece.now side.old side.new (W.taken to.old) (W.taken to.new)) }
     ensures good { OnOk result (W.failed to.new ≡ false) }
-    ensures err { IfErr result (λ fault. LostPiece piece.now side.old side.new (W.taken to.old) (W.taken to.new) false fault) }
+    ensures err { IfErr result (λ fault. LostPiece piece.now side.old side.new (W.taken to.old)
+        (W.taken to.new) false fault) }
     ensures blames { IfErr result (λ fault. Blames fault false false (W.failed to.new)) }
 {
     let Ok(Fed { messages, broken }) = feed(alloc, side, piece) else {
@@ -84,12 +85,14 @@ fn beat<I: Inlet, W: Outlet>(
     requires ended { I.ended from.old ≡ false }
     requires failed { I.failed from.old ≡ false }
     requires refused { W.failed to.old ≡ false }
-    ensures ok { OnOk result (EchoedRound (I.given from.old) (I.given from.new) side.old side.new (W.taken to.old) (W.taken to.new)) }
+    ensures ok { OnOk result (EchoedRound (I.given from.old) (I.given from.new) side.old side.new
+        (W.taken to.old) (W.taken to.new)) }
     ensures good { OnOk result ((I.ended from.new ≡ false) × (I.failed from.new ≡ false)
         × (W.failed to.new ≡ false)) }
     ensures blames { IfErr result (λ fault.
         Blames fault (I.ended from.new) (I.failed from.new) (W.failed to.new)) }
-    ensures lost { IfErr result (λ fault. LostRound (I.given from.old) (I.given from.new) side.old side.new (W.taken to.old) (W.taken to.new) (I.failed from.new) fault) }
+    ensures lost { IfErr result (λ fault. LostRound (I.given from.old) (I.given from.new) side.old side.new
+        (W.taken to.old) (W.taken to.new) (I.failed from.new) fault) }
 {
     let mut buffer = [0u8; PIECE_SIZE];
     match read_piece(from, &mut buffer) {

@@ -6,7 +6,9 @@ ghost use Rattle.kern_exec.specs.Executions.{ended};
 ghost use Rattle.kern_exec.specs.Ends.{error_letters};
 ghost use Rattle.kern_exec.specs.Kits.{IsAround};
 ghost use Rattle.kern_exec.specs.Boards.{is_run};
-ghost use Rattle.kern_core.specs.Asks.{reply_to, replying, full_letters, executing, cut_kit_of, cut_letters, interrupting, shutting, typing, closing, passing, unanswered, other, arriving, with_board, cut_work};
+ghost use Rattle.kern_core.specs.Asks.{reply_to, replying, full_letters, executing, cut_kit_of, cut_letters};
+ghost use Rattle.kern_core.specs.Asks.{interrupting, shutting, typing, closing, passing, unanswered, other};
+ghost use Rattle.kern_core.specs.Asks.{arriving, with_board, cut_work};
 ghost use Rattle.lab_core.specs.Events.{reset as reset_of};
 ghost use Rattle.kern_core.specs.Sessions.{Session as SessionOf, after, posting};
 ghost use Rattle.kern_core.specs.Stands.{StandsFor, Takes, HasRoom, Grows};
@@ -311,7 +313,8 @@ impl Session {
         content: Content,
     ) -> Result<Letters, AllocError>
         ensures { (s : SessionOf) → StandsFor self.now s → IfOk result (λ letters.
-            letters ≡ around_of s.present request.now.header (cut_letters cause s ++ reply_to connection request.now content ∷ [])) }
+            letters ≡ around_of s.present request.now.header
+            (cut_letters cause s ++ reply_to connection request.now content ∷ [])) }
     {
         let reply = self.reply_to(connection, request, content)?;
         match self.cut_frame(&request.header) {

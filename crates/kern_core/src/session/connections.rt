@@ -1,7 +1,8 @@
 //! Joining, leaving, subscribing and fetching.
 ghost use Rattle.std.specs.Prelude.{◌≡◌, ◌==◌, IfOk, codes};
 ghost use Rattle.std.specs.List.{starts_with};
-ghost use Rattle.kern_core.specs.Connections.{joined, left, subscribing, new_subscription, fetching, fetched, status_to, first_status, is_busy, state_of};
+ghost use Rattle.kern_core.specs.Connections.{joined, left, subscribing, new_subscription, fetching, fetched};
+ghost use Rattle.kern_core.specs.Connections.{status_to, first_status, is_busy, state_of};
 ghost use Rattle.kern_peers.specs.Present.{same_channel};
 ghost use Rattle.kern_core.specs.Stands.{StandsFor, Makes, Takes, HasRoom};
 ghost use Rattle.kern_core.specs.Sessions.{Session as SessionOf};

@@ -1,5 +1,6 @@
 //! Requests of a debugger.
-ghost use Rattle.std.specs.Prelude.{◌≡◌, ◌<◌, ◌≤◌, ◌+◌, ◌++◌, length, true, false, option_to_list, None, Err, IfOk, IsOk, IsErr, IsTrue, codes};
+ghost use Rattle.std.specs.Prelude.{◌≡◌, ◌<◌, ◌≤◌, ◌+◌, ◌++◌, length, true, false, option_to_list, None, Err};
+ghost use Rattle.std.specs.Prelude.{IfOk, IsOk, IsErr, IsTrue, codes};
 ghost use Rattle.dap_talk.specs.Table.{IsBounded};
 ghost use Rattle.kern_debug.specs.Names.{event_after};
 ghost use Rattle.kern_core.specs.Asks.{is_reset, after_letter, is_bounded, refusing, performing, debugging};
@@ -218,7 +219,8 @@ impl Session {
         moment: u64,
     ) -> Result<Reply, KernFault>
         requires { HasRoom self.old }
-        ensures { Takes (refusing connection request.now debug.now (codes "Arguments") moment) self.old result self.new }
+        ensures { Takes (refusing connection request.now debug.now (codes "Arguments") moment)
+            self.old result self.new }
     {
         let message = Text::copy_of(self.alloc, "Arguments")?;
         let kit = self.debug_kit(connection, request, debug)?;

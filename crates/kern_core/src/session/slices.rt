@@ -8,7 +8,8 @@ ghost use Rattle.kern_exec.specs.declared.execution.Execution.{Execution};
 ghost use Rattle.kern_exec.specs.Executions.{taken};
 ghost use Rattle.kern_exec.specs.Ends.{loading_letters as loading_letters_of};
 ghost use Rattle.kern_exec.specs.Kits.{IsLoadingKit};
-ghost use Rattle.kern_core.specs.Slices.{letters_of as slice_letters_of, work_after, reply_of, running, beginning, by_start, loading, slicing};
+ghost use Rattle.kern_core.specs.Slices.{letters_of as slice_letters_of, work_after, reply_of, running};
+ghost use Rattle.kern_core.specs.Slices.{beginning, by_start, loading, slicing};
 ghost use Rattle.kern_core.specs.Running.{IsKitOf};
 ghost use Rattle.kern_core.specs.Sessions.{Session as SessionOf};
 ghost use Rattle.kern_core.specs.Stands.{StandsFor, Stands, Takes, TakesWhere, HasRoom};
@@ -86,7 +87,8 @@ impl Session {
         requires room { HasRoom self.old }
         requires few { length kit.letters ≤ 2 }
         requires some { 0 < length self.old.work.queue }
-        ensures posts { (c : Current) → IsLoadingKit self.old.present c kit → (posts : List Post) → Keeps posts self.old.store
+        ensures posts { (c : Current) → IsLoadingKit self.old.present c kit → (posts : List Post)
+            → Keeps posts self.old.store
             → Keeps (posted moment (loading_letters_of self.old.present c loading) posts) self.new.store }
         ensures rest { self.new ≡ record self.old { work = self.new.work; store = self.new.store } }
         ensures work { (x : Execution) (rest : List Execution) → self.old.work.queue ≡ x ∷ rest
@@ -139,7 +141,8 @@ impl Session {
         requires text { IfSome kit (λ k. length traffic.now ≤ vec_capacity k.text) }
         requires empty { IfSome kit (λ k. (k.text.items ≡ []) × (k.letters ≡ [])) }
         ensures posts { (s : SessionOf) → IsKitOf s.present s.work.current kit → Keeps s.posts self.old.store
-            → Keeps (posted moment (slice_letters_of s.present s.work.current traffic.now outcome) s.posts) self.new.store }
+            → Keeps (posted moment (slice_letters_of s.present s.work.current traffic.now outcome) s.posts)
+            self.new.store }
         ensures rest { self.new ≡ record self.old { store = self.new.store } }
         ensures made { self.new.store.made ≤ self.old.store.made + 8 }
     {

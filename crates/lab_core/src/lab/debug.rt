@@ -109,7 +109,8 @@ impl Lab {
     ) -> Result<Answer, EventFault>
         ensures applied { AppliesTo self.old (Event.SetBreakpoints path.now lines.now) result self.new }
         ensures err { OnErr result (self.new ≡ self.old) }
-        ensures memory { result ≡ Err EventFault.OutOfMemory → MayLackMemory (Event.SetBreakpoints path.now lines.now) self.old }
+        ensures memory { result ≡ Err EventFault.OutOfMemory
+            → MayLackMemory (Event.SetBreakpoints path.now lines.now) self.old }
     {
         match self.sources.find(path) {
             None => Err(EventFault::NoSource),

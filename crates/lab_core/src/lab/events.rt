@@ -1,5 +1,6 @@
 //! The events of a board, one by one and in turn.
-ghost use Rattle.std.specs.Prelude.{◌≡◌, ◌<◌, ◌≤◌, ℕ, [], List, All, length, take, slice_get, false, None, OnErr, IfOk, IfErr, IfSome, IsTrue, ◌↔◌, Err};
+ghost use Rattle.std.specs.Prelude.{◌≡◌, ◌<◌, ◌≤◌, ℕ, [], List, All, length, take, slice_get, false, None};
+ghost use Rattle.std.specs.Prelude.{OnErr, IfOk, IfErr, IfSome, IsTrue, ◌↔◌, Err};
 ghost use Rattle.lab_core.specs.Board.{Board};
 ghost use Rattle.lab_core.specs.Events.{Runs, Fits, ended};
 ghost use Rattle.lab_core.specs.Memory.{MayLackMemory};

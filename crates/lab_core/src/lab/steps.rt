@@ -112,7 +112,8 @@ impl Context {
     fn follow(&mut self, answer: Stepped, sp: u16, left: usize)
         ensures rest { self.new ≡ record self.old { older = self.new.older; is_gone = self.new.is_gone } }
         ensures older { IsSome self.old.request → self.new.older ≡ min self.old.older left }
-        ensures gone { IsSome self.old.request → self.new.is_gone ≡ is_gone_after self.old.is_gone self.old.innermost answer sp }
+        ensures gone { IsSome self.old.request
+            → self.new.is_gone ≡ is_gone_after self.old.is_gone self.old.innermost answer sp }
     {
         if self.request.is_some() {
             self.older = self.older.min(left);

@@ -2,7 +2,8 @@
 ghost use Rattle.std.specs.Prelude.{◌≡◌, ◌&&◌, if◌then◌else◌, Some, None, IsSome, is_none};
 ghost use Rattle.std.specs.Option.{option_or};
 ghost use Rattle.i80_exec.specs.State.{MachineState};
-ghost use Rattle.lab_core.specs.Stops.{at_breakpoint, meets_breakpoint, complete, completes, is_reached, is_done, is_first, is_there, since, earlier};
+ghost use Rattle.lab_core.specs.Stops.{at_breakpoint, meets_breakpoint, complete, completes, is_reached};
+ghost use Rattle.lab_core.specs.Stops.{is_done, is_first, is_there, since, earlier};
 ghost use Rattle.lab_core.specs.Slices.{is_off, is_on, halted, waiting, early_reason};
 ghost use Rattle.lab_core.specs.Labs.{FindsIn, Watches};
 
@@ -136,7 +137,8 @@ impl Context {
 
     fn is_done(&self, kind: StepKind) -> bool
         requires { IsSome self.now.request }
-        ensures { (machine : MachineState) → FindsIn (λ b. is_done kind (earlier b) (since b)) result machine self.now }
+        ensures { (machine : MachineState)
+            → FindsIn (λ b. is_done kind (earlier b) (since b)) result machine self.now }
     {
         match kind {
             StepKind::In => true,

@@ -11,7 +11,8 @@ returns-in_err-read g c =
     let p = err_from_is_err_and c.from_residual.result c.from_residual.ensures.1 in
     let left = rw (c.in-Some.is, c.next_operand.ensures.operands) at c.loop-left.invariant in
     rw (p.1, p.2) (each_fails _ (g.T.Listed.reading c.args.column) c.loop-left.list.items _ _
-    (each_of (g.T.Listed.reading c.args.column) (operands_of (pieces_of c.args.tokens.now))) c.in_err-read.ensures
+    (each_of (g.T.Listed.reading c.args.column) (operands_of (pieces_of c.args.tokens.now)))
+    c.in_err-read.ensures
     left)
 
 pub loop-left-preserved : goal.loop-left-preserved
@@ -24,4 +25,5 @@ loop-left-preserved g c =
 pub returns : goal.returns
 returns g c =
     let left = rw c.in_default.is at c.loop-left.invariant in
-    sym left ∙ each_done (g.T.Listed.reading c.args.column) c.loop-left.list.items ∙ ap Ok (sym c.from.ensures)
+    sym left ∙ each_done (g.T.Listed.reading c.args.column) c.loop-left.list.items
+    ∙ ap Ok (sym c.from.ensures)

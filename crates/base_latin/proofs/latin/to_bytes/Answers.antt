@@ -10,5 +10,7 @@ pub returns : goal.returns
 unfolding latin_bytes
 returns c =
     let taken = YieldsList-end
-    (YieldsList-from_chars c.args.text.now c.utf8.text cc) c.loop-character.yielded _ c.loop-character.yielded_by _ _ c.in-None.is c.next.ensures.steps in
-    c.from.ensures ∙ c.loop-character.invariant ∙ ap (map latin_byte) (sym (map-id c.loop-character.yielded) ∙ taken.0)
+    (YieldsList-from_chars c.args.text.now c.utf8.text cc) c.loop-character.yielded _
+    c.loop-character.yielded_by _ _ c.in-None.is c.next.ensures.steps in
+    c.from.ensures ∙ c.loop-character.invariant ∙ ap (map latin_byte)
+    (sym (map-id c.loop-character.yielded) ∙ taken.0)

@@ -10,4 +10,5 @@ returns-in-Ok-clause-value c =
 pub returns-in-Err-2-clause-fault : goal.returns-in-Err-2-clause-fault
 returns-in-Err-2-clause-fault c =
     ap json_of (sym c.as_slice.ensures)
-    ∙ json_of-refused _ (c.in-Err.ensures.err (λ memory. let contrary : false ≡ true = c.if-is_memory.ensures.1 memory in cc))
+    ∙ json_of-refused _ (c.in-Err.ensures.err (λ memory. let contrary : false ≡ true =
+    c.if-is_memory.ensures.1 memory in cc))

@@ -9,6 +9,8 @@ returns c =
     let bytes : c.from.result ≡ string_bytes c.in_ok-text.text =
     c.from.ensures ∙ ap (λ v. v.items) c.into_bytes.ensures.value in
     rw bytes (record {
-      reads = λ within. json_of-utf8 _ (IsUtf8-string_bytes c.in_ok-text.text) ∙ c.in_ok-text.ensures.reads_back within;
+      reads =
+          λ within. json_of-utf8 _ (IsUtf8-string_bytes c.in_ok-text.text)
+          ∙ c.in_ok-text.ensures.reads_back within;
       compact = c.in_ok-text.ensures.text;
     })

@@ -3,4 +3,5 @@ use Rattle.jup_wire.proofs.signature.padded.Given as goal
 
 abbrev pub invariant-loop-byte : goal.invariant-loop-byte
 invariant-loop-byte l =
-    l.byte-items ≡ map (λ byte. bit_xor byte l.pad) (take l.byte-index l.fn.block) ++ drop l.byte-index l.fn.block
+    l.byte-items ≡ map (λ byte. bit_xor byte l.pad) (take l.byte-index l.fn.block)
+    ++ drop l.byte-index l.fn.block

@@ -11,6 +11,7 @@ loop-i-preserved c = record {
 
 pub returns : goal.returns
 returns c = (
-  λ h. ext_get_or 0 _ _ c.if-a-b.false (λ k below. c.loop-i.invariant.same (search (rules, h)) k (omega arith)),
+  λ h. ext_get_or 0 _ _ c.if-a-b.false (λ k below. c.loop-i.invariant.same (search (rules, h)) k
+      (omega arith)),
   λ e. let none : c.loop-i.difference ≡ 0 = c.loop-i.invariant.none e in rw none (search rules),
 )

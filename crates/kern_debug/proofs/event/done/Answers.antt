@@ -3,9 +3,15 @@ use Rattle.kern_debug.proofs.EventLemmas.{does_with}
 use Rattle.kern_debug.proofs.event.done.Goals as goal
 
 pub returns-in-Ok : goal.returns-in-Ok
-returns-in-Ok c =
-    (does_with (λ _. c.args.body) c.args.event.now c.args.lab.now c.apply.new.self (Ok c.in-Ok.field-0) c.in-Ok.ensures.given, tt)
+returns-in-Ok c = (
+  does_with (λ _. c.args.body) c.args.event.now c.args.lab.now c.apply.new.self (Ok c.in-Ok.field-0)
+      c.in-Ok.ensures.given,
+  tt,
+)
 
 pub returns-in-Err : goal.returns-in-Err
-returns-in-Err c =
-    (does_with (λ _. c.args.body) c.args.event.now c.args.lab.now c.apply.new.self (Err c.in-Err.fault) c.in-Err.ensures.given, c.in-Err.ensures.err)
+returns-in-Err c = (
+  does_with (λ _. c.args.body) c.args.event.now c.args.lab.now c.apply.new.self (Err c.in-Err.fault)
+      c.in-Err.ensures.given,
+  c.in-Err.ensures.err,
+)

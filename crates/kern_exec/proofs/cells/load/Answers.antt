@@ -13,7 +13,9 @@ returns-in-Ok-clause-loaded c = λ b stands.
     let new = c.ask.new.lab in
     let P : Event → Type 0 = λ e. Does (given e) old (ok c.in-Ok.answer) new in
     let g = subst P c.in_ok-event.ensures c.in-Ok.ensures.given in
-    let l = loaded_so old new (event.Load (cell_path c.args.code.now) c.args.code.now) c.in-Ok.answer g b stands in
+    let l =
+    loaded_so old new (event.Load (cell_path c.args.code.now) c.args.code.now) c.in-Ok.answer g b
+    stands in
     (c.loading_by.ensures ∙ l.0, l.1)
 
 pub returns-in_ok-loading-in-Err-clause-loaded : goal.returns-in_ok-loading-in-Err-clause-loaded
@@ -23,5 +25,7 @@ returns-in_ok-loading-in-Err-clause-loaded c = λ b stands.
     let P : Event → Type 0 = λ e. Does (given e) old (err c.in-Err.fault) new in
     let g = subst P c.in_ok-event.ensures c.in-Err.ensures.given in
     let refused = c.in_ok-loading-in-Err.ensures in
-    let l = refused_so old new (event.Load (cell_path c.args.code.now) c.args.code.now) c.in-Err.fault g refused.other b stands in
+    let l =
+    refused_so old new (event.Load (cell_path c.args.code.now) c.args.code.now) c.in-Err.fault g
+    refused.other b stands in
     (refused.ended ∙ l.0, l.1)

@@ -13,7 +13,9 @@ loop-operation-preserved c =
     let d : PortOperation = In 0 0 in
     let x : PortOperation = get_or c.args.traffic.now i d in
     record {
-      printed_so_far = c.push_printed.ensures.items ∙ (ap (λ xs. xs ++ filter_map printed (x ∷ [])) inv.printed_so_far ∙ sym (printed_more c.args.traffic.now i d c.loop-operation-test.true));
+      printed_so_far =
+          c.push_printed.ensures.items ∙ (ap (λ xs. xs ++ filter_map printed (x ∷ [])) inv.printed_so_far
+          ∙ sym (printed_more c.args.traffic.now i d c.loop-operation-test.true));
       len = let l = inv.len in let m = c.push_printed.ensures.len in omega arith;
       room = search (rules, inv.room, c.push_printed.ensures.capacity);
     }

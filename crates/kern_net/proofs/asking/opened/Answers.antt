@@ -5,4 +5,5 @@ use Rattle.kern_net.proofs.asking.opened.Goals as goal
 
 pub returns-else-eq-clause-none : goal.returns-else-eq-clause-none
 returns-else-eq-clause-none c =
-    refused_message _ _ _ (λ e. let same = rw e at c.eq.ensures in false≢true (sym c.if-eq.false ∙ same)) c.in-Err.ensures.only
+    refused_message _ _ _ (λ e. let same = rw e at c.eq.ensures in false≢true (sym c.if-eq.false ∙ same))
+    c.in-Err.ensures.only

@@ -8,5 +8,6 @@ invariant-loop-frames g l = record {
   own : l.pass.turnstile ≡ l.desk;
   seat : l.pass.seat ≡ l.fn.pass.seat;
   gate : g.G.Gate.asked l.gate ≡ g.G.Gate.asked l.fn.gate;
-  coming : Coming l.place.key.now l.place.channel l.place.connection l.fn.messages l.frames-iterator.rest.items l.fn.pass.calls l.pass.calls;
+  coming : Coming l.place.key.now l.place.channel l.place.connection l.fn.messages
+      l.frames-iterator.rest.items l.fn.pass.calls l.pass.calls;
 }

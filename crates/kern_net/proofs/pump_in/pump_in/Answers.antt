@@ -22,7 +22,8 @@ loop-reads-preserved g c =
       read =
           under_way_on _ _ _ _ _ _ _ _ _ _ _ _ _ _ _ c.loop-reads.invariant.read c.in-Ok-read.ensures.given
           c.in-Ok-take_piece-2.ensures.asked
-          (gives_some c.in-Ok-read.count c.read.new.buffer c.in-Ok-read.count-test.1 c.in-Ok-read.ensures.count);
+          (gives_some c.in-Ok-read.count c.read.new.buffer c.in-Ok-read.count-test.1
+          c.in-Ok-read.ensures.count);
     }
 
 pub returns-clause-read : goal.returns-clause-read

@@ -9,5 +9,6 @@ invariant-loop-reads g l = record {
   gate : g.G.Gate.asked l.gate ≡ g.G.Gate.asked l.fn.gate;
   ended : g.I.Inlet.ended l.from ≡ false;
   failed : g.I.Inlet.failed l.from ≡ false;
-  read : UnderWay l.place.key.now l.place.channel l.place.connection l.fn.peer.side l.side l.fn.peer.messages (g.I.Inlet.given l.fn.from) (g.I.Inlet.given l.from) l.reads l.fn.pass.calls l.pass.calls;
+  read : UnderWay l.place.key.now l.place.channel l.place.connection l.fn.peer.side l.side l.fn.peer.messages
+      (g.I.Inlet.given l.fn.from) (g.I.Inlet.given l.from) l.reads l.fn.pass.calls l.pass.calls;
 }

@@ -1,5 +1,7 @@
 use Rattle.std.proofs.Common.{refl, ◌∙◌, inl, arith}
-use Rattle.kern_net.proofs.OutLemmas.{written_first, fetching_none, halted, halted_ends, halted_calls, went_on, went_reaches, went_round, went_longer, went_done, went_over, said_yes}
+use Rattle.kern_net.proofs.OutLemmas.{written_first, fetching_none, halted, halted_ends, halted_calls}
+use Rattle.kern_net.proofs.OutLemmas.{went_on, went_reaches, went_round, went_longer, went_done, went_over}
+use Rattle.kern_net.proofs.OutLemmas.{said_yes}
 use Rattle.kern_net.proofs.pump_out.pump_out.Goals as goal
 
 pub loop-init : goal.loop-init
@@ -16,7 +18,9 @@ loop-init g c = record {
 }
 
 pub returns-in-Err-clause-wrote : goal.returns-in-Err-clause-wrote
-returns-in-Err-clause-wrote g c = let i = c.loop.invariant in halted _ _ _ _ _ _ _ _ _ _ _ i.written i.reaches i.fetching _ _ c.in-Err.ensures.err
+returns-in-Err-clause-wrote g c =
+    let i = c.loop.invariant in
+    halted _ _ _ _ _ _ _ _ _ _ _ i.written i.reaches i.fetching _ _ c.in-Err.ensures.err
 
 pub returns-in-Err-clause-idle : goal.returns-in-Err-clause-idle
 returns-in-Err-clause-idle g c =
@@ -25,16 +29,21 @@ returns-in-Err-clause-idle g c =
     omega (arith, a, h)
 
 pub returns-in-Err-clause-ends : goal.returns-in-Err-clause-ends
-returns-in-Err-clause-ends g c = halted_ends _ _ _ _ _ _ _ _ _ (g.G.Gate.asked c.loop.gate) _ c.loop.invariant.gate c.in-Err.ensures.err
+returns-in-Err-clause-ends g c =
+    halted_ends _ _ _ _ _ _ _ _ _ (g.G.Gate.asked c.loop.gate) _ c.loop.invariant.gate c.in-Err.ensures.err
 
 pub returns-then-ended-clause-wrote : goal.returns-then-ended-clause-wrote
-returns-then-ended-clause-wrote g c = let i = c.loop.invariant in went_done _ _ _ _ _ _ _ _ _ _ _ _ _ _ i.written i.fetching c.in-Ok.ensures.ok
+returns-then-ended-clause-wrote g c =
+    let i = c.loop.invariant in went_done _ _ _ _ _ _ _ _ _ _ _ _ _ _ i.written i.fetching c.in-Ok.ensures.ok
 
 pub returns-then-ended-clause-ends : goal.returns-then-ended-clause-ends
-returns-then-ended-clause-ends g c = went_over _ _ _ _ _ _ _ _ _ _ _ (g.G.Gate.asked c.loop.gate) c.loop.invariant.gate c.in-Ok.ensures.good c.if-ended.true c.if-after-next.true c.in-Ok.ensures.ok
+returns-then-ended-clause-ends g c =
+    went_over _ _ _ _ _ _ _ _ _ _ _ (g.G.Gate.asked c.loop.gate) c.loop.invariant.gate c.in-Ok.ensures.good
+    c.if-ended.true c.if-after-next.true c.in-Ok.ensures.ok
 
 pub returns-then-not-idle-clause-wrote : goal.returns-then-not-idle-clause-wrote
-returns-then-not-idle-clause-wrote g c = let i = c.loop.invariant in went_done _ _ _ _ _ _ _ _ _ _ _ _ _ _ i.written i.fetching c.in-Ok.ensures.ok
+returns-then-not-idle-clause-wrote g c =
+    let i = c.loop.invariant in went_done _ _ _ _ _ _ _ _ _ _ _ _ _ _ i.written i.fetching c.in-Ok.ensures.ok
 
 pub loop-preserved-else-not-idle : goal.loop-preserved-else-not-idle
 loop-preserved-else-not-idle g c =

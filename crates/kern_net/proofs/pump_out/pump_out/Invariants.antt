@@ -10,9 +10,11 @@ invariant-loop g l = record {
   seat : l.pass.seat ≡ l.fn.pass.seat;
   good : g.W.Outlet.failed l.to ≡ false;
   gate : IsOpen (g.G.Gate.asked l.gate);
-  written : Written l.line.key.now l.line.session.now l.line.connection (g.W.Outlet.taken l.fn.to) (g.W.Outlet.taken l.to) l.from l.next l.pass.seen;
+  written : Written l.line.key.now l.line.session.now l.line.connection (g.W.Outlet.taken l.fn.to)
+      (g.W.Outlet.taken l.to) l.from l.next l.pass.seen;
   reaches : Reaches l.line.connection l.fn.pass l.pass l.from l.next;
   fetching : Fetching l.line.connection l.fn.pass.calls l.pass.calls;
-  asked : idles (g.G.Gate.asked l.gate) + length l.fn.pass.calls ≤ idles (g.G.Gate.asked l.fn.gate) + length l.pass.calls;
+  asked : idles (g.G.Gate.asked l.gate) + length l.fn.pass.calls ≤ idles (g.G.Gate.asked l.fn.gate)
+      + length l.pass.calls;
   before : SameBefore (g.G.Gate.asked l.fn.gate) (g.G.Gate.asked l.gate);
 }

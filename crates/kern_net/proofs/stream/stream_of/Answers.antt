@@ -10,6 +10,7 @@ loop-post-init c =
 
 pub loop-post-preserved : goal.loop-post-preserved
 loop-post-preserved c =
-    stream_more c.args.key.now c.args.session.now c.args.posts.now c.loop-post.post-index c.post-item.result c.loop-post.out.items c.extend_from_slice.new.self.items
+    stream_more c.args.key.now c.args.session.now c.args.posts.now c.loop-post.post-index c.post-item.result
+    c.loop-post.out.items c.extend_from_slice.new.self.items
     c.in_ok-message.message c.loop-post-test.true c.post-item.is c.loop-post.invariant c.in_ok-message.ensures
     (c.in_ok-extend_from_slice.ensures.items ∙ ap (λ l. c.loop-post.out.items ++ l) c.as_slice.ensures)

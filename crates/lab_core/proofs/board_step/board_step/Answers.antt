@@ -8,4 +8,6 @@ returns-in-None-clause-step c = λ past stands.
     let machine = c.in-None.ensures.unchanged.0 in
     let devices = c.in-None.ensures.unchanged.1 in
     let kept : StandsFor c.accept.new.devices past = ap (λ (d : DeviceState). d.panel) devices ∙ stands in
-    rw (← machine, ← devices) (by_instruction c.panel_after_one_more.ensures past c.accept.new.machine c.step.new.self c.accept.new.devices c.step.new.ports c.step.result (rw machine (c.in-None.ensures.none past stands)) kept c.step.ensures.0 c.step.ensures.1)
+    rw (← machine, ← devices) (by_instruction c.panel_after_one_more.ensures past c.accept.new.machine
+    c.step.new.self c.accept.new.devices c.step.new.ports c.step.result
+    (rw machine (c.in-None.ensures.none past stands)) kept c.step.ensures.0 c.step.ensures.1)

@@ -6,6 +6,7 @@ use Rattle.lab_engines.proofs.image.push_bytes.Given as goal
 abbrev pub invariant-loop-cell : goal.invariant-loop-cell
 invariant-loop-cell l = record {
   index : l.count ≡ l.cell-index;
-  text : string_bytes l.text ++ spaced (leading (drop l.cell-index l.cells)) ≡ string_bytes l.fn.text ++ spaced (leading l.cells);
+  text : string_bytes l.text ++ spaced (leading (drop l.cell-index l.cells)) ≡ string_bytes l.fn.text
+      ++ spaced (leading l.cells);
   count : l.count + length (leading (drop l.cell-index l.cells)) ≡ length (leading l.cells);
 }

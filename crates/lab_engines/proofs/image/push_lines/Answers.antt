@@ -7,4 +7,6 @@ loop-address-preserved c =
     c.split_at.ensures.back c.in_ok-printed.ensures c.loop-address.invariant
 
 pub returns : goal.returns
-returns c = lines_done _ _ c.loop-address.address c.loop-address.printed c.args.cells.now c.loop-address-test.false c.loop-address.invariant
+returns c =
+    lines_done _ _ c.loop-address.address c.loop-address.printed c.args.cells.now c.loop-address-test.false
+    c.loop-address.invariant

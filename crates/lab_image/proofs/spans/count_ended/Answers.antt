@@ -6,7 +6,9 @@ pub loop-low-preserved-then-spans-middle : goal.loop-low-preserved-then-spans-mi
 loop-low-preserved-then-spans-middle c = record {
   order = omega arith;
   within = c.loop-low.invariant.within;
-  ended = ended_to 0 65536 c.args.spans.now (c.loop-low.low + (c.loop-low.high - c.loop-low.low) / 2) c.args.address c.requires (omega arith) c.if-spans-middle.true;
+  ended =
+      ended_to 0 65536 c.args.spans.now (c.loop-low.low + (c.loop-low.high - c.loop-low.low) / 2)
+      c.args.address c.requires (omega arith) c.if-spans-middle.true;
   beyond = c.loop-low.invariant.beyond;
 }
 
@@ -15,5 +17,7 @@ loop-low-preserved c = record {
   order = omega arith;
   within = omega arith;
   ended = c.loop-low.invariant.ended;
-  beyond = beyond_from 0 65536 c.args.spans.now (c.loop-low.low + (c.loop-low.high - c.loop-low.low) / 2) c.args.address c.requires c.if-spans-middle.false;
+  beyond =
+      beyond_from 0 65536 c.args.spans.now (c.loop-low.low + (c.loop-low.high - c.loop-low.low) / 2)
+      c.args.address c.requires c.if-spans-middle.false;
 }

@@ -6,4 +6,5 @@ pub returns-then-count_ended-len : goal.returns-then-count_ended-len
 returns-then-count_ended-len c =
     let ends = rw c.deref.ensures.value at c.count_ended.ensures in
     c.in_ok-push.ensures.items
-    ∙ sym (overlay_last c.args.spans.now.items c.args.span c.count_ended.result c.requires.sorted c.requires.order ends (omega arith))
+    ∙ sym (overlay_last c.args.spans.now.items c.args.span c.count_ended.result c.requires.sorted
+    c.requires.order ends (omega arith))

@@ -15,26 +15,43 @@ pub loop-preserved : goal.loop-preserved
 loop-preserved g c = record {
   ended = c.in-Ok-refill.ensures.good.0;
   failed = c.in-Ok-refill.ensures.good.1;
-  waiting = λ before h. waiting_on _ before _ _ c.loop.subscriber _ c.refill.new.subscriber c.loop.counter c.in-Ok.found c.if-found.false c.in-Ok.ensures.passes refl refl c.in-Ok-refill.ensures.holds (c.loop.invariant.waiting before h);
+  waiting =
+      λ before h. waiting_on _ before _ _ c.loop.subscriber _ c.refill.new.subscriber c.loop.counter
+      c.in-Ok.found c.if-found.false c.in-Ok.ensures.passes refl refl c.in-Ok-refill.ensures.holds
+      (c.loop.invariant.waiting before h);
 }
 
 pub returns-then-found-clause-waited : goal.returns-then-found-clause-waited
 returns-then-found-clause-waited g c = λ before h.
-    let new : Subscriber = record { side = c.loop.subscriber.side; queue = c.pass_status.new.queue; broken = c.loop.subscriber.broken } in
-    waited _ before _ c.loop.subscriber new c.loop.counter c.in-Ok.found c.if-found.true c.in-Ok.ensures.passes refl refl (c.loop.invariant.waiting before h)
+    let new : Subscriber =
+    record {
+      side = c.loop.subscriber.side;
+      queue = c.pass_status.new.queue;
+      broken = c.loop.subscriber.broken;
+    } in
+    waited _ before _ c.loop.subscriber new c.loop.counter c.in-Ok.found c.if-found.true
+    c.in-Ok.ensures.passes refl refl (c.loop.invariant.waiting before h)
 
 pub returns-in-Err-clause-stalls : goal.returns-in-Err-clause-stalls
 returns-in-Err-clause-stalls g c = λ before h.
     let w = c.loop.invariant.waiting before h in
-    stalls_cut _ [] before _ _ _ _ c.loop.subscriber w.passed c.loop.counter before before c.in-Err.fault c.loop.invariant.ended c.loop.invariant.failed (c.in-Err.ensures.cut before) w.holds
+    stalls_cut _ [] before _ _ _ _ c.loop.subscriber w.passed c.loop.counter before before c.in-Err.fault
+    c.loop.invariant.ended c.loop.invariant.failed (c.in-Err.ensures.cut before) w.holds
 
 pub returns-in-Err-refill-clause-stalls : goal.returns-in-Err-refill-clause-stalls
 returns-in-Err-refill-clause-stalls g c = λ before h.
-    let new : Subscriber = record { side = c.loop.subscriber.side; queue = c.pass_status.new.queue; broken = c.loop.subscriber.broken } in
+    let new : Subscriber =
+    record {
+      side = c.loop.subscriber.side;
+      queue = c.pass_status.new.queue;
+      broken = c.loop.subscriber.broken;
+    } in
     let w = c.loop.invariant.waiting before h in
-    stalls_starved _ before _ _ _ _ _ c.loop.subscriber new c.refill.new.subscriber w.passed c.loop.counter c.in-Err-refill.fault refl c.in-Err-refill.ensures.starves c.in-Err-refill.ensures.stays w.holds
+    stalls_starved _ before _ _ _ _ _ c.loop.subscriber new c.refill.new.subscriber w.passed c.loop.counter
+    c.in-Err-refill.fault refl c.in-Err-refill.ensures.starves c.in-Err-refill.ensures.stays w.holds
 
 pub returns-clause-stalls : goal.returns-clause-stalls
 returns-clause-stalls g c = λ before h.
     let w = c.loop.invariant.waiting before h in
-    worn before (g.I.Inlet.given c.loop.from) (g.I.Inlet.ended c.loop.from) (g.I.Inlet.failed c.loop.from) c.loop.subscriber w.passed c.loop.counter (omega arith) w.holds
+    worn before (g.I.Inlet.given c.loop.from) (g.I.Inlet.ended c.loop.from) (g.I.Inlet.failed c.loop.from)
+    c.loop.subscriber w.passed c.loop.counter (omega arith) w.holds

@@ -7,5 +7,6 @@ abbrev pub invariant-loop : goal.invariant-loop
 invariant-loop g l = record {
   ended : g.I.Inlet.ended l.from ≡ false;
   failed : g.I.Inlet.failed l.from ≡ false;
-  waiting : (before : Option (List ℕ)) → Holds before (g.I.Inlet.given l.fn.from) l.fn.subscriber [] 0 → Waiting l.key before (g.I.Inlet.given l.from) l.subscriber l.counter;
+  waiting : (before : Option (List ℕ)) → Holds before (g.I.Inlet.given l.fn.from) l.fn.subscriber [] 0
+      → Waiting l.key before (g.I.Inlet.given l.from) l.subscriber l.counter;
 }

@@ -14,8 +14,15 @@ loop-init g c = record {
 
 pub returns-then-course-clause-followed : goal.returns-then-course-clause-followed
 returns-then-course-clause-followed g c = λ before passed h.
-    let new : Subscriber = record { side = c.loop.subscriber.side; queue = c.take_messages.new.queue; broken = c.loop.subscriber.broken } in
-    followed_by _ _ before _ c.loop.subscriber new passed c.loop.counter _ _ _ c.loop.has_failed c.either-has_failed.result c.in-Ok.course c.either-has_failed.ensures c.in-Ok.ensures.takes refl refl c.if-course.true (c.loop.invariant.follows before passed h)
+    let new : Subscriber =
+    record {
+      side = c.loop.subscriber.side;
+      queue = c.take_messages.new.queue;
+      broken = c.loop.subscriber.broken;
+    } in
+    followed_by _ _ before _ c.loop.subscriber new passed c.loop.counter _ _ _ c.loop.has_failed
+    c.either-has_failed.result c.in-Ok.course c.either-has_failed.ensures c.in-Ok.ensures.takes refl refl
+    c.if-course.true (c.loop.invariant.follows before passed h)
 
 pub loop-preserved : goal.loop-preserved
 loop-preserved g c = record {
@@ -23,37 +30,63 @@ loop-preserved g c = record {
   failed = c.in-Ok-refill.ensures.good.1;
   refused = c.in-Ok.ensures.good;
   follows = λ before passed h.
-      let new : Subscriber = record { side = c.loop.subscriber.side; queue = c.take_messages.new.queue; broken = c.loop.subscriber.broken } in
-      follows_by _ _ before _ _ c.loop.subscriber new c.refill.new.subscriber passed c.loop.counter _ _ _ c.loop.has_failed c.either-has_failed.result c.in-Ok.course c.either-has_failed.ensures c.in-Ok.ensures.takes refl refl c.in-Ok-refill.ensures.holds (c.loop.invariant.follows before passed h);
+      let new : Subscriber =
+      record {
+        side = c.loop.subscriber.side;
+        queue = c.take_messages.new.queue;
+        broken = c.loop.subscriber.broken;
+      } in
+      follows_by _ _ before _ _ c.loop.subscriber new c.refill.new.subscriber passed c.loop.counter _ _ _
+      c.loop.has_failed c.either-has_failed.result c.in-Ok.course c.either-has_failed.ensures
+      c.in-Ok.ensures.takes refl refl c.in-Ok-refill.ensures.holds
+      (c.loop.invariant.follows before passed h);
 }
 
 pub returns-in-Err-clause-front : goal.returns-in-Err-clause-front
 returns-in-Err-clause-front g c = λ before passed h.
-    front_cut _ _ before _ c.loop.subscriber passed c.loop.counter _ _ _ c.loop.has_failed _ c.in-Err.fault c.in-Err.ensures.cut (c.loop.invariant.follows before passed h)
+    front_cut _ _ before _ c.loop.subscriber passed c.loop.counter _ _ _ c.loop.has_failed _ c.in-Err.fault
+    c.in-Err.ensures.cut (c.loop.invariant.follows before passed h)
 
 pub returns-in-Err-clause-stalls : goal.returns-in-Err-clause-stalls
 returns-in-Err-clause-stalls g c = λ before passed h.
     let w = c.loop.invariant.follows before passed h in
-    stalls_cut _ _ before _ _ _ _ c.loop.subscriber (passed ++ w.taken) c.loop.counter _ _ c.in-Err.fault c.loop.invariant.ended c.loop.invariant.failed c.in-Err.ensures.cut w.holds
+    stalls_cut _ _ before _ _ _ _ c.loop.subscriber (passed ++ w.taken) c.loop.counter _ _ c.in-Err.fault
+    c.loop.invariant.ended c.loop.invariant.failed c.in-Err.ensures.cut w.holds
 
 pub returns-in-Err-refill-clause-front : goal.returns-in-Err-refill-clause-front
 returns-in-Err-refill-clause-front g c = λ before passed h.
-    let new : Subscriber = record { side = c.loop.subscriber.side; queue = c.take_messages.new.queue; broken = c.loop.subscriber.broken } in
+    let new : Subscriber =
+    record {
+      side = c.loop.subscriber.side;
+      queue = c.take_messages.new.queue;
+      broken = c.loop.subscriber.broken;
+    } in
     let w = c.loop.invariant.follows before passed h in
-    front_here _ _ before _ _ new passed c.loop.counter _ _ _ c.in-Err-refill.fault c.in-Err-refill.ensures.unheard (λ e. c.in-Ok.ensures.rest c.if-course.false)
-    (follows_taken _ _ before _ c.loop.subscriber new passed c.loop.counter _ _ _ c.loop.has_failed c.in-Ok.course c.in-Ok.ensures.takes refl refl w)
+    front_here _ _ before _ _ new passed c.loop.counter _ _ _ c.in-Err-refill.fault
+    c.in-Err-refill.ensures.unheard (λ e. c.in-Ok.ensures.rest c.if-course.false)
+    (follows_taken _ _ before _ c.loop.subscriber new passed c.loop.counter _ _ _ c.loop.has_failed
+    c.in-Ok.course c.in-Ok.ensures.takes refl refl w)
 
 pub returns-in-Err-refill-clause-stalls : goal.returns-in-Err-refill-clause-stalls
 returns-in-Err-refill-clause-stalls g c = λ before passed h.
-    let new : Subscriber = record { side = c.loop.subscriber.side; queue = c.take_messages.new.queue; broken = c.loop.subscriber.broken } in
+    let new : Subscriber =
+    record {
+      side = c.loop.subscriber.side;
+      queue = c.take_messages.new.queue;
+      broken = c.loop.subscriber.broken;
+    } in
     let w = c.loop.invariant.follows before passed h in
-    stalls_starved _ before _ _ _ _ (g.O.Outlet.failed c.take_messages.new.output) c.loop.subscriber new c.refill.new.subscriber (passed ++ w.taken) c.loop.counter c.in-Err-refill.fault refl c.in-Err-refill.ensures.starves c.in-Err-refill.ensures.stays w.holds
+    stalls_starved _ before _ _ _ _ (g.O.Outlet.failed c.take_messages.new.output) c.loop.subscriber new
+    c.refill.new.subscriber (passed ++ w.taken) c.loop.counter c.in-Err-refill.fault refl
+    c.in-Err-refill.ensures.starves c.in-Err-refill.ensures.stays w.holds
 
 pub returns-clause-front : goal.returns-clause-front
 returns-clause-front g c = λ before passed h.
-    front_here _ _ before _ _ c.loop.subscriber passed c.loop.counter _ _ _ _ (unheard_none _ _) (λ e. absurd e) (c.loop.invariant.follows before passed h)
+    front_here _ _ before _ _ c.loop.subscriber passed c.loop.counter _ _ _ _ (unheard_none _ _)
+    (λ e. absurd e) (c.loop.invariant.follows before passed h)
 
 pub returns-clause-stalls : goal.returns-clause-stalls
 returns-clause-stalls g c = λ before passed h.
     let w = c.loop.invariant.follows before passed h in
-    worn before (g.I.Inlet.given c.loop.from) (g.I.Inlet.ended c.loop.from) (g.I.Inlet.failed c.loop.from) c.loop.subscriber (passed ++ w.taken) c.loop.counter (omega arith) w.holds
+    worn before (g.I.Inlet.given c.loop.from) (g.I.Inlet.ended c.loop.from) (g.I.Inlet.failed c.loop.from)
+    c.loop.subscriber (passed ++ w.taken) c.loop.counter (omega arith) w.holds

@@ -8,5 +8,8 @@ invariant-loop g l = record {
   ended : g.I.Inlet.ended l.from ≡ false;
   failed : g.I.Inlet.failed l.from ≡ false;
   refused : g.O.Outlet.failed l.output ≡ false;
-  follows : (before : Option (List ℕ)) (passed : List (List (List ℕ))) → Holds before (g.I.Inlet.given l.fn.from) l.fn.subscriber passed 0 → Follows l.key l.header before (g.I.Inlet.given l.from) l.subscriber passed l.counter (g.O.Outlet.taken l.fn.output) (g.O.Outlet.taken l.output) l.has_failed;
+  follows : (before : Option (List ℕ)) (passed : List (List (List ℕ)))
+      → Holds before (g.I.Inlet.given l.fn.from) l.fn.subscriber passed 0
+      → Follows l.key l.header before (g.I.Inlet.given l.from) l.subscriber passed l.counter
+      (g.O.Outlet.taken l.fn.output) (g.O.Outlet.taken l.output) l.has_failed;
 }

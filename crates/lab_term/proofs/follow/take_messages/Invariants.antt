@@ -6,7 +6,8 @@ abbrev pub invariant-loop-frames : goal.invariant-loop-frames
 invariant-loop-frames g l = record {
   good : g.O.Outlet.failed l.output ≡ false;
   idle : l.course.is_idle ≡ false;
-  going : Going l.key l.header l.fn.queue.items l.queue.items (g.O.Outlet.taken l.fn.output) (g.O.Outlet.taken l.output) l.course.has_failed;
+  going : Going l.key l.header l.fn.queue.items l.queue.items (g.O.Outlet.taken l.fn.output)
+      (g.O.Outlet.taken l.output) l.course.has_failed;
 }
 
 abbrev pub decreases-loop-frames : goal.decreases-loop-frames

@@ -13,7 +13,8 @@ entry c = (c.symbol_at.result.0.now, c.symbol_at.result.1)
 
 -- the search, from this symbol on
 looks_at : (c : After-labels) → find (labels c.args.address) c.args.symbols.now
-    ≡ cond (labels c.args.address (entry c)) (Some (entry c)) (find (labels c.args.address) (drop (c.loop-index.index + 1) c.args.symbols.now))
+    ≡ cond (labels c.args.address (entry c)) (Some (entry c))
+    (find (labels c.args.address) (drop (c.loop-index.index + 1) c.args.symbols.now))
 looks_at c =
     sym c.loop-index.invariant
     ∙ find-next (labels c.args.address) c.args.symbols.now c.loop-index.index (entry c) c.symbol_at.ensures
@@ -22,7 +23,8 @@ pub returns-then-labels : goal.returns-then-labels
 returns-then-labels c =
     let at = (goal.at.returns-then-labels c).After-labels in
     let passes : labels c.args.address (entry at) ≡ true = sym c.labels.ensures ∙ c.if-labels.true in
-    let found : find (labels c.args.address) c.args.symbols.now ≡ Some (entry at) = looks_at at ∙ rw passes refl in
+    let found : find (labels c.args.address) c.args.symbols.now ≡ Some (entry at) =
+    looks_at at ∙ rw passes refl in
     ap (option_map (λ e. e.0)) (sym found)
 
 pub loop-index-preserved : goal.loop-index-preserved

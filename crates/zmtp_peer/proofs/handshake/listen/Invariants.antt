@@ -9,7 +9,9 @@ invariant-loop-count g l = record {
   failed : g.I.Inlet.failed l.from ≡ false;
   role : l.peer.side.role ≡ l.fn.peer.side.role;
   stays : l.fn.peer.side.stage ≡ Traffic → l.peer.side.stage ≡ Traffic;
-  heard : (before : Option (List ℕ)) (least : ℕ) → Heard before (g.I.Inlet.given l.fn.from) l.fn.peer.side l.fn.peer.messages least → Heard before (g.I.Inlet.given l.from) l.peer.side l.peer.messages (least + l.count);
+  heard : (before : Option (List ℕ)) (least : ℕ)
+      → Heard before (g.I.Inlet.given l.fn.from) l.fn.peer.side l.fn.peer.messages least
+      → Heard before (g.I.Inlet.given l.from) l.peer.side l.peer.messages (least + l.count);
 }
 
 abbrev pub decreases-loop-count : goal.decreases-loop-count

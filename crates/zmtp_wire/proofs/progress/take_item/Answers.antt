@@ -54,10 +54,13 @@ next : (c : In-Sized)
     c.in-Sized.from c.in-Sized.size
 next c =
     let h = rw c.len.ensures at c.in-Sized.ensures in
-    let low : (i : ℕ) → get_or c.args.bytes.now i 0 < 256 = λ i. (let k = c.type_inv.bytes i in omega (arith, k)) in
-    next_of c.args.progress.now.stage _ c.args.bytes.now c.in-Sized.kind c.in-Sized.from c.in-Sized.size low (sym h)
+    let low : (i : ℕ) → get_or c.args.bytes.now i 0 < 256 =
+    λ i. (let k = c.type_inv.bytes i in omega (arith, k)) in
+    next_of c.args.progress.now.stage _ c.args.bytes.now c.in-Sized.kind c.in-Sized.from c.in-Sized.size low
+    (sym h)
 
-body : (from size : ℕ) (bytes : List ℕ) → take (from + size - from) (drop from bytes) ≡ take size (drop from bytes)
+body : (from size : ℕ) (bytes : List ℕ)
+    → take (from + size - from) (drop from bytes) ≡ take size (drop from bytes)
 body from size bytes = let k : from + size - from ≡ size = omega arith in ap (λ x. take x (drop from bytes)) k
 
 pub returns-in-None-clause-ok : goal.returns-in-None-clause-ok
@@ -68,8 +71,10 @@ returns-in-None-clause-ok c =
     let p = n.positive in (
       omega (arith, p),
       omega arith,
-      λ before. step_of c.args.role (got_in c.args.progress.now before) (got_in c.take_body.new.progress before)
-          c.args.bytes.now _ s.kind s.from s.size n (omega arith) (body s.from s.size c.args.bytes.now) (e before),
+      λ before. step_of c.args.role (got_in c.args.progress.now before)
+          (got_in c.take_body.new.progress before)
+          c.args.bytes.now _ s.kind s.from s.size n (omega arith) (body s.from s.size c.args.bytes.now)
+          (e before),
     )
 
 pub returns-in-Some-clause-ok : goal.returns-in-Some-clause-ok
@@ -78,6 +83,7 @@ returns-in-Some-clause-ok c =
     let e = rw c.in-Some.is at c.in_ok-take_body-in-Sized.ensures.ok in
     let n = next (goal.at.returns-in-Some-clause-ok c).In-Sized in (
       e.0,
-      λ before. command_fault c.args.role (got_in c.args.progress.now before) c.args.bytes.now _ s.kind s.from s.size
+      λ before. command_fault c.args.role (got_in c.args.progress.now before) c.args.bytes.now _ s.kind s.from
+          s.size
           c.in-Some.cause n (omega arith) (body s.from s.size c.args.bytes.now) e.1 e.2,
     )

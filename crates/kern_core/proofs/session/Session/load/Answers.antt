@@ -21,6 +21,11 @@ returns-in-Ok c =
           let viewed : StandsFor _ s = subst (λ v. StandsFor v s) (sym c.self.view_is) stands in
           let cell = c.in-Ok.ensures.loaded s.board viewed.board in
           let posts = c.post_loading.ensures.posts current c.in_ok-kit.ensures.kit s.posts viewed.posts in
-          load_stands c.args.moment s _ new lab x rest current c.in-Ok.loading viewed c.in-Some.ensures is_current cell.0 cell.1 loaded work posts,
-      (subst P c.self.view_is (load_grows _ new lab x rest c.in-Ok.loading loaded work c.post_loading.ensures.made), tt),
+          load_stands c.args.moment s _ new lab x rest current c.in-Ok.loading viewed c.in-Some.ensures
+          is_current cell.0 cell.1 loaded work posts,
+      (
+        subst P c.self.view_is (load_grows _ new lab x rest c.in-Ok.loading loaded work
+            c.post_loading.ensures.made),
+        tt,
+      ),
     )

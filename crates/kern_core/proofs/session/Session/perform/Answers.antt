@@ -17,7 +17,10 @@ returns c = (
       let kit = subst K stands.present c.in_ok-kit.ensures.kit in
       let letter = c.in_ok-kit.ensures.after s stands in
       let told = c.in_ok-letters.ensures.told ∙ ap (told_by c.in_ok-kit.kit c.perform-result.result) letter in
-      performed_stands n r d c.args.moment s _ c.perform-result.new.lab c.push_all.new.self c.perform-result.result c.in_ok-kit.kit c.in_ok-letters.letters
-      viewed c.requires.other c.perform-result.ensures.0 (λ e. absurd (false≢true (c.in_ok-letters.ensures.want e))) kit told (c.push_all.ensures.keeps s.posts viewed.posts),
+      performed_stands n r d c.args.moment s _ c.perform-result.new.lab c.push_all.new.self
+      c.perform-result.result c.in_ok-kit.kit c.in_ok-letters.letters
+      viewed c.requires.other c.perform-result.ensures.0
+      (λ e. absurd (false≢true (c.in_ok-letters.ensures.want e))) kit told
+      (c.push_all.ensures.keeps s.posts viewed.posts),
   search rules,
 )

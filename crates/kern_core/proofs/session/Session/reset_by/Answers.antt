@@ -21,11 +21,21 @@ returns c = (
       let r = c.args.request.now in
       let d = c.args.debug.now in
       let new = c.reset_board.new.self in
-      let named : c.in_ok-command.command ≡ spelled c.name.result = c.in_ok-command.ensures ∙ c.as_str.ensures in
-      let told : List ℕ → List Letter = λ text. around s.present r.header (cut_letters cause.Reset s ++ reply_to n r (content.DebugReply (record { request_seq = d.seq; command = text; outcome = Success Empty })) ∷ []) in
+      let named : c.in_ok-command.command ≡ spelled c.name.result =
+      c.in_ok-command.ensures ∙ c.as_str.ensures in
+      let told : List ℕ → List Letter =
+      λ text. around s.present r.header (cut_letters cause.Reset s
+      ++ reply_to n r (content.DebugReply (record {
+        request_seq = d.seq;
+        command = text;
+        outcome = Success Empty;
+      })) ∷ []) in
       let letters = c.in_ok-letters.ensures s stands ∙ ap told (named ∙ ap spelled c.name.ensures) in
-      let Q : List Letter → Type 0 = λ ls. StandsFor new (after (posting Arrived c.args.moment ls (with_board (reset s.board) (cut_work s) s))) in
+      let Q : List Letter → Type 0 =
+      λ ls. StandsFor new (after (posting Arrived c.args.moment ls
+      (with_board (reset s.board) (cut_work s) s))) in
       let P : Turn → Type 0 = λ t. (Ok Arrived ≡ t.answer) × StandsFor new (after t) in
-      subst P (sym (by_reset n r d c.args.moment s c.requires.reset)) (refl, subst Q letters (c.in_ok-reset_board.ensures.ok s stands)),
+      subst P (sym (by_reset n r d c.args.moment s c.requires.reset))
+      (refl, subst Q letters (c.in_ok-reset_board.ensures.ok s stands)),
   search rules,
 )

@@ -9,6 +9,7 @@ pub returns : goal.returns
 returns c =
     let kernel = c.self.inside.kernel in
     let with_entries : List Call → KernelState = λ es. record { entries = es; limit = kernel.limit } in
-    let without_seats : SeatedState → KernelState = λ s. record { entries = calls_of s.entries; limit = s.limit } in
+    let without_seats : SeatedState → KernelState =
+    λ s. record { entries = calls_of s.entries; limit = s.limit } in
     let same = calls-zip c.self.inside.seats.items kernel.entries c.self.invariant in
     sym (ap with_entries same) ∙ ap without_seats c.self.view_is

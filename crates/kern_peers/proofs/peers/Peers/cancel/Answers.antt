@@ -8,7 +8,9 @@ pub returns-in-Some : goal.returns-in-Some
 returns-in-Some c =
     let found = rw c.deref.ensures.value at c.in-Some.ensures in
     let with : List Peer → Present = λ ps. record { peers = ps; joined = c.self.inside.joined } in
-    let there = changed_there c.args.number (without_first c.args.prefix.now) c.self.inside.peers.items c.in-Some.place c.index_mut.result.now found c.index_mut.ensures.value in
+    let there =
+    changed_there c.args.number (without_first c.args.prefix.now) c.self.inside.peers.items
+    c.in-Some.place c.index_mut.result.now found c.index_mut.ensures.value in
     rw c.take_out.ensures
     (ap with there ∙ ap (cancelled c.args.number c.args.prefix.now) c.self.view_is)
 
@@ -17,5 +19,6 @@ returns-in_default c =
     let missing = rw c.deref.ensures.value at c.in_default.ensures in
     let with : List Peer → Present = λ ps. record { peers = ps; joined = c.self.inside.joined } in
     sym c.self.view_is
-    ∙ (ap with (changed_nowhere c.args.number (without_first c.args.prefix.now) c.self.inside.peers.items missing)
+    ∙ (ap with (changed_nowhere c.args.number (without_first c.args.prefix.now) c.self.inside.peers.items
+    missing)
     ∙ ap (cancelled c.args.number c.args.prefix.now) c.self.view_is)

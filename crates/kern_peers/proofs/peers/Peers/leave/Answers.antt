@@ -9,6 +9,7 @@ pub returns : goal.returns
 returns c =
     let test : Peer → _ = λ p. not (is_number c.args.number p) in
     let kept : c.retain.new.self.items ≡ filter test c.self.inside.peers.items =
-    filter_same _ test _ (λ x b f h. let s = h.shows in let m = h.called.met in search (rules, s, m)) _ _ c.retain.ensures.filtered in
+    filter_same _ test _ (λ x b f h. let s = h.shows in let m = h.called.met in search (rules, s, m)) _ _
+    c.retain.ensures.filtered in
     let with : List Peer → Present = λ ps. record { peers = ps; joined = c.self.inside.joined } in
     ap with kept ∙ ap (without c.args.number) c.self.view_is

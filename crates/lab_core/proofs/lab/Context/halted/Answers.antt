@@ -10,8 +10,11 @@ use Rattle.lab_core.proofs.lab.Context.halted.Goals as goal
 pub returns-then-self : goal.returns-then-self
 returns-then-self c = λ lab b traffic s.
     let ended : ends_in_halt b.trace ≡ true = sym s.is_halted ∙ c.if-self.true in
-    let interrupts : c.regs.result.interrupts ≡ b.machine.regs.interrupts = ap (λ (r : Registers). r.interrupts) c.regs.ensures ∙ ap (λ (m : MachineState). m.regs.interrupts) s.machine in
-    rw ended (c.end_after_halt.ensures ∙ ap (λ (i : Interrupts). if is_off i then Some (outcome.End end.Halted) else None) interrupts)
+    let interrupts : c.regs.result.interrupts ≡ b.machine.regs.interrupts =
+    ap (λ (r : Registers). r.interrupts) c.regs.ensures
+    ∙ ap (λ (m : MachineState). m.regs.interrupts) s.machine in
+    rw ended (c.end_after_halt.ensures ∙ ap (λ (i : Interrupts).
+    if is_off i then Some (outcome.End end.Halted) else None) interrupts)
 
 pub returns-else-self : goal.returns-else-self
 returns-else-self c = λ lab b traffic s.

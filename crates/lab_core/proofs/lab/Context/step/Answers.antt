@@ -10,7 +10,8 @@ use Rattle.lab_core.proofs.lab.Context.step.Goals as goal
 pub returns-in-Undefined-clause-undefined : goal.returns-in-Undefined-clause-undefined
 returns-in-Undefined-clause-undefined c = λ lab b traffic s.
     let did = c.board_step-answer.ensures.step b.past s.devices in
-    finds_undefined _ b traffic _ _ c.in-Undefined.opcode c.regs-pc.result.pc s (rw c.in-Undefined.is at did) (ap (λ (r : Registers). r.pc) c.regs-pc.ensures)
+    finds_undefined _ b traffic _ _ c.in-Undefined.opcode c.regs-pc.result.pc s (rw c.in-Undefined.is at did)
+    (ap (λ (r : Registers). r.pc) c.regs-pc.ensures)
 
 pub returns-in-Undefined-clause-some : goal.returns-in-Undefined-clause-some
 returns-in-Undefined-clause-some c = λ some lab b traffic s.
@@ -19,12 +20,16 @@ returns-in-Undefined-clause-some c = λ some lab b traffic s.
 
 pub returns-clause-undefined : goal.returns-clause-undefined
 returns-clause-undefined c = λ lab b traffic s.
-    finds_no_undefined _ b traffic _ _ c.board_step-answer.result s (c.board_step-answer.ensures.step b.past s.devices) c.in_default.not-Undefined
+    finds_no_undefined _ b traffic _ _ c.board_step-answer.result s
+    (c.board_step-answer.ensures.step b.past s.devices) c.in_default.not-Undefined
 
 pub returns-clause-none : goal.returns-clause-none
 returns-clause-none c = λ lab b traffic s.
-    let Q : Context → Type 0 = λ context. StandsAmid (amid lab c.board_step-answer.new.machine context) (stepped b) (traffic ++ operation_list (next_change b).operation) in
-    subst Q (sym c.follow.ensures.rest) (stands_step _ _ b traffic c.board_step-answer.result c.advance-left.result s (c.board_step-answer.ensures.step b.past s.devices) (record {
+    let Q : Context → Type 0 =
+    λ context. StandsAmid (amid lab c.board_step-answer.new.machine context) (stepped b)
+    (traffic ++ operation_list (next_change b).operation) in
+    subst Q (sym c.follow.ensures.rest) (stands_step _ _ b traffic c.board_step-answer.result
+    c.advance-left.result s (c.board_step-answer.ensures.step b.past s.devices) (record {
       rest = rw c.is_halt-self.ensures refl;
       frames = rw (← c.regs-sp.ensures, ← c.regs-pc.ensures) c.advance-left.ensures.live;
       oldest = rw (← c.regs-sp.ensures) c.advance-left.ensures.oldest;

@@ -10,6 +10,11 @@ returns-in_ok-dumped-in-None-clause-applied c = λ b s-now ne.
     let P : LabState → Type 0 = λ lab. StandsFor lab b in
     let s = subst P (sym c.self.view_is) s-now in
     let source : Source = record { path = c.args.path.now; text = c.args.text.now } in
-    let place : place_of source b.sources ≡ Ok None = rw (← s.sources, ← c.in-None.is) (sym c.in_ok-place.ensures.place) in
-    let all : c.add.new.self ≡ b.sources ++ source ∷ [] = c.add.ensures ∙ rw (c.in_ok-dumped-in-None.ensures, s.sources) refl in
-    (record b { sources = b.sources ++ source ∷ [] }, gives_dumped source b None place, stands_dumped _ b _ _ s all)
+    let place : place_of source b.sources ≡ Ok None =
+    rw (← s.sources, ← c.in-None.is) (sym c.in_ok-place.ensures.place) in
+    let all : c.add.new.self ≡ b.sources ++ source ∷ [] =
+    c.add.ensures ∙ rw (c.in_ok-dumped-in-None.ensures, s.sources) refl in (
+      record b { sources = b.sources ++ source ∷ [] },
+      gives_dumped source b None place,
+      stands_dumped _ b _ _ s all,
+    )

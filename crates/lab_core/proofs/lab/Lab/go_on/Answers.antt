@@ -7,4 +7,5 @@ pub returns : goal.returns
 returns c = λ b s-now.
     let P : LabState → Type 0 = λ lab. StandsFor lab b in
     let s = subst P (sym c.self.view_is) s-now in
-    stands_on _ b c.args.request c.len-self-inside.result c.newest-self-inside.result c.len-self-inside.ensures.len c.newest-self-inside.ensures s
+    stands_on _ b c.args.request c.len-self-inside.result c.newest-self-inside.result
+    c.len-self-inside.ensures.len c.newest-self-inside.ensures s

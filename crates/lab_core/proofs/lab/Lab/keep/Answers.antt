@@ -25,5 +25,6 @@ returns-in_ok-put-in-None-clause-ok c = λ b s.
     ∙ ap (λ (ss : List Source). ss ++ c.in_ok-source-in-None.source ∷ []) before
     ∙ ap (λ (x : Source). b.sources ++ x ∷ []) c.in_ok-source-in-None.ensures in
     subst P (sym c.self-in-None.view_is)
-    (stands_kept c.put-in-None.new.self b source c.args.place c.len-number.result m c.add.new.self c.in-None.is
+    (stands_kept c.put-in-None.new.self b source c.args.place c.len-number.result m c.add.new.self
+    c.in-None.is
     number (put.ok b s) all)

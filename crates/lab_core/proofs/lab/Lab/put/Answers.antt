@@ -8,7 +8,8 @@ use Rattle.lab_core.proofs.lab.Lab.put.Goals as goal
 
 pub invariant_of-self-2 : goal.invariant_of-self-2
 invariant_of-self-2 c =
-    rw (c.in_ok-load.ensures.machine, loaded-regs c.self.inside.machine c.args.built.image.items) c.self.invariant
+    rw (c.in_ok-load.ensures.machine, loaded-regs c.self.inside.machine c.args.built.image.items)
+    c.self.invariant
 
 pub returns-clause-ok : goal.returns-clause-ok
 returns-clause-ok c = λ b s-now.
@@ -16,4 +17,5 @@ returns-clause-ok c = λ b s-now.
     let s = subst P (sym c.self.view_is) s-now in
     let loads : List Load = b.loads ++ load_of c.args.number c.args.built ∷ [] in
     let put = c.in_ok-load.ensures.past b.loads s.origins in
-    stands_built _ b c.args.number (meaning_in c.args.built) _ _ _ _ s c.in_ok-load.ensures.machine put c.refresh.ensures.lists (c.refresh.ensures.stands loads put) refl
+    stands_built _ b c.args.number (meaning_in c.args.built) _ _ _ _ s c.in_ok-load.ensures.machine put
+    c.refresh.ensures.lists (c.refresh.ensures.stands loads put) refl

@@ -6,7 +6,8 @@ use Rattle.lab_core.specs.Labs.{LabState, StandsAmid, StandsFor}
 use Rattle.lab_core.proofs.LabLemmas.{stands_reserved, stands_taken, slices_running}
 use Rattle.lab_core.proofs.lab.Lab.slice.Goals as goal
 
-pub returns-in_ok-reserve_out-in-Running-clause-applied : goal.returns-in_ok-reserve_out-in-Running-clause-applied
+pub returns-in_ok-reserve_out-in-Running-clause-applied
+    : goal.returns-in_ok-reserve_out-in-Running-clause-applied
 returns-in_ok-reserve_out-in-Running-clause-applied c = λ b s-now ne.
     let P : LabState → Type 0 = λ lab. StandsFor lab b in
     let s = subst P (sym c.self.view_is) s-now in
@@ -23,7 +24,8 @@ returns-in_ok-reserve_out-in-Running-clause-applied c = λ b s-now ne.
         k = k;
         ending = ending;
         slice = c.run_on-executed.ensures.slice b reserved;
-        reply_is = ap (λ traffic. Ok (Sliced k traffic ending)) (c.take_out-traffic.ensures.taken ∙ amid.traffic_is);
+        reply_is =
+            ap (λ traffic. Ok (Sliced k traffic ending)) (c.take_out-traffic.ensures.taken ∙ amid.traffic_is);
         board_is = refl;
       }),
       stands_taken _ new (traffic_of k b) _ amid c.take_out-traffic.ensures.rest,

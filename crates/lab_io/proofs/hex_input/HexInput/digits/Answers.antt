@@ -15,4 +15,5 @@ returns-clause-found c text stands =
     found_bytes c.args.self.now text stands
     (ap (λ (h : HexState). h.is_odd) (sym c.self.view_is) ∙ c.if-self.false)
     (ap (λ (h : HexState). h.is_long) (sym c.self.view_is) ∙ c.if-self-2.false)
-    ∙ ap (λ (ds : List ℕ). Bytes (paired ds)) (ap (λ (h : HexState). h.digits) (sym c.self.view_is) ∙ sym c.as_slice.ensures.value)
+    ∙ ap (λ (ds : List ℕ). Bytes (paired ds)) (ap (λ (h : HexState). h.digits) (sym c.self.view_is)
+    ∙ sym c.as_slice.ensures.value)

@@ -6,4 +6,6 @@ use Rattle.lab_run.proofs.runner.Runner.print_run.Given as goal
 
 -- whatever board the runner stood for, so many steps of it were done and printed
 abbrev pub invariant-loop : goal.invariant-loop
-invariant-loop l = (start : Computer) → StandsFor l.fn.self start → HasPrinted l.limit start l.counter l.self (string_bytes l.fn.text) (string_bytes l.text)
+invariant-loop l =
+    (start : Computer) → StandsFor l.fn.self start
+    → HasPrinted l.limit start l.counter l.self (string_bytes l.fn.text) (string_bytes l.text)

@@ -8,13 +8,16 @@ loop-done-init c start stands = at_start c.args.limit start c.args.self.now stan
 pub loop-done-preserved : goal.loop-done-preserved
 loop-done-preserved c start stands =
     at_next c.args.limit start c.loop-done._done c.loop-done.self c.step.new.self c.loop-done-test.true
-    (c.loop-done.invariant start stands) (sym c.in-None.ensures) (c.in_ok-step-in-None.ensures _ (c.loop-done.invariant start stands).stands)
+    (c.loop-done.invariant start stands) (sym c.in-None.ensures)
+    (c.in_ok-step-in-None.ensures _ (c.loop-done.invariant start stands).stands)
 
 pub returns-in-Some : goal.returns-in-Some
 returns-in-Some c start stands =
-    has_run_before c.args.limit start c.loop-done._done c.loop-done.self c.in-Some.ending c.loop-done-test.true
+    has_run_before c.args.limit start c.loop-done._done c.loop-done.self c.in-Some.ending
+    c.loop-done-test.true
     (c.loop-done.invariant start stands) (sym c.in-Some.ensures)
 
 pub returns : goal.returns
 returns c start stands =
-    has_run_all c.args.limit start c.loop-done._done c.loop-done.self _ (omega arith) (c.loop-done.invariant start stands) c.ending-2.ensures
+    has_run_all c.args.limit start c.loop-done._done c.loop-done.self _ (omega arith)
+    (c.loop-done.invariant start stands) c.ending-2.ensures

@@ -1,4 +1,5 @@
-use Rattle.std.proofs.Common.{◌≡◌, ℕ, zero, suc, ◌<◌, Bool, false, List, [], ◌∷◌, get_or, set, Some, refl, sym, ap, ◌∙◌, subst, arith, length, All}
+use Rattle.std.proofs.Common.{◌≡◌, ℕ, zero, suc, ◌<◌, Bool, false, List, [], ◌∷◌, get_or, set, Some, refl}
+use Rattle.std.proofs.Common.{sym, ap, ◌∙◌, subst, arith, length, All}
 use Rattle.std.specs.Slots.{slots_len, slots_filled}
 use mathlib.Core.Option.{some-injective}
 use Rattle.lab_turn.specs.History.{IsHistoryOf, PassState}
@@ -16,7 +17,8 @@ all_there g c =
 
 -- the value lies in the slot, with the whole history
 value_there : (g : Over) (c : After-take-taken g) → (x : g.row.J.Denot) × (c.take-taken.result ≡ Some x)
-    × (g.J.Journaled.limit x ≡ c.args.self.limit) × IsHistoryOf c.args.self c.args.passes.items (g.J.Journaled.entries x)
+    × (g.J.Journaled.limit x ≡ c.args.self.limit) × IsHistoryOf c.args.self c.args.passes.items
+    (g.J.Journaled.entries x)
 value_there g c =
     let E = g.J.Journaled.entries in
     let L = g.J.Journaled.limit in
@@ -24,7 +26,10 @@ value_there g c =
     let seats : c.args.self.seats ≡ key.seats = ap (λ t. t.seats) (sym c.self.view_is) ∙ c.self.invariant.2 in
     let limit : c.args.self.limit ≡ L key.over.value = ap (λ t. t.limit) (sym c.self.view_is) in
     let token = c.into_token-token.ensures in
-    let h = closes E L key.seats (L key.over.value) c.args.self seats limit c.into_token-token.result.table_id _ _ c.in-Some.last _ _ _ _ _ c.close_with-closed.ensures.values.2 c.in-Some.ensures.items token.pass c.gather.ensures.all (all_there g c) in
+    let h =
+    closes E L key.seats (L key.over.value) c.args.self seats limit c.into_token-token.result.table_id _ _
+    c.in-Some.last _ _ _ _ _ c.close_with-closed.ensures.values.2 c.in-Some.ensures.items token.pass
+    c.gather.ensures.all (all_there g c) in
     (h.0, some-injective c.take-taken.result (Some h.0) (sym c.take-taken.ensures.value ∙ h.1), h.2, h.3)
 
 pub unreachable-requires-in_default-taken : goal.unreachable-requires-in_default-taken
@@ -40,7 +45,9 @@ returns g c =
     let both : Some there.0 ≡ Some c.in-Some-taken.value = sym there.1 ∙ c.in-Some-taken.is in
     let it : there.0 ≡ c.in-Some-taken.value = cc in
     record {
-      history = subst (λ (x : g.row.J.Denot). IsHistoryOf c.args.self c.args.passes.items (g.J.Journaled.entries x)) it there.3;
+      history =
+          subst (λ (x : g.row.J.Denot). IsHistoryOf c.args.self c.args.passes.items (g.J.Journaled.entries x))
+          it there.3;
       limit = ap g.J.Journaled.limit (sym it) ∙ there.2;
       all = full;
       missing = (λ wrong. absurd cc, λ other. absurd (other full));
@@ -60,11 +67,14 @@ returns-then-len-self g c =
     }
 
 -- each pass is of the table
-of_table : (g : Over) (c : After-into_token-token g) → All (λ p. p.turnstile.table ≡ c.self.inside.table.shared.table_id) c.args.passes.items
-of_table g c = λ k d inside. ap (λ t. t.table) (c.requires k d inside) ∙ ap (λ t. t.table) (sym c.self.view_is)
+of_table : (g : Over) (c : After-into_token-token g)
+    → All (λ p. p.turnstile.table ≡ c.self.inside.table.shared.table_id) c.args.passes.items
+of_table g c =
+    λ k d inside. ap (λ t. t.table) (c.requires k d inside) ∙ ap (λ t. t.table) (sym c.self.view_is)
 
 -- and so is the token of the last
-token_there : (g : Over) (c : After-into_token-token g) → c.into_token-token.result.table_id ≡ c.self.inside.table.shared.table_id
+token_there : (g : Over) (c : After-into_token-token g)
+    → c.into_token-token.result.table_id ≡ c.self.inside.table.shared.table_id
 token_there g c =
     let table = c.self.inside.table.shared.table_id in
     token_table table _ _ c.into_token-token.ensures
@@ -78,11 +88,13 @@ gather-requires g c =
       table = (token_there g at, c.self.invariant.0);
       idle = c.into_token-token.ensures.idle;
       passes =
-          of_front (λ (p : PassState _). p.turnstile.table ≡ table) _ _ _ c.in-Some.ensures.items (of_table g at);
+          of_front (λ (p : PassState _). p.turnstile.table ≡ table) _ _ _ c.in-Some.ensures.items
+          (of_table g at);
     }
 
 pub close_with-closed-requires : goal.close_with-closed-requires
-close_with-closed-requires g c = c.gather.ensures.token.0 ∙ token_there g (goal.at.close_with-closed-requires g c).After-into_token-token
+close_with-closed-requires g c =
+    c.gather.ensures.token.0 ∙ token_there g (goal.at.close_with-closed-requires g c).After-into_token-token
 
 pub take-taken-requires : goal.take-taken-requires
 take-taken-requires g c =
