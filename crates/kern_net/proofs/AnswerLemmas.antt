@@ -1,5 +1,5 @@
 -- What a Slice may be answered.
-use Rattle.std.proofs.Common.{◌≡◌, ℕ, Bool, true, false, if◌then◌else◌, List, [], ◌∷◌, Option, Some, None}
+use Rattle.std.proofs.Common.{◌≡◌, ℕ, true, List, [], ◌∷◌, Option, Some, None}
 use Rattle.std.proofs.Common.{Result, Ok, Err, refl, sym, subst}
 use Rattle.std.specs.Option.{IsSome}
 use Rattle.lab_turn.specs.History.{PassState}
@@ -22,14 +22,11 @@ use Rattle.kern_core.specs.Turns.{turn, session_after}
 use Rattle.kern_desk.specs.Seats.{calls_of}
 use Rattle.kern_net.specs.Calls.{TurnedBy}
 use Rattle.kern_net.specs.Work.{outcome_of}
+use Rattle.kern_net.proofs.ChoiceLemmas.{either}
 
 -- the turn's answer is one to a Slice
 abbrev IsHeard : Turn → Type 0
 IsHeard t = IsSome (outcome_of t.answer)
-
-either : (b : Bool) (t u : Turn) → IsHeard t → IsHeard u → IsHeard (if b then t else u)
-either true t u p q = p
-either false t u p q = q
 
 run_heard : (e : ℕ × SliceOutcome) (moment : ℕ) (s : Session) → IsHeard (running_to e moment s)
 run_heard (k, outcome.More) moment s = refl
@@ -53,7 +50,7 @@ state_heard run.NoRun moment s = start_heard s.work.pending moment s
 slice_heard : (moment : ℕ) (s : Session) → IsHeard (turn (Slice moment) s)
 unfolding turn
 slice_heard moment s =
-    either s.is_shut (quiet reply.Ended s) (by_run s.board.run moment s) refl
+    either IsHeard s.is_shut (quiet reply.Ended s) (by_run s.board.run moment s) refl
     (state_heard s.board.run moment s)
 
 entry_heard : (v w : PassState Call) (moment : ℕ) (answer : Result Reply KernFault)

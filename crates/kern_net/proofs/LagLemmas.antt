@@ -1,6 +1,6 @@
 -- No call that reading makes is answered that posts are gone: only a Fetch is.
 use Rattle.std.proofs.Common.{◌≡◌, ℕ, Bool, true, false, List, Option, Some, None, Result, Ok, Err, refl}
-use Rattle.std.proofs.Common.{if◌then◌else◌, nat_lt, length, not}
+use Rattle.std.proofs.Common.{nat_lt, length, not}
 use Rattle.jup_wire.specs.declared.channel.Channel.TheVariants.{Iopub}
 use Rattle.dap_talk.specs.declared.command.DapRequest.{DapRequest}
 use Rattle.dap_answers.specs.declared.answer.Body.{Body}
@@ -31,6 +31,7 @@ use Rattle.kern_core.specs.Asks.{passing, unanswered, other, by_reply, arriving}
 use Rattle.kern_core.specs.Turns.{turn, session_after}
 use Rattle.kern_desk.specs.Seats.{calls_of, seated_answer}
 use Rattle.kern_net.specs.ReadEnds.{IsReaderCall}
+use Rattle.kern_net.proofs.ChoiceLemmas.{either}
 
 record KeepsUp (t : Turn) : Type 0 where
   never : (first : ℕ) → t.answer ≡ Err (Lagged first) → ⊥
@@ -44,10 +45,6 @@ full s = record { never = λ first e. absurd cc }
 unknown : (s : Session) → KeepsUp (refused NoConnection s)
 unknown s = record { never = λ first e. absurd cc }
 
-either : (b : Bool) (x y : Turn) → KeepsUp x → KeepsUp y → KeepsUp (if b then x else y)
-either true x y p q = p
-either false x y p q = q
-
 at_peer : (p : Option Peer) (s : Session) (f : Peer → Turn) → ((q : Peer) → KeepsUp (f q))
     → KeepsUp (by_peer p s f)
 at_peer None s f k = unknown s
@@ -56,16 +53,18 @@ at_peer (Some p) s f k = k p
 subscribing_keeps : (n : ℕ) (wants : Bool) (prefix : List ℕ) (moment : ℕ) (s : Session)
     → KeepsUp (subscribing n wants prefix moment s)
 subscribing_keeps n wants prefix moment s = at_peer (peer_at n s.present.peers) s _ (λ p.
-    either (not (is_on Iopub p)) (refused NoConnection s) _ (unknown s)
-    (either (not wants) (unsubscribed n prefix s) _ (answered (unsubscribed n prefix s) Subscribed refl)
-    (either (is_full p) (refused Full s) (new_subscription n prefix moment s) (full s)
+    either KeepsUp (not (is_on Iopub p)) (refused NoConnection s) _ (unknown s)
+    (either KeepsUp (not wants) (unsubscribed n prefix s) _
+    (answered (unsubscribed n prefix s) Subscribed refl)
+    (either KeepsUp (is_full p) (refused Full s) (new_subscription n prefix moment s) (full s)
     (answered (new_subscription n prefix moment s) Subscribed refl))))
 
 executing_keeps : (n : ℕ) (identity : List ℕ) (r : Request) (x : ExecuteRequest) (moment : ℕ) (s : Session)
     → KeepsUp (executing n identity r x moment s)
 executing_keeps n identity r x moment s =
     let more = quiet Arrived (record s { work = queued (execution_of n identity r x) s.work }) in
-    either (nat_lt (length s.work.queue) 64) more (queue_full n r x moment s) (answered more Arrived refl)
+    either KeepsUp (nat_lt (length s.work.queue) 64) more (queue_full n r x moment s)
+    (answered more Arrived refl)
     (answered (queue_full n r x moment s) Arrived refl)
 
 shutting_keeps : (n : ℕ) (r : Request) (restarts : Bool) (moment : ℕ) (s : Session)
@@ -83,7 +82,7 @@ debugging_keeps : (n : ℕ) (r : Request) (d : DapRequest) (moment : ℕ) (s : S
     → KeepsUp (debugging n r d moment s)
 debugging_keeps n r d moment s =
     let bad = refusing n r d (codes "Arguments") moment s in
-    either (is_bounded d.command) (performing n r d moment s) bad
+    either KeepsUp (is_bounded d.command) (performing n r d moment s) bad
     (answering_keeps n r d moment s (performed d.command s.board)) (answered bad Arrived refl)
 
 unanswered_keeps : (r : Request) (lacking : NeedyRequest) (moment : ℕ) (s : Session)
@@ -109,7 +108,7 @@ by_reply_keeps None n identity r moment s = other_keeps n identity r r.ask momen
 
 arriving_keeps : (n : ℕ) (r : Request) (moment : ℕ) (s : Session) → KeepsUp (arriving n r moment s)
 arriving_keeps n r moment s = at_peer (peer_at n s.present.peers) s _ (λ p.
-    either (is_on Iopub p) (refused NoConnection s) _ (unknown s)
+    either KeepsUp (is_on Iopub p) (refused NoConnection s) _ (unknown s)
     (by_reply_keeps (plain_reply s.work.count r.ask) n p.identity r moment s))
 
 turn_keeps : (c : Call) (s : Session) → IsReaderCall c → KeepsUp (turn c s)

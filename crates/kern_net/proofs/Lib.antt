@@ -1,6 +1,7 @@
 pub mod AnswerLemmas
 pub mod AskLemmas
 pub mod CallLemmas
+pub mod ChoiceLemmas
 pub mod FetchLemmas
 pub mod GrowLemmas
 pub mod LagLemmas

@@ -35,20 +35,17 @@ use Rattle.kern_core.specs.Asks.{plain_reply, by_reply, other, executing, queue_
 use Rattle.kern_core.specs.Asks.{performing, refusing, is_bounded, debugging, unanswered}
 use Rattle.kern_core.specs.Slices.{running_to, by_run, by_start, loading, slicing}
 use Rattle.kern_core.specs.Turns.{turn}
+use Rattle.kern_net.proofs.ChoiceLemmas.{either}
 
 record Leaves (s : Session) (t : Turn) : Type 0 where
   same : t.session.posts ≡ s.posts
-
-either : (s : Session) (b : Bool) (t u : Turn) → Leaves s t → Leaves s u → Leaves s (if b then t else u)
-either s true t u p q = p
-either s false t u p q = q
 
 -- ---- requests
 
 executes : (n : ℕ) (identity : List ℕ) (r : Request) (x : ExecuteRequest) (moment : ℕ) (s : Session)
     → Leaves s (executing n identity r x moment s)
 executes n identity r x moment s =
-    either s (nat_lt (length s.work.queue) 64) (quiet reply.Arrived
+    either (Leaves s) (nat_lt (length s.work.queue) 64) (quiet reply.Arrived
     (record s { work = queued (execution_of n identity r x) s.work }))
     (queue_full n r x moment s) (record { same = refl }) (record { same = refl })
 
@@ -65,7 +62,8 @@ answers n r d moment s (Err fault) = record { same = refl }
 debugs : (n : ℕ) (r : Request) (d : DapRequest) (moment : ℕ) (s : Session)
     → Leaves s (debugging n r d moment s)
 debugs n r d moment s =
-    either s (is_bounded d.command) (performing n r d moment s) (refusing n r d (codes "Arguments") moment s)
+    either (Leaves s) (is_bounded d.command) (performing n r d moment s)
+    (refusing n r d (codes "Arguments") moment s)
     (answers n r d moment s (performed d.command s.board)) (record { same = refl })
 
 passes_over : (r : Request) (lacking : NeedyRequest) (moment : ℕ) (s : Session)
@@ -112,7 +110,7 @@ goes_on run.NoRun moment s = starts s.work.pending moment s
 
 joins : (channel : Channel) (identity : List ℕ) (s : Session) → Leaves s (joined channel identity s)
 joins channel identity s =
-    either s (has_no_place channel identity s.present.peers) (refused fault.Full s)
+    either (Leaves s) (has_no_place channel identity s.present.peers) (refused fault.Full s)
     (quiet (reply.Joined (s.present.joined + 1) (length s.posts + 1))
     (record s { present = joined_by channel identity s.present }))
     (record { same = refl }) (record { same = refl })
@@ -130,13 +128,13 @@ subscribes : (peer : Option Peer) (n : ℕ) (wants : Bool) (prefix : List ℕ) (
 subscribes None n wants prefix moment s = record { same = refl }
 subscribes (Some p) n wants prefix moment s =
     let last =
-    either s (is_full p) (refused fault.Full s) (new_subscription n prefix moment s)
+    either (Leaves s) (is_full p) (refused fault.Full s) (new_subscription n prefix moment s)
     (record { same = refl }) (record { same = refl }) in
     let first =
-    either s (not wants) (unsubscribed n prefix s)
+    either (Leaves s) (not wants) (unsubscribed n prefix s)
     (if is_full p then refused fault.Full s else new_subscription n prefix moment s)
     (record { same = refl }) last in
-    either s (not (is_on Iopub p)) (refused fault.NoConnection s)
+    either (Leaves s) (not (is_on Iopub p)) (refused fault.NoConnection s)
     (if not wants then unsubscribed n prefix s else (if is_full p then refused fault.Full s else
     new_subscription n prefix moment s))
     (record { same = refl }) first
@@ -147,21 +145,21 @@ arrives : (peer : Option Peer) (n : ℕ) (r : Request) (moment : ℕ) (s : Sessi
     p.identity r moment s))
 arrives None n r moment s = record { same = refl }
 arrives (Some p) n r moment s =
-    either s (is_on Iopub p) (refused fault.NoConnection s)
+    either (Leaves s) (is_on Iopub p) (refused fault.NoConnection s)
     (by_reply (plain_reply s.work.count r.ask) n p.identity r moment s)
     (record { same = refl }) (replies (plain_reply s.work.count r.ask) n p.identity r moment s)
 
 fetches : (peer : Option Peer) (n from : ℕ) (s : Session) → Leaves s (by_peer peer s (λ p. fetching n from s))
 fetches None n from s = record { same = refl }
 fetches (Some p) n from s =
-    either s (nat_lt from (first_kept (length s.posts)))
+    either (Leaves s) (nat_lt from (first_kept (length s.posts)))
     (refused (fault.Lagged (first_kept (length s.posts))) s)
     (quiet (reply.Fetched (posts_to n from s.posts) (next_from from (length s.posts)) s.is_shut) s)
     (record { same = refl }) (record { same = refl })
 
 slices : (moment : ℕ) (s : Session) → Leaves s (slicing moment s)
 slices moment s =
-    either s s.is_shut (quiet reply.Ended s) (by_run s.board.run moment s) (record { same = refl })
+    either (Leaves s) s.is_shut (quiet reply.Ended s) (by_run s.board.run moment s) (record { same = refl })
     (goes_on s.board.run moment s)
 
 turn_leaves : (c : Call) (s : Session) → Leaves s (turn c s)

@@ -1,6 +1,6 @@
 -- Undefined is answered exactly where an undefined opcode stands at PC and no request is accepted.
 use Rattle.std.proofs.Common.{◌≡◌, ℕ, ◌+◌, List, [], Bool, true, false, ◌&&◌, Option, Some, None}
-use Rattle.std.proofs.Common.{if◌then◌else◌, refl, sym, subst}
+use Rattle.std.proofs.Common.{refl, sym, subst}
 use Rattle.std.specs.Option.{is_none, IfSome}
 use Rattle.std.proofs.lemmas.Bool.{cond_both}
 use Rattle.i80_rows.specs.declared.instruction.Instr.{Instr}
@@ -28,15 +28,13 @@ defined _ other = tt
 abbrev Defines : Outcome → Type 0
 Defines o = IsDefined o.answer
 
-choice-defined : (b : Bool) (o p : Outcome) → Defines o → Defines p → Defines (if b then o else p)
-choice-defined b o p left right = cond_both b o p Defines (λ _. left) (λ _. right)
-
 effect-defined : (i : Instr) (input : ℕ → ℕ) (m : MachineState) → Defines (effect i input m)
 effect-defined (JumpIf c address) input m =
-    choice-defined (holds c m.regs.flags) (done (with_pc m address)) (done m) tt tt
+    cond_both (holds c m.regs.flags) (done (with_pc m address)) (done m) Defines (λ _. tt) (λ _. tt)
 effect-defined (CallIf c address) input m =
-    choice-defined (holds c m.regs.flags) (called m address) (done m) tt tt
-effect-defined (RetIf c) input m = choice-defined (holds c m.regs.flags) (returned m) (done m) tt tt
+    cond_both (holds c m.regs.flags) (called m address) (done m) Defines (λ _. tt) (λ _. tt)
+effect-defined (RetIf c) input m =
+    cond_both (holds c m.regs.flags) (returned m) (done m) Defines (λ _. tt) (λ _. tt)
 effect-defined _ input m = tt
 
 -- an acceptance answers a call

@@ -1,5 +1,5 @@
 -- What an answer tells of SP, for every instruction and acceptance of the machine.
-use Rattle.std.proofs.Common.{◌≡◌, ℕ, ◌+◌, ◌*◌, List, Some, Bool, if◌then◌else◌, refl, sym, subst, inl, inr}
+use Rattle.std.proofs.Common.{◌≡◌, ℕ, ◌+◌, ◌*◌, List, Some, refl, sym, subst, inl, inr}
 use Rattle.std.proofs.Common.{◌⊎◌}
 use Rattle.std.proofs.lemmas.Bool.{cond_both}
 use Rattle.i80_rows.specs.declared.instruction.Instr.{Instr}
@@ -33,23 +33,19 @@ quiet answer before after (inl done) =
 quiet answer before after (inr halted) =
     record { returns = λ from is. cc; calls = λ slot to is. cc; keeps = λ opcode is. cc }
 
--- of two outcomes the one that a condition chooses
-choice-tells : (sp : ℕ) (b : Bool) (o p : Outcome) → Tells sp o → Tells sp p → Tells sp (if b then o else p)
-choice-tells sp b o p left right = cond_both b o p (Tells sp) (λ _. left) (λ _. right)
-
 effect-tells : (i : Instr) (input : ℕ → ℕ) (m : MachineState) → Tells m.regs.sp (effect i input m)
 effect-tells Hlt input m = quiet _ _ _ (inr refl)
 effect-tells (JumpIf c address) input m =
-    choice-tells m.regs.sp (holds c m.regs.flags) (done (with_pc m address)) (done m) (quiet _ _ _ (inl refl))
-    (quiet _ _ _ (inl refl))
+    cond_both (holds c m.regs.flags) (done (with_pc m address)) (done m) (Tells m.regs.sp)
+    (λ _. quiet _ _ _ (inl refl)) (λ _. quiet _ _ _ (inl refl))
 effect-tells (Call address) input m = called-tells m address
 effect-tells (CallIf c address) input m =
-    choice-tells m.regs.sp (holds c m.regs.flags) (called m address) (done m) (called-tells m address)
-    (quiet _ _ _ (inl refl))
+    cond_both (holds c m.regs.flags) (called m address) (done m) (Tells m.regs.sp)
+    (λ _. called-tells m address) (λ _. quiet _ _ _ (inl refl))
 effect-tells Ret input m = returned-tells m
 effect-tells (RetIf c) input m =
-    choice-tells m.regs.sp (holds c m.regs.flags) (returned m) (done m) (returned-tells m)
-    (quiet _ _ _ (inl refl))
+    cond_both (holds c m.regs.flags) (returned m) (done m) (Tells m.regs.sp)
+    (λ _. returned-tells m) (λ _. quiet _ _ _ (inl refl))
 effect-tells (Rst n) input m = called-tells m (8 * vector_code n)
 effect-tells i input m = quiet _ _ _ (inl refl)
 
