@@ -73,7 +73,8 @@ module _ {C : Type 0} where
           knows = each_view (λ j d. d.spent ≡ false → Knows seats limit t' log vs j d) views id w
               (λ _. let k = r.knows id v at alive in
               knows_next seats limit t t' log log views vs id v w k refl refl refl refl
-              (prefix_self log) k.seen k.calls worn (λ m. let z = k.made m in (z.0, z.1 ∙ sym (length-set views id w)))
+              (prefix_self log) k.seen k.calls worn
+              (λ m. let z = k.made m in (z.0, z.1 ∙ sym (length-set views id w)))
               (λ x is. (refl, (spent_else views id x v w at alive is).1)))
               (λ j d _ e live. let k = r.knows j d e live in
               knows_next seats limit t t' log log views vs j d d k refl refl refl refl
