@@ -105,6 +105,19 @@ lost_memory g h k s x m n failed o p = record {
   unready = λ r. absurd r;
 }
 
+-- all that the reader gave was heard
+ends_whole : (g k : Option (List ℕ)) (role : Role) (t : SideState) (m : List (List (List ℕ))) (n : ℕ)
+    (failed : Bool) (fault : PeerFault) → t.role ≡ role → (p : Heard g k t m n)
+    → Explains fault failed t p.stream [] → Ends role g k failed fault t m
+ends_whole g k role t m n failed fault e p why = record {
+  heard = p.stream;
+  unheard = [];
+  told = told_whole g k p.stream p.told;
+  role_is = e;
+  stands = p.stands;
+  explains = why;
+}
+
 -- the stream is broken before READY
 pub lost_wire : (g k : Option (List ℕ)) (role : Role) (t : SideState) (m : List (List (List ℕ))) (n : ℕ)
     (failed : Bool) (cause : StreamFault) → t.role ≡ role → (t.stage ≡ Traffic → ⊥) → t.fault ≡ Some cause
@@ -112,15 +125,7 @@ pub lost_wire : (g k : Option (List ℕ)) (role : Role) (t : SideState) (m : Lis
 lost_wire g k role t m n failed cause e unready broken p = record {
   side = t;
   messages = m;
-  ends =
-      record {
-        heard = p.stream;
-        unheard = [];
-        told = told_whole g k p.stream p.told;
-        role_is = e;
-        stands = p.stands;
-        explains = (refl, broken);
-      };
+  ends = ends_whole g k role t m n failed (Wire cause) e p (refl, broken);
   unready = λ r. unready;
 }
 
@@ -129,15 +134,7 @@ lost_write : (g k : Option (List ℕ)) (role : Role) (t : SideState) (m : List (
 lost_write g k role t m n failed e p = record {
   side = t;
   messages = m;
-  ends =
-      record {
-        heard = p.stream;
-        unheard = [];
-        told = told_whole g k p.stream p.told;
-        role_is = e;
-        stands = p.stands;
-        explains = refl;
-      };
+  ends = ends_whole g k role t m n failed WriteFailed e p refl;
   unready = λ r. absurd r;
 }
 
@@ -162,15 +159,7 @@ pub lost_most : (g k : Option (List ℕ)) (role : Role) (t : SideState) (m : Lis
 lost_most g k role t m n failed most e unready p = let long = p.long in record {
   side = t;
   messages = m;
-  ends =
-      record {
-        heard = p.stream;
-        unheard = [];
-        told = told_whole g k p.stream p.told;
-        role_is = e;
-        stands = p.stands;
-        explains = (refl, inr (rw most long));
-      };
+  ends = ends_whole g k role t m n failed ReadFailed e p (refl, inr (rw most long));
   unready = λ r. unready;
 }
 

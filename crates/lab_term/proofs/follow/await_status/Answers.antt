@@ -23,12 +23,7 @@ loop-preserved g c = record {
 
 pub returns-then-found-clause-waited : goal.returns-then-found-clause-waited
 returns-then-found-clause-waited g c = λ before h.
-    let new : Subscriber =
-    record {
-      side = c.loop.subscriber.side;
-      queue = c.pass_status.new.queue;
-      broken = c.loop.subscriber.broken;
-    } in
+    let new : Subscriber = record c.loop.subscriber { queue = c.pass_status.new.queue } in
     waited _ before _ c.loop.subscriber new c.loop.counter c.in-Ok.found c.if-found.true
     c.in-Ok.ensures.passes refl refl (c.loop.invariant.waiting before h)
 
@@ -40,12 +35,7 @@ returns-in-Err-clause-stalls g c = λ before h.
 
 pub returns-in-Err-refill-clause-stalls : goal.returns-in-Err-refill-clause-stalls
 returns-in-Err-refill-clause-stalls g c = λ before h.
-    let new : Subscriber =
-    record {
-      side = c.loop.subscriber.side;
-      queue = c.pass_status.new.queue;
-      broken = c.loop.subscriber.broken;
-    } in
+    let new : Subscriber = record c.loop.subscriber { queue = c.pass_status.new.queue } in
     let w = c.loop.invariant.waiting before h in
     stalls_starved _ before _ _ _ _ _ c.loop.subscriber new c.refill.new.subscriber w.passed c.loop.counter
     c.in-Err-refill.fault refl c.in-Err-refill.ensures.starves c.in-Err-refill.ensures.stays w.holds

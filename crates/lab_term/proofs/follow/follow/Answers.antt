@@ -14,12 +14,7 @@ loop-init g c = record {
 
 pub returns-then-course-clause-followed : goal.returns-then-course-clause-followed
 returns-then-course-clause-followed g c = λ before passed h.
-    let new : Subscriber =
-    record {
-      side = c.loop.subscriber.side;
-      queue = c.take_messages.new.queue;
-      broken = c.loop.subscriber.broken;
-    } in
+    let new : Subscriber = record c.loop.subscriber { queue = c.take_messages.new.queue } in
     followed_by _ _ before _ c.loop.subscriber new passed c.loop.counter _ _ _ c.loop.has_failed
     c.either-has_failed.result c.in-Ok.course c.either-has_failed.ensures c.in-Ok.ensures.takes refl refl
     c.if-course.true (c.loop.invariant.follows before passed h)
@@ -30,12 +25,7 @@ loop-preserved g c = record {
   failed = c.in-Ok-refill.ensures.good.1;
   refused = c.in-Ok.ensures.good;
   follows = λ before passed h.
-      let new : Subscriber =
-      record {
-        side = c.loop.subscriber.side;
-        queue = c.take_messages.new.queue;
-        broken = c.loop.subscriber.broken;
-      } in
+      let new : Subscriber = record c.loop.subscriber { queue = c.take_messages.new.queue } in
       follows_by _ _ before _ _ c.loop.subscriber new c.refill.new.subscriber passed c.loop.counter _ _ _
       c.loop.has_failed c.either-has_failed.result c.in-Ok.course c.either-has_failed.ensures
       c.in-Ok.ensures.takes refl refl c.in-Ok-refill.ensures.holds
@@ -55,12 +45,7 @@ returns-in-Err-clause-stalls g c = λ before passed h.
 
 pub returns-in-Err-refill-clause-front : goal.returns-in-Err-refill-clause-front
 returns-in-Err-refill-clause-front g c = λ before passed h.
-    let new : Subscriber =
-    record {
-      side = c.loop.subscriber.side;
-      queue = c.take_messages.new.queue;
-      broken = c.loop.subscriber.broken;
-    } in
+    let new : Subscriber = record c.loop.subscriber { queue = c.take_messages.new.queue } in
     let w = c.loop.invariant.follows before passed h in
     front_here _ _ before _ _ new passed c.loop.counter _ _ _ c.in-Err-refill.fault
     c.in-Err-refill.ensures.unheard (λ e. c.in-Ok.ensures.rest c.if-course.false)
@@ -69,12 +54,7 @@ returns-in-Err-refill-clause-front g c = λ before passed h.
 
 pub returns-in-Err-refill-clause-stalls : goal.returns-in-Err-refill-clause-stalls
 returns-in-Err-refill-clause-stalls g c = λ before passed h.
-    let new : Subscriber =
-    record {
-      side = c.loop.subscriber.side;
-      queue = c.take_messages.new.queue;
-      broken = c.loop.subscriber.broken;
-    } in
+    let new : Subscriber = record c.loop.subscriber { queue = c.take_messages.new.queue } in
     let w = c.loop.invariant.follows before passed h in
     stalls_starved _ before _ _ _ _ (g.O.Outlet.failed c.take_messages.new.output) c.loop.subscriber new
     c.refill.new.subscriber (passed ++ w.taken) c.loop.counter c.in-Err-refill.fault refl
