@@ -7,7 +7,7 @@ from _pydevd_bundle._debug_adapter import pydevd_base_schema as registry
 from _pydevd_bundle._debug_adapter import pydevd_schema  # which fills the registry
 
 # What Jupyter and this board add to the protocol: such a message is checked, but not what it carries.
-ADDED = {"debugInfo", "dumpCell", "inspectVariables", "boardSwitches", "boardPress", "boardType", "boardReset"}
+ADDED = {"debugInfo", "dumpCell", "inspectVariables", "boardSwitches", "boardPress", "boardType", "boardReset", "boardAliases"}
 
 PLAIN_TYPES = {"array", "boolean", "integer", "null", "number", "object", "string"}
 

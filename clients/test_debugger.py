@@ -41,6 +41,17 @@ CLIENT = {
     "locale": "en",
 }
 
+# A jump by CB to a call by DD, whose routine returns by D9: copies of JMP, CALL and RET that Intel leaves undefined.
+COPIES = """\
+MAIN:   DB 0CBH
+        DW START
+START:  DB 0DDH
+        DW BACK
+        HLT
+BACK:   DB 0D9H
+        END MAIN
+"""
+
 SCOPES = ["Registers", "Flags", "Devices", "Symbols", "Memory"]
 
 
@@ -191,6 +202,91 @@ class Debugger(Lab):
         self.assertIn(("switches", "05AH"), [(item["name"], item["value"]) for item in devices])
         self.debug("boardReset", {})
         self.assertEqual(self.debug("source", {"source": {"path": path}, "sourceReference": 0})["content"], CALLS)
+
+    def set_value(self, reference, name, value, client=None):
+        """As where somebody edits a variable: the response."""
+        wanted = {"variablesReference": reference, "name": name, "value": value}
+        return self.debug_any("setVariable", wanted, client)
+
+    def test_values_are_changed_by_hand(self):
+        other = self.new_client()
+        self.assertTrue(self.debug("initialize", CLIENT)["supportsSetVariable"])
+        self.start()
+        self.set_breakpoints(CALLS, [4])
+        number = self.client.execute(CALLS)
+        while self.event(other)[0] != "stopped":
+            pass
+        for name, value, shown in (("B", "21H", "021H"), ("A", "0ffh", "0FFH"), ("SP", "8190", "01FFEH")):
+            response = self.set_value(1, name, value)
+            self.assertEqual((response["success"], response["body"]), (True, {"value": shown}))
+            for client in (self.client, other):
+                self.assertEqual(self.look(client)[1]["Registers"][name], shown)
+        # The return address lies where SP was put, and HLT there.
+        for name, value in (("1FFE", "5"), ("1FFF", "0"), ("0005", "76H")):
+            self.assertTrue(self.set_value(5, name, value, other)["success"])
+        frames, _ = self.look()
+        self.assertEqual(self.places(frames), [("TWICE", 4), ("main", 2)])
+        self.debug("continue", {"threadId": 1}, other)
+        self.assertEqual(self.reply(number)["content"]["status"], "ok")
+        registers = self.debug("inspectVariables", {})["variables"]
+        self.assertEqual([item["value"] for item in registers if item["name"] in ("A", "SP")], ["042H", "02000H"])
+
+    def test_a_loop_is_ended_by_a_byte(self):
+        number = self.run_endless()
+        self.assertEqual(self.set_value(1, "A", "1")["message"], "NotStopped")
+        self.debug("attach", {})
+        self.debug("pause", {"threadId": 1})
+        for reference, name, value, fault in (
+            (1, "A", "100H", "BadValue"),
+            (1, "A", "AH", "BadValue"),
+            (1, "F", "1", "UnknownName"),
+            (5, "00G0", "1", "UnknownName"),
+            (2, "Z", "1", "BadReference"),
+        ):
+            self.assertEqual(self.set_value(reference, name, value)["message"], fault, (reference, name, value))
+        self.assertEqual(self.debug_any("setVariable", {"variablesReference": 1, "name": "A", "value": ""})["message"],
+                         "BadValue")
+        self.assertEqual(self.set_value(5, "0004", "76H")["body"], {"value": "076H"})
+        self.debug("continue", {"threadId": 1})
+        self.assertEqual(self.reply(number)["content"]["status"], "ok")
+
+    def test_undefined_opcodes_act_where_they_are_to(self):
+        reply, _ = self.execute(COPIES)
+        self.assertEqual((reply["ename"], reply["evalue"]), ("UndefinedOpcode", "CB at 0000"))
+        self.assertEqual(self.debug("boardAliases", {"aliases": True}), {})
+        self.assertEqual(self.execute(COPIES)[0]["status"], "ok")
+        shown = self.debug("disassemble", {"memoryReference": "0x0000", "instructionCount": 1})["instructions"]
+        self.assertEqual(shown, [{"address": "0x0000", "instructionBytes": "CB", "instruction": "DB 0CBH"}])
+        number = self.run_endless()
+        self.assertEqual(self.debug_any("boardAliases", {"aliases": False})["message"], "Busy")
+        self.control("interrupt")
+        self.assertEqual(self.reply(number)["content"]["ename"], "Interrupted")
+        self.debug("boardReset", {})
+        self.assertEqual(self.execute(COPIES)[0]["status"], "ok")
+        for arguments in (None, {}, {"aliases": 1}, {"aliases": "true"}, {"aliases": None}):
+            self.assertEqual(self.debug_any("boardAliases", arguments)["message"], "Arguments", arguments)
+        self.assertEqual(self.execute(COPIES)[0]["status"], "ok")
+        self.debug("boardAliases", {"aliases": False})
+        self.assertEqual(self.execute(COPIES)[0]["ename"], "UndefinedOpcode")
+
+    def test_fifteen_debuggers_watch_while_one_debugs(self):
+        others = [self.new_client() for _ in range(15)]
+        for client in [self.client, *others]:
+            self.debug("attach", {}, client)
+        number = self.run_endless()
+        self.debug("pause", {"threadId": 1})
+        for client in [self.client, *others]:
+            self.assertEqual(self.event(client)[1]["reason"], "pause")
+        self.assertEqual(self.set_value(1, "PC", "4")["body"], {"value": "00004H"})
+        first, _ = self.look()
+        self.assertEqual(self.places(first), [("main", 3)])
+        self.debug("next", {"threadId": 1})
+        for client in [self.client, *others]:
+            self.assertEqual(self.event(client)[0], "continued")
+            self.assertEqual(self.event(client)[1]["reason"], "step")
+        self.debug("continue", {"threadId": 1}, others[-1])
+        self.control("interrupt")
+        self.assertEqual(self.reply(number)["content"]["ename"], "Interrupted")
 
     def test_what_a_debugger_may_not_ask_is_named(self):
         for command, arguments, fault in (

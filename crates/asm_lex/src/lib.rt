@@ -8,5 +8,5 @@
 mod class;
 pub mod laws;
 pub mod lexer;
-mod number;
+pub mod number;
 mod quote;

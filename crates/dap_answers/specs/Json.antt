@@ -152,6 +152,7 @@ abbrev pub capabilities_json : Data
 capabilities_json = object_of (
     (codes "supportsConfigurationDoneRequest", boolean true) ∷
     (codes "supportsDisassembleRequest", boolean true) ∷
+    (codes "supportsSetVariable", boolean true) ∷
     (codes "supportsSteppingGranularity", boolean true) ∷ [])
 
 abbrev pub threads_json : Data
@@ -174,6 +175,7 @@ body_json body.Threads = threads_json
 body_json (body.StackTrace frames total) = stack_trace_json frames total
 body_json body.Scopes = one_list (codes "scopes") scope_of every_scope
 body_json (body.Variables vs) = one_list (codes "variables") variable_json vs
+body_json (body.Value t) = object_of ((codes "value", string t) ∷ [])
 body_json body.Continued = object_of ((codes "allThreadsContinued", boolean true) ∷ [])
 body_json (body.Instructions is) = one_list (codes "instructions") instruction_json is
 body_json (body.Content t) = object_of ((codes "content", string t) ∷ [])

@@ -33,6 +33,8 @@ pub enum Body {
     /// Of `scopes`: the five of each frame.
     Scopes,
     Variables(Sequence<Variable>),
+    /// Of `setVariable`: the value that the variable has then.
+    Value(Text),
     /// Of `continue`.
     Continued,
     Instructions(Sequence<CodeLine>),

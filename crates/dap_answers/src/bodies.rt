@@ -30,6 +30,7 @@ fn capabilities(alloc: Global) -> Result<Value, AllocError>
     Object::new(alloc)
         .flag("supportsConfigurationDoneRequest", true)
         .flag("supportsDisassembleRequest", true)
+        .flag("supportsSetVariable", true)
         .flag("supportsSteppingGranularity", true)
         .finish()
 }
@@ -176,6 +177,7 @@ pub fn body_json(alloc: Global, body: &Body) -> Result<Value, AllocError>
         Body::StackTrace { frames, total } => stack_trace(alloc, frames.as_slice(), *total),
         Body::Scopes => one_list(alloc, "scopes", &EVERY_SCOPE),
         Body::Variables(list) => one_list(alloc, "variables", list.as_slice()),
+        Body::Value(text) => one_text(alloc, "value", text.as_str()),
         Body::Continued => continued(alloc),
         Body::Instructions(list) => one_list(alloc, "instructions", list.as_slice()),
         Body::Content(text) => one_text(alloc, "content", text.as_str()),

@@ -20,7 +20,7 @@ use Rattle.std.specs.Str.{bytes_eq}
 use Rattle.base_text.specs.Hexadecimal.{word_spelled}
 use Rattle.serde_json.specs.Data.{Data, Items, no_items, item}
 use Rattle.serde_json.specs.Events.{items_len}
-use Rattle.serde_json.specs.Find.{get, get_member, as_number, as_u64, as_str, as_array, as_object}
+use Rattle.serde_json.specs.Find.{get, get_member, as_number, as_u64, as_str, as_bool, as_array, as_object}
 use Rattle.dap_talk.specs.declared.command.Granularity.{Granularity}
 use Rattle.dap_talk.specs.declared.command.Granularity.TheVariants.{Line, Instruction}
 
@@ -29,6 +29,8 @@ pub data Kind : Type 0 where
   -- a whole number, from the first to the second
   number : ℕ → ℕ → Kind
   text : Kind
+  -- `true` or `false`
+  truth : Kind
   -- an object with a text `path`
   source : Kind
   -- at most 256 objects with a whole number `line`, and nothing that a plain breakpoint hasn't
@@ -42,6 +44,7 @@ pub data Kind : Type 0 where
 pub data Found : Type 0 where
   found_number : ℕ → Found
   found_text : List ℕ → Found
+  found_truth : Bool → Found
   found_lines : List ℕ → Found
   found_granularity : Granularity → Found
 
@@ -95,6 +98,7 @@ address_of other = None
 abbrev pub found_in : Kind → Data → Option Found
 found_in (number low high) d = option_map found_number (whole_between low high d)
 found_in text d = option_map found_text (as_str d)
+found_in truth d = option_map found_truth (as_bool d)
 found_in source d = option_map found_text (text_at (codes "path") d)
 found_in breakpoints d =
     option_map found_lines (option_and_then lines_of (option_and_then at_most_256 (as_array d)))

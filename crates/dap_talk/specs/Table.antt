@@ -1,6 +1,21 @@
 -- The debug commands (Debug Adapter Protocol, "Requests"; Jupyter messaging, "Debug request"): how
 -- each is spelled, and its arguments.
-use Rattle.std.specs.Prelude.{◌≤◌, length, ℕ, zero, suc, List, [], ◌∷◌, Option, option_map, find, codes}
+use Rattle.std.specs.Prelude.{
+  ◌≤◌,
+  length,
+  ℕ,
+  zero,
+  suc,
+  Bool,
+  false,
+  List,
+  [],
+  ◌∷◌,
+  Option,
+  option_map,
+  find,
+  codes,
+}
 use Rattle.std.specs.Str.{bytes_eq}
 use Rattle.serde_json.specs.Data.{Data}
 use Rattle.dap_talk.specs.declared.command.Granularity.{Granularity}
@@ -15,6 +30,7 @@ use Rattle.dap_talk.specs.Argument.{
   Kind,
   number,
   text,
+  truth,
   source,
   breakpoints,
   granularity,
@@ -22,6 +38,7 @@ use Rattle.dap_talk.specs.Argument.{
   Found,
   found_number,
   found_text,
+  found_truth,
   found_lines,
   found_granularity,
   Argument,
@@ -40,6 +57,7 @@ spelled name.Threads = codes "threads"
 spelled name.StackTrace = codes "stackTrace"
 spelled name.Scopes = codes "scopes"
 spelled name.Variables = codes "variables"
+spelled name.SetVariable = codes "setVariable"
 spelled name.Continue = codes "continue"
 spelled name.Next = codes "next"
 spelled name.StepIn = codes "stepIn"
@@ -54,6 +72,7 @@ spelled name.BoardSwitches = codes "boardSwitches"
 spelled name.BoardPress = codes "boardPress"
 spelled name.BoardType = codes "boardType"
 spelled name.BoardReset = codes "boardReset"
+spelled name.BoardAliases = codes "boardAliases"
 
 -- a whole number of 32 bits
 abbrev pub any_number : Kind
@@ -89,6 +108,10 @@ arguments_of name.Variables =
     required (codes "variablesReference") any_number ∷
     number_or_0 (codes "start") ∷
     number_or_0 (codes "count") ∷ []
+arguments_of name.SetVariable =
+    required (codes "variablesReference") any_number ∷
+    required (codes "name") text ∷
+    required (codes "value") text ∷ []
 arguments_of name.Continue = []
 arguments_of name.Next = granularity_or_line (codes "granularity") ∷ []
 arguments_of name.StepIn = granularity_or_line (codes "granularity") ∷ []
@@ -107,6 +130,7 @@ arguments_of name.BoardSwitches = required (codes "value") byte ∷ []
 arguments_of name.BoardPress = required (codes "vector") byte ∷ []
 arguments_of name.BoardType = required (codes "text") text ∷ []
 arguments_of name.BoardReset = []
+arguments_of name.BoardAliases = required (codes "aliases") truth ∷ []
 
 -- ---- the typed command
 
@@ -123,6 +147,10 @@ number_in _ = 0
 abbrev pub text_in : Found → List ℕ
 text_in (found_text t) = t
 text_in _ = []
+
+abbrev pub truth_in : Found → Bool
+truth_in (found_truth t) = t
+truth_in _ = false
 
 abbrev pub lines_in : Found → List ℕ
 lines_in (found_lines ls) = ls
@@ -145,6 +173,8 @@ command_of name.StackTrace vs = command.StackTrace (number_in (nth 0 vs)) (numbe
 command_of name.Scopes vs = command.Scopes (number_in (nth 0 vs))
 command_of name.Variables vs =
     command.Variables (number_in (nth 0 vs)) (number_in (nth 1 vs)) (number_in (nth 2 vs))
+command_of name.SetVariable vs =
+    command.SetVariable (number_in (nth 0 vs)) (text_in (nth 1 vs)) (text_in (nth 2 vs))
 command_of name.Continue vs = command.Continue
 command_of name.Next vs = command.Step Over (granularity_in (nth 0 vs))
 command_of name.StepIn vs = command.Step In (granularity_in (nth 0 vs))
@@ -161,6 +191,7 @@ command_of name.BoardSwitches vs = command.BoardSwitches (number_in (nth 0 vs))
 command_of name.BoardPress vs = command.BoardPress (number_in (nth 0 vs))
 command_of name.BoardType vs = command.BoardType (text_in (nth 0 vs))
 command_of name.BoardReset vs = command.BoardReset
+command_of name.BoardAliases vs = command.BoardAliases (truth_in (nth 0 vs))
 
 abbrev pub step_name : StepKind → CommandName
 step_name Over = name.Next
@@ -177,6 +208,7 @@ name_of command.Threads = name.Threads
 name_of (command.StackTrace start levels) = name.StackTrace
 name_of (command.Scopes frame) = name.Scopes
 name_of (command.Variables reference start count) = name.Variables
+name_of (command.SetVariable reference variable value) = name.SetVariable
 name_of command.Continue = name.Continue
 name_of (command.Step kind g) = step_name kind
 name_of command.Pause = name.Pause
@@ -189,6 +221,7 @@ name_of (command.BoardSwitches value) = name.BoardSwitches
 name_of (command.BoardPress vector) = name.BoardPress
 name_of (command.BoardType t) = name.BoardType
 name_of command.BoardReset = name.BoardReset
+name_of (command.BoardAliases aliases) = name.BoardAliases
 
 -- what every command that was read keeps to
 abbrev pub IsBounded : DapCommand → Type 0
@@ -206,9 +239,10 @@ abbrev pub every_name : List CommandName
 every_name =
     name.Initialize ∷ name.Attach ∷ name.Disconnect ∷ name.ConfigurationDone ∷
     name.SetBreakpoints ∷ name.Threads ∷ name.StackTrace ∷ name.Scopes ∷ name.Variables ∷
-    name.Continue ∷ name.Next ∷ name.StepIn ∷ name.StepOut ∷ name.Pause ∷ name.Disassemble ∷
-    name.Source ∷ name.DumpCell ∷ name.DebugInfo ∷ name.InspectVariables ∷
-    name.BoardSwitches ∷ name.BoardPress ∷ name.BoardType ∷ name.BoardReset ∷ []
+    name.SetVariable ∷ name.Continue ∷ name.Next ∷ name.StepIn ∷ name.StepOut ∷ name.Pause ∷
+    name.Disassemble ∷ name.Source ∷ name.DumpCell ∷ name.DebugInfo ∷ name.InspectVariables ∷
+    name.BoardSwitches ∷ name.BoardPress ∷ name.BoardType ∷ name.BoardReset ∷
+    name.BoardAliases ∷ []
 
 -- the first of these that is spelled so
 abbrev pub first_named : List CommandName → List ℕ → Option CommandName

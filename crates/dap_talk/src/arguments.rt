@@ -6,10 +6,12 @@ ghost use Rattle.dap_talk.specs.declared.arguments.ArgumentFault.TheVariants.{Ou
 ghost use Rattle.dap_talk.specs.Argument.{
   number,
   text,
+  truth,
   source,
   address,
   found_number,
   found_text,
+  found_truth,
   found_lines,
   found_granularity,
   whole_between,
@@ -110,6 +112,13 @@ pub fn text_at<'a>(request: &'a Value, key: &str) -> Option<&'a str>
         ≡ found (required key.now text) (view request.now) }
 {
     argument_at(request, key)??.as_str()
+}
+
+/// A truth value, which is required.
+pub fn truth_at(request: &Value, key: &str) -> Option<bool>
+    ensures { option_map found_truth result ≡ found (required key.now truth) (view request.now) }
+{
+    argument_at(request, key)??.as_bool()
 }
 
 /// The path of a source, which is required.

@@ -17,6 +17,7 @@ pub enum CommandName {
     StackTrace,
     Scopes,
     Variables,
+    SetVariable,
     Continue,
     Next,
     StepIn,
@@ -31,6 +32,7 @@ pub enum CommandName {
     BoardPress,
     BoardType,
     BoardReset,
+    BoardAliases,
 }
 
 /// What one step is: a line of a cell, or an instruction.
@@ -88,6 +90,12 @@ pub enum DapCommand {
         start: u32,
         count: u32,
     },
+    /// `value` is the text that is to be read as the new value of the variable with this name.
+    SetVariable {
+        reference: u32,
+        name: Text,
+        value: Text,
+    },
     Continue,
     Step {
         kind: StepKind,
@@ -119,6 +127,10 @@ pub enum DapCommand {
         text: Text,
     },
     BoardReset,
+    /// Whether the opcodes that Intel leaves undefined act as aliases of defined ones.
+    BoardAliases {
+        aliases: bool,
+    },
 }
 
 /// A request: its number, to which the response refers, and its command.
@@ -151,6 +163,7 @@ impl DapCommand {
             DapCommand::StackTrace { .. } => CommandName::StackTrace,
             DapCommand::Scopes { .. } => CommandName::Scopes,
             DapCommand::Variables { .. } => CommandName::Variables,
+            DapCommand::SetVariable { .. } => CommandName::SetVariable,
             DapCommand::Continue => CommandName::Continue,
             DapCommand::Step { kind, .. } => kind.name(),
             DapCommand::Pause => CommandName::Pause,
@@ -163,11 +176,12 @@ impl DapCommand {
             DapCommand::BoardPress { .. } => CommandName::BoardPress,
             DapCommand::BoardType { .. } => CommandName::BoardType,
             DapCommand::BoardReset => CommandName::BoardReset,
+            DapCommand::BoardAliases { .. } => CommandName::BoardAliases,
         }
     }
 }
 
-const EVERY_NAME: [CommandName; 23] = [
+const EVERY_NAME: [CommandName; 25] = [
     CommandName::Initialize,
     CommandName::Attach,
     CommandName::Disconnect,
@@ -177,6 +191,7 @@ const EVERY_NAME: [CommandName; 23] = [
     CommandName::StackTrace,
     CommandName::Scopes,
     CommandName::Variables,
+    CommandName::SetVariable,
     CommandName::Continue,
     CommandName::Next,
     CommandName::StepIn,
@@ -191,6 +206,7 @@ const EVERY_NAME: [CommandName; 23] = [
     CommandName::BoardPress,
     CommandName::BoardType,
     CommandName::BoardReset,
+    CommandName::BoardAliases,
 ];
 
 impl CommandName {
@@ -210,6 +226,7 @@ impl CommandName {
             CommandName::StackTrace => "stackTrace",
             CommandName::Scopes => "scopes",
             CommandName::Variables => "variables",
+            CommandName::SetVariable => "setVariable",
             CommandName::Continue => "continue",
             CommandName::Next => "next",
             CommandName::StepIn => "stepIn",
@@ -224,6 +241,7 @@ impl CommandName {
             CommandName::BoardPress => "boardPress",
             CommandName::BoardType => "boardType",
             CommandName::BoardReset => "boardReset",
+            CommandName::BoardAliases => "boardAliases",
         }
     }
 

@@ -7,7 +7,7 @@ ghost use Rattle.dap_talk.specs.Reading.{command_text, envelope_of, envelope_wit
 
 use crate::arguments::{
     ArgumentFault, address_at, breakpoints_or_none, byte_at, count_at, granularity_or_line,
-    lines_of, number_at, number_or_0, source_at, text_at, whole_between,
+    lines_of, number_at, number_or_0, source_at, text_at, truth_at, whole_between,
 };
 use crate::command::{CommandName, DapCommand, DapRequest, StepKind};
 use crate::fault::DapFault;
@@ -54,6 +54,23 @@ fn variables(request: &Value) -> Option<DapCommand>
         reference,
         start,
         count,
+    })
+}
+
+fn set_variable(alloc: Global, request: &Value) -> Result<DapCommand, ArgumentFault>
+    ensures { IsAnswer (asked CommandName.SetVariable (view request.now)) result }
+{
+    let Some(reference) = number_at(request, "variablesReference", 0, u32::MAX) else {
+        return Err(ArgumentFault::Arguments);
+    };
+    let name = text_at(request, "name").ok_or(ArgumentFault::Arguments)?;
+    let value = text_at(request, "value").ok_or(ArgumentFault::Arguments)?;
+    let name = Text::copy_of(alloc, name)?;
+    let value = Text::copy_of(alloc, value)?;
+    Ok(DapCommand::SetVariable {
+        reference,
+        name,
+        value,
     })
 }
 
@@ -118,6 +135,13 @@ fn board_type(alloc: Global, request: &Value) -> Result<DapCommand, ArgumentFaul
     Ok(DapCommand::BoardType { text })
 }
 
+fn board_aliases(request: &Value) -> Option<DapCommand>
+    ensures { result ≡ asked CommandName.BoardAliases (view request.now) }
+{
+    let aliases = truth_at(request, "aliases")?;
+    Some(DapCommand::BoardAliases { aliases })
+}
+
 fn or_refused(command: Option<DapCommand>) -> Result<DapCommand, ArgumentFault>
     ensures { IsAnswer command result }
 {
@@ -141,6 +165,7 @@ fn read_command(
         CommandName::StackTrace => or_refused(stack_trace(request)),
         CommandName::Scopes => or_refused(scopes(request)),
         CommandName::Variables => or_refused(variables(request)),
+        CommandName::SetVariable => set_variable(alloc, request),
         CommandName::Continue => Ok(DapCommand::Continue),
         CommandName::Next => or_refused(step(request, StepKind::Over)),
         CommandName::StepIn => or_refused(step(request, StepKind::In)),
@@ -155,6 +180,7 @@ fn read_command(
         CommandName::BoardPress => or_refused(board_press(request)),
         CommandName::BoardType => board_type(alloc, request),
         CommandName::BoardReset => Ok(DapCommand::BoardReset),
+        CommandName::BoardAliases => or_refused(board_aliases(request)),
     }
 }
 

@@ -20,6 +20,7 @@ enum Shape {
     Scopes,
     // Name and value.
     Variables(&'static [(&'static str, &'static str)]),
+    Value(&'static str),
     Continued,
     // Address, bytes and text.
     Instructions(&'static [(u16, &'static [u8], &'static str)]),
@@ -133,6 +134,7 @@ fn body(alloc: Global, shape: &Shape) -> Result<Body, AllocError> {
         }),
         Shape::Scopes => Ok(Body::Scopes),
         Shape::Variables(rows) => Ok(Body::Variables(variables(alloc, rows)?)),
+        Shape::Value(text) => Ok(Body::Value(Text::copy_of(alloc, text)?)),
         Shape::Continued => Ok(Body::Continued),
         Shape::Instructions(rows) => Ok(Body::Instructions(instructions(alloc, rows)?)),
         Shape::Content(text) => Ok(Body::Content(Text::copy_of(alloc, text)?)),
@@ -144,12 +146,12 @@ fn body(alloc: Global, shape: &Shape) -> Result<Body, AllocError> {
 }
 
 // Bodies, and their JSON.
-const BODIES: [(Shape, &str); 14] = [
+const BODIES: [(Shape, &str); 17] = [
     (Shape::Empty, "{}"),
     (
         Shape::Capabilities,
         "{\"supportsConfigurationDoneRequest\":true,\"supportsDisassembleRequest\":true,\
-\"supportsSteppingGranularity\":true}",
+\"supportsSetVariable\":true,\"supportsSteppingGranularity\":true}",
     ),
     (
         Shape::Threads,
@@ -183,6 +185,12 @@ const BODIES: [(Shape, &str); 14] = [
         "{\"variables\":[{\"name\":\"A\",\"value\":\"05AH\",\"variablesReference\":0}]}",
     ),
     (Shape::Variables(&[]), "{\"variables\":[]}"),
+    (Shape::Value("0C3FEH"), "{\"value\":\"0C3FEH\"}"),
+    (Shape::Value(""), "{\"value\":\"\"}"),
+    (
+        Shape::Value("\"\\\n\u{e9}"),
+        "{\"value\":\"\\\"\\\\\\n\u{e9}\"}",
+    ),
     (
         Shape::StackTrace(
             &[

@@ -1,9 +1,11 @@
-// The tests of dap_talk: debug requests that are read or refused, and the JSON of their answers.
-// They stand here, above the crate that they test, so that it is proved once: a crate is proved again with
-// each test that stands in it. Everything is tested through public functions.
+// The tests of dap_talk and dap_answers: debug requests that are read or refused, the JSON of their answers,
+// and the paths of cells. They stand here, above the crates that they test, so that these are proved once: a
+// crate is proved again with each test that stands in it. Everything is tested through public functions.
 #![tactic(auto)]
 
 #[cfg(test)]
 mod answers;
+#[cfg(test)]
+mod cells;
 #[cfg(test)]
 mod requests;

@@ -1,7 +1,5 @@
-//! Requests as frontends write them: what each is read as, and why others are refused. The hashes are
-//! another program's.
+//! Requests as frontends write them: what each is read as, and why others are refused.
 use base_text::text::Text;
-use dap_answers::cell::cell_path;
 use dap_answers::sending::response;
 use dap_talk::command::{CommandName, DapCommand, DapRequest, Granularity};
 use dap_talk::fault::DapFault;
@@ -45,7 +43,37 @@ fn granularity_word(granularity: Granularity) -> &'static str {
     }
 }
 
-// Adds the arguments of a command in the order of its fields. How far a step goes is in the command's name.
+fn truth_word(truth: bool) -> &'static str {
+    if truth { " true" } else { " false" }
+}
+
+fn put_setting(
+    told: &mut String,
+    reference: u32,
+    name: &Text,
+    value: &Text,
+) -> Result<(), AllocError> {
+    put_numbers(told, &[reference])?;
+    put_text(told, name)?;
+    put_text(told, value)
+}
+
+// Adds the argument of a command that has one. How far a step goes is in the command's name.
+fn put_argument(told: &mut String, command: &DapCommand) -> Result<(), AllocError> {
+    match command {
+        DapCommand::Scopes { frame_id } => put_numbers(told, &[*frame_id]),
+        DapCommand::Step { granularity, .. } => told.push_str(granularity_word(*granularity)),
+        DapCommand::Source { path } => put_text(told, path),
+        DapCommand::DumpCell { code } => put_text(told, code),
+        DapCommand::BoardSwitches { value } => put_numbers(told, &[u32::from(*value)]),
+        DapCommand::BoardPress { vector } => put_numbers(told, &[u32::from(*vector)]),
+        DapCommand::BoardType { text } => put_text(told, text),
+        DapCommand::BoardAliases { aliases } => told.push_str(truth_word(*aliases)),
+        _ => Ok(()),
+    }
+}
+
+// Adds the arguments of a command in the order of its fields.
 fn put_arguments(told: &mut String, command: &DapCommand) -> Result<(), AllocError> {
     match command {
         DapCommand::SetBreakpoints { path, lines } => {
@@ -56,13 +84,16 @@ fn put_arguments(told: &mut String, command: &DapCommand) -> Result<(), AllocErr
             start_frame,
             levels,
         } => put_numbers(told, &[*start_frame, *levels]),
-        DapCommand::Scopes { frame_id } => put_numbers(told, &[*frame_id]),
         DapCommand::Variables {
             reference,
             start,
             count,
         } => put_numbers(told, &[*reference, *start, *count]),
-        DapCommand::Step { granularity, .. } => told.push_str(granularity_word(*granularity)),
+        DapCommand::SetVariable {
+            reference,
+            name,
+            value,
+        } => put_setting(told, *reference, name, value),
         DapCommand::Disassemble {
             address,
             offset,
@@ -77,12 +108,7 @@ fn put_arguments(told: &mut String, command: &DapCommand) -> Result<(), AllocErr
                 u32::from(*instruction_count),
             ],
         ),
-        DapCommand::Source { path } => put_text(told, path),
-        DapCommand::DumpCell { code } => put_text(told, code),
-        DapCommand::BoardSwitches { value } => put_numbers(told, &[u32::from(*value)]),
-        DapCommand::BoardPress { vector } => put_numbers(told, &[u32::from(*vector)]),
-        DapCommand::BoardType { text } => put_text(told, text),
-        _ => Ok(()),
+        _ => put_argument(told, command),
     }
 }
 
@@ -169,6 +195,41 @@ const VARIABLES: [Argued; 2] = [
     ("{\"variablesReference\":0}", " 0 0 0"),
 ];
 
+// The name and the value are any texts, and how the value is to be shown isn't looked at.
+const SET_VARIABLES: [Argued; 6] = [
+    (
+        "{\"variablesReference\":1,\"name\":\"A\",\"value\":\"05AH\"}",
+        " 1 A 05AH",
+    ),
+    (
+        "{\"value\":\"B\",\"name\":\"C3FE\",\"variablesReference\":5}",
+        " 5 C3FE B",
+    ),
+    (
+        "{\"variablesReference\":0,\"name\":\"\",\"value\":\"\"}",
+        " 0  ",
+    ),
+    (
+        "{\"variablesReference\":4294967295,\"name\":\"PC\",\"value\":\"\"}",
+        " 4294967295 PC ",
+    ),
+    (
+        "{\"variablesReference\":1,\"name\":\"\\u0041\\\"\\u00e9\",\"value\":\"\\\\\\n5\\/\"}",
+        " 1 A\"\u{e9} \\\n5/",
+    ),
+    (
+        "{\"variablesReference\":1,\"name\":\"SP\",\"value\":\"1.5\",\"format\":{\"hex\":true},\
+\"start\":null}",
+        " 1 SP 1.5",
+    ),
+];
+
+const ALIASES: [Argued; 3] = [
+    ("{\"aliases\":true}", " true"),
+    ("{\"aliases\":false}", " false"),
+    ("{\"alias\":0,\"value\":null,\"aliases\":true}", " true"),
+];
+
 const BREAKPOINTS: [Argued; 3] = [
     ("{\"source\":{\"path\":\"a\"}}", " a"),
     (
@@ -200,17 +261,19 @@ const SOURCES: [Argued; 1] = [(
 )];
 
 // Commands, and arguments that each of them may have.
-const COMMANDS: [(&[&str], &[Argued]); 12] = [
+const COMMANDS: [(&[&str], &[Argued]); 14] = [
     (&BARE_COMMANDS, &NOT_LISTED),
     (&["next", "stepIn", "stepOut"], &STEPS),
     (&["stackTrace"], &STACK_TRACES),
     (&["scopes"], &[("{\"frameId\":1}", " 1")]),
     (&["variables"], &VARIABLES),
+    (&["setVariable"], &SET_VARIABLES),
     (&["boardSwitches"], &[("{\"value\":255}", " 255")]),
     (&["boardPress"], &[("{\"vector\":8}", " 8")]),
     (&["source"], &SOURCES),
     (&["dumpCell"], &[("{\"code\":\"HLT\"}", " HLT")]),
     (&["boardType"], &[("{\"text\":\"\"}", " ")]),
+    (&["boardAliases"], &ALIASES),
     (&["setBreakpoints"], &BREAKPOINTS),
     (&["disassemble"], &DISASSEMBLIES),
 ];
@@ -335,11 +398,27 @@ const NO_SOURCES: [&str; 4] = ["\"a\"", "null", "{\"path\":null}", "[\"a\"]"];
 
 const NO_GRANULARITIES: [&str; 3] = ["null", "1", "[\"line\"]"];
 
-const ARGUED_COMMANDS: [&str; 13] = [
+const NO_TEXTS: [&str; 6] = ["null", "5", "true", "[]", "[\"A\"]", "{}"];
+
+const NO_TRUTHS: [&str; 10] = [
+    "1",
+    "0",
+    "1.0",
+    "\"true\"",
+    "\"false\"",
+    "\"\"",
+    "null",
+    "[]",
+    "[true]",
+    "{}",
+];
+
+const ARGUED_COMMANDS: [&str; 15] = [
     "setBreakpoints",
     "stackTrace",
     "scopes",
     "variables",
+    "setVariable",
     "next",
     "stepIn",
     "stepOut",
@@ -349,14 +428,16 @@ const ARGUED_COMMANDS: [&str; 13] = [
     "boardSwitches",
     "boardPress",
     "boardType",
+    "boardAliases",
 ];
 
-const WITH_ONE_ARGUMENT: [&str; 5] = [
+const WITH_ONE_ARGUMENT: [&str; 6] = [
     "scopes",
     "dumpCell",
     "boardSwitches",
     "boardPress",
     "boardType",
+    "boardAliases",
 ];
 
 const NO_BYTES: [&str; 1] = ["256"];
@@ -368,14 +449,22 @@ const NO_DISASSEMBLIES: [&str; 2] = [
     "{\"memoryReference\":\"0x0000\"}",
 ];
 
-// Commands, what stands in the arguments of each before a value and after it, and values that are refused there.
-const REFUSED: [(&[&str], &str, &str, &[&str]); 27] = [
+const NO_SET_VARIABLES: [&str; 4] = [
+    "{}",
+    "{\"name\":\"A\",\"value\":\"1\"}",
+    "{\"variablesReference\":1,\"value\":\"1\"}",
+    "{\"variablesReference\":1,\"name\":\"A\"}",
+];
+
+// Commands, what stands in the arguments of each before a value and after it, and values refused there.
+const REFUSED: [(&[&str], &str, &str, &[&str]); 32] = [
     // Arguments that are no object.
     (&ARGUED_COMMANDS, "", "", &NO_OBJECTS),
     // Arguments that are missing.
-    (&WITH_ONE_ARGUMENT, "", "", &["{}"]),
+    (&WITH_ONE_ARGUMENT, "", "", &["{}", "{\"argument\":1}"]),
     (&["setBreakpoints"], "", "", &["{}", "{\"breakpoints\":[]}"]),
     (&["variables"], "", "", &["{}", "{\"start\":0,\"count\":1}"]),
+    (&["setVariable"], "", "", &NO_SET_VARIABLES),
     (&["disassemble"], "", "", &NO_DISASSEMBLIES),
     (
         &["source"],
@@ -402,6 +491,12 @@ const REFUSED: [(&[&str], &str, &str, &[&str]); 27] = [
     (
         &["variables"],
         "{\"variablesReference\":4,\"count\":",
+        "}",
+        &NO_WHOLE_NUMBERS,
+    ),
+    (
+        &["setVariable"],
+        "{\"name\":\"A\",\"value\":\"1\",\"variablesReference\":",
         "}",
         &NO_WHOLE_NUMBERS,
     ),
@@ -447,8 +542,21 @@ const REFUSED: [(&[&str], &str, &str, &[&str]); 27] = [
         "}",
         &NO_GRANULARITIES,
     ),
-    (&["dumpCell"], "{\"code\":", "}", &["null", "5"]),
-    (&["boardType"], "{\"text\":", "}", &["null", "[]"]),
+    (&["dumpCell"], "{\"code\":", "}", &NO_TEXTS),
+    (&["boardType"], "{\"text\":", "}", &NO_TEXTS),
+    (
+        &["setVariable"],
+        "{\"variablesReference\":1,\"value\":\"1\",\"name\":",
+        "}",
+        &NO_TEXTS,
+    ),
+    (
+        &["setVariable"],
+        "{\"variablesReference\":1,\"name\":\"A\",\"value\":",
+        "}",
+        &NO_TEXTS,
+    ),
+    (&["boardAliases"], "{\"aliases\":", "}", &NO_TRUTHS),
     (
         &["source", "setBreakpoints"],
         "{\"source\":",
@@ -530,7 +638,11 @@ const VALUES: [(&str, &[&str]); 5] = [
     ("NotRequest", &NO_REQUESTS),
     (
         "Arguments",
-        &["{\"seq\":1,\"type\":\"request\",\"command\":\"scopes\"}"],
+        &[
+            "{\"seq\":1,\"type\":\"request\",\"command\":\"scopes\"}",
+            "{\"seq\":1,\"type\":\"request\",\"command\":\"setVariable\"}",
+            "{\"seq\":1,\"type\":\"request\",\"command\":\"boardAliases\"}",
+        ],
     ),
     (
         "1 threads",
@@ -562,9 +674,11 @@ fn reads_whole_values(rt: HostRuntime) -> Result<(), Fail> {
 }
 
 // No commands of these names are known, whatever their arguments.
-const UNKNOWN_COMMANDS: [&str; 8] = [
+const UNKNOWN_COMMANDS: [&str; 10] = [
     "evaluate",
-    "setVariable",
+    "setExpression",
+    "SetVariable",
+    "boardaliases",
     "",
     "Threads",
     "threads ",
@@ -583,20 +697,26 @@ fn refuses_unknown_commands(rt: HostRuntime) -> Result<(), Fail> {
 }
 
 // Refused requests, and the responses to them.
-const REFUSALS: [(&str, &str); 3] = [
+const REFUSALS: [(&str, &str); 4] = [
     (
         "{\"seq\":5,\"type\":\"event\",\"command\":\"threads\"}",
         "{\"command\":\"\",\"message\":\"NotRequest\",\"request_seq\":0,\"seq\":3,\
 \"success\":false,\"type\":\"response\"}",
     ),
     (
-        "{\"seq\":5,\"type\":\"request\",\"command\":\"setVariable\"}",
-        "{\"command\":\"setVariable\",\"message\":\"Command\",\"request_seq\":5,\"seq\":3,\
+        "{\"seq\":5,\"type\":\"request\",\"command\":\"evaluate\"}",
+        "{\"command\":\"evaluate\",\"message\":\"Command\",\"request_seq\":5,\"seq\":3,\
 \"success\":false,\"type\":\"response\"}",
     ),
     (
         "{\"seq\":6,\"type\":\"request\",\"command\":\"scopes\"}",
         "{\"command\":\"scopes\",\"message\":\"Arguments\",\"request_seq\":6,\"seq\":3,\
+\"success\":false,\"type\":\"response\"}",
+    ),
+    (
+        "{\"seq\":8,\"type\":\"request\",\"command\":\"setVariable\",\
+\"arguments\":{\"variablesReference\":1,\"name\":\"A\",\"value\":5}}",
+        "{\"command\":\"setVariable\",\"message\":\"Arguments\",\"request_seq\":8,\"seq\":3,\
 \"success\":false,\"type\":\"response\"}",
     ),
 ];
@@ -649,34 +769,6 @@ fn is_its_refusal(alloc: Global, text: &str, json: &str) -> Result<bool, Fail> {
 fn answers_what_it_refuses(rt: HostRuntime) -> Result<(), Fail> {
     for (value, json) in &REFUSALS {
         assert!(rt; is_its_refusal(rt.alloc(), value, json)?, "{value}");
-    }
-    Ok(())
-}
-
-// Cells, and the hashes in their paths.
-const PATHS: [(&str, &str); 10] = [
-    ("", "0"),
-    ("HLT", "136272956"),
-    ("a", "2456313694"),
-    ("ab", "446775395"),
-    ("abc", "324500635"),
-    ("abcd", "646393889"),
-    ("abcde", "1594468574"),
-    ("\u{e9}", "876201565"),
-    ("MVI A,5\nHLT\n", "3195194222"),
-    ("The quick brown fox jumps over the lazy dog", "556214736"),
-];
-
-fn is_path(alloc: Global, code: &str, number: &str) -> Result<bool, AllocError> {
-    let path = format!(in alloc; "/tmp/i8080_lab/{number}.asm")?;
-    let found = cell_path(alloc, code)?;
-    Ok(found.as_str() == path.as_str())
-}
-
-#[test]
-fn paths_of_cells(rt: HostRuntime) -> Result<(), AllocError> {
-    for (code, number) in &PATHS {
-        assert!(rt; is_path(rt.alloc(), code, number)?, "{code}");
     }
     Ok(())
 }

@@ -1,6 +1,8 @@
 -- A processor with its memory, and how its parts are read and written.
 use Rattle.std.specs.Prelude.{ℕ, ◌+◌, ◌*◌, ◌/◌, ◌%◌, List, false, replicate, slice_index, slice_set}
 use Rattle.std.specs.List.{fold}
+use Rattle.i80_rows.specs.declared.board.Board.{Board}
+use Rattle.i80_rows.specs.declared.board.Board.TheVariants.{Strict}
 use Rattle.i80_rows.specs.declared.instruction.Reg.{Reg}
 use Rattle.i80_rows.specs.declared.instruction.Reg.TheVariants as reg
 use Rattle.i80_rows.specs.declared.instruction.Pair.{Pair}
@@ -14,10 +16,11 @@ use Rattle.i80_exec.specs.declared.registers.Registers.{Registers}
 use Rattle.i80_exec.specs.declared.registers.Interrupts.{Interrupts}
 use Rattle.i80_exec.specs.declared.registers.Interrupts.TheVariants.{Off}
 
--- the registers, and the 65,536 bytes in order of their addresses
+-- the registers, the 65,536 bytes in order of their addresses, and whether the twelve undefined opcodes act
 pub record MachineState : Type 0 where
   pub regs : Registers
   pub memory : List ℕ
+  pub board : Board
 
 -- every address, SP and PC wrap
 abbrev pub wrapped : ℕ → ℕ
@@ -42,6 +45,9 @@ stored_word m address word = stored (stored m address (word % 256)) (address + 1
 
 abbrev pub with_regs : MachineState → Registers → MachineState
 with_regs m regs = record m { regs = regs }
+
+abbrev pub with_board : MachineState → Board → MachineState
+with_board m board = record m { board = board }
 
 abbrev pub with_pc : MachineState → ℕ → MachineState
 with_pc m address = with_regs m (record m.regs { pc = address })
@@ -132,6 +138,6 @@ clear_regs = record {
 unfoldable pub zeros : List ℕ
 zeros = replicate 65536 0
 
--- after power-on: registers and memory 0, flags clear, interrupts off
+-- after power-on: registers and memory 0, flags clear, interrupts off, and the undefined opcodes don't act
 abbrev pub power_on : MachineState
-power_on = record { regs = clear_regs; memory = zeros }
+power_on = record { regs = clear_regs; memory = zeros; board = Strict }

@@ -18,7 +18,8 @@ use Rattle.std.specs.Prelude.{
 }
 use Rattle.i80_rows.specs.declared.instruction.Instr.{Instr}
 use Rattle.i80_rows.specs.declared.instruction.Instr.TheVariants.{Di, Ei}
-use Rattle.i80_rows.specs.Rows.{Row, Undefined, Alone, Byte, Word, row}
+use Rattle.i80_rows.specs.Rows.{Row, Undefined, Alone, Byte, Word}
+use Rattle.i80_rows.specs.AliasRows.{row_on}
 use Rattle.i80_exec.specs.declared.registers.Stepped.{Stepped}
 use Rattle.i80_exec.specs.declared.registers.Stepped.TheVariants as stepped
 use Rattle.i80_exec.specs.declared.registers.Interrupts.{Interrupts}
@@ -57,9 +58,13 @@ by_row (Alone i) input m = executed i 1 input m
 by_row (Byte f) input m = executed (f (byte_at m (m.regs.pc + 1))) 2 input m
 by_row (Word f) input m = executed (f (word_at m (m.regs.pc + 1))) 3 input m
 
+-- what an opcode does by the table of the machine's board
+abbrev pub by_opcode : ℕ → (ℕ → ℕ) → MachineState → Outcome
+by_opcode opcode input m = by_row (row_on m.board opcode) input m
+
 -- the instruction at PC, where an IN from a port is answered so
 abbrev pub instruction : (ℕ → ℕ) → MachineState → Outcome
-instruction input m = by_row (row (byte_at m m.regs.pc)) input m
+instruction input m = by_opcode (byte_at m m.regs.pc) input m
 
 -- An interrupt request for RST n is accepted only where interrupts are on: PC is pushed as it stands,
 -- PC is 8n, and interrupts are off.

@@ -27,6 +27,7 @@ ghost use Rattle.i80_exec.specs.State.{
   get_stack_pair,
   put_stack_pair,
   with_regs,
+  with_board,
   with_pc,
   with_a,
   with_flags,
@@ -59,6 +60,7 @@ mod opcodes;
 use crate::ports::Ports;
 use crate::registers::{Interrupts, Registers, Stepped};
 use i80_rows::arithmetic::{AluResult, alu_add, alu_and, alu_or, alu_sub, alu_xor};
+use i80_rows::board::Board;
 use i80_rows::flags::Flags;
 use i80_rows::instruction::{Cond, Operation, Pair, StackPair};
 use i80_rows::memory::MEMORY_SIZE;
@@ -70,6 +72,7 @@ use std::marker::Model;
 pub struct Machine {
     regs: Registers,
     memory: Vec<u8>,
+    board: Board,
 }
 
 impl Model for Machine {
@@ -78,13 +81,13 @@ impl Model for Machine {
 
     ghost Value = { MachineState };
 
-    ghost view = { λ m. record { regs = m.regs; memory = m.memory.items } };
+    ghost view = { λ m. record { regs = m.regs; memory = m.memory.items; board = m.board } };
 
     ghost invariant = { λ m. length m.memory.items ≡ 65536 };
 }
 
 impl Machine {
-    /// A machine after power-on: registers and memory 0, flags clear, interrupts off.
+    /// A machine after power-on: registers and memory 0, flags clear, interrupts off, and a strict board.
     /// Its memory is the one thing that is allocated here.
     pub fn new(alloc: Global) -> Result<Machine, AllocError>
         ensures { IfOk result (λ m. m ≡ power_on) }
@@ -103,7 +106,11 @@ impl Machine {
             pc: 0,
             interrupts: Interrupts::Off,
         };
-        Ok(Machine { regs, memory })
+        Ok(Machine {
+            regs,
+            memory,
+            board: Board::Strict,
+        })
     }
 
     /// The byte at an address.
@@ -122,7 +129,7 @@ impl Machine {
         self.memory[address as usize] = byte;
     }
 
-    /// All but the memory.
+    /// The registers, the flags and the interrupt state.
     #[inline]
     pub fn regs(&self) -> Registers
         ensures { result ≡ self.now.regs }
@@ -130,11 +137,25 @@ impl Machine {
         self.regs
     }
 
-    /// Sets all but the memory.
+    /// Sets them.
     pub fn set_regs(&mut self, regs: Registers)
         ensures { self.new ≡ with_regs self.old regs }
     {
         self.regs = regs;
+    }
+
+    /// Whether the twelve undefined opcodes act.
+    pub fn board(&self) -> Board
+        ensures { result ≡ self.now.board }
+    {
+        self.board
+    }
+
+    /// Sets whether they do.
+    pub fn set_board(&mut self, board: Board)
+        ensures { self.new ≡ with_board self.old board }
+    {
+        self.board = board;
     }
 
     /// Sets the address of the next instruction.
@@ -145,7 +166,7 @@ impl Machine {
     }
 
     #[inline(always)]
-    /// Does the instruction at PC, by the table of 256 rows. An undefined opcode changes nothing.
+    /// Does the instruction at PC, by the table of the board. An opcode that is undefined there changes nothing.
     pub fn step<P: Ports>(&mut self, ports: &mut P) -> Stepped
         requires { 1 ≤ P.spare ports.old }
         ensures { let outcome = instruction (P.answer (P.state ports.old)) self.old in

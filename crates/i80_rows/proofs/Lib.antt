@@ -7,3 +7,4 @@ pub mod OnlyEncoding
 pub mod DecodeLemmas
 pub mod TableLemmas
 pub mod RowLemmas
+pub mod AliasLemmas

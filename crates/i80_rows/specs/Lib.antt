@@ -2,6 +2,7 @@ pub mod FlagValues
 pub mod Arithmetic
 pub mod Codes
 pub mod Rows
+pub mod AliasRows
 pub mod Instructions
 pub mod TableRows
 pub mod Encoding

@@ -1,12 +1,14 @@
-//! Reading an instruction from bytes, by the table of 256 rows.
+//! Reading an instruction from bytes, by the table of 256 rows and the board's list of aliases.
 ghost use Rattle.std.specs.Prelude.{◌≡◌, ◌++◌, List, ℕ, length, take, IfOk, Ok};
 ghost use Rattle.i80_rows.specs.Rows.{Byte, Word, read, read_row};
+ghost use Rattle.i80_rows.specs.AliasRows.{read_on};
 ghost use Rattle.i80_rows.specs.Instructions.{byte_instruction, word_instruction};
 ghost use Rattle.i80_rows.specs.Encoding.{Encodes};
 
 mod rows;
 
-use crate::decoding::rows::{Row, row_at};
+use crate::board::Board;
+use crate::decoding::rows::{Row, board_row_at};
 use crate::instruction::{ByteOperation, DecodeFault, Instr, WordOperation};
 
 /// The instruction that the bytes begin with, and its length of 1 to 3 bytes.
@@ -19,16 +21,26 @@ pub fn decode(bytes: &[u8]) -> Result<(Instr, u8), DecodeFault>
     // Which it is, undefined and cut off opcodes too, is read off the table.
     ensures table { result ≡ read bytes.now }
 {
-    read_instruction(bytes)
+    decode_on(bytes, Board::Strict)
 }
 
-fn read_instruction(bytes: &[u8]) -> Result<(Instr, u8), DecodeFault>
-    ensures { result ≡ read bytes.now }
+/// The instruction that the bytes begin with on a board. With `Board::Aliases` none of the 256 opcodes is undefined,
+/// and twelve instructions have a second encoding, which `encode` never writes.
+pub fn decode_on(bytes: &[u8], board: Board) -> Result<(Instr, u8), DecodeFault>
+    ensures table { result ≡ read_on board bytes.now }
+    // On a strict board it is what `decode` reads.
+    ensures strict { board ≡ Board.Strict → result ≡ read bytes.now }
+{
+    read_instruction(bytes, board)
+}
+
+fn read_instruction(bytes: &[u8], board: Board) -> Result<(Instr, u8), DecodeFault>
+    ensures { result ≡ read_on board bytes.now }
 {
     let [opcode, rest @ ..] = bytes else {
         return Err(DecodeFault::Short { needed: 1 });
     };
-    match row_at(*opcode) {
+    match board_row_at(*opcode, board) {
         Row::Undefined => Err(DecodeFault::Undefined),
         Row::Alone(instr) => Ok((instr, 1)),
         Row::Byte(operation) => read_byte(operation, rest),

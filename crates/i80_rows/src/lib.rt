@@ -7,6 +7,7 @@
 #![tactic(auto)]
 
 pub mod arithmetic;
+pub mod board;
 pub mod decoding;
 pub mod encoding;
 pub mod flags;

@@ -8,11 +8,11 @@ use i80_exec::registers::{Interrupts, Registers, Stepped};
 use i80_rows::arithmetic::{
     AluResult, alu_add, alu_and, alu_or, alu_sub, alu_xor, daa, dcr, inr, rotate,
 };
-use i80_rows::decoding::decode;
+use i80_rows::decoding::decode_on;
 use i80_rows::flags::Flags;
 use i80_rows::instruction::{Cond, IndexPair, Instr, Operation, Pair, Reg, StackPair};
 
-/// Registers of its own, and a machine of which the memory alone is used.
+/// Registers of its own, and a machine of which the memory and the option alone are used.
 #[derive(Drop)]
 pub(crate) struct Plain {
     regs: Registers,
@@ -54,7 +54,7 @@ impl Plain {
             self.peek(pc.wrapping_add(1)),
             self.peek(pc.wrapping_add(2)),
         ];
-        match decode(&window) {
+        match decode_on(&window, self.memory.board()) {
             Ok((instr, size)) => self.execute(instr, size, ports),
             Err(_) => Stepped::Undefined { opcode: window[0] },
         }

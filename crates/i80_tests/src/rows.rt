@@ -2,7 +2,8 @@
 use i80_rows::arithmetic::{
     AluResult, alu_add, alu_and, alu_or, alu_sub, alu_xor, daa, dcr, inr, rotate,
 };
-use i80_rows::decoding::decode;
+use i80_rows::board::Board;
+use i80_rows::decoding::{decode, decode_on};
 use i80_rows::encoding::encode;
 use i80_rows::flags::Flags;
 use i80_rows::instruction::{Cond, DecodeFault, Instr, Operation, Reg, Register, Rotation, Vector};
@@ -89,6 +90,43 @@ fn decode_tells_undefined_and_short_apart(rt: HostRuntime) {
         let decoded = decode(&[opcode, 0, 0]);
         assert!(rt; decoded == Err(DecodeFault::Undefined), "{opcode:x}");
     }
+}
+
+// What MAME's 8080 takes the twelve undefined opcodes for, with 34 and 12 behind them.
+const ALIASES: [(u8, Instr, u8); 12] = [
+    (0x08, Instr::Nop, 1),
+    (0x10, Instr::Nop, 1),
+    (0x18, Instr::Nop, 1),
+    (0x20, Instr::Nop, 1),
+    (0x28, Instr::Nop, 1),
+    (0x30, Instr::Nop, 1),
+    (0x38, Instr::Nop, 1),
+    (0xcb, Instr::Jmp(0x1234), 3),
+    (0xd9, Instr::Ret, 1),
+    (0xdd, Instr::Call(0x1234), 3),
+    (0xed, Instr::Call(0x1234), 3),
+    (0xfd, Instr::Call(0x1234), 3),
+];
+
+#[test]
+fn a_board_with_aliases_defines_the_undefined_opcodes(rt: HostRuntime) {
+    for (opcode, instr, size) in ALIASES {
+        let code = [opcode, 0x34, 0x12];
+        let aliased = decode_on(&code, Board::Aliases);
+        assert!(rt; aliased == Ok((instr, size)), "{opcode:x}");
+        let strict = decode_on(&code, Board::Strict);
+        assert!(rt; strict == Err(DecodeFault::Undefined), "{opcode:x}");
+    }
+}
+
+#[test]
+fn both_boards_read_the_defined_opcodes_alike(rt: HostRuntime) {
+    for (row, (bytes, want)) in DECODED.iter().enumerate() {
+        assert!(rt; decode_on(bytes, Board::Strict) == *want, "row {row}");
+        assert!(rt; decode_on(bytes, Board::Aliases) == *want, "row {row}");
+    }
+    let cut_off = decode_on(&[0xcb, 0x34], Board::Aliases);
+    assert!(rt; cut_off == Err(DecodeFault::Short { needed: 3 }));
 }
 
 // Whether what an opcode with two bytes after it means is encoded as they are; nothing where it means

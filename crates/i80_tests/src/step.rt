@@ -5,6 +5,7 @@ use crate::plain::Plain;
 use i80_exec::machine::Machine;
 use i80_exec::ports::{PortOperation, Ports};
 use i80_exec::registers::{Interrupts, Registers, Stepped};
+use i80_rows::board::Board;
 use i80_rows::flags::Flags;
 use std::alloc::{AllocError, Global};
 use std::process::Abort;
@@ -123,6 +124,8 @@ enum Act {
     Registers(u8, u8, u16, u16, u16),
     /// Finds the interrupt state.
     Interrupts(Interrupts),
+    /// Sets the option of the board.
+    SetBoard(Board),
     /// Puts a byte at an address.
     Poke(u16, u8),
     /// Finds a byte at an address.
@@ -144,6 +147,7 @@ fn steps(alloc: Global, machine: &mut Machine, want: Outcome) -> Result<bool, Al
 fn perform(alloc: Global, machine: &mut Machine, act: Act) -> Result<bool, AllocError> {
     match act {
         Act::Set(a, flag_byte, hl, sp) => machine.set_regs(registers(a, flag_byte, hl, sp, 0)),
+        Act::SetBoard(board) => machine.set_board(board),
         Act::Poke(address, byte) => machine.poke(address, byte),
         Act::Step(stepped) => return steps(alloc, machine, (stepped, (0, None))),
         Act::Operate(operation) => {
@@ -252,6 +256,78 @@ const CALL: [Act; 7] = [
 #[test]
 fn a_call_pushes_the_next_address_and_ret_pops_it(rt: HostRuntime) {
     play(&rt, 0, (0x0100, &[0xcd, 0x34, 0x12]), &CALL);
+}
+
+// A call and a return by DD and D9, and a jump by CB; a NOP where the board is strict again.
+const ALIASES: [Act; 10] = [
+    Act::SetBoard(Board::Aliases),
+    Act::Poke(0x1234, 0xd9),
+    Act::Step(Stepped::Called {
+        slot: 0xfffe,
+        target: 0x1234,
+    }),
+    Act::Registers(0, 0x02, 0, 0xfffe, 0x1234),
+    Act::Step(Stepped::Returned { slot: 0xfffe }),
+    Act::Registers(0, 0x02, 0, 0x0000, 0x0103),
+    Act::Step(Stepped::Done),
+    Act::Registers(0, 0x02, 0, 0x0000, 0x3412),
+    Act::SetBoard(Board::Strict),
+    Act::Step(Stepped::Done),
+];
+
+#[test]
+fn a_program_runs_through_aliases(rt: HostRuntime) {
+    let code = [0xdd, 0x34, 0x12, 0xcb, 0x12, 0x34];
+    play(&rt, 0, (0x0100, &code), &ALIASES);
+}
+
+const CALLED: Stepped = Stepped::Called {
+    slot: 0xfffe,
+    target: 0x1234,
+};
+
+// The twelve opcodes of which MAME's 8080 makes something, and what a step answers there, with SP and PC after it.
+// It is made at 0200 with 34 and 12 behind the opcode, SP=0 and zeros on the stack.
+const UNDEFINED: [(u8, Stepped, u16, u16); 12] = [
+    (0x08, Stepped::Done, 0, 0x0201),
+    (0x10, Stepped::Done, 0, 0x0201),
+    (0x18, Stepped::Done, 0, 0x0201),
+    (0x20, Stepped::Done, 0, 0x0201),
+    (0x28, Stepped::Done, 0, 0x0201),
+    (0x30, Stepped::Done, 0, 0x0201),
+    (0x38, Stepped::Done, 0, 0x0201),
+    (0xcb, Stepped::Done, 0, 0x1234),
+    (0xd9, Stepped::Returned { slot: 0 }, 2, 0x0000),
+    (0xdd, CALLED, 0xfffe, 0x1234),
+    (0xed, CALLED, 0xfffe, 0x1234),
+    (0xfd, CALLED, 0xfffe, 0x1234),
+];
+
+#[test]
+fn each_undefined_opcode_acts_where_it_is_to(rt: HostRuntime) {
+    for (place, (opcode, stepped, sp, pc)) in UNDEFINED.iter().enumerate() {
+        let acts = [
+            Act::Step(Stepped::Undefined { opcode: *opcode }),
+            Act::Registers(0, 0x02, 0, 0, 0x0200),
+            Act::SetBoard(Board::Aliases),
+            Act::Step(*stepped),
+            Act::Registers(0, 0x02, 0, *sp, *pc),
+        ];
+        play(&rt, place, (0x0200, &[*opcode, 0x34, 0x12]), &acts);
+    }
+}
+
+// Registers that are set leave the option as it is.
+const KEPT: [Act; 4] = [
+    Act::SetBoard(Board::Aliases),
+    Act::Set(0x11, 0x02, 0, 0),
+    Act::Step(Stepped::Done),
+    Act::Registers(0x11, 0x02, 0, 0, 1),
+];
+
+#[test]
+fn registers_leave_the_option_out(rt: HostRuntime) {
+    play(&rt, 0, (0, &[0x38]), &KEPT);
 }
 
 // An address, the code there, and what a step of it answers, with SP and PC after it.
@@ -440,17 +516,32 @@ fn first_apart(
     }
 }
 
-fn first_apart_on(alloc: Global, opcode: u8) -> Result<Option<Apart>, AllocError> {
+fn machine_on(alloc: Global, board: Board, code: &[u8]) -> Result<Machine, AllocError> {
+    let mut machine = machine_at(alloc, 0x0100, code)?;
+    machine.set_board(board);
+    Ok(machine)
+}
+
+fn first_apart_on(alloc: Global, board: Board, opcode: u8) -> Result<Option<Apart>, AllocError> {
     let code = [opcode, 0x0f, 0x9a];
-    let mut fast = machine_at(alloc, 0x0100, &code)?;
-    let mut plain = Plain::new(machine_at(alloc, 0x0100, &code)?);
+    let mut fast = machine_on(alloc, board, &code)?;
+    let mut plain = Plain::new(machine_on(alloc, board, &code)?);
     first_apart(alloc, &mut fast, &mut plain)
 }
 
 #[test]
 fn the_plain_body_agrees_on_every_opcode_and_flag(rt: HostRuntime) {
+    agree_on(&rt, Board::Strict);
+}
+
+#[test]
+fn it_agrees_on_a_board_with_aliases(rt: HostRuntime) {
+    agree_on(&rt, Board::Aliases);
+}
+
+fn agree_on(rt: &(impl Abort + AllocGlobal), board: Board) {
     for opcode in 0..=255u8 {
-        match first_apart_on(rt.alloc(), opcode) {
+        match first_apart_on(rt.alloc(), board, opcode) {
             Ok(None) => {}
             Ok(Some(Apart::State(number))) => panic!(rt; "{opcode:x} from flags {number}"),
             Ok(Some(Apart::Address(address))) => panic!(rt; "{opcode:x} at {address:x}"),

@@ -22,4 +22,5 @@ shown_body (shown.Info is_attached is_stopped breakpoints) = body.DebugState (re
 abbrev pub body_of : Answer → Body
 body_of (answer.Breakpoints breakpoints) = body.Breakpoints breakpoints
 body_of (answer.Shown shown) = shown_body shown
+body_of (answer.Poked text) = body.Value text
 body_of other = body.Empty

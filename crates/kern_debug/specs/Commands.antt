@@ -1,7 +1,9 @@
 -- What each debug command makes of a board (Debug Adapter Protocol, "Requests"; Jupyter messaging,
 -- "Debug request").
-use Rattle.std.specs.Prelude.{ℕ, ◌+◌, List, Result, Ok, Err, OnErr, ◌≡◌}
+use Rattle.std.specs.Prelude.{ℕ, ◌+◌, List, Result, Ok, Err, OnErr, ◌≡◌, Bool, true, false}
 use Rattle.base_latin.specs.Latin.{latin_bytes}
+use Rattle.i80_rows.specs.declared.board.Board.{Board as BoardOption}
+use Rattle.i80_rows.specs.declared.board.Board.TheVariants.{Strict, Aliases}
 use Rattle.i80_exec.specs.State.{MachineState, wrapped}
 use Rattle.lab_views.specs.declared.view.View.TheVariants as view
 use Rattle.lab_views.specs.Code.{after_instructions}
@@ -74,6 +76,11 @@ abbrev pub disassembled : ℕ → ℕ → ℕ → ℕ → Board → Performed
 disassembled address offset instruction_offset count b =
     answered (event.Show (view.Code (first_line b.machine address offset instruction_offset) count)) b
 
+-- the board on which the undefined opcodes act, or on which they don't
+abbrev pub board_with : Bool → BoardOption
+board_with true = Aliases
+board_with false = Strict
+
 -- a cell's text is kept under the path by which a frontend knows it
 abbrev pub dumped : List ℕ → Board → Performed
 dumped code b = done (event.Dump (cell_path code) code) (body.SourcePath (cell_path code)) b
@@ -100,10 +107,12 @@ performed (command.Source path) b = answered (event.Show (view.Source path)) b
 performed (command.DumpCell code) b = dumped code b
 performed command.DebugInfo b = answered (event.Show view.Info) b
 performed command.InspectVariables b = answered (event.Show (view.Variables 1 0 0)) b
+performed (command.SetVariable reference name value) b = answered (event.Poke reference name value) b
 performed (command.BoardSwitches value) b = done (event.Switches value) body.Empty b
 performed (command.BoardPress vector) b = done (event.Press vector) body.Empty b
 performed (command.BoardType text) b = done (event.Typed (latin_bytes text)) body.Empty b
 performed command.BoardReset b = done event.Reset body.Empty b
+performed (command.BoardAliases aliases) b = done (event.SetBoard (board_with aliases)) body.Empty b
 
 -- the commands that look at the board
 abbrev pub IsLook : DapCommand → Type 0

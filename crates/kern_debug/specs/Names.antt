@@ -23,6 +23,8 @@ refusal_name (fault.Assembly cell_fault) = codes "Assembly"
 refusal_name fault.NotAttached = codes "NotAttached"
 refusal_name fault.Vector = codes "Vector"
 refusal_name fault.SourcesFull = codes "SourcesFull"
+refusal_name fault.UnknownName = codes "UnknownName"
+refusal_name fault.BadValue = codes "BadValue"
 
 -- what a frontend is told once a command is done (Debug Adapter Protocol, "Events")
 abbrev pub event_after : DapCommand → Option Event

@@ -34,6 +34,7 @@ pub fn body_of(answer: Answer) -> Body
     match answer {
         Answer::Breakpoints(breakpoints) => Body::Breakpoints(breakpoints),
         Answer::Shown(shown) => shown_body(shown),
+        Answer::Poked(text) => Body::Value(text),
         _ => Body::Empty,
     }
 }

@@ -26,6 +26,8 @@ pub fn refusal_name(refusal: EventFault) -> &'static str
         EventFault::NotAttached => "NotAttached",
         EventFault::Vector => "Vector",
         EventFault::SourcesFull => "SourcesFull",
+        EventFault::UnknownName => "UnknownName",
+        EventFault::BadValue => "BadValue",
     }
 }
 

@@ -1,8 +1,9 @@
 //! Debug commands, each carried out on a board.
-ghost use Rattle.std.specs.Prelude.{◌≤◌, length};
+ghost use Rattle.std.specs.Prelude.{◌≡◌, ◌≤◌, length};
 ghost use Rattle.dap_talk.specs.Table.{IsBounded};
 ghost use Rattle.base_latin.specs.Latin.{latin_bytes};
-ghost use Rattle.kern_debug.specs.Commands.{performed, answered, done, dumped, step_request, Performs};
+ghost use Rattle.kern_debug.specs.Commands.{performed, answered, done, dumped, step_request, board_with};
+ghost use Rattle.kern_debug.specs.Commands.{Performs};
 
 use crate::event::{answered, done};
 use crate::look::look;
@@ -13,6 +14,7 @@ use base_text::text::Text;
 use dap_answers::answer::Body;
 use dap_answers::cell::cell_path;
 use dap_talk::command::{DapCommand, Granularity, StepKind};
+use i80_rows::board::Board;
 use lab_core::event::Event;
 use lab_core::fault::EventFault;
 use lab_core::lab::Lab;
@@ -45,6 +47,35 @@ fn dump_cell(alloc: Global, lab: &mut Lab, code: &Text) -> Result<Body, EventFau
     done(lab, &Event::Dump { path, text }, Body::SourcePath(answer))
 }
 
+/// Writes a register or a byte of memory. The answer's text is made before it is written.
+fn set_variable(
+    lab: &mut Lab,
+    reference: u32,
+    name: &Text,
+    value: &Text,
+) -> Result<Body, EventFault>
+    ensures { Performs (answered (Event.Poke reference name.now value.now)) lab.old result lab.new }
+{
+    let name = name.clone()?;
+    let value = value.clone()?;
+    let event = Event::Poke {
+        reference,
+        name,
+        value,
+    };
+    answered(lab, &event)
+}
+
+fn board_with_aliases(aliases: bool) -> Board
+    ensures { result ≡ board_with aliases }
+{
+    if aliases {
+        Board::Aliases
+    } else {
+        Board::Strict
+    }
+}
+
 /// Types a text at the console: each character as its byte in ISO 8859-1, `?` where it has none.
 fn type_text(alloc: Global, lab: &mut Lab, text: &Text) -> Result<Body, EventFault>
     ensures { Performs (done (Event.Typed (latin_bytes text.now)) Body.Empty) lab.old result lab.new }
@@ -72,10 +103,22 @@ pub fn perform(alloc: Global, lab: &mut Lab, command: &DapCommand) -> Result<Bod
         DapCommand::Step { kind, granularity } => step(lab, *kind, *granularity),
         DapCommand::Pause => done(lab, &Event::Pause, Body::Empty),
         DapCommand::DumpCell { code } => dump_cell(alloc, lab, code),
+        DapCommand::SetVariable {
+            reference,
+            name,
+            value,
+        } => set_variable(lab, *reference, name, value),
         DapCommand::BoardSwitches { value } => done(lab, &Event::Switches(*value), Body::Empty),
         DapCommand::BoardPress { vector } => done(lab, &Event::Press(*vector), Body::Empty),
         DapCommand::BoardType { text } => type_text(alloc, lab, text),
         DapCommand::BoardReset => done(lab, &Event::Reset, Body::Empty),
+        DapCommand::BoardAliases { aliases } => {
+            done(
+                lab,
+                &Event::SetBoard(board_with_aliases(*aliases)),
+                Body::Empty,
+            )
+        }
         DapCommand::StackTrace { .. }
         | DapCommand::Scopes { .. }
         | DapCommand::Variables { .. }

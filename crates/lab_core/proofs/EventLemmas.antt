@@ -6,14 +6,19 @@ use Rattle.std.specs.Prelude.{nat_lt}
 use Rattle.std.proofs.lemmas.Bool.Decides.{nat_tests}
 use Rattle.i80_exec.specs.State.{MachineState, stored, loaded}
 use Rattle.i80_devs.specs.Past.{Press, panel_after}
-use Rattle.lab_core.specs.declared.run_state.RunState.TheVariants.{NoRun, Running}
+use Rattle.lab_poke.specs.declared.place.Place.{Place}
+use Rattle.lab_poke.specs.Places.{place_named}
+use Rattle.lab_poke.specs.Values.{value_spelled, text_at}
+use Rattle.lab_poke.specs.Changes.{machine_with}
+use Rattle.lab_core.specs.declared.run_state.RunState.TheVariants.{NoRun, Running, Stopped}
 use Rattle.lab_core.specs.declared.answer.Answer.{Answer}
-use Rattle.lab_core.specs.declared.answer.Answer.TheVariants.{Accepted}
+use Rattle.lab_core.specs.declared.answer.Answer.TheVariants.{Accepted, Poked}
 use Rattle.lab_core.specs.declared.event.Event.{Event}
 use Rattle.lab_core.specs.declared.fault.EventFault.{EventFault}
 use Rattle.lab_core.specs.declared.fault.EventFault.TheVariants.{Latched}
 use Rattle.lab_core.specs.Board.{Board}
-use Rattle.lab_core.specs.Events.{Given, Gives, Applies, Runs, without_run, with_run, pressed, with_operation}
+use Rattle.lab_core.specs.Events.{Given, Gives, Applies, Runs, without_run, with_run, while_stopped, pressed}
+use Rattle.lab_core.specs.Events.{with_operation, poked, changed_to}
 
 pub gives_without : (b new : Board) (a : Answer) → b.run ≡ NoRun
     → Gives b (without_run b.run (Ok (a, new))) (Ok a) new
@@ -37,6 +42,15 @@ pressed_is n b few free =
 
 pub gives : (b new : Board) (given : Given) (a : Answer) → given ≡ Ok (a, new) → Gives b given (Ok a) new
 gives b new given a is = rw is (refl, refl)
+
+-- a place that is found, and a value that it holds
+pub gives_poked : (b : Board) (reference : ℕ) (name value text : List ℕ) (place : Place) (n : ℕ)
+    → b.run ≡ Stopped
+    → place_named reference name ≡ Ok place → value_spelled place value ≡ Ok n → text ≡ text_at place n
+    → Gives b (while_stopped b.run (poked reference name value b)) (Ok (Poked text))
+    (changed_to (machine_with place n b.machine) b)
+gives_poked b reference name value text place n stopped found spelled text-is =
+    rw (stopped, found, spelled, text-is) (refl, refl)
 
 -- a load writes to the memory alone
 pub loaded-regs : (m : MachineState) (image : List (ℕ × ℕ)) → (loaded m image).regs ≡ m.regs

@@ -1,7 +1,14 @@
 -- Which board a lab stands for after an event that changes some of its parts.
 use Rattle.std.proofs.Common.{◌≡◌, ℕ, List, [], ◌∷◌, ◌++◌, true, false, Option, Some, None, Result, Ok}
-use Rattle.std.proofs.Common.{length, map, refl, ap, ◌∙◌, rules}
-use Rattle.i80_exec.specs.State.{MachineState, power_on, with_pc, loaded as with_image}
+use Rattle.std.proofs.Common.{length, map, refl, ap, sym, subst, ◌∙◌, rules}
+use Rattle.std.specs.Option.{IsSome}
+use Rattle.i80_exec.specs.declared.registers.Registers.{Registers}
+use Rattle.lab_frames.specs.Live.{live}
+use Rattle.lab_frames.specs.Frames.{AtLeast}
+use Rattle.lab_core.specs.Stops.{since}
+use Rattle.lab_core.proofs.EventLemmas.{loaded-regs}
+use Rattle.i80_rows.specs.declared.board.Board.{Board as BoardOption}
+use Rattle.i80_exec.specs.State.{MachineState, with_board, with_pc, loaded as with_image}
 use Rattle.i80_devs.specs.Past as devices
 use Rattle.asm_build.specs.Reading.{Entries}
 use Rattle.asm_build.specs.Meaning.{Meaning}
@@ -21,7 +28,8 @@ use Rattle.lab_core.specs.declared.answer.Breakpoint.{Breakpoint}
 use Rattle.lab_core.specs.declared.fault.EventFault.{EventFault}
 use Rattle.lab_core.specs.Board.{Board}
 use Rattle.lab_core.specs.Events.{Gives, GivesSlice, SlicesRun, while_attached, while_running, stopped}
-use Rattle.lab_core.specs.Events.{started, reset, with_built, with_cell, dumped, verified, with_breakpoints}
+use Rattle.lab_core.specs.Events.{started, machine_reset, reset, with_option, with_built, with_cell, dumped}
+use Rattle.lab_core.specs.Events.{verified, with_breakpoints}
 use Rattle.lab_core.specs.Labs.{LabState, StandsAmid, StandsFor}
 
 pub gives_paused : (b new : Board) (a : Answer) → b.is_attached ≡ true → b.run ≡ Running
@@ -46,7 +54,8 @@ stands_started old b machine address s machine-is =
 
 pub stands_reset : (old : LabState) (b : Board) (machine : MachineState) (panel : devices.DeviceState)
     (spans : List Span) (points : BreakpointState)
-    → StandsFor old b → machine ≡ power_on → devices.StandsFor panel [] → panel.operations ≡ []
+    → StandsFor old b → machine ≡ machine_reset old.machine → devices.StandsFor panel []
+    → panel.operations ≡ []
     → origins.StandsFor spans []
     → points.lists ≡ old.breakpoints.lists → breakpoints.StandsFor points []
     → StandsFor (record (forgotten old) {
@@ -57,7 +66,17 @@ pub stands_reset : (old : LabState) (b : Board) (machine : MachineState) (panel 
       run = NoRun;
     }) (reset b)
 stands_reset old b machine panel spans points s machine-is past none cleared lists met =
+    let fresh = machine-is ∙ ap machine_reset s.machine in
     let listed = lists ∙ s.lists in
+    search rules
+
+pub stands_with_option : (old : LabState) (b : Board) (machine : MachineState) (option : BoardOption)
+    → StandsFor old b → machine ≡ with_board old.machine option
+    → StandsFor (record old { machine = machine }) (with_option option b)
+stands_with_option old b machine option s machine-is =
+    let set = machine-is ∙ ap (λ (m : MachineState). with_board m option) s.machine in
+    let above : IsSome b.request → AtLeast (with_board b.machine option).regs.sp (live (since b)) = s.above in
+    let stopped : b.run ≡ Stopped → b.request ≡ None = s.stopped in
     search rules
 
 pub stands_built : (old : LabState) (b : Board) (number : ℕ) (m : Meaning) (machine : MachineState)
@@ -72,6 +91,10 @@ pub stands_built : (old : LabState) (b : Board) (number : ℕ) (m : Meaning) (ma
 stands_built old b number m machine spans points symbols s machine-is put lists met symbols-are =
     let changed = machine-is ∙ ap (λ (n : MachineState). with_image n m.output.image) s.machine in
     let listed = lists ∙ s.lists in
+    let A : Registers → Type 0 = λ r. AtLeast r.sp (live (since b)) in
+    let above : IsSome b.request → AtLeast (with_image b.machine m.output.image).regs.sp (live (since b)) =
+    λ asked. subst A (sym (loaded-regs b.machine m.output.image)) (s.above asked) in
+    let stopped : b.run ≡ Stopped → b.request ≡ None = s.stopped in
     search rules
 
 -- ---- devices with another room, or whose traffic was taken

@@ -15,18 +15,20 @@ use Rattle.i80_exec.specs.Step.{is_halt, operation_list}
 use Rattle.i80_exec.specs.declared.registers.Stepped.TheVariants as stepped
 use Rattle.i80_devs.specs.Past.{Operation, DeviceState, StandsFor as DevicesStandFor}
 use Rattle.lab_frames.specs.declared.frame.Frame.{Frame}
-use Rattle.lab_frames.specs.Live.{BoardStep, Change, change_of, ends, live, stays}
-use Rattle.lab_frames.specs.Frames.{Advances, LeavesOldest, IsStep, survivors}
-use Rattle.lab_frames.proofs.LiveLemmas.{live-append, stays-step, filter-stays-step, filter-stays-none}
+use Rattle.lab_frames.specs.Live.{BoardStep, Change, Entry, Step, Poke, change_of, ends, live, stays}
+use Rattle.lab_frames.specs.Frames.{Advances, AtLeast, LeavesOldest, IsStep, TellsSp, survivors}
+use Rattle.lab_frames.proofs.FrameLemmas.{live-above}
+use Rattle.lab_frames.proofs.StepLemmas.{returns_below}
+use Rattle.lab_frames.proofs.LiveLemmas.{live-append, live-poke, stays-step, filter-stays-step, filter-stays-none}
 use Rattle.lab_core.specs.declared.event.StepRequest.{StepRequest}
-use Rattle.lab_core.specs.declared.run_state.RunState.TheVariants.{Running}
+use Rattle.lab_core.specs.declared.run_state.RunState.TheVariants.{Running, Stopped}
 use Rattle.lab_core.specs.Board.{Board, accepted, as_step, next_change, next_step, operations}
 use Rattle.lab_core.specs.Board.{outcome as outcome_of, stepped as stepped_board}
-use Rattle.lab_core.specs.Stops.{earlier, since, innermost, is_any, is_gone, is_gone_after}
+use Rattle.lab_core.specs.Stops.{earlier, since, has_step, innermost, is_any, is_gone, is_gone_after}
 use Rattle.lab_core.specs.declared.answer.SliceOutcome.TheVariants as outcome
 use Rattle.lab_core.specs.declared.answer.End.TheVariants as end
-use Rattle.lab_core.specs.Slices.{ends_in_halt, undefined}
-use Rattle.lab_core.specs.Events.{going_on}
+use Rattle.lab_core.specs.Slices.{ends_in_halt, halts, undefined}
+use Rattle.lab_core.specs.Events.{going_on, changed_to}
 use Rattle.lab_core.specs.Steps.{IsBoardStep}
 use Rattle.lab_core.specs.Labs.{LabState, StandsAmid, StandsFor, Follows}
 use Rattle.lab_core.proofs.UndefinedLemmas.{IsDefined, defined, no_step, some_step}
@@ -37,14 +39,14 @@ as_step-change : (a : Option Outcome) (c : Change) → change_of (as_step a c) �
 as_step-change None c = refl
 as_step-change (Some o) c = refl
 
-any-append : {A : Type 0} → (xs : List A) (x : A) → is_any (xs ++ x ∷ []) ≡ true
-any-append [] x = refl
-any-append (y ∷ xs) x = refl
+step-append : (entries : List Entry) (step : BoardStep) → has_step (entries ++ Step step ∷ []) ≡ true
+step-append [] step = refl
+step-append (Step s ∷ entries) step = refl
+step-append (Poke before after ∷ entries) step = step-append entries step
 
-halted-append : (steps : List BoardStep) (step : BoardStep)
-    → ends_in_halt (steps ++ step ∷ []) ≡ is_halt (change_of step).answer
-halted-append steps step =
-    fold-append (λ (before : Bool) (s : BoardStep). is_halt (change_of s).answer) false steps (step ∷ [])
+halted-append : (entries : List Entry) (step : BoardStep)
+    → ends_in_halt (entries ++ Step step ∷ []) ≡ is_halt (change_of step).answer
+halted-append entries step = fold-append halts false entries (Step step ∷ [])
 
 not_both : (x y : Bool) → (not y || x) ≡ not (not x && y)
 not_both true true = refl
@@ -52,12 +54,12 @@ not_both true false = refl
 not_both false true = refl
 not_both false false = refl
 
-gone-append : (frame : Option Frame) (steps : List BoardStep) (step : BoardStep)
+gone-append : (frame : Option Frame) (steps : List Entry) (step : BoardStep)
     → is_gone_after (is_gone frame steps) frame (change_of step).answer (change_of step).after.regs.sp
-    ≡ is_gone frame (steps ++ step ∷ [])
+    ≡ is_gone frame (steps ++ Step step ∷ [])
 gone-append None steps step = refl
 gone-append (Some f) steps step =
-    not_both (ends step f) (stays steps f) ∙ ap not (sym (stays-step steps step f))
+    not_both (ends (Step step) f) (stays steps f) ∙ ap not (sym (stays-step steps (Step step) f))
 
 -- ---- a step
 
@@ -74,6 +76,7 @@ pub record Moves (old new : LabState) (answer : Stepped) (left : ℕ) : Type 0 w
   }
   pub frames : Advances answer old.machine.regs.pc new.machine.regs.sp old.frames new.frames
   pub oldest : LeavesOldest answer new.machine.regs.sp old.frames left
+  pub tells : TellsSp answer old.machine.regs.sp new.machine.regs.sp
   pub older : IsSome old.request → new.older ≡ min old.older left
   pub gone : IsSome old.request
       → new.is_gone ≡ is_gone_after old.is_gone old.innermost answer new.machine.regs.sp
@@ -81,12 +84,12 @@ pub record Moves (old new : LabState) (answer : Stepped) (left : ℕ) : Type 0 w
 -- the parts of a trace, one step on
 record Longer (b : Board) : Type 0 where
   pub earlier_is : earlier (stepped_board b) ≡ earlier b
-  pub since_is : since (stepped_board b) ≡ since b ++ next_step b ∷ []
+  pub since_is : since (stepped_board b) ≡ since b ++ Step (next_step b) ∷ []
 
 longer : (b : Board) → unwrap_or b.resumed 0 ≤ length b.trace → Longer b
 longer b within = record {
-  earlier_is = take-append-le (unwrap_or b.resumed 0) b.trace (next_step b ∷ []) within;
-  since_is = drop-append-le (unwrap_or b.resumed 0) b.trace (next_step b ∷ []) within;
+  earlier_is = take-append-le (unwrap_or b.resumed 0) b.trace (Step (next_step b) ∷ []) within;
+  since_is = drop-append-le (unwrap_or b.resumed 0) b.trace (Step (next_step b) ∷ []) within;
 }
 
 -- the live frames are those of the steps before that those since leave, and those that these make
@@ -98,21 +101,24 @@ parts-live b =
 follows_step : (old new : LabState) (b : Board) (answer : Stepped) (left : ℕ) → Moves old new answer left
     → (change_of (next_step b)).answer ≡ answer
     → (change_of (next_step b)).after.regs.sp ≡ new.machine.regs.sp
-    → unwrap_or b.resumed 0 ≤ length b.trace → old.frames ≡ live b.trace → IsSome old.request
+    → unwrap_or b.resumed 0 ≤ length b.trace → old.frames ≡ live b.trace
+    → AtLeast old.machine.regs.sp (live (since b)) → IsSome old.request
     → Follows old.older old.innermost old.is_gone (earlier b) (since b)
     → Follows new.older old.innermost new.is_gone (earlier (stepped_board b)) (since (stepped_board b))
-follows_step old new b answer left m answer-is sp-is within frames asked f =
+follows_step old new b answer left m answer-is sp-is within frames above asked f =
     let x = next_step b in
     let l = longer b within in
     let survived : List Frame = filter (stays (since b)) (live (earlier b)) in
     let counted : length (survivors answer new.machine.regs.sp survived) ≡ min (length survived) left
-    = m.oldest survived (live (since b)) (frames ∙ parts-live b) in
-    let stay : filter (stays (since b ++ x ∷ [])) (live (earlier b))
+    =
+    m.oldest survived (live (since b)) (frames ∙ parts-live b)
+    (returns_below answer old.machine.regs.sp new.machine.regs.sp (live (since b)) m.tells above) in
+    let stay : filter (stays (since b ++ Step x ∷ [])) (live (earlier b))
     ≡ survivors answer new.machine.regs.sp survived
     = filter-stays-step (since b) x (live (earlier b)) ∙ rw (answer-is, sp-is) refl in
     let gone : is_gone_after (is_gone (innermost (live (earlier b))) (since b)) (innermost (live (earlier b)))
     answer new.machine.regs.sp
-    ≡ is_gone (innermost (live (earlier b))) (since b ++ x ∷ [])
+    ≡ is_gone (innermost (live (earlier b))) (since b ++ Step x ∷ [])
     = rw (← answer-is, ← sp-is) (gone-append (innermost (live (earlier b))) (since b) x) in
     record {
       older_is = m.older asked ∙ rw (l.earlier_is, l.since_is, f.older_is, stay) (sym counted);
@@ -146,12 +152,25 @@ stands_step old new b traffic answer left s did m =
     let halts : is_halt answer ≡ ends_in_halt (stepped_board b).trace
     = rw (← answer-is) (sym (halted-append b.trace x)) in
     let within : unwrap_or b.resumed 0 ≤ length (stepped_board b).trace
-    = let longer-by = length-append b.trace (x ∷ []) in let before = s.within in omega arith in
-    let moves : true ≡ is_any (since (stepped_board b)) = rw l.since_is (sym (any-append (since b) x)) in
+    = let longer-by = length-append b.trace (Step x ∷ []) in let before = s.within in omega arith in
+    let moves : true ≡ has_step (since (stepped_board b)) = rw l.since_is (sym (step-append (since b) x)) in
+    let sp-was : b.machine.regs.sp ≡ old.machine.regs.sp =
+    ap (λ (n : MachineState). n.regs.sp) (sym s.machine) in
+    let sp-next : new.machine.regs.sp ≡ (next_change b).after.regs.sp =
+    ap (λ (n : MachineState). n.regs.sp) step.after_is in
+    let lies : AtLeast new.machine.regs.sp (live (since b ++ Step x ∷ [])) =
+    live-above (since b) x answer old.machine.regs.pc new.machine.regs.sp is m.tells.calls in
+    let N : ℕ → Type 0 = λ n. AtLeast n (live (since b ++ Step x ∷ [])) in
+    let L : List Entry → Type 0 = λ entries. AtLeast (next_change b).after.regs.sp (live entries) in
+    let above : IsSome b.request → AtLeast (next_change b).after.regs.sp (live (since (stepped_board b))) =
+    λ asked. subst L (sym l.since_is) (subst N sp-next lies) in
+    let stopped : b.run ≡ Stopped → b.request ≡ None = s.stopped in
+    let O : ℕ → Type 0 = λ n. AtLeast n (live (since b)) in
     let follows : IsSome b.request
     → Follows new.older old.innermost new.is_gone (earlier (stepped_board b)) (since (stepped_board b))
     = λ asked.
-    follows_step old new b answer left m answer-is sp-is s.within s.frames (rw s.request asked)
+    follows_step old new b answer left m answer-is sp-is s.within s.frames (subst O sp-was (s.above asked))
+    (rw s.request asked)
     (s.follows asked) in
     let Q : LabState → Type 0 = λ lab.
     StandsAmid lab (stepped_board b) (traffic ++ operation_list (next_change b).operation) in
@@ -229,7 +248,9 @@ stands_on old b request older frame older-is frame-is s =
     let on = going_on request b in
     let all : earlier on ≡ b.trace = take_all (length b.trace) b.trace (omega arith) in
     let none : since on ≡ [] = drop_all (length b.trace) b.trace (omega arith) in
-    let moves : false ≡ is_any (since on) = rw none refl in
+    let moves : false ≡ has_step (since on) = rw none refl in
+    let stopped : on.run ≡ Stopped → on.request ≡ None = λ is. cc in
+    let above : IsSome on.request → AtLeast on.machine.regs.sp (live (since on)) = λ asked. rw none tt in
     let follows : Follows older frame false (earlier on) (since on) = record {
       older_is =
           rw (all, none, filter-stays-none (live b.trace))
@@ -257,3 +278,34 @@ over_done frames older frame gone b frames-are f =
     ap (λ (fs : List Frame). length fs) (frames-are ∙ parts-live b)
     ∙ length-append survived (live (since b)) in
     rw (counts, f.older_is) (same_count (length survived) (live (since b)))
+
+-- ---- a change by hand
+
+step-none : (entries : List Entry) (m m' : MachineState) → has_step (entries ++ Poke m m' ∷ []) ≡ has_step entries
+step-none [] m m' = refl
+step-none (Step s ∷ entries) m m' = refl
+step-none (Poke n n' ∷ entries) m m' = step-none entries m m'
+
+-- a stopped run's lab stands for the board whose machine was changed so
+pub stands_poked : (old : LabState) (b : Board) (machine : MachineState) → StandsFor old b → b.run ≡ Stopped
+    → StandsFor (record old { machine = machine }) (changed_to machine b)
+stands_poked old b machine s is =
+    let entry : Entry = Poke b.machine machine in
+    let new : Board = changed_to machine b in
+    let frames-are : old.frames ≡ live (b.trace ++ entry ∷ []) =
+    s.frames ∙ sym (live-poke b.trace b.machine machine) in
+    let halted : old.is_halted ≡ ends_in_halt (b.trace ++ entry ∷ []) =
+    s.is_halted ∙ sym (fold-append halts false b.trace (entry ∷ [])) in
+    let within : unwrap_or b.resumed 0 ≤ length (b.trace ++ entry ∷ []) =
+    let longer-by = length-append b.trace (entry ∷ []) in let before = s.within in omega arith in
+    let since-is : since new ≡ since b ++ entry ∷ [] =
+    drop-append-le (unwrap_or b.resumed 0) b.trace (entry ∷ []) s.within in
+    let moves : old.has_moved ≡ has_step (since new) =
+    s.has_moved ∙ sym (rw since-is (step-none (since b) b.machine machine)) in
+    let none : b.request ≡ None = s.stopped is in
+    let stopped : b.run ≡ Stopped → b.request ≡ None = s.stopped in
+    let follows : IsSome b.request → Follows old.older old.innermost old.is_gone (earlier new) (since new) =
+    λ asked. (let no : IsSome {T = StepRequest} None = rw none at asked in cc) in
+    let above : IsSome b.request → AtLeast machine.regs.sp (live (since new)) =
+    λ asked. (let no : IsSome {T = StepRequest} None = rw none at asked in cc) in
+    search rules

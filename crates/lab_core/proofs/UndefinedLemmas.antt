@@ -5,7 +5,8 @@ use Rattle.std.specs.Option.{is_none, IfSome}
 use Rattle.std.proofs.lemmas.Bool.{cond_both}
 use Rattle.i80_rows.specs.declared.instruction.Instr.{Instr}
 use Rattle.i80_rows.specs.declared.instruction.Instr.TheVariants.{JumpIf, CallIf, RetIf}
-use Rattle.i80_rows.specs.Rows.{Row, Undefined, Alone, Byte, Word, row, is_undefined}
+use Rattle.i80_rows.specs.Rows.{Row, Undefined, Alone, Byte, Word, is_undefined}
+use Rattle.i80_rows.specs.AliasRows.{row_on}
 use Rattle.i80_exec.specs.declared.registers.Interrupts.{Interrupts}
 use Rattle.i80_exec.specs.declared.registers.Interrupts.TheVariants.{Off, Arming, On}
 use Rattle.i80_exec.specs.declared.registers.Stepped.{Stepped}
@@ -76,7 +77,7 @@ row-nothing (Word f) input m opcode is =
 
 -- no step is made: no request is accepted, and the opcode at PC is undefined
 pub record NoStep (past : List Operation) (m : MachineState) (opcode : ℕ) : Type 0 where
-  pub finds : (is_undefined (row (byte_at m m.regs.pc)) && is_none (accepted m past)) ≡ true
+  pub finds : (is_undefined (row_on m.board (byte_at m m.regs.pc)) && is_none (accepted m past)) ≡ true
   pub opcode_is : opcode ≡ byte_at m m.regs.pc
   pub after_is : (outcome m past).after ≡ m
   pub operation_is : (outcome m past).operation ≡ None
@@ -87,7 +88,7 @@ no_step_by : (a : Option Outcome) (past : List Operation) (m : MachineState) (op
     → stepped.Undefined opcode ≡ (or_instruction a past m).answer → NoStep past m opcode
 no_step_by (Some o) past m opcode is-a defined is = absurd (not_defined o opcode is defined)
 no_step_by None past m opcode is-a defined is =
-    let n = row-nothing (row (byte_at m m.regs.pc)) (answer (panel_after past)) m opcode is in
+    let n = row-nothing (row_on m.board (byte_at m m.regs.pc)) (answer (panel_after past)) m opcode is in
     let O : Option Outcome → Type 0 = λ a. (or_instruction a past m).operation ≡ None in
     let A : Option Outcome → Type 0 = λ a. (or_instruction a past m).after ≡ m in
     let T : Option Outcome → Type 0 = λ a. taken_or_done a (or_instruction a past m) ≡ [] in
@@ -116,11 +117,11 @@ and_false true = refl
 and_false false = refl
 
 step_by : (a : Option Outcome) (past : List Operation) (m : MachineState) → Defines (or_instruction a past m)
-    → (is_undefined (row (byte_at m m.regs.pc)) && is_none a) ≡ false
-step_by (Some o) past m defined = and_false (is_undefined (row (byte_at m m.regs.pc)))
+    → (is_undefined (row_on m.board (byte_at m m.regs.pc)) && is_none a) ≡ false
+step_by (Some o) past m defined = and_false (is_undefined (row_on m.board (byte_at m m.regs.pc)))
 step_by None past m defined =
-    rw (row-some (row (byte_at m m.regs.pc)) (answer (panel_after past)) m defined) refl
+    rw (row-some (row_on m.board (byte_at m m.regs.pc)) (answer (panel_after past)) m defined) refl
 
 pub some_step : (past : List Operation) (m : MachineState) → IsDefined (outcome m past).answer
-    → (is_undefined (row (byte_at m m.regs.pc)) && is_none (accepted m past)) ≡ false
+    → (is_undefined (row_on m.board (byte_at m m.regs.pc)) && is_none (accepted m past)) ≡ false
 some_step past m defined = step_by (accepted m past) past m defined

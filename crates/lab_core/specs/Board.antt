@@ -5,7 +5,7 @@ use Rattle.i80_exec.specs.Effect.{Outcome}
 use Rattle.i80_exec.specs.Step.{instruction, acceptance, operation_list}
 use Rattle.i80_devs.specs.Past.{Operation, Port, Taken, answer, panel_after}
 use Rattle.asm_build.specs.Reading.{Entries}
-use Rattle.lab_frames.specs.Live.{BoardStep, Instruction, Acceptance, Change}
+use Rattle.lab_frames.specs.Live.{BoardStep, Instruction, Acceptance, Change, Entry, Step}
 use Rattle.lab_image.specs.Loads.{Load}
 use Rattle.lab_breaks.specs.declared.lists.BreakpointList.{BreakpointList}
 use Rattle.lab_core.specs.declared.run_state.RunState.{RunState}
@@ -27,9 +27,9 @@ pub record Board : Type 0 where
   pub breakpoints : List BreakpointList
   pub is_attached : Bool
   pub run : RunState
-  -- the steps since the last start, also where the run has ended
-  pub trace : List BoardStep
-  -- how many of them there were at the run's last Resume or Step, if it had one
+  -- the steps since the last start, and the changes by hand, also where the run has ended
+  pub trace : List Entry
+  -- how many of both there were at the run's last Resume or Step, if it had one
   pub resumed : Option ℕ
   -- the Step that isn't complete yet
   pub request : Option StepRequest
@@ -93,5 +93,5 @@ abbrev pub stepped : Board → Board
 stepped b = record b {
   machine = (next_change b).after;
   past = b.past ++ operations b.machine b.past;
-  trace = b.trace ++ next_step b ∷ [];
+  trace = b.trace ++ Step (next_step b) ∷ [];
 }

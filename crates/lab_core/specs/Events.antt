@@ -1,14 +1,19 @@
 -- What each event answers, and what it makes of a board.
 use Rattle.std.specs.Prelude.{◌≡◌, ℕ, ◌≤◌, List, [], ◌∷◌, ◌++◌, length, map, Bool, true, false, ◌&&◌, Option}
 use Rattle.std.specs.Prelude.{Some, None, Result, Ok, Err, is_some, nat_lt, nat_le, if◌then◌else◌}
-use Rattle.i80_exec.specs.State.{MachineState, with_pc, power_on, loaded as with_image}
+use Rattle.i80_rows.specs.declared.board.Board.{Board as BoardOption}
+use Rattle.i80_exec.specs.State.{MachineState, with_board, with_pc, power_on, loaded as with_image}
 use Rattle.i80_devs.specs.Past.{Operation, Typed, Switches, Press, panel_after}
 use Rattle.asm_syntax.specs.declared.fault.AsmFault.TheVariants.{At}
 use Rattle.asm_syntax.specs.Outcome.{CellFault, ◌>>=◌}
 use Rattle.asm_text.specs.Statements.{statements_of}
 use Rattle.asm_build.specs.Reading.{Entries}
 use Rattle.asm_build.specs.Meaning.{Meaning, built_of}
-use Rattle.lab_frames.specs.Live.{live}
+use Rattle.lab_frames.specs.Live.{live, Poke}
+use Rattle.lab_poke.specs.declared.fault.PokeFault.{PokeFault}
+use Rattle.lab_poke.specs.Places.{place_named}
+use Rattle.lab_poke.specs.Values.{value_spelled, text_at}
+use Rattle.lab_poke.specs.Changes.{machine_with}
 use Rattle.lab_core.specs.declared.run_state.RunState.{RunState}
 use Rattle.lab_core.specs.declared.run_state.RunState.TheVariants.{NoRun, Running, Stopped}
 use Rattle.lab_sources.specs.declared.sources.Source.{Source}
@@ -30,7 +35,7 @@ use Rattle.lab_core.specs.declared.answer.SliceOutcome.{SliceOutcome}
 use Rattle.lab_core.specs.declared.answer.Answer.{Answer}
 use Rattle.lab_core.specs.declared.answer.Answer.TheVariants as answer
 use Rattle.lab_core.specs.Board.{Board}
-use Rattle.lab_core.specs.Refusals.{refused_source, refused_view}
+use Rattle.lab_core.specs.Refusals.{refused_source, refused_view, refused_poke}
 use Rattle.lab_core.specs.Slices.{IsSlice, after_steps, traffic_of, left_by}
 
 -- what an event gives: its answer and the board after it, or why it is refused
@@ -123,12 +128,27 @@ stopped b = record b { run = Stopped; request = None }
 abbrev pub going_on : Option StepRequest → Board → Board
 going_on request b = record b { run = Running; resumed = Some (length b.trace); request = request }
 
+abbrev pub or_poke : {A : Type 0} → Result A PokeFault → Result A EventFault
+or_poke (Ok x) = Ok x
+or_poke (Err fault) = Err (refused_poke fault)
+
+-- a change of the machine by hand, which the trace lists and which is no step
+abbrev pub changed_to : MachineState → Board → Board
+changed_to machine b = record b { machine = machine; trace = b.trace ++ Poke b.machine machine ∷ [] }
+
+-- the place of this name in a scope gets the value that is spelled so, and it is answered as it is shown
+abbrev pub poked : ℕ → List ℕ → List ℕ → Board → Given
+poked reference name value b = do
+  place ← or_poke (place_named reference name)
+  n ← or_poke (value_spelled place value)
+  Ok (answer.Poked (text_at place n), changed_to (machine_with place n b.machine) b)
+
 abbrev pub ended : Board → Board
 ended b = record b { run = NoRun; request = None }
 
--- what a Reset makes of the machine
+-- what a Reset makes of the machine: what the undefined opcodes do stays
 abbrev pub machine_reset : MachineState → MachineState
-machine_reset m = power_on
+machine_reset m = with_board power_on m.board
 
 -- the symbols, the texts, the breakpoints and the attachment stay
 abbrev pub reset : Board → Board
@@ -141,6 +161,10 @@ reset b = record b {
   resumed = None;
   request = None;
 }
+
+-- whether the undefined opcodes act from now on
+abbrev pub with_option : BoardOption → Board → Board
+with_option option b = record b { machine = with_board b.machine option }
 
 -- ---- a debugger's
 
@@ -244,8 +268,12 @@ Applies b event.Resume reply new =
     Gives b (while_stopped b.run (Ok (answer.Accepted, going_on None b))) reply new
 Applies b (event.Step request) reply new =
     Gives b (while_stopped b.run (Ok (answer.Accepted, going_on (Some request) b))) reply new
+Applies b (event.Poke reference name value) reply new =
+    Gives b (while_stopped b.run (poked reference name value b)) reply new
 Applies b event.Interrupt reply new = Gives b (with_run b.run (Ok (answer.Interrupted, ended b))) reply new
 Applies b event.Reset reply new = Gives b (Ok (answer.Reset, reset b)) reply new
+Applies b (event.SetBoard option) reply new =
+    Gives b (without_run b.run (Ok (answer.BoardSet, with_option option b))) reply new
 Applies b (event.SetBreakpoints path lines) reply new = Gives b (with_breakpoints path lines b) reply new
 Applies b event.Attach reply new = Gives b (Ok (answer.Accepted, attached b)) reply new
 Applies b event.Detach reply new = Gives b (Ok (answer.Accepted, detached b)) reply new

@@ -12,8 +12,9 @@ use Rattle.lab_core.specs.declared.answer.Answer.TheVariants as answer
 use Rattle.lab_core.specs.Board.{Board}
 use Rattle.lab_core.specs.Slices.{reason, early_reason, after_steps, traffic_of, left_by}
 use Rattle.lab_core.specs.Events.{Given, without_run, with_run, while_running, while_stopped, while_attached}
-use Rattle.lab_core.specs.Events.{loaded, dumped, started, stopped, going_on, ended, reset, with_breakpoints}
-use Rattle.lab_core.specs.Events.{attached, detached, with_operation, pressed, parts_of, as_answer}
+use Rattle.lab_core.specs.Events.{loaded, dumped, started, stopped, going_on, poked, ended, reset}
+use Rattle.lab_core.specs.Events.{with_option, with_breakpoints, attached, detached, with_operation, pressed}
+use Rattle.lab_core.specs.Events.{parts_of, as_answer}
 
 abbrev pub or_goes_on : Option SliceOutcome → ℕ → ℕ × SliceOutcome → ℕ × SliceOutcome
 or_goes_on (Some ending) k on = (k, ending)
@@ -36,8 +37,10 @@ given (event.Slice n) b = while_running b.run (Ok (sliced_at b (slice_from n 0 b
 given event.Pause b = while_attached b.is_attached (while_running b.run (Ok (answer.Accepted, stopped b)))
 given event.Resume b = while_stopped b.run (Ok (answer.Accepted, going_on None b))
 given (event.Step request) b = while_stopped b.run (Ok (answer.Accepted, going_on (Some request) b))
+given (event.Poke reference name value) b = while_stopped b.run (poked reference name value b)
 given event.Interrupt b = with_run b.run (Ok (answer.Interrupted, ended b))
 given event.Reset b = Ok (answer.Reset, reset b)
+given (event.SetBoard option) b = without_run b.run (Ok (answer.BoardSet, with_option option b))
 given (event.SetBreakpoints path lines) b = with_breakpoints path lines b
 given event.Attach b = Ok (answer.Accepted, attached b)
 given event.Detach b = Ok (answer.Accepted, detached b)

@@ -8,13 +8,15 @@ use Rattle.i80_exec.specs.Step.{operation_list}
 use Rattle.i80_devs.specs.Past as devices
 use Rattle.asm_build.specs.Reading.{Entries}
 use Rattle.lab_frames.specs.declared.frame.Frame.{Frame}
-use Rattle.lab_frames.specs.Live.{BoardStep, live, stays}
+use Rattle.lab_frames.specs.Live.{Entry, live, stays}
+use Rattle.lab_frames.specs.Frames.{AtLeast}
 use Rattle.lab_image.specs.Loads as origins
 use Rattle.lab_image.specs.declared.spans.Span.{Span}
 use Rattle.lab_breaks.specs.Breakpoints.{BreakpointState}
 use Rattle.lab_breaks.specs.Breakpoints as breakpoints
 use Rattle.lab_core.specs.declared.lab.Context.{Context}
 use Rattle.lab_core.specs.declared.run_state.RunState.{RunState}
+use Rattle.lab_core.specs.declared.run_state.RunState.TheVariants.{Stopped}
 use Rattle.lab_core.specs.declared.event.StepRequest.{StepRequest}
 use Rattle.lab_sources.specs.declared.sources.Source.{Source}
 use Rattle.lab_core.specs.declared.event.Event.{Event}
@@ -22,7 +24,7 @@ use Rattle.lab_core.specs.declared.answer.Answer.{Answer}
 use Rattle.lab_core.specs.declared.fault.EventFault.{EventFault}
 use Rattle.lab_core.specs.declared.fault.EventFault.TheVariants.{OutOfMemory}
 use Rattle.lab_core.specs.Board.{Board, next_change, stepped}
-use Rattle.lab_core.specs.Stops.{since, earlier, is_any, innermost, is_gone}
+use Rattle.lab_core.specs.Stops.{since, earlier, has_step, innermost, is_gone}
 use Rattle.lab_core.specs.Slices.{ends_in_halt}
 use Rattle.lab_core.specs.Events.{Applies, Runs}
 
@@ -49,7 +51,7 @@ pub record LabState : Type 0 where
 -- how many of the frames that were live at its beginning are left, which was innermost, and whether that is
 -- gone.
 pub record Follows (older : ℕ) (frame : Option Frame) (gone : Bool)
-    (before steps : List BoardStep) : Type 0 where
+    (before steps : List Entry) : Type 0 where
   pub older_is : older ≡ length (filter (stays steps) (live before))
   pub innermost_is : frame ≡ innermost (live before)
   pub gone_is : gone ≡ is_gone (innermost (live before)) steps
@@ -70,9 +72,12 @@ pub record StandsAmid (lab : LabState) (b : Board) (traffic : List PortOperation
   pub is_halted : lab.is_halted ≡ ends_in_halt b.trace
   pub within : unwrap_or b.resumed 0 ≤ length b.trace
   pub is_resumed : lab.is_resumed ≡ is_some b.resumed
-  pub has_moved : lab.has_moved ≡ is_any (since b)
+  pub has_moved : lab.has_moved ≡ has_step (since b)
   pub request : lab.request ≡ b.request
   pub follows : IsSome b.request → Follows lab.older lab.innermost lab.is_gone (earlier b) (since b)
+  -- of the board alone: a Step isn't kept while the run is stopped, and none of the frames since is below SP
+  pub stopped : b.run ≡ Stopped → b.request ≡ None
+  pub above : IsSome b.request → AtLeast b.machine.regs.sp (live (since b))
 
 -- ---- what a step or a look makes of a lab
 

@@ -6,7 +6,7 @@ use Rattle.lab_core.specs.declared.run_state.RunState.TheVariants.{NoRun, Runnin
 use Rattle.lab_core.specs.declared.event.Event.{Event}
 use Rattle.lab_core.specs.declared.event.Event.TheVariants as event
 use Rattle.lab_core.specs.Board.{Board}
-use Rattle.lab_core.specs.Events.{parts_of}
+use Rattle.lab_core.specs.Events.{parts_of, poked, while_stopped}
 use Rattle.lab_core.specs.Labs.{LabState, StandsFor}
 
 -- Only where the board doesn't refuse the event; of a Load, where the text's faults aren't known yet.
@@ -19,6 +19,7 @@ Takes (event.Slice n) b = b.run ≡ Running
 Takes (event.Show view) b = IsOk (shown view (parts_of b))
 Takes event.Reset b = Unit {0}
 Takes (event.Typed bytes) b = Unit {0}
+Takes (event.Poke reference name value) b = IsOk (while_stopped b.run (poked reference name value b))
 Takes _ b = ⊥
 
 abbrev pub MayLackMemory : Event → LabState → Type 0

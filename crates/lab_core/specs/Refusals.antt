@@ -7,6 +7,8 @@ use Rattle.lab_sources.specs.declared.sources.SourceFault.{SourceFault}
 use Rattle.lab_sources.specs.declared.sources.SourceFault.TheVariants as source
 use Rattle.lab_views.specs.declared.fault.ViewFault.{ViewFault}
 use Rattle.lab_views.specs.declared.fault.ViewFault.TheVariants as view
+use Rattle.lab_poke.specs.declared.fault.PokeFault.{PokeFault}
+use Rattle.lab_poke.specs.declared.fault.PokeFault.TheVariants as poke
 use Rattle.lab_core.specs.declared.fault.EventFault.{EventFault}
 use Rattle.lab_core.specs.declared.fault.EventFault.TheVariants as fault
 
@@ -29,3 +31,8 @@ refused_view view.NotStopped = fault.NotStopped
 refused_view view.BadFrame = fault.BadFrame
 refused_view view.BadReference = fault.BadReference
 refused_view view.NoSource = fault.NoSource
+
+abbrev pub refused_poke : PokeFault → EventFault
+refused_poke poke.BadReference = fault.BadReference
+refused_poke poke.UnknownName = fault.UnknownName
+refused_poke poke.BadValue = fault.BadValue

@@ -3,14 +3,15 @@ use Rattle.std.specs.Prelude.{◌≡◌, ℕ, zero, suc, ◌<◌, ◌≤◌, Lis
 use Rattle.std.specs.Prelude.{Some, None, is_none, unwrap_or, if◌then◌else◌}
 use Rattle.std.specs.List.{fold}
 use Rattle.std.specs.Option.{option_or}
-use Rattle.i80_rows.specs.Rows.{row, is_undefined}
+use Rattle.i80_rows.specs.Rows.{is_undefined}
+use Rattle.i80_rows.specs.AliasRows.{row_on}
 use Rattle.i80_exec.specs.declared.registers.Interrupts.{Interrupts}
 use Rattle.i80_exec.specs.declared.registers.Interrupts.TheVariants.{Off, Arming, On}
 use Rattle.i80_exec.specs.declared.ports.PortOperation.{PortOperation}
 use Rattle.i80_exec.specs.State.{byte_at}
 use Rattle.i80_exec.specs.Step.{operation_list, is_halt}
 use Rattle.i80_devs.specs.Past.{panel_after}
-use Rattle.lab_frames.specs.Live.{BoardStep, change_of}
+use Rattle.lab_frames.specs.Live.{Entry, Step, Poke, change_of}
 use Rattle.lab_core.specs.declared.answer.SliceOutcome.{SliceOutcome}
 use Rattle.lab_core.specs.declared.answer.SliceOutcome.TheVariants as outcome
 use Rattle.lab_core.specs.declared.answer.End.TheVariants as end
@@ -20,9 +21,14 @@ use Rattle.lab_core.specs.Stops.{at_breakpoint, complete}
 
 -- ---- the reasons, and whether each stands
 
+-- whether the last step was HLT, where it was so before this entry: a change by hand is no step
+abbrev pub halts : Bool → Entry → Bool
+halts before (Step step) = is_halt (change_of step).answer
+halts before (Poke machine machine') = before
+
 -- the last step was HLT
-abbrev pub ends_in_halt : List BoardStep → Bool
-ends_in_halt trace = fold (λ before step. is_halt (change_of step).answer) false trace
+abbrev pub ends_in_halt : List Entry → Bool
+ends_in_halt trace = fold halts false trace
 
 abbrev pub is_off : Interrupts → Bool
 is_off Off = true
@@ -46,11 +52,11 @@ waiting b =
     if ends_in_halt b.trace && (is_on b.machine.regs.interrupts && is_none (panel_after b.past).latched)
     then Some outcome.Waiting else None
 
--- an undefined opcode stands at PC, and no request is accepted before it, which ends the run
+-- an opcode that is undefined on this board stands at PC, and no request is accepted before it: the run ends
 abbrev pub undefined : Board → Option SliceOutcome
 undefined b =
     let opcode = byte_at b.machine b.machine.regs.pc in
-    if is_undefined (row opcode) && is_none (accepted b.machine b.past)
+    if is_undefined (row_on b.machine.board opcode) && is_none (accepted b.machine b.past)
     then Some (outcome.End (end.Undefined opcode b.machine.regs.pc)) else None
 
 -- the first of those that are tried after the last step too

@@ -3,7 +3,7 @@ use Rattle.std.specs.Prelude.{ℕ, List, [], ◌∷◌, take, drop, reverse, sli
 use Rattle.std.specs.Prelude.{◌||◌, Option, Some, None, is_none, unwrap_or, if◌then◌else◌}
 use Rattle.i80_exec.specs.declared.registers.Stepped.{Stepped}
 use Rattle.lab_frames.specs.declared.frame.Frame.{Frame}
-use Rattle.lab_frames.specs.Live.{BoardStep, ended_by, live, stays}
+use Rattle.lab_frames.specs.Live.{Entry, Step, Poke, ended_by, live, stays}
 use Rattle.lab_image.specs.declared.origin.Origin.{Origin}
 use Rattle.lab_image.specs.Loads.{origin_of}
 use Rattle.lab_breaks.specs.Breakpoints.{is_met}
@@ -21,11 +21,17 @@ abbrev pub is_any : {A : Type 0} → List A → Bool
 is_any [] = false
 is_any (x ∷ xs) = true
 
+-- whether one of them is a step
+abbrev pub has_step : List Entry → Bool
+has_step [] = false
+has_step (Step step ∷ rest) = true
+has_step (Poke before after ∷ rest) = has_step rest
+
 -- the run's steps up to its last Resume or Step, and those since; all of them where it had neither
-abbrev pub earlier : Board → List BoardStep
+abbrev pub earlier : Board → List Entry
 earlier b = take (unwrap_or b.resumed 0) b.trace
 
-abbrev pub since : Board → List BoardStep
+abbrev pub since : Board → List Entry
 since b = drop (unwrap_or b.resumed 0) b.trace
 
 -- ---- a breakpoint
@@ -34,7 +40,7 @@ since b = drop (unwrap_or b.resumed 0) b.trace
 -- not before a step is made.
 abbrev pub meets_breakpoint : Board → Bool
 meets_breakpoint b =
-    b.is_attached && ((is_any (since b) || is_none b.resumed)
+    b.is_attached && ((has_step (since b) || is_none b.resumed)
     && is_met b.breakpoints b.loads b.machine.regs.pc)
 
 abbrev pub at_breakpoint : Board → Option SliceOutcome
@@ -47,7 +53,7 @@ abbrev pub innermost : List Frame → Option Frame
 innermost frames = slice_get (reverse frames) 0
 
 -- it was there, and one of these steps ends it
-abbrev pub is_gone : Option Frame → List BoardStep → Bool
+abbrev pub is_gone : Option Frame → List Entry → Bool
 is_gone None steps = false
 is_gone (Some frame) steps = not (stays steps frame)
 
@@ -57,7 +63,7 @@ is_gone_after gone None answer sp = gone
 is_gone_after gone (Some frame) answer sp = gone || ended_by answer sp frame.slot
 
 -- Over: no frame that was made since is live. Out: the frame that was innermost then isn't live.
-abbrev pub is_done : StepKind → List BoardStep → List BoardStep → Bool
+abbrev pub is_done : StepKind → List Entry → List Entry → Bool
 is_done In before steps = true
 is_done Over before steps = not (is_any (live steps))
 is_done Out before steps = is_gone (innermost (live before)) steps
@@ -77,7 +83,7 @@ is_reached request b = is_done request.kind (earlier b) (since b) && is_there re
 
 abbrev pub completes : Option StepRequest → Board → Bool
 completes None b = false
-completes (Some request) b = is_any (since b) && is_reached request b
+completes (Some request) b = has_step (since b) && is_reached request b
 
 -- after at least one step
 abbrev pub complete : Board → Option SliceOutcome

@@ -1,6 +1,7 @@
 //! What events answer.
 use crate::fault::EventFault;
 use base_text::sequence::Sequence;
+use base_text::text::Text;
 use i80_devs::traffic::Traffic;
 use lab_views::shown::Shown;
 
@@ -18,7 +19,7 @@ pub enum Stop {
 pub enum End {
     /// HLT with interrupts off.
     Halted,
-    /// An undefined opcode stands at PC.
+    /// An opcode that is undefined on this board stands at PC.
     Undefined { opcode: u8, pc: u16 },
 }
 
@@ -58,8 +59,11 @@ pub enum Answer {
         outcome: SliceOutcome,
     },
     Accepted,
+    /// The value at the place that was changed, as its scope shows it.
+    Poked(Text),
     Interrupted,
     Reset,
+    BoardSet,
     /// Each line that was set, in order.
     Breakpoints(Sequence<Breakpoint>),
     Shown(Shown),

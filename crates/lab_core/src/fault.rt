@@ -2,6 +2,7 @@
 
 use asm_syntax::fault::AsmFault;
 use i80_devs::devices::PressFault;
+use lab_poke::fault::PokeFault;
 use lab_sources::sources::SourceFault;
 use lab_views::fault::ViewFault;
 use std::alloc::AllocError;
@@ -28,6 +29,10 @@ pub enum EventFault {
     Vector,
     /// As many texts are kept as may be, and this path isn't among them.
     SourcesFull,
+    /// The scope shows nothing of this name.
+    UnknownName,
+    /// The text is no number, or one that the place doesn't hold.
+    BadValue,
 }
 
 impl fmt::Display for EventFault {
@@ -41,11 +46,13 @@ impl fmt::Display for EventFault {
             EventFault::NoSource => "no text has this path",
             EventFault::Latched => "a request is latched already",
             EventFault::BadFrame => "there is no such frame",
-            EventFault::BadReference => "there are the references 1 to 5",
+            EventFault::BadReference => "no scope for this has the reference",
             EventFault::Assembly(fault) => return fmt::Display::fmt(fault, f),
             EventFault::NotAttached => "no debugger is attached",
             EventFault::Vector => "there are the buttons 0 to 7",
             EventFault::SourcesFull => "there are 1,024 sources",
+            EventFault::UnknownName => "there is no such register or address",
+            EventFault::BadValue => "the value is no number that fits there",
         };
         f.write_str(text)
     }
@@ -123,6 +130,21 @@ impl From<ViewFault> for EventFault {
             ViewFault::BadFrame => EventFault::BadFrame,
             ViewFault::BadReference => EventFault::BadReference,
             ViewFault::NoSource => EventFault::NoSource,
+        }
+    }
+}
+
+impl From<PokeFault> for EventFault {
+    ghost use Rattle.std.specs.Prelude.{◌≡◌};
+    ghost use Rattle.lab_core.specs.Refusals.{refused_poke};
+
+    ghost from_gives = { λ fault refused. refused ≡ refused_poke fault };
+
+    fn from(fault: PokeFault) -> EventFault {
+        match fault {
+            PokeFault::BadReference => EventFault::BadReference,
+            PokeFault::UnknownName => EventFault::UnknownName,
+            PokeFault::BadValue => EventFault::BadValue,
         }
     }
 }

@@ -4,6 +4,7 @@ ghost use Rattle.std.specs.Prelude.{◌≡◌, [], IfOk};
 mod debug;
 mod events;
 mod load;
+mod poke;
 mod slice;
 mod steps;
 mod stops;
@@ -76,7 +77,6 @@ struct Context {
 
 impl Model for Lab {
     ghost use Rattle.std.specs.Prelude.{IsSome};
-    ghost use Rattle.lab_frames.specs.Frames.{AtLeast};
     ghost use Rattle.lab_core.specs.Labs.{LabState};
 
     ghost Value = { LabState };
@@ -100,8 +100,7 @@ impl Model for Lab {
       is_gone = l.context.is_gone;
     } };
 
-    // No live slot is below SP: a step that leaves SP above a slot ends its frame.
-    ghost invariant = { λ l. AtLeast l.machine.regs.sp l.context.frames × IsSome l.spare };
+    ghost invariant = { λ l. IsSome l.spare };
 }
 
 impl Lab {

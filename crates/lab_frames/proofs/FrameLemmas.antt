@@ -8,8 +8,9 @@ use Rattle.std.specs.List.{slice_get}
 use Rattle.i80_exec.specs.declared.registers.Stepped.{Stepped}
 use Rattle.i80_exec.specs.declared.registers.Stepped.TheVariants.{Called, Returned}
 use Rattle.lab_frames.specs.declared.frame.Frame.{Frame}
-use Rattle.lab_frames.specs.Live.{made_by, ended_by}
+use Rattle.lab_frames.specs.Live.{BoardStep, Entry, Step, live, made_by, ended_by}
 use Rattle.lab_frames.specs.Frames.{survivors, Advances, LeavesOldest, Falls, AtLeast, ReturnsBelow, CallsAt}
+use Rattle.lab_frames.specs.Frames.{IsStep, is_from_above}
 use Rattle.lab_frames.proofs.LiveLemmas.{advances}
 
 falls-more : (low high : ℕ) (fs : List Frame) → low ≤ high → Falls low fs → Falls high fs
@@ -62,13 +63,14 @@ returns-rest : (answer : Stepped) (f : Frame) (fs : List Frame) → ReturnsBelow
     → ReturnsBelow answer fs
 returns-rest answer f fs h = λ from is. (h from is).1
 
-returns-front : (answer : Stepped) (rest : List Frame) (top : Frame) → ReturnsBelow answer (rest ++ top ∷ [])
-    → ReturnsBelow answer rest
-returns-front answer rest top h = λ from is. at_least-front from rest top (h from is)
+-- a return isn't from above this slot
+not-above-from : (answer : Stepped) (slot from : ℕ) → answer ≡ Returned from
+    → is_from_above answer slot ≡ false → from ≤ slot
+not-above-from answer slot from is e =
+    let other : is_from_above (Returned from) slot ≡ false = rw is at e in grind (arith, nat_tests)
 
-returns-last : (answer : Stepped) (rest : List Frame) (top : Frame) → ReturnsBelow answer (rest ++ top ∷ [])
-    → ReturnsBelowSlot answer top.slot
-returns-last answer rest top h = λ from is. at_least-last from rest top (h from is)
+not-above : (answer : Stepped) (slot : ℕ) → is_from_above answer slot ≡ false → ReturnsBelowSlot answer slot
+not-above answer slot e = λ from is. not-above-from answer slot from is e
 
 -- a frame at or above one that stays does too
 stays-up : (answer : Stepped) (sp slot higher : ℕ) → slot ≤ higher → ReturnsBelowSlot answer slot
@@ -109,36 +111,31 @@ split-last (f ∷ g ∷ fs) top e =
 
 -- the loop of the pops, where it ends
 pub survivors-last : (answer : Stepped) (sp bound : ℕ) (fs : List Frame) (top : Frame)
-    → slice_get fs (length fs - 1) ≡ Some top → Falls bound fs → ReturnsBelow answer fs
+    → slice_get fs (length fs - 1) ≡ Some top → Falls bound fs → is_from_above answer top.slot ≡ false
     → ended_by answer sp top.slot ≡ false → survivors answer sp fs ≡ fs
-survivors-last answer sp bound fs top is falls returns e =
+survivors-last answer sp bound fs top is falls below e =
     let rest : List Frame = take (length fs - 1) fs in
     let split : fs ≡ rest ++ top ∷ [] = split-last fs top is in
     let P : List Frame → Type 0 = λ xs. survivors answer sp xs ≡ xs in
     let F : List Frame → Type 0 = λ xs. Falls bound xs in
-    let R : List Frame → Type 0 = λ xs. ReturnsBelow answer xs in
     subst P (sym split) (survivors-all answer sp bound rest top (subst F split falls)
-    (returns-last answer rest top (subst R split returns)) e)
+    (not-above answer top.slot below) e)
 
 -- the frames without the newest one, which is ended
 pub record Popped (answer : Stepped) (sp bound : ℕ) (fs rest : List Frame) : Type 0 where
   pub same : survivors answer sp rest ≡ survivors answer sp fs
   pub falls : Falls bound rest
-  pub returns : ReturnsBelow answer rest
 
 -- the loop of the pops, where it goes on
 pub popped : (answer : Stepped) (sp bound : ℕ) (fs rest : List Frame) (top : Frame)
     → slice_get fs (length fs - 1) ≡ Some top → rest ≡ take (length fs - 1) fs → Falls bound fs
-    → ReturnsBelow answer fs
     → ended_by answer sp top.slot ≡ true → Popped answer sp bound fs rest
-popped answer sp bound fs rest top is rest-is falls returns e =
+popped answer sp bound fs rest top is rest-is falls e =
     let split : fs ≡ rest ++ top ∷ [] = rw rest-is (split-last fs top is) in
     let F : List Frame → Type 0 = λ xs. Falls bound xs in
-    let R : List Frame → Type 0 = λ xs. ReturnsBelow answer xs in
     record {
       same = rw split (sym (survivors-pop answer sp rest top e));
       falls = falls-front bound rest top (subst F split falls);
-      returns = returns-front answer rest top (subst R split returns);
     }
 
 -- whatever the step was, what it leaves isn't below SP
@@ -227,12 +224,49 @@ older-left answer sp bound (f ∷ older) newer falls returns =
           rw (t, none) (omega arith)
     ]
 
-leaves_oldest : (answer : Stepped) (sp bound : ℕ) (fs : List Frame) → Falls bound fs → ReturnsBelow answer fs
+-- those above a frame lie above its slot
+falls-middle : (bound : ℕ) (older : List Frame) (g : Frame) (newer : List Frame)
+    → Falls bound (older ++ g ∷ newer) → g.slot < bound
+falls-middle bound [] g newer falls = falls.0
+falls-middle bound (f ∷ older) g newer falls =
+    let h : f.slot < bound = falls.0 in
+    let below : g.slot < f.slot = falls-middle f.slot older g newer falls.1 in
+    omega arith
+
+-- a return from at or below some frames is so from the older ones too
+at_least-all : (low bound : ℕ) (older : List Frame) (g : Frame) (newer : List Frame)
+    → Falls bound (older ++ g ∷ newer) → AtLeast low (g ∷ newer) → AtLeast low (older ++ g ∷ newer)
+at_least-all low bound [] g newer falls h = h
+at_least-all low bound (f ∷ older) g newer falls h =
+    let under : g.slot < f.slot = falls-middle f.slot older g newer falls.1 in
+    let first : low ≤ g.slot = h.0 in
+    (omega arith, at_least-all low f.slot older g newer falls.1 h)
+
+survivors-fewer : (answer : Stepped) (sp : ℕ) (fs : List Frame) → length (survivors answer sp fs) ≤ length fs
+survivors-fewer answer sp [] = omega arith
+survivors-fewer answer sp (f ∷ fs) =
+    let fewer = survivors-fewer answer sp fs in
+    elim (cases_Bool (ended_by answer sp f.slot)) [
+      | inr n ↦ rw n (omega arith)
+      | inl t ↦ rw t (omega arith)
+    ]
+
+-- where no frame is newer, as many are left as are left of all; else each return is from below all
+older-of-all : (answer : Stepped) (sp bound : ℕ) (older newer : List Frame) → Falls bound (older ++ newer)
+    → ReturnsBelow answer newer
+    → length (survivors answer sp older) ≡ min (length older) (length (survivors answer sp (older ++ newer)))
+older-of-all answer sp bound older [] falls returns =
+    let fewer = survivors-fewer answer sp older in
+    rw (append-nil older) (omega arith)
+older-of-all answer sp bound older (g ∷ newer) falls returns =
+    older-left answer sp bound older (g ∷ newer) falls
+    (λ from is. at_least-all from bound older g newer falls (returns from is))
+
+leaves_oldest : (answer : Stepped) (sp bound : ℕ) (fs : List Frame) → Falls bound fs
     → LeavesOldest answer sp fs (length (survivors answer sp fs))
-leaves_oldest answer sp bound fs falls returns older newer split =
+leaves_oldest answer sp bound fs falls older newer split returns =
     let F : List Frame → Type 0 = λ xs. Falls bound xs in
-    let R : List Frame → Type 0 = λ xs. ReturnsBelow answer xs in
-    rw split (older-left answer sp bound older newer (subst F split falls) (subst R split returns))
+    rw split (older-of-all answer sp bound older newer (subst F split falls) returns)
 
 -- what holds of the frames after a step, from those that were popped and pushed
 pub record Advanced (answer : Stepped) (site sp : ℕ) (old popped new : List Frame) : Type 0 where
@@ -243,10 +277,10 @@ pub record Advanced (answer : Stepped) (site sp : ℕ) (old popped new : List Fr
   pub few : length new ≤ 65536
 
 pub advanced : (answer : Stepped) (site sp : ℕ) (old inside popped new : List Frame) → inside ≡ old
-    → sp < 65536 → ReturnsBelow answer old → CallsAt answer sp → Falls 65536 inside
+    → sp < 65536 → CallsAt answer sp → Falls 65536 inside
     → popped ≡ survivors answer sp inside → new ≡ popped ++ made_by answer site
     → Advanced answer site sp old popped new
-advanced answer site sp old inside popped new view-is h returns calls falls popped-is new-is =
+advanced answer site sp old inside popped new view-is h calls falls popped-is new-is =
     let F : List Frame → Type 0 = λ xs. Falls 65536 xs in
     let A : List Frame → Type 0 = λ xs. AtLeast sp xs in
     let L : ℕ → Type 0 = λ n. LeavesOldest answer sp old n in
@@ -259,8 +293,16 @@ advanced answer site sp old inside popped new view-is h returns calls falls popp
       live = advances answer site sp old new (sym now);
       oldest =
           subst L (ap (λ (xs : List Frame). length xs) (sym left))
-          (leaves_oldest answer sp 65536 old falls-old returns);
+          (leaves_oldest answer sp 65536 old falls-old);
       falls = falls-new;
       above = subst A now (advanced-above answer site sp old calls);
       few = falls-length 65536 new falls-new;
     }
+
+-- of the frames that a stretch of a run makes, none lies below SP after a step that ends it, wherever SP was before
+pub live-above : (trace : List Entry) (step : BoardStep) (answer : Stepped) (site sp : ℕ)
+    → IsStep step answer site sp → CallsAt answer sp → AtLeast sp (live (trace ++ Step step ∷ []))
+live-above trace step answer site sp is calls =
+    let A : List Frame → Type 0 = λ xs. AtLeast sp xs in
+    subst A (advances answer site sp (live trace) (survivors answer sp (live trace) ++ made_by answer site) refl
+    trace step is refl) (advanced-above answer site sp (live trace) calls)

@@ -1,59 +1,84 @@
--- Live frames of longer runs: one more step, and a run in two stretches.
+-- Live frames of longer runs: one more step, a change by hand, and a run in two stretches.
 use Rattle.std.proofs.Common.{◌≡◌, ℕ, List, [], ◌∷◌, ◌++◌, not, ◌&&◌, refl, sym, ap, ◌∙◌, append_assoc, arith}
+use Rattle.std.proofs.Common.{append-nil}
 use Rattle.std.proofs.lemmas.Grind.{common_steps}
 use Rattle.std.proofs.lemmas.List.Elements.{filter-append}
 use Rattle.std.specs.List.{filter}
 use Rattle.i80_exec.specs.declared.registers.Stepped.{Stepped}
+use Rattle.i80_exec.specs.State.{MachineState}
 use Rattle.lab_frames.specs.declared.frame.Frame.{Frame}
-use Rattle.lab_frames.specs.Live.{BoardStep, change_of, ends, made, made_by, stays, live}
+use Rattle.lab_frames.specs.Live.{BoardStep, Entry, Step, Poke, change_of, ends, made, made_by, stays, live}
 use Rattle.lab_frames.specs.Frames.{survivors, Advances}
 
--- a frame stays over one more step where it stayed so far and the step doesn't end it
-pub stays-step : (later : List BoardStep) (step : BoardStep) (f : Frame)
-    → stays (later ++ step ∷ []) f ≡ (not (ends step f) && stays later f)
-stays-step [] step f = refl
-stays-step (first ∷ later) step f = grind (arith, stays-step later step f)
+-- those of the frames that one more entry leaves
+abbrev spared : Entry → List Frame → List Frame
+spared entry frames = filter (λ f. not (ends entry f)) frames
 
-pub filter-stays-step : (later : List BoardStep) (step : BoardStep) (fs : List Frame)
-    → filter (stays (later ++ step ∷ [])) fs ≡ survivors (change_of step).answer
+-- a frame stays over one more entry where it stayed so far and the entry doesn't end it
+pub stays-step : (later : List Entry) (entry : Entry) (f : Frame)
+    → stays (later ++ entry ∷ []) f ≡ (not (ends entry f) && stays later f)
+stays-step [] entry f = refl
+stays-step (first ∷ later) entry f = grind (arith, stays-step later entry f)
+
+filter-stays-entry : (later : List Entry) (entry : Entry) (fs : List Frame)
+    → filter (stays (later ++ entry ∷ [])) fs ≡ spared entry (filter (stays later) fs)
+filter-stays-entry later entry [] = refl
+filter-stays-entry later entry (f ∷ fs) =
+    rw (stays-step later entry f) (grind (arith, filter-stays-entry later entry fs))
+
+pub filter-stays-step : (later : List Entry) (step : BoardStep) (fs : List Frame)
+    → filter (stays (later ++ Step step ∷ [])) fs ≡ survivors (change_of step).answer
     (change_of step).after.regs.sp (filter (stays later) fs)
-filter-stays-step later step [] = refl
-filter-stays-step later step (f ∷ fs) =
-    rw (stays-step later step f) (grind (arith, filter-stays-step later step fs))
+filter-stays-step later step fs = filter-stays-entry later (Step step) fs
 
 -- over no step every frame stays
 pub filter-stays-none : (fs : List Frame) → filter (stays []) fs ≡ fs
 filter-stays-none [] = refl
 filter-stays-none (f ∷ fs) = ap (λ r. f ∷ r) (filter-stays-none fs)
 
--- one more step: the live frames that it leaves, and the one that it makes
-pub live-step : (trace : List BoardStep) (step : BoardStep)
-    → live (trace ++ step ∷ []) ≡ survivors (change_of step).answer (change_of step).after.regs.sp
-    (live trace) ++ made step
-live-step [] step = rw (filter-stays-none (made step)) (grind (arith, common_steps))
-live-step (first ∷ later) step =
+-- one more entry: the live frames that it leaves, and the one that it makes
+live-entry : (trace : List Entry) (entry : Entry)
+    → live (trace ++ entry ∷ []) ≡ spared entry (live trace) ++ made entry
+live-entry [] entry = rw (filter-stays-none (made entry)) (grind (arith, common_steps))
+live-entry (first ∷ later) entry =
     rw (
-      filter-stays-step later step (made first),
-      live-step later step,
-      filter-append (λ f. not (ends step f)) (filter (stays later) (made first)) (live later),
+      filter-stays-entry later entry (made first),
+      live-entry later entry,
+      filter-append (λ f. not (ends entry f)) (filter (stays later) (made first)) (live later),
     )
-    (sym (append_assoc (survivors (change_of step).answer (change_of step).after.regs.sp
-    (filter (stays later) (made first))) (survivors (change_of step).answer (change_of step).after.regs.sp
-    (live later)) (made step)))
+    (sym (append_assoc (spared entry (filter (stays later) (made first))) (spared entry (live later))
+    (made entry)))
 
-stays-append : (first later : List BoardStep) (f : Frame)
+-- one more step
+pub live-step : (trace : List Entry) (step : BoardStep)
+    → live (trace ++ Step step ∷ []) ≡ survivors (change_of step).answer (change_of step).after.regs.sp
+    (live trace) ++ made (Step step)
+live-step trace step = live-entry trace (Step step)
+
+spared-poke : (before after : MachineState) (fs : List Frame) → spared (Poke before after) fs ≡ fs
+spared-poke before after [] = refl
+spared-poke before after (f ∷ fs) = ap (λ r. f ∷ r) (spared-poke before after fs)
+
+-- a change by hand leaves the live frames as they are
+pub live-poke : (trace : List Entry) (before after : MachineState)
+    → live (trace ++ Poke before after ∷ []) ≡ live trace
+live-poke trace before after =
+    live-entry trace (Poke before after) ∙ append-nil (spared (Poke before after) (live trace))
+    ∙ spared-poke before after (live trace)
+
+stays-append : (first later : List Entry) (f : Frame)
     → stays (first ++ later) f ≡ (stays first f && stays later f)
 stays-append [] later f = refl
 stays-append (x ∷ first) later f = grind (arith, stays-append first later f)
 
-pub filter-stays-append : (first later : List BoardStep) (fs : List Frame)
+pub filter-stays-append : (first later : List Entry) (fs : List Frame)
     → filter (stays (first ++ later)) fs ≡ filter (stays later) (filter (stays first) fs)
 filter-stays-append first later [] = refl
 filter-stays-append first later (f ∷ fs) =
     rw (stays-append first later f) (grind (arith, filter-stays-append first later fs))
 
 -- two stretches: the live frames of the first that the later one leaves, and those that this makes
-pub live-append : (first later : List BoardStep)
+pub live-append : (first later : List Entry)
     → live (first ++ later) ≡ filter (stays later) (live first) ++ live later
 live-append [] later = refl
 live-append (x ∷ first) later =

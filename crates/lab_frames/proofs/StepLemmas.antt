@@ -5,7 +5,8 @@ use Rattle.std.proofs.lemmas.Bool.{cond_both}
 use Rattle.i80_rows.specs.declared.instruction.Instr.{Instr}
 use Rattle.i80_rows.specs.declared.instruction.Instr.TheVariants.{Hlt, JumpIf, Call, CallIf, Ret, RetIf, Rst}
 use Rattle.i80_rows.specs.Codes.{vector_code}
-use Rattle.i80_rows.specs.Rows.{Row, Undefined, Alone, Byte, Word, row}
+use Rattle.i80_rows.specs.Rows.{Row, Undefined, Alone, Byte, Word}
+use Rattle.i80_rows.specs.AliasRows.{row_on}
 use Rattle.i80_exec.specs.declared.registers.Interrupts.{Interrupts}
 use Rattle.i80_exec.specs.declared.registers.Interrupts.TheVariants.{Off, Arming, On}
 use Rattle.i80_exec.specs.declared.registers.Stepped.{Stepped}
@@ -65,7 +66,7 @@ row-tells (Word f) input m =
 -- the instruction at PC, whatever the ports answer
 pub instruction-tells : (input : ℕ → ℕ) (m : MachineState)
     → TellsSp (instruction input m).answer m.regs.sp (instruction input m).after.regs.sp
-instruction-tells input m = row-tells (row (byte_at m m.regs.pc)) input m
+instruction-tells input m = row-tells (row_on m.board (byte_at m m.regs.pc)) input m
 
 accepted-tells : (state : Interrupts) (n : ℕ) (m : MachineState) (o : Outcome)
     → accepted_in state n m ≡ Some o → Tells m.regs.sp o

@@ -1,10 +1,11 @@
 -- What one more step makes of the live frames, and how their slots lie on the stack.
 use Rattle.std.specs.Prelude.{◌≡◌, ℕ, ◌<◌, ◌≤◌, List, [], ◌∷◌, ◌++◌, length, min, not}
+use Rattle.std.specs.Prelude.{Bool, false, nat_lt}
 use Rattle.std.specs.List.{filter}
 use Rattle.i80_exec.specs.declared.registers.Stepped.{Stepped}
 use Rattle.i80_exec.specs.declared.registers.Stepped.TheVariants.{Called, Returned, Undefined}
 use Rattle.lab_frames.specs.declared.frame.Frame.{Frame}
-use Rattle.lab_frames.specs.Live.{BoardStep, change_of, ended_by, live}
+use Rattle.lab_frames.specs.Live.{BoardStep, Entry, Step, change_of, ended_by, live}
 
 -- those of the frames that a step leaves, which answered so and left SP there
 abbrev pub survivors : Stepped → ℕ → List Frame → List Frame
@@ -16,18 +17,12 @@ pub record IsStep (step : BoardStep) (answer : Stepped) (site sp : ℕ) : Type 0
   pub site_is : (change_of step).before.regs.pc ≡ site
   pub sp_is : (change_of step).after.regs.sp ≡ sp
 
--- Whatever the steps were whose live frames are the old ones: with one such step more,
+-- Whatever the run did whose live frames are the old ones: with one such step more,
 -- the live frames are the new ones.
 abbrev pub Advances : Stepped → ℕ → ℕ → List Frame → List Frame → Type 0
 Advances answer site sp old new =
-    (trace : List BoardStep) (step : BoardStep) → IsStep step answer site sp → old ≡ live trace
-    → new ≡ live (trace ++ step ∷ [])
-
--- however the old frames are cut in two, so many of the older ones are left where this many are of all
-abbrev pub LeavesOldest : Stepped → ℕ → List Frame → ℕ → Type 0
-LeavesOldest answer sp old left =
-    (older newer : List Frame) → old ≡ older ++ newer
-    → length (survivors answer sp older) ≡ min (length older) left
+    (trace : List Entry) (step : BoardStep) → IsStep step answer site sp → old ≡ live trace
+    → new ≡ live (trace ++ Step step ∷ [])
 
 -- the slots fall strictly, from below a bound
 abbrev pub Falls : ℕ → List Frame → Type 0
@@ -42,6 +37,18 @@ AtLeast low (f ∷ fs) = (low ≤ f.slot) × AtLeast low fs
 -- a return is from a slot at or below those of the frames
 abbrev pub ReturnsBelow : Stepped → List Frame → Type 0
 ReturnsBelow answer frames = (from : ℕ) → answer ≡ Returned from → AtLeast from frames
+
+-- However the old frames are cut in two, a step that leaves this many of all leaves as many of the older ones, or
+-- all of these where they are fewer. It isn't said of a return from above one of the newer.
+abbrev pub LeavesOldest : Stepped → ℕ → List Frame → ℕ → Type 0
+LeavesOldest answer sp old left =
+    (older newer : List Frame) → old ≡ older ++ newer → ReturnsBelow answer newer
+    → length (survivors answer sp older) ≡ min (length older) left
+
+-- a return from above this slot: of a live frame's, only where SP was changed by hand
+abbrev pub is_from_above : Stepped → ℕ → Bool
+is_from_above (Returned from) slot = nat_lt slot from
+is_from_above answer slot = false
 
 -- a call leaves SP at its slot
 abbrev pub CallsAt : Stepped → ℕ → Type 0

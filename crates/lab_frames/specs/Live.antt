@@ -25,14 +25,21 @@ abbrev pub change_of : BoardStep → Change
 change_of (Instruction change) = change
 change_of (Acceptance change) = change
 
+-- what a run's trace lists: its steps, and the changes of the machine by hand, of which none is a step
+pub data Entry : Type 0 where
+  Step : BoardStep → Entry
+  -- the machine before and after
+  Poke : MachineState → MachineState → Entry
+
 -- the frame of a call that was made at this site; no other answer makes one
 abbrev pub made_by : Stepped → ℕ → List Frame
 made_by (Called slot target) site = record { slot = slot; target = target; site = site } ∷ []
 made_by answer site = []
 
 -- PC before the step is the site: the call instruction's address, or the PC that an acceptance pushes
-abbrev pub made : BoardStep → List Frame
-made step = made_by (change_of step).answer (change_of step).before.regs.pc
+abbrev pub made : Entry → List Frame
+made (Step step) = made_by (change_of step).answer (change_of step).before.regs.pc
+made (Poke before after) = []
 
 -- by a taken return from the slot, or by a call with a slot at or above it
 abbrev pub returned_or_covered : Stepped → ℕ → Bool
@@ -44,15 +51,17 @@ returned_or_covered answer slot = false
 abbrev pub ended_by : Stepped → ℕ → ℕ → Bool
 ended_by answer sp slot = nat_lt slot sp || returned_or_covered answer slot
 
-abbrev pub ends : BoardStep → Frame → Bool
-ends step frame = ended_by (change_of step).answer (change_of step).after.regs.sp frame.slot
+-- a change by hand ends none, wherever it puts SP
+abbrev pub ends : Entry → Frame → Bool
+ends (Step step) frame = ended_by (change_of step).answer (change_of step).after.regs.sp frame.slot
+ends (Poke before after) frame = false
 
--- none of the later steps ends it
-abbrev pub stays : List BoardStep → Frame → Bool
+-- none of the later entries ends it
+abbrev pub stays : List Entry → Frame → Bool
 stays [] frame = true
-stays (step ∷ later) frame = not (ends step frame) && stays later frame
+stays (entry ∷ later) frame = not (ends entry frame) && stays later frame
 
--- the frames that these steps make and that no later one of them ends, oldest first
-abbrev pub live : List BoardStep → List Frame
+-- the frames that these entries make and that no later one of them ends, oldest first
+abbrev pub live : List Entry → List Frame
 live [] = []
-live (step ∷ later) = filter (stays later) (made step) ++ live later
+live (entry ∷ later) = filter (stays later) (made entry) ++ live later

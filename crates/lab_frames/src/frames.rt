@@ -7,8 +7,8 @@ ghost use Rattle.lab_frames.specs.Frames.{
   LeavesOldest,
   Falls,
   AtLeast,
-  ReturnsBelow,
   CallsAt,
+  is_from_above,
 };
 
 use crate::frame::Frame;
@@ -53,9 +53,8 @@ impl Frames {
     /// Answers how many of the frames before it are left.
     #[inline]
     pub fn advance(&mut self, answer: Stepped, site: u16, sp: u16) -> usize
-        // Both hold of each instruction and each accepted request where no live slot is below SP
-        // before it (proofs/StepLemmas.antt), and `above` is that fact for the next step.
-        requires returns { ReturnsBelow answer self.old }
+        // It holds of each instruction and each accepted request (proofs/StepLemmas.antt). Where SP was before the
+        // step doesn't matter: SP may have been changed by hand, and live slots may lie below it.
         requires calls { CallsAt answer sp }
         ensures live { Advances answer site sp self.old self.new }
         ensures frames { self.new ≡ survivors answer sp self.old ++ made_by answer site }
@@ -66,7 +65,7 @@ impl Frames {
         ensures falls { Falls 65536 self.new }
         ensures above { AtLeast sp self.new }
     {
-        pop_ended(&mut self.frames, answer, sp);
+        drop_ended(&mut self.frames, answer, sp);
         let left = self.frames.len();
         push_made(&mut self.frames, answer, site);
         left
@@ -119,20 +118,47 @@ pub fn is_ended(answer: Stepped, sp: u16, slot: u16) -> bool
     slot < sp || returned_or_covered
 }
 
-/// Since slots fall, the frames that a step ends are the newest ones.
 #[inline]
-fn pop_ended(frames: &mut Vec<Frame>, answer: Stepped, sp: u16)
+fn returns_from_above(answer: Stepped, slot: u16) -> bool
+    ensures { result ≡ is_from_above answer slot }
+{
+    match answer {
+        Stepped::Returned { slot: from } => slot < from,
+        _ => false,
+    }
+}
+
+// Since slots fall, the frames that a step ends are the newest ones: those below SP after it, and those that a call
+// covers. A return ends the frame of its slot too. That one lies among frames that stay only where SP was changed
+// by hand and wraps: a return from FFFEh or FFFFh leaves SP at 0 or 1.
+#[inline]
+fn drop_ended(frames: &mut Vec<Frame>, answer: Stepped, sp: u16)
     requires falls { Falls 65536 frames.old.items }
-    requires returns { ReturnsBelow answer frames.old.items }
-    ensures popped { frames.new.items ≡ survivors answer sp frames.old.items }
+    ensures left { frames.new.items ≡ survivors answer sp frames.old.items }
     ensures room { vec_capacity frames.new ≡ vec_capacity frames.old }
 {
     while let Some(newest) = frames.last() {
-        if !is_ended(answer, sp, newest.slot) {
-            break;
+        let slot = newest.slot;
+        if !is_ended(answer, sp, slot) {
+            if !returns_from_above(answer, slot) {
+                return;
+            }
+            drop_among(frames, answer, sp);
+            return;
         }
         let _ = frames.pop();
     }
+}
+
+// The same, wherever the frames that are ended lie. It stands apart, so that the usual way is one comparison with the
+// newest slot.
+#[cold]
+#[inline(never)]
+fn drop_among(frames: &mut Vec<Frame>, answer: Stepped, sp: u16)
+    ensures left { frames.new.items ≡ survivors answer sp frames.old.items }
+    ensures room { vec_capacity frames.new ≡ vec_capacity frames.old }
+{
+    frames.retain(move |frame| !is_ended(answer, sp, frame.slot));
 }
 
 #[inline]

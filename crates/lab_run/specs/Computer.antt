@@ -1,7 +1,8 @@
 -- A computer: a machine with the past of its devices; and the run of a program from its load to its end.
 use Rattle.std.specs.Prelude.{ℕ, suc, zero, ◌+◌, List, [], ◌∷◌, ◌++◌, map, Bool, Option, Some, None, is_some}
 use Rattle.std.specs.Prelude.{◌==◌, if◌then◌else◌}
-use Rattle.i80_rows.specs.Rows.{row, is_undefined}
+use Rattle.i80_rows.specs.Rows.{is_undefined}
+use Rattle.i80_rows.specs.AliasRows.{row_on}
 use Rattle.i80_exec.specs.declared.registers.Stepped.{Stepped}
 use Rattle.i80_exec.specs.declared.registers.Stepped.TheVariants as stepped
 use Rattle.i80_exec.specs.declared.registers.Interrupts.{Interrupts}
@@ -54,7 +55,7 @@ abbrev pub end_of : Bool → Stepped → MachineState → Option Ending
 end_of is_last last m =
     if (is_halt last) then (Some (halted_in m.regs.interrupts)) else
     (if is_last then (Some ending.Limit) else
-    (if (is_undefined (row (byte_at m m.regs.pc))) then (Some (ending.Undefined (byte_at m m.regs.pc)))
+    (if (is_undefined (row_on m.board (byte_at m m.regs.pc))) then (Some (ending.Undefined (byte_at m m.regs.pc)))
     else None))
 
 -- the same after k of at most limit steps

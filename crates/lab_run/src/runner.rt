@@ -9,7 +9,7 @@ use crate::printing::{push_ending, push_registers};
 use i80_devs::devices::Devices;
 use i80_exec::machine::Machine;
 use i80_exec::registers::{Interrupts, Registers, Stepped};
-use i80_rows::decoding::decode;
+use i80_rows::decoding::decode_on;
 use i80_rows::instruction::DecodeFault;
 use std::alloc::{AllocError, Global};
 use std::marker::Model;
@@ -109,7 +109,7 @@ impl Runner {
             return Some(Ending::Limit);
         }
         let opcode = self.machine.peek(regs.pc);
-        match decode(&[opcode]) {
+        match decode_on(&[opcode], self.machine.board()) {
             Err(DecodeFault::Undefined) => Some(Ending::Undefined(opcode)),
             _ => None,
         }

@@ -393,8 +393,8 @@ Loaded { start: Some(0) }
 Accepted
 FFFF=0C3H 
 
-refused: there are the references 1 to 5
-refused: there are the references 1 to 5
+refused: no scope for this has the reference
+refused: no scope for this has the reference
 FFFF C3 00 00 JMP 00000H
 0002 00 NOP
 ",

@@ -1,9 +1,10 @@
 //! Live frames over a few steps.
-ghost use Rattle.lab_frames.specs.Frames.{AtLeast, ReturnsBelow, CallsAt};
+ghost use Rattle.lab_frames.specs.Frames.{CallsAt};
 
 use i80_exec::registers::Stepped;
 use lab_frames::frame::Frame;
 use lab_frames::frames::{Frames, is_ended};
+use std::alloc::{AllocError, Global};
 
 /// Whether these frames are live, the innermost first, and no others.
 fn are(frames: &Frames, wanted: &[Frame]) -> bool {
@@ -27,17 +28,13 @@ fn leaves(
     left: usize,
     wanted: &[Frame],
 ) -> bool
-    requires returns { ReturnsBelow answer frames.old }
-    requires calls { CallsAt answer sp }
-    ensures { AtLeast sp frames.new }
+    requires { CallsAt answer sp }
 {
     frames.advance(answer, site, sp) == left && are(frames, wanted)
 }
 
 /// The same of a call that makes this frame.
-fn makes(frames: &mut Frames, frame: Frame, left: usize, wanted: &[Frame]) -> bool
-    ensures { AtLeast frame.slot frames.new }
-{
+fn makes(frames: &mut Frames, frame: Frame, left: usize, wanted: &[Frame]) -> bool {
     let Frame { slot, target, site } = frame;
     leaves(
         frames,
@@ -115,4 +112,73 @@ fn a_later_call_covers_an_older_slot(rt: HostRuntime) {
         target: 0x0300,
     };
     assert!(rt; is_ended(covering, 0xfffe, OUTER.slot));
+}
+
+/// A frame of this slot, which is all that tells it apart below.
+fn frame_at(slot: u16) -> Frame {
+    Frame { slot, ..OUTER }
+}
+
+// Two live frames, the older one first; the step after SP was changed by hand: where it returns from, if it does, and
+// SP after it; how many of the two are left, and the frames that are live then, the innermost first.
+type Changed = ([u16; 2], (Option<u16>, u16), (usize, &'static [u16]));
+
+const CHANGED: [Changed; 9] = [
+    // SP was put between the slots, below both, above both: what lies below SP is ended.
+    ([0x2000, 0x1000], (None, 0x1800), (1, &[0x2000])),
+    ([0x2000, 0x1000], (None, 0x0800), (2, &[0x1000, 0x2000])),
+    ([0x2000, 0x1000], (None, 0x3000), (0, &[])),
+    // A return from the outer slot leaves SP above both, one from between them above the inner one.
+    ([0x2000, 0x1000], (Some(0x2000), 0x2002), (0, &[])),
+    ([0x2000, 0x1000], (Some(0x1800), 0x1802), (1, &[0x2000])),
+    // Returns from the last two addresses leave SP at 0 and 1, and end the frame of their slot alone,
+    ([0xfffe, 0x0100], (Some(0xfffe), 0x0000), (1, &[0x0100])),
+    ([0xffff, 0x0100], (Some(0xffff), 0x0001), (1, &[0x0100])),
+    // and none, where no frame is there;
+    (
+        [0xfffe, 0x0100],
+        (Some(0xffff), 0x0001),
+        (2, &[0x0100, 0xfffe]),
+    ),
+    // but one at 0 is below SP.
+    ([0xffff, 0x0000], (Some(0xffff), 0x0001), (0, &[])),
+];
+
+fn are_of(frames: &Frames, slots: &[u16]) -> bool {
+    for (age, slot) in slots.iter().enumerate() {
+        if frames.get(age) != Some(frame_at(*slot)) {
+            return false;
+        }
+    }
+    frames.len() == slots.len()
+}
+
+// The frames of the two calls.
+fn called_twice(alloc: Global, [outer, inner]: [u16; 2]) -> Result<Frames, AllocError> {
+    let mut frames = Frames::new(alloc)?;
+    for slot in [outer, inner] {
+        let target = OUTER.target;
+        frames.advance(Stepped::Called { slot, target }, OUTER.site, slot);
+    }
+    Ok(frames)
+}
+
+fn is_right(
+    alloc: Global,
+    (slots, (from, sp), (left, wanted)): Changed,
+) -> Result<bool, AllocError> {
+    let mut frames = called_twice(alloc, slots)?;
+    let stays = match from {
+        None => frames.advance(Stepped::Done, OUTER.site, sp),
+        Some(slot) => frames.advance(Stepped::Returned { slot }, OUTER.site, sp),
+    };
+    Ok(stays == left && are_of(&frames, wanted))
+}
+
+#[test]
+fn frames_end_by_rule_wherever_sp_was_put(rt: HostRuntime) -> Result<(), AllocError> {
+    for (row, changed) in CHANGED.iter().enumerate() {
+        assert!(rt; is_right(rt.alloc(), *changed)?, "row {row}");
+    }
+    Ok(())
 }

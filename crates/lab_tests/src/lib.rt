@@ -5,6 +5,8 @@
 #![tactic(auto)]
 
 #[cfg(test)]
+mod aliases;
+#[cfg(test)]
 mod ask;
 #[cfg(test)]
 mod board;
@@ -16,6 +18,10 @@ mod debug;
 mod frames;
 #[cfg(test)]
 mod origins;
+#[cfg(test)]
+mod plain;
+#[cfg(test)]
+mod pokes;
 #[cfg(test)]
 mod script;
 #[cfg(test)]

@@ -6,6 +6,7 @@ use crate::ask::{Ask, view};
 use crate::told::{put_byte, put_newest, put_registers, put_told};
 use base_text::sequence::{Bytes, Sequence};
 use base_text::text::Text;
+use i80_rows::board::Board;
 use lab_core::event::{Event, Granularity, StepKind, StepRequest};
 use lab_core::lab::Lab;
 use std::alloc::{AllocError, Global};
@@ -24,8 +25,11 @@ pub enum Step {
     Line(StepKind),
     /// A Step by instruction.
     Instruction(StepKind),
+    /// A reference, a name and a value.
+    Poke(u32, &'static str, &'static str),
     Interrupt,
     Reset,
+    SetBoard(Board),
     Lines(&'static str, &'static [u32]),
     Attach,
     Detach,
@@ -67,6 +71,17 @@ fn dump(alloc: Global, path: &str, text: &str) -> Result<Event, AllocError>
     Ok(Event::Dump { path, text })
 }
 
+fn poke(alloc: Global, reference: u32, name: &str, value: &str) -> Result<Event, AllocError>
+    ensures { IfOk result (λ event. Fits event) }
+{
+    let (name, value) = texts(alloc, name, value)?;
+    Ok(Event::Poke {
+        reference,
+        name,
+        value,
+    })
+}
+
 // No event, where there are more lines than a source may have.
 fn set_breakpoints(alloc: Global, path: &str, lines: &[u32]) -> Result<Option<Event>, AllocError>
     ensures { IfOk result (λ event. IfSome event (λ event. Fits event)) }
@@ -97,8 +112,10 @@ fn event(alloc: Global, step: Step) -> Result<Option<Event>, AllocError>
             kind,
             granularity: Granularity::Instruction,
         }),
+        Step::Poke(reference, name, value) => poke(alloc, reference, name, value)?,
         Step::Interrupt => Event::Interrupt,
         Step::Reset => Event::Reset,
+        Step::SetBoard(option) => Event::SetBoard(option),
         Step::Lines(path, lines) => return set_breakpoints(alloc, path, lines),
         Step::Attach => Event::Attach,
         Step::Detach => Event::Detach,

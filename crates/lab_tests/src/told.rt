@@ -130,8 +130,10 @@ fn put_answer(told: &mut String, answer: &Answer) -> Result<(), AllocError> {
             put_traffic(told, traffic.as_slice())
         }
         Answer::Accepted => told.push_str("Accepted\n"),
+        Answer::Poked(text) => write!(told, "Poked {}\n", text.as_str()),
         Answer::Interrupted => told.push_str("Interrupted\n"),
         Answer::Reset => told.push_str("Reset\n"),
+        Answer::BoardSet => told.push_str("BoardSet\n"),
         Answer::Breakpoints(lines) => put_lines(told, lines.as_slice()),
         Answer::Shown(shown) => put_shown(told, shown),
     }

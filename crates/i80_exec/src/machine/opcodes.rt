@@ -1,6 +1,7 @@
 //! The 256 opcodes: one arm each, with its registers written into it.
 ghost use Rattle.std.specs.Prelude.{◌≡◌, ◌≢◌, ◌+◌, ◌*◌, ◌<◌, ◌≤◌, ◌⊎◌, None};
-ghost use Rattle.i80_rows.specs.Rows.{Alone, Byte, Word, row};
+ghost use Rattle.i80_rows.specs.Rows.{Alone, Byte, Word};
+ghost use Rattle.i80_rows.specs.AliasRows.{acts, undefined_on};
 ghost use Rattle.i80_rows.specs.declared.instruction.Instr.TheVariants.{
   Nop,
   Lxi,
@@ -14,6 +15,9 @@ ghost use Rattle.i80_rows.specs.declared.instruction.Instr.TheVariants.{
   AluImmediate,
   JumpIf,
   CallIf,
+  Jmp,
+  Call,
+  Ret,
   RetIf,
   Push,
   Pop,
@@ -33,6 +37,7 @@ ghost use Rattle.i80_exec.specs.Effect.{operated, to_reg};
 ghost use Rattle.i80_exec.specs.Opcodes.{reg_at, operation_at};
 ghost use Rattle.i80_exec.specs.Step.{
   by_row,
+  by_opcode,
   interrupts_after,
   IsOutcome,
   IsWithoutPort,
@@ -43,11 +48,15 @@ use crate::machine::Machine;
 use crate::ports::Ports;
 use crate::registers::{Interrupts, Stepped};
 use i80_rows::arithmetic::{AluResult, daa, dcr, inr, rotate};
+use i80_rows::board::Board;
 use i80_rows::instruction::{Cond, Operation, Pair, Reg, Rotation, StackPair};
 
 macro_rules! arm {
     (nop $m:ident $opcode:ident) => {{ $m.advance(1); Stepped::Done }};
-    (undefined $m:ident $opcode:ident) => {{ Stepped::Undefined { opcode: $opcode } }};
+    (alias_nop $m:ident $opcode:ident) => {{ $m.alias_nop($opcode) }};
+    (alias_jmp $m:ident $opcode:ident) => {{ $m.alias_jmp($opcode) }};
+    (alias_ret $m:ident $opcode:ident) => {{ $m.alias_ret($opcode) }};
+    (alias_call $m:ident $opcode:ident) => {{ $m.alias_call($opcode) }};
     (immediate $m:ident $opcode:ident, $operation:ident) => {{
         $m.immediate(Operation::$operation);
         Stepped::Done
@@ -189,7 +198,7 @@ impl Machine {
     pub(super) fn step_opcode<P: Ports>(&mut self, opcode: u8, ports: &mut P) -> Stepped
         requires opcode { opcode ≡ byte_at self.old self.old.regs.pc }
         requires spare { 1 ≤ P.spare ports.old }
-        ensures { let outcome = by_row (row opcode) (P.answer (P.state ports.old)) self.old in
+        ensures { let outcome = by_opcode opcode (P.answer (P.state ports.old)) self.old in
             IsOutcome outcome self.new result
             × Performs outcome.operation P.after (P.operations ports.old) (P.operations ports.new)
             (P.state ports.old) (P.state ports.new) (P.spare ports.old) (P.spare ports.new) }
@@ -204,7 +213,7 @@ impl Machine {
         requires opcode { opcode ≡ byte_at self.old self.old.regs.pc }
         requires output { opcode ≡ 211 }
         requires spare { 1 ≤ P.spare ports.old }
-        ensures { let outcome = by_row (row opcode) (P.answer (P.state ports.old)) self.old in
+        ensures { let outcome = by_opcode opcode (P.answer (P.state ports.old)) self.old in
             IsOutcome outcome self.new result
             × Performs outcome.operation P.after (P.operations ports.old) (P.operations ports.new)
             (P.state ports.old) (P.state ports.new) (P.spare ports.old) (P.spare ports.new) }
@@ -222,7 +231,7 @@ impl Machine {
         requires opcode { opcode ≡ byte_at self.old self.old.regs.pc }
         requires input { opcode ≡ 219 }
         requires spare { 1 ≤ P.spare ports.old }
-        ensures { let outcome = by_row (row opcode) (P.answer (P.state ports.old)) self.old in
+        ensures { let outcome = by_opcode opcode (P.answer (P.state ports.old)) self.old in
             IsOutcome outcome self.new result
             × Performs outcome.operation P.after (P.operations ports.old) (P.operations ports.new)
             (P.state ports.old) (P.state ports.new) (P.spare ports.old) (P.spare ports.new) }
@@ -239,8 +248,8 @@ impl Machine {
     fn step_in_group<P: Ports>(&mut self, opcode: u8, ports: &mut P) -> Stepped
         requires opcode { opcode ≡ byte_at self.old self.old.regs.pc }
         requires spare { 1 ≤ P.spare ports.old }
-        ensures { let outcome = by_row (row opcode) (P.answer (P.state ports.old)) self.old in
-            (IsWithoutPort (by_row (row opcode) (λ _. 0) self.old) self.new result × (ports.new ≡ ports.old))
+        ensures { let outcome = by_opcode opcode (P.answer (P.state ports.old)) self.old in
+            (IsWithoutPort (by_opcode opcode (λ _. 0) self.old) self.new result × (ports.new ≡ ports.old))
             ⊎ (IsOutcome outcome self.new result
             × Performs outcome.operation P.after (P.operations ports.old) (P.operations ports.new)
             (P.state ports.old) (P.state ports.new) (P.spare ports.old) (P.spare ports.new)) }
@@ -490,12 +499,69 @@ impl Machine {
         }
     }
 
+    // The twelve opcodes that the table leaves undefined. They alone look at the board: the others cost nothing more.
+
+    #[inline(always)]
+    fn alias_nop(&mut self, opcode: u8) -> Stepped
+        requires { opcode ≡ byte_at self.old self.old.regs.pc }
+        ensures { let row = undefined_on self.old.board (Alone Nop) in
+            IsWithoutPort (by_row row (λ _. 0) self.old) self.new result }
+    {
+        if !has_aliases(self.board) {
+            return Stepped::Undefined { opcode };
+        }
+        self.advance(1);
+        Stepped::Done
+    }
+
+    #[inline(always)]
+    fn alias_jmp(&mut self, opcode: u8) -> Stepped
+        requires { opcode ≡ byte_at self.old self.old.regs.pc }
+        ensures { let row = undefined_on self.old.board (Word Jmp) in
+            IsWithoutPort (by_row row (λ _. 0) self.old) self.new result }
+    {
+        if !has_aliases(self.board) {
+            return Stepped::Undefined { opcode };
+        }
+        let target = self.operand_word();
+        self.advance(3);
+        self.jump(target);
+        Stepped::Done
+    }
+
+    #[inline(always)]
+    fn alias_ret(&mut self, opcode: u8) -> Stepped
+        requires { opcode ≡ byte_at self.old self.old.regs.pc }
+        ensures { let row = undefined_on self.old.board (Alone Ret) in
+            IsWithoutPort (by_row row (λ _. 0) self.old) self.new result }
+    {
+        if !has_aliases(self.board) {
+            return Stepped::Undefined { opcode };
+        }
+        self.advance(1);
+        self.ret()
+    }
+
+    #[inline(always)]
+    fn alias_call(&mut self, opcode: u8) -> Stepped
+        requires { opcode ≡ byte_at self.old self.old.regs.pc }
+        ensures { let row = undefined_on self.old.board (Word Call) in
+            IsWithoutPort (by_row row (λ _. 0) self.old) self.new result }
+    {
+        if !has_aliases(self.board) {
+            return Stepped::Undefined { opcode };
+        }
+        let routine = self.operand_word();
+        self.advance(3);
+        self.call(routine)
+    }
+
     #[inline]
-    #[tactic(auto, unfolding(i80_rows::specs::Rows::row))]
+    #[tactic(auto, unfolding(i80_rows::specs::Rows::row, i80_rows::specs::AliasRows::alias_row))]
     fn step_00(&mut self, opcode: u8) -> Stepped
         requires opcode { opcode ≡ byte_at self.old self.old.regs.pc }
         requires high { opcode < 32 }
-        ensures { IsWithoutPort (by_row (row opcode) (λ _. 0) self.old) self.new result }
+        ensures { IsWithoutPort (by_opcode opcode (λ _. 0) self.old) self.new result }
     {
         let m = self;
         opcodes! { m opcode;
@@ -507,7 +573,7 @@ impl Machine {
             0x05 => dcr(B);
             0x06 => mvi(B);
             0x07 => rotate(Rlc);
-            0x08 => undefined();
+            0x08 => alias_nop();
             0x09 => dad(B);
             0x0a => ldax(B);
             0x0b => dcx(B);
@@ -515,7 +581,7 @@ impl Machine {
             0x0d => dcr(C);
             0x0e => mvi(C);
             0x0f => rotate(Rrc);
-            0x10 => undefined();
+            0x10 => alias_nop();
             0x11 => lxi(D);
             0x12 => stax(D);
             0x13 => inx(D);
@@ -523,7 +589,7 @@ impl Machine {
             0x15 => dcr(D);
             0x16 => mvi(D);
             0x17 => rotate(Ral);
-            0x18 => undefined();
+            0x18 => alias_nop();
             0x19 => dad(D);
             0x1a => ldax(D);
             0x1b => dcx(D);
@@ -535,16 +601,16 @@ impl Machine {
     }
 
     #[inline]
-    #[tactic(auto, unfolding(i80_rows::specs::Rows::row))]
+    #[tactic(auto, unfolding(i80_rows::specs::Rows::row, i80_rows::specs::AliasRows::alias_row))]
     fn step_20(&mut self, opcode: u8) -> Stepped
         requires opcode { opcode ≡ byte_at self.old self.old.regs.pc }
         requires low { 32 ≤ opcode }
         requires high { opcode < 64 }
-        ensures { IsWithoutPort (by_row (row opcode) (λ _. 0) self.old) self.new result }
+        ensures { IsWithoutPort (by_opcode opcode (λ _. 0) self.old) self.new result }
     {
         let m = self;
         opcodes! { m opcode;
-            0x20 => undefined();
+            0x20 => alias_nop();
             0x21 => lxi(H);
             0x22 => shld();
             0x23 => inx(H);
@@ -552,7 +618,7 @@ impl Machine {
             0x25 => dcr(H);
             0x26 => mvi(H);
             0x27 => daa();
-            0x28 => undefined();
+            0x28 => alias_nop();
             0x29 => dad(H);
             0x2a => lhld();
             0x2b => dcx(H);
@@ -560,7 +626,7 @@ impl Machine {
             0x2d => dcr(L);
             0x2e => mvi(L);
             0x2f => cma();
-            0x30 => undefined();
+            0x30 => alias_nop();
             0x31 => lxi(Sp);
             0x32 => sta();
             0x33 => inx(Sp);
@@ -568,7 +634,7 @@ impl Machine {
             0x35 => dcr(M);
             0x36 => mvi(M);
             0x37 => stc();
-            0x38 => undefined();
+            0x38 => alias_nop();
             0x39 => dad(Sp);
             0x3a => lda();
             0x3b => dcx(Sp);
@@ -613,7 +679,7 @@ impl Machine {
         requires opcode { opcode ≡ byte_at self.old self.old.regs.pc }
         requires low { 64 ≤ opcode }
         requires high { opcode < 128 }
-        ensures { IsWithoutPort (by_row (row opcode) (λ _. 0) self.old) self.new result }
+        ensures { IsWithoutPort (by_opcode opcode (λ _. 0) self.old) self.new result }
     {
         self.advance(1);
         if opcode == 0x76 {
@@ -632,7 +698,7 @@ impl Machine {
         requires opcode { opcode ≡ byte_at self.old self.old.regs.pc }
         requires low { 128 ≤ opcode }
         requires high { opcode < 192 }
-        ensures { IsWithoutPort (by_row (row opcode) (λ _. 0) self.old) self.new result }
+        ensures { IsWithoutPort (by_opcode opcode (λ _. 0) self.old) self.new result }
     {
         self.advance(1);
         if opcode == 0x9f {
@@ -646,14 +712,14 @@ impl Machine {
     }
 
     #[inline]
-    #[tactic(auto, unfolding(i80_rows::specs::Rows::row))]
+    #[tactic(auto, unfolding(i80_rows::specs::Rows::row, i80_rows::specs::AliasRows::alias_row))]
     fn step_c0(&mut self, opcode: u8) -> Stepped
         requires opcode { opcode ≡ byte_at self.old self.old.regs.pc }
         requires low { 192 ≤ opcode }
         requires high { opcode < 224 }
         requires output { opcode ≢ 211 }
         requires input { opcode ≢ 219 }
-        ensures { IsWithoutPort (by_row (row opcode) (λ _. 0) self.old) self.new result }
+        ensures { IsWithoutPort (by_opcode opcode (λ _. 0) self.old) self.new result }
     {
         let m = self;
         opcodes! { m opcode;
@@ -668,7 +734,7 @@ impl Machine {
             0xc8 => ret_if(Zero);
             0xc9 => ret();
             0xca => jump_if(Zero);
-            0xcb => undefined();
+            0xcb => alias_jmp();
             0xcc => call_if(Zero);
             0xcd => call();
             0xce => immediate(Adc);
@@ -681,22 +747,22 @@ impl Machine {
             0xd6 => immediate(Sub);
             0xd7 => rst(0x10);
             0xd8 => ret_if(Carry);
-            0xd9 => undefined();
+            0xd9 => alias_ret();
             0xda => jump_if(Carry);
             0xdc => call_if(Carry);
-            0xdd => undefined();
+            0xdd => alias_call();
             0xde => immediate(Sbb);
             0xdf => rst(0x18);
         }
     }
 
     #[inline]
-    #[tactic(auto, unfolding(i80_rows::specs::Rows::row))]
+    #[tactic(auto, unfolding(i80_rows::specs::Rows::row, i80_rows::specs::AliasRows::alias_row))]
     fn step_e0(&mut self, opcode: u8) -> Stepped
         requires opcode { opcode ≡ byte_at self.old self.old.regs.pc }
         requires low { 224 ≤ opcode }
         requires high { opcode < 256 }
-        ensures { IsWithoutPort (by_row (row opcode) (λ _. 0) self.old) self.new result }
+        ensures { IsWithoutPort (by_opcode opcode (λ _. 0) self.old) self.new result }
     {
         let m = self;
         opcodes! { m opcode;
@@ -713,7 +779,7 @@ impl Machine {
             0xea => jump_if(ParityEven);
             0xeb => xchg();
             0xec => call_if(ParityEven);
-            0xed => undefined();
+            0xed => alias_call();
             0xee => immediate(Xra);
             0xef => rst(0x28);
             0xf0 => ret_if(Plus);
@@ -729,7 +795,7 @@ impl Machine {
             0xfa => jump_if(Minus);
             0xfb => ei();
             0xfc => call_if(Minus);
-            0xfd => undefined();
+            0xfd => alias_call();
             0xfe => immediate(Cmp);
             0xff => rst(0x38);
         }
@@ -752,5 +818,17 @@ fn reg_at(code: u8) -> Reg
         6 => Reg::M,
         7 => Reg::A,
         _ => unreachable!(),
+    }
+}
+
+// It is inlined: a call in the loop that makes the steps, however cold, would take from it all registers that a
+// call doesn't keep.
+#[inline(always)]
+fn has_aliases(board: Board) -> bool
+    ensures { result ≡ acts board }
+{
+    match board {
+        Board::Strict => false,
+        Board::Aliases => true,
     }
 }

@@ -1,8 +1,10 @@
 //! The table of 256 rows: what stands at each opcode (8080 User's Manual, chapter 4 and the opcode table).
 ghost use Rattle.std.specs.Prelude.{◌≡◌};
 ghost use Rattle.i80_rows.specs.Rows.{row};
+ghost use Rattle.i80_rows.specs.AliasRows.{alias_row, row_on, undefined_on};
 ghost use Rattle.i80_rows.specs.TableRows.{row_of};
 
+use crate::board::Board;
 use crate::instruction::{
     ByteOperation, Cond, IndexPair, Instr, Operation, Pair, Reg, Register, Rotation, StackPair,
     Vector, WordOperation,
@@ -22,6 +24,40 @@ pub(super) fn row_at(opcode: u8) -> Row
     ensures { row_of result ≡ row opcode }
 {
     ROWS[opcode as usize]
+}
+
+/// What stands at an opcode on a board.
+pub(super) fn board_row_at(opcode: u8, board: Board) -> Row
+    ensures { row_of result ≡ row_on board opcode }
+{
+    match row_at(opcode) {
+        Row::Undefined => undefined_row_at(opcode, board),
+        Row::Alone(instr) => Row::Alone(instr),
+        Row::Byte(operation) => Row::Byte(operation),
+        Row::Word(operation) => Row::Word(operation),
+    }
+}
+
+fn undefined_row_at(opcode: u8, board: Board) -> Row
+    ensures { row_of result ≡ undefined_on board (alias_row opcode) }
+{
+    match board {
+        Board::Strict => Row::Undefined,
+        Board::Aliases => alias_at(opcode),
+    }
+}
+
+#[tactic(auto, unfolding(crate::specs::AliasRows::alias_row))]
+fn alias_at(opcode: u8) -> Row
+    ensures { row_of result ≡ alias_row opcode }
+{
+    match opcode {
+        0x08 | 0x10 | 0x18 | 0x20 | 0x28 | 0x30 | 0x38 => Row::Alone(Instr::Nop),
+        0xcb => Row::Word(WordOperation::Jmp),
+        0xd9 => Row::Alone(Instr::Ret),
+        0xdd | 0xed | 0xfd => Row::Word(WordOperation::Call),
+        _ => Row::Undefined,
+    }
 }
 
 /// Rows 00 to FF.

@@ -2,7 +2,7 @@
 ghost use Rattle.std.specs.Prelude.{◌≡◌, ◌<◌, ◌≤◌, ℕ, [], List, All, length, take, slice_get, false, None};
 ghost use Rattle.std.specs.Prelude.{OnErr, IfOk, IfErr, IfSome, IsTrue, ◌↔◌, Err};
 ghost use Rattle.lab_core.specs.Board.{Board};
-ghost use Rattle.lab_core.specs.Events.{Runs, Fits, ended};
+ghost use Rattle.lab_core.specs.Events.{Runs, Fits, ended, machine_reset};
 ghost use Rattle.lab_core.specs.Memory.{MayLackMemory};
 ghost use Rattle.lab_core.specs.Given.{given, traffic_in};
 ghost use Rattle.lab_core.specs.Labs.{StandsFor, AppliesTo, Does, RunsOn};
@@ -13,6 +13,8 @@ use crate::fault::EventFault;
 use crate::lab::Lab;
 use crate::run_state::RunState;
 use i80_exec::machine::Machine;
+use i80_rows::board;
+use std::alloc::AllocError;
 
 fn is_out_of_memory(answer: &Result<Answer, EventFault>) -> bool
     ensures { IsTrue result ↔ (answer.now ≡ Err EventFault.OutOfMemory) }
@@ -25,7 +27,8 @@ impl Lab {
     ///
     /// Where several refusals stand, `Busy` comes first, then `SourceNameTaken` and `SourcesFull`,
     /// then the fault of the cell; `NotAttached` comes before `NotRunning`, `NotStopped` before
-    /// `BadFrame`, and `Vector` before `Latched`. Those come before out of memory, which may come on
+    /// `BadFrame`, and `Vector` before `Latched`; of a change by hand `NotStopped`, `BadReference`, `UnknownName` and
+    /// `BadValue` come in this order. Those come before out of memory, which may come on
     /// the way to a cell's fault.
     pub fn apply(&mut self, event: &Event) -> Result<Answer, EventFault>
         requires { Fits event.now }
@@ -53,8 +56,14 @@ impl Lab {
             Event::Pause => self.pause(),
             Event::Resume => self.resume(),
             Event::Step(request) => self.step_on(*request),
+            Event::Poke {
+                reference,
+                name,
+                value,
+            } => self.poke(*reference, name.as_str(), value.as_str()),
             Event::Interrupt => self.interrupt(),
             Event::Reset => self.reset(),
+            Event::SetBoard(option) => self.set_board(*option),
             Event::SetBreakpoints { path, lines } => {
                 self.set_breakpoints(path.as_str(), lines.as_slice())
             }
@@ -154,13 +163,22 @@ impl Lab {
         self.context.request = None;
     }
 
+    // A machine after power-on, on which the undefined opcodes do what they do now.
+    fn new_machine(&self) -> Result<Machine, AllocError>
+        ensures { IfOk result (λ machine. machine ≡ machine_reset self.now.machine) }
+    {
+        let mut machine = Machine::new(self.alloc)?;
+        machine.set_board(self.machine.board());
+        Ok(machine)
+    }
+
     fn reset(&mut self) -> Result<Answer, EventFault>
         ensures applied { AppliesTo self.old Event.Reset result self.new }
         ensures err { OnErr result (self.new ≡ self.old) }
         ensures memory { result ≡ Err EventFault.OutOfMemory → MayLackMemory Event.Reset self.old }
     {
         // The new machine is made before anything changes.
-        let machine = Machine::new(self.alloc)?;
+        let machine = self.new_machine()?;
         self.forget_steps();
         self.machine = machine;
         self.context.devices.clear();
@@ -168,6 +186,21 @@ impl Lab {
         self.context.breakpoints.refresh(&self.context.origins);
         self.run_state = RunState::NoRun;
         Ok(Answer::Reset)
+    }
+
+    fn set_board(&mut self, option: board::Board) -> Result<Answer, EventFault>
+        ensures applied { AppliesTo self.old (Event.SetBoard option) result self.new }
+        ensures err { OnErr result (self.new ≡ self.old) }
+        ensures memory { result ≡ Err EventFault.OutOfMemory → MayLackMemory (Event.SetBoard option) self.old }
+    {
+        match self.run_state {
+            RunState::Running => Err(EventFault::Busy),
+            RunState::Stopped => Err(EventFault::Busy),
+            RunState::NoRun => {
+                self.machine.set_board(option);
+                Ok(Answer::BoardSet)
+            }
+        }
     }
 
     fn type_bytes(&mut self, bytes: &[u8]) -> Result<Answer, EventFault>

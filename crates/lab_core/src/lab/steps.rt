@@ -1,7 +1,6 @@
 //! Steps of a run, whose machine is a value of the loop's own.
 ghost use Rattle.std.specs.Prelude.{◌≡◌, ◌+◌, ◌≤◌, min, IfNone, IsSome};
 ghost use Rattle.i80_exec.specs.Step.{is_halt};
-ghost use Rattle.lab_frames.specs.Frames.{AtLeast};
 ghost use Rattle.lab_core.specs.Board.{Board};
 ghost use Rattle.lab_core.specs.Stops.{is_gone_after};
 ghost use Rattle.lab_core.specs.Slices.{undefined, reason, IsSlice, after_steps, traffic_of};
@@ -42,13 +41,11 @@ impl Context {
         is_watched: bool,
     ) -> (u16, SliceOutcome)
         requires room { n ≤ self.old.devices.spare }
-        requires above { AtLeast machine.old.regs.sp self.old.frames }
         requires watched { Watches is_watched self.old.is_attached self.old.request }
         ensures slice { (lab : LabState) (b : Board) → StandsFor (amid lab machine.old self.old) b
             → IsSlice n b result.0 result.1 }
         ensures stands { (lab : LabState) (b : Board) → StandsFor (amid lab machine.old self.old) b
             → StandsAmid (amid lab machine.new self.new) (after_steps result.0 b) (traffic_of result.0 b) }
-        ensures above { AtLeast machine.new.regs.sp self.new.frames }
     {
         for k in 0..n {
             if let Some(outcome) = self.next(machine, is_watched) {
@@ -63,13 +60,11 @@ impl Context {
     #[inline(always)]
     fn next(&mut self, machine: &mut Machine, is_watched: bool) -> Option<SliceOutcome>
         requires room { 1 ≤ self.old.devices.spare }
-        requires above { AtLeast machine.old.regs.sp self.old.frames }
         requires watched { Watches is_watched self.old.is_attached self.old.request }
         ensures reason { FindsIn reason result machine.old self.old }
         ensures some { IsSome result → KeepsIn machine.old self.old machine.new self.new }
         ensures none { IfNone result (AdvancesIn machine.old self.old machine.new self.new) }
         ensures spare { self.old.devices.spare ≤ self.new.devices.spare + 1 }
-        ensures above { AtLeast machine.new.regs.sp self.new.frames }
         ensures watches { Watches is_watched self.new.is_attached self.new.request }
     {
         if let Some(outcome) = self.early(machine, is_watched) {
@@ -85,12 +80,10 @@ impl Context {
     #[inline(always)]
     fn step(&mut self, machine: &mut Machine) -> Option<SliceOutcome>
         requires room { 1 ≤ self.old.devices.spare }
-        requires above { AtLeast machine.old.regs.sp self.old.frames }
         ensures undefined { FindsIn undefined result machine.old self.old }
         ensures some { IsSome result → KeepsIn machine.old self.old machine.new self.new }
         ensures none { IfNone result (AdvancesIn machine.old self.old machine.new self.new) }
         ensures spare { self.old.devices.spare ≤ self.new.devices.spare + 1 }
-        ensures above { AtLeast machine.new.regs.sp self.new.frames }
         ensures attached { self.new.is_attached ≡ self.old.is_attached }
         ensures request { self.new.request ≡ self.old.request }
     {

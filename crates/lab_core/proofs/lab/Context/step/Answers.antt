@@ -33,6 +33,7 @@ returns-clause-none c = λ lab b traffic s.
       rest = rw c.is_halt-self.ensures refl;
       frames = rw (← c.regs-sp.ensures, ← c.regs-pc.ensures) c.advance-left.ensures.live;
       oldest = rw (← c.regs-sp.ensures) c.advance-left.ensures.oldest;
+      tells = c.board_step-answer.ensures.sp;
       older = c.follow.ensures.older;
       gone = rw (← c.regs-sp.ensures) c.follow.ensures.gone;
     }))

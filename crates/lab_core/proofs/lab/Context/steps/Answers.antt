@@ -17,7 +17,6 @@ loop-k-preserved c =
           λ lab b s. below_more (λ j. reason (after_steps j b) ≡ None) k (inv.none_before lab b s)
           (sym (c.in_default.ensures.reason lab (after_steps k b) (traffic_of k b) (inv.stands lab b s)));
       room = let r = inv.room in let q = c.in_default.ensures.spare in omega arith;
-      above = c.in_default.ensures.above;
       watches = c.in_default.ensures.watches;
     }
 

@@ -1,7 +1,6 @@
 use Rattle.std.proofs.Common.{◌≡◌, ◌<◌, ◌≤◌, ◌+◌, ℕ, None}
 use Rattle.lab_core.specs.Board.{Board}
 use Rattle.lab_core.specs.Slices.{after_steps, traffic_of, reason}
-use Rattle.lab_frames.specs.Frames.{AtLeast}
 use Rattle.lab_core.specs.Labs.{LabState, StandsFor, StandsAmid, Watches, amid}
 use Rattle.lab_core.proofs.lab.Context.steps.Given as goal
 
@@ -12,6 +11,5 @@ invariant-loop-k l = record {
   none_before : (lab : LabState) (b : Board) → StandsFor (amid lab l.fn.machine l.fn.self) b
       → (j : ℕ) → j < l.k → reason (after_steps j b) ≡ None;
   room : l.n ≤ l.self.devices.spare + l.k;
-  above : AtLeast l.machine.regs.sp l.self.frames;
   watches : Watches l.is_watched l.self.is_attached l.self.request;
 }

@@ -50,6 +50,16 @@ returns-in-Step-clause-applied c = rw c.in-Step.is c.step_on.ensures.applied
 pub returns-in-Step-clause-memory : goal.returns-in-Step-clause-memory
 returns-in-Step-clause-memory c = rw c.in-Step.is c.step_on.ensures.memory
 
+pub returns-in-Poke-clause-applied : goal.returns-in-Poke-clause-applied
+returns-in-Poke-clause-applied c =
+    rw (c.in-Poke.is, ← c.as_str-in-Poke.ensures, ← c.as_str-in-Poke-2.ensures)
+    c.poke.ensures.applied
+
+pub returns-in-Poke-clause-memory : goal.returns-in-Poke-clause-memory
+returns-in-Poke-clause-memory c =
+    rw (c.in-Poke.is, ← c.as_str-in-Poke.ensures, ← c.as_str-in-Poke-2.ensures)
+    c.poke.ensures.memory
+
 pub returns-in-Interrupt-clause-applied : goal.returns-in-Interrupt-clause-applied
 returns-in-Interrupt-clause-applied c = rw c.in-Interrupt.is c.interrupt.ensures.applied
 
@@ -61,6 +71,12 @@ returns-in-Reset-clause-applied c = rw c.in-Reset.is c.reset.ensures.applied
 
 pub returns-in-Reset-clause-memory : goal.returns-in-Reset-clause-memory
 returns-in-Reset-clause-memory c = rw c.in-Reset.is c.reset.ensures.memory
+
+pub returns-in-SetBoard-clause-applied : goal.returns-in-SetBoard-clause-applied
+returns-in-SetBoard-clause-applied c = rw c.in-SetBoard.is c.set_board.ensures.applied
+
+pub returns-in-SetBoard-clause-memory : goal.returns-in-SetBoard-clause-memory
+returns-in-SetBoard-clause-memory c = rw c.in-SetBoard.is c.set_board.ensures.memory
 
 pub returns-in-SetBreakpoints-clause-applied : goal.returns-in-SetBreakpoints-clause-applied
 returns-in-SetBreakpoints-clause-applied c =

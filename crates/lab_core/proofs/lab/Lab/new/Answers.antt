@@ -20,4 +20,6 @@ returns c = record {
   has_moved = refl;
   request = refl;
   follows = λ asked. cc;
+  stopped = λ is. cc;
+  above = λ asked. cc;
 }

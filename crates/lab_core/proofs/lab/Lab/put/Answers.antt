@@ -2,14 +2,8 @@ use Rattle.std.proofs.Common.{List, [], ◌∷◌, ◌++◌, refl, sym, subst}
 use Rattle.asm_build.specs.Meaning.{meaning_in}
 use Rattle.lab_image.specs.Loads.{Load, load_of}
 use Rattle.lab_core.specs.Labs.{LabState, StandsFor}
-use Rattle.lab_core.proofs.EventLemmas.{loaded-regs}
 use Rattle.lab_core.proofs.LabLemmas.{stands_built}
 use Rattle.lab_core.proofs.lab.Lab.put.Goals as goal
-
-pub invariant_of-self-2 : goal.invariant_of-self-2
-invariant_of-self-2 c =
-    rw (c.in_ok-load.ensures.machine, loaded-regs c.self.inside.machine c.args.built.image.items)
-    c.self.invariant
 
 pub returns-clause-ok : goal.returns-clause-ok
 returns-clause-ok c = λ b s-now.

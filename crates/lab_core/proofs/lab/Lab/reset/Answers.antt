@@ -7,7 +7,7 @@ use Rattle.lab_core.proofs.lab.Lab.reset.Goals as goal
 
 pub returns-clause-applied : goal.returns-clause-applied
 returns-clause-applied c = λ b s ne.
-    let after = c.self-2.view_is ∙ c.forget_steps.ensures in
+    let after = c.self.view_is ∙ c.forget_steps.ensures in
     let lists = c.refresh.ensures.lists ∙ ap (λ (l : LabState). l.breakpoints.lists) after in
     let P : LabState → Type 0 = λ lab. StandsFor (record lab {
       machine = c.in_ok-machine.machine;

@@ -7,24 +7,24 @@ use Rattle.lab_frames.proofs.frames.Frames.advance.Goals.{After-push_made}
 pub push_made-requires : goal.push_made-requires
 push_made-requires c =
     let sp : c.args.sp < 65536 = omega arith in
-    let popped = c.pop_ended.new.frames.items in
+    let popped = c.drop_ended.new.frames.items in
     let made = made_by c.args.answer c.args.site in
     let after =
     advanced c.args.answer c.args.site c.args.sp c.args.self.now _ popped (popped ++ made) c.self.view_is
-    sp c.requires.returns c.requires.calls c.self.invariant.0 c.pop_ended.ensures.popped refl in
+    sp c.requires.calls c.self.invariant.0 c.drop_ended.ensures.left refl in
     let few = after.few in
     let both : length (popped ++ made) ≡ length popped + length made = length-append popped made in
-    let left : vec_len c.pop_ended.new.frames ≡ length popped = search rules in
+    let left : vec_len c.drop_ended.new.frames ≡ length popped = search rules in
     omega arith
 
 -- what holds of the frames once the made one is pushed
 after_step : (c : After-push_made)
-    → Advanced c.args.answer c.args.site c.args.sp c.args.self.now c.pop_ended.new.frames.items
+    → Advanced c.args.answer c.args.site c.args.sp c.args.self.now c.drop_ended.new.frames.items
     c.push_made.new.frames.items
 after_step c =
     let sp : c.args.sp < 65536 = omega arith in
-    advanced c.args.answer c.args.site c.args.sp c.args.self.now _ _ _ c.self.view_is sp c.requires.returns
-    c.requires.calls c.self.invariant.0 c.pop_ended.ensures.popped c.push_made.ensures.pushed
+    advanced c.args.answer c.args.site c.args.sp c.args.self.now _ _ _ c.self.view_is sp
+    c.requires.calls c.self.invariant.0 c.drop_ended.ensures.left c.push_made.ensures.pushed
 
 pub invariant_of-self : goal.invariant_of-self
 invariant_of-self c = ((after_step (goal.at.invariant_of-self c).After-push_made).falls, omega arith)
@@ -35,8 +35,8 @@ returns-clause-live c = (after_step (goal.at.returns-clause-live c).After-push_m
 pub returns-clause-oldest : goal.returns-clause-oldest
 returns-clause-oldest c =
     let after = after_step (goal.at.returns-clause-oldest c).After-push_made in
-    let left : c.len-left.result ≡ length c.pop_ended.new.frames.items = c.len-left.ensures ∙ search rules in
-    λ older newer split. rw left (after.oldest older newer split)
+    let left : c.len-left.result ≡ length c.drop_ended.new.frames.items = c.len-left.ensures ∙ search rules in
+    λ older newer split below. rw left (after.oldest older newer split below)
 
 pub returns-clause-falls : goal.returns-clause-falls
 returns-clause-falls c = (after_step (goal.at.returns-clause-falls c).After-push_made).falls

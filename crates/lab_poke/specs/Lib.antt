@@ -1,0 +1,4 @@
+pub mod Places
+pub mod Values
+pub mod Changes
+pub mod Law
