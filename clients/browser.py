@@ -9,7 +9,8 @@ import urllib.request
 # The name by which WebDriver hands out elements of a page.
 ELEMENT = "element-6066-11e4-a52e-4f735466cecf"
 
-ENTER, SHIFT, HOME, DELETE = "\ue007", "\ue008", "\ue011", "\ue017"
+ENTER, SHIFT, HOME, DELETE, ESCAPE = "\ue007", "\ue008", "\ue011", "\ue017", "\ue00c"
+ARROW_DOWN, F5, F6, F10, F11 = "\ue015", "\ue035", "\ue036", "\ue03a", "\ue03b"
 
 
 class Browser:
@@ -20,7 +21,7 @@ class Browser:
         self.driver = subprocess.Popen(["chromedriver", f"--port={port}"], stdout=subprocess.DEVNULL,
                                        stderr=subprocess.DEVNULL)
         self.base = f"http://127.0.0.1:{port}"
-        self.session = ""
+        self.session = self.used = ""
         words = ["--headless=new", "--no-sandbox", "--disable-gpu", "--disable-dev-shm-usage", "--lang=en",
                  f"--window-size={width},{height}", f"--user-data-dir={self.folder.name}"]
         wanted = {"goog:chromeOptions": {"args": words, "binary": "/usr/bin/chromium"}}
@@ -53,12 +54,23 @@ class Browser:
     def open(self, address):
         self.ask("POST", "/url", {"url": address})
 
-    def run(self, script):
-        """The value of a script in the page."""
-        return self.ask("POST", "/execute/sync", {"script": script, "args": []})
+    def run(self, script, *given):
+        """The value of a script in the page, which finds what is given in `arguments`."""
+        return self.ask("POST", "/execute/sync", {"script": script, "args": given})
+
+    def run_later(self, script, *given):
+        """The value that a script in the page gives to the last of its `arguments`, a function."""
+        return self.ask("POST", "/execute/async", {"script": script, "args": given})
 
     def click(self, selector):
         self.ask("POST", f"/element/{self.find(selector)}/click")
+
+    def click_at(self, x, y):
+        """Clicks at a place of the window."""
+        move = {"type": "pointerMove", "origin": "viewport", "x": x, "y": y, "duration": 0}
+        press, release = ({"type": kind, "button": 0} for kind in ("pointerDown", "pointerUp"))
+        mouse = {"type": "pointer", "id": "mouse", "actions": [move, press, release]}
+        self.ask("POST", "/actions", {"actions": [mouse]})
 
     def find(self, selector):
         return self.ask("POST", "/element", {"using": "css selector", "value": selector})[ELEMENT]
@@ -74,6 +86,44 @@ class Browser:
     def screenshot(self):
         """The window as a PNG file."""
         return base64.b64decode(self.ask("GET", "/screenshot"))
+
+    def window(self):
+        """The window that commands go to, by its name."""
+        return self.ask("GET", "/window")
+
+    def windows(self):
+        return self.ask("GET", "/window/handles")
+
+    def use(self, window):
+        """Commands go to this window from now on."""
+        if window != self.used:
+            self.ask("POST", "/window", {"handle": window})
+            self.used = window
+
+    def new_window(self):
+        """A further window, to which commands go from now on."""
+        window = self.ask("POST", "/window/new", {"type": "window"})["handle"]
+        self.use(window)
+        return window
+
+    def close_window(self):
+        self.ask("DELETE", "/window")
+        self.used = ""
+
+    def size(self, width, height):
+        self.ask("POST", "/window/rect", {"width": width, "height": height})
+
+    def devtools(self, command, **given):
+        """A command of Chromium's own protocol."""
+        return self.ask("POST", "/goog/cdp/execute", {"cmd": command, "params": given})
+
+    def prefer(self, scheme):
+        """Prefers light or dark pages."""
+        self.devtools("Emulation.setEmulatedMedia", features=[{"name": "prefers-color-scheme", "value": scheme}])
+
+    def key(self, key, *held):
+        """Presses one key where the focus is, while others are held down."""
+        self.type([key], *held)
 
 
 def wait_until(is_so, seconds=30):

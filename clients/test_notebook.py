@@ -1,6 +1,5 @@
 """The Notebook's page in a browser: a cell is typed and run, and its output read from the page."""
 import os
-import socket
 import subprocess
 import tempfile
 import unittest
@@ -9,6 +8,7 @@ import urllib.request
 import nbformat
 
 from browser import DELETE, ENTER, HOME, SHIFT, Browser, wait_until
+from jupyter_servers import free_port
 from lab80_client import ASKS, ENDLESS, HELLO
 
 KERNEL = os.environ.get("LAB80_KERNEL", "lab80")
@@ -19,12 +19,6 @@ FIRST = "## A first program\nIt prints a text at the console, character by chara
 OUTPUTS = "return Jupyter.notebook.get_cells().map(c => c.output_area ? c.output_area.element.text() : '')"
 IS_READY = "return window.Jupyter && Jupyter.notebook && Jupyter.notebook.kernel && " \
     "Jupyter.notebook.kernel.is_connected() && !Jupyter.notebook.kernel_busy"
-
-
-def free_port():
-    with socket.socket() as listener:
-        listener.bind(("127.0.0.1", 0))
-        return listener.getsockname()[1]
 
 
 class Notebook(unittest.TestCase):
