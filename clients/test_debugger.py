@@ -270,6 +270,8 @@ class Debugger(Lab):
         self.assertEqual(self.execute(COPIES)[0]["ename"], "UndefinedOpcode")
 
     def test_fifteen_debuggers_watch_while_one_debugs(self):
+        # The manager has a connection of its own on control, of which one channel serves sixteen.
+        self.manager._close_control_socket()
         others = [self.new_client() for _ in range(15)]
         for client in [self.client, *others]:
             self.debug("attach", {}, client)

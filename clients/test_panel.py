@@ -314,10 +314,11 @@ class Panel(Pages, Doors):
         page.waits(lambda: page.registers()["B"] == "5A")
         self.edit(page, "#memory [data-name='0120']", "101B" + ENTER)
         page.waits(lambda: page.text("#memory [data-name='0120']") == "05")
+        held = page.registers()["C"]
         self.edit(page, "#registers [data-name=C]", "256" + ENTER)
         page.says("C: that is no value here (BadValue)")
         page.browser.key(ESCAPE)
-        page.waits(lambda: page.registers()["C"] == "00")
+        page.waits(lambda: page.registers()["C"] == held)
         page.command("continue")
         page.is_in("idle")
         self.assertEqual(page.run(buttons), 0)

@@ -75,10 +75,16 @@ fn comes_back(alloc: Global, address: u16, bytes: &[u8]) -> Result<bool, AsmFaul
     comes_back
 }
 
-const LISTINGS: [(u16, &[u8], &str); 9] = [
+const LISTINGS: [(u16, &[u8], &str); 10] = [
     (0, &[], ""),
     (0x1234, &[], ""),
     (0, &[0xC3, 0x34], "ORG 00000H\nDB 0C3H\nDB 034H\n"),
+    // A real processor takes CB for a jump; a listing doesn't.
+    (
+        0,
+        &[0xCB, 0x34, 0x12],
+        "ORG 00000H\nDB 0CBH\nINR M\nSTAX D\n",
+    ),
     (
         0x0100,
         &[0x3E, 0x6C, 0x08, 0xCF],

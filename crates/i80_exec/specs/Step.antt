@@ -22,6 +22,8 @@ use Rattle.i80_rows.specs.Rows.{Row, Undefined, Alone, Byte, Word}
 use Rattle.i80_rows.specs.AliasRows.{row_on}
 use Rattle.i80_exec.specs.declared.registers.Stepped.{Stepped}
 use Rattle.i80_exec.specs.declared.registers.Stepped.TheVariants as stepped
+use Rattle.i80_exec.specs.declared.registers.Kind.{Kind}
+use Rattle.i80_exec.specs.declared.registers.Kind.TheVariants as kind
 use Rattle.i80_exec.specs.declared.registers.Interrupts.{Interrupts}
 use Rattle.i80_exec.specs.declared.registers.Interrupts.TheVariants.{Off, Arming, On}
 use Rattle.i80_exec.specs.declared.ports.PortOperation.{PortOperation}
@@ -32,6 +34,15 @@ use Rattle.i80_exec.specs.Effect.{Outcome, effect, called}
 abbrev pub is_halt : Stepped → Bool
 is_halt stepped.Halted = true
 is_halt _ = false
+
+-- What a step of this kind answered, which left the machine so: a call leaves SP at its slot and PC at its target, a
+-- return SP two above its slot, and an undefined opcode changes nothing.
+abbrev pub told : Kind → MachineState → Stepped
+told kind.Done m = stepped.Done
+told kind.Called m = stepped.Called m.regs.sp m.regs.pc
+told kind.Returned m = stepped.Returned (wrapped (m.regs.sp + 65534))
+told kind.Halted m = stepped.Halted
+told kind.Undefined m = stepped.Undefined (byte_at m m.regs.pc)
 
 -- the interrupt state after an instruction that began in one: EI leaves arming, DI leaves off,
 -- and any other instruction that began in arming ends in on

@@ -51,6 +51,7 @@ ghost use Rattle.i80_exec.specs.Step.{
   acceptance,
   operation_list,
   state_after,
+  told,
   IsOutcome,
   Performs,
 };
@@ -58,7 +59,7 @@ ghost use Rattle.i80_exec.specs.Step.{
 mod opcodes;
 
 use crate::ports::Ports;
-use crate::registers::{Interrupts, Registers, Stepped};
+use crate::registers::{Interrupts, Kind, Registers, Stepped};
 use i80_rows::arithmetic::{AluResult, alu_add, alu_and, alu_or, alu_sub, alu_xor};
 use i80_rows::board::Board;
 use i80_rows::flags::Flags;
@@ -188,7 +189,8 @@ impl Machine {
         match self.regs.interrupts {
             Interrupts::On => {
                 self.regs.interrupts = Interrupts::Off;
-                Some(self.call(8 * vector as u16))
+                let kind = self.call(8 * vector as u16);
+                Some(self.told(kind))
             }
             _ => None,
         }
@@ -208,7 +210,29 @@ impl Machine {
             ≡ P.spare ports.old }
     {
         let opcode = self.peek(self.regs.pc);
-        self.step_opcode(opcode, ports)
+        let kind = self.step_opcode(opcode, ports);
+        self.told(kind)
+    }
+
+    /// What a step of this kind answers, which left the machine so.
+    #[inline(always)]
+    fn told(&self, kind: Kind) -> Stepped
+        ensures { result ≡ told kind self.now }
+    {
+        match kind {
+            Kind::Done => Stepped::Done,
+            Kind::Called => Stepped::Called {
+                slot: self.regs.sp,
+                target: self.regs.pc,
+            },
+            Kind::Returned => Stepped::Returned {
+                slot: self.regs.sp.wrapping_sub(2),
+            },
+            Kind::Halted => Stepped::Halted,
+            Kind::Undefined => Stepped::Undefined {
+                opcode: self.peek(self.regs.pc),
+            },
+        }
     }
 
     #[inline(always)]
@@ -370,27 +394,25 @@ impl Machine {
     }
 
     #[inline]
-    fn call(&mut self, target: u16) -> Stepped
+    fn call(&mut self, target: u16) -> Kind
         ensures after { self.new ≡ (called self.old target).after }
-        ensures answer { result ≡ (called self.old target).answer }
+        ensures answer { told result self.new ≡ (called self.old target).answer }
     {
         self.push_word(self.regs.pc);
         self.jump(target);
-        Stepped::Called {
-            slot: self.regs.sp,
-            target,
-        }
+        Kind::Called
     }
 
     #[inline]
-    fn ret(&mut self) -> Stepped
+    fn ret(&mut self) -> Kind
         ensures after { self.new ≡ (returned self.old).after }
-        ensures answer { result ≡ (returned self.old).answer }
+        ensures answer { told result self.new ≡ (returned self.old).answer }
     {
-        let slot = self.regs.sp;
+        // It is read, so that it is known to be an address: two below SP after the pop.
+        let _slot = self.regs.sp;
         let target = self.pop_word();
         self.jump(target);
-        Stepped::Returned { slot }
+        Kind::Returned
     }
 
     #[inline]

@@ -40,3 +40,13 @@ pub enum Stepped {
     /// One of the twelve undefined opcodes stands at PC; nothing was done.
     Undefined { opcode: u8 },
 }
+
+/// The same without what the machine tells after the step, so that it is one byte.
+#[derive(Clone, Copy, PartialEq, Eq)]
+pub enum Kind {
+    Done,
+    Called,
+    Returned,
+    Halted,
+    Undefined,
+}

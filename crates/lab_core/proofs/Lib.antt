@@ -1,6 +1,7 @@
 pub mod StepLemmas
 pub mod UndefinedLemmas
 pub mod StandsLemmas
+pub mod QuietLemmas
 pub mod LabLemmas
 pub mod EventLemmas
 pub mod LawLemmas

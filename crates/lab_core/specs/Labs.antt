@@ -1,5 +1,5 @@
 -- Which boards a lab stands for.
-use Rattle.std.specs.Prelude.{◌≡◌, ◌≢◌, ◌≤◌, ℕ, List, [], ◌++◌, length, Bool, true, false, Option, None}
+use Rattle.std.specs.Prelude.{◌≡◌, ◌≢◌, ◌<◌, ◌≤◌, ℕ, List, [], ◌++◌, length, Bool, true, false, Option, None}
 use Rattle.std.specs.Prelude.{IsSome, is_some, unwrap_or, Result, Ok, Err}
 use Rattle.std.specs.List.{filter}
 use Rattle.i80_exec.specs.State.{MachineState}
@@ -47,14 +47,14 @@ pub record LabState : Type 0 where
   pub innermost : Option Frame
   pub is_gone : Bool
 
--- What the lab follows while a Step isn't complete, where these are the run's steps up to it and those since:
+-- What the lab follows while a Step isn't complete, where these are the run's entries up to it and those since:
 -- how many of the frames that were live at its beginning are left, which was innermost, and whether that is
 -- gone.
 pub record Follows (older : ℕ) (frame : Option Frame) (gone : Bool)
-    (before steps : List Entry) : Type 0 where
-  pub older_is : older ≡ length (filter (stays steps) (live before))
+    (before later : List Entry) : Type 0 where
+  pub older_is : older ≡ length (filter (stays later) (live before))
   pub innermost_is : frame ≡ innermost (live before)
-  pub gone_is : gone ≡ is_gone (innermost (live before)) steps
+  pub gone_is : gone ≡ is_gone (innermost (live before)) later
 
 -- The lab's parts are what the board makes of them, and these port operations weren't taken yet.
 pub record StandsAmid (lab : LabState) (b : Board) (traffic : List PortOperation) : Type 0 where
@@ -130,6 +130,22 @@ KeepsIn machine context machine' context' =
 
 abbrev pub FindsIn : {A : Type 0} → (Board → A) → A → MachineState → Context → Type 0
 FindsIn f found machine context = (lab : LabState) → Finds f found (amid lab machine context)
+
+-- ---- quiet steps
+
+-- Nothing can come but a breakpoint or an undefined opcode: the last step wasn't HLT, one was made since the last
+-- Resume or Step, no Step is wanting, and no request is latched.
+pub record IsCalm (context : Context) : Type 0 where
+  pub goes_on : context.is_halted ≡ false
+  pub has_moved : context.has_moved ≡ true
+  pub unasked : context.request ≡ None
+  pub unlatched : context.devices.panel.latched ≡ None
+
+-- A step that answers Done and leaves SP below this is quiet: it changes nothing but machine and devices. Where it is
+-- 0, no step is.
+pub record Reaches (reach : ℕ) (context : Context) : Type 0 where
+  pub calm : 1 ≤ reach → IsCalm context
+  pub above : (sp : ℕ) → sp < reach → AtLeast sp context.frames
 
 -- ---- events
 

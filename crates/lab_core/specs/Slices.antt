@@ -63,6 +63,10 @@ undefined b =
 abbrev pub early_reason : Board → Option SliceOutcome
 early_reason b = option_or (halted b) (option_or (at_breakpoint b) (complete b))
 
+-- the first of those that the opcode at PC has no part in
+abbrev pub reason_apart : Board → Option SliceOutcome
+reason_apart b = option_or (early_reason b) (waiting b)
+
 -- the first reason to make no further step
 abbrev pub reason : Board → Option SliceOutcome
 reason b = option_or (early_reason b) (option_or (waiting b) (undefined b))

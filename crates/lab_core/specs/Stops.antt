@@ -27,7 +27,7 @@ has_step [] = false
 has_step (Step step ∷ rest) = true
 has_step (Poke before after ∷ rest) = has_step rest
 
--- the run's steps up to its last Resume or Step, and those since; all of them where it had neither
+-- the run's entries up to its last Resume or Step, and those since, which are all where it had neither
 abbrev pub earlier : Board → List Entry
 earlier b = take (unwrap_or b.resumed 0) b.trace
 
@@ -52,10 +52,10 @@ at_breakpoint b = if meets_breakpoint b then Some (outcome.Stop stop.Breakpoint)
 abbrev pub innermost : List Frame → Option Frame
 innermost frames = slice_get (reverse frames) 0
 
--- it was there, and one of these steps ends it
+-- it was there, and one of these entries ends it
 abbrev pub is_gone : Option Frame → List Entry → Bool
-is_gone None steps = false
-is_gone (Some frame) steps = not (stays steps frame)
+is_gone None entries = false
+is_gone (Some frame) entries = not (stays entries frame)
 
 -- it was gone before a step that answered so and left SP there, or this step ends it
 abbrev pub is_gone_after : Bool → Option Frame → Stepped → ℕ → Bool
@@ -64,9 +64,9 @@ is_gone_after gone (Some frame) answer sp = gone || ended_by answer sp frame.slo
 
 -- Over: no frame that was made since is live. Out: the frame that was innermost then isn't live.
 abbrev pub is_done : StepKind → List Entry → List Entry → Bool
-is_done In before steps = true
-is_done Over before steps = not (is_any (live steps))
-is_done Out before steps = is_gone (innermost (live before)) steps
+is_done In before later = true
+is_done Over before later = not (is_any (live later))
+is_done Out before later = is_gone (innermost (live before)) later
 
 abbrev pub is_first : Option Origin → Bool
 is_first None = false

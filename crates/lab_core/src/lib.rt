@@ -11,3 +11,4 @@ pub mod fault;
 pub mod lab;
 pub mod laws;
 pub mod run_state;
+mod seldom;

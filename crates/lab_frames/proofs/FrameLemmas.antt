@@ -1,12 +1,13 @@
 -- Popping frames whose slots fall leaves those that the step doesn't end.
-use Rattle.std.proofs.Common.{◌≡◌, ℕ, ◌-◌, ◌<◌, ◌≤◌, List, [], ◌∷◌, ◌++◌, true, false, not, Some, suc, length}
-use Rattle.std.proofs.Common.{take, min, refl, sym, ap, ◌∙◌, subst, arith, append-nil, inl, inr}
+use Rattle.std.proofs.Common.{◌≡◌, ℕ, ◌-◌, ◌<◌, ◌≤◌, List, [], ◌∷◌, ◌++◌, ◌+◌, true, false, not, Some, suc, length}
+use Rattle.std.proofs.Common.{take, min, refl, sym, ap, ◌∙◌, subst, arith, append-nil, length-append}
+use Rattle.std.proofs.Common.{inl, inr}
 use Rattle.std.proofs.lemmas.Bool.{cases_Bool, cond_both, both_ways}
 use Rattle.std.proofs.lemmas.Bool.Decides.{nat_tests}
 use Rattle.std.proofs.lemmas.Grind.{common_steps}
 use Rattle.std.specs.List.{slice_get}
 use Rattle.i80_exec.specs.declared.registers.Stepped.{Stepped}
-use Rattle.i80_exec.specs.declared.registers.Stepped.TheVariants.{Called, Returned}
+use Rattle.i80_exec.specs.declared.registers.Stepped.TheVariants.{Called, Done, Returned}
 use Rattle.lab_frames.specs.declared.frame.Frame.{Frame}
 use Rattle.lab_frames.specs.Live.{BoardStep, Entry, Step, live, made_by, ended_by}
 use Rattle.lab_frames.specs.Frames.{survivors, Advances, LeavesOldest, Falls, AtLeast, ReturnsBelow, CallsAt}
@@ -306,3 +307,48 @@ live-above trace step answer site sp is calls =
     let A : List Frame → Type 0 = λ xs. AtLeast sp xs in
     subst A (advances answer site sp (live trace) (survivors answer sp (live trace) ++ made_by answer site) refl
     trace step is refl) (advanced-above answer site sp (live trace) calls)
+
+-- ---- a step that ends none
+
+survivors-quiet : (sp : ℕ) (fs : List Frame) → AtLeast sp fs → survivors Done sp fs ≡ fs
+survivors-quiet sp [] above = refl
+survivors-quiet sp (f ∷ fs) above =
+    let low : sp ≤ f.slot = above.0 in
+    let stays : ended_by Done sp f.slot ≡ false = grind (arith, nat_tests) in
+    rw stays (ap (λ r. f ∷ r) (survivors-quiet sp fs above.1))
+
+-- a step that answers Done and leaves SP above no slot leaves the frames as they are
+pub quiet-advances : (site sp : ℕ) (fs : List Frame) → AtLeast sp fs → Advances Done site sp fs fs
+quiet-advances site sp fs above =
+    advances Done site sp fs fs (sym (append-nil (survivors Done sp fs) ∙ survivors-quiet sp fs above))
+
+at_least-older : (low : ℕ) (older newer : List Frame) → AtLeast low (older ++ newer) → AtLeast low older
+at_least-older low [] newer h = tt
+at_least-older low (f ∷ older) newer h = (h.0, at_least-older low older newer h.1)
+
+pub quiet-oldest : (sp : ℕ) (fs : List Frame) → AtLeast sp fs → LeavesOldest Done sp fs (length fs)
+quiet-oldest sp fs above older newer split returns =
+    let A : List Frame → Type 0 = λ xs. AtLeast sp xs in
+    let stay : survivors Done sp older ≡ older =
+    survivors-quiet sp older (at_least-older sp older newer (subst A split above)) in
+    let counts : length fs ≡ length older + length newer = rw split (length-append older newer) in
+    rw stay (omega arith)
+
+-- no slot is below the newest one of falling frames
+at_least-newest : (sp bound : ℕ) (rest : List Frame) (top : Frame) → Falls bound (rest ++ top ∷ [])
+    → sp ≤ top.slot → AtLeast sp (rest ++ top ∷ [])
+at_least-newest sp bound [] top falls low = (low, tt)
+at_least-newest sp bound (f ∷ rest) top falls low =
+    let under : top.slot < f.slot = falls-last f.slot rest top falls.1 in
+    (omega arith, at_least-newest sp f.slot rest top falls.1 low)
+
+-- no slot is below an SP in reach of the newest
+pub last-above : (bound sp : ℕ) (inside fs : List Frame) (top : Frame)
+    → slice_get inside (length inside - 1) ≡ Some top → inside ≡ fs → Falls bound inside → sp < top.slot + 1
+    → AtLeast sp fs
+last-above bound sp inside fs top is view-is falls low =
+    let rest : List Frame = take (length inside - 1) inside in
+    let split : inside ≡ rest ++ top ∷ [] = split-last inside top is in
+    let A : List Frame → Type 0 = λ xs. AtLeast sp xs in
+    let F : List Frame → Type 0 = λ xs. Falls bound xs in
+    subst A view-is (subst A (sym split) (at_least-newest sp bound rest top (subst F split falls) (omega arith)))

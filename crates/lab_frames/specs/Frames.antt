@@ -1,6 +1,6 @@
 -- What one more step makes of the live frames, and how their slots lie on the stack.
-use Rattle.std.specs.Prelude.{◌≡◌, ℕ, ◌<◌, ◌≤◌, List, [], ◌∷◌, ◌++◌, length, min, not}
-use Rattle.std.specs.Prelude.{Bool, false, nat_lt}
+use Rattle.std.specs.Prelude.{◌≡◌, ℕ, ◌+◌, ◌<◌, ◌≤◌, List, [], ◌∷◌, ◌++◌, length, min, not}
+use Rattle.std.specs.Prelude.{Bool, false, nat_lt, Option, Some, None}
 use Rattle.std.specs.List.{filter}
 use Rattle.i80_exec.specs.declared.registers.Stepped.{Stepped}
 use Rattle.i80_exec.specs.declared.registers.Stepped.TheVariants.{Called, Returned, Undefined}
@@ -33,6 +33,11 @@ Falls bound (f ∷ fs) = (f.slot < bound) × Falls f.slot fs
 abbrev pub AtLeast : ℕ → List Frame → Type 0
 AtLeast low [] = Unit {0}
 AtLeast low (f ∷ fs) = (low ≤ f.slot) × AtLeast low fs
+
+-- One above the slot of the newest frame, or 65536 where there is none: no slot is below an SP that is below this.
+abbrev pub reach_of : Option Frame → ℕ
+reach_of None = 65536
+reach_of (Some newest) = newest.slot + 1
 
 -- a return is from a slot at or below those of the frames
 abbrev pub ReturnsBelow : Stepped → List Frame → Type 0

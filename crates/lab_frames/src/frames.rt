@@ -1,5 +1,19 @@
 //! The live frames, kept as a stack that each step pops and pushes.
-ghost use Rattle.std.specs.Prelude.{◌≡◌, ◌+◌, ◌≤◌, ◌++◌, [], length, reverse, IfOk, slice_get, vec_len, vec_capacity};
+ghost use Rattle.std.specs.Prelude.{
+  ◌≡◌,
+  ℕ,
+  ◌+◌,
+  ◌<◌,
+  ◌≤◌,
+  ◌++◌,
+  [],
+  length,
+  reverse,
+  IfOk,
+  slice_get,
+  vec_len,
+  vec_capacity,
+};
 ghost use Rattle.lab_frames.specs.Live.{made_by, ended_by};
 ghost use Rattle.lab_frames.specs.Frames.{
   survivors,
@@ -9,6 +23,7 @@ ghost use Rattle.lab_frames.specs.Frames.{
   AtLeast,
   CallsAt,
   is_from_above,
+  reach_of,
 };
 
 use crate::frame::Frame;
@@ -87,10 +102,24 @@ impl Frames {
     }
 
     /// The innermost frame.
+    #[inline]
     pub fn newest(&self) -> Option<Frame>
         ensures { result ≡ slice_get (reverse self.now) 0 }
     {
         self.frames.last().copied()
+    }
+
+    /// One above the newest slot, or 65536 where no frame is live. A step that neither calls nor returns and leaves SP
+    /// below this ends no frame.
+    #[inline]
+    pub fn reach(&self) -> u32
+        ensures reach { result ≡ reach_of (slice_get (reverse self.now) 0) }
+        ensures above { (sp : ℕ) → sp < result → AtLeast sp self.now }
+    {
+        match self.frames.last() {
+            Some(frame) => frame.slot as u32 + 1,
+            None => MEMORY_SIZE as u32,
+        }
     }
 
     /// A frame by its age: 0 is the innermost. There is none from `len` on.

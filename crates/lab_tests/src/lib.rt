@@ -13,6 +13,8 @@ mod board;
 #[cfg(test)]
 mod breakpoints;
 #[cfg(test)]
+mod bursts;
+#[cfg(test)]
 mod debug;
 #[cfg(test)]
 mod frames;

@@ -2,6 +2,7 @@
 ghost use Rattle.std.specs.Prelude.{IfOk};
 ghost use Rattle.lab_core.specs.Events.{Fits};
 
+use crate::script::is_done;
 use base_text::text::Text;
 use i80_exec::registers::{Registers, Stepped};
 use lab_core::answer::{Answer, SliceOutcome, Stop};
@@ -104,15 +105,6 @@ fn is_stopped(answer: Result<Answer, EventFault>) -> bool {
             ..
         })
     );
-    drop(answer);
-    is_so
-}
-
-fn is_done(lab: &mut Lab, event: &Event) -> bool
-    requires { Fits event.now }
-{
-    let answer = lab.apply(event);
-    let is_so = answer.is_ok();
     drop(answer);
     is_so
 }

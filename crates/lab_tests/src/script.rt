@@ -82,8 +82,12 @@ fn poke(alloc: Global, reference: u32, name: &str, value: &str) -> Result<Event,
     })
 }
 
-// No event, where there are more lines than a source may have.
-fn set_breakpoints(alloc: Global, path: &str, lines: &[u32]) -> Result<Option<Event>, AllocError>
+/// No event, where there are more lines than a source may have.
+pub fn set_breakpoints(
+    alloc: Global,
+    path: &str,
+    lines: &[u32],
+) -> Result<Option<Event>, AllocError>
     ensures { IfOk result (λ event. IfSome event (λ event. Fits event)) }
 {
     let lines = Sequence::from(lines.to_vec(alloc)?);
@@ -136,6 +140,16 @@ fn show(lab: &Lab, step: Step, told: &mut String) -> Result<(), AllocError> {
         Step::Lamps => write!(told, "{:02X}\n", lab.devices().lamps()),
         _ => Ok(()),
     }
+}
+
+/// Does an event. Gives whether it wasn't refused.
+pub fn is_done(lab: &mut Lab, event: &Event) -> bool
+    requires { Fits event.now }
+{
+    let answer = lab.apply(event);
+    let is_so = answer.is_ok();
+    drop(answer);
+    is_so
 }
 
 /// Loads a text under a path. Gives whether it was taken.

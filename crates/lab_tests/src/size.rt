@@ -3,6 +3,8 @@ ghost use Rattle.std.specs.Prelude.{◌≡◌, All, OnOk, IfOk};
 ghost use Rattle.lab_core.specs.Events.{Fits};
 
 use crate::script::load_text;
+use crate::told::put_told;
+use base_text::text::Text;
 use lab_core::answer::{Answers, EventsFault};
 use lab_core::event::Event;
 use lab_core::lab::Lab;
@@ -77,5 +79,61 @@ fn three_hundred_symbols_are_kept(rt: HostRuntime) -> Result<(), AllocError> {
     drop(lab);
     // 299 is 012BH, the low byte first.
     assert!(rt; bytes? == Some([0, 0, 255, 0, 0x2b, 0x01]));
+    Ok(())
+}
+
+// A change of A by hand to a value that is this digit a thousand times.
+fn thousand(alloc: Global, digit: &str) -> Result<Event, AllocError>
+    ensures { IfOk result (λ event. Fits event) }
+{
+    let mut value = String::new(alloc);
+    for _ in 0..1000u16 {
+        value.push_str(digit)?;
+    }
+    let name = Text::copy_of(alloc, "A")?;
+    Ok(Event::Poke {
+        reference: 1,
+        name,
+        value: Text::from(value),
+    })
+}
+
+// Adds what an event answers.
+fn tell(lab: &mut Lab, event: &Event, told: &mut String) -> Result<(), AllocError>
+    requires { Fits event.now }
+{
+    let answer = lab.apply(event);
+    let put = put_told(told, &answer);
+    drop(answer);
+    put
+}
+
+// What a stopped run's board answers to a thousand nines and to a thousand zeros.
+fn thousands(alloc: Global, lab: &mut Lab, told: &mut String) -> Result<(), AllocError> {
+    for event in [Event::Attach, Event::Start(0), Event::Pause] {
+        tell(lab, &event, told)?;
+    }
+    for digit in ["9", "0"] {
+        let event = thousand(alloc, digit)?;
+        tell(lab, &event, told)?;
+    }
+    Ok(())
+}
+
+#[test]
+fn values_of_a_thousand_digits_are_read(rt: HostRuntime) -> Result<(), AllocError> {
+    let mut lab = Lab::new(rt.alloc())?;
+    let mut told = String::new(rt.alloc());
+    let put = thousands(rt.alloc(), &mut lab, &mut told);
+    drop(lab);
+    put?;
+    let wanted = "\
+Accepted
+Started
+Accepted
+refused: the value is no number that fits there
+Poked 000H
+";
+    assert!(rt; told.as_str() == wanted, "{told}");
     Ok(())
 }

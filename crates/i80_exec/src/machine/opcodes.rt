@@ -39,6 +39,7 @@ ghost use Rattle.i80_exec.specs.Step.{
   by_row,
   by_opcode,
   interrupts_after,
+  told,
   IsOutcome,
   IsWithoutPort,
   Performs,
@@ -46,87 +47,87 @@ ghost use Rattle.i80_exec.specs.Step.{
 
 use crate::machine::Machine;
 use crate::ports::Ports;
-use crate::registers::{Interrupts, Stepped};
+use crate::registers::{Interrupts, Kind};
 use i80_rows::arithmetic::{AluResult, daa, dcr, inr, rotate};
 use i80_rows::board::Board;
 use i80_rows::instruction::{Cond, Operation, Pair, Reg, Rotation, StackPair};
 
 macro_rules! arm {
-    (nop $m:ident $opcode:ident) => {{ $m.advance(1); Stepped::Done }};
-    (alias_nop $m:ident $opcode:ident) => {{ $m.alias_nop($opcode) }};
-    (alias_jmp $m:ident $opcode:ident) => {{ $m.alias_jmp($opcode) }};
-    (alias_ret $m:ident $opcode:ident) => {{ $m.alias_ret($opcode) }};
-    (alias_call $m:ident $opcode:ident) => {{ $m.alias_call($opcode) }};
+    (nop $m:ident $opcode:ident) => {{ $m.advance(1); Kind::Done }};
+    (alias_nop $m:ident $opcode:ident) => {{ $m.alias_nop() }};
+    (alias_jmp $m:ident $opcode:ident) => {{ $m.alias_jmp() }};
+    (alias_ret $m:ident $opcode:ident) => {{ $m.alias_ret() }};
+    (alias_call $m:ident $opcode:ident) => {{ $m.alias_call() }};
     (immediate $m:ident $opcode:ident, $operation:ident) => {{
         $m.immediate(Operation::$operation);
-        Stepped::Done
+        Kind::Done
     }};
-    (mvi $m:ident $opcode:ident, $reg:ident) => {{ $m.mvi(Reg::$reg); Stepped::Done }};
-    (inr $m:ident $opcode:ident, $reg:ident) => {{ $m.inr(Reg::$reg); Stepped::Done }};
-    (dcr $m:ident $opcode:ident, $reg:ident) => {{ $m.dcr(Reg::$reg); Stepped::Done }};
-    (lxi $m:ident $opcode:ident, $pair:ident) => {{ $m.lxi(Pair::$pair); Stepped::Done }};
-    (inx $m:ident $opcode:ident, $pair:ident) => {{ $m.inx(Pair::$pair); Stepped::Done }};
-    (dcx $m:ident $opcode:ident, $pair:ident) => {{ $m.dcx(Pair::$pair); Stepped::Done }};
-    (dad $m:ident $opcode:ident, $pair:ident) => {{ $m.dad(Pair::$pair); Stepped::Done }};
+    (mvi $m:ident $opcode:ident, $reg:ident) => {{ $m.mvi(Reg::$reg); Kind::Done }};
+    (inr $m:ident $opcode:ident, $reg:ident) => {{ $m.inr(Reg::$reg); Kind::Done }};
+    (dcr $m:ident $opcode:ident, $reg:ident) => {{ $m.dcr(Reg::$reg); Kind::Done }};
+    (lxi $m:ident $opcode:ident, $pair:ident) => {{ $m.lxi(Pair::$pair); Kind::Done }};
+    (inx $m:ident $opcode:ident, $pair:ident) => {{ $m.inx(Pair::$pair); Kind::Done }};
+    (dcx $m:ident $opcode:ident, $pair:ident) => {{ $m.dcx(Pair::$pair); Kind::Done }};
+    (dad $m:ident $opcode:ident, $pair:ident) => {{ $m.dad(Pair::$pair); Kind::Done }};
     (stax $m:ident $opcode:ident, $pair:ident) => {{
         $m.advance(1);
         $m.poke($m.get_pair(Pair::$pair), $m.regs.a);
-        Stepped::Done
+        Kind::Done
     }};
     (ldax $m:ident $opcode:ident, $pair:ident) => {{
         $m.advance(1);
         $m.regs.a = $m.peek($m.get_pair(Pair::$pair));
-        Stepped::Done
+        Kind::Done
     }};
     (shld $m:ident $opcode:ident) => {{
         let address = $m.operand_word();
         $m.advance(3);
         $m.store_word(address, $m.get_pair(Pair::H));
-        Stepped::Done
+        Kind::Done
     }};
     (lhld $m:ident $opcode:ident) => {{
         let address = $m.operand_word();
         $m.advance(3);
         $m.put_pair(Pair::H, $m.word_at(address));
-        Stepped::Done
+        Kind::Done
     }};
     (sta $m:ident $opcode:ident) => {{
         let address = $m.operand_word();
         $m.advance(3);
         $m.poke(address, $m.regs.a);
-        Stepped::Done
+        Kind::Done
     }};
     (lda $m:ident $opcode:ident) => {{
         let address = $m.operand_word();
         $m.advance(3);
         $m.regs.a = $m.peek(address);
-        Stepped::Done
+        Kind::Done
     }};
     (rotate $m:ident $opcode:ident, $rotation:ident) => {{
         $m.rotate(Rotation::$rotation);
-        Stepped::Done
+        Kind::Done
     }};
     (daa $m:ident $opcode:ident) => {{
         $m.advance(1);
         $m.set_a(daa($m.regs.a, $m.regs.flags));
-        Stepped::Done
+        Kind::Done
     }};
-    (cma $m:ident $opcode:ident) => {{ $m.advance(1); $m.regs.a = !$m.regs.a; Stepped::Done }};
+    (cma $m:ident $opcode:ident) => {{ $m.advance(1); $m.regs.a = !$m.regs.a; Kind::Done }};
     (stc $m:ident $opcode:ident) => {{
         $m.advance(1);
         $m.regs.flags = $m.regs.flags.with_carry(true);
-        Stepped::Done
+        Kind::Done
     }};
     (cmc $m:ident $opcode:ident) => {{
         $m.advance(1);
         $m.regs.flags = $m.regs.flags.with_carry(!$m.regs.flags.carry());
-        Stepped::Done
+        Kind::Done
     }};
     (jmp $m:ident $opcode:ident) => {{
         let target = $m.operand_word();
         $m.advance(3);
         $m.jump(target);
-        Stepped::Done
+        Kind::Done
     }};
     (jump_if $m:ident $opcode:ident, $cond:ident) => {{ $m.jump_if(Cond::$cond) }};
     (call $m:ident $opcode:ident) => {{
@@ -138,33 +139,33 @@ macro_rules! arm {
     (ret $m:ident $opcode:ident) => {{ $m.advance(1); $m.ret() }};
     (ret_if $m:ident $opcode:ident, $cond:ident) => {{ $m.ret_if(Cond::$cond) }};
     (rst $m:ident $opcode:ident, $target:literal) => {{ $m.advance(1); $m.call($target) }};
-    (push $m:ident $opcode:ident, $pair:ident) => {{ $m.push(StackPair::$pair); Stepped::Done }};
-    (pop $m:ident $opcode:ident, $pair:ident) => {{ $m.pop(StackPair::$pair); Stepped::Done }};
+    (push $m:ident $opcode:ident, $pair:ident) => {{ $m.push(StackPair::$pair); Kind::Done }};
+    (pop $m:ident $opcode:ident, $pair:ident) => {{ $m.pop(StackPair::$pair); Kind::Done }};
     (xthl $m:ident $opcode:ident) => {{
         $m.advance(1);
         $m.exchange_with_stack();
-        Stepped::Done
+        Kind::Done
     }};
-    (xchg $m:ident $opcode:ident) => {{ $m.advance(1); $m.exchange_with_de(); Stepped::Done }};
+    (xchg $m:ident $opcode:ident) => {{ $m.advance(1); $m.exchange_with_de(); Kind::Done }};
     (pchl $m:ident $opcode:ident) => {{
         $m.advance(1);
         $m.jump($m.get_pair(Pair::H));
-        Stepped::Done
+        Kind::Done
     }};
     (sphl $m:ident $opcode:ident) => {{
         $m.advance(1);
         $m.regs.sp = $m.get_pair(Pair::H);
-        Stepped::Done
+        Kind::Done
     }};
     (di $m:ident $opcode:ident) => {{
         $m.advance(1);
         $m.regs.interrupts = Interrupts::Off;
-        Stepped::Done
+        Kind::Done
     }};
     (ei $m:ident $opcode:ident) => {{
         $m.advance(1);
         $m.regs.interrupts = Interrupts::Arming;
-        Stepped::Done
+        Kind::Done
     }};
 }
 
@@ -195,11 +196,11 @@ macro_rules! groups {
 impl Machine {
     /// Does the instruction of this opcode, which is the one at PC.
     #[inline(always)]
-    pub(super) fn step_opcode<P: Ports>(&mut self, opcode: u8, ports: &mut P) -> Stepped
+    pub(super) fn step_opcode<P: Ports>(&mut self, opcode: u8, ports: &mut P) -> Kind
         requires opcode { opcode ≡ byte_at self.old self.old.regs.pc }
         requires spare { 1 ≤ P.spare ports.old }
         ensures { let outcome = by_opcode opcode (P.answer (P.state ports.old)) self.old in
-            IsOutcome outcome self.new result
+            IsOutcome outcome self.new (told result self.new)
             × Performs outcome.operation P.after (P.operations ports.old) (P.operations ports.new)
             (P.state ports.old) (P.state ports.new) (P.spare ports.old) (P.spare ports.new) }
     {
@@ -209,48 +210,48 @@ impl Machine {
     /// OUT, which is the instruction at PC.
     #[inline(always)]
     #[tactic(auto, unfolding(i80_rows::specs::Rows::row))]
-    fn step_out<P: Ports>(&mut self, opcode: u8, ports: &mut P) -> Stepped
+    fn step_out<P: Ports>(&mut self, opcode: u8, ports: &mut P) -> Kind
         requires opcode { opcode ≡ byte_at self.old self.old.regs.pc }
         requires output { opcode ≡ 211 }
         requires spare { 1 ≤ P.spare ports.old }
         ensures { let outcome = by_opcode opcode (P.answer (P.state ports.old)) self.old in
-            IsOutcome outcome self.new result
+            IsOutcome outcome self.new (told result self.new)
             × Performs outcome.operation P.after (P.operations ports.old) (P.operations ports.new)
             (P.state ports.old) (P.state ports.new) (P.spare ports.old) (P.spare ports.new) }
     {
         let port = self.operand();
         self.advance(2);
         ports.output(port, self.regs.a);
-        Stepped::Done
+        Kind::Done
     }
 
     /// IN, which is the instruction at PC.
     #[inline(always)]
     #[tactic(auto, unfolding(i80_rows::specs::Rows::row))]
-    fn step_in<P: Ports>(&mut self, opcode: u8, ports: &mut P) -> Stepped
+    fn step_in<P: Ports>(&mut self, opcode: u8, ports: &mut P) -> Kind
         requires opcode { opcode ≡ byte_at self.old self.old.regs.pc }
         requires input { opcode ≡ 219 }
         requires spare { 1 ≤ P.spare ports.old }
         ensures { let outcome = by_opcode opcode (P.answer (P.state ports.old)) self.old in
-            IsOutcome outcome self.new result
+            IsOutcome outcome self.new (told result self.new)
             × Performs outcome.operation P.after (P.operations ports.old) (P.operations ports.new)
             (P.state ports.old) (P.state ports.new) (P.spare ports.old) (P.spare ports.new) }
     {
         let port = self.operand();
         self.advance(2);
         self.regs.a = ports.input(port);
-        Stepped::Done
+        Kind::Done
     }
 
     // One match of all opcodes makes one jump table; each arm is then the one of its group. Only two arms
     // have to do with ports.
     #[inline(always)]
-    fn step_in_group<P: Ports>(&mut self, opcode: u8, ports: &mut P) -> Stepped
+    fn step_in_group<P: Ports>(&mut self, opcode: u8, ports: &mut P) -> Kind
         requires opcode { opcode ≡ byte_at self.old self.old.regs.pc }
         requires spare { 1 ≤ P.spare ports.old }
         ensures { let outcome = by_opcode opcode (P.answer (P.state ports.old)) self.old in
-            (IsWithoutPort (by_opcode opcode (λ _. 0) self.old) self.new result × (ports.new ≡ ports.old))
-            ⊎ (IsOutcome outcome self.new result
+            (IsWithoutPort (by_opcode opcode (λ _. 0) self.old) self.new (told result self.new) × (ports.new ≡ ports.old))
+            ⊎ (IsOutcome outcome self.new (told result self.new)
             × Performs outcome.operation P.after (P.operations ports.old) (P.operations ports.new)
             (P.state ports.old) (P.state ports.new) (P.spare ports.old) (P.spare ports.new)) }
     {
@@ -463,93 +464,89 @@ impl Machine {
     }
 
     #[inline(always)]
-    fn jump_if(&mut self, cond: Cond) -> Stepped
-        ensures { IsWithoutPort (by_row (Word (JumpIf cond)) (λ _. 0) self.old) self.new result }
+    fn jump_if(&mut self, cond: Cond) -> Kind
+        ensures { IsWithoutPort (by_row (Word (JumpIf cond)) (λ _. 0) self.old) self.new (told result self.new) }
     {
         let target = self.operand_word();
         self.advance(3);
         if self.holds(cond) {
             self.jump(target);
         }
-        Stepped::Done
+        Kind::Done
     }
 
     #[inline(always)]
-    fn call_if(&mut self, cond: Cond) -> Stepped
-        ensures { IsWithoutPort (by_row (Word (CallIf cond)) (λ _. 0) self.old) self.new result }
+    fn call_if(&mut self, cond: Cond) -> Kind
+        ensures { IsWithoutPort (by_row (Word (CallIf cond)) (λ _. 0) self.old) self.new (told result self.new) }
     {
         let target = self.operand_word();
         self.advance(3);
         if self.holds(cond) {
             self.call(target)
         } else {
-            Stepped::Done
+            Kind::Done
         }
     }
 
     #[inline(always)]
-    fn ret_if(&mut self, cond: Cond) -> Stepped
-        ensures { IsWithoutPort (by_row (Alone (RetIf cond)) (λ _. 0) self.old) self.new result }
+    fn ret_if(&mut self, cond: Cond) -> Kind
+        ensures { IsWithoutPort (by_row (Alone (RetIf cond)) (λ _. 0) self.old) self.new (told result self.new) }
     {
         self.advance(1);
         if self.holds(cond) {
             self.ret()
         } else {
-            Stepped::Done
+            Kind::Done
         }
     }
 
     // The twelve opcodes that the table leaves undefined. They alone look at the board: the others cost nothing more.
 
     #[inline(always)]
-    fn alias_nop(&mut self, opcode: u8) -> Stepped
-        requires { opcode ≡ byte_at self.old self.old.regs.pc }
+    fn alias_nop(&mut self) -> Kind
         ensures { let row = undefined_on self.old.board (Alone Nop) in
-            IsWithoutPort (by_row row (λ _. 0) self.old) self.new result }
+            IsWithoutPort (by_row row (λ _. 0) self.old) self.new (told result self.new) }
     {
         if !has_aliases(self.board) {
-            return Stepped::Undefined { opcode };
+            return Kind::Undefined;
         }
         self.advance(1);
-        Stepped::Done
+        Kind::Done
     }
 
     #[inline(always)]
-    fn alias_jmp(&mut self, opcode: u8) -> Stepped
-        requires { opcode ≡ byte_at self.old self.old.regs.pc }
+    fn alias_jmp(&mut self) -> Kind
         ensures { let row = undefined_on self.old.board (Word Jmp) in
-            IsWithoutPort (by_row row (λ _. 0) self.old) self.new result }
+            IsWithoutPort (by_row row (λ _. 0) self.old) self.new (told result self.new) }
     {
         if !has_aliases(self.board) {
-            return Stepped::Undefined { opcode };
+            return Kind::Undefined;
         }
         let target = self.operand_word();
         self.advance(3);
         self.jump(target);
-        Stepped::Done
+        Kind::Done
     }
 
     #[inline(always)]
-    fn alias_ret(&mut self, opcode: u8) -> Stepped
-        requires { opcode ≡ byte_at self.old self.old.regs.pc }
+    fn alias_ret(&mut self) -> Kind
         ensures { let row = undefined_on self.old.board (Alone Ret) in
-            IsWithoutPort (by_row row (λ _. 0) self.old) self.new result }
+            IsWithoutPort (by_row row (λ _. 0) self.old) self.new (told result self.new) }
     {
         if !has_aliases(self.board) {
-            return Stepped::Undefined { opcode };
+            return Kind::Undefined;
         }
         self.advance(1);
         self.ret()
     }
 
     #[inline(always)]
-    fn alias_call(&mut self, opcode: u8) -> Stepped
-        requires { opcode ≡ byte_at self.old self.old.regs.pc }
+    fn alias_call(&mut self) -> Kind
         ensures { let row = undefined_on self.old.board (Word Call) in
-            IsWithoutPort (by_row row (λ _. 0) self.old) self.new result }
+            IsWithoutPort (by_row row (λ _. 0) self.old) self.new (told result self.new) }
     {
         if !has_aliases(self.board) {
-            return Stepped::Undefined { opcode };
+            return Kind::Undefined;
         }
         let routine = self.operand_word();
         self.advance(3);
@@ -558,10 +555,10 @@ impl Machine {
 
     #[inline]
     #[tactic(auto, unfolding(i80_rows::specs::Rows::row, i80_rows::specs::AliasRows::alias_row))]
-    fn step_00(&mut self, opcode: u8) -> Stepped
+    fn step_00(&mut self, opcode: u8) -> Kind
         requires opcode { opcode ≡ byte_at self.old self.old.regs.pc }
         requires high { opcode < 32 }
-        ensures { IsWithoutPort (by_opcode opcode (λ _. 0) self.old) self.new result }
+        ensures { IsWithoutPort (by_opcode opcode (λ _. 0) self.old) self.new (told result self.new) }
     {
         let m = self;
         opcodes! { m opcode;
@@ -602,11 +599,11 @@ impl Machine {
 
     #[inline]
     #[tactic(auto, unfolding(i80_rows::specs::Rows::row, i80_rows::specs::AliasRows::alias_row))]
-    fn step_20(&mut self, opcode: u8) -> Stepped
+    fn step_20(&mut self, opcode: u8) -> Kind
         requires opcode { opcode ≡ byte_at self.old self.old.regs.pc }
         requires low { 32 ≤ opcode }
         requires high { opcode < 64 }
-        ensures { IsWithoutPort (by_opcode opcode (λ _. 0) self.old) self.new result }
+        ensures { IsWithoutPort (by_opcode opcode (λ _. 0) self.old) self.new (told result self.new) }
     {
         let m = self;
         opcodes! { m opcode;
@@ -675,51 +672,51 @@ impl Machine {
 
     /// MOV, whose opcode has the codes of its registers, and HLT among them.
     #[inline]
-    fn step_40(&mut self, opcode: u8) -> Stepped
+    fn step_40(&mut self, opcode: u8) -> Kind
         requires opcode { opcode ≡ byte_at self.old self.old.regs.pc }
         requires low { 64 ≤ opcode }
         requires high { opcode < 128 }
-        ensures { IsWithoutPort (by_opcode opcode (λ _. 0) self.old) self.new result }
+        ensures { IsWithoutPort (by_opcode opcode (λ _. 0) self.old) self.new (told result self.new) }
     {
         self.advance(1);
         if opcode == 0x76 {
-            return Stepped::Halted;
+            return Kind::Halted;
         }
         let from = reg_at(opcode % 8);
         let to = reg_at(opcode / 8 % 8);
         let byte = self.get(from);
         self.put(to, byte);
-        Stepped::Done
+        Kind::Done
     }
 
     /// ADD to CMP, whose opcode has the codes of its operation and its register.
     #[inline]
-    fn step_80(&mut self, opcode: u8) -> Stepped
+    fn step_80(&mut self, opcode: u8) -> Kind
         requires opcode { opcode ≡ byte_at self.old self.old.regs.pc }
         requires low { 128 ≤ opcode }
         requires high { opcode < 192 }
-        ensures { IsWithoutPort (by_opcode opcode (λ _. 0) self.old) self.new result }
+        ensures { IsWithoutPort (by_opcode opcode (λ _. 0) self.old) self.new (told result self.new) }
     {
         self.advance(1);
         if opcode == 0x9f {
             self.sbb_a();
-            return Stepped::Done;
+            return Kind::Done;
         }
         let from = reg_at(opcode % 8);
         let byte = self.get(from);
         self.operate_by(opcode / 8 % 8, byte);
-        Stepped::Done
+        Kind::Done
     }
 
     #[inline]
     #[tactic(auto, unfolding(i80_rows::specs::Rows::row, i80_rows::specs::AliasRows::alias_row))]
-    fn step_c0(&mut self, opcode: u8) -> Stepped
+    fn step_c0(&mut self, opcode: u8) -> Kind
         requires opcode { opcode ≡ byte_at self.old self.old.regs.pc }
         requires low { 192 ≤ opcode }
         requires high { opcode < 224 }
         requires output { opcode ≢ 211 }
         requires input { opcode ≢ 219 }
-        ensures { IsWithoutPort (by_opcode opcode (λ _. 0) self.old) self.new result }
+        ensures { IsWithoutPort (by_opcode opcode (λ _. 0) self.old) self.new (told result self.new) }
     {
         let m = self;
         opcodes! { m opcode;
@@ -758,11 +755,11 @@ impl Machine {
 
     #[inline]
     #[tactic(auto, unfolding(i80_rows::specs::Rows::row, i80_rows::specs::AliasRows::alias_row))]
-    fn step_e0(&mut self, opcode: u8) -> Stepped
+    fn step_e0(&mut self, opcode: u8) -> Kind
         requires opcode { opcode ≡ byte_at self.old self.old.regs.pc }
         requires low { 224 ≤ opcode }
         requires high { opcode < 256 }
-        ensures { IsWithoutPort (by_opcode opcode (λ _. 0) self.old) self.new result }
+        ensures { IsWithoutPort (by_opcode opcode (λ _. 0) self.old) self.new (told result self.new) }
     {
         let m = self;
         opcodes! { m opcode;

@@ -1,14 +1,17 @@
 //! Steps of a run, whose machine is a value of the loop's own.
-ghost use Rattle.std.specs.Prelude.{◌≡◌, ◌+◌, ◌≤◌, min, IfNone, IsSome};
+ghost use Rattle.std.specs.Prelude.{◌≡◌, ◌+◌, ◌<◌, ◌≤◌, min, true, IfNone, IsSome};
+ghost use Rattle.i80_exec.specs.declared.registers.Stepped.TheVariants.{Done};
 ghost use Rattle.i80_exec.specs.Step.{is_halt};
 ghost use Rattle.lab_core.specs.Board.{Board};
 ghost use Rattle.lab_core.specs.Stops.{is_gone_after};
 ghost use Rattle.lab_core.specs.Slices.{undefined, reason, IsSlice, after_steps, traffic_of};
 ghost use Rattle.lab_core.specs.Labs.{LabState, StandsFor, StandsAmid, amid, FindsIn, AdvancesIn, KeepsIn, Watches};
+ghost use Rattle.lab_core.specs.Labs.{IsCalm, Reaches};
 
 use crate::answer::{End, SliceOutcome};
 use crate::board_step::board_step;
 use crate::lab::Context;
+use crate::seldom::seldom;
 use i80_exec::machine::Machine;
 use i80_exec::registers::Stepped;
 use lab_frames::frame::Frame;
@@ -19,6 +22,17 @@ fn is_halt(answer: Stepped) -> bool
     ensures { result ≡ is_halt answer }
 {
     matches!(answer, Stepped::Halted)
+}
+
+// Whether a step that answered so and left SP there is quiet.
+#[inline(always)]
+fn is_quiet(answer: Stepped, sp: u16, reach: u32) -> bool
+    ensures { result ≡ true → (answer ≡ Done) × (sp < reach) }
+{
+    match answer {
+        Stepped::Done => (sp as u32) < reach,
+        _ => false,
+    }
 }
 
 // Whether a frame that may have gone before is gone after a step that answered so and left SP there.
@@ -47,8 +61,10 @@ impl Context {
         ensures stands { (lab : LabState) (b : Board) → StandsFor (amid lab machine.old self.old) b
             → StandsAmid (amid lab machine.new self.new) (after_steps result.0 b) (traffic_of result.0 b) }
     {
+        let mut reach = self.reach();
         for k in 0..n {
-            if let Some(outcome) = self.next(machine, is_watched) {
+            if let Some(outcome) = self.next(machine, is_watched, &mut reach) {
+                seldom();
                 return (k, outcome);
             }
         }
@@ -58,46 +74,80 @@ impl Context {
 
     // The next step, or the first reason not to make it.
     #[inline(always)]
-    fn next(&mut self, machine: &mut Machine, is_watched: bool) -> Option<SliceOutcome>
+    fn next(
+        &mut self,
+        machine: &mut Machine,
+        is_watched: bool,
+        reach: &mut u32,
+    ) -> Option<SliceOutcome>
         requires room { 1 ≤ self.old.devices.spare }
         requires watched { Watches is_watched self.old.is_attached self.old.request }
+        requires reach { Reaches reach.old self.old }
         ensures reason { FindsIn reason result machine.old self.old }
         ensures some { IsSome result → KeepsIn machine.old self.old machine.new self.new }
         ensures none { IfNone result (AdvancesIn machine.old self.old machine.new self.new) }
         ensures spare { self.old.devices.spare ≤ self.new.devices.spare + 1 }
         ensures watches { Watches is_watched self.new.is_attached self.new.request }
+        ensures reach { Reaches reach.new self.new }
     {
-        if let Some(outcome) = self.early(machine, is_watched) {
+        if let Some(outcome) = self.reason_apart(machine, is_watched, *reach) {
             return Some(outcome);
         }
-        if let Some(outcome) = self.waiting(machine) {
-            return Some(outcome);
-        }
-        self.step(machine)
+        self.step(machine, reach)
     }
 
-    // A step, but where an undefined opcode stands at PC and no request is accepted before it.
+    // A step, but where an undefined opcode stands at PC and no request is accepted before it. A quiet one owes nothing
+    // more.
     #[inline(always)]
-    fn step(&mut self, machine: &mut Machine) -> Option<SliceOutcome>
+    fn step(&mut self, machine: &mut Machine, reach: &mut u32) -> Option<SliceOutcome>
         requires room { 1 ≤ self.old.devices.spare }
+        requires reach { Reaches reach.old self.old }
         ensures undefined { FindsIn undefined result machine.old self.old }
         ensures some { IsSome result → KeepsIn machine.old self.old machine.new self.new }
         ensures none { IfNone result (AdvancesIn machine.old self.old machine.new self.new) }
         ensures spare { self.old.devices.spare ≤ self.new.devices.spare + 1 }
         ensures attached { self.new.is_attached ≡ self.old.is_attached }
         ensures request { self.new.request ≡ self.old.request }
+        ensures reach { Reaches reach.new self.new }
     {
         let pc = machine.regs().pc;
-        let answer = board_step(machine, &mut self.devices);
+        let answer = board_step(machine, &mut self.devices, *reach > 0);
+        let sp = machine.regs().sp;
+        if is_quiet(answer, sp, *reach) {
+            return None;
+        }
         if let Stepped::Undefined { opcode } = answer {
+            *reach = 0;
             return Some(SliceOutcome::End(End::Undefined { opcode, pc }));
         }
-        let sp = machine.regs().sp;
         let left = self.frames.advance(answer, pc, sp);
         self.is_halted = is_halt(answer);
         self.has_moved = true;
         self.follow(answer, sp, left);
+        *reach = self.reach();
         None
+    }
+
+    // How far up a step may leave SP and be quiet; 0 where none is.
+    #[inline(always)]
+    fn reach(&self) -> u32
+        ensures { Reaches result self.now }
+    {
+        if self.is_calm() {
+            self.frames.reach()
+        } else {
+            0
+        }
+    }
+
+    #[inline(always)]
+    fn is_calm(&self) -> bool
+        ensures { result ≡ true → IsCalm self.now }
+    {
+        if self.is_halted || !self.has_moved || self.request.is_some() {
+            return false;
+        }
+        self.devices.request().is_none()
     }
 
     // What a Step looks at, after a step that answered so, left SP there and so many frames of those before it.

@@ -1,11 +1,11 @@
 //! The reasons for which a slice makes no further step.
-ghost use Rattle.std.specs.Prelude.{◌≡◌, ◌&&◌, if◌then◌else◌, Some, None, IsSome, is_none};
+ghost use Rattle.std.specs.Prelude.{◌≡◌, ◌&&◌, true, if◌then◌else◌, Some, None, IsSome, is_none};
 ghost use Rattle.std.specs.Option.{option_or};
 ghost use Rattle.i80_exec.specs.State.{MachineState};
 ghost use Rattle.lab_core.specs.Stops.{at_breakpoint, meets_breakpoint, complete, completes, is_reached};
 ghost use Rattle.lab_core.specs.Stops.{is_done, is_first, is_there, since, earlier};
-ghost use Rattle.lab_core.specs.Slices.{is_off, is_on, halted, waiting, early_reason};
-ghost use Rattle.lab_core.specs.Labs.{FindsIn, Watches};
+ghost use Rattle.lab_core.specs.Slices.{is_off, is_on, halted, waiting, early_reason, reason_apart};
+ghost use Rattle.lab_core.specs.Labs.{FindsIn, Watches, IsCalm, Reaches};
 
 use crate::answer::{End, SliceOutcome, Stop};
 use crate::event::{Granularity, StepKind, StepRequest};
@@ -65,6 +65,59 @@ fn is_first(origin: Option<Origin>) -> bool
 }
 
 impl Context {
+    /// The first of the reasons that the opcode at PC has no part in.
+    #[inline(always)]
+    pub(super) fn reason_apart(
+        &self,
+        machine: &Machine,
+        is_watched: bool,
+        reach: u32,
+    ) -> Option<SliceOutcome>
+        requires watched { Watches is_watched self.now.is_attached self.now.request }
+        requires reach { Reaches reach self.now }
+        ensures { FindsIn reason_apart result machine.now self.now }
+    {
+        if reach == 0 {
+            self.look(machine, is_watched)
+        } else if is_watched {
+            self.breakpoint(machine)
+        } else {
+            None
+        }
+    }
+
+    #[inline(always)]
+    fn look(&self, machine: &Machine, is_watched: bool) -> Option<SliceOutcome>
+        requires { Watches is_watched self.now.is_attached self.now.request }
+        ensures { FindsIn reason_apart result machine.now self.now }
+    {
+        match self.early(machine, is_watched) {
+            Some(outcome) => Some(outcome),
+            None => self.waiting(machine),
+        }
+    }
+
+    // After a step, a breakpoint alone stops a calm run.
+    #[inline(always)]
+    fn breakpoint(&self, machine: &Machine) -> Option<SliceOutcome>
+        requires { IsCalm self.now }
+        ensures { FindsIn reason_apart result machine.now self.now }
+    {
+        if self.is_met(machine) {
+            Some(SliceOutcome::Stop(Stop::Breakpoint))
+        } else {
+            None
+        }
+    }
+
+    #[inline(always)]
+    fn is_met(&self, machine: &Machine) -> bool
+        requires { self.now.has_moved ≡ true }
+        ensures { FindsIn meets_breakpoint result machine.now self.now }
+    {
+        self.is_attached && self.breakpoints.is_at(machine.regs().pc)
+    }
+
     /// The first of the reasons that are tried after the last step too.
     #[inline(always)]
     pub(super) fn early(&self, machine: &Machine, is_watched: bool) -> Option<SliceOutcome>

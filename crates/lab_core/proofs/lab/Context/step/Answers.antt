@@ -1,11 +1,23 @@
-use Rattle.std.proofs.Common.{◌++◌, refl, sym, ap, subst}
+use Rattle.std.proofs.Common.{◌++◌, ◌≤◌, refl, sym, ap, subst, arith}
 use Rattle.i80_exec.specs.declared.registers.Registers.{Registers}
 use Rattle.i80_exec.specs.Step.{operation_list}
+use Rattle.lab_frames.specs.Frames.{AtLeast}
 use Rattle.lab_core.specs.declared.lab.Context.{Context}
 use Rattle.lab_core.specs.Board.{next_change, stepped}
 use Rattle.lab_core.specs.Labs.{StandsAmid, amid}
 use Rattle.lab_core.proofs.StandsLemmas.{stands_step, finds_undefined, finds_no_undefined, stands_undefined}
+use Rattle.lab_core.proofs.QuietLemmas.{stands_quiet}
 use Rattle.lab_core.proofs.lab.Context.step.Goals as goal
+
+pub returns-then-is_quiet-clause-none : goal.returns-then-is_quiet-clause-none
+returns-then-is_quiet-clause-none c = λ lab b traffic s.
+    let quiet = c.is_quiet.ensures c.if-is_quiet.true in
+    let reach : 1 ≤ c.args.reach.now = let low = quiet.1 in omega arith in
+    let calm = c.requires.reach.calm reach in
+    let A : Registers → Type 0 = λ regs. AtLeast regs.sp c.args.self.now.frames in
+    stands_quiet _ b traffic _ _ _ s (c.board_step-answer.ensures.step b.past s.devices)
+    c.board_step-answer.ensures.sp calm.goes_on calm.has_moved calm.unasked quiet.0
+    (subst A c.regs-sp.ensures (c.requires.reach.above _ quiet.1))
 
 pub returns-in-Undefined-clause-undefined : goal.returns-in-Undefined-clause-undefined
 returns-in-Undefined-clause-undefined c = λ lab b traffic s.

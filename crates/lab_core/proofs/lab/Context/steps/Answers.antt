@@ -18,6 +18,7 @@ loop-k-preserved c =
           (sym (c.in_default.ensures.reason lab (after_steps k b) (traffic_of k b) (inv.stands lab b s)));
       room = let r = inv.room in let q = c.in_default.ensures.spare in omega arith;
       watches = c.in_default.ensures.watches;
+      reach = c.in_default.ensures.reach;
     }
 
 pub returns-in-Some-clause-slice : goal.returns-in-Some-clause-slice

@@ -1,7 +1,7 @@
 use Rattle.std.proofs.Common.{◌≡◌, ◌<◌, ◌≤◌, ◌+◌, ℕ, None}
 use Rattle.lab_core.specs.Board.{Board}
 use Rattle.lab_core.specs.Slices.{after_steps, traffic_of, reason}
-use Rattle.lab_core.specs.Labs.{LabState, StandsFor, StandsAmid, Watches, amid}
+use Rattle.lab_core.specs.Labs.{LabState, StandsFor, StandsAmid, Watches, Reaches, amid}
 use Rattle.lab_core.proofs.lab.Context.steps.Given as goal
 
 abbrev pub invariant-loop-k : goal.invariant-loop-k
@@ -12,4 +12,5 @@ invariant-loop-k l = record {
       → (j : ℕ) → j < l.k → reason (after_steps j b) ≡ None;
   room : l.n ≤ l.self.devices.spare + l.k;
   watches : Watches l.is_watched l.self.is_attached l.self.request;
+  reach : Reaches l.reach l.self;
 }

@@ -1,0 +1,107 @@
+-- Quiet steps, and what can come beside them.
+use Rattle.std.proofs.Common.{◌≡◌, ℕ, List, [], ◌∷◌, ◌++◌, Bool, true, false, Option, Some, None, length}
+use Rattle.std.proofs.Common.{refl, sym, ap, ◌∙◌, subst, drop, ◌==◌}
+use Rattle.std.proofs.lemmas.Bool.{cond_both}
+use Rattle.std.specs.Option.{option_or, IsSome}
+use Rattle.i80_exec.specs.declared.registers.Stepped.{Stepped}
+use Rattle.i80_exec.specs.declared.registers.Stepped.TheVariants.{Done}
+use Rattle.i80_exec.specs.declared.ports.PortOperation.{PortOperation}
+use Rattle.i80_exec.specs.declared.ports.PortOperation.TheVariants.{In, Out}
+use Rattle.i80_exec.specs.State.{MachineState}
+use Rattle.i80_exec.specs.Step.{operation_list, state_after, is_halt}
+use Rattle.i80_devs.specs.Past.{Operation, Port, Typed, Switches, Press, PanelState, DeviceState, after, panel_after}
+use Rattle.lab_frames.specs.Frames.{Advances, AtLeast, LeavesOldest, TellsSp}
+use Rattle.lab_frames.proofs.FrameLemmas.{quiet-advances, quiet-oldest}
+use Rattle.lab_core.specs.declared.event.StepRequest.{StepRequest}
+use Rattle.lab_core.specs.Board.{Board, next_change, stepped}
+use Rattle.lab_core.specs.Stops.{at_breakpoint, completes}
+use Rattle.lab_core.specs.Slices.{ends_in_halt, reason_apart}
+use Rattle.lab_core.specs.Steps.{IsBoardStep}
+use Rattle.lab_core.specs.Labs.{LabState, StandsAmid}
+use Rattle.lab_core.proofs.StandsLemmas.{stands_step}
+
+-- ---- the panel
+
+-- operations that latch this request, or none
+abbrev latching : Option ℕ → List Operation
+latching None = []
+latching (Some n) = Press n ∷ []
+
+-- operations that make such a panel
+abbrev past_of : PanelState → List Operation
+past_of p = Typed p.waiting ∷ Switches p.switches ∷ Port (Out 2 p.lamps) ∷ latching p.latched
+
+makes : (typed : List ℕ) (switches lamps : ℕ) (latched : Option ℕ)
+    → (record { waiting = typed; switches = switches; lamps = lamps; latched = latched })
+    ≡ panel_after (Typed typed ∷ Switches switches ∷ Port (Out 2 lamps) ∷ latching latched)
+makes typed switches lamps None = refl
+makes typed switches lamps (Some n) = refl
+
+-- each panel has a past
+pub has_past : (p : PanelState) → (past : List Operation) × (p ≡ panel_after past)
+has_past p = (past_of p, makes p.waiting p.switches p.lamps p.latched)
+
+-- what is found latched after each past is latched
+pub found_latched : (p : PanelState) (found : Option ℕ)
+    → ((past : List Operation) → p ≡ panel_after past → found ≡ (panel_after past).latched) → p.latched ≡ found
+found_latched p found finds =
+    let past = has_past p in
+    ap (λ (q : PanelState). q.latched) past.1 ∙ sym (finds past.0 past.1)
+
+-- no operation at a port latches a request
+pub stays_unlatched : (p : PanelState) (o : Option PortOperation) → (state_after after p o).latched ≡ p.latched
+stays_unlatched p None = refl
+stays_unlatched p (Some (In port byte)) =
+    cond_both (port == 1) (record p { waiting = drop 1 p.waiting }) p (λ q. q.latched ≡ p.latched) (λ _. refl)
+    (λ _. refl)
+stays_unlatched p (Some (Out port byte)) =
+    cond_both (port == 2) (record p { lamps = byte }) p (λ q. q.latched ≡ p.latched) (λ _. refl) (λ _. refl)
+
+-- ---- reasons
+
+pub or_or : {A : Type 0} (x y z : Option A) → option_or x (option_or y z) ≡ option_or (option_or x y) z
+or_or None y z = refl
+or_or (Some a) y z = refl
+
+or_none : {A : Type 0} (x : Option A) → option_or x None ≡ x
+or_none None = refl
+or_none (Some a) = refl
+
+-- a breakpoint alone stops a run that goes on and of which no Step is asked
+pub calm_reason : (lab : LabState) (b : Board) (traffic : List PortOperation) → StandsAmid lab b traffic
+    → lab.is_halted ≡ false → lab.request ≡ None → reason_apart b ≡ at_breakpoint b
+calm_reason lab b traffic s goes_on unasked =
+    let no_halt : ends_in_halt b.trace ≡ false = sym s.is_halted ∙ goes_on in
+    let no_step : b.request ≡ None = sym s.request ∙ unasked in
+    let P : Option StepRequest → Type 0 = λ r. completes r b ≡ false in
+    let incomplete : completes b.request b ≡ false = subst P (sym no_step) refl in
+    rw (no_halt, incomplete) (or_none (option_or (at_breakpoint b) None) ∙ or_none (at_breakpoint b))
+
+-- ---- a quiet step
+
+pub stands_quiet : (old : LabState) (b : Board) (traffic : List PortOperation) (machine : MachineState)
+    (devices : DeviceState) (answer : Stepped)
+    → StandsAmid old b traffic → IsBoardStep b.past old.machine old.devices machine devices answer
+    → TellsSp answer old.machine.regs.sp machine.regs.sp
+    → old.is_halted ≡ false → old.has_moved ≡ true → old.request ≡ None → answer ≡ Done
+    → AtLeast machine.regs.sp old.frames
+    → StandsAmid (record old { machine = machine; devices = devices }) (stepped b)
+    (traffic ++ operation_list (next_change b).operation)
+stands_quiet old b traffic machine devices answer s did tells goes_on has_moved unasked done above =
+    let new : LabState = record old { machine = machine; devices = devices } in
+    let M : Bool → Bool → LabState = λ halts moved.
+    record old { machine = machine; devices = devices; is_halted = halts; has_moved = moved } in
+    let no_halt : old.is_halted ≡ is_halt answer = rw done goes_on in
+    let rest : new ≡ M (is_halt answer) true
+    = ap (λ h. M h old.has_moved) no_halt ∙ ap (λ h. M (is_halt answer) h) has_moved in
+    let F : Stepped → Type 0 = λ a. Advances a old.machine.regs.pc machine.regs.sp old.frames old.frames in
+    let O : Stepped → Type 0 = λ a. LeavesOldest a machine.regs.sp old.frames (length old.frames) in
+    stands_step old new b traffic answer (length old.frames) s did (record {
+      rest = rest;
+      frames =
+          subst F (sym done) (quiet-advances old.machine.regs.pc machine.regs.sp old.frames above);
+      oldest = subst O (sym done) (quiet-oldest machine.regs.sp old.frames above);
+      tells = tells;
+      older = λ asked. (let no : IsSome {T = StepRequest} None = rw unasked at asked in cc);
+      gone = λ asked. (let no : IsSome {T = StepRequest} None = rw unasked at asked in cc);
+    })

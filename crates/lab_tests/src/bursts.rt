@@ -1,0 +1,280 @@
+//! Runs in slices of several lengths, beside the same run in slices of one step.
+ghost use Rattle.std.specs.Prelude.{◌≤◌};
+
+use crate::script::{is_done, load_text, set_breakpoints};
+use i80_devs::traffic::Traffic;
+use i80_exec::ports::PortOperation;
+use i80_exec::registers::{Interrupts, Registers};
+use lab_core::answer::{Answer, End, SliceOutcome, Stop};
+use lab_core::event::Event;
+use lab_core::lab::Lab;
+use lab_frames::frames::Frames;
+use std::alloc::{AllocError, Global};
+use std::rt::HostRuntime;
+
+/// A program that starts at 0, the lines with a breakpoint (a debugger is attached where there are any), and how many
+/// steps lie between presses of the request button.
+#[derive(Clone, Copy)]
+struct Program {
+    about: &'static str,
+    text: &'static str,
+    lines: &'static [u32],
+    stretch: u32,
+}
+
+const PROGRAMS: [Program; 9] = [
+    Program {
+        about: "IN and OUT in a loop",
+        text: "X: IN 0\nOUT 2\nINR A\nOUT 7\nIN 1\nJMP X\n",
+        lines: &[],
+        stretch: 126,
+    },
+    Program {
+        about: "EI and DI in a loop, with requests",
+        text: "ORG 38H\nINR C\nEI\nRET\nORG 0\nJMP 100H\nORG 100H\nX: LXI SP,4000H\nEI\nNOP\nDI\nINR B\nEI\nEI\nNOP\nJMP X\n",
+        lines: &[],
+        stretch: 42,
+    },
+    Program {
+        about: "HLT with interrupts on at a slice's end",
+        text: "ORG 38H\nINR C\nEI\nRET\nORG 0\nJMP 100H\nORG 100H\nX: LXI SP,4000H\nEI\nNOP\nNOP\nHLT\nINR B\nJMP X\n",
+        lines: &[],
+        stretch: 42,
+    },
+    Program {
+        about: "HLT with interrupts off",
+        text: "MVI B,5\nX: DCR B\nJNZ X\nHLT\nNOP\n",
+        lines: &[],
+        stretch: 42,
+    },
+    Program {
+        about: "code that changes itself into an undefined opcode",
+        text: "LXI H,Y\nMVI B,9\nX: DCR B\nJNZ Y\nMVI M,8\nY: NOP\nINR M\nDCR M\nJMP X\n",
+        lines: &[],
+        stretch: 42,
+    },
+    Program {
+        about: "SP that wraps",
+        text: "X: LXI SP,2\nCALL Y\nPUSH H\nPUSH D\nINX SP\nINX SP\nPOP B\nPOP B\nLXI SP,0FFFEH\nCALL Y\nPOP D\nDCX SP\nJMP X\nORG 100H\nY: PUSH B\nINX SP\nINX SP\nPUSH PSW\nPOP PSW\nRET\n",
+        lines: &[],
+        stretch: 126,
+    },
+    Program {
+        about: "calls that are left by LXI SP and by POP",
+        text: "LXI SP,4000H\nX: CALL Y\nCALL Z\nJMP X\nY: CALL Z\nPUSH B\nPOP B\nRET\nZ: POP H\nPUSH H\nPOP H\nINR A\nJPO W\nLXI SP,4000H\nW: PCHL\n",
+        lines: &[],
+        stretch: 126,
+    },
+    Program {
+        about: "a breakpoint on each instruction",
+        text: "LXI SP,4000H\nX: CALL Y\nINR B\nOUT 2\nJMP X\nY: DCR C\nRNZ\nRET\n",
+        lines: &[1, 2, 3, 4, 5, 6, 7, 8],
+        stretch: 126,
+    },
+    Program {
+        about: "a breakpoint that is met seldom",
+        text: "LXI SP,4000H\nX: CALL Y\nINR B\nJNZ X\nOUT 2\nJMP X\nY: EI\nDCR C\nRET\n",
+        lines: &[5],
+        stretch: 126,
+    },
+];
+
+/// The lengths of slices that are compared with slices of one step.
+const LENGTHS: [u16; 4] = [2, 3, 7, 4096];
+
+/// How many stretches of a program are made, at most.
+const STRETCHES: u32 = 24;
+
+fn code_of(outcome: SliceOutcome) -> u32 {
+    match outcome {
+        SliceOutcome::More => 0,
+        SliceOutcome::Waiting => 1,
+        SliceOutcome::Stop(Stop::Breakpoint) => 2,
+        SliceOutcome::Stop(Stop::Step) => 3,
+        SliceOutcome::End(End::Halted) => 4,
+        SliceOutcome::End(End::Undefined { opcode, .. }) => 256 + opcode as u32,
+    }
+}
+
+fn put_traffic(kept: &mut Vec<u32>, traffic: &Traffic) -> Result<(), AllocError> {
+    for operation in traffic.as_slice() {
+        kept.push(match operation {
+            PortOperation::In { port, byte } => 0x0001_0000 + *port as u32 * 256 + *byte as u32,
+            PortOperation::Out { port, byte } => 0x0002_0000 + *port as u32 * 256 + *byte as u32,
+        })?;
+    }
+    Ok(())
+}
+
+/// How a slice went: how many steps it made, and a number for its outcome.
+#[derive(Clone, Copy)]
+struct Sliced {
+    executed: u32,
+    code: u32,
+}
+
+// A slice, whose traffic is kept. None where it is refused.
+fn slice(lab: &mut Lab, n: u16, kept: &mut Vec<u32>) -> Result<Option<Sliced>, AllocError>
+    requires some { 1 ≤ n }
+    requires few { n ≤ 4096 }
+{
+    match lab.apply(&Event::Slice(n)) {
+        Ok(
+            Answer::Sliced {
+                executed,
+                traffic,
+                outcome,
+            },
+        ) => {
+            put_traffic(kept, &traffic)?;
+            Ok(Some(Sliced {
+                executed: executed as u32,
+                code: code_of(outcome),
+            }))
+        }
+        _ => Ok(None),
+    }
+}
+
+fn put_registers(kept: &mut Vec<u32>, regs: Registers) -> Result<(), AllocError> {
+    let interrupts = match regs.interrupts {
+        Interrupts::Off => 0u32,
+        Interrupts::Arming => 1,
+        Interrupts::On => 2,
+    };
+    for word in [
+        regs.pc as u32,
+        regs.sp as u32,
+        regs.a as u32 * 256 + regs.flags.to_byte() as u32,
+        regs.b as u32 * 256 + regs.c as u32,
+        regs.d as u32 * 256 + regs.e as u32,
+        regs.h as u32 * 256 + regs.l as u32,
+        interrupts,
+    ] {
+        kept.push(word)?;
+    }
+    Ok(())
+}
+
+fn put_frames(kept: &mut Vec<u32>, frames: &Frames) -> Result<(), AllocError> {
+    for age in 0..frames.len() {
+        if let Some(frame) = frames.get(age) {
+            kept.push(frame.slot as u32)?;
+            kept.push(frame.target as u32)?;
+            kept.push(frame.site as u32)?;
+        }
+    }
+    Ok(())
+}
+
+// So many steps in slices of at most n, or until a reason comes; it is kept with its place. Whether the run goes on.
+fn stretch(lab: &mut Lab, n: u16, count: u32, kept: &mut Vec<u32>) -> Result<bool, AllocError>
+    requires some { 1 ≤ n }
+    requires few { n ≤ 4096 }
+{
+    let mut left = count;
+    for _ in 0..count {
+        if left == 0 {
+            return Ok(true);
+        }
+        let most = if left < n as u32 { left as u16 } else { n };
+        let Some(sliced) = slice(lab, most, kept)? else {
+            return Ok(false);
+        };
+        left = left.saturating_sub(sliced.executed);
+        if sliced.code > 0 {
+            kept.push(sliced.code)?;
+            kept.push(left)?;
+            return Ok(sliced.code < 4);
+        }
+    }
+    Ok(true)
+}
+
+fn resume(lab: &mut Lab) {
+    let _ = is_done(lab, &Event::Resume);
+}
+
+// After a stretch the button is pressed, and a stopped run goes on.
+fn make_stretches(
+    lab: &mut Lab,
+    program: &Program,
+    n: u16,
+    kept: &mut Vec<u32>,
+) -> Result<(), AllocError>
+    requires some { 1 ≤ n }
+    requires few { n ≤ 4096 }
+{
+    for place in 0..STRETCHES {
+        if !stretch(lab, n, program.stretch, kept)? {
+            return Ok(());
+        }
+        resume(lab);
+        if place % 2 == 1 {
+            let _ = is_done(lab, &Event::Press(7));
+        }
+        put_registers(kept, lab.regs())?;
+        put_frames(kept, lab.frames())?;
+    }
+    Ok(())
+}
+
+fn begin(alloc: Global, lab: &mut Lab, program: &Program) -> Result<bool, AllocError> {
+    if !load_text(alloc, lab, "a", program.text)? {
+        return Ok(false);
+    }
+    if !program.lines.is_empty() {
+        let Some(lines) = set_breakpoints(alloc, "a", program.lines)? else {
+            return Ok(false);
+        };
+        if !is_done(lab, &Event::Attach) || !is_done(lab, &lines) {
+            return Ok(false);
+        }
+    }
+    Ok(is_done(lab, &Event::Start(0)))
+}
+
+// All that is seen of a run in slices of n. None where it can't be begun.
+fn seen(alloc: Global, program: &Program, n: u16) -> Result<Option<Vec<u32>>, AllocError>
+    requires some { 1 ≤ n }
+    requires few { n ≤ 4096 }
+{
+    let mut lab = Lab::new(alloc)?;
+    let mut kept = Vec::new(alloc);
+    if !begin(alloc, &mut lab, program)? {
+        return Ok(None);
+    }
+    make_stretches(&mut lab, program, n, &mut kept)?;
+    put_registers(&mut kept, lab.regs())?;
+    put_frames(&mut kept, lab.frames())?;
+    for address in 0..=u16::MAX {
+        kept.push(lab.peek(address) as u32)?;
+    }
+    Ok(Some(kept))
+}
+
+fn are_same(one: &Option<Vec<u32>>, other: &Option<Vec<u32>>) -> bool {
+    match (one, other) {
+        (Some(one), Some(other)) => one.as_slice() == other.as_slice(),
+        _ => false,
+    }
+}
+
+// Whether slices of each length give what slices of one step give.
+fn is_same(alloc: Global, program: &Program) -> Result<bool, AllocError> {
+    let single = seen(alloc, program, 1)?;
+    let mut is_so = true;
+    for n in LENGTHS {
+        let seen = seen(alloc, program, n.max(1).min(4096))?;
+        is_so = is_so && are_same(&single, &seen);
+    }
+    Ok(is_so)
+}
+
+#[test]
+fn slices_are_steps(rt: HostRuntime) -> Result<(), AllocError> {
+    for program in PROGRAMS {
+        assert!(rt; is_same(rt.alloc(), &program)?, "{}", program.about);
+    }
+    Ok(())
+}
