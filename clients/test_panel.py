@@ -321,7 +321,7 @@ class Panel(Pages, Doors):
         page.waits(lambda: page.registers()["C"] == held)
         page.command("continue")
         page.is_in("idle")
-        self.assertEqual(page.run(buttons), 0)
+        page.waits(lambda: page.run(buttons) == 0)
 
     def edit(self, page, selector, keys):
         page.click(selector)
