@@ -172,6 +172,10 @@ class Page:
         self.click(f"#source [data-line='{line}'] .gutter")
         self.waits(lambda: self.breakpoints() != before)
 
+    def look_at(self, place):
+        """Shows the memory at a place."""
+        self.run("const at = document.getElementById('at'); at.value = arguments[0]; at.dispatchEvent(new Event('change'))", place)
+
     def type_line(self, text):
         self.run("document.getElementById('line').value = arguments[0]", text)
         self.click("#typing button")

@@ -1,7 +1,7 @@
 """Lessons 6 and 8 in the classic Notebook, worked with the front panel as a student does."""
 import time
 
-from browser import wait_until
+from browser import ENTER, wait_until
 from panel_page import keep_picture
 from panel_tests import NotebookPages
 
@@ -80,6 +80,7 @@ class Lessons(NotebookPages):
         self.second_bug(page)
         self.third_bug(page)
         self.recursion(page)
+        self.changes_by_hand(page)
 
     def second_bug(self, page):
         """The line that sets CY, and the one that loses it."""
@@ -110,6 +111,32 @@ class Lessons(NotebookPages):
         page.waits(lambda: (page.registers()["PC"], page.registers()["SP"]) == ("0400", "0FFE"))
         page.command("continue")
         self.shows(number, "UndefinedOpcode: 08 at 0403")
+
+    def changes_by_hand(self, page):
+        """The first bug's count, and the second bug's instruction that loses the carry."""
+        first = self.cell_of("START:  LXI H,TABLE")
+        self.margin(first, 5)
+        wait_until(lambda: self.marks(first) == [[5], []])
+        self.execute(first)
+        page.stops("breakpoint", 5)
+        self.edit(page, "#registers [data-name=B]", "4")
+        page.waits(lambda: page.registers()["B"] == "04")
+        page.toggle(5)
+        page.command("continue")
+        self.shows(first, "90")
+        average = self.cell_of("AVERAGE: MOV A,B")
+        self.execute(average, average + 1)
+        page.stops("breakpoint", 9)
+        page.look_at("AVERAGE")
+        page.waits(lambda: page.text("#memory [data-name='0202']") == "B7")
+        self.edit(page, "#memory [data-name='0202']", "0")
+        page.waits(lambda: page.text("#memory [data-name='0202']") == "00")
+        page.command("continue")
+        self.shows(average + 1, "18\n88")
+
+    def edit(self, page, selector, value):
+        page.click(selector)
+        page.browser.type(value + ENTER)
 
     def keep_pictures(self, page):
         page.picture("lesson-8")
