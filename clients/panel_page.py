@@ -12,6 +12,10 @@ PICTURES = os.environ.get("LAB80_PICTURES")
 TEXT = "return document.querySelector(arguments[0]).textContent"
 TEXTS = "return [...document.querySelectorAll(arguments[0])].map(each => each.textContent)"
 CLICK = "document.querySelectorAll(arguments[0])[arguments[1]].click()"
+CHOOSE = """
+    const field = document.querySelector(arguments[0]);
+    field.value = arguments[1];
+    field.dispatchEvent(new Event("change"));"""
 LIT = "return [...document.querySelectorAll('.lamp')].map(each => +each.classList.contains('on')).join('')"
 UP = "return [...document.querySelectorAll('.switch')].map(each => +(each.getAttribute('aria-checked') === 'true')).join('')"
 MARKED = "return [...document.querySelectorAll('#source .gutter[aria-pressed=true]')].map(each => +each.textContent)"
@@ -172,9 +176,13 @@ class Page:
         self.click(f"#source [data-line='{line}'] .gutter")
         self.waits(lambda: self.breakpoints() != before)
 
+    def choose(self, selector, value):
+        """Gives a field its value, as typed or chosen there."""
+        self.run(CHOOSE, selector, value)
+
     def look_at(self, place):
         """Shows the memory at a place."""
-        self.run("const at = document.getElementById('at'); at.value = arguments[0]; at.dispatchEvent(new Event('change'))", place)
+        self.choose("#at", place)
 
     def type_line(self, text):
         self.run("document.getElementById('line').value = arguments[0]", text)

@@ -68,6 +68,9 @@ ONE:    MVI C,1
         END START
 """
 
+# Begins with an opcode that Intel's table leaves undefined.
+UNDEFINED = "        ORG 100H\nSTART:  DB 8\n        MVI A,7\n        HLT\n        END START\n"
+
 # Prints the characters of a line as they are typed, up to a full stop.
 ECHOES = """\
         ORG 100H
@@ -286,7 +289,7 @@ class Panel(Pages, Doors):
         page.picture("panel", height=840)
         page.command("stepOut")
         page.waits(lambda: len(page.frames()) == 1)
-        self.assertEqual(page.console(), "**")
+        page.prints("**")
 
     def stopped_by(self, text, line):
         """A page with a cell that runs, and is stopped in what button 7 calls for the second time."""
@@ -303,12 +306,9 @@ class Panel(Pages, Doors):
         page.stops("breakpoint", line)
         return page
 
-    def test_values_are_edited_where_the_kernel_can(self):
+    def test_changes_by_hand(self):
         page = self.stopped(CALLS, 4)
         buttons = "return document.querySelectorAll('#registers button, #memory button.value').length"
-        if not page.ask("initialize").get("supportsSetVariable"):
-            self.assertEqual(page.run(buttons), 0)
-            return
         page.waits(lambda: page.run(buttons) == 9 + 128)
         self.edit(page, "#registers [data-name=B]", "5AH" + ENTER)
         page.waits(lambda: page.registers()["B"] == "5A")
@@ -322,6 +322,19 @@ class Panel(Pages, Doors):
         page.command("continue")
         page.is_in("idle")
         page.waits(lambda: page.run(buttons) == 0)
+        self.undefined_opcodes(page)
+
+    def undefined_opcodes(self, page):
+        """08 acts as NOP or ends the run, as is chosen."""
+        for choice, is_so in (("true", lambda: page.registers()["A"] == "07"),
+                              ("false", lambda: "UndefinedOpcode: 08 at 0100" in page.console())):
+            page.choose("#aliases", choice)
+            # the answer to a later request on the same line: the choice has come there
+            page.ask("debugInfo")
+            self.assertFalse(is_so())
+            page.run_cell(UNDEFINED)
+            page.waits(lambda: page.state() == "idle" and is_so())
+        self.assertEqual(page.console().count("UndefinedOpcode"), 1)
 
     def edit(self, page, selector, keys):
         page.click(selector)
@@ -347,7 +360,7 @@ class Panel(Pages, Doors):
         page.waits(lambda: page.text("#fault") == "line 2, column 7: Undefined")
         self.assertEqual((page.texts("#behind mark"), page.texts("#behind .bad-line")), (["NOWHERE"], ["  JMP NOWHERE"]))
         page.waits(lambda: page.texts("#source .fault .why") == ["column 7: Undefined"])
-        self.assertEqual(page.console(), "AssemblyError: 2:7 Undefined\n")
+        page.prints("AssemblyError: 2:7 Undefined\n")
         page.run_cell(HELLO)
         page.waits(lambda: page.console().endswith("hello, world\n"))
         self.assertEqual(page.text("#fault"), "")
