@@ -1,10 +1,9 @@
--- A set of addresses as words of 64 bits: the lowest bit of the first is for address 0.
-use Rattle.std.specs.Prelude.{◌≡◌, ℕ, List, Bool, ◌/◌, ◌%◌, ◌==◌, slice_index}
-use Rattle.std.specs.Int.{bit_at}
+-- A set of addresses, as a truth value for each.
+use Rattle.std.specs.Prelude.{◌≡◌, ℕ, List, Bool, false, slice_index_or}
 
-abbrev pub has : List ℕ → ℕ → Bool
-has words address = bit_at (slice_index words (address / 64)) (address % 64) == 1
+abbrev pub has : List Bool → ℕ → Bool
+has members address = slice_index_or members address false
 
--- no word has a bit
-abbrev pub AreZero : List ℕ → Type 0
-AreZero words = (place : ℕ) → slice_index words place ≡ 0
+-- none is in it
+abbrev pub IsEmpty : List Bool → Type 0
+IsEmpty members = (address : ℕ) → has members address ≡ false

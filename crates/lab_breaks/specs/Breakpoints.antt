@@ -39,13 +39,13 @@ is_met lists loads address = is_met_by lists (origin_of loads address)
 
 -- ---- what is kept
 
--- what a contract sees of the breakpoints: the lists, and the addresses as words of 64 bits
+-- what a contract sees of the breakpoints: the lists, and whether each address is set
 pub record BreakpointState : Type 0 where
   pub lists : List BreakpointList
-  pub words : List ℕ
+  pub members : List Bool
 
 abbrev pub is_set : BreakpointState → ℕ → Bool
-is_set state address = has state.words address
+is_set state address = has state.members address
 
 -- one of these is that address, and its line has a breakpoint
 abbrev pub is_met_among : List BreakpointList → List MappedAddress → ℕ → Bool

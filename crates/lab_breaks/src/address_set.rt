@@ -1,27 +1,28 @@
 //! A set of addresses.
 ghost use Rattle.std.specs.Prelude.{◌≡◌, ◌==◌, ◌||◌, ℕ, false, length, IfOk};
-ghost use Rattle.lab_breaks.specs.Addresses.{AreZero};
+ghost use Rattle.lab_breaks.specs.Addresses.{IsEmpty};
 
 use std::alloc::{AllocError, Global};
 use std::marker::Model;
 
-/// How many words have a bit for each address.
-const WORD_COUNT: usize = 1024;
+/// How many addresses there are.
+const ADDRESS_COUNT: usize = 65_536;
 
-/// A set of addresses, as a bit for each. It is seen as the words of 64 bits.
+/// A set of addresses: whether each is in it. One byte for each is looked up faster than one bit, which matters since
+/// a slice looks after each step.
 #[derive(Drop)]
 pub(crate) struct AddressSet {
-    words: Vec<u64>,
+    members: Vec<bool>,
 }
 
 impl Model for AddressSet {
-    ghost use Rattle.std.specs.Prelude.{◌≡◌, List, ℕ, length};
+    ghost use Rattle.std.specs.Prelude.{◌≡◌, List, Bool, length};
 
-    ghost Value = { List ℕ };
+    ghost Value = { List Bool };
 
-    ghost view = { λ s. s.words.items };
+    ghost view = { λ s. s.members.items };
 
-    ghost invariant = { λ s. length s.words.items ≡ 1024 };
+    ghost invariant = { λ s. length s.members.items ≡ 65536 };
 }
 
 impl AddressSet {
@@ -31,45 +32,44 @@ impl AddressSet {
     pub(crate) fn new(alloc: Global) -> Result<AddressSet, AllocError>
         ensures { IfOk result (λ set. (a : ℕ) → has set a ≡ false) }
     {
-        let words = zeros(alloc, WORD_COUNT)?;
-        Ok(AddressSet { words })
+        let members = none(alloc, ADDRESS_COUNT)?;
+        Ok(AddressSet { members })
     }
 
     /// Whether an address is in the set.
-    #[inline]
+    #[inline(always)]
     pub(crate) fn contains(&self, address: u16) -> bool
         ensures { result ≡ has self.now address }
     {
-        let word = self.words[usize::from(address / 64)];
-        word >> (address % 64) & 1 == 1
+        self.members[usize::from(address)]
     }
 
     /// Adds an address.
     pub(crate) fn insert(&mut self, address: u16)
         ensures { (a : ℕ) → has self.new a ≡ (has self.old a || address == a) }
     {
-        self.words[usize::from(address / 64)] |= 1 << (address % 64);
+        self.members[usize::from(address)] = true;
     }
 
     /// Takes out each address.
     pub(crate) fn clear(&mut self)
         ensures { (a : ℕ) → has self.new a ≡ false }
     {
-        clear_words(&mut self.words);
+        take_out(&mut self.members);
     }
 }
 
-// So many words without a bit.
-fn zeros(alloc: Global, count: usize) -> Result<Vec<u64>, AllocError>
-    ensures count { IfOk result (λ words. length words.items ≡ count) }
-    ensures zero { IfOk result (λ words. AreZero words.items) }
+// A set of so many addresses, with none in it.
+fn none(alloc: Global, count: usize) -> Result<Vec<bool>, AllocError>
+    ensures count { IfOk result (λ members. length members.items ≡ count) }
+    ensures empty { IfOk result (λ members. IsEmpty members.items) }
 {
-    vec![in alloc; 0; count]
+    vec![in alloc; false; count]
 }
 
-// Clears each bit.
-fn clear_words(words: &mut [u64])
-    ensures { AreZero words.new }
+// Takes out each.
+fn take_out(members: &mut [bool])
+    ensures { IsEmpty members.new }
 {
-    words.fill(0);
+    members.fill(false);
 }

@@ -28,7 +28,7 @@ impl Model for Breakpoints {
 
     ghost Value = { BreakpointState };
 
-    ghost view = { λ b. record { lists = b.lists.items; words = b.addresses } };
+    ghost view = { λ b. record { lists = b.lists.items; members = b.addresses } };
 }
 
 impl Breakpoints {
