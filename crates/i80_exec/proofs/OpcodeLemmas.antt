@@ -12,7 +12,7 @@ use Rattle.i80_exec.specs.declared.registers.Stepped.TheVariants.{Halted}
 use Rattle.i80_exec.specs.declared.registers.Interrupts.{Interrupts}
 use Rattle.i80_exec.specs.State.{MachineState, wrapped, with_pc, with_interrupts, get, put}
 use Rattle.i80_exec.specs.Effect.{Outcome, done, operated, to_reg}
-use Rattle.i80_exec.specs.Step.{by_opcode, interrupts_after}
+use Rattle.i80_exec.specs.Step.{by_row, interrupts_after}
 use Rattle.i80_exec.specs.Opcodes.{reg_at, operation_at}
 
 -- the machine with PC past an instruction of one byte, and arming ended
@@ -29,7 +29,7 @@ abbrev moved : ℕ → MachineState → Outcome
 moved opcode m = cond (opcode == 118) (halted m) (does_move opcode m)
 
 moves : (input : ℕ → ℕ) (m : MachineState)
-    → table (λ k. by_opcode (k + 64) input m) 64 ≡ table (λ k. moved (k + 64) m) 64
+    → table (λ k. by_row (row (k + 64)) input m) 64 ≡ table (λ k. moved (k + 64) m) 64
 unfolding row
 moves input m = refl
 
@@ -38,7 +38,7 @@ computed opcode m =
     done (operated (operation_at (opcode / 8 % 8)) (past m) (get (past m) (reg_at (opcode % 8))))
 
 computes : (input : ℕ → ℕ) (m : MachineState)
-    → table (λ k. by_opcode (k + 128) input m) 64 ≡ table (λ k. computed (k + 128) m) 64
+    → table (λ k. by_row (row (k + 128)) input m) 64 ≡ table (λ k. computed (k + 128) m) 64
 unfolding row
 computes input m = refl
 
@@ -52,9 +52,9 @@ from_first f g first opcode same low high =
     (omega arith))
 
 move_or_halt : (opcode : ℕ) (input : ℕ → ℕ) (m : MachineState) → 64 ≤ opcode → opcode < 128
-    → by_opcode opcode input m ≡ moved opcode m
+    → by_row (row opcode) input m ≡ moved opcode m
 move_or_halt opcode input m low high =
-    from_first (λ n. by_opcode n input m) (λ n. moved n m) 64 opcode (moves input m) low high
+    from_first (λ n. by_row (row n) input m) (λ n. moved n m) 64 opcode (moves input m) low high
 
 not_halt : (opcode : ℕ) → (opcode ≡ 118 → ⊥) → (opcode == 118) ≡ false
 not_halt opcode other = grind (arith, nat_tests)
@@ -64,22 +64,22 @@ is_halt opcode same = grind (arith, nat_tests)
 
 pub move_row : (opcode : ℕ) (input : ℕ → ℕ) (m : MachineState) → 64 ≤ opcode → opcode < 128
     → (opcode ≡ 118 → ⊥)
-    → by_opcode opcode input m
+    → by_row (row opcode) input m
     ≡ done (put (past m) (reg_at (opcode / 8 % 8)) (get (past m) (reg_at (opcode % 8))))
 move_row opcode input m low high other =
     move_or_halt opcode input m low high ∙ ap (λ b. cond b (halted m) (does_move opcode m))
     (not_halt opcode other)
 
 pub halt_row : (opcode : ℕ) (input : ℕ → ℕ) (m : MachineState) → 64 ≤ opcode → opcode < 128 → opcode ≡ 118
-    → by_opcode opcode input m ≡ halted m
+    → by_row (row opcode) input m ≡ halted m
 halt_row opcode input m low high same =
     move_or_halt opcode input m low high ∙ ap (λ b. cond b (halted m) (does_move opcode m))
     (is_halt opcode same)
 
 pub compute_row : (opcode : ℕ) (input : ℕ → ℕ) (m : MachineState) → 128 ≤ opcode → opcode < 192
-    → by_opcode opcode input m ≡ computed opcode m
+    → by_row (row opcode) input m ≡ computed opcode m
 compute_row opcode input m low high =
-    from_first (λ n. by_opcode n input m) (λ n. computed n m) 128 opcode (computes input m) low high
+    from_first (λ n. by_row (row n) input m) (λ n. computed n m) 128 opcode (computes input m) low high
 
 -- whether the interrupt state is set before DCR or after it is the same
 pub decremented : (m : MachineState) (i : Interrupts) (r : Reg)

@@ -17,7 +17,7 @@ use Rattle.std.specs.Prelude.{
   None,
 }
 use Rattle.i80_rows.specs.declared.instruction.Instr.{Instr}
-use Rattle.i80_rows.specs.declared.instruction.Instr.TheVariants.{Di, Ei}
+use Rattle.i80_rows.specs.declared.instruction.Instr.TheVariants.{Nop, Di, Ei}
 use Rattle.i80_rows.specs.Rows.{Row, Undefined, Alone, Byte, Word}
 use Rattle.i80_rows.specs.AliasRows.{row_on}
 use Rattle.i80_exec.specs.declared.registers.Stepped.{Stepped}
@@ -37,12 +37,27 @@ is_halt _ = false
 
 -- What a step of this kind answered, which left the machine so: a call leaves SP at its slot and PC at its target, a
 -- return SP two above its slot, and an undefined opcode changes nothing.
-abbrev pub told : Kind → MachineState → Stepped
-told kind.Done m = stepped.Done
-told kind.Called m = stepped.Called m.regs.sp m.regs.pc
-told kind.Returned m = stepped.Returned (wrapped (m.regs.sp + 65534))
-told kind.Halted m = stepped.Halted
-told kind.Undefined m = stepped.Undefined (byte_at m m.regs.pc)
+abbrev pub answer_of : Kind → MachineState → Stepped
+answer_of kind.Quiet m = stepped.Done
+answer_of kind.Moved m = stepped.Done
+answer_of kind.Armed m = stepped.Done
+answer_of kind.Called m = stepped.Called m.regs.sp m.regs.pc
+answer_of kind.Returned m = stepped.Returned (wrapped (m.regs.sp + 65534))
+answer_of kind.Halted m = stepped.Halted
+answer_of kind.Undefined m = stepped.Undefined (byte_at m m.regs.pc)
+
+-- whether EI was the last instruction
+abbrev pub is_arming : Interrupts → Bool
+is_arming Arming = true
+is_arming Off = false
+is_arming On = false
+
+-- what else a kind says of a step: a quiet one leaves SP as it was, and EI alone leaves arming
+abbrev pub Settles : Kind → MachineState → MachineState → Type 0
+Settles kind.Quiet before after =
+    (after.regs.sp ≡ before.regs.sp) × (is_arming after.regs.interrupts ≡ false)
+Settles kind.Armed before after = Unit {0}
+Settles _ before after = is_arming after.regs.interrupts ≡ false
 
 -- the interrupt state after an instruction that began in one: EI leaves arming, DI leaves off,
 -- and any other instruction that began in arming ends in on
@@ -55,6 +70,15 @@ interrupts_after i On = On
 
 abbrev pub with_interrupts_after : Instr → Interrupts → Outcome → Outcome
 with_interrupts_after i began o = record o { after = with_interrupts o.after (interrupts_after i began) }
+
+-- a machine whose interrupts are on where EI was its last instruction
+abbrev pub settled : MachineState → MachineState
+settled m = with_interrupts m (interrupts_after Nop m.regs.interrupts)
+
+-- an undefined opcode leaves arming as it was
+abbrev pub armed_again : Stepped → MachineState → MachineState
+armed_again (stepped.Undefined opcode) m = with_interrupts m Arming
+armed_again answer m = m
 
 -- an instruction of this length: PC is set past it, its effect comes, then the interrupt state
 abbrev pub executed : Instr → ℕ → (ℕ → ℕ) → MachineState → Outcome

@@ -14,6 +14,8 @@ ghost use Rattle.std.specs.Prelude.{
   IfNone,
   Some,
   None,
+  true,
+  false,
 };
 ghost use Rattle.i80_rows.specs.declared.arithmetic.AluResult.{AluResult};
 ghost use Rattle.i80_rows.specs.declared.instruction.Instr.TheVariants.{Xthl};
@@ -51,9 +53,13 @@ ghost use Rattle.i80_exec.specs.Step.{
   acceptance,
   operation_list,
   state_after,
-  told,
+  answer_of,
+  is_arming,
+  settled,
+  armed_again,
   IsOutcome,
   Performs,
+  Settles,
 };
 
 mod opcodes;
@@ -138,7 +144,31 @@ impl Machine {
         self.regs
     }
 
-    /// Sets them.
+    /// The address of the next instruction.
+    #[inline(always)]
+    pub fn pc(&self) -> u16
+        ensures { result ≡ self.now.regs.pc }
+    {
+        self.regs.pc
+    }
+
+    /// The stack pointer.
+    #[inline(always)]
+    pub fn sp(&self) -> u16
+        ensures { result ≡ self.now.regs.sp }
+    {
+        self.regs.sp
+    }
+
+    /// Whether EI was the last instruction.
+    #[inline(always)]
+    pub fn is_arming(&self) -> bool
+        ensures { result ≡ is_arming self.now.regs.interrupts }
+    {
+        matches!(self.regs.interrupts, Interrupts::Arming)
+    }
+
+    /// Sets the registers, the flags and the interrupt state.
     pub fn set_regs(&mut self, regs: Registers)
         ensures { self.new ≡ with_regs self.old regs }
     {
@@ -190,7 +220,7 @@ impl Machine {
             Interrupts::On => {
                 self.regs.interrupts = Interrupts::Off;
                 let kind = self.call(8 * vector as u16);
-                Some(self.told(kind))
+                Some(self.report(kind))
             }
             _ => None,
         }
@@ -209,18 +239,37 @@ impl Machine {
             + length (operation_list (instruction (P.answer (P.state ports.old)) self.old).operation)
             ≡ P.spare ports.old }
     {
+        let was_arming = self.settle();
+        let kind = self.step_settled(ports);
+        let answer = self.report(kind);
+        if was_arming {
+            self.arm_again(answer);
+        }
+        answer
+    }
+
+    /// The same where EI wasn't the last instruction, told by its kind: so a loop of steps needn't look whether it was.
+    #[inline(always)]
+    pub fn step_settled<P: Ports>(&mut self, ports: &mut P) -> Kind
+        requires settled { is_arming self.old.regs.interrupts ≡ false }
+        requires spare { 1 ≤ P.spare ports.old }
+        ensures outcome { let outcome = instruction (P.answer (P.state ports.old)) self.old in
+            IsOutcome outcome self.new (answer_of result self.new)
+            × Performs outcome.operation P.after (P.operations ports.old) (P.operations ports.new)
+            (P.state ports.old) (P.state ports.new) (P.spare ports.old) (P.spare ports.new) }
+        ensures settles { Settles result self.old self.new }
+    {
         let opcode = self.peek(self.regs.pc);
-        let kind = self.step_opcode(opcode, ports);
-        self.told(kind)
+        self.step_opcode(opcode, ports)
     }
 
     /// What a step of this kind answers, which left the machine so.
     #[inline(always)]
-    fn told(&self, kind: Kind) -> Stepped
-        ensures { result ≡ told kind self.now }
+    pub fn report(&self, kind: Kind) -> Stepped
+        ensures { result ≡ answer_of kind self.now }
     {
         match kind {
-            Kind::Done => Stepped::Done,
+            Kind::Quiet | Kind::Moved | Kind::Armed => Stepped::Done,
             Kind::Called => Stepped::Called {
                 slot: self.regs.sp,
                 target: self.regs.pc,
@@ -232,6 +281,29 @@ impl Machine {
             Kind::Undefined => Stepped::Undefined {
                 opcode: self.peek(self.regs.pc),
             },
+        }
+    }
+
+    // Turns interrupts on where EI was the last instruction, as the one after it does. Whether it was.
+    #[inline(always)]
+    fn settle(&mut self) -> bool
+        ensures settled { self.new ≡ settled self.old }
+        ensures was { result ≡ is_arming self.old.regs.interrupts }
+    {
+        let was_arming = self.is_arming();
+        if was_arming {
+            self.regs.interrupts = Interrupts::On;
+        }
+        was_arming
+    }
+
+    // An undefined opcode changes nothing, arming neither.
+    #[inline(always)]
+    fn arm_again(&mut self, answer: Stepped)
+        ensures { self.new ≡ armed_again answer self.old }
+    {
+        if let Stepped::Undefined { .. } = answer {
+            self.regs.interrupts = Interrupts::Arming;
         }
     }
 
@@ -396,7 +468,7 @@ impl Machine {
     #[inline]
     fn call(&mut self, target: u16) -> Kind
         ensures after { self.new ≡ (called self.old target).after }
-        ensures answer { told result self.new ≡ (called self.old target).answer }
+        ensures answer { answer_of result self.new ≡ (called self.old target).answer }
     {
         self.push_word(self.regs.pc);
         self.jump(target);
@@ -406,7 +478,7 @@ impl Machine {
     #[inline]
     fn ret(&mut self) -> Kind
         ensures after { self.new ≡ (returned self.old).after }
-        ensures answer { told result self.new ≡ (returned self.old).answer }
+        ensures answer { answer_of result self.new ≡ (returned self.old).answer }
     {
         // It is read, so that it is known to be an address: two below SP after the pop.
         let _slot = self.regs.sp;

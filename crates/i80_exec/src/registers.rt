@@ -41,10 +41,16 @@ pub enum Stepped {
     Undefined { opcode: u8 },
 }
 
-/// The same without what the machine tells after the step, so that it is one byte.
+/// What a step did, in one byte: less than `Stepped` where the machine tells the rest, and more for a loop of steps, which
+/// needn't look again after a quiet one.
 #[derive(Clone, Copy, PartialEq, Eq)]
 pub enum Kind {
-    Done,
+    /// Done, with SP as it was.
+    Quiet,
+    /// Done; SP may be another.
+    Moved,
+    /// EI.
+    Armed,
     Called,
     Returned,
     Halted,

@@ -1,6 +1,6 @@
 -- Quiet steps, and what can come beside them.
 use Rattle.std.proofs.Common.{◌≡◌, ℕ, List, [], ◌∷◌, ◌++◌, Bool, true, false, Option, Some, None, length}
-use Rattle.std.proofs.Common.{refl, sym, ap, ◌∙◌, subst, drop, ◌==◌}
+use Rattle.std.proofs.Common.{refl, sym, ap, ◌∙◌, subst, drop, ◌==◌, ◌⊎◌, inl, inr}
 use Rattle.std.proofs.lemmas.Bool.{cond_both}
 use Rattle.std.specs.Option.{option_or, IsSome}
 use Rattle.i80_exec.specs.declared.registers.Stepped.{Stepped}
@@ -8,12 +8,15 @@ use Rattle.i80_exec.specs.declared.registers.Stepped.TheVariants.{Done}
 use Rattle.i80_exec.specs.declared.ports.PortOperation.{PortOperation}
 use Rattle.i80_exec.specs.declared.ports.PortOperation.TheVariants.{In, Out}
 use Rattle.i80_exec.specs.State.{MachineState}
-use Rattle.i80_exec.specs.Step.{operation_list, state_after, is_halt}
+use Rattle.i80_exec.specs.declared.registers.Kind.{Kind}
+use Rattle.i80_exec.specs.declared.registers.Kind.TheVariants as kind
+use Rattle.i80_exec.specs.Step.{operation_list, state_after, is_halt, answer_of, is_arming, Settles}
 use Rattle.i80_devs.specs.Past.{Operation, Port, Typed, Switches, Press, PanelState, DeviceState, after, panel_after}
+use Rattle.i80_devs.specs.Past.{StandsFor as DevicesStandFor}
 use Rattle.lab_frames.specs.Frames.{Advances, AtLeast, LeavesOldest, TellsSp}
 use Rattle.lab_frames.proofs.FrameLemmas.{quiet-advances, quiet-oldest}
 use Rattle.lab_core.specs.declared.event.StepRequest.{StepRequest}
-use Rattle.lab_core.specs.Board.{Board, next_change, stepped}
+use Rattle.lab_core.specs.Board.{Board, accepted, acceptance_of, next_change, stepped}
 use Rattle.lab_core.specs.Stops.{at_breakpoint, completes}
 use Rattle.lab_core.specs.Slices.{ends_in_halt, reason_apart}
 use Rattle.lab_core.specs.Steps.{IsBoardStep}
@@ -56,6 +59,13 @@ stays_unlatched p (Some (In port byte)) =
     (λ _. refl)
 stays_unlatched p (Some (Out port byte)) =
     cond_both (port == 2) (record p { lamps = byte }) p (λ q. q.latched ≡ p.latched) (λ _. refl) (λ _. refl)
+
+-- where none is latched none is accepted
+pub unlatched_accepts_none : (m : MachineState) (d : DeviceState) (past : List Operation) → DevicesStandFor d past
+    → d.panel.latched ≡ None → accepted m past ≡ None
+unlatched_accepts_none m d past stands unlatched =
+    let latched : (panel_after past).latched ≡ None = ap (λ (p : PanelState). p.latched) (sym stands) ∙ unlatched in
+    ap (λ l. acceptance_of l m) latched
 
 -- ---- reasons
 
@@ -105,3 +115,17 @@ stands_quiet old b traffic machine devices answer s did tells goes_on has_moved 
       older = λ asked. (let no : IsSome {T = StepRequest} None = rw unasked at asked in cc);
       gone = λ asked. (let no : IsSome {T = StepRequest} None = rw unasked at asked in cc);
     })
+
+-- ---- the kinds of quiet steps
+
+pub quiet_done : (k : Kind) (m : MachineState) → (k ≡ kind.Quiet) ⊎ (k ≡ kind.Moved) → answer_of k m ≡ Done
+quiet_done k m (inl quiet) = rw quiet refl
+quiet_done k m (inr moved) = rw moved refl
+
+pub quiet_settled : (k : Kind) (m m' : MachineState) → (k ≡ kind.Quiet) ⊎ (k ≡ kind.Moved) → Settles k m m'
+    → is_arming m'.regs.interrupts ≡ false
+quiet_settled k m m' (inl quiet) settles = let s = rw quiet at settles in s.1
+quiet_settled k m m' (inr moved) settles = rw moved at settles
+
+pub quiet_keeps_sp : (k : Kind) (m m' : MachineState) → k ≡ kind.Quiet → Settles k m m' → m'.regs.sp ≡ m.regs.sp
+quiet_keeps_sp k m m' quiet settles = let s = rw quiet at settles in s.0

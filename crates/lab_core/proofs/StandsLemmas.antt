@@ -31,7 +31,8 @@ use Rattle.lab_core.specs.Slices.{ends_in_halt, halts, undefined}
 use Rattle.lab_core.specs.Events.{going_on, changed_to}
 use Rattle.lab_core.specs.Steps.{IsBoardStep}
 use Rattle.lab_core.specs.Labs.{LabState, StandsAmid, StandsFor, Follows}
-use Rattle.lab_core.proofs.UndefinedLemmas.{IsDefined, defined, no_step, some_step}
+use Rattle.i80_exec.proofs.UndefinedLemmas.{IsDefined}
+use Rattle.lab_core.proofs.UndefinedLemmas.{defined, no_step, some_step}
 
 -- ---- lists of steps, one step on
 

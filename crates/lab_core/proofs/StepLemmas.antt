@@ -1,6 +1,6 @@
 -- A board step, told by the past of the devices.
 use Rattle.std.proofs.Common.{◌≡◌, List, ◌++◌, ◌∷◌, [], map, Option, Some, None, append-nil, sym, ap, ◌∙◌}
-use Rattle.std.proofs.Common.{subst}
+use Rattle.std.proofs.Common.{subst, length, ◌≤◌, arith}
 use Rattle.i80_exec.specs.declared.registers.Stepped.{Stepped}
 use Rattle.i80_exec.specs.declared.ports.PortOperation.{PortOperation}
 use Rattle.i80_exec.specs.State.{MachineState}
@@ -10,6 +10,11 @@ use Rattle.i80_devs.specs.Past.{Operation, Port, DeviceState, StandsFor, answer,
 use Rattle.i80_devs.specs.Past.{panel_next}
 use Rattle.lab_core.specs.Board.{accepted, or_instruction, taken_or_done}
 use Rattle.lab_core.specs.Steps.{IsBoardStep}
+
+-- a step does one port operation at most
+pub few_operations : (o : Option PortOperation) → length (operation_list o) ≤ 1
+few_operations None = omega arith
+few_operations (Some p) = omega arith
 
 -- what one more operation makes of the panel
 abbrev PanelLaw : Type 0

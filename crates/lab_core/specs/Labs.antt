@@ -1,10 +1,11 @@
 -- Which boards a lab stands for.
-use Rattle.std.specs.Prelude.{◌≡◌, ◌≢◌, ◌<◌, ◌≤◌, ℕ, List, [], ◌++◌, length, Bool, true, false, Option, None}
+use Rattle.std.specs.Prelude.{◌≡◌, ◌≢◌, ◌<◌, ◌≤◌, ℕ, List, [], ◌++◌, length, Bool, true, false, Option, Some, None}
 use Rattle.std.specs.Prelude.{IsSome, is_some, unwrap_or, Result, Ok, Err}
 use Rattle.std.specs.List.{filter}
+use Rattle.std.specs.Option.{IfSome}
 use Rattle.i80_exec.specs.State.{MachineState}
 use Rattle.i80_exec.specs.declared.ports.PortOperation.{PortOperation}
-use Rattle.i80_exec.specs.Step.{operation_list}
+use Rattle.i80_exec.specs.Step.{operation_list, is_arming}
 use Rattle.i80_devs.specs.Past as devices
 use Rattle.asm_build.specs.Reading.{Entries}
 use Rattle.lab_frames.specs.declared.frame.Frame.{Frame}
@@ -25,7 +26,10 @@ use Rattle.lab_core.specs.declared.fault.EventFault.{EventFault}
 use Rattle.lab_core.specs.declared.fault.EventFault.TheVariants.{OutOfMemory}
 use Rattle.lab_core.specs.Board.{Board, next_change, stepped}
 use Rattle.lab_core.specs.Stops.{since, earlier, has_step, innermost, is_gone}
-use Rattle.lab_core.specs.Slices.{ends_in_halt}
+use Rattle.lab_core.specs.Slices.{ends_in_halt, reason, after_steps, traffic_of}
+use Rattle.lab_core.specs.declared.answer.SliceOutcome.{SliceOutcome}
+use Rattle.lab_core.specs.declared.lab.burst.BurstStep.{BurstStep}
+use Rattle.lab_core.specs.declared.lab.burst.BurstStep.TheVariants.{Quiet, Followed, Ended}
 use Rattle.lab_core.specs.Events.{Applies, Runs}
 
 -- what a contract sees of a lab
@@ -131,7 +135,7 @@ KeepsIn machine context machine' context' =
 abbrev pub FindsIn : {A : Type 0} → (Board → A) → A → MachineState → Context → Type 0
 FindsIn f found machine context = (lab : LabState) → Finds f found (amid lab machine context)
 
--- ---- quiet steps
+-- ---- bursts of quiet steps
 
 -- Nothing can come but a breakpoint or an undefined opcode: the last step wasn't HLT, one was made since the last
 -- Resume or Step, no Step is wanting, and no request is latched.
@@ -141,11 +145,33 @@ pub record IsCalm (context : Context) : Type 0 where
   pub unasked : context.request ≡ None
   pub unlatched : context.devices.panel.latched ≡ None
 
--- A step that answers Done and leaves SP below this is quiet: it changes nothing but machine and devices. Where it is
--- 0, no step is.
-pub record Reaches (reach : ℕ) (context : Context) : Type 0 where
-  pub calm : 1 ≤ reach → IsCalm context
+-- It is calm, EI wasn't the last instruction, and SP is within the reach of the live frames: a step that answers Done
+-- and leaves SP there is quiet, and changes nothing but machine and devices.
+pub record IsInBurst (reach : ℕ) (machine : MachineState) (context : Context) : Type 0 where
+  pub calm : IsCalm context
+  pub settled : is_arming machine.regs.interrupts ≡ false
+  pub within : machine.regs.sp < reach
   pub above : (sp : ℕ) → sp < reach → AtLeast sp context.frames
+
+-- what a step of a burst ended the run with, if it did
+abbrev pub ending_of : BurstStep → Option SliceOutcome
+ending_of Quiet = None
+ending_of Followed = None
+ending_of (Ended outcome) = Some outcome
+
+-- The lab stands for the board after so many steps. No reason stood before any of them, and if one was found after
+-- them, it is the first that stands there.
+pub record Makes (made : ℕ) (found : Option SliceOutcome) (b : Board) (traffic : List PortOperation)
+    (lab : LabState) : Type 0 where
+  pub stands : StandsAmid lab (after_steps made b) (traffic ++ traffic_of made b)
+  pub none_before : (j : ℕ) → j < made → reason (after_steps j b) ≡ None
+  pub found_is : IfSome found (λ outcome. reason (after_steps made b) ≡ Some outcome)
+
+-- so from whatever board it stood for
+abbrev pub MakesIn : ℕ → Option SliceOutcome → MachineState → Context → MachineState → Context → Type 0
+MakesIn made found machine context machine' context' =
+    (lab : LabState) (b : Board) (traffic : List PortOperation) → StandsAmid (amid lab machine context) b traffic
+    → Makes made found b traffic (amid lab machine' context')
 
 -- ---- events
 

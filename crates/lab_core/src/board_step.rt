@@ -1,54 +1,47 @@
 //! One step of the board.
-ghost use Rattle.std.specs.Prelude.{◌≡◌, ◌+◌, ◌≤◌, List, IfSome, IfNone, None, true};
+ghost use Rattle.std.specs.Prelude.{◌≡◌, ◌+◌, ◌≤◌, List, IfSome, IfNone, None, false};
+ghost use Rattle.i80_exec.specs.Step.{answer_of, is_arming, Settles};
 ghost use Rattle.i80_devs.specs.Past.{Operation, StandsFor, Taken, Appends, SamePorts};
 ghost use Rattle.lab_frames.specs.Frames.{TellsSp};
 ghost use Rattle.lab_core.specs.Board.{accepted};
 ghost use Rattle.lab_core.specs.Steps.{IsBoardStep};
 
-use crate::seldom::seldom;
 use i80_devs::devices::Devices;
 use i80_devs::laws::panel_after_one_more;
 use i80_exec::machine::Machine;
-use i80_exec::registers::Stepped;
+use i80_exec::registers::{Kind, Stepped};
 
-/// The acceptance of the latched request, or else the instruction at PC. Where it is known that none is latched,
-/// none is looked for.
+/// The acceptance of the latched request, or else the instruction at PC.
 #[inline(always)]
-pub fn board_step(machine: &mut Machine, devices: &mut Devices, is_calm: bool) -> Stepped
+pub fn board_step(machine: &mut Machine, devices: &mut Devices) -> Stepped
     requires room { 1 ≤ devices.old.spare }
-    requires calm { is_calm ≡ true → devices.old.panel.latched ≡ None }
     ensures step { (past : List Operation) → StandsFor devices.old past
         → IsBoardStep past machine.old devices.old machine.new devices.new result }
     ensures sp { TellsSp result machine.old.regs.sp machine.new.regs.sp }
     ensures spare { devices.old.spare ≤ devices.new.spare + 1 }
-    ensures calm { is_calm ≡ true → devices.new.panel.latched ≡ None }
 {
     panel_after_one_more();
-    match accept_unless(is_calm, machine, devices) {
-        Some(answer) => {
-            seldom();
-            answer
-        }
+    match accept(machine, devices) {
+        Some(answer) => answer,
         None => machine.step(devices),
     }
 }
 
+/// The same where no request is latched and EI wasn't the last instruction, told by its kind.
 #[inline(always)]
-fn accept_unless(is_calm: bool, machine: &mut Machine, devices: &mut Devices) -> Option<Stepped>
-    requires calm { is_calm ≡ true → devices.old.panel.latched ≡ None }
-    ensures taken { IfSome result (λ answer. (past : List Operation) → StandsFor devices.old past
-        → IsBoardStep past machine.old devices.old machine.new devices.new answer) }
-    ensures sp { IfSome result (λ answer. TellsSp answer machine.old.regs.sp machine.new.regs.sp) }
-    ensures none { IfNone result ((past : List Operation) → StandsFor devices.old past
-        → accepted machine.old past ≡ None) }
-    ensures unchanged { IfNone result ((machine.new ≡ machine.old) × (devices.new ≡ devices.old)) }
-    ensures spare { devices.new.spare ≡ devices.old.spare }
-    ensures calm { is_calm ≡ true → result ≡ None }
+pub fn settled_step(machine: &mut Machine, devices: &mut Devices) -> Kind
+    requires room { 1 ≤ devices.old.spare }
+    requires settled { is_arming machine.old.regs.interrupts ≡ false }
+    requires unlatched { devices.old.panel.latched ≡ None }
+    ensures step { (past : List Operation) → StandsFor devices.old past
+        → IsBoardStep past machine.old devices.old machine.new devices.new (answer_of result machine.new) }
+    ensures sp { TellsSp (answer_of result machine.new) machine.old.regs.sp machine.new.regs.sp }
+    ensures settles { Settles result machine.old machine.new }
+    ensures spare { devices.old.spare ≤ devices.new.spare + 1 }
+    ensures unlatched { devices.new.panel.latched ≡ None }
 {
-    if is_calm {
-        return None;
-    }
-    accept(machine, devices)
+    panel_after_one_more();
+    machine.step_settled(devices)
 }
 
 /// Accepts the latched request, if there is one and interrupts are on.

@@ -1,6 +1,7 @@
 //! The laboratory.
 ghost use Rattle.std.specs.Prelude.{◌≡◌, [], IfOk};
 
+mod burst;
 mod debug;
 mod events;
 mod load;

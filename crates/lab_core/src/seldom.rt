@@ -4,4 +4,4 @@
 /// it makes part of the loop.
 #[cold]
 #[inline(never)]
-pub fn seldom() {}
+pub(crate) fn seldom() {}

@@ -1,7 +1,7 @@
 //! The 256 opcodes: one arm each, with its registers written into it.
-ghost use Rattle.std.specs.Prelude.{◌≡◌, ◌≢◌, ◌+◌, ◌*◌, ◌<◌, ◌≤◌, ◌⊎◌, None};
-ghost use Rattle.i80_rows.specs.Rows.{Alone, Byte, Word};
-ghost use Rattle.i80_rows.specs.AliasRows.{acts, undefined_on};
+ghost use Rattle.std.specs.Prelude.{◌≡◌, ◌≢◌, ◌+◌, ◌*◌, ◌<◌, ◌≤◌, ◌⊎◌, None, true, false};
+ghost use Rattle.i80_rows.specs.Rows.{row, is_undefined, Alone, Byte, Word};
+ghost use Rattle.i80_rows.specs.AliasRows.{acts, alias_row};
 ghost use Rattle.i80_rows.specs.declared.instruction.Instr.TheVariants.{
   Nop,
   Lxi,
@@ -15,9 +15,6 @@ ghost use Rattle.i80_rows.specs.declared.instruction.Instr.TheVariants.{
   AluImmediate,
   JumpIf,
   CallIf,
-  Jmp,
-  Call,
-  Ret,
   RetIf,
   Push,
   Pop,
@@ -39,10 +36,12 @@ ghost use Rattle.i80_exec.specs.Step.{
   by_row,
   by_opcode,
   interrupts_after,
-  told,
+  answer_of,
+  is_arming,
   IsOutcome,
   IsWithoutPort,
   Performs,
+  Settles,
 };
 
 use crate::machine::Machine;
@@ -53,81 +52,81 @@ use i80_rows::board::Board;
 use i80_rows::instruction::{Cond, Operation, Pair, Reg, Rotation, StackPair};
 
 macro_rules! arm {
-    (nop $m:ident $opcode:ident) => {{ $m.advance(1); Kind::Done }};
-    (alias_nop $m:ident $opcode:ident) => {{ $m.alias_nop() }};
-    (alias_jmp $m:ident $opcode:ident) => {{ $m.alias_jmp() }};
-    (alias_ret $m:ident $opcode:ident) => {{ $m.alias_ret() }};
-    (alias_call $m:ident $opcode:ident) => {{ $m.alias_call() }};
+    (nop $m:ident $opcode:ident) => {{ $m.advance(1); Kind::Quiet }};
+    (undefined $m:ident $opcode:ident) => {{ Kind::Undefined }};
     (immediate $m:ident $opcode:ident, $operation:ident) => {{
         $m.immediate(Operation::$operation);
-        Kind::Done
+        Kind::Quiet
     }};
-    (mvi $m:ident $opcode:ident, $reg:ident) => {{ $m.mvi(Reg::$reg); Kind::Done }};
-    (inr $m:ident $opcode:ident, $reg:ident) => {{ $m.inr(Reg::$reg); Kind::Done }};
-    (dcr $m:ident $opcode:ident, $reg:ident) => {{ $m.dcr(Reg::$reg); Kind::Done }};
-    (lxi $m:ident $opcode:ident, $pair:ident) => {{ $m.lxi(Pair::$pair); Kind::Done }};
-    (inx $m:ident $opcode:ident, $pair:ident) => {{ $m.inx(Pair::$pair); Kind::Done }};
-    (dcx $m:ident $opcode:ident, $pair:ident) => {{ $m.dcx(Pair::$pair); Kind::Done }};
-    (dad $m:ident $opcode:ident, $pair:ident) => {{ $m.dad(Pair::$pair); Kind::Done }};
+    (mvi $m:ident $opcode:ident, $reg:ident) => {{ $m.mvi(Reg::$reg); Kind::Quiet }};
+    (inr $m:ident $opcode:ident, $reg:ident) => {{ $m.inr(Reg::$reg); Kind::Quiet }};
+    (dcr $m:ident $opcode:ident, $reg:ident) => {{ $m.dcr(Reg::$reg); Kind::Quiet }};
+    (lxi $m:ident $opcode:ident, $pair:ident) => {{ $m.lxi(Pair::$pair); Kind::Quiet }};
+    (lxi_sp $m:ident $opcode:ident) => {{ $m.lxi(Pair::Sp); Kind::Moved }};
+    (inx $m:ident $opcode:ident, $pair:ident) => {{ $m.inx(Pair::$pair); Kind::Quiet }};
+    (inx_sp $m:ident $opcode:ident) => {{ $m.inx(Pair::Sp); Kind::Moved }};
+    (dcx $m:ident $opcode:ident, $pair:ident) => {{ $m.dcx(Pair::$pair); Kind::Quiet }};
+    (dcx_sp $m:ident $opcode:ident) => {{ $m.dcx(Pair::Sp); Kind::Moved }};
+    (dad $m:ident $opcode:ident, $pair:ident) => {{ $m.dad(Pair::$pair); Kind::Quiet }};
     (stax $m:ident $opcode:ident, $pair:ident) => {{
         $m.advance(1);
         $m.poke($m.get_pair(Pair::$pair), $m.regs.a);
-        Kind::Done
+        Kind::Quiet
     }};
     (ldax $m:ident $opcode:ident, $pair:ident) => {{
         $m.advance(1);
         $m.regs.a = $m.peek($m.get_pair(Pair::$pair));
-        Kind::Done
+        Kind::Quiet
     }};
     (shld $m:ident $opcode:ident) => {{
         let address = $m.operand_word();
         $m.advance(3);
         $m.store_word(address, $m.get_pair(Pair::H));
-        Kind::Done
+        Kind::Quiet
     }};
     (lhld $m:ident $opcode:ident) => {{
         let address = $m.operand_word();
         $m.advance(3);
         $m.put_pair(Pair::H, $m.word_at(address));
-        Kind::Done
+        Kind::Quiet
     }};
     (sta $m:ident $opcode:ident) => {{
         let address = $m.operand_word();
         $m.advance(3);
         $m.poke(address, $m.regs.a);
-        Kind::Done
+        Kind::Quiet
     }};
     (lda $m:ident $opcode:ident) => {{
         let address = $m.operand_word();
         $m.advance(3);
         $m.regs.a = $m.peek(address);
-        Kind::Done
+        Kind::Quiet
     }};
     (rotate $m:ident $opcode:ident, $rotation:ident) => {{
         $m.rotate(Rotation::$rotation);
-        Kind::Done
+        Kind::Quiet
     }};
     (daa $m:ident $opcode:ident) => {{
         $m.advance(1);
         $m.set_a(daa($m.regs.a, $m.regs.flags));
-        Kind::Done
+        Kind::Quiet
     }};
-    (cma $m:ident $opcode:ident) => {{ $m.advance(1); $m.regs.a = !$m.regs.a; Kind::Done }};
+    (cma $m:ident $opcode:ident) => {{ $m.advance(1); $m.regs.a = !$m.regs.a; Kind::Quiet }};
     (stc $m:ident $opcode:ident) => {{
         $m.advance(1);
         $m.regs.flags = $m.regs.flags.with_carry(true);
-        Kind::Done
+        Kind::Quiet
     }};
     (cmc $m:ident $opcode:ident) => {{
         $m.advance(1);
         $m.regs.flags = $m.regs.flags.with_carry(!$m.regs.flags.carry());
-        Kind::Done
+        Kind::Quiet
     }};
     (jmp $m:ident $opcode:ident) => {{
         let target = $m.operand_word();
         $m.advance(3);
         $m.jump(target);
-        Kind::Done
+        Kind::Quiet
     }};
     (jump_if $m:ident $opcode:ident, $cond:ident) => {{ $m.jump_if(Cond::$cond) }};
     (call $m:ident $opcode:ident) => {{
@@ -139,33 +138,33 @@ macro_rules! arm {
     (ret $m:ident $opcode:ident) => {{ $m.advance(1); $m.ret() }};
     (ret_if $m:ident $opcode:ident, $cond:ident) => {{ $m.ret_if(Cond::$cond) }};
     (rst $m:ident $opcode:ident, $target:literal) => {{ $m.advance(1); $m.call($target) }};
-    (push $m:ident $opcode:ident, $pair:ident) => {{ $m.push(StackPair::$pair); Kind::Done }};
-    (pop $m:ident $opcode:ident, $pair:ident) => {{ $m.pop(StackPair::$pair); Kind::Done }};
+    (push $m:ident $opcode:ident, $pair:ident) => {{ $m.push(StackPair::$pair); Kind::Moved }};
+    (pop $m:ident $opcode:ident, $pair:ident) => {{ $m.pop(StackPair::$pair); Kind::Moved }};
     (xthl $m:ident $opcode:ident) => {{
         $m.advance(1);
         $m.exchange_with_stack();
-        Kind::Done
+        Kind::Quiet
     }};
-    (xchg $m:ident $opcode:ident) => {{ $m.advance(1); $m.exchange_with_de(); Kind::Done }};
+    (xchg $m:ident $opcode:ident) => {{ $m.advance(1); $m.exchange_with_de(); Kind::Quiet }};
     (pchl $m:ident $opcode:ident) => {{
         $m.advance(1);
         $m.jump($m.get_pair(Pair::H));
-        Kind::Done
+        Kind::Quiet
     }};
     (sphl $m:ident $opcode:ident) => {{
         $m.advance(1);
         $m.regs.sp = $m.get_pair(Pair::H);
-        Kind::Done
+        Kind::Moved
     }};
     (di $m:ident $opcode:ident) => {{
         $m.advance(1);
         $m.regs.interrupts = Interrupts::Off;
-        Kind::Done
+        Kind::Quiet
     }};
     (ei $m:ident $opcode:ident) => {{
         $m.advance(1);
         $m.regs.interrupts = Interrupts::Arming;
-        Kind::Done
+        Kind::Armed
     }};
 }
 
@@ -198,13 +197,66 @@ impl Machine {
     #[inline(always)]
     pub(super) fn step_opcode<P: Ports>(&mut self, opcode: u8, ports: &mut P) -> Kind
         requires opcode { opcode ≡ byte_at self.old self.old.regs.pc }
+        requires settled { is_arming self.old.regs.interrupts ≡ false }
         requires spare { 1 ≤ P.spare ports.old }
-        ensures { let outcome = by_opcode opcode (P.answer (P.state ports.old)) self.old in
-            IsOutcome outcome self.new (told result self.new)
+        ensures outcome { let outcome = by_opcode opcode (P.answer (P.state ports.old)) self.old in
+            IsOutcome outcome self.new (answer_of result self.new)
             × Performs outcome.operation P.after (P.operations ports.old) (P.operations ports.new)
             (P.state ports.old) (P.state ports.new) (P.spare ports.old) (P.spare ports.new) }
+        ensures settles { Settles result self.old self.new }
+    {
+        // The board is looked at only here, so that a defined instruction costs nothing more for it.
+        let kind = self.step_strict(opcode, ports);
+        if self.is_alias(kind) {
+            return self.step_alias(opcode);
+        }
+        kind
+    }
+
+    /// What a step of this kind left undone is an undefined opcode, and these act.
+    #[inline(always)]
+    fn is_alias(&self, kind: Kind) -> bool
+        ensures alias { result ≡ true → (kind ≡ Kind.Undefined) × (acts self.now.board ≡ true) }
+        ensures other { result ≡ false → kind ≡ Kind.Undefined → acts self.now.board ≡ false }
+    {
+        match kind {
+            Kind::Undefined => has_aliases(self.board),
+            _ => false,
+        }
+    }
+
+    /// The same by the strict table.
+    #[inline(always)]
+    fn step_strict<P: Ports>(&mut self, opcode: u8, ports: &mut P) -> Kind
+        requires opcode { opcode ≡ byte_at self.old self.old.regs.pc }
+        requires settled { is_arming self.old.regs.interrupts ≡ false }
+        requires spare { 1 ≤ P.spare ports.old }
+        ensures outcome { let outcome = by_row (row opcode) (P.answer (P.state ports.old)) self.old in
+            IsOutcome outcome self.new (answer_of result self.new)
+            × Performs outcome.operation P.after (P.operations ports.old) (P.operations ports.new)
+            (P.state ports.old) (P.state ports.new) (P.spare ports.old) (P.spare ports.new) }
+        ensures settles { Settles result self.old self.new }
     {
         self.step_in_group(opcode, ports)
+    }
+
+    /// What one of the twelve opcodes does that the table leaves undefined, where they act.
+    #[inline(always)]
+    #[tactic(auto, unfolding(i80_rows::specs::AliasRows::alias_row), using(crate::proofs::AliasLemmas::nop_alias))]
+    fn step_alias(&mut self, opcode: u8) -> Kind
+        requires opcode { opcode ≡ byte_at self.old self.old.regs.pc }
+        requires settled { is_arming self.old.regs.interrupts ≡ false }
+        requires undefined { is_undefined (row opcode) ≡ true }
+        ensures outcome { IsWithoutPort (by_row (alias_row opcode) (λ _. 0) self.old) self.new (answer_of result self.new) }
+        ensures settles { Settles result self.old self.new }
+    {
+        let m = self;
+        match opcode {
+            0xcb => arm!(jmp m opcode),
+            0xd9 => arm!(ret m opcode),
+            0xdd | 0xed | 0xfd => arm!(call m opcode),
+            _ => arm!(nop m opcode),
+        }
     }
 
     /// OUT, which is the instruction at PC.
@@ -212,17 +264,19 @@ impl Machine {
     #[tactic(auto, unfolding(i80_rows::specs::Rows::row))]
     fn step_out<P: Ports>(&mut self, opcode: u8, ports: &mut P) -> Kind
         requires opcode { opcode ≡ byte_at self.old self.old.regs.pc }
+        requires settled { is_arming self.old.regs.interrupts ≡ false }
         requires output { opcode ≡ 211 }
         requires spare { 1 ≤ P.spare ports.old }
-        ensures { let outcome = by_opcode opcode (P.answer (P.state ports.old)) self.old in
-            IsOutcome outcome self.new (told result self.new)
+        ensures outcome { let outcome = by_row (row opcode) (P.answer (P.state ports.old)) self.old in
+            IsOutcome outcome self.new (answer_of result self.new)
             × Performs outcome.operation P.after (P.operations ports.old) (P.operations ports.new)
             (P.state ports.old) (P.state ports.new) (P.spare ports.old) (P.spare ports.new) }
+        ensures settles { Settles result self.old self.new }
     {
         let port = self.operand();
         self.advance(2);
         ports.output(port, self.regs.a);
-        Kind::Done
+        Kind::Quiet
     }
 
     /// IN, which is the instruction at PC.
@@ -230,17 +284,19 @@ impl Machine {
     #[tactic(auto, unfolding(i80_rows::specs::Rows::row))]
     fn step_in<P: Ports>(&mut self, opcode: u8, ports: &mut P) -> Kind
         requires opcode { opcode ≡ byte_at self.old self.old.regs.pc }
+        requires settled { is_arming self.old.regs.interrupts ≡ false }
         requires input { opcode ≡ 219 }
         requires spare { 1 ≤ P.spare ports.old }
-        ensures { let outcome = by_opcode opcode (P.answer (P.state ports.old)) self.old in
-            IsOutcome outcome self.new (told result self.new)
+        ensures outcome { let outcome = by_row (row opcode) (P.answer (P.state ports.old)) self.old in
+            IsOutcome outcome self.new (answer_of result self.new)
             × Performs outcome.operation P.after (P.operations ports.old) (P.operations ports.new)
             (P.state ports.old) (P.state ports.new) (P.spare ports.old) (P.spare ports.new) }
+        ensures settles { Settles result self.old self.new }
     {
         let port = self.operand();
         self.advance(2);
         self.regs.a = ports.input(port);
-        Kind::Done
+        Kind::Quiet
     }
 
     // One match of all opcodes makes one jump table; each arm is then the one of its group. Only two arms
@@ -248,12 +304,14 @@ impl Machine {
     #[inline(always)]
     fn step_in_group<P: Ports>(&mut self, opcode: u8, ports: &mut P) -> Kind
         requires opcode { opcode ≡ byte_at self.old self.old.regs.pc }
+        requires settled { is_arming self.old.regs.interrupts ≡ false }
         requires spare { 1 ≤ P.spare ports.old }
-        ensures { let outcome = by_opcode opcode (P.answer (P.state ports.old)) self.old in
-            (IsWithoutPort (by_opcode opcode (λ _. 0) self.old) self.new (told result self.new) × (ports.new ≡ ports.old))
-            ⊎ (IsOutcome outcome self.new (told result self.new)
+        ensures outcome { let outcome = by_row (row opcode) (P.answer (P.state ports.old)) self.old in
+            (IsWithoutPort (by_row (row opcode) (λ _. 0) self.old) self.new (answer_of result self.new) × (ports.new ≡ ports.old))
+            ⊎ (IsOutcome outcome self.new (answer_of result self.new)
             × Performs outcome.operation P.after (P.operations ports.old) (P.operations ports.new)
             (P.state ports.old) (P.state ports.new) (P.spare ports.old) (P.spare ports.new)) }
+        ensures settles { Settles result self.old self.new }
     {
         groups! { self ports opcode;
             0x00 0x01 0x02 0x03 0x04 0x05 0x06 0x07 0x08 0x09 0x0a 0x0b 0x0c 0x0d 0x0e 0x0f => step_00;
@@ -292,17 +350,14 @@ impl Machine {
         self.word_at(self.regs.pc.wrapping_add(1))
     }
 
-    /// Sets PC past an instruction of this size, and ends arming.
+    /// Sets PC past an instruction of this size. What it does to the interrupt state is nothing, since that is settled.
     #[inline(always)]
     fn advance(&mut self, size: u8)
+        requires settled { is_arming self.old.regs.interrupts ≡ false }
         ensures { self.new ≡ with_interrupts (with_pc self.old (wrapped (self.old.regs.pc + size)))
             (interrupts_after Nop self.old.regs.interrupts) }
     {
         self.regs.pc = self.regs.pc.wrapping_add(size as u16);
-        self.regs.interrupts = match self.regs.interrupts {
-            Interrupts::Off => Interrupts::Off,
-            _ => Interrupts::On,
-        };
     }
 
     #[inline(always)]
@@ -373,6 +428,7 @@ impl Machine {
 
     #[inline(always)]
     fn mvi(&mut self, reg: Reg)
+        requires settled { is_arming self.old.regs.interrupts ≡ false }
         ensures { self.new ≡ (by_row (Byte (Mvi reg)) (λ _. 0) self.old).after }
     {
         let byte = self.operand();
@@ -382,6 +438,7 @@ impl Machine {
 
     #[inline(always)]
     fn inr(&mut self, reg: Reg)
+        requires settled { is_arming self.old.regs.interrupts ≡ false }
         ensures { self.new ≡ (by_row (Alone (Inr reg)) (λ _. 0) self.old).after }
     {
         self.advance(1);
@@ -390,6 +447,7 @@ impl Machine {
 
     #[inline(always)]
     fn dcr(&mut self, reg: Reg)
+        requires settled { is_arming self.old.regs.interrupts ≡ false }
         ensures { self.new ≡ (by_row (Alone (Dcr reg)) (λ _. 0) self.old).after }
     {
         self.advance(1);
@@ -398,6 +456,7 @@ impl Machine {
 
     #[inline(always)]
     fn lxi(&mut self, pair: Pair)
+        requires settled { is_arming self.old.regs.interrupts ≡ false }
         ensures { self.new ≡ (by_row (Word (Lxi pair)) (λ _. 0) self.old).after }
     {
         let word = self.operand_word();
@@ -407,6 +466,7 @@ impl Machine {
 
     #[inline(always)]
     fn inx(&mut self, pair: Pair)
+        requires settled { is_arming self.old.regs.interrupts ≡ false }
         ensures { self.new ≡ (by_row (Alone (Inx pair)) (λ _. 0) self.old).after }
     {
         self.advance(1);
@@ -415,6 +475,7 @@ impl Machine {
 
     #[inline(always)]
     fn dcx(&mut self, pair: Pair)
+        requires settled { is_arming self.old.regs.interrupts ≡ false }
         ensures { self.new ≡ (by_row (Alone (Dcx pair)) (λ _. 0) self.old).after }
     {
         self.advance(1);
@@ -423,6 +484,7 @@ impl Machine {
 
     #[inline(always)]
     fn dad(&mut self, pair: Pair)
+        requires settled { is_arming self.old.regs.interrupts ≡ false }
         ensures { self.new ≡ (by_row (Alone (Dad pair)) (λ _. 0) self.old).after }
     {
         self.advance(1);
@@ -431,6 +493,7 @@ impl Machine {
 
     #[inline(always)]
     fn rotate(&mut self, rotation: Rotation)
+        requires settled { is_arming self.old.regs.interrupts ≡ false }
         ensures { self.new ≡ (by_row (Alone (Rotate rotation)) (λ _. 0) self.old).after }
     {
         self.advance(1);
@@ -439,6 +502,7 @@ impl Machine {
 
     #[inline(always)]
     fn immediate(&mut self, operation: Operation)
+        requires settled { is_arming self.old.regs.interrupts ≡ false }
         ensures { self.new ≡ (by_row (Byte (AluImmediate operation)) (λ _. 0) self.old).after }
     {
         let byte = self.operand();
@@ -448,6 +512,7 @@ impl Machine {
 
     #[inline(always)]
     fn push(&mut self, pair: StackPair)
+        requires settled { is_arming self.old.regs.interrupts ≡ false }
         ensures { self.new ≡ (by_row (Alone (Push pair)) (λ _. 0) self.old).after }
     {
         self.advance(1);
@@ -456,6 +521,7 @@ impl Machine {
 
     #[inline(always)]
     fn pop(&mut self, pair: StackPair)
+        requires settled { is_arming self.old.regs.interrupts ≡ false }
         ensures { self.new ≡ (by_row (Alone (Pop pair)) (λ _. 0) self.old).after }
     {
         self.advance(1);
@@ -465,100 +531,55 @@ impl Machine {
 
     #[inline(always)]
     fn jump_if(&mut self, cond: Cond) -> Kind
-        ensures { IsWithoutPort (by_row (Word (JumpIf cond)) (λ _. 0) self.old) self.new (told result self.new) }
+        requires settled { is_arming self.old.regs.interrupts ≡ false }
+        ensures outcome { IsWithoutPort (by_row (Word (JumpIf cond)) (λ _. 0) self.old) self.new (answer_of result self.new) }
+        ensures settles { Settles result self.old self.new }
     {
         let target = self.operand_word();
         self.advance(3);
         if self.holds(cond) {
             self.jump(target);
         }
-        Kind::Done
+        Kind::Quiet
     }
 
     #[inline(always)]
     fn call_if(&mut self, cond: Cond) -> Kind
-        ensures { IsWithoutPort (by_row (Word (CallIf cond)) (λ _. 0) self.old) self.new (told result self.new) }
+        requires settled { is_arming self.old.regs.interrupts ≡ false }
+        ensures outcome { IsWithoutPort (by_row (Word (CallIf cond)) (λ _. 0) self.old) self.new (answer_of result self.new) }
+        ensures settles { Settles result self.old self.new }
     {
         let target = self.operand_word();
         self.advance(3);
         if self.holds(cond) {
             self.call(target)
         } else {
-            Kind::Done
+            Kind::Quiet
         }
     }
 
     #[inline(always)]
     fn ret_if(&mut self, cond: Cond) -> Kind
-        ensures { IsWithoutPort (by_row (Alone (RetIf cond)) (λ _. 0) self.old) self.new (told result self.new) }
+        requires settled { is_arming self.old.regs.interrupts ≡ false }
+        ensures outcome { IsWithoutPort (by_row (Alone (RetIf cond)) (λ _. 0) self.old) self.new (answer_of result self.new) }
+        ensures settles { Settles result self.old self.new }
     {
         self.advance(1);
         if self.holds(cond) {
             self.ret()
         } else {
-            Kind::Done
+            Kind::Quiet
         }
-    }
-
-    // The twelve opcodes that the table leaves undefined. They alone look at the board: the others cost nothing more.
-
-    #[inline(always)]
-    fn alias_nop(&mut self) -> Kind
-        ensures { let row = undefined_on self.old.board (Alone Nop) in
-            IsWithoutPort (by_row row (λ _. 0) self.old) self.new (told result self.new) }
-    {
-        if !has_aliases(self.board) {
-            return Kind::Undefined;
-        }
-        self.advance(1);
-        Kind::Done
-    }
-
-    #[inline(always)]
-    fn alias_jmp(&mut self) -> Kind
-        ensures { let row = undefined_on self.old.board (Word Jmp) in
-            IsWithoutPort (by_row row (λ _. 0) self.old) self.new (told result self.new) }
-    {
-        if !has_aliases(self.board) {
-            return Kind::Undefined;
-        }
-        let target = self.operand_word();
-        self.advance(3);
-        self.jump(target);
-        Kind::Done
-    }
-
-    #[inline(always)]
-    fn alias_ret(&mut self) -> Kind
-        ensures { let row = undefined_on self.old.board (Alone Ret) in
-            IsWithoutPort (by_row row (λ _. 0) self.old) self.new (told result self.new) }
-    {
-        if !has_aliases(self.board) {
-            return Kind::Undefined;
-        }
-        self.advance(1);
-        self.ret()
-    }
-
-    #[inline(always)]
-    fn alias_call(&mut self) -> Kind
-        ensures { let row = undefined_on self.old.board (Word Call) in
-            IsWithoutPort (by_row row (λ _. 0) self.old) self.new (told result self.new) }
-    {
-        if !has_aliases(self.board) {
-            return Kind::Undefined;
-        }
-        let routine = self.operand_word();
-        self.advance(3);
-        self.call(routine)
     }
 
     #[inline]
-    #[tactic(auto, unfolding(i80_rows::specs::Rows::row, i80_rows::specs::AliasRows::alias_row))]
+    #[tactic(auto, unfolding(i80_rows::specs::Rows::row))]
     fn step_00(&mut self, opcode: u8) -> Kind
         requires opcode { opcode ≡ byte_at self.old self.old.regs.pc }
+        requires settled { is_arming self.old.regs.interrupts ≡ false }
         requires high { opcode < 32 }
-        ensures { IsWithoutPort (by_opcode opcode (λ _. 0) self.old) self.new (told result self.new) }
+        ensures outcome { IsWithoutPort (by_row (row opcode) (λ _. 0) self.old) self.new (answer_of result self.new) }
+        ensures settles { Settles result self.old self.new }
     {
         let m = self;
         opcodes! { m opcode;
@@ -570,7 +591,7 @@ impl Machine {
             0x05 => dcr(B);
             0x06 => mvi(B);
             0x07 => rotate(Rlc);
-            0x08 => alias_nop();
+            0x08 => undefined();
             0x09 => dad(B);
             0x0a => ldax(B);
             0x0b => dcx(B);
@@ -578,7 +599,7 @@ impl Machine {
             0x0d => dcr(C);
             0x0e => mvi(C);
             0x0f => rotate(Rrc);
-            0x10 => alias_nop();
+            0x10 => undefined();
             0x11 => lxi(D);
             0x12 => stax(D);
             0x13 => inx(D);
@@ -586,7 +607,7 @@ impl Machine {
             0x15 => dcr(D);
             0x16 => mvi(D);
             0x17 => rotate(Ral);
-            0x18 => alias_nop();
+            0x18 => undefined();
             0x19 => dad(D);
             0x1a => ldax(D);
             0x1b => dcx(D);
@@ -598,16 +619,18 @@ impl Machine {
     }
 
     #[inline]
-    #[tactic(auto, unfolding(i80_rows::specs::Rows::row, i80_rows::specs::AliasRows::alias_row))]
+    #[tactic(auto, unfolding(i80_rows::specs::Rows::row))]
     fn step_20(&mut self, opcode: u8) -> Kind
         requires opcode { opcode ≡ byte_at self.old self.old.regs.pc }
+        requires settled { is_arming self.old.regs.interrupts ≡ false }
         requires low { 32 ≤ opcode }
         requires high { opcode < 64 }
-        ensures { IsWithoutPort (by_opcode opcode (λ _. 0) self.old) self.new (told result self.new) }
+        ensures outcome { IsWithoutPort (by_row (row opcode) (λ _. 0) self.old) self.new (answer_of result self.new) }
+        ensures settles { Settles result self.old self.new }
     {
         let m = self;
         opcodes! { m opcode;
-            0x20 => alias_nop();
+            0x20 => undefined();
             0x21 => lxi(H);
             0x22 => shld();
             0x23 => inx(H);
@@ -615,7 +638,7 @@ impl Machine {
             0x25 => dcr(H);
             0x26 => mvi(H);
             0x27 => daa();
-            0x28 => alias_nop();
+            0x28 => undefined();
             0x29 => dad(H);
             0x2a => lhld();
             0x2b => dcx(H);
@@ -623,18 +646,18 @@ impl Machine {
             0x2d => dcr(L);
             0x2e => mvi(L);
             0x2f => cma();
-            0x30 => alias_nop();
-            0x31 => lxi(Sp);
+            0x30 => undefined();
+            0x31 => lxi_sp();
             0x32 => sta();
-            0x33 => inx(Sp);
+            0x33 => inx_sp();
             0x34 => inr(M);
             0x35 => dcr(M);
             0x36 => mvi(M);
             0x37 => stc();
-            0x38 => alias_nop();
+            0x38 => undefined();
             0x39 => dad(Sp);
             0x3a => lda();
-            0x3b => dcx(Sp);
+            0x3b => dcx_sp();
             0x3c => inr(A);
             0x3d => dcr(A);
             0x3e => mvi(A);
@@ -674,9 +697,11 @@ impl Machine {
     #[inline]
     fn step_40(&mut self, opcode: u8) -> Kind
         requires opcode { opcode ≡ byte_at self.old self.old.regs.pc }
+        requires settled { is_arming self.old.regs.interrupts ≡ false }
         requires low { 64 ≤ opcode }
         requires high { opcode < 128 }
-        ensures { IsWithoutPort (by_opcode opcode (λ _. 0) self.old) self.new (told result self.new) }
+        ensures outcome { IsWithoutPort (by_row (row opcode) (λ _. 0) self.old) self.new (answer_of result self.new) }
+        ensures settles { Settles result self.old self.new }
     {
         self.advance(1);
         if opcode == 0x76 {
@@ -686,37 +711,41 @@ impl Machine {
         let to = reg_at(opcode / 8 % 8);
         let byte = self.get(from);
         self.put(to, byte);
-        Kind::Done
+        Kind::Quiet
     }
 
     /// ADD to CMP, whose opcode has the codes of its operation and its register.
     #[inline]
     fn step_80(&mut self, opcode: u8) -> Kind
         requires opcode { opcode ≡ byte_at self.old self.old.regs.pc }
+        requires settled { is_arming self.old.regs.interrupts ≡ false }
         requires low { 128 ≤ opcode }
         requires high { opcode < 192 }
-        ensures { IsWithoutPort (by_opcode opcode (λ _. 0) self.old) self.new (told result self.new) }
+        ensures outcome { IsWithoutPort (by_row (row opcode) (λ _. 0) self.old) self.new (answer_of result self.new) }
+        ensures settles { Settles result self.old self.new }
     {
         self.advance(1);
         if opcode == 0x9f {
             self.sbb_a();
-            return Kind::Done;
+            return Kind::Quiet;
         }
         let from = reg_at(opcode % 8);
         let byte = self.get(from);
         self.operate_by(opcode / 8 % 8, byte);
-        Kind::Done
+        Kind::Quiet
     }
 
     #[inline]
-    #[tactic(auto, unfolding(i80_rows::specs::Rows::row, i80_rows::specs::AliasRows::alias_row))]
+    #[tactic(auto, unfolding(i80_rows::specs::Rows::row))]
     fn step_c0(&mut self, opcode: u8) -> Kind
         requires opcode { opcode ≡ byte_at self.old self.old.regs.pc }
+        requires settled { is_arming self.old.regs.interrupts ≡ false }
         requires low { 192 ≤ opcode }
         requires high { opcode < 224 }
         requires output { opcode ≢ 211 }
         requires input { opcode ≢ 219 }
-        ensures { IsWithoutPort (by_opcode opcode (λ _. 0) self.old) self.new (told result self.new) }
+        ensures outcome { IsWithoutPort (by_row (row opcode) (λ _. 0) self.old) self.new (answer_of result self.new) }
+        ensures settles { Settles result self.old self.new }
     {
         let m = self;
         opcodes! { m opcode;
@@ -731,7 +760,7 @@ impl Machine {
             0xc8 => ret_if(Zero);
             0xc9 => ret();
             0xca => jump_if(Zero);
-            0xcb => alias_jmp();
+            0xcb => undefined();
             0xcc => call_if(Zero);
             0xcd => call();
             0xce => immediate(Adc);
@@ -744,22 +773,24 @@ impl Machine {
             0xd6 => immediate(Sub);
             0xd7 => rst(0x10);
             0xd8 => ret_if(Carry);
-            0xd9 => alias_ret();
+            0xd9 => undefined();
             0xda => jump_if(Carry);
             0xdc => call_if(Carry);
-            0xdd => alias_call();
+            0xdd => undefined();
             0xde => immediate(Sbb);
             0xdf => rst(0x18);
         }
     }
 
     #[inline]
-    #[tactic(auto, unfolding(i80_rows::specs::Rows::row, i80_rows::specs::AliasRows::alias_row))]
+    #[tactic(auto, unfolding(i80_rows::specs::Rows::row))]
     fn step_e0(&mut self, opcode: u8) -> Kind
         requires opcode { opcode ≡ byte_at self.old self.old.regs.pc }
+        requires settled { is_arming self.old.regs.interrupts ≡ false }
         requires low { 224 ≤ opcode }
         requires high { opcode < 256 }
-        ensures { IsWithoutPort (by_opcode opcode (λ _. 0) self.old) self.new (told result self.new) }
+        ensures outcome { IsWithoutPort (by_row (row opcode) (λ _. 0) self.old) self.new (answer_of result self.new) }
+        ensures settles { Settles result self.old self.new }
     {
         let m = self;
         opcodes! { m opcode;
@@ -776,7 +807,7 @@ impl Machine {
             0xea => jump_if(ParityEven);
             0xeb => xchg();
             0xec => call_if(ParityEven);
-            0xed => alias_call();
+            0xed => undefined();
             0xee => immediate(Xra);
             0xef => rst(0x28);
             0xf0 => ret_if(Plus);
@@ -792,7 +823,7 @@ impl Machine {
             0xfa => jump_if(Minus);
             0xfb => ei();
             0xfc => call_if(Minus);
-            0xfd => alias_call();
+            0xfd => undefined();
             0xfe => immediate(Cmp);
             0xff => rst(0x38);
         }

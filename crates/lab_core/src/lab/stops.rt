@@ -5,7 +5,7 @@ ghost use Rattle.i80_exec.specs.State.{MachineState};
 ghost use Rattle.lab_core.specs.Stops.{at_breakpoint, meets_breakpoint, complete, completes, is_reached};
 ghost use Rattle.lab_core.specs.Stops.{is_done, is_first, is_there, since, earlier};
 ghost use Rattle.lab_core.specs.Slices.{is_off, is_on, halted, waiting, early_reason, reason_apart};
-ghost use Rattle.lab_core.specs.Labs.{FindsIn, Watches, IsCalm, Reaches};
+ghost use Rattle.lab_core.specs.Labs.{FindsIn, Watches, IsCalm};
 
 use crate::answer::{End, SliceOutcome, Stop};
 use crate::event::{Granularity, StepKind, StepRequest};
@@ -65,29 +65,23 @@ fn is_first(origin: Option<Origin>) -> bool
 }
 
 impl Context {
-    /// The first of the reasons that the opcode at PC has no part in.
+    /// The reason to end a burst, which only a breakpoint can be.
     #[inline(always)]
-    pub(super) fn reason_apart(
-        &self,
-        machine: &Machine,
-        is_watched: bool,
-        reach: u32,
-    ) -> Option<SliceOutcome>
+    pub(super) fn met(&self, machine: &Machine, is_watched: bool) -> Option<SliceOutcome>
         requires watched { Watches is_watched self.now.is_attached self.now.request }
-        requires reach { Reaches reach self.now }
+        requires calm { IsCalm self.now }
         ensures { FindsIn reason_apart result machine.now self.now }
     {
-        if reach == 0 {
-            self.look(machine, is_watched)
-        } else if is_watched {
+        if is_watched {
             self.breakpoint(machine)
         } else {
             None
         }
     }
 
+    /// The first of the reasons that the opcode at PC has no part in.
     #[inline(always)]
-    fn look(&self, machine: &Machine, is_watched: bool) -> Option<SliceOutcome>
+    pub(super) fn look(&self, machine: &Machine, is_watched: bool) -> Option<SliceOutcome>
         requires { Watches is_watched self.now.is_attached self.now.request }
         ensures { FindsIn reason_apart result machine.now self.now }
     {
@@ -115,7 +109,7 @@ impl Context {
         requires { self.now.has_moved ≡ true }
         ensures { FindsIn meets_breakpoint result machine.now self.now }
     {
-        self.is_attached && self.breakpoints.is_at(machine.regs().pc)
+        self.is_attached && self.breakpoints.is_at(machine.pc())
     }
 
     /// The first of the reasons that are tried after the last step too.
@@ -167,7 +161,7 @@ impl Context {
     {
         self.is_attached
             && (self.has_moved || !self.is_resumed)
-            && self.breakpoints.is_at(machine.regs().pc)
+            && self.breakpoints.is_at(machine.pc())
     }
 
     #[inline(always)]
@@ -205,7 +199,7 @@ impl Context {
         ensures { FindsIn (is_there granularity) result machine.now self.now }
     {
         match granularity {
-            Granularity::Line => is_first(self.origins.at(machine.regs().pc)),
+            Granularity::Line => is_first(self.origins.at(machine.pc())),
             Granularity::Instruction => true,
         }
     }

@@ -1,22 +1,13 @@
 use Rattle.std.proofs.Common.{◌∙◌, ap}
-use Rattle.i80_exec.specs.Step.{instruction}
-use Rattle.i80_devs.specs.Past.{DeviceState, PanelState, StandsFor, answer}
+use Rattle.i80_devs.specs.Past.{DeviceState, StandsFor}
 use Rattle.lab_core.proofs.StepLemmas.{by_instruction}
-use Rattle.lab_core.proofs.QuietLemmas.{stays_unlatched}
 use Rattle.lab_core.proofs.board_step.board_step.Goals as goal
 
 pub returns-in-None-clause-step : goal.returns-in-None-clause-step
 returns-in-None-clause-step c = λ past stands.
     let machine = c.in-None.ensures.unchanged.0 in
     let devices = c.in-None.ensures.unchanged.1 in
-    let kept : StandsFor c.accept_unless.new.devices past = ap (λ (d : DeviceState). d.panel) devices ∙ stands in
-    rw (← machine, ← devices) (by_instruction c.panel_after_one_more.ensures past c.accept_unless.new.machine
-    c.step.new.self c.accept_unless.new.devices c.step.new.ports c.step.result
+    let kept : StandsFor c.accept.new.devices past = ap (λ (d : DeviceState). d.panel) devices ∙ stands in
+    rw (← machine, ← devices) (by_instruction c.panel_after_one_more.ensures past c.accept.new.machine
+    c.step.new.self c.accept.new.devices c.step.new.ports c.step.result
     (rw machine (c.in-None.ensures.none past stands)) kept c.step.ensures.0 c.step.ensures.1)
-
-pub returns-in-None-clause-calm : goal.returns-in-None-clause-calm
-returns-in-None-clause-calm c = λ calm.
-    let kept = ap (λ (d : DeviceState). d.panel.latched) c.in-None.ensures.unchanged.1 in
-    ap (λ (p : PanelState). p.latched) c.step.ensures.1.state_is
-    ∙ stays_unlatched c.accept_unless.new.devices.panel
-    (instruction (answer c.accept_unless.new.devices.panel) c.accept_unless.new.machine).operation ∙ kept ∙ c.requires.calm calm

@@ -1,9 +1,10 @@
 use Rattle.std.proofs.Common.{refl}
 use Rattle.i80_exec.proofs.OpcodeLemmas.{halt_row, move_row}
+use Rattle.i80_exec.proofs.ArmingLemmas.{never_arming, put_settles}
 use Rattle.i80_exec.proofs.machine.Machine.step_40.Goals as goal
 
-pub returns-then-opcode-eq118 : goal.returns-then-opcode-eq118
-returns-then-opcode-eq118 c =
+pub returns-then-opcode-eq118-clause-outcome : goal.returns-then-opcode-eq118-clause-outcome
+returns-then-opcode-eq118-clause-outcome c =
     let row = halt_row c.args.opcode (λ _. 0) c.args.self.now c.requires.low c.requires.high
     c.if-opcode-eq118.true in
     record {
@@ -12,8 +13,12 @@ returns-then-opcode-eq118 c =
       answer_is = rw row refl;
     }
 
-pub returns : goal.returns
-returns c =
+pub returns-then-opcode-eq118-clause-settles : goal.returns-then-opcode-eq118-clause-settles
+returns-then-opcode-eq118-clause-settles c =
+    rw c.advance.ensures (never_arming c.args.self.now.regs.interrupts)
+
+pub returns-clause-outcome : goal.returns-clause-outcome
+returns-clause-outcome c =
     let row = move_row c.args.opcode (λ _. 0) c.args.self.now c.requires.low c.requires.high
     c.if-opcode-eq118.false in
     record {
@@ -28,3 +33,8 @@ returns c =
       operation_is = rw row refl;
       answer_is = rw row refl;
     }
+
+pub returns-clause-settles : goal.returns-clause-settles
+returns-clause-settles c =
+    rw (c.put.ensures, c.advance.ensures) (put_settles c.reg_at-to.result _ c.get-byte.result
+    (never_arming c.args.self.now.regs.interrupts))

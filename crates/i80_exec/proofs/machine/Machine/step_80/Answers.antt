@@ -1,9 +1,11 @@
 use Rattle.std.proofs.Common.{refl}
-use Rattle.i80_exec.proofs.OpcodeLemmas.{compute_row}
+use Rattle.i80_exec.proofs.OpcodeLemmas.{compute_row, past}
+use Rattle.i80_rows.specs.declared.instruction.Operation.TheVariants.{Sbb}
+use Rattle.i80_exec.proofs.ArmingLemmas.{never_arming, operated_settles}
 use Rattle.i80_exec.proofs.machine.Machine.step_80.Goals as goal
 
-pub returns-then-opcode-eq159 : goal.returns-then-opcode-eq159
-returns-then-opcode-eq159 c =
+pub returns-then-opcode-eq159-clause-outcome : goal.returns-then-opcode-eq159-clause-outcome
+returns-then-opcode-eq159-clause-outcome c =
     let row = compute_row c.args.opcode (λ _. 0) c.args.self.now c.requires.low c.requires.high in
     record {
       after_is = rw (row, c.if-opcode-eq159.true, c.sbb_a.ensures, c.advance.ensures) refl;
@@ -11,8 +13,14 @@ returns-then-opcode-eq159 c =
       answer_is = rw row refl;
     }
 
-pub returns : goal.returns
-returns c =
+pub returns-then-opcode-eq159-clause-settles : goal.returns-then-opcode-eq159-clause-settles
+returns-then-opcode-eq159-clause-settles c =
+    let m = past c.args.self.now in
+    rw (c.sbb_a.ensures, c.advance.ensures) (operated_settles Sbb m m.regs.a
+    (never_arming c.args.self.now.regs.interrupts))
+
+pub returns-clause-outcome : goal.returns-clause-outcome
+returns-clause-outcome c =
     let row = compute_row c.args.opcode (λ _. 0) c.args.self.now c.requires.low c.requires.high in
     record {
       after_is = rw (
@@ -25,3 +33,8 @@ returns c =
       operation_is = rw row refl;
       answer_is = rw row refl;
     }
+
+pub returns-clause-settles : goal.returns-clause-settles
+returns-clause-settles c =
+    rw (c.operate_by.ensures, c.advance.ensures) (operated_settles _ _ c.get-byte.result
+    (never_arming c.args.self.now.regs.interrupts))

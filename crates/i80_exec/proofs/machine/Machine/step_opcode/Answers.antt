@@ -1,11 +1,44 @@
-use Rattle.std.proofs.Common.{ap, inl, inr}
-use Rattle.i80_exec.proofs.PortLemmas.{outcome_without_port}
+use Rattle.i80_exec.proofs.AliasLemmas.{undefined_left, undefined_keeps, row_is_strict, aliased}
 use Rattle.i80_exec.proofs.machine.Machine.step_opcode.Goals as goal
 
-pub returns : goal.returns
-returns g c =
-    elim c.step_in_group.ensures [
-      | inl w ↦ outcome_without_port c.args.opcode _ _ _ _ _ _ _ _ _ _ _ c.ranges.opcode.fits w.0
-          (ap g.P.Ports.operations w.1) (ap g.P.Ports.state w.1) (ap g.P.Ports.spare w.1)
-      | inr w ↦ w
-    ]
+pub step_alias-requires-clause-opcode : goal.step_alias-requires-clause-opcode
+step_alias-requires-clause-opcode g c =
+    let alias = c.is_alias.ensures.alias c.if-is_alias.true in
+    rw (undefined_keeps c.args.opcode _ c.args.self.now _ _ alias.0 c.step_strict-kind.ensures.outcome.0)
+    c.requires.opcode
+
+pub step_alias-requires-clause-settled : goal.step_alias-requires-clause-settled
+step_alias-requires-clause-settled g c =
+    let alias = c.is_alias.ensures.alias c.if-is_alias.true in
+    rw (undefined_keeps c.args.opcode _ c.args.self.now _ _ alias.0 c.step_strict-kind.ensures.outcome.0)
+    c.requires.settled
+
+pub step_alias-requires-clause-undefined : goal.step_alias-requires-clause-undefined
+step_alias-requires-clause-undefined g c =
+    let alias = c.is_alias.ensures.alias c.if-is_alias.true in
+    let n = undefined_left c.args.opcode _ c.args.self.now _ _ alias.0
+    c.step_strict-kind.ensures.outcome.0.answer_is in
+    n.row_is
+
+pub returns-then-is_alias-clause-outcome : goal.returns-then-is_alias-clause-outcome
+returns-then-is_alias-clause-outcome g c =
+    let alias = c.is_alias.ensures.alias c.if-is_alias.true in
+    let o = c.step_strict-kind.ensures.outcome in
+    let same = undefined_keeps c.args.opcode _ c.args.self.now _ _ alias.0 o.0 in
+    aliased c.args.opcode _ c.args.self.now _ _ _ _ _ _ _ _ _ _ _ alias.0 (rw same at alias.1) o
+    c.step_alias.ensures.outcome
+
+pub returns-then-is_alias-clause-settles : goal.returns-then-is_alias-clause-settles
+returns-then-is_alias-clause-settles g c =
+    let alias = c.is_alias.ensures.alias c.if-is_alias.true in
+    let same = undefined_keeps c.args.opcode _ c.args.self.now _ _ alias.0
+    c.step_strict-kind.ensures.outcome.0 in
+    rw same at c.step_alias.ensures.settles
+
+pub returns-clause-outcome : goal.returns-clause-outcome
+returns-clause-outcome g c =
+    let o = c.step_strict-kind.ensures.outcome in
+    let strict = c.is_alias.ensures.other c.if-is_alias.false in
+    rw (row_is_strict c.args.opcode _ c.args.self.now _ _ o.0.answer_is (λ undefined.
+    (let same = undefined_keeps c.args.opcode _ c.args.self.now _ _ undefined o.0 in
+    rw same at (strict undefined)))) o

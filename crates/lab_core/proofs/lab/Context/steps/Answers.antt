@@ -1,47 +1,62 @@
-use Rattle.std.proofs.Common.{◌≡◌, ◌∙◌, refl, sym, ap, arith, add-one, None}
-use borrow.Author.Count.{below_more}
-use Rattle.std.specs.Option.{unwrap_or}
+use Rattle.std.proofs.Common.{◌≡◌, ◌∙◌, refl, ap, arith}
+use Rattle.std.specs.Option.{unwrap_or, IsSome}
 use Rattle.lab_core.specs.declared.answer.SliceOutcome.TheVariants.{More}
-use Rattle.lab_core.specs.Slices.{after_steps, traffic_of, reason}
+use Rattle.lab_core.specs.Slices.{after_steps, traffic_of}
+use Rattle.lab_core.proofs.BurstLemmas.{makes_on}
 use Rattle.lab_core.proofs.lab.Context.steps.Goals as goal
 
 pub loop-k-preserved : goal.loop-k-preserved
 loop-k-preserved c =
     let inv = c.loop-k.invariant in
     let k = c.loop-k.k in
+    let made = c.round-made in
+    let few = made.ensures.few in
+    let room = inv.room in
+    let spare = made.ensures.spare c.in_default.is in
+    let progress = made.ensures.progress c.in_default.is in
     record {
-      stands =
-          λ lab b s. rw add-one (c.in_default.ensures.none lab (after_steps k b) (traffic_of k b)
-          (inv.stands lab b s));
-      none_before =
-          λ lab b s. below_more (λ j. reason (after_steps j b) ≡ None) k (inv.none_before lab b s)
-          (sym (c.in_default.ensures.reason lab (after_steps k b) (traffic_of k b) (inv.stands lab b s)));
-      room = let r = inv.room in let q = c.in_default.ensures.spare in omega arith;
-      watches = c.in_default.ensures.watches;
-      reach = c.in_default.ensures.reach;
+      within = omega arith;
+      stands = λ lab b s.
+          (let m = makes_on k made.result.0 made.result.1 b _ (inv.none_before lab b s)
+          (made.ensures.makes lab (after_steps k b) (traffic_of k b) (inv.stands lab b s)) in m.stands);
+      none_before = λ lab b s.
+          (let m = makes_on k made.result.0 made.result.1 b _ (inv.none_before lab b s)
+          (made.ensures.makes lab (after_steps k b) (traffic_of k b) (inv.stands lab b s)) in m.none_before);
+      room = omega arith;
+      watches = made.ensures.watches;
     }
 
 pub returns-in-Some-clause-slice : goal.returns-in-Some-clause-slice
 returns-in-Some-clause-slice c = λ lab b s.
     let inv = c.loop-k.invariant in
     let k = c.loop-k.k in
+    let made = c.round-made in
+    let m = makes_on k made.result.0 made.result.1 b _ (inv.none_before lab b s)
+    (made.ensures.makes lab (after_steps k b) (traffic_of k b) (inv.stands lab b s)) in
+    let is : IsSome made.result.1 = rw c.in-Some.is refl in
+    let less = made.ensures.some is in
+    let found = rw c.in-Some.is at m.found_is in
     record {
       within = omega arith;
-      none_before = inv.none_before lab b s;
-      early =
-          λ below. sym (c.in-Some.ensures.reason lab (after_steps k b) (traffic_of k b) (inv.stands lab b s));
+      none_before = m.none_before;
+      early = λ below. found;
       last = λ all. absurd (omega arith);
     }
 
 pub returns-in-Some-clause-stands : goal.returns-in-Some-clause-stands
 returns-in-Some-clause-stands c = λ lab b s.
-    c.in-Some.ensures.some refl lab (after_steps c.loop-k.k b) (traffic_of c.loop-k.k b)
-    (c.loop-k.invariant.stands lab b s)
+    let inv = c.loop-k.invariant in
+    let k = c.loop-k.k in
+    let made = c.round-made in
+    let m = makes_on k made.result.0 made.result.1 b _ (inv.none_before lab b s)
+    (made.ensures.makes lab (after_steps k b) (traffic_of k b) (inv.stands lab b s)) in
+    m.stands
 
 pub returns-clause-slice : goal.returns-clause-slice
 returns-clause-slice c = λ lab b s.
     let inv = c.loop-k.invariant in
     let n = c.args.n in
+    let within = inv.within in
     let all : c.loop-k.k ≡ n = omega arith in
     let stands = rw all at (inv.stands lab b s) in
     record {
@@ -55,6 +70,8 @@ returns-clause-slice c = λ lab b s.
 
 pub returns-clause-stands : goal.returns-clause-stands
 returns-clause-stands c = λ lab b s.
+    let inv = c.loop-k.invariant in
     let n = c.args.n in
+    let within = inv.within in
     let all : c.loop-k.k ≡ n = omega arith in
-    rw all at (c.loop-k.invariant.stands lab b s)
+    rw all at (inv.stands lab b s)

@@ -1,16 +1,19 @@
-use Rattle.std.proofs.Common.{◌≡◌, ◌<◌, ◌≤◌, ◌+◌, ℕ, None}
+use Rattle.std.proofs.Common.{◌≡◌, ◌<◌, ◌≤◌, ◌+◌, ◌-◌, ℕ, None}
 use Rattle.lab_core.specs.Board.{Board}
 use Rattle.lab_core.specs.Slices.{after_steps, traffic_of, reason}
-use Rattle.lab_core.specs.Labs.{LabState, StandsFor, StandsAmid, Watches, Reaches, amid}
+use Rattle.lab_core.specs.Labs.{LabState, StandsFor, StandsAmid, Watches, amid}
 use Rattle.lab_core.proofs.lab.Context.steps.Given as goal
 
 abbrev pub invariant-loop-k : goal.invariant-loop-k
 invariant-loop-k l = record {
+  within : l.k ≤ l.n;
   stands : (lab : LabState) (b : Board) → StandsFor (amid lab l.fn.machine l.fn.self) b
       → StandsAmid (amid lab l.machine l.self) (after_steps l.k b) (traffic_of l.k b);
   none_before : (lab : LabState) (b : Board) → StandsFor (amid lab l.fn.machine l.fn.self) b
       → (j : ℕ) → j < l.k → reason (after_steps j b) ≡ None;
   room : l.n ≤ l.self.devices.spare + l.k;
   watches : Watches l.is_watched l.self.is_attached l.self.request;
-  reach : Reaches l.reach l.self;
 }
+
+abbrev pub decreases-loop-k : goal.decreases-loop-k
+decreases-loop-k l = l.n - l.k

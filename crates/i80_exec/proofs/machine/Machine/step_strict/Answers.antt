@@ -1,0 +1,12 @@
+use Rattle.std.proofs.Common.{ap, inl, inr}
+use Rattle.i80_rows.specs.Rows.{row}
+use Rattle.i80_exec.proofs.PortLemmas.{outcome_without_port}
+use Rattle.i80_exec.proofs.machine.Machine.step_strict.Goals as goal
+
+pub returns-clause-outcome : goal.returns-clause-outcome
+returns-clause-outcome g c =
+    elim c.step_in_group.ensures.outcome [
+      | inl w ↦ outcome_without_port (row c.args.opcode) _ _ _ _ _ _ _ _ _ _ _ w.0
+          (ap g.P.Ports.operations w.1) (ap g.P.Ports.state w.1) (ap g.P.Ports.spare w.1)
+      | inr w ↦ w
+    ]

@@ -1,0 +1,128 @@
+-- Steps made in several parts.
+use Rattle.std.proofs.Common.{◌≡◌, ℕ, zero, suc, ◌+◌, ◌-◌, ◌<◌, List, [], ◌++◌, Option, Some, None}
+use Rattle.std.proofs.Common.{refl, sym, ap, ◌∙◌, subst, append_assoc, append-nil, arith, inl, inr}
+use Rattle.std.proofs.lemmas.Bool.{cases_lt}
+use Rattle.std.specs.Option.{option_or, IfSome}
+use Rattle.i80_exec.specs.declared.ports.PortOperation.{PortOperation}
+use Rattle.i80_exec.specs.State.{MachineState}
+use Rattle.i80_exec.specs.Step.{operation_list}
+use Rattle.lab_core.specs.declared.answer.SliceOutcome.{SliceOutcome}
+use Rattle.lab_core.specs.declared.lab.Context.{Context}
+use Rattle.lab_core.specs.Board.{Board, next_change, stepped}
+use Rattle.lab_core.specs.Slices.{after_steps, traffic_of, reason, reason_apart, early_reason, waiting, undefined}
+use Rattle.lab_core.specs.Labs.{LabState, StandsAmid, Makes, AdvancesIn, FindsIn, KeepsIn, amid}
+use Rattle.lab_core.proofs.QuietLemmas.{or_or}
+
+pub after_more : (j k : ℕ) (b : Board) → after_steps (j + k) b ≡ after_steps j (after_steps k b)
+after_more zero k b = let none : 0 + k ≡ k = omega arith in rw none refl
+after_more (suc j) k b =
+    let more : suc j + k ≡ suc (j + k) = omega arith in
+    rw more (ap stepped (after_more j k b))
+
+pub traffic_more : (j k : ℕ) (b : Board)
+    → traffic_of k b ++ traffic_of j (after_steps k b) ≡ traffic_of (j + k) b
+traffic_more zero k b = let none : 0 + k ≡ k = omega arith in rw none (append-nil (traffic_of k b))
+traffic_more (suc j) k b =
+    let more : suc j + k ≡ suc (j + k) = omega arith in
+    sym (append_assoc (traffic_of k b) (traffic_of j (after_steps k b))
+    (operation_list (next_change (after_steps j (after_steps k b))).operation))
+    ∙ rw (traffic_more j k b, ← after_more j k b, more) refl
+
+-- the reasons are those that the opcode at PC has no part in, and an undefined opcode
+pub reason_parts : (b : Board) → reason b ≡ option_or (reason_apart b) (undefined b)
+reason_parts b = or_or (early_reason b) (waiting b) (undefined b)
+
+pub no_reason : (b : Board) → None ≡ reason_apart b → None ≡ undefined b → reason b ≡ None
+no_reason b apart none = reason_parts b ∙ rw (← apart, ← none) refl
+
+pub reason_undefined : (b : Board) (o : SliceOutcome) → None ≡ reason_apart b → Some o ≡ undefined b
+    → reason b ≡ Some o
+reason_undefined b o apart is = reason_parts b ∙ rw (← apart, ← is) refl
+
+pub reason_stands : (b : Board) (o : SliceOutcome) → Some o ≡ reason_apart b → reason b ≡ Some o
+reason_stands b o is = reason_parts b ∙ rw (← is) refl
+
+-- at each count below one more
+before : (made : ℕ) (b : Board) (j : ℕ) → (j < made → reason (after_steps j b) ≡ None)
+    → reason (after_steps made b) ≡ None → j < suc made → reason (after_steps j b) ≡ None
+before made b j earlier last below = elim (cases_lt j made) [
+  | inl less ↦ earlier less
+  | inr more ↦ (let same : j ≡ made = omega arith in rw same last)
+]
+
+-- no step
+pub makes_none : (lab : LabState) (b : Board) (traffic : List PortOperation) → StandsAmid lab b traffic
+    → Makes 0 None b traffic lab
+makes_none lab b traffic s =
+    let T : List PortOperation → Type 0 = λ all. StandsAmid lab b all in
+    record {
+      stands = subst T (sym (append-nil traffic)) s;
+      none_before = λ j below. absurd (omega arith);
+      found_is = tt;
+    }
+
+-- one more step, before which no reason stood
+pub makes_more : (made : ℕ) (b : Board) (traffic : List PortOperation) (lab : LabState)
+    (machine : MachineState) (context : Context) (machine' : MachineState) (context' : Context)
+    → Makes made None b traffic (amid lab machine context)
+    → FindsIn reason_apart None machine context → FindsIn undefined None machine context
+    → AdvancesIn machine context machine' context'
+    → Makes (made + 1) None b traffic (amid lab machine' context')
+makes_more made b traffic lab machine context machine' context' m free defined advances =
+    let now = after_steps made b in
+    let all = traffic ++ traffic_of made b in
+    let T : List PortOperation → Type 0 = λ all. StandsAmid (amid lab machine' context') (after_steps (suc made) b) all in
+    let joined = append_assoc traffic (traffic_of made b) (operation_list (next_change now).operation) in
+    let none = no_reason now (free lab now all m.stands) (defined lab now all m.stands) in
+    let one : made + 1 ≡ suc made = omega arith in
+    rw one (record {
+      stands = subst T joined (advances lab now all m.stands);
+      none_before = λ j below. before made b j (m.none_before j) none below;
+      found_is = tt;
+    })
+
+-- no step more, since an undefined opcode stands at PC
+pub makes_end : (made : ℕ) (o : SliceOutcome) (b : Board) (traffic : List PortOperation) (lab : LabState)
+    (machine : MachineState) (context : Context) (machine' : MachineState) (context' : Context)
+    → Makes made None b traffic (amid lab machine context)
+    → FindsIn reason_apart None machine context → FindsIn undefined (Some o) machine context
+    → KeepsIn machine context machine' context'
+    → Makes made (Some o) b traffic (amid lab machine' context')
+makes_end made o b traffic lab machine context machine' context' m free undefined keeps =
+    let now = after_steps made b in
+    let all = traffic ++ traffic_of made b in
+    record {
+      stands = keeps lab now all m.stands;
+      none_before = m.none_before;
+      found_is = reason_undefined now o (free lab now all m.stands) (undefined lab now all m.stands);
+    }
+
+-- or since another reason stands
+pub makes_found : (o : SliceOutcome) (b : Board) (traffic : List PortOperation) (lab : LabState)
+    → StandsAmid lab b traffic → Some o ≡ reason_apart b → Makes 0 (Some o) b traffic lab
+makes_found o b traffic lab s is =
+    let m = makes_none lab b traffic s in
+    record { stands = m.stands; none_before = m.none_before; found_is = reason_stands b o is }
+
+-- more steps after those
+pub makes_on : (k made : ℕ) (found : Option SliceOutcome) (b : Board) (lab : LabState)
+    → ((j : ℕ) → j < k → reason (after_steps j b) ≡ None)
+    → Makes made found (after_steps k b) (traffic_of k b) lab
+    → Makes (k + made) found b [] lab
+makes_on k made found b lab earlier m =
+    let swap : k + made ≡ made + k = omega arith in
+    let S : Board → Type 0 = λ board. StandsAmid lab board (traffic_of (made + k) b) in
+    let T : List PortOperation → Type 0 = λ all. StandsAmid lab (after_steps made (after_steps k b)) all in
+    let F : Board → Type 0 = λ board. IfSome found (λ o. reason board ≡ Some o) in
+    rw swap (record {
+      stands = subst S (sym (after_more made k b)) (subst T (traffic_more made k b) m.stands);
+      none_before = λ j below. (elim (cases_lt j k) [
+        | inl less ↦ earlier j less
+        | inr more ↦ (let at : j - k + k ≡ j = omega arith in
+            let there = m.none_before (j - k) (omega arith) in
+            let R : Board → Type 0 = λ board. reason board ≡ None in
+            let J : ℕ → Type 0 = λ n. reason (after_steps n b) ≡ None in
+            subst J at (subst R (sym (after_more (j - k) k b)) there))
+      ]);
+      found_is = subst F (sym (after_more made k b)) m.found_is;
+    })
