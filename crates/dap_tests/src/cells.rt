@@ -1,6 +1,6 @@
 //! The paths under which frontends know cells. The hashes are another program's.
 use dap_answers::cell::cell_path;
-use std::alloc::{AllocError, Global};
+use std::alloc::AllocError;
 
 // Cells, and the hashes in their paths.
 const PATHS: [(&str, &str); 10] = [
@@ -16,16 +16,12 @@ const PATHS: [(&str, &str); 10] = [
     ("The quick brown fox jumps over the lazy dog", "556214736"),
 ];
 
-fn is_path(alloc: Global, code: &str, number: &str) -> Result<bool, AllocError> {
-    let path = format!(in alloc; "/tmp/i8080_lab/{number}.asm")?;
-    let found = cell_path(alloc, code)?;
-    Ok(found.as_str() == path.as_str())
-}
-
 #[test]
 fn paths_of_cells(rt: HostRuntime) -> Result<(), AllocError> {
     for (code, number) in &PATHS {
-        assert!(rt; is_path(rt.alloc(), code, number)?, "{code}");
+        let wanted = format!(in rt.alloc(); "/tmp/i8080_lab/{number}.asm")?;
+        let found = cell_path(rt.alloc(), code)?;
+        assert!(rt; found.as_str() == wanted.as_str(), "{code}");
     }
     Ok(())
 }

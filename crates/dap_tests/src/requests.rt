@@ -456,125 +456,83 @@ const NO_SET_VARIABLES: [&str; 4] = [
     "{\"variablesReference\":1,\"name\":\"A\"}",
 ];
 
-// Commands, what stands in the arguments of each before a value and after it, and values refused there.
-const REFUSED: [(&[&str], &str, &str, &[&str]); 32] = [
+// Arguments, in which a % stands for a value.
+const NUMBERS_OF_VARIABLES: [&str; 3] = [
+    "{\"variablesReference\":%}",
+    "{\"variablesReference\":1,\"start\":%}",
+    "{\"variablesReference\":4,\"count\":%}",
+];
+
+const COUNT: &str = "{\"memoryReference\":\"0x0000\",\"instructionCount\":%}";
+
+const NUMBERS_OF_DISASSEMBLE: [&str; 3] = [
+    "{\"memoryReference\":\"0x0000\",\"instructionCount\":1,\"offset\":%}",
+    "{\"memoryReference\":\"0x0000\",\"instructionCount\":1,\"instructionOffset\":%}",
+    COUNT,
+];
+
+const REFERENCE: &str = "{\"name\":\"A\",\"value\":\"1\",\"variablesReference\":%}";
+
+const LINE: &str = "{\"source\":{\"path\":\"a\"},\"breakpoints\":[{\"line\":%}]}";
+
+const TEXTS_OF_SET_VARIABLE: [&str; 2] = [
+    "{\"variablesReference\":1,\"value\":\"1\",\"name\":%}",
+    "{\"variablesReference\":1,\"name\":\"A\",\"value\":%}",
+];
+
+const ADDRESS: &str = "{\"instructionCount\":1,\"memoryReference\":%}";
+
+const LINES: &str = "{\"source\":{\"path\":\"a\"},\"breakpoints\":%}";
+
+// Commands, arguments of each, and values refused where these have a %.
+const REFUSED: [(&[&str], &[&str], &[&str]); 26] = [
     // Arguments that are no object.
-    (&ARGUED_COMMANDS, "", "", &NO_OBJECTS),
+    (&ARGUED_COMMANDS, &["%"], &NO_OBJECTS),
     // Arguments that are missing.
-    (&WITH_ONE_ARGUMENT, "", "", &["{}", "{\"argument\":1}"]),
-    (&["setBreakpoints"], "", "", &["{}", "{\"breakpoints\":[]}"]),
-    (&["variables"], "", "", &["{}", "{\"start\":0,\"count\":1}"]),
-    (&["setVariable"], "", "", &NO_SET_VARIABLES),
-    (&["disassemble"], "", "", &NO_DISASSEMBLIES),
+    (&WITH_ONE_ARGUMENT, &["%"], &["{}", "{\"argument\":1}"]),
+    (&["setBreakpoints"], &["%"], &["{}", "{\"breakpoints\":[]}"]),
+    (&["variables"], &["%"], &["{}", "{\"start\":0,\"count\":1}"]),
+    (&["setVariable"], &["%"], &NO_SET_VARIABLES),
+    (&["disassemble"], &["%"], &NO_DISASSEMBLIES),
     (
         &["source"],
-        "",
-        "",
+        &["%"],
         &["{}", "{\"source\":{}}", "{\"path\":\"a\"}"],
     ),
     // Every number, with each value that is no whole number.
-    (&["stackTrace"], "{\"startFrame\":", "}", &NO_WHOLE_NUMBERS),
-    (&["stackTrace"], "{\"levels\":", "}", &NO_WHOLE_NUMBERS),
-    (&["scopes"], "{\"frameId\":", "}", &NO_WHOLE_NUMBERS),
     (
-        &["variables"],
-        "{\"variablesReference\":",
-        "}",
+        &["stackTrace"],
+        &["{\"startFrame\":%}", "{\"levels\":%}"],
         &NO_WHOLE_NUMBERS,
     ),
-    (
-        &["variables"],
-        "{\"variablesReference\":1,\"start\":",
-        "}",
-        &NO_WHOLE_NUMBERS,
-    ),
-    (
-        &["variables"],
-        "{\"variablesReference\":4,\"count\":",
-        "}",
-        &NO_WHOLE_NUMBERS,
-    ),
-    (
-        &["setVariable"],
-        "{\"name\":\"A\",\"value\":\"1\",\"variablesReference\":",
-        "}",
-        &NO_WHOLE_NUMBERS,
-    ),
-    (
-        &["disassemble"],
-        "{\"memoryReference\":\"0x0000\",\"instructionCount\":1,\"offset\":",
-        "}",
-        &NO_WHOLE_NUMBERS,
-    ),
-    (
-        &["disassemble"],
-        "{\"memoryReference\":\"0x0000\",\"instructionCount\":1,\"instructionOffset\":",
-        "}",
-        &NO_WHOLE_NUMBERS,
-    ),
-    (
-        &["disassemble"],
-        "{\"memoryReference\":\"0x0000\",\"instructionCount\":",
-        "}",
-        &NO_WHOLE_NUMBERS,
-    ),
-    (&["boardSwitches"], "{\"value\":", "}", &NO_WHOLE_NUMBERS),
-    (&["boardPress"], "{\"vector\":", "}", &NO_WHOLE_NUMBERS),
-    (
-        &["setBreakpoints"],
-        "{\"source\":{\"path\":\"a\"},\"breakpoints\":[{\"line\":",
-        "}]}",
-        &NO_WHOLE_NUMBERS,
-    ),
+    (&["scopes"], &["{\"frameId\":%}"], &NO_WHOLE_NUMBERS),
+    (&["variables"], &NUMBERS_OF_VARIABLES, &NO_WHOLE_NUMBERS),
+    (&["setVariable"], &[REFERENCE], &NO_WHOLE_NUMBERS),
+    (&["disassemble"], &NUMBERS_OF_DISASSEMBLE, &NO_WHOLE_NUMBERS),
+    (&["boardSwitches"], &["{\"value\":%}"], &NO_WHOLE_NUMBERS),
+    (&["boardPress"], &["{\"vector\":%}"], &NO_WHOLE_NUMBERS),
+    (&["setBreakpoints"], &[LINE], &NO_WHOLE_NUMBERS),
     // Numbers out of their bounds.
-    (&["boardSwitches"], "{\"value\":", "}", &NO_BYTES),
-    (&["boardPress"], "{\"vector\":", "}", &NO_BYTES),
-    (
-        &["disassemble"],
-        "{\"memoryReference\":\"0x0000\",\"instructionCount\":",
-        "}",
-        &NO_COUNTS,
-    ),
+    (&["boardSwitches"], &["{\"value\":%}"], &NO_BYTES),
+    (&["boardPress"], &["{\"vector\":%}"], &NO_BYTES),
+    (&["disassemble"], &[COUNT], &NO_COUNTS),
     // Values of another kind.
     (
         &["next", "stepIn", "stepOut"],
-        "{\"granularity\":",
-        "}",
+        &["{\"granularity\":%}"],
         &NO_GRANULARITIES,
     ),
-    (&["dumpCell"], "{\"code\":", "}", &NO_TEXTS),
-    (&["boardType"], "{\"text\":", "}", &NO_TEXTS),
-    (
-        &["setVariable"],
-        "{\"variablesReference\":1,\"value\":\"1\",\"name\":",
-        "}",
-        &NO_TEXTS,
-    ),
-    (
-        &["setVariable"],
-        "{\"variablesReference\":1,\"name\":\"A\",\"value\":",
-        "}",
-        &NO_TEXTS,
-    ),
-    (&["boardAliases"], "{\"aliases\":", "}", &NO_TRUTHS),
+    (&["dumpCell"], &["{\"code\":%}"], &NO_TEXTS),
+    (&["boardType"], &["{\"text\":%}"], &NO_TEXTS),
+    (&["setVariable"], &TEXTS_OF_SET_VARIABLE, &NO_TEXTS),
+    (&["boardAliases"], &["{\"aliases\":%}"], &NO_TRUTHS),
     (
         &["source", "setBreakpoints"],
-        "{\"source\":",
-        "}",
+        &["{\"source\":%}"],
         &NO_SOURCES,
     ),
-    (
-        &["disassemble"],
-        "{\"instructionCount\":1,\"memoryReference\":",
-        "}",
-        &NO_REFERENCES,
-    ),
-    (
-        &["setBreakpoints"],
-        "{\"source\":{\"path\":\"a\"},\"breakpoints\":",
-        "}",
-        &NO_BREAKPOINTS,
-    ),
+    (&["disassemble"], &[ADDRESS], &NO_REFERENCES),
+    (&["setBreakpoints"], &[LINES], &NO_BREAKPOINTS),
 ];
 
 // Whether a command is refused with this message whose arguments are so.
@@ -593,10 +551,12 @@ fn is_refused(
 fn expect_bad(
     rt: &(impl Abort + AllocGlobal),
     command: &str,
-    before: &str,
-    after: &str,
+    arguments: &str,
     values: &[&str],
 ) -> Result<(), Fail> {
+    let Some((before, after)) = arguments.split_once('%') else {
+        panic!(rt; "{arguments} has no %");
+    };
     for value in values {
         let is_bad = is_refused(rt.alloc(), command, before, value, after, "Arguments")?;
         assert!(rt; is_bad, "{command} {before}{value}");
@@ -606,9 +566,11 @@ fn expect_bad(
 
 #[test]
 fn refuses_bad_arguments(rt: HostRuntime) -> Result<(), Fail> {
-    for (commands, before, after, values) in &REFUSED {
+    for (commands, all_arguments, values) in &REFUSED {
         for command in *commands {
-            expect_bad(&rt, command, before, after, values)?;
+            for arguments in *all_arguments {
+                expect_bad(&rt, command, arguments, values)?;
+            }
         }
     }
     Ok(())

@@ -1,12 +1,13 @@
 //! Boards on which the undefined opcodes act, and boards on which they don't.
-use crate::ask::Ask::{Code, Frames, Source};
-use crate::script::Step::{
+use i80_rows::board::Board::{Aliases, Strict};
+use lab_core::event::StepKind::{Out, Over};
+use lab_test_kit::ask::Ask::{Code, Frames, Source};
+use lab_test_kit::script::Step::{
     Attach, Debug, Frame, Instruction, Interrupt, Line, Lines, Load, Pause, Registers, Reset,
     Resume, SetBoard, Show, Slice, Start,
 };
-use crate::script::{Play, play_all};
-use i80_rows::board::Board::{Aliases, Strict};
-use lab_core::event::StepKind::{Out, Over};
+use lab_test_kit::script::{Play, wrong_plays};
+use std::alloc::AllocError;
 use std::rt::HostRuntime;
 
 /// A jump by CB to a call by DD, whose routine returns by D9.
@@ -46,11 +47,7 @@ Started
         "a call and a return by copies make a frame and end it",
         &[
             SetBoard(Aliases),
-            Load("p", COPIES),
-            Attach,
-            Lines("p", &[6]),
-            Start(0),
-            Slice(10),
+            Debug(COPIES, &[6]),
             Frame,
             Show(Frames(0, 0)),
             Line(Out),
@@ -59,10 +56,6 @@ Started
         ],
         "\
 BoardSet
-Loaded { start: Some(0) }
-Accepted
-line 6 true
-Started
 2 Stop(Breakpoint)
 FFFE 0007 0003
 1 F1 6 p 0007
@@ -77,26 +70,12 @@ Accepted
         "a step over a call by a copy",
         &[
             SetBoard(Aliases),
-            Load("p", COPIES),
-            Attach,
-            Lines("p", &[3]),
-            Start(0),
-            Slice(10),
+            Debug(COPIES, &[3]),
             Instruction(Over),
             Slice(10),
             Registers,
         ],
-        "\
-BoardSet
-Loaded { start: Some(0) }
-Accepted
-line 3 true
-Started
-1 Stop(Breakpoint)
-Accepted
-2 Stop(Step)
-0006 0000 Off 0
-",
+        "BoardSet\n1 Stop(Breakpoint)\nAccepted\n2 Stop(Step)\n0006 0000 Off 0\n",
     ),
     (
         "the option isn't changed while there is a run",
@@ -213,6 +192,8 @@ END MAIN
 ];
 
 #[test]
-fn undefined_opcodes_act_where_they_are_to(rt: HostRuntime) {
-    play_all(&rt, rt.alloc(), &PLAYS);
+fn undefined_opcodes_act_where_they_are_to(rt: HostRuntime) -> Result<(), AllocError> {
+    let wrong = wrong_plays(rt.alloc(), &PLAYS)?;
+    assert!(rt; wrong.is_empty(), "{wrong}");
+    Ok(())
 }

@@ -3,12 +3,12 @@
 ghost use Rattle.std.specs.Prelude.{All};
 ghost use Rattle.lab_core.specs.Events.{Fits};
 
-use crate::script::{Play, Step, play_all};
-use crate::told::put_told;
 use lab_core::answer::{Answers, EventsFault};
 use lab_core::event::Event;
 use lab_core::lab::Lab;
 use lab_core::laws::{applies_as_given, one_answer};
+use lab_test_kit::script::{Play, Step, wrong_plays};
+use lab_test_kit::told::put_told;
 use std::alloc::AllocError;
 use std::rt::HostRuntime;
 
@@ -223,8 +223,10 @@ refused: the path has another text
 ];
 
 #[test]
-fn boards_answer(rt: HostRuntime) {
-    play_all(&rt, rt.alloc(), &PLAYS);
+fn boards_answer(rt: HostRuntime) -> Result<(), AllocError> {
+    let wrong = wrong_plays(rt.alloc(), &PLAYS)?;
+    assert!(rt; wrong.is_empty(), "{wrong}");
+    Ok(())
 }
 
 fn put_answers(

@@ -1,7 +1,6 @@
 //! Runs in slices of several lengths, beside the same run in slices of one step.
 ghost use Rattle.std.specs.Prelude.{◌≤◌};
 
-use crate::script::{is_done, load_text, set_breakpoints};
 use i80_devs::traffic::Traffic;
 use i80_exec::ports::PortOperation;
 use i80_exec::registers::{Interrupts, Registers};
@@ -9,6 +8,7 @@ use lab_core::answer::{Answer, End, SliceOutcome, Stop};
 use lab_core::event::Event;
 use lab_core::lab::Lab;
 use lab_frames::frames::Frames;
+use lab_test_kit::script::{is_done, load_text, set_breakpoints};
 use std::alloc::{AllocError, Global};
 use std::rt::HostRuntime;
 

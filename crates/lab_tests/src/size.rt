@@ -1,13 +1,12 @@
 //! Boards with more than a few of anything: none of it is refused for want of memory.
-ghost use Rattle.std.specs.Prelude.{◌≡◌, All, OnOk, IfOk};
+ghost use Rattle.std.specs.Prelude.{All, IfOk};
 ghost use Rattle.lab_core.specs.Events.{Fits};
 
-use crate::script::load_text;
-use crate::told::put_told;
-use base_text::text::Text;
 use lab_core::answer::{Answers, EventsFault};
 use lab_core::event::Event;
 use lab_core::lab::Lab;
+use lab_test_kit::cells::symbols;
+use lab_test_kit::script::load_text;
 use std::alloc::{AllocError, Global};
 use std::rt::HostRuntime;
 
@@ -52,15 +51,6 @@ fn five_thousand_events_are_answered(rt: HostRuntime) -> Result<(), AllocError> 
     Ok(())
 }
 
-/// 300 symbols from 0 on, as S0 to S299, each with its number as its value.
-pub fn symbols(alloc: Global, letter: &str) -> Result<String, AllocError> {
-    let mut text = String::new(alloc);
-    for number in 0..300u32 {
-        write!(text, "{letter}{number} EQU {number}\n")?;
-    }
-    Ok(text)
-}
-
 // Six bytes that a second cell makes of the symbols of a first one, where both are taken.
 fn bytes_of_two_cells(alloc: Global, lab: &mut Lab) -> Result<Option<[u8; 6]>, AllocError> {
     let text = symbols(alloc, "S")?;
@@ -79,61 +69,5 @@ fn three_hundred_symbols_are_kept(rt: HostRuntime) -> Result<(), AllocError> {
     drop(lab);
     // 299 is 012BH, the low byte first.
     assert!(rt; bytes? == Some([0, 0, 255, 0, 0x2b, 0x01]));
-    Ok(())
-}
-
-// A change of A by hand to a value that is this digit a thousand times.
-fn thousand(alloc: Global, digit: &str) -> Result<Event, AllocError>
-    ensures { IfOk result (λ event. Fits event) }
-{
-    let mut value = String::new(alloc);
-    for _ in 0..1000u16 {
-        value.push_str(digit)?;
-    }
-    let name = Text::copy_of(alloc, "A")?;
-    Ok(Event::Poke {
-        reference: 1,
-        name,
-        value: Text::from(value),
-    })
-}
-
-// Adds what an event answers.
-fn tell(lab: &mut Lab, event: &Event, told: &mut String) -> Result<(), AllocError>
-    requires { Fits event.now }
-{
-    let answer = lab.apply(event);
-    let put = put_told(told, &answer);
-    drop(answer);
-    put
-}
-
-// What a stopped run's board answers to a thousand nines and to a thousand zeros.
-fn thousands(alloc: Global, lab: &mut Lab, told: &mut String) -> Result<(), AllocError> {
-    for event in [Event::Attach, Event::Start(0), Event::Pause] {
-        tell(lab, &event, told)?;
-    }
-    for digit in ["9", "0"] {
-        let event = thousand(alloc, digit)?;
-        tell(lab, &event, told)?;
-    }
-    Ok(())
-}
-
-#[test]
-fn values_of_a_thousand_digits_are_read(rt: HostRuntime) -> Result<(), AllocError> {
-    let mut lab = Lab::new(rt.alloc())?;
-    let mut told = String::new(rt.alloc());
-    let put = thousands(rt.alloc(), &mut lab, &mut told);
-    drop(lab);
-    put?;
-    let wanted = "\
-Accepted
-Started
-Accepted
-refused: the value is no number that fits there
-Poked 000H
-";
-    assert!(rt; told.as_str() == wanted, "{told}");
     Ok(())
 }

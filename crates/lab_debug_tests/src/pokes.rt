@@ -1,27 +1,59 @@
 //! Changes of a stopped run's machine by hand: which places and values there are, and what a change leaves.
-use crate::ask::Ask::{Frames, Variables};
-use crate::script::Step::{
-    Attach, Byte, Debug, Frame, Instruction, Interrupt, Line, Lines, Load, Pause, Poke, Press,
-    Registers, Resume, Show, Slice, Start,
-};
-use crate::script::{Play, play_all};
+use crate::debug::{CALL, RECURSION};
 use lab_core::event::StepKind::{In, Out, Over};
+use lab_test_kit::ask::Ask::{Frames, Variables};
+use lab_test_kit::script::Step::{
+    Attach, Byte, Debug, Frame, Instruction, Interrupt, Line, Lines, Load, Pause, Poke, Pokes,
+    Press, Registers, Resume, Show, Slice, Start,
+};
+use lab_test_kit::script::{Changes, Play, wrong_plays};
+use std::alloc::AllocError;
 use std::rt::HostRuntime;
 
 /// A loop without an end.
 const LOOP: &str = "X: JMP X\nEND X";
-
-/// A call, whose routine returns at once.
-const CALL: &str = "MAIN: CALL F1\nHLT\nF1: RET\nEND MAIN";
-
-/// A routine that calls itself once.
-const RECURSION: &str = "MAIN: MVI B,2\nCALL REC\nHLT\nREC: DCR B\nCNZ REC\nRET\nEND MAIN";
 
 /// A call within a call, on a stack that doesn't wrap.
 const NESTED: &str = "MAIN: LXI SP,2000H\nCALL F1\nHLT\nF1: CALL F2\nRET\nF2: RET\nEND MAIN";
 
 /// Instructions one after the other.
 const LINE: &str = "X: NOP\nNOP\nY: NOP\nJMP X\nEND X";
+
+const NO_SCOPE: &str = "refused: no scope for this has the reference\n";
+
+/// References without a place to change.
+const NO_SCOPES: [Changes; 4] = [
+    (0, &["A"], &["1"]),
+    (4, &["X"], &["1"]),
+    (6, &["A"], &["1"]),
+    (4_294_967_295, &["?"], &["?"]),
+];
+
+const NO_PLACE: &str = "refused: there is no such register or address\n";
+
+/// Names that no place has.
+const NO_PLACES: [Changes; 5] = [
+    (1, &["a", "M"], &["?"]),
+    (1, &["PSW", "", "0000"], &["1"]),
+    (5, &["A", "10000"], &["1"]),
+    (5, &["00G0"], &["?"]),
+    (5, &["000"], &["1"]),
+];
+
+const NO_NUMBER: &str = "refused: the value is no number that fits there\n";
+
+/// Texts that are no value.
+const NO_NUMBERS: [Changes; 3] = [
+    (
+        1,
+        &["A"],
+        &[
+            "", "-1", "256", "0FFFFFH", "AH", "1 ", " 1", "'A'", "H", "12B", "8Q", "1+1",
+        ],
+    ),
+    (1, &["SP"], &["65536"]),
+    (5, &["0000"], &["256"]),
+];
 
 // What each play is about, its steps, and the lines that they show.
 const PLAYS: [Play; 11] = [
@@ -120,19 +152,8 @@ FE
             Start(0),
             Poke(1, "A", "1"),
             Pause,
-            Poke(0, "A", "1"),
-            Poke(4, "X", "1"),
-            Poke(6, "A", "1"),
-            Poke(4_294_967_295, "?", "?"),
-            Poke(1, "a", "?"),
-            Poke(1, "M", "?"),
-            Poke(1, "PSW", "1"),
-            Poke(1, "", "1"),
-            Poke(1, "0000", "1"),
-            Poke(5, "A", "1"),
-            Poke(5, "10000", "1"),
-            Poke(5, "00G0", "?"),
-            Poke(5, "000", "1"),
+            Pokes(&NO_SCOPES, NO_SCOPE),
+            Pokes(&NO_PLACES, NO_PLACE),
             Show(Variables(1, 0, 0)),
             Show(Variables(5, 0, 1)),
         ],
@@ -144,19 +165,6 @@ Accepted
 Started
 refused: no program is stopped
 Accepted
-refused: no scope for this has the reference
-refused: no scope for this has the reference
-refused: no scope for this has the reference
-refused: no scope for this has the reference
-refused: there is no such register or address
-refused: there is no such register or address
-refused: there is no such register or address
-refused: there is no such register or address
-refused: there is no such register or address
-refused: there is no such register or address
-refused: there is no such register or address
-refused: there is no such register or address
-refused: there is no such register or address
 A=000H B=000H C=000H D=000H E=000H H=000H L=000H SP=00000H PC=00000H 
 0000=0C3H 
 ",
@@ -165,38 +173,11 @@ A=000H B=000H C=000H D=000H E=000H H=000H L=000H SP=00000H PC=00000H
         "texts that are no value",
         &[
             Debug(LOOP, &[1]),
-            Poke(1, "A", ""),
-            Poke(1, "A", "-1"),
-            Poke(1, "A", "256"),
-            Poke(1, "A", "0FFFFFH"),
-            Poke(1, "A", "AH"),
-            Poke(1, "A", "1 "),
-            Poke(1, "A", " 1"),
-            Poke(1, "A", "'A'"),
-            Poke(1, "A", "H"),
-            Poke(1, "A", "12B"),
-            Poke(1, "A", "8Q"),
-            Poke(1, "A", "1+1"),
-            Poke(1, "SP", "65536"),
-            Poke(5, "0000", "256"),
+            Pokes(&NO_NUMBERS, NO_NUMBER),
             Show(Variables(1, 0, 0)),
         ],
         "\
 0 Stop(Breakpoint)
-refused: the value is no number that fits there
-refused: the value is no number that fits there
-refused: the value is no number that fits there
-refused: the value is no number that fits there
-refused: the value is no number that fits there
-refused: the value is no number that fits there
-refused: the value is no number that fits there
-refused: the value is no number that fits there
-refused: the value is no number that fits there
-refused: the value is no number that fits there
-refused: the value is no number that fits there
-refused: the value is no number that fits there
-refused: the value is no number that fits there
-refused: the value is no number that fits there
 A=000H B=000H C=000H D=000H E=000H H=000H L=000H SP=00000H PC=00000H 
 ",
     ),
@@ -350,6 +331,8 @@ Interrupted
 ];
 
 #[test]
-fn machines_are_changed_by_hand(rt: HostRuntime) {
-    play_all(&rt, rt.alloc(), &PLAYS);
+fn machines_are_changed_by_hand(rt: HostRuntime) -> Result<(), AllocError> {
+    let wrong = wrong_plays(rt.alloc(), &PLAYS)?;
+    assert!(rt; wrong.is_empty(), "{wrong}");
+    Ok(())
 }

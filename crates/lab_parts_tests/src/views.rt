@@ -1,7 +1,4 @@
 //! Views of a small board: the words of the tables, and the ends of every count.
-use crate::ask::{Ask, view};
-use crate::size::symbols;
-use crate::told::put_shown;
 use asm_build::built::Built;
 use asm_build::cell::build;
 use asm_build::symbols::Symbols;
@@ -16,6 +13,9 @@ use lab_breaks::lists::BreakpointList;
 use lab_frames::frames::Frames;
 use lab_image::origins::Origins;
 use lab_sources::sources::{Source, Sources};
+use lab_test_kit::ask::{Ask, view};
+use lab_test_kit::cells::symbols;
+use lab_test_kit::told::put_shown;
 use lab_views::fault::ViewFault;
 use lab_views::parts::Parts;
 use lab_views::shown::Shown;

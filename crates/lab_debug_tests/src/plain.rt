@@ -2,8 +2,6 @@
 ghost use Rattle.std.specs.Prelude.{IfOk};
 ghost use Rattle.lab_core.specs.Events.{Fits};
 
-use crate::script::is_done;
-use base_text::text::Text;
 use i80_exec::registers::{Registers, Stepped};
 use lab_core::answer::{Answer, SliceOutcome, Stop};
 use lab_core::event::{Event, Granularity, StepKind, StepRequest};
@@ -11,6 +9,7 @@ use lab_core::fault::EventFault;
 use lab_core::lab::Lab;
 use lab_frames::frame::Frame;
 use lab_frames::frames::Frames;
+use lab_test_kit::script::{is_done, poke};
 use std::alloc::{AllocError, Global};
 use std::rt::HostRuntime;
 
@@ -127,16 +126,11 @@ fn step(lab: &mut Lab) -> Option<Entry> {
     Some(entry_of(opcode, &before, &after))
 }
 
-fn poke(alloc: Global, reference: u32, name: &str, value: u16) -> Result<Event, AllocError>
+fn poke_number(alloc: Global, reference: u32, name: &str, value: u16) -> Result<Event, AllocError>
     ensures { IfOk result (λ event. Fits event) }
 {
-    let name = Text::copy_of(alloc, name)?;
-    let value = Text::from(format!(in alloc; "{value}")?);
-    Ok(Event::Poke {
-        reference,
-        name,
-        value,
-    })
+    let value = format!(in alloc; "{value}")?;
+    poke(alloc, reference, name, value.as_str())
 }
 
 /// Values of SP at which slots lie next to one another, and wrap.
@@ -158,11 +152,11 @@ fn next(number: u32) -> u32 {
 fn change(alloc: Global, lab: &mut Lab, number: u32) -> Result<bool, AllocError> {
     let some = (number >> 16) as u16;
     let event = match number >> 30 {
-        0 => poke(alloc, 1, "SP", PLACES[(some % 8) as usize])?,
-        1 => poke(alloc, 1, "PC", some % 0x0200)?,
+        0 => poke_number(alloc, 1, "SP", PLACES[(some % 8) as usize])?,
+        1 => poke_number(alloc, 1, "PC", some % 0x0200)?,
         _ => {
             let name = format!(in alloc; "{:04x}", lab.regs().pc)?;
-            let event = poke(
+            let event = poke_number(
                 alloc,
                 5,
                 name.as_str(),

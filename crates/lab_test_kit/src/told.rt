@@ -148,7 +148,7 @@ pub fn put_told(told: &mut String, answer: &Result<Answer, EventFault>) -> Resul
 }
 
 /// PC, SP, the interrupt state, and how many frames are live.
-pub fn put_registers(told: &mut String, lab: &Lab) -> Result<(), AllocError> {
+pub(crate) fn put_registers(told: &mut String, lab: &Lab) -> Result<(), AllocError> {
     let regs = lab.regs();
     let interrupts = match regs.interrupts {
         Interrupts::Off => "Off",
@@ -164,7 +164,7 @@ pub fn put_registers(told: &mut String, lab: &Lab) -> Result<(), AllocError> {
 }
 
 /// The innermost frame.
-pub fn put_newest(told: &mut String, lab: &Lab) -> Result<(), AllocError> {
+pub(crate) fn put_newest(told: &mut String, lab: &Lab) -> Result<(), AllocError> {
     match lab.frames().newest() {
         Some(frame) => write!(
             told,
@@ -176,7 +176,7 @@ pub fn put_newest(told: &mut String, lab: &Lab) -> Result<(), AllocError> {
 }
 
 /// A byte and its origin.
-pub fn put_byte(told: &mut String, lab: &Lab, address: u16) -> Result<(), AllocError> {
+pub(crate) fn put_byte(told: &mut String, lab: &Lab, address: u16) -> Result<(), AllocError> {
     let byte = lab.peek(address);
     match lab.origin_at(address) {
         Some(origin) => write!(

@@ -1,19 +1,20 @@
 //! What a debugger is answered: stops, Steps, breakpoints and views.
 
-use crate::ask::Ask::{Code, Frames, Info, Scopes, Source, Variables};
-use crate::script::Step::{
+use lab_core::event::StepKind::{In, Out, Over};
+use lab_test_kit::ask::Ask::{Code, Frames, Info, Scopes, Source, Variables};
+use lab_test_kit::script::Step::{
     Attach, Debug, Detach, Dump, Instruction, Interrupt, Line, Lines, Load, Pause, Press,
     Registers, Reset, Resume, Show, Slice, Start,
 };
-use crate::script::{Play, play_all};
-use lab_core::event::StepKind::{In, Out, Over};
+use lab_test_kit::script::{Play, wrong_plays};
+use std::alloc::AllocError;
 use std::rt::HostRuntime;
 
 /// A call, whose routine returns at once.
-const CALL: &str = "MAIN: CALL F1\nHLT\nF1: RET\nEND MAIN";
+pub const CALL: &str = "MAIN: CALL F1\nHLT\nF1: RET\nEND MAIN";
 
 /// A routine that calls itself once.
-const RECURSION: &str = "MAIN: MVI B,2\nCALL REC\nHLT\nREC: DCR B\nCNZ REC\nRET\nEND MAIN";
+pub const RECURSION: &str = "MAIN: MVI B,2\nCALL REC\nHLT\nREC: DCR B\nCNZ REC\nRET\nEND MAIN";
 
 // What each play is about, its steps, and the lines that they show.
 const PLAYS: [Play; 17] = [
@@ -402,6 +403,8 @@ FFFF C3 00 00 JMP 00000H
 ];
 
 #[test]
-fn debuggers_are_answered(rt: HostRuntime) {
-    play_all(&rt, rt.alloc(), &PLAYS);
+fn debuggers_are_answered(rt: HostRuntime) -> Result<(), AllocError> {
+    let wrong = wrong_plays(rt.alloc(), &PLAYS)?;
+    assert!(rt; wrong.is_empty(), "{wrong}");
+    Ok(())
 }

@@ -10,7 +10,9 @@ use i80_rows::board::Board;
 use lab_core::event::{Event, Granularity, StepKind, StepRequest};
 use lab_core::lab::Lab;
 use std::alloc::{AllocError, Global};
-use std::process::Abort;
+
+/// Changes by hand: a reference, names, and values for each of them.
+pub type Changes = (u32, &'static [&'static str], &'static [&'static str]);
 
 /// An event as a test writes it, or a look at what was left.
 #[derive(Clone, Copy)]
@@ -27,6 +29,8 @@ pub enum Step {
     Instruction(StepKind),
     /// A reference, a name and a value.
     Poke(u32, &'static str, &'static str),
+    /// Makes these changes in turn, and shows what is answered otherwise than by this text.
+    Pokes(&'static [Changes], &'static str),
     Interrupt,
     Reset,
     SetBoard(Board),
@@ -71,7 +75,8 @@ fn dump(alloc: Global, path: &str, text: &str) -> Result<Event, AllocError>
     Ok(Event::Dump { path, text })
 }
 
-fn poke(alloc: Global, reference: u32, name: &str, value: &str) -> Result<Event, AllocError>
+/// A change by hand.
+pub fn poke(alloc: Global, reference: u32, name: &str, value: &str) -> Result<Event, AllocError>
     ensures { IfOk result (λ event. Fits event) }
 {
     let (name, value) = texts(alloc, name, value)?;
@@ -171,7 +176,8 @@ fn fill(alloc: Global, lab: &mut Lab) -> Result<(), AllocError> {
     Ok(())
 }
 
-fn tell_event(lab: &mut Lab, event: Event, told: &mut String) -> Result<(), AllocError>
+/// Does an event, and adds what it answers.
+pub fn tell_event(lab: &mut Lab, event: Event, told: &mut String) -> Result<(), AllocError>
     requires { Fits event }
 {
     let answer = lab.apply(&event);
@@ -223,6 +229,37 @@ fn begin(
     Ok(())
 }
 
+// Adds what a step answers, where it isn't this text.
+fn tell_other(
+    alloc: Global,
+    lab: &mut Lab,
+    step: Step,
+    wanted: &str,
+    told: &mut String,
+) -> Result<(), AllocError> {
+    let mut answered = String::new(alloc);
+    tell_one(alloc, lab, step, &mut answered)?;
+    if answered.as_str() != wanted {
+        told.push_str(answered.as_str())?;
+    }
+    Ok(())
+}
+
+fn tell_changes(
+    alloc: Global,
+    lab: &mut Lab,
+    (reference, names, values): Changes,
+    wanted: &str,
+    told: &mut String,
+) -> Result<(), AllocError> {
+    for name in names {
+        for value in values {
+            tell_other(alloc, lab, Step::Poke(reference, name, value), wanted, told)?;
+        }
+    }
+    Ok(())
+}
+
 /// Adds what a step answers.
 fn tell(alloc: Global, lab: &mut Lab, step: Step, told: &mut String) -> Result<(), AllocError> {
     match step {
@@ -231,27 +268,49 @@ fn tell(alloc: Global, lab: &mut Lab, step: Step, told: &mut String) -> Result<(
             begin(alloc, lab, text, lines, told)?;
             tell_one(alloc, lab, Step::Slice(10), told)
         }
+        Step::Pokes(changes, wanted) => {
+            for each in changes {
+                tell_changes(alloc, lab, *each, wanted, told)?;
+            }
+            Ok(())
+        }
         _ => tell_one(alloc, lab, step, told),
     }
 }
 
-/// What a play is about, its steps, and the lines that they show.
-pub type Play = (&'static str, &'static [Step], &'static str);
-
-// Compares what the steps of a play show on a new board with its lines.
-fn play(rt: &impl Abort, alloc: Global, (about, steps, wanted): Play) {
-    let mut lab = Lab::new(alloc).expect(rt, "memory");
-    let mut told = String::new(alloc);
+fn tell_all(
+    alloc: Global,
+    lab: &mut Lab,
+    steps: &[Step],
+    told: &mut String,
+) -> Result<(), AllocError> {
     for step in steps {
-        tell(alloc, &mut lab, *step, &mut told).expect(rt, "memory");
+        tell(alloc, lab, *step, told)?;
     }
-    drop(lab);
-    assert!(rt; told.as_str() == wanted, "{about}: {told}");
+    Ok(())
 }
 
-/// Plays each on a board of its own.
-pub fn play_all(rt: &impl Abort, alloc: Global, plays: &[Play]) {
-    for each in plays {
-        play(rt, alloc, *each);
+// What steps show on a new board.
+fn shown(alloc: Global, steps: &[Step]) -> Result<String, AllocError> {
+    let mut lab = Lab::new(alloc)?;
+    let mut told = String::new(alloc);
+    let outcome = tell_all(alloc, &mut lab, steps, &mut told);
+    drop(lab);
+    outcome?;
+    Ok(told)
+}
+
+/// What a play is about, its steps, and the lines that they show on a new board.
+pub type Play = (&'static str, &'static [Step], &'static str);
+
+/// What each of these plays that shows other lines is about, and what it shows: nothing where all are right.
+pub fn wrong_plays(alloc: Global, plays: &[Play]) -> Result<String, AllocError> {
+    let mut wrong = String::new(alloc);
+    for (about, steps, wanted) in plays {
+        let told = shown(alloc, steps)?;
+        if told.as_str() != *wanted {
+            write!(wrong, "{about}: {}\n", told.as_str())?;
+        }
     }
+    Ok(wrong)
 }

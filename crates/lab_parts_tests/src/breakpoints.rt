@@ -171,20 +171,15 @@ fn are_met_anew(breakpoints: &mut Breakpoints, origins: &Origins, wanted: &[u16]
     first_wrong(breakpoints, origins, wanted).is_none()
 }
 
-/// Whether a load is met once the breakpoints are refreshed, and so is that all loads went.
-fn are_refreshed(
-    alloc: Global,
-    breakpoints: &mut Breakpoints,
-    origins: &mut Origins,
-) -> Result<bool, AllocError> {
-    load_more(alloc, origins, &MORE)?;
+/// Whether the loads are met once the breakpoints are refreshed, and so is that all loads went.
+fn are_refreshed(breakpoints: &mut Breakpoints, origins: &mut Origins) -> bool {
     let are_met = are_met_anew(breakpoints, origins, &[0x000, 0x103, 0xffff]);
     origins.clear();
     let none_is_met = are_met_anew(breakpoints, origins, &[]);
-    Ok(are_met && none_is_met && has_lists(breakpoints, &[(1, 2), (9, 1)]))
+    are_met && none_is_met && has_lists(breakpoints, &[(1, 2), (9, 1)])
 }
 
-/// Whether breakpoints are right over the loads above, and refreshed after that.
+/// Whether breakpoints are right over the loads above, and refreshed after one more.
 fn are_right_and_refreshed(
     alloc: Global,
     breakpoints: &mut Breakpoints,
@@ -192,7 +187,8 @@ fn are_right_and_refreshed(
 ) -> Result<bool, AllocError> {
     load_more(alloc, origins, &LOADS)?;
     let is_right_before = are_right(breakpoints, origins, &BEFORE_MORE)?;
-    Ok(are_refreshed(alloc, breakpoints, origins)? && is_right_before)
+    load_more(alloc, origins, &MORE)?;
+    Ok(are_refreshed(breakpoints, origins) && is_right_before)
 }
 
 fn loads_are_met(alloc: Global) -> Result<bool, AllocError> {
