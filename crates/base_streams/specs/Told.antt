@@ -1,5 +1,6 @@
 -- Bytes that were given or taken, where they are known.
 use Rattle.std.specs.Prelude.{◌≡◌, ℕ, List, ◌++◌, Option, Some, None}
+use Rattle.base_streams.specs.States.{InletState, OutletState}
 
 -- the bytes after are those before, and these
 abbrev pub Told : Option (List ℕ) → Option (List ℕ) → List ℕ → Type 0
@@ -12,3 +13,15 @@ pub record ToldFront (before after : Option (List ℕ)) (bytes : List ℕ) : Typ
   pub others : List ℕ
   pub told : Told before after front
   pub whole : bytes ≡ front ++ others
+
+-- the reader gave these bytes
+abbrev pub Gave : InletState → InletState → List ℕ → Type 0
+Gave old new bytes = Told old.given new.given bytes
+
+-- the writer took these bytes
+abbrev pub Took : OutletState → OutletState → List ℕ → Type 0
+Took old new bytes = Told old.taken new.taken bytes
+
+-- the writer took a front of these bytes
+abbrev pub TookFront : OutletState → OutletState → List ℕ → Type 0
+TookFront old new bytes = ToldFront old.taken new.taken bytes

@@ -46,9 +46,7 @@ impl Sink {
 }
 
 impl Outlet for Sink {
-    ghost taken = { λ s. Some s.taken };
-
-    ghost failed = { λ s. s.failed };
+    ghost state = { λ s. record { taken = Some s.taken; failed = s.failed } };
 
     /// Fails out of memory too.
     fn write(&mut self, bytes: &[u8]) -> Result<usize, IoFault> {
@@ -116,13 +114,12 @@ impl Source {
 }
 
 impl Inlet for Source {
-    ghost given = { λ s. Some s.given };
-
-    ghost left = { λ s. Some s.left };
-
-    ghost failed = { λ s. s.failed };
-
-    ghost ended = { λ s. s.ended };
+    ghost state = { λ s. record {
+      given = Some s.given;
+      left = Some s.left;
+      ended = s.ended;
+      failed = s.failed;
+    } };
 
     fn read(&mut self, buffer: &mut [u8]) -> Result<usize, IoFault> {
         if self.calls == 0 || self.most == 0 {

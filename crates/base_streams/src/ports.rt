@@ -1,7 +1,8 @@
 //! What gives bytes and what takes them.
-ghost use Rattle.std.specs.Prelude.{◌≡◌, ℕ, ◌<◌, ◌≤◌, List, [], Option, Bool, true, length, take, IfOk, MatchResult};
+ghost use Rattle.std.specs.Prelude.{◌≡◌, ◌<◌, ◌≤◌, [], true, length, take, IfOk, MatchResult};
 ghost use Rattle.std.specs.Io.KnownBytes.{ReadConsumes};
-ghost use Rattle.base_streams.specs.Told.{Told};
+ghost use Rattle.base_streams.specs.States.{InletState, OutletState};
+ghost use Rattle.base_streams.specs.Told.{Gave, Took};
 
 use thiserror::Error;
 
@@ -12,14 +13,8 @@ pub struct IoFault;
 
 /// What gives bytes.
 pub trait Inlet {
-    /// The bytes that it has given, where they are known.
-    ghost given: { Self → Option (List ℕ) };
-    /// The bytes that it has still to give, where they are known.
-    ghost left: { Self → Option (List ℕ) };
-    /// Whether a read has failed.
-    ghost failed: { Self → Bool };
-    /// Whether a read has come to the end.
-    ghost ended: { Self → Bool };
+    /// What it has given and has still to give, whether it has ended, and whether it has failed.
+    ghost state: { Self → InletState };
 
     /// Reads at most as many bytes as there is room for, to the front of the buffer, and reports how
     /// many. None is the end.
@@ -27,38 +22,37 @@ pub trait Inlet {
         requires { 0 < length buffer.old }
         ensures count { IfOk result (λ n. n ≤ length buffer.new) }
         ensures given { MatchResult result
-            (λ n. Told (given self.old) (given self.new) (take n buffer.new))
-            (λ _. Told (given self.old) (given self.new) []) }
+            (λ n. Gave (state self.old) (state self.new) (take n buffer.new))
+            (λ _. Gave (state self.old) (state self.new) []) }
 
         // What is read is the front of what was left, and at the end nothing is left.
-        ensures left { ReadConsumes (left self.old) (left self.new) result buffer.new }
+        ensures left { ReadConsumes (state self.old).left (state self.new).left result buffer.new }
 
         // Only an error is a failure, and only a read of no bytes is the end.
         ensures failed { MatchResult result
-            (λ _. failed self.new ≡ failed self.old)
-            (λ _. failed self.new ≡ true) }
+            (λ _. (state self.new).failed ≡ (state self.old).failed)
+            (λ _. (state self.new).failed ≡ true) }
         ensures ended { MatchResult result
-            (λ n. (0 < n → ended self.new ≡ ended self.old) × (n ≡ 0 → ended self.new ≡ true))
-            (λ _. ended self.new ≡ ended self.old) };
+            (λ n. (0 < n → (state self.new).ended ≡ (state self.old).ended)
+            × (n ≡ 0 → (state self.new).ended ≡ true))
+            (λ _. (state self.new).ended ≡ (state self.old).ended) };
 }
 
 /// What takes bytes.
 pub trait Outlet {
-    /// The bytes that it has taken, where they are known.
-    ghost taken: { Self → Option (List ℕ) };
-    /// Whether a write has failed.
-    ghost failed: { Self → Bool };
+    /// What it has taken, and whether it has failed.
+    ghost state: { Self → OutletState };
 
     /// Writes bytes from the front, at least one, and reports how many.
     fn write(&mut self, bytes: &[u8]) -> Result<usize, IoFault>
         requires { 0 < length bytes.now }
         ensures count { IfOk result (λ n. (0 < n) × (n ≤ length bytes.now)) }
         ensures taken { MatchResult result
-            (λ n. Told (taken self.old) (taken self.new) (take n bytes.now))
-            (λ _. Told (taken self.old) (taken self.new) []) }
+            (λ n. Took (state self.old) (state self.new) (take n bytes.now))
+            (λ _. Took (state self.old) (state self.new) []) }
 
         // Only an error is a failure.
         ensures failed { MatchResult result
-            (λ _. failed self.new ≡ failed self.old)
-            (λ _. failed self.new ≡ true) };
+            (λ _. (state self.new).failed ≡ (state self.old).failed)
+            (λ _. (state self.new).failed ≡ true) };
 }

@@ -57,18 +57,17 @@ pub struct StdInlet<R: Read + Drop> {
 }
 
 impl<R: Read + Drop> Model for StdInlet<R> {
-    ghost use Rattle.std.specs.Prelude.{Bool};
+    ghost use Rattle.base_streams.specs.States.{StdInletState};
 
-    ghost Value = { R × Bool × Bool };
+    ghost Value = { StdInletState R };
 
-    // The reader, whether it has failed, whether it has ended.
-    ghost view = { λ s. (s.reader, s.failed, s.ended) };
+    ghost view = { λ s. record { reader = s.reader; ended = s.ended; failed = s.failed } };
 }
 
 impl<R: Read + Drop> StdInlet<R> {
     /// Wraps a reader.
     pub fn new(reader: R) -> StdInlet<R>
-        ensures { result ≡ (reader, false, false) }
+        ensures { result ≡ record { reader = reader; ended = false; failed = false } }
     {
         StdInlet {
             reader,
@@ -79,13 +78,12 @@ impl<R: Read + Drop> StdInlet<R> {
 }
 
 impl<R: Read + Drop> Inlet for StdInlet<R> {
-    ghost given = { λ _. None };
-
-    ghost left = { λ s. R.remaining s.0 };
-
-    ghost failed = { λ s. s.1 };
-
-    ghost ended = { λ s. s.2 };
+    ghost state = { λ s. record {
+      given = None;
+      left = R.remaining s.reader;
+      ended = s.ended;
+      failed = s.failed;
+    } };
 
     fn read(&mut self, buffer: &mut [u8]) -> Result<usize, IoFault> {
         match read_some(&mut self.reader, buffer) {
@@ -110,18 +108,17 @@ pub struct StdOutlet<W: Write + Drop> {
 }
 
 impl<W: Write + Drop> Model for StdOutlet<W> {
-    ghost use Rattle.std.specs.Prelude.{Bool};
+    ghost use Rattle.base_streams.specs.States.{StdOutletState};
 
-    ghost Value = { W × Bool };
+    ghost Value = { StdOutletState W };
 
-    // The writer, and whether it has failed.
-    ghost view = { λ s. (s.writer, s.failed) };
+    ghost view = { λ s. record { writer = s.writer; failed = s.failed } };
 }
 
 impl<W: Write + Drop> StdOutlet<W> {
     /// Wraps a writer.
     pub fn new(writer: W) -> StdOutlet<W>
-        ensures { result ≡ (writer, false) }
+        ensures { result ≡ record { writer = writer; failed = false } }
     {
         StdOutlet {
             writer,
@@ -131,7 +128,7 @@ impl<W: Write + Drop> StdOutlet<W> {
 
     /// The writer.
     pub fn into_inner(self) -> W
-        ensures { result ≡ self.0 }
+        ensures { result ≡ self.writer }
     {
         let StdOutlet { writer, failed: _ } = self;
         writer
@@ -139,9 +136,7 @@ impl<W: Write + Drop> StdOutlet<W> {
 }
 
 impl<W: Write + Drop> Outlet for StdOutlet<W> {
-    ghost taken = { λ s. W.contents s.0 };
-
-    ghost failed = { λ s. s.1 };
+    ghost state = { λ s. record { taken = W.contents s.writer; failed = s.failed } };
 
     fn write(&mut self, bytes: &[u8]) -> Result<usize, IoFault> {
         match write_some(&mut self.writer, bytes) {

@@ -117,14 +117,14 @@ fn sources_of_none(rt: HostRuntime) {
 // Over a slice the clauses of a read name the slice's bytes.
 fn read_slice(from: &mut StdInlet<&[u8]>, buffer: &mut [u8]) -> Result<usize, IoFault>
     requires { 0 < length buffer.old }
-    ensures { IfOk result (λ n. from.old.0.now ≡ take n buffer.new ++ from.new.0.now) }
+    ensures { IfOk result (λ n. from.old.reader.now ≡ take n buffer.new ++ from.new.reader.now) }
 {
     from.read(buffer)
 }
 
 // Over a vector the clauses of a write name the vector's bytes.
 fn write_vec(to: &mut StdOutlet<Vec<u8>>, bytes: &[u8]) -> Result<(), IoFault>
-    ensures { OnOk result (to.new.0.items ≡ to.old.0.items ++ bytes.now) }
+    ensures { OnOk result (to.new.writer.items ≡ to.old.writer.items ++ bytes.now) }
 {
     write_all(to, bytes)
 }

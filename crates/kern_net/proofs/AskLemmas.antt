@@ -1,6 +1,8 @@
 -- What one message asks for.
-use Rattle.std.proofs.Common.{◌≡◌, ◌∙◌, ◌≤◌, ◌⊎◌, inl, inr, ℕ, Bool, true, false, List, [], ◌∷◌, ◌++◌, refl}
-use Rattle.std.proofs.Common.{sym, append-nil}
+use Rattle.std.proofs.Common.{◌≡◌, ◌∙◌, ◌≤◌, ◌⊎◌, inl, inr, ℕ, Bool, false, List, [], ◌∷◌, ◌++◌, refl}
+use Rattle.std.proofs.Common.{sym, append-nil, Ok}
+use mathlib.Core.List.{IsPrefix}
+use Rattle.lab_turn.specs.History.{PassState}
 use Rattle.serde_json.specs.View.{view}
 use Rattle.jup_wire.specs.declared.channel.Channel.{Channel}
 use Rattle.jup_wire.specs.declared.channel.Channel.TheVariants.{Iopub}
@@ -14,96 +16,151 @@ use Rattle.serde_json.specs.Data.{Data}
 use Rattle.kern_ask.specs.Asks.{request_of}
 use Rattle.kern_core.specs.declared.call.Call.{Call}
 use Rattle.kern_core.specs.declared.call.Call.TheVariants.{Arrive, Subscribe}
-use Rattle.kern_net.specs.Asking.{IsArrival, subscription_frames, IsAsked, IsUnopened, IsNoSubscription}
-use Rattle.kern_net.specs.Asking.{IsDropped, NoMore, Asked, Dropped}
-use Rattle.kern_net.specs.Reading.{AsksFront}
+use Rattle.kern_core.specs.declared.call.Reply.{Reply}
+use Rattle.kern_net.specs.declared.end.PumpEnd.{PumpEnd}
+use Rattle.kern_net.specs.declared.end.PumpEnd.TheVariants as pump
+use Rattle.kern_net.specs.declared.pump_in.Place.{Place}
+use Rattle.kern_net.specs.Asking.{
+  IsArrival,
+  IsSubscription,
+  subscription_frames,
+  IsAsked,
+  IsAskedOn,
+  IsUnopened,
+}
+use Rattle.kern_net.specs.Asking.{IsNoSubscription, IsDropped, IsDroppedOn, NoMore, Asked, Dropped}
+use Rattle.kern_net.specs.Calls.{TurnedBy}
+use Rattle.kern_net.specs.ReadEnds.{IsRefusal, StopsBy, asks_all}
+use Rattle.kern_net.specs.Reading.{NoCall, OneMore, AskedAll, AskedFront}
 
-front_one : (key : List ℕ) (channel : Channel) (connection : ℕ) (frames : List (List ℕ)) (call : Call)
-    (old new : List Call) (is_all : Bool)
-    → IsAsked key channel connection frames call → new ≡ old ++ call ∷ []
-    → AsksFront key channel connection (frames ∷ []) old new is_all
-front_one key channel connection frames call old new is_all asked calls = record {
-  front = frames ∷ [];
-  others = [];
+-- a turn ends it before all was asked for
+pub not_all : (e : PumpEnd) (old : List Call) (pass : PassState Call) → StopsBy e old pass
+    → asks_all e ≡ false
+not_all pump.OutOfMemory old pass stops = refl
+not_all pump.JournalFull old pass stops = refl
+not_all (pump.Refused fault) old pass stops = refl
+not_all pump.Worn old pass stops = refl
+not_all _ old pass stops = absurd stops
+
+-- a call that was granted
+abbrev pub Grants : PassState Call → Call → PassState Call → Type 0
+Grants old call new = (reply : Reply) × TurnedBy old call (Ok reply) new
+
+-- a call that wasn't: it stands in the journal only where the end is its refusal
+abbrev pub Refuses : PassState Call → Call → PassState Call → PumpEnd → Type 0
+Refuses old call new e =
+    (new.calls ≡ old.calls) ⊎ (IsRefusal e × (new.calls ≡ old.calls ++ call ∷ []))
+
+asked_one : (place : Place) (frames : List (List ℕ)) (call : Call) (old new : PassState Call)
+    → IsAsked place frames call → Grants old call new → AskedAll place (frames ∷ []) old new
+asked_one place frames call old new asked (reply, turned) = record {
   added = call ∷ [];
-  messages_are = refl;
   asks = Asked frames [] call [] asked NoMore;
-  calls = calls;
-  all = λ _. refl;
+  calls = (turned.entered refl).counted;
+  turns = OneMore old new [] call reply NoCall turned;
 }
 
-front_dropped : (key : List ℕ) (channel : Channel) (connection : ℕ) (frames : List (List ℕ)) (old : List Call)
-    → IsDropped key channel frames → AsksFront key channel connection (frames ∷ []) old old true
-front_dropped key channel connection frames old dropped = record {
-  front = frames ∷ [];
-  others = [];
+dropped_one : (place : Place) (frames : List (List ℕ)) (old : PassState Call) → IsDropped place frames
+    → AskedAll place (frames ∷ []) old old
+dropped_one place frames old dropped = record {
   added = [];
-  messages_are = refl;
   asks = Dropped frames [] [] dropped NoMore;
-  calls = sym (append-nil old);
-  all = λ _. refl;
+  calls = sym (append-nil old.calls);
+  turns = NoCall;
 }
 
 -- nothing was asked for
-pub asks_not : (key : List ℕ) (channel : Channel) (connection : ℕ) (messages : List (List (List ℕ)))
-    (old new : List Call)
-    → new ≡ old → AsksFront key channel connection messages old new false
-asks_not key channel connection messages old new same = record {
+asked_not : (place : Place) (messages : List (List (List ℕ))) (old new : PassState Call) (e : PumpEnd)
+    → asks_all e ≡ false → IsPrefix old.seen new.seen → new.calls ≡ old.calls
+    → AskedFront place messages old new e
+asked_not place messages old new e no_all onward same = record {
   front = [];
   others = messages;
-  added = [];
   messages_are = refl;
+  added = [];
   asks = NoMore;
-  calls = same ∙ sym (append-nil old);
+  calls = same ∙ sym (append-nil old.calls);
+  made = record { mid = old; granted = []; turns = NoCall; onward = onward; last = inl refl };
   all = λ h. absurd cc;
 }
 
-front_if : (key : List ℕ) (channel : Channel) (connection : ℕ) (frames : List (List ℕ)) (call : Call)
-    (old new : List Call)
-    → IsAsked key channel connection frames call → (new ≡ old ++ call ∷ []) ⊎ (new ≡ old)
-    → AsksFront key channel connection (frames ∷ []) old new false
-front_if key channel connection frames call old new asked (inl calls) =
-    front_one key channel connection frames call old new false asked calls
-front_if key channel connection frames call old new asked (inr same) =
-    asks_not key channel connection (frames ∷ []) old new same
+-- memory was wanting
+pub asked_none : (place : Place) (messages : List (List (List ℕ))) (old : PassState Call)
+    → AskedFront place messages old old pump.OutOfMemory
+asked_none place messages old =
+    asked_not place messages old old pump.OutOfMemory refl ([], append-nil old.seen) refl
+
+-- the call wasn't granted
+asked_refused : (place : Place) (frames : List (List ℕ)) (call : Call) (old new : PassState Call)
+    (e : PumpEnd)
+    → IsAsked place frames call → asks_all e ≡ false → IsPrefix old.seen new.seen → Refuses old call new e
+    → AskedFront place (frames ∷ []) old new e
+asked_refused place frames call old new e asked no_all onward (inl same) =
+    asked_not place (frames ∷ []) old new e no_all onward same
+asked_refused place frames call old new e asked no_all onward (inr (refusal, calls)) = record {
+  front = frames ∷ [];
+  others = [];
+  messages_are = refl;
+  added = call ∷ [];
+  asks = Asked frames [] call [] asked NoMore;
+  calls = calls;
+  made =
+      record { mid = old; granted = []; turns = NoCall; onward = onward; last = inr (refusal, (call, refl)) };
+  all = λ _. refl;
+}
 
 -- ---- subscriptions
 
-asked_subscription : (key : List ℕ) (connection : ℕ) (wants : Bool) (prefix : List ℕ) (moment : ℕ)
-    (frames : List (List ℕ)) (call : Call)
-    → moment ≤ 4102444800 → frames ≡ subscription_frames wants prefix
-    → call ≡ Subscribe connection (record { wants = wants; prefix = prefix; moment = moment })
-    → IsAsked key Iopub connection frames call
-asked_subscription key connection wants prefix moment frames call in_time frames_are call_is = record {
-  wants = wants;
-  prefix = prefix;
-  moment = moment;
-  frames_are = frames_are;
-  in_time = in_time;
-  call_is = call_is;
-}
+subscribed_on : (channel : Channel) (place : Place) (frames : List (List ℕ)) (call : Call) → channel ≡ Iopub
+    → IsSubscription place frames call → IsAskedOn channel place frames call
+subscribed_on Iopub place frames call is s = s
+subscribed_on _ place frames call is s = absurd cc
 
-pub subscribed : (key : List ℕ) (connection : ℕ) (wants : Bool) (prefix : List ℕ) (moment : ℕ)
-    (frames : List (List ℕ)) (call : Call) (old new : List Call)
+asked_subscription : (place : Place) (wants : Bool) (prefix : List ℕ) (moment : ℕ)
+    (frames : List (List ℕ)) (call : Call) → place.channel ≡ Iopub
     → moment ≤ 4102444800 → frames ≡ subscription_frames wants prefix
-    → call ≡ Subscribe connection (record { wants = wants; prefix = prefix; moment = moment })
-    → new ≡ old ++ call ∷ [] → AsksFront key Iopub connection (frames ∷ []) old new true
-subscribed key connection wants prefix moment frames call old new in_time frames_are call_is calls =
-    front_one key Iopub connection frames call old new true
-    (asked_subscription key connection wants prefix moment frames call in_time frames_are call_is) calls
+    → call ≡ Subscribe place.connection (record { wants = wants; prefix = prefix; moment = moment })
+    → IsAsked place frames call
+asked_subscription place wants prefix moment frames call iopub in_time frames_are call_is =
+    subscribed_on place.channel place frames call iopub (record {
+      wants = wants;
+      prefix = prefix;
+      moment = moment;
+      frames_are = frames_are;
+      in_time = in_time;
+      call_is = call_is;
+    })
 
-pub subscription_refused : (key : List ℕ) (connection : ℕ) (wants : Bool) (prefix : List ℕ) (moment : ℕ)
-    (frames : List (List ℕ)) (call : Call) (old new : List Call)
+pub subscribed : (place : Place) (wants : Bool) (prefix : List ℕ) (moment : ℕ) (frames : List (List ℕ))
+    (call : Call) (old new : PassState Call) → place.channel ≡ Iopub
     → moment ≤ 4102444800 → frames ≡ subscription_frames wants prefix
-    → call ≡ Subscribe connection (record { wants = wants; prefix = prefix; moment = moment })
-    → (new ≡ old ++ call ∷ []) ⊎ (new ≡ old) → AsksFront key Iopub connection (frames ∷ []) old new false
-subscription_refused key connection wants prefix moment frames call old new in_time frames_are call_is calls =
-    front_if key Iopub connection frames call old new
-    (asked_subscription key connection wants prefix moment frames call in_time frames_are call_is) calls
+    → call ≡ Subscribe place.connection (record { wants = wants; prefix = prefix; moment = moment })
+    → Grants old call new → AskedAll place (frames ∷ []) old new
+subscribed place wants prefix moment frames call old new iopub in_time frames_are call_is turned =
+    asked_one place frames call old new
+    (asked_subscription place wants prefix moment frames call iopub in_time frames_are call_is) turned
 
-pub no_subscription : (key : List ℕ) (connection : ℕ) (frames : List (List ℕ)) (old : List Call)
-    → IsNoSubscription frames → AsksFront key Iopub connection (frames ∷ []) old old true
-no_subscription key connection frames old dropped = front_dropped key Iopub connection frames old dropped
+pub subscription_refused : (place : Place) (wants : Bool) (prefix : List ℕ) (moment : ℕ)
+    (frames : List (List ℕ)) (call : Call) (old new : PassState Call) (e : PumpEnd) → place.channel ≡ Iopub
+    → moment ≤ 4102444800 → frames ≡ subscription_frames wants prefix
+    → call ≡ Subscribe place.connection (record { wants = wants; prefix = prefix; moment = moment })
+    → StopsBy e old.calls new → IsPrefix old.seen new.seen → Refuses old call new e
+    → AskedFront place (frames ∷ []) old new e
+subscription_refused place wants prefix moment frames call old new e iopub in_time frames_are call_is stops
+    onward refused =
+    asked_refused place frames call old new e
+    (asked_subscription place wants prefix moment frames call iopub in_time frames_are call_is)
+    (not_all e old.calls new stops) onward refused
+
+unsubscribed_on : (channel : Channel) (place : Place) (frames : List (List ℕ)) → channel ≡ Iopub
+    → IsNoSubscription frames → IsDroppedOn channel place frames
+unsubscribed_on Iopub place frames is s = s
+unsubscribed_on _ place frames is s = absurd cc
+
+pub no_subscription : (place : Place) (frames : List (List ℕ)) (old : PassState Call) → place.channel ≡ Iopub
+    → IsNoSubscription frames → AskedAll place (frames ∷ []) old old
+no_subscription place frames old iopub dropped =
+    dropped_one place frames old (unsubscribed_on place.channel place frames iopub dropped)
 
 -- ---- arrivals
 
@@ -114,25 +171,23 @@ pub refused_message : (key : List ℕ) (frames : List (List ℕ)) (fault : WireF
     → IsUnopened key frames
 refused_message key frames fault not only p h content message = not (only p h content message)
 
-asked_on : (key : List ℕ) (channel : Channel) (connection : ℕ) (frames : List (List ℕ)) (call : Call)
-    → (channel ≡ Iopub → ⊥) → IsArrival key channel connection frames call
-    → IsAsked key channel connection frames call
-asked_on key Iopub connection frames call other arrival = absurd (other refl)
-asked_on key _ connection frames call other arrival = arrival
+arrived_on : (channel : Channel) (place : Place) (frames : List (List ℕ)) (call : Call)
+    → (channel ≡ Iopub → ⊥) → IsArrival place frames call → IsAskedOn channel place frames call
+arrived_on Iopub place frames call other arrival = absurd (other refl)
+arrived_on _ place frames call other arrival = arrival
 
-dropped_on : (key : List ℕ) (channel : Channel) (frames : List (List ℕ)) → (channel ≡ Iopub → ⊥)
-    → IsUnopened key frames → IsDropped key channel frames
-dropped_on key Iopub frames other unopened = absurd (other refl)
-dropped_on key _ frames other unopened = unopened
+dropped_on : (channel : Channel) (place : Place) (frames : List (List ℕ)) → (channel ≡ Iopub → ⊥)
+    → IsUnopened place.key.now frames → IsDroppedOn channel place frames
+dropped_on Iopub place frames other unopened = absurd (other refl)
+dropped_on _ place frames other unopened = unopened
 
-asked_arrival : (key : List ℕ) (channel : Channel) (connection : ℕ) (message : Message) (moment : ℕ)
-    (frames : List (List ℕ)) (call : Call)
-    → (channel ≡ Iopub → ⊥) → moment ≤ 4102444800
-    → IsMessage key frames message.parts message.header (view message.content)
-    → call ≡ Arrive connection (record { request = request_of channel message; moment = moment })
-    → IsAsked key channel connection frames call
-asked_arrival key channel connection message moment frames call other in_time opens call_is =
-    asked_on key channel connection frames call other (record {
+asked_arrival : (place : Place) (message : Message) (moment : ℕ) (frames : List (List ℕ)) (call : Call)
+    → (place.channel ≡ Iopub → ⊥) → moment ≤ 4102444800
+    → IsMessage place.key.now frames message.parts message.header (view message.content)
+    → call ≡ Arrive place.connection (record { request = request_of place.channel message; moment = moment })
+    → IsAsked place frames call
+asked_arrival place message moment frames call other in_time opens call_is =
+    arrived_on place.channel place frames call other (record {
       message = message;
       moment = moment;
       opens = opens;
@@ -140,28 +195,27 @@ asked_arrival key channel connection message moment frames call other in_time op
       call_is = call_is;
     })
 
-pub arrived : (key : List ℕ) (channel : Channel) (connection : ℕ) (message : Message) (moment : ℕ)
-    (frames : List (List ℕ)) (call : Call) (old new : List Call)
-    → (channel ≡ Iopub → ⊥) → moment ≤ 4102444800
-    → IsMessage key frames message.parts message.header (view message.content)
-    → call ≡ Arrive connection (record { request = request_of channel message; moment = moment })
-    → new ≡ old ++ call ∷ [] → AsksFront key channel connection (frames ∷ []) old new true
-arrived key channel connection message moment frames call old new other in_time opens call_is calls =
-    front_one key channel connection frames call old new true
-    (asked_arrival key channel connection message moment frames call other in_time opens call_is) calls
+pub arrived : (place : Place) (message : Message) (moment : ℕ) (frames : List (List ℕ)) (call : Call)
+    (old new : PassState Call) → (place.channel ≡ Iopub → ⊥) → moment ≤ 4102444800
+    → IsMessage place.key.now frames message.parts message.header (view message.content)
+    → call ≡ Arrive place.connection (record { request = request_of place.channel message; moment = moment })
+    → Grants old call new → AskedAll place (frames ∷ []) old new
+arrived place message moment frames call old new other in_time opens call_is turned =
+    asked_one place frames call old new
+    (asked_arrival place message moment frames call other in_time opens call_is) turned
 
-pub arrival_refused : (key : List ℕ) (channel : Channel) (connection : ℕ) (message : Message) (moment : ℕ)
-    (frames : List (List ℕ)) (call : Call) (old new : List Call)
-    → (channel ≡ Iopub → ⊥) → moment ≤ 4102444800
-    → IsMessage key frames message.parts message.header (view message.content)
-    → call ≡ Arrive connection (record { request = request_of channel message; moment = moment })
-    → (new ≡ old ++ call ∷ []) ⊎ (new ≡ old) → AsksFront key channel connection (frames ∷ []) old new false
-arrival_refused key channel connection message moment frames call old new other in_time opens call_is calls =
-    front_if key channel connection frames call old new
-    (asked_arrival key channel connection message moment frames call other in_time opens call_is) calls
+pub arrival_refused : (place : Place) (message : Message) (moment : ℕ) (frames : List (List ℕ)) (call : Call)
+    (old new : PassState Call) (e : PumpEnd) → (place.channel ≡ Iopub → ⊥) → moment ≤ 4102444800
+    → IsMessage place.key.now frames message.parts message.header (view message.content)
+    → call ≡ Arrive place.connection (record { request = request_of place.channel message; moment = moment })
+    → StopsBy e old.calls new → IsPrefix old.seen new.seen → Refuses old call new e
+    → AskedFront place (frames ∷ []) old new e
+arrival_refused place message moment frames call old new e other in_time opens call_is stops onward refused =
+    asked_refused place frames call old new e
+    (asked_arrival place message moment frames call other in_time opens call_is)
+    (not_all e old.calls new stops) onward refused
 
-pub unopened : (key : List ℕ) (channel : Channel) (connection : ℕ) (frames : List (List ℕ)) (old : List Call)
-    → (channel ≡ Iopub → ⊥) → IsUnopened key frames
-    → AsksFront key channel connection (frames ∷ []) old old true
-unopened key channel connection frames old other none =
-    front_dropped key channel connection frames old (dropped_on key channel frames other none)
+pub unopened : (place : Place) (frames : List (List ℕ)) (old : PassState Call)
+    → (place.channel ≡ Iopub → ⊥) → IsUnopened place.key.now frames → AskedAll place (frames ∷ []) old old
+unopened place frames old other none =
+    dropped_one place frames old (dropped_on place.channel place frames other none)

@@ -1,6 +1,6 @@
 -- What a pump wrote, from Fetch to Fetch.
 use Rattle.std.proofs.Common.{◌≡◌, ℕ, zero, suc, zero-add, ◌+◌, ◌-◌, ◌<◌, ◌≤◌, ◌⊎◌, inl, inr, Bool, true}
-use Rattle.std.proofs.Common.{false, List, [], ◌∷◌, ◌++◌, length, take, drop, Option, Result, Ok, Err, refl}
+use Rattle.std.proofs.Common.{false, List, [], ◌∷◌, ◌++◌, length, take, drop, Result, Ok, Err, refl}
 use Rattle.std.proofs.Common.{arith, sym, ap, ◌∙◌, subst, append_assoc, append-nil, length-append, All}
 use Rattle.std.specs.List.{filter}
 use Rattle.std.specs.Result.{IfErr}
@@ -10,7 +10,8 @@ use Rattle.std.proofs.lemmas.Bool.{cases_lt}
 use Rattle.std.proofs.lemmas.List.{take-append-le, drop-append-le, drop-drop, length-drop}
 use Rattle.std.proofs.lemmas.List.Elements.{filter-append, All-push}
 use Rattle.lab_turn.specs.History.{PassState}
-use Rattle.base_streams.specs.Told.{ToldFront}
+use Rattle.base_streams.specs.States.{OutletState, IsWritable}
+use Rattle.base_streams.specs.Told.{TookFront}
 use Rattle.base_streams.proofs.TellLemmas.{told_on}
 use Rattle.zmtp_peer.proofs.HearingLemmas.{told_none}
 use Rattle.zmtp_peer.proofs.SendingLemmas.{front_all, front_on}
@@ -31,7 +32,8 @@ use Rattle.kern_net.specs.Calls.{TurnedBy, LastCall}
 use Rattle.kern_net.proofs.CallLemmas.{calls_on, turned_prefix, last_call, last_kept}
 use Rattle.kern_net.specs.declared.pump_out.Batch.{Batch}
 use Rattle.kern_net.specs.Streams.{posts_in, window, IsStreamOf}
-use Rattle.kern_net.specs.Out.{IsFetch, HasFetched, Reaches, is_whole, WroteFront, WroteAll, WroteOut}
+use Rattle.kern_net.specs.declared.pump_out.Line.{Line}
+use Rattle.kern_net.specs.Out.{IsFetch, HasFetched, Reaches, Writer, is_whole, WroteFront, WroteAll, WroteOut}
 use Rattle.kern_net.specs.Out.{OutEnds}
 use Rattle.kern_net.specs.Rounds.{Answers, Denied, IsWorn, IsRefused, Cut, IsUnfit, IsFailed, Went, Halted}
 use Rattle.kern_net.specs.Rounds.{IsDenied, IsCut}
@@ -86,57 +88,65 @@ window_none : (c from : ℕ) (P : List Post) → window c from from P ≡ []
 unfolding window
 window_none c from P = let z : from - from ≡ 0 = omega arith in rw z refl
 
+abbrev pub writer : OutletState → PassState Call → Writer
+writer outlet pass = record { outlet = outlet; pass = pass }
+
 -- ---- what was told
 
-pub all_none : (key session : List ℕ) (a : Option (List ℕ)) → WroteAll key session a a []
-all_none key session a = record { bytes = []; stream = no_posts key session; told = told_none a }
-
-pub all_on : (key session : List ℕ) (a b d : Option (List ℕ)) (xs ys : List Post)
-    → WroteAll key session a b xs → WroteAll key session b d ys → WroteAll key session a d (xs ++ ys)
-all_on key session a b d xs ys s t = record {
-  bytes = s.bytes ++ t.bytes;
-  stream = stream-append key session xs ys s.bytes t.bytes s.stream t.stream;
-  told = told_on a b d s.bytes t.bytes s.told t.told;
+pub all_none : (line : Line) (a : OutletState) → WroteAll line a a []
+all_none line a = record {
+  bytes = [];
+  stream = no_posts line.key.now line.session.now;
+  took = told_none
+      a.taken;
 }
 
-pub all_front : (key session : List ℕ) (a b d : Option (List ℕ)) (xs ys : List Post)
-    → WroteAll key session a b xs → WroteFront key session b d ys → WroteFront key session a d (xs ++ ys)
-all_front key session a b d xs ys s t = record {
+pub all_on : (line : Line) (a b d : OutletState) (xs ys : List Post)
+    → WroteAll line a b xs → WroteAll line b d ys → WroteAll line a d (xs ++ ys)
+all_on line a b d xs ys s t = record {
+  bytes = s.bytes ++ t.bytes;
+  stream = stream-append line.key.now line.session.now xs ys s.bytes t.bytes s.stream t.stream;
+  took = told_on a.taken b.taken d.taken s.bytes t.bytes s.took t.took;
+}
+
+pub all_front : (line : Line) (a b d : OutletState) (xs ys : List Post)
+    → WroteAll line a b xs → WroteFront line b d ys → WroteFront line a d (xs ++ ys)
+all_front line a b d xs ys s t = record {
   begun = xs ++ t.begun;
   others = t.others;
   split = ap (λ l. xs ++ l) t.split ∙ sym (append_assoc xs t.begun t.others);
   bytes = s.bytes ++ t.bytes;
-  stream = stream-append key session xs t.begun s.bytes t.bytes s.stream t.stream;
-  front = front_on a b d s.bytes t.bytes s.told t.front;
+  stream = stream-append line.key.now line.session.now xs t.begun s.bytes t.bytes s.stream t.stream;
+  front = front_on a.taken b.taken d.taken s.bytes t.bytes s.took t.front;
 }
 
 -- nothing is a front of all
-pub no_front : (key session : List ℕ) (a : Option (List ℕ)) (xs : List Post) → WroteFront key session a a xs
-no_front key session a xs = record {
+pub no_front : (line : Line) (a : OutletState) (xs : List Post) → WroteFront line a a xs
+no_front line a xs = record {
   begun = [];
   others = xs;
   split = refl;
   bytes = [];
-  stream = no_posts key session;
-  front = front_all a a [] (told_none a);
+  stream = no_posts line.key.now line.session.now;
+  front = front_all a.taken a.taken [] (told_none a.taken);
 }
 
-whole_front : (key session : List ℕ) (a b : Option (List ℕ)) (xs : List Post) → WroteAll key session a b xs
-    → WroteFront key session a b xs
-whole_front key session a b xs s = record {
+whole_front : (line : Line) (a b : OutletState) (xs : List Post) → WroteAll line a b xs
+    → WroteFront line a b xs
+whole_front line a b xs s = record {
   begun = xs;
   others = [];
   split = sym (append-nil xs);
   bytes = s.bytes;
   stream = s.stream;
-  front = front_all a b s.bytes s.told;
+  front = front_all a.taken b.taken s.bytes s.took;
 }
 
-pub front_of : (key session : List ℕ) (a b : Option (List ℕ)) (posts : List Post) (bytes slice : List ℕ)
-    → IsStreamOf key session posts bytes → slice ≡ bytes → ToldFront a b slice
-    → WroteFront key session a b posts
-front_of key session a b posts bytes slice s e f =
-    let F : List ℕ → Type 0 = λ l. ToldFront a b l in
+pub front_of : (line : Line) (a b : OutletState) (posts : List Post) (bytes slice : List ℕ)
+    → IsStreamOf line.key.now line.session.now posts bytes → slice ≡ bytes → TookFront a b slice
+    → WroteFront line a b posts
+front_of line a b posts bytes slice s e f =
+    let F : List ℕ → Type 0 = λ l. TookFront a b l in
     record {
       begun = posts;
       others = [];
@@ -148,38 +158,39 @@ front_of key session a b posts bytes slice s e f =
 
 -- ---- what was written for the posts below a number
 
-pub record Written (key session : List ℕ) (c : ℕ) (before after : Option (List ℕ)) (from next : ℕ)
+pub record Written (line : Line) (before after : OutletState) (from next : ℕ)
     (history : List (ℕ × Call)) : Type 0 where
   pub onward : from ≤ next
   pub one : (next ≡ from) ⊎ (1 ≤ from)
   pub within : next - from ≤ length (drop (from - 1) (posts_in history))
-  pub all : WroteAll key session before after (window c from next (posts_in history))
+  pub all : WroteAll line before after (window line.connection from next (posts_in history))
 
-pub written_first : (key session : List ℕ) (c : ℕ) (a : Option (List ℕ)) (from : ℕ)
-    (history : List (ℕ × Call)) → Written key session c a a from from history
-written_first key session c a from history =
-    let A : List Post → Type 0 = λ l. WroteAll key session a a l in
+pub written_first : (line : Line) (a : OutletState) (from : ℕ)
+    (history : List (ℕ × Call)) → Written line a a from from history
+written_first line a from history =
+    let A : List Post → Type 0 = λ l. WroteAll line a a l in
     record {
       onward = omega arith;
       one = inl refl;
       within = omega arith;
-      all = subst A (sym (window_none c from (posts_in history))) (all_none key session a);
+      all = subst A (sym (window_none line.connection from (posts_in history))) (all_none line a);
     }
 
 -- in a longer history
-pub written_kept : (key session : List ℕ) (c : ℕ) (a b : Option (List ℕ)) (from next : ℕ)
-    (old new : List (ℕ × Call)) → IsPrefix old new → Written key session c a b from next old
-    → Written key session c a b from next new
-written_kept key session c a b from next old new p w =
+pub written_kept : (line : Line) (a b : OutletState) (from next : ℕ)
+    (old new : List (ℕ × Call)) → IsPrefix old new → Written line a b from next old
+    → Written line a b from next new
+written_kept line a b from next old new p w =
     let g = posts_grow old new p in
-    let A : List Post → Type 0 = λ l. WroteAll key session a b l in
+    let A : List Post → Type 0 = λ l. WroteAll line a b l in
     let l = length_grows from (posts_in old) (posts_in new) g in
     let h = w.within in
     record {
       onward = w.onward;
       one = w.one;
       within = omega (arith, l, h);
-      all = subst A (sym (window_kept c from next (posts_in old) (posts_in new) g w.within)) w.all;
+      all = subst A (sym (window_kept line.connection from next (posts_in old)
+          (posts_in new) g w.within)) w.all;
     }
 
 -- and what a Fetch gave
@@ -201,29 +212,32 @@ from_one from f h (inl e) = subst (λ n. 1 ≤ n) e h
 from_one from f h (inr k) = k
 
 -- the window goes on
-joined : (key session : List ℕ) (c : ℕ) (a b : Option (List ℕ)) (from f next : ℕ) (history : List (ℕ × Call))
-    (posts : List Post) → Written key session c a b from f history → Gives c f (posts_in history) posts next
-    → window c from f (posts_in history) ++ posts ≡ window c from next (posts_in history)
-joined key session c a b from f next history posts w g =
-    ap (λ l. window c from f (posts_in history) ++ l) g.posts_are
-    ∙ window_joins c from f next (posts_in history) (from_one from f g.one w.one) w.onward g.onward
+joined : (line : Line) (a b : OutletState) (from f next : ℕ) (history : List (ℕ × Call))
+    (posts : List Post) → Written line a b from f history
+    → Gives line.connection f (posts_in history) posts next
+    → window line.connection from f (posts_in history) ++ posts ≡ window line.connection from next
+    (posts_in history)
+joined line a b from f next history posts w g =
+    ap (λ l. window line.connection from f (posts_in history) ++ l) g.posts_are
+    ∙ window_joins line.connection from f next (posts_in history)
+    (from_one from f g.one w.one) w.onward g.onward
 
-window_on : (key session : List ℕ) (c : ℕ) (a b d : Option (List ℕ)) (from f next : ℕ)
-    (history : List (ℕ × Call)) (posts : List Post) → Written key session c a b from f history
-    → Gives c f (posts_in history) posts next → WroteFront key session b d posts
-    → WroteFront key session a d (window c from next (posts_in history))
-window_on key session c a b d from f next history posts w g t =
-    let F : List Post → Type 0 = λ l. WroteFront key session a d l in
-    subst F (joined key session c a b from f next history posts w g)
-    (all_front key session a b d (window c from f (posts_in history)) posts w.all t)
+window_on : (line : Line) (a b d : OutletState) (from f next : ℕ)
+    (history : List (ℕ × Call)) (posts : List Post) → Written line a b from f history
+    → Gives line.connection f (posts_in history) posts next → WroteFront line b d posts
+    → WroteFront line a d (window line.connection from next (posts_in history))
+window_on line a b d from f next history posts w g t =
+    let F : List Post → Type 0 = λ l. WroteFront line a d l in
+    subst F (joined line a b from f next history posts w g)
+    (all_front line a b d (window line.connection from f (posts_in history)) posts w.all t)
 
-written_on : (key session : List ℕ) (c : ℕ) (a b d : Option (List ℕ)) (from f next : ℕ)
-    (history : List (ℕ × Call)) (posts : List Post) → Written key session c a b from f history
-    → Gives c f (posts_in history) posts next → WroteAll key session b d posts
-    → Written key session c a d from next history
-written_on key session c a b d from f next history posts w g t =
+written_on : (line : Line) (a b d : OutletState) (from f next : ℕ)
+    (history : List (ℕ × Call)) (posts : List Post) → Written line a b from f history
+    → Gives line.connection f (posts_in history) posts next → WroteAll line b d posts
+    → Written line a d from next history
+written_on line a b d from f next history posts w g t =
     let P = posts_in history in
-    let A : List Post → Type 0 = λ l. WroteAll key session a d l in
+    let A : List Post → Type 0 = λ l. WroteAll line a d l in
     let one = from_one from f g.one w.one in
     let h = w.within in let k = g.within in let o = w.onward in let n = g.onward in
     record {
@@ -231,8 +245,8 @@ written_on key session c a b d from f next history posts w g t =
       one = inr one;
       within = omega (arith, h, k, o, n, one, length-drop (from - 1) P, length-drop (f - 1) P);
       all =
-          subst A (joined key session c a b from f next history posts w g)
-          (all_on key session a b d (window c from f P) posts w.all t);
+          subst A (joined line a b from f next history posts w g)
+          (all_on line a b d (window line.connection from f P) posts w.all t);
     }
 
 -- ---- the Fetches
@@ -291,9 +305,10 @@ moved c f v w posts next ended t =
       calls = e.counted;
     }
 
-pub went_calls : (key session : List ℕ) (c : ℕ) (b d : Option (List ℕ)) (f next : ℕ) (ended : Bool)
-    (v w : PassState Call) → Went key session c v w b d f next ended → w.calls ≡ v.calls ++ Fetch c f ∷ []
-went_calls key session c b d f next ended v w s = (s.turned.entered refl).counted
+pub went_calls : (line : Line) (b d : OutletState) (f next : ℕ) (ended : Bool)
+    (v w : PassState Call) → Went line f (writer b v) (writer d w) (next, ended)
+    → w.calls ≡ v.calls ++ Fetch line.connection f ∷ []
+went_calls line b d f next ended v w s = (s.turned.entered refl).counted
 
 -- a refusal
 pub denied_by : (c f : ℕ) (v w : PassState Call) (answer : Result Reply KernFault) (r : Result Batch PumpEnd)
@@ -305,71 +320,77 @@ denied_by c f v w answer (Err e) t (x, is, same) =
 
 -- ---- rounds
 
-pub went_on : (key session : List ℕ) (c : ℕ) (a b d : Option (List ℕ)) (from f next : ℕ) (ended : Bool)
-    (v w : PassState Call) → Written key session c a b from f v.seen → Went key session c v w b d f next ended
-    → Written key session c a d from next w.seen
-went_on key session c a b d from f next ended v w r s =
-    let k = moved c f v w s.posts next ended s.turned in
-    written_on key session c a b d from f next w.seen s.posts
-    (written_kept key session c a b from f v.seen w.seen k.onward r) k.given s.all
+pub went_on : (line : Line) (a b d : OutletState) (from f next : ℕ) (ended : Bool)
+    (v w : PassState Call) → Written line a b from f v.seen
+    → Went line f (writer b v) (writer d w) (next, ended)
+    → Written line a d from next w.seen
+went_on line a b d from f next ended v w r s =
+    let k = moved line.connection f v w s.posts next ended s.turned in
+    written_on line a b d from f next w.seen s.posts
+    (written_kept line a b from f v.seen w.seen k.onward r) k.given s.all
 
-went_last : (key session : List ℕ) (c : ℕ) (b d : Option (List ℕ)) (f next : ℕ) (ended : Bool)
-    (v w : PassState Call) → Went key session c v w b d f next ended → HasFetched c w next
-went_last key session c b d f next ended v w s = (
+went_last : (line : Line) (b d : OutletState) (f next : ℕ) (ended : Bool)
+    (v w : PassState Call) → Went line f (writer b v) (writer d w) (next, ended)
+    → HasFetched line.connection w next
+went_last line b d f next ended v w s = (
   f,
   Ok (reply.Fetched s.posts next ended),
-  last_call v w (Fetch c f)
+  last_call v w (Fetch line.connection f)
       (Ok (reply.Fetched s.posts next ended)) refl s.turned,
   refl,
 )
 
-pub went_reaches : (key session : List ℕ) (c : ℕ) (b d : Option (List ℕ)) (from f next : ℕ) (ended : Bool)
-    (o v w : PassState Call) → Fetching c o.calls v.calls → Went key session c v w b d f next ended
-    → Reaches c o w from next
-went_reaches key session c b d from f next ended o v w k s =
+pub went_reaches : (line : Line) (b d : OutletState) (from f next : ℕ) (ended : Bool)
+    (o v w : PassState Call) → Fetching line.connection o.calls v.calls
+    → Went line f (writer b v) (writer d w) (next, ended)
+    → Reaches line.connection o w from next
+went_reaches line b d from f next ended o v w k s =
     inr (
-      longer c f o.calls v.calls w.calls k (went_calls key session c b d f next ended v w s),
-      went_last key session c b d f next ended v w s,
+      longer line.connection f o.calls v.calls w.calls k (went_calls line b d f next ended v w s),
+      went_last line b d f next ended v w s,
     )
 
-pub went_round : (key session : List ℕ) (c : ℕ) (b d : Option (List ℕ)) (f next : ℕ) (ended : Bool)
-    (v w : PassState Call) (old : List Call) → Fetching c old v.calls
-    → Went key session c v w b d f next ended → Fetching c old w.calls
-went_round key session c b d f next ended v w old k s =
-    fetching_on c f old v.calls w.calls k (went_calls key session c b d f next ended v w s)
+pub went_round : (line : Line) (b d : OutletState) (f next : ℕ) (ended : Bool)
+    (v w : PassState Call) (old : List Call) → Fetching line.connection old v.calls
+    → Went line f (writer b v) (writer d w) (next, ended) → Fetching line.connection old w.calls
+went_round line b d f next ended v w old k s =
+    fetching_on line.connection f old v.calls w.calls k (went_calls line b d f next ended v w s)
 
-pub went_longer : (key session : List ℕ) (c : ℕ) (b d : Option (List ℕ)) (f next : ℕ) (ended : Bool)
-    (v w : PassState Call) → Went key session c v w b d f next ended → length w.calls ≡ length v.calls + 1
-went_longer key session c b d f next ended v w s =
-    ap length (went_calls key session c b d f next ended v w s) ∙ length-append v.calls (Fetch c f ∷ [])
+pub went_longer : (line : Line) (b d : OutletState) (f next : ℕ) (ended : Bool)
+    (v w : PassState Call) → Went line f (writer b v) (writer d w) (next, ended)
+    → length w.calls ≡ length v.calls + 1
+went_longer line b d f next ended v w s =
+    ap length (went_calls line b d f next ended v w s) ∙ length-append v.calls (Fetch line.connection f ∷ [])
 
 -- it ended after a whole round
-pub went_done : (key session : List ℕ) (c : ℕ) (a b d : Option (List ℕ)) (from f next : ℕ) (ended : Bool)
-    (o v w : PassState Call) (e : PumpEnd) → Written key session c a b from f v.seen
-    → Fetching c o.calls v.calls → Went key session c v w b d f next ended
-    → WroteOut key session c a d from o w e
-went_done key session c a b d from f next ended o v w e r k s =
-    let t = went_on key session c a b d from f next ended v w r s in
-    let g = went_round key session c b d f next ended v w o.calls k s in
+pub went_done : (line : Line) (a b d : OutletState) (from f next : ℕ) (ended : Bool)
+    (o v w : PassState Call) (e : PumpEnd) → Written line a b from f v.seen
+    → Fetching line.connection o.calls v.calls → Went line f (writer b v) (writer d w) (next, ended)
+    → WroteOut line from (writer a o) (writer d w) e
+went_done line a b d from f next ended o v w e r k s =
+    let t = went_on line a b d from f next ended v w r s in
+    let g = went_round line b d f next ended v w o.calls k s in
     record {
       added = g.added;
       calls = g.calls;
       fetches = g.fetches;
       next = next;
-      reaches = went_reaches key session c b d from f next ended o v w k s;
-      front = whole_front key session a d (window c from next (posts_in w.seen)) t.all;
+      reaches = went_reaches line b d from f next ended o v w k s;
+      front = whole_front line a d (window line.connection from next (posts_in w.seen)) t.all;
       whole = λ h. t.all;
     }
 
 -- it ended in a round
-module _ (key session : List ℕ) (c : ℕ) (a b d : Option (List ℕ)) (from f : ℕ) (o v w : PassState Call)
-    (written : Written key session c a b from f v.seen) (reaches : Reaches c o v from f)
-    (fetching : Fetching c o.calls v.calls) where
-  standing : (e : PumpEnd) → IsPrefix v.seen w.seen → Fetching c o.calls w.calls → Reaches c o w from f
-      → d ≡ b → WroteOut key session c a d from o w e
+module _ (line : Line) (a b d : OutletState) (from f : ℕ) (o v w : PassState Call)
+    (written : Written line a b from f v.seen) (reaches : Reaches line.connection o v from f)
+    (fetching : Fetching line.connection o.calls v.calls) where
+  standing : (e : PumpEnd) → IsPrefix v.seen w.seen → Fetching line.connection o.calls w.calls
+      → Reaches line.connection o w from f
+      → d ≡ b → WroteOut line from (writer a o) (writer d w) e
   standing e p k r same =
-      let kept = written_kept key session c a b from f v.seen w.seen p written in
-      let T : Option (List ℕ) → Type 0 = λ x. WroteAll key session a x (window c from f (posts_in w.seen)) in
+      let kept = written_kept line a b from f v.seen w.seen p written in
+      let T : OutletState
+      → Type 0 = λ x. WroteAll line a x (window line.connection from f (posts_in w.seen)) in
       let t = subst T (sym same) kept.all in
       record {
         added = k.added;
@@ -377,39 +398,43 @@ module _ (key session : List ℕ) (c : ℕ) (a b d : Option (List ℕ)) (from f 
         fetches = k.fetches;
         next = f;
         reaches = r;
-        front = whole_front key session a d (window c from f (posts_in w.seen)) t;
+        front = whole_front line a d (window line.connection from f (posts_in w.seen)) t;
         whole = λ h. t;
       }
 
   refused_if : (e : PumpEnd) (x : KernFault) (i : Bool) → is_entry (Err x) ≡ i
-      → TurnedBy v (Fetch c f) (Err x) w → d ≡ b → WroteOut key session c a d from o w e
+      → TurnedBy v (Fetch line.connection f) (Err x) w → d ≡ b
+      → WroteOut line from (writer a o) (writer d w) e
   refused_if e x true h t same =
-      standing e (turned_prefix v w (Fetch c f) (Err x) t)
-      (fetching_on c f o.calls v.calls w.calls fetching (t.entered h).counted)
+      standing e (turned_prefix v w (Fetch line.connection f) (Err x) t)
+      (fetching_on line.connection f o.calls v.calls w.calls fetching (t.entered h).counted)
       (inr (
-        longer c f o.calls v.calls w.calls fetching (t.entered h).counted,
-        (f, Err x, last_call v w (Fetch c f) (Err x) h t, refl),
+        longer line.connection f o.calls v.calls w.calls fetching (t.entered h).counted,
+        (f, Err x, last_call v w (Fetch line.connection f) (Err x) h t, refl),
       )) same
   refused_if e x false h t same =
       let s = t.refused h in
-      standing e s.onward (fetching_same c o.calls v.calls w.calls fetching s.counted)
-      (reaches_kept c from f o v w t.same.1 s.onward s.counted reaches) same
+      standing e s.onward (fetching_same line.connection o.calls v.calls w.calls fetching s.counted)
+      (reaches_kept line.connection from f o v w t.same.1 s.onward s.counted reaches) same
 
-  denied : (e : PumpEnd) → Denied c v w f e → d ≡ b → WroteOut key session c a d from o w e
+  denied : (e : PumpEnd) → Denied line.connection v w f e → d ≡ b
+      → WroteOut line from (writer a o) (writer d w) e
   denied e (IsWorn e1 h k) same =
       let p : IsPrefix v.seen w.seen =
       ([], append-nil v.seen ∙ sym (ap (λ (x : PassState Call). x.seen) k)) in
-      standing e p (fetching_same c o.calls v.calls w.calls fetching (ap (λ (x : PassState Call). x.calls) k))
-      (reaches_kept c from f o v w (ap (λ (x : PassState Call). x.seat) k) p
+      standing e p (fetching_same line.connection o.calls v.calls w.calls fetching
+      (ap (λ (x : PassState Call). x.calls) k))
+      (reaches_kept line.connection from f o v w (ap (λ (x : PassState Call). x.seat) k) p
       (ap (λ (x : PassState Call). x.calls) k) reaches) same
   denied e (IsRefused e1 x h t) same = refused_if e x (is_entry (Err x)) refl t same
 
   cut_at : (e : PumpEnd) (posts : List Post) (next : ℕ) (ended : Bool) → is_whole e ≡ false
-      → TurnedBy v (Fetch c f) (Ok (reply.Fetched posts next ended)) w → WroteFront key session b d posts
-      → WroteOut key session c a d from o w e
+      → TurnedBy v (Fetch line.connection f) (Ok (reply.Fetched posts next ended)) w
+      → WroteFront line b d posts
+      → WroteOut line from (writer a o) (writer d w) e
   cut_at e posts next ended n t front =
-      let k = moved c f v w posts next ended t in
-      let g = fetching_on c f o.calls v.calls w.calls fetching k.calls in
+      let k = moved line.connection f v w posts next ended t in
+      let g = fetching_on line.connection f o.calls v.calls w.calls fetching k.calls in
       record {
         added = g.added;
         calls = g.calls;
@@ -417,82 +442,82 @@ module _ (key session : List ℕ) (c : ℕ) (a b d : Option (List ℕ)) (from f 
         next = next;
         reaches =
             inr (
-              longer c f o.calls v.calls w.calls fetching k.calls,
+              longer line.connection f o.calls v.calls w.calls fetching k.calls,
               (f, Ok (reply.Fetched posts next ended), k.last, refl),
             );
         front =
-            window_on key session c a b d from f next w.seen posts
-            (written_kept key session c a b from f v.seen w.seen k.onward written) k.given front;
+            window_on line a b d from f next w.seen posts
+            (written_kept line a b from f v.seen w.seen k.onward written) k.given front;
         whole = λ h. absurd (cc);
       }
 
-  cut : (e : PumpEnd) (posts : List Post) (next : ℕ) (ended failed : Bool)
-      → TurnedBy v (Fetch c f) (Ok (reply.Fetched posts next ended)) w → Cut key session b d failed posts e
-      → WroteOut key session c a d from o w e
-  cut e posts next ended failed t (IsUnfit e1 h same x) =
-      let F : Option (List ℕ) → Type 0 = λ y. WroteFront key session b y posts in
-      cut_at e posts next ended (ap is_whole h) t (subst F (sym same) (no_front key session b posts))
-  cut e posts next ended failed t (IsFailed e1 h front x) = cut_at e posts next ended (ap is_whole h) t front
+  cut : (e : PumpEnd) (posts : List Post) (next : ℕ) (ended : Bool)
+      → TurnedBy v (Fetch line.connection f) (Ok (reply.Fetched posts next ended)) w → Cut line b d posts e
+      → WroteOut line from (writer a o) (writer d w) e
+  cut e posts next ended t (IsUnfit e1 h same x) =
+      let F : OutletState → Type 0 = λ y. WroteFront line b y posts in
+      cut_at e posts next ended (ap is_whole h) t (subst F (sym same) (no_front line b posts))
+  cut e posts next ended t (IsFailed e1 h front x) = cut_at e posts next ended (ap is_whole h) t front
 
-  pub halted : (e : PumpEnd) (failed : Bool) → Halted key session c v w b d failed f e
-      → WroteOut key session c a d from o w e
-  halted e failed (IsDenied e1 h same x) = denied e h same
-  halted e failed (IsCut e1 posts next ended t h) = cut e posts next ended failed t h
+  pub halted : (e : PumpEnd) → Halted line f (writer b v) (writer d w) e
+      → WroteOut line from (writer a o) (writer d w) e
+  halted e (IsDenied e1 h same x) = denied e h same
+  halted e (IsCut e1 posts next ended t h) = cut e posts next ended t h
 
 -- ---- how it ends
 
-ends_as : (c : ℕ) (w : PassState Call) (failed : Bool) (g : Asked) (e e' : PumpEnd) → e ≡ e'
-    → OutEnds c w failed g e' → OutEnds c w failed g e
-ends_as c w failed g e e' k h = let E : PumpEnd → Type 0 = λ x. OutEnds c w failed g x in subst E (sym k) h
+ends_as : (c : ℕ) (w : PassState Call) (d : OutletState) (g : Asked) (e e' : PumpEnd) → e ≡ e'
+    → OutEnds c (writer d w) g e' → OutEnds c (writer d w) g e
+ends_as c w d g e e' k h = let E : PumpEnd → Type 0 = λ x. OutEnds c (writer d w) g x in subst E (sym k) h
 
-refused_ends : (c f : ℕ) (v w : PassState Call) (failed : Bool) (g : Asked) (x : KernFault) → IsOpen g
-    → failed ≡ false → TurnedBy v (Fetch c f) (Err x) w → OutEnds c w failed g (end_by_kernel x)
-refused_ends c f v w failed g fault.OutOfMemory o n t = (n, o)
-refused_ends c f v w failed g fault.JournalFull o n t = (n, o, (t.full refl).1)
-refused_ends c f v w failed g (fault.Lagged first) o n t =
+refused_ends : (c f : ℕ) (v w : PassState Call) (d : OutletState) (g : Asked) (x : KernFault) → IsOpen g
+    → IsWritable d → TurnedBy v (Fetch c f) (Err x) w → OutEnds c (writer d w) g (end_by_kernel x)
+refused_ends c f v w d g fault.OutOfMemory o n t = (n, o)
+refused_ends c f v w d g fault.JournalFull o n t = (n, o, (t.full refl).1)
+refused_ends c f v w d g (fault.Lagged first) o n t =
     (n, o, (first, (f, last_call v w (Fetch c f) (Err (fault.Lagged first)) refl t)))
-refused_ends c f v w failed g fault.Full o n t =
+refused_ends c f v w d g fault.Full o n t =
     (n, o, (f, last_call v w (Fetch c f) (Err fault.Full) refl t))
-refused_ends c f v w failed g fault.NoConnection o n t =
+refused_ends c f v w d g fault.NoConnection o n t =
     (n, o, (f, last_call v w (Fetch c f) (Err fault.NoConnection) refl t))
 
-denied_ends : (c f : ℕ) (v w : PassState Call) (failed : Bool) (g : Asked) (e : PumpEnd) → IsOpen g
-    → failed ≡ false → Denied c v w f e → OutEnds c w failed g e
-denied_ends c f v w failed g e o n (IsWorn e1 h k) =
-    ends_as c w failed g e end.Worn h (n, o, ap (λ (x : PassState Call). x.worn) k)
-denied_ends c f v w failed g e o n (IsRefused e1 x h t) =
-    ends_as c w failed g e (end_by_kernel x) h (refused_ends c f v w failed g x o n t)
+denied_ends : (c f : ℕ) (v w : PassState Call) (d : OutletState) (g : Asked) (e : PumpEnd) → IsOpen g
+    → IsWritable d → Denied c v w f e → OutEnds c (writer d w) g e
+denied_ends c f v w d g e o n (IsWorn e1 h k) =
+    ends_as c w d g e end.Worn h (n, o, ap (λ (x : PassState Call). x.worn) k)
+denied_ends c f v w d g e o n (IsRefused e1 x h t) =
+    ends_as c w d g e (end_by_kernel x) h (refused_ends c f v w d g x o n t)
 
-cut_ends : (key session : List ℕ) (c : ℕ) (b d : Option (List ℕ)) (w : PassState Call) (failed : Bool)
-    (g : Asked) (posts : List Post) (e : PumpEnd) → IsOpen g → Cut key session b d failed posts e
-    → OutEnds c w failed g e
-cut_ends key session c b d w failed g posts e o (IsUnfit e1 h same n) =
-    ends_as c w failed g e end.OutOfMemory h (n, o)
-cut_ends key session c b d w failed g posts e o (IsFailed e1 h front n) =
-    ends_as c w failed g e end.WriteFailed h (n, o)
+cut_ends : (line : Line) (b d : OutletState) (w : PassState Call) (g : Asked)
+    (posts : List Post) (e : PumpEnd) → IsOpen g → Cut line b d posts e
+    → OutEnds line.connection (writer d w) g e
+cut_ends line b d w g posts e o (IsUnfit e1 h same n) =
+    ends_as line.connection w d g e end.OutOfMemory h (n, o)
+cut_ends line b d w g posts e o (IsFailed e1 h front n) =
+    ends_as line.connection w d g e end.WriteFailed h (n, o)
 
-pub halted_ends : (key session : List ℕ) (c : ℕ) (b d : Option (List ℕ)) (f : ℕ) (v w : PassState Call)
-    (failed : Bool) (g : Asked) (e : PumpEnd) → IsOpen g → Halted key session c v w b d failed f e
-    → OutEnds c w failed g e
-halted_ends key session c b d f v w failed g e o (IsDenied e1 h same n) = denied_ends c f v w failed g e o n h
-halted_ends key session c b d f v w failed g e o (IsCut e1 posts next ended t h) =
-    cut_ends key session c b d w failed g posts e o h
+pub halted_ends : (line : Line) (b d : OutletState) (f : ℕ) (v w : PassState Call)
+    (g : Asked) (e : PumpEnd) → IsOpen g → Halted line f (writer b v) (writer d w) e
+    → OutEnds line.connection (writer d w) g e
+halted_ends line b d f v w g e o (IsDenied e1 h same n) = denied_ends line.connection f v w d g e o n h
+halted_ends line b d f v w g e o (IsCut e1 posts next ended t h) =
+    cut_ends line b d w g posts e o h
 
 -- a shutdown was seen, and the Fetch moved nothing
-pub went_over : (key session : List ℕ) (c : ℕ) (b d : Option (List ℕ)) (f next : ℕ) (ended failed : Bool)
-    (v w : PassState Call) (g : Asked) → IsOpen g → failed ≡ false → ended ≡ true → next ≡ f
-    → Went key session c v w b d f next ended → OutEnds c w failed g end.Ended
-went_over key session c b d f next ended failed v w g o n e k s =
+pub went_over : (line : Line) (b d : OutletState) (f next : ℕ) (ended : Bool)
+    (v w : PassState Call) (g : Asked) → IsOpen g → IsWritable d → ended ≡ true → next ≡ f
+    → Went line f (writer b v) (writer d w) (next, ended) → OutEnds line.connection (writer d w) g end.Ended
+went_over line b d f next ended v w g o n e k s =
     let answer : Ok (reply.Fetched s.posts next ended) ≡ Ok (reply.Fetched s.posts f true) =
     ap (λ (i : ℕ). Ok (reply.Fetched s.posts i ended)) k ∙ ap (λ x. Ok (reply.Fetched s.posts f x)) e in
-    let L : Result Reply KernFault → Type 0 = λ r. LastCall w (Fetch c f) r in (
+    let L : Result Reply KernFault → Type 0 = λ r. LastCall w (Fetch line.connection f) r in (
       n,
       inr (
         o,
         (
           f,
           s.posts,
-          subst L answer (last_call v w (Fetch c f) (Ok (reply.Fetched s.posts next ended))
+          subst L answer (last_call v w (Fetch line.connection f) (Ok (reply.Fetched s.posts next ended))
               refl s.turned),
         ),
       ),
@@ -527,8 +552,8 @@ denied_calls c f v w e (IsWorn e1 h k) =
     let l = ap (λ (x : PassState Call). length x.calls) k in omega (arith, l)
 denied_calls c f v w e (IsRefused e1 x h t) = turned_calls v w c f (Err x) (is_entry (Err x)) refl t
 
-pub halted_calls : (key session : List ℕ) (c : ℕ) (b d : Option (List ℕ)) (f : ℕ) (v w : PassState Call)
-    (failed : Bool) (e : PumpEnd) → Halted key session c v w b d failed f e → length v.calls ≤ length w.calls
-halted_calls key session c b d f v w failed e (IsDenied e1 h same n) = denied_calls c f v w e h
-halted_calls key session c b d f v w failed e (IsCut e1 posts next ended t h) =
-    turned_calls v w c f (Ok (reply.Fetched posts next ended)) true refl t
+pub halted_calls : (line : Line) (b d : OutletState) (f : ℕ) (v w : PassState Call)
+    (e : PumpEnd) → Halted line f (writer b v) (writer d w) e → length v.calls ≤ length w.calls
+halted_calls line b d f v w e (IsDenied e1 h same n) = denied_calls line.connection f v w e h
+halted_calls line b d f v w e (IsCut e1 posts next ended t h) =
+    turned_calls v w line.connection f (Ok (reply.Fetched posts next ended)) true refl t

@@ -1,32 +1,29 @@
 -- From messages to pieces, and from pieces to a whole stream.
-use Rattle.std.proofs.Common.{◌≡◌, ◌∙◌, ◌≤◌, ◌<◌, ◌+◌, zero, suc, take, inl, inr, ℕ, Bool, true, false, List}
-use Rattle.std.proofs.Common.{[], ◌∷◌, ◌++◌, length, Option, refl, sym, ap, subst, append_assoc, append-nil}
+use Rattle.std.proofs.Common.{◌≡◌, ◌∙◌, ◌≤◌, ◌<◌, ◌+◌, ◌⊎◌, zero, suc, take, inl, inr, ℕ, true, false, List}
+use Rattle.std.proofs.Common.{[], ◌∷◌, ◌++◌, length, refl, sym, ap, subst, append_assoc, append-nil}
 use Rattle.std.proofs.Common.{length-append, arith}
 use Rattle.std.proofs.lemmas.List.{length-take-le}
-use Rattle.base_streams.specs.Told.{Told}
+use Rattle.base_streams.specs.States.{InletState, IsReadable}
+use Rattle.base_streams.specs.Told.{Gave}
 use Rattle.base_streams.proofs.TellLemmas.{told_on}
 use Rattle.zmtp_wire.specs.Stream.{SideState, StandsFor, Completes}
+use Rattle.zmtp_peer.specs.declared.handshake.Peer.{Peer}
 use Rattle.zmtp_peer.proofs.EchoLemmas.{completes_none}
 use Rattle.zmtp_peer.proofs.HearingLemmas.{told_none}
 use Rattle.lab_turn.specs.History.{PassState}
-use Rattle.jup_wire.specs.declared.channel.Channel.{Channel}
 use Rattle.kern_core.specs.declared.call.Call.{Call}
 use Rattle.kern_net.specs.declared.end.PumpEnd.{PumpEnd}
 use Rattle.kern_net.specs.declared.end.PumpEnd.TheVariants as pump
 use Rattle.kern_net.specs.Asking.{Asks, NoMore, Asked, Dropped}
-use Rattle.kern_net.specs.ReadEnds.{StopsBy, StopsPiece, EndsBy, IsWornOut, most_reads, asks_all}
-use Rattle.kern_net.specs.Reading.{AsksFront, Hears, ReadOut}
-use Rattle.kern_net.proofs.AskLemmas.{asks_not}
+use Rattle.kern_net.specs.declared.pump_in.Place.{Place}
+use Rattle.kern_net.specs.ReadEnds.{Reader, IsRefusal, StopsBy, StopsPiece, EndsBy, IsWornOut, most_reads}
+use Rattle.kern_net.specs.ReadEnds.{asks_all}
+use Rattle.kern_net.specs.Reading.{Granted, NoCall, OneMore, Made, AskedAll, AskedFront, Listener, HeardAll}
+use Rattle.kern_net.specs.Reading.{HeardFront, ReadOut}
+use Rattle.kern_net.proofs.AskLemmas.{asked_none, not_all}
 use Rattle.kern_net.proofs.CallLemmas.{calls_on}
 
 -- ---- ends
-
-not_all : (e : PumpEnd) (old : List Call) (pass : PassState Call) → StopsBy e old pass → asks_all e ≡ false
-not_all pump.OutOfMemory old pass stops = refl
-not_all pump.JournalFull old pass stops = refl
-not_all (pump.Refused fault) old pass stops = refl
-not_all pump.Worn old pass stops = refl
-not_all _ old pass stops = absurd stops
 
 -- what comes after more calls comes after fewer
 later : (e : PumpEnd) (old mid added : List Call) (pass : PassState Call) → mid ≡ old ++ added
@@ -53,12 +50,11 @@ pub stops_piece : (e : PumpEnd) (old : List Call) (pass : PassState Call) (side 
 stops_piece (pump.Wire cause) old pass side stops = absurd stops
 stops_piece _ old pass side stops = stops
 
-ends_by : (e : PumpEnd) (old : List Call) (pass : PassState Call) (ended failed : Bool) (bytes : List ℕ)
-    (side : SideState)
-    → ended ≡ false → failed ≡ false → StopsPiece e old pass side → EndsBy e old pass ended failed bytes side
-ends_by pump.PeerEnded old pass ended failed bytes side on good stops = absurd stops
-ends_by pump.ReadFailed old pass ended failed bytes side on good stops = absurd stops
-ends_by _ old pass ended failed bytes side on good stops = (on, good, stops)
+ends_by : (e : PumpEnd) (old new : Reader) (bytes : List ℕ) (side : SideState)
+    → IsReadable new.inlet → StopsPiece e old.pass.calls new.pass side → EndsBy e old new bytes side
+ends_by pump.PeerEnded old new bytes side good stops = absurd stops
+ends_by pump.ReadFailed old new bytes side good stops = absurd stops
+ends_by _ old new bytes side good stops = (good, stops)
 
 -- ---- what a side completes
 
@@ -74,128 +70,184 @@ completes_on s t u x y m n p q = record {
       (q.stands (stream ++ x) (messages ++ m) (p.stands stream messages k)));
 }
 
--- ---- messages
+-- ---- calls
 
-asks_on : (key : List ℕ) (channel : Channel) (connection : ℕ) (a b : List (List (List ℕ))) (x y : List Call)
-    → Asks key channel connection a x → Asks key channel connection b y
-    → Asks key channel connection (a ++ b) (x ++ y)
-asks_on key channel connection a b x y NoMore q = q
-asks_on key channel connection a b x y (Asked frames messages call calls asked p) q =
-    Asked frames (messages ++ b) call (calls ++ y) asked
-    (asks_on key channel connection messages b calls y p q)
-asks_on key channel connection a b x y (Dropped frames messages calls dropped p) q =
-    Dropped frames (messages ++ b) (calls ++ y) dropped
-    (asks_on key channel connection messages b calls y p q)
+granted_on : (a b c : PassState Call) (x y : List Call) → Granted a b x → Granted b c y → Granted a c (x ++ y)
+granted_on a b c x y p NoCall =
+    let P : List Call → Type 0 = λ l. Granted a b l in subst P (sym (append-nil x)) p
+granted_on a b c x y p (OneMore mid new calls call reply q turned) =
+    let P : List Call → Type 0 = λ l. Granted a c l in
+    subst P (append_assoc x calls (call ∷ []))
+    (OneMore mid c (x ++ calls) call reply (granted_on a b mid x calls p q) turned)
 
-front_none : (key : List ℕ) (channel : Channel) (connection : ℕ) (old : List Call)
-    → AsksFront key channel connection [] old old true
-front_none key channel connection old = record {
-  front = [];
-  others = [];
-  added = [];
-  messages_are = refl;
-  asks = NoMore;
-  calls = sym (append-nil old);
-  all = λ _. refl;
+made_all : (old new : PassState Call) (added : List Call) (e : PumpEnd) → Granted old new added
+    → Made old new added e
+made_all old new added e p =
+    record { mid = new; granted = added; turns = p; onward = ([], append-nil new.seen); last = inl refl }
+
+last_on : (x added granted : List Call) (e : PumpEnd)
+    → (added ≡ granted) ⊎ (IsRefusal e × ((call : Call) × (added ≡ granted ++ call ∷ [])))
+    → (x ++ added ≡ x ++ granted) ⊎ (IsRefusal e × ((call : Call) × (x ++ added ≡ (x ++ granted) ++ call ∷ [])))
+last_on x added granted e (inl same) = inl (ap (λ (l : List Call). x ++ l) same)
+last_on x added granted e (inr (refusal, (call, is))) =
+    inr (refusal, (call, ap (λ (l : List Call). x ++ l) is ∙ sym (append_assoc x granted (call ∷ []))))
+
+made_on : (old mid new : PassState Call) (x y : List Call) (e : PumpEnd) → Granted old mid x
+    → Made mid new y e → Made old new (x ++ y) e
+made_on old mid new x y e p m = record {
+  mid = m.mid;
+  granted = x ++ m.granted;
+  turns = granted_on old mid m.mid x m.granted p m.turns;
+  onward = m.onward;
+  last = last_on x y m.granted e m.last;
 }
 
--- all of these messages, then a front of those
-pub front_on : (key : List ℕ) (channel : Channel) (connection : ℕ) (m n : List (List (List ℕ)))
-    (old mid new : List Call) (is_all : Bool)
-    → AsksFront key channel connection m old mid true → AsksFront key channel connection n mid new is_all
-    → AsksFront key channel connection (m ++ n) old new is_all
-front_on key channel connection m n old mid new is_all p q =
-    let none = p.all refl in
-    let m_is : m ≡ p.front =
-    p.messages_are ∙ ap (λ (l : List (List (List ℕ))). p.front ++ l) none ∙ append-nil p.front in
-    record {
-      front = p.front ++ q.front;
-      others = q.others;
-      added = p.added ++ q.added;
-      messages_are =
-          ap (λ (l : List (List (List ℕ))). l ++ n) m_is
-          ∙ ap (λ (l : List (List (List ℕ))). p.front ++ l) q.messages_are
-          ∙ sym (append_assoc p.front q.front q.others);
-      asks = asks_on key channel connection p.front q.front p.added q.added p.asks q.asks;
-      calls = calls_on old mid new p.added q.added p.calls q.calls;
-      all = q.all;
-    }
+-- ---- messages
+
+asks_on : (place : Place) (a b : List (List (List ℕ))) (x y : List Call) → Asks place a x → Asks place b y
+    → Asks place (a ++ b) (x ++ y)
+asks_on place a b x y NoMore q = q
+asks_on place a b x y (Asked frames messages call calls asked p) q =
+    Asked frames (messages ++ b) call (calls ++ y) asked (asks_on place messages b calls y p q)
+asks_on place a b x y (Dropped frames messages calls dropped p) q =
+    Dropped frames (messages ++ b) (calls ++ y) dropped (asks_on place messages b calls y p q)
+
+all_none : (place : Place) (old : PassState Call) → AskedAll place [] old old
+all_none place old =
+    record { added = []; asks = NoMore; calls = sym (append-nil old.calls); turns = NoCall }
+
+-- all of these messages, then all of those
+all_on : (place : Place) (m n : List (List (List ℕ))) (old mid new : PassState Call)
+    → AskedAll place m old mid → AskedAll place n mid new → AskedAll place (m ++ n) old new
+all_on place m n old mid new p q = record {
+  added = p.added ++ q.added;
+  asks = asks_on place m n p.added q.added p.asks q.asks;
+  calls = calls_on old.calls mid.calls new.calls p.added q.added p.calls q.calls;
+  turns = granted_on old mid new p.added q.added p.turns q.turns;
+}
+
+-- or a front of those
+front_on : (place : Place) (m n : List (List (List ℕ))) (old mid new : PassState Call) (e : PumpEnd)
+    → AskedAll place m old mid → AskedFront place n mid new e → AskedFront place (m ++ n) old new e
+front_on place m n old mid new e p q = record {
+  front = m ++ q.front;
+  others = q.others;
+  messages_are =
+      ap (λ (l : List (List (List ℕ))). m ++ l) q.messages_are ∙ sym (append_assoc m q.front q.others);
+  added = p.added ++ q.added;
+  asks = asks_on place m q.front p.added q.added p.asks q.asks;
+  calls = calls_on old.calls mid.calls new.calls p.added q.added p.calls q.calls;
+  made = made_on old mid new p.added q.added e p.turns q.made;
+  all = q.all;
+}
 
 -- a front of these messages is one of these and more
-front_before : (key : List ℕ) (channel : Channel) (connection : ℕ) (m n : List (List (List ℕ)))
-    (old new : List Call)
-    → AsksFront key channel connection m old new false
-    → AsksFront key channel connection (m ++ n) old new false
-front_before key channel connection m n old new p = record {
+front_before : (place : Place) (m n : List (List (List ℕ))) (old new : PassState Call) (e : PumpEnd)
+    → asks_all e ≡ false → AskedFront place m old new e → AskedFront place (m ++ n) old new e
+front_before place m n old new e no_all p = record {
   front = p.front;
   others = p.others ++ n;
-  added = p.added;
   messages_are = ap (λ (l : List (List (List ℕ))). l ++ n) p.messages_are ∙ append_assoc p.front p.others n;
+  added = p.added;
   asks = p.asks;
   calls = p.calls;
+  made = p.made;
   all = λ h. absurd cc;
 }
 
+front_whole : (place : Place) (m : List (List (List ℕ))) (old new : PassState Call) (e : PumpEnd)
+    → AskedAll place m old new → AskedFront place m old new e
+front_whole place m old new e p = record {
+  front = m;
+  others = [];
+  messages_are = sym (append-nil m);
+  added = p.added;
+  asks = p.asks;
+  calls = p.calls;
+  made = made_all old new p.added e p.turns;
+  all = λ _. refl;
+}
+
 -- all but the rest were asked for
-pub record Coming (key : List ℕ) (channel : Channel) (connection : ℕ) (messages rest : List (List (List ℕ)))
-    (old new : List Call)
+pub record Coming (place : Place) (messages rest : List (List (List ℕ))) (old new : PassState Call)
     : Type 0 where
   pub done : List (List (List ℕ))
   pub split : messages ≡ done ++ rest
-  pub asked : AsksFront key channel connection done old new true
+  pub asked : AskedAll place done old new
 
-pub coming_first : (key : List ℕ) (channel : Channel) (connection : ℕ) (messages rest : List (List (List ℕ)))
-    (old : List Call)
-    → rest ≡ messages → Coming key channel connection messages rest old old
-coming_first key channel connection messages rest old e =
-    record { done = []; split = sym e; asked = front_none key channel connection old }
+pub coming_first : (place : Place) (messages rest : List (List (List ℕ))) (old : PassState Call)
+    → rest ≡ messages → Coming place messages rest old old
+coming_first place messages rest old e = record { done = []; split = sym e; asked = all_none place old }
 
-pub coming_on : (key : List ℕ) (channel : Channel) (connection : ℕ)
-    (messages rest rest' : List (List (List ℕ))) (frames : List (List ℕ)) (old mid new : List Call)
-    → Coming key channel connection messages rest old mid → rest ≡ frames ∷ rest'
-    → AsksFront key channel connection (frames ∷ []) mid new true
-    → Coming key channel connection messages rest' old new
-coming_on key channel connection messages rest rest' frames old mid new p e q = record {
+pub coming_on : (place : Place) (messages rest rest' : List (List (List ℕ))) (frames : List (List ℕ))
+    (old mid new : PassState Call) → Coming place messages rest old mid → rest ≡ frames ∷ rest'
+    → AskedAll place (frames ∷ []) mid new → Coming place messages rest' old new
+coming_on place messages rest rest' frames old mid new p e q = record {
   done = p.done ++ frames ∷ [];
   split =
       p.split ∙ ap (λ (l : List (List (List ℕ))). p.done ++ l) e
       ∙ sym (append_assoc p.done (frames ∷ []) rest');
-  asked = front_on key channel connection p.done (frames ∷ []) old mid new true p.asked q;
+  asked = all_on place p.done (frames ∷ []) old mid new p.asked q;
 }
 
-pub coming_refused : (key : List ℕ) (channel : Channel) (connection : ℕ)
-    (messages rest rest' : List (List (List ℕ))) (frames : List (List ℕ)) (old mid new : List Call)
-    → Coming key channel connection messages rest old mid → rest ≡ frames ∷ rest'
-    → AsksFront key channel connection (frames ∷ []) mid new false
-    → AsksFront key channel connection messages old new false
-coming_refused key channel connection messages rest rest' frames old mid new p e q =
-    let one = front_on key channel connection p.done (frames ∷ []) old mid new false p.asked q in
-    let all = front_before key channel connection (p.done ++ frames ∷ []) rest' old new one in
-    let C : List (List (List ℕ)) → Type 0 = λ l. AsksFront key channel connection l old new false in
+pub coming_refused : (place : Place) (messages rest rest' : List (List (List ℕ))) (frames : List (List ℕ))
+    (old mid new : PassState Call) (e : PumpEnd) → Coming place messages rest old mid → rest ≡ frames ∷ rest'
+    → StopsBy e mid.calls new → AskedFront place (frames ∷ []) mid new e → AskedFront place messages old new e
+coming_refused place messages rest rest' frames old mid new e p is stops q =
+    let one = front_on place p.done (frames ∷ []) old mid new e p.asked q in
+    let no_all = not_all e mid.calls new stops in
+    let all = front_before place (p.done ++ frames ∷ []) rest' old new e no_all one in
+    let C : List (List (List ℕ)) → Type 0 = λ l. AskedFront place l old new e in
     subst C (append_assoc p.done (frames ∷ []) rest'
-    ∙ sym (p.split ∙ ap (λ (l : List (List (List ℕ))). p.done ++ l) e)) all
+    ∙ sym (p.split ∙ ap (λ (l : List (List (List ℕ))). p.done ++ l) is)) all
 
-pub coming_stops : (key : List ℕ) (channel : Channel) (connection : ℕ) (messages rest : List (List (List ℕ)))
-    (old mid : List Call) (e : PumpEnd) (pass : PassState Call)
-    → Coming key channel connection messages rest old mid → StopsBy e mid pass → StopsBy e old pass
-coming_stops key channel connection messages rest old mid e pass p stops =
-    later e old mid p.asked.added pass p.asked.calls stops
+pub coming_stops : (place : Place) (messages rest : List (List (List ℕ))) (old mid new : PassState Call)
+    (e : PumpEnd) → Coming place messages rest old mid → StopsBy e mid.calls new → StopsBy e old.calls new
+coming_stops place messages rest old mid new e p stops =
+    later e old.calls mid.calls p.asked.added new p.asked.calls stops
 
-pub coming_end : (key : List ℕ) (channel : Channel) (connection : ℕ) (messages rest : List (List (List ℕ)))
-    (old new : List Call)
-    → Coming key channel connection messages rest old new → rest ≡ []
-    → AsksFront key channel connection messages old new true
-coming_end key channel connection messages rest old new p e =
-    let C : List (List (List ℕ)) → Type 0 = λ l. AsksFront key channel connection l old new true in
+pub coming_end : (place : Place) (messages rest : List (List (List ℕ))) (old new : PassState Call)
+    → Coming place messages rest old new → rest ≡ [] → AskedAll place messages old new
+coming_end place messages rest old new p e =
+    let C : List (List (List ℕ)) → Type 0 = λ l. AskedAll place l old new in
     subst C (sym (p.split ∙ ap (λ (l : List (List (List ℕ))). p.done ++ l) e ∙ append-nil p.done)) p.asked
 
 -- ---- pieces
 
-pub hears_piece : (key : List ℕ) (channel : Channel) (connection : ℕ) (s t : SideState) (bytes : List ℕ)
-    (messages : List (List (List ℕ))) (old new : List Call) (is_all : Bool)
-    → Completes s bytes messages t → AsksFront key channel connection messages old new is_all
-    → Hears key channel connection s t [] bytes old new is_all
-hears_piece key channel connection s t bytes messages old new is_all reads asked = record {
+abbrev pub listener : SideState → PassState Call → Listener
+listener side pass = record { side = side; pass = pass }
+
+pub hears_piece : (place : Place) (s t : SideState) (bytes : List ℕ) (messages : List (List (List ℕ)))
+    (old new : PassState Call) → Completes s bytes messages t → AskedAll place messages old new
+    → HeardAll place [] bytes (listener s old) (listener t new)
+hears_piece place s t bytes messages old new reads asked =
+    record { messages = messages; reads = reads; asked = asked }
+
+hears_whole : (place : Place) (held : List (List (List ℕ))) (bytes : List ℕ) (old new : Listener)
+    (e : PumpEnd) → HeardAll place held bytes old new → HeardFront place held bytes old new e
+hears_whole place held bytes old new e h = record {
+  taken = bytes;
+  unread = [];
+  messages = h.messages;
+  bytes_are = sym (append-nil bytes);
+  reads = h.reads;
+  asked = front_whole place (held ++ h.messages) old.pass new.pass e h.asked;
+  all = λ _. refl;
+}
+
+-- all was asked for, and the stream is broken after it
+pub hears_broken : (place : Place) (s t : SideState) (bytes : List ℕ) (messages : List (List (List ℕ)))
+    (old new : PassState Call) (e : PumpEnd) → Completes s bytes messages t → AskedAll place messages old new
+    → HeardFront place [] bytes (listener s old) (listener t new) e
+hears_broken place s t bytes messages old new e reads asked =
+    hears_whole place [] bytes (listener s old) (listener t new) e
+    (hears_piece place s t bytes messages old new reads asked)
+
+hears_front : (place : Place) (s t : SideState) (held : List (List (List ℕ))) (bytes : List ℕ)
+    (messages : List (List (List ℕ))) (old new : PassState Call) (e : PumpEnd) → Completes s bytes messages t
+    → AskedFront place (held ++ messages) old new e
+    → HeardFront place held bytes (listener s old) (listener t new) e
+hears_front place s t held bytes messages old new e reads asked = record {
   taken = bytes;
   unread = [];
   messages = messages;
@@ -205,107 +257,111 @@ hears_piece key channel connection s t bytes messages old new is_all reads asked
   all = λ _. refl;
 }
 
-pub hears_refused : (key : List ℕ) (channel : Channel) (connection : ℕ) (s t : SideState) (bytes : List ℕ)
-    (messages : List (List (List ℕ))) (old new : List Call) (before : List Call) (pass : PassState Call)
-    (e : PumpEnd)
-    → StopsBy e before pass → Completes s bytes messages t
-    → AsksFront key channel connection messages old new false
-    → Hears key channel connection s t [] bytes old new (asks_all e)
-hears_refused key channel connection s t bytes messages old new before pass e stops reads asked =
-    let H : Bool → Type 0 = λ b. Hears key channel connection s t [] bytes old new b in
-    subst H (sym (not_all e before pass stops)) (hears_piece key channel connection s t bytes messages old new
-    false reads asked)
+pub hears_refused : (place : Place) (s t : SideState) (bytes : List ℕ) (messages : List (List (List ℕ)))
+    (old new : PassState Call) (e : PumpEnd) → Completes s bytes messages t
+    → AskedFront place messages old new e → HeardFront place [] bytes (listener s old) (listener t new) e
+hears_refused place s t bytes messages old new e reads asked =
+    hears_front place s t [] bytes messages old new e reads asked
 
 -- the piece wasn't taken
-pub hears_not : (key : List ℕ) (channel : Channel) (connection : ℕ) (s t : SideState) (bytes : List ℕ)
-    (old new : List Call)
-    → t ≡ s → new ≡ old → Hears key channel connection s t [] bytes old new false
-hears_not key channel connection s t bytes old new side calls = record {
+pub hears_not : (place : Place) (s t : SideState) (bytes : List ℕ) (old : PassState Call) → t ≡ s
+    → HeardFront place [] bytes (listener s old) (listener t old) pump.OutOfMemory
+hears_not place s t bytes old side = record {
   taken = [];
   unread = bytes;
   messages = [];
   bytes_are = refl;
   reads = (let C : SideState → Type 0 = λ u. Completes s [] [] u in subst C (sym side) (completes_none s));
-  asked = asks_not key channel connection [] old new calls;
+  asked = asked_none place [] old;
   all = λ h. absurd cc;
 }
 
-hears_held : (key : List ℕ) (channel : Channel) (connection : ℕ) (s : SideState) (held : List (List (List ℕ)))
-    (old new : List Call) (is_all : Bool)
-    → AsksFront key channel connection held old new is_all
-    → Hears key channel connection s s held [] old new is_all
-hears_held key channel connection s held old new is_all asked = record {
-  taken = [];
-  unread = [];
+hears_held : (place : Place) (s : SideState) (held : List (List (List ℕ))) (old new : PassState Call)
+    → AskedAll place held old new → HeardAll place held [] (listener s old) (listener s new)
+hears_held place s held old new asked = record {
   messages = [];
-  bytes_are = refl;
   reads = completes_none s;
   asked =
-      (let A : List (List (List ℕ)) → Type 0 = λ l. AsksFront key channel connection l old new is_all in
+      (let A : List (List (List ℕ)) → Type 0 = λ l. AskedAll place l old new in
       subst A (sym (append-nil held)) asked);
-  all = λ _. refl;
 }
 
-hears_on : (key : List ℕ) (channel : Channel) (connection : ℕ) (s t u : SideState)
-    (held : List (List (List ℕ))) (x y : List ℕ) (old mid new : List Call) (is_all : Bool)
-    → Hears key channel connection s t held x old mid true
-    → Hears key channel connection t u [] y mid new is_all
-    → Hears key channel connection s u held (x ++ y) old new is_all
-hears_on key channel connection s t u held x y old mid new is_all p q =
-    let none = p.all refl in
-    let x_is : x ≡ p.taken = p.bytes_are ∙ ap (λ (l : List ℕ). p.taken ++ l) none ∙ append-nil p.taken in
-    let A : List (List (List ℕ)) → Type 0 = λ l. AsksFront key channel connection l old new is_all in
+front_held : (place : Place) (s : SideState) (held : List (List (List ℕ))) (old new : PassState Call)
+    (e : PumpEnd) → AskedFront place held old new e
+    → HeardFront place held [] (listener s old) (listener s new) e
+front_held place s held old new e asked =
+    let A : List (List (List ℕ)) → Type 0 = λ l. AskedFront place l old new e in
+    hears_front place s s held [] [] old new e (completes_none s) (subst A (sym (append-nil held)) asked)
+
+hears_on : (place : Place) (held : List (List (List ℕ))) (x y : List ℕ) (old mid new : Listener)
+    → HeardAll place held x old mid → HeardAll place [] y mid new → HeardAll place held (x ++ y) old new
+hears_on place held x y old mid new p q =
+    let A : List (List (List ℕ)) → Type 0 = λ l. AskedAll place l old.pass new.pass in
     record {
-      taken = p.taken ++ q.taken;
-      unread = q.unread;
       messages = p.messages ++ q.messages;
-      bytes_are =
-          ap (λ (l : List ℕ). l ++ y) x_is ∙ ap (λ (l : List ℕ). p.taken ++ l) q.bytes_are
-          ∙ sym (append_assoc p.taken q.taken q.unread);
-      reads = completes_on s t u p.taken q.taken p.messages q.messages p.reads q.reads;
+      reads = completes_on old.side mid.side new.side x y p.messages q.messages p.reads q.reads;
       asked =
           subst A (append_assoc held p.messages q.messages)
-          (front_on key channel connection (held ++ p.messages) q.messages old mid new is_all p.asked
-          q.asked);
+          (all_on place (held ++ p.messages) q.messages old.pass mid.pass new.pass p.asked q.asked);
+    }
+
+stops_on : (place : Place) (held : List (List (List ℕ))) (x y : List ℕ) (old mid new : Listener)
+    (e : PumpEnd) → HeardAll place held x old mid → HeardFront place [] y mid new e
+    → HeardFront place held (x ++ y) old new e
+stops_on place held x y old mid new e p q =
+    let A : List (List (List ℕ)) → Type 0 = λ l. AskedFront place l old.pass new.pass e in
+    record {
+      taken = x ++ q.taken;
+      unread = q.unread;
+      messages = p.messages ++ q.messages;
+      bytes_are = ap (λ (l : List ℕ). x ++ l) q.bytes_are ∙ sym (append_assoc x q.taken q.unread);
+      reads = completes_on old.side mid.side new.side x q.taken p.messages q.messages p.reads q.reads;
+      asked =
+          subst A (append_assoc held p.messages q.messages)
+          (front_on place (held ++ p.messages) q.messages old.pass mid.pass new.pass e p.asked q.asked);
       all = q.all;
     }
 
 -- ---- the stream
 
+abbrev pub reader : InletState → PassState Call → Reader
+reader inlet pass = record { inlet = inlet; pass = pass }
+
 -- all that came was asked for, and each read gave a byte at least
-pub record UnderWay (key : List ℕ) (channel : Channel) (connection : ℕ) (s t : SideState)
-    (held : List (List (List ℕ)))
-    (given given' : Option (List ℕ)) (reads : ℕ) (old new : List Call) : Type 0 where
+pub record UnderWay (place : Place) (peer : Peer) (from from' : InletState) (old : PassState Call)
+    (new : Listener) (reads : ℕ) : Type 0 where
   pub bytes : List ℕ
-  pub told : Told given given' bytes
-  pub hears : Hears key channel connection s t held bytes old new true
+  pub gave : Gave from from' bytes
+  pub hears : HeardAll place peer.messages bytes (listener peer.side old) new
   pub many : reads ≤ length bytes
 
-pub under_way : (key : List ℕ) (channel : Channel) (connection : ℕ) (s t : SideState)
-    (held : List (List (List ℕ))) (given : Option (List ℕ)) (old mid new : List Call)
-    → AsksFront key channel connection held old mid true → Hears key channel connection s t [] [] mid new true
-    → UnderWay key channel connection s t held given given 0 old new
-under_way key channel connection s t held given old mid new p q = record {
+pub under_way : (place : Place) (peer : Peer) (from : InletState) (t : SideState)
+    (old mid new : PassState Call)
+    → AskedAll place peer.messages old mid
+    → HeardAll place [] [] (listener peer.side mid) (listener t new)
+    → UnderWay place peer from from old (listener t new) 0
+under_way place peer from t old mid new p q = record {
   bytes = [];
-  told = told_none given;
+  gave = told_none from.given;
   hears =
-      hears_on key channel connection s s t held [] [] old mid new true
-      (hears_held key channel connection s held old mid true p) q;
+      hears_on place peer.messages [] [] (listener peer.side old) (listener peer.side mid) (listener t new)
+      (hears_held place peer.side peer.messages old mid p) q;
   many = omega arith;
 }
 
-pub under_way_on : (key : List ℕ) (channel : Channel) (connection : ℕ) (s t u : SideState)
-    (held : List (List (List ℕ))) (g h k : Option (List ℕ)) (reads : ℕ) (x : List ℕ) (old mid new : List Call)
-    → UnderWay key channel connection s t held g h reads old mid → Told h k x
-    → Hears key channel connection t u [] x mid new true
-    → 1 ≤ length x → UnderWay key channel connection s u held g k (reads + 1) old new
-under_way_on key channel connection s t u held g h k reads x old mid new p told q some =
+pub under_way_on : (place : Place) (peer : Peer) (g h k : InletState) (t u : SideState) (reads : ℕ)
+    (x : List ℕ) (old mid new : PassState Call) → UnderWay place peer g h old (listener t mid) reads
+    → Gave h k x → HeardAll place [] x (listener t mid) (listener u new) → 1 ≤ length x
+    → UnderWay place peer g k old (listener u new) (reads + 1)
+under_way_on place peer g h k t u reads x old mid new p told q some =
     let many = p.many in
     let more = length-append p.bytes x in
     record {
       bytes = p.bytes ++ x;
-      told = told_on g h k p.bytes x p.told told;
-      hears = hears_on key channel connection s t u held p.bytes x old mid new true p.hears q;
+      gave = told_on g.given h.given k.given p.bytes x p.gave told;
+      hears =
+          hears_on place peer.messages p.bytes x (listener peer.side old) (listener t mid) (listener u new)
+          p.hears q;
       many = omega (arith, more);
     }
 
@@ -322,115 +378,92 @@ gives_some count buffer some fits =
     omega (arith, is)
 
 -- refused in the messages that were held
-pub held_refused : (key : List ℕ) (channel : Channel) (connection : ℕ) (s : SideState)
-    (held : List (List (List ℕ))) (given : Option (List ℕ)) (ended failed : Bool) (old new : PassState Call)
-    (e : PumpEnd)
-    → ended ≡ false → failed ≡ false → StopsBy e old.calls new
-    → AsksFront key channel connection held old.calls new.calls false
-    → ReadOut key channel connection s held given given ended failed old new e
-held_refused key channel connection s held given ended failed old new e on good stops asked =
-    let H : Bool → Type 0 = λ b. Hears key channel connection s s held [] old.calls new.calls b in
-    record {
-      bytes = [];
-      after = s;
-      told = told_none given;
-      hears =
-          subst H (sym (not_all e old.calls new stops))
-          (hears_held key channel connection s held old.calls new.calls false asked);
-      cause = ends_by e old.calls new ended failed [] s on good (stops_piece e old.calls new s stops);
-    }
+pub held_refused : (place : Place) (peer : Peer) (from : InletState) (old new : PassState Call) (e : PumpEnd)
+    → IsReadable from → StopsBy e old.calls new → AskedFront place peer.messages old new e
+    → ReadOut place peer (reader from old) (reader from new) e
+held_refused place peer from old new e good stops asked = record {
+  bytes = [];
+  after = peer.side;
+  gave = told_none from.given;
+  heard = front_held place peer.side peer.messages old new e asked;
+  cause =
+      ends_by e (reader from old) (reader from new) [] peer.side good
+      (stops_piece e old.calls new peer.side stops);
+}
 
 -- stopped at a fault behind READY
-pub stopped_first : (key : List ℕ) (channel : Channel) (connection : ℕ) (s t : SideState)
-    (held : List (List (List ℕ))) (given : Option (List ℕ)) (ended failed : Bool) (old new : PassState Call)
-    (mid : List Call) (e : PumpEnd)
-    → ended ≡ false → failed ≡ false → AsksFront key channel connection held old.calls mid true
-    → StopsPiece e mid new t → Hears key channel connection s t [] [] mid new.calls (asks_all e)
-    → ReadOut key channel connection s held given given ended failed old new e
-stopped_first key channel connection s t held given ended failed old new mid e on good p stops q = record {
+pub stopped_first : (place : Place) (peer : Peer) (from : InletState) (t : SideState)
+    (old mid new : PassState Call) (e : PumpEnd) → IsReadable from → AskedAll place peer.messages old mid
+    → StopsPiece e mid.calls new t → HeardFront place [] [] (listener peer.side mid) (listener t new) e
+    → ReadOut place peer (reader from old) (reader from new) e
+stopped_first place peer from t old mid new e good p stops q = record {
   bytes = [];
   after = t;
-  told = told_none given;
-  hears =
-      hears_on key channel connection s s t held [] [] old.calls mid new.calls (asks_all e)
-      (hears_held key channel connection s held old.calls mid true p) q;
+  gave = told_none from.given;
+  heard =
+      stops_on place peer.messages [] [] (listener peer.side old) (listener peer.side mid) (listener t new) e
+      (hears_held place peer.side peer.messages old mid p) q;
   cause =
-      ends_by e old.calls new ended failed [] t on good
-      (later_piece e old.calls mid p.added new t p.calls stops);
+      ends_by e (reader from old) (reader from new) [] t good
+      (later_piece e old.calls mid.calls p.added new t p.calls stops);
 }
 
 -- stopped in a piece
-pub stopped : (key : List ℕ) (channel : Channel) (connection : ℕ) (s t u : SideState)
-    (held : List (List (List ℕ))) (g h k : Option (List ℕ)) (ended failed : Bool) (reads : ℕ) (x : List ℕ)
-    (old new : PassState Call) (mid : List Call) (e : PumpEnd)
-    → UnderWay key channel connection s t held g h reads old.calls mid → Told h k x → ended ≡ false
-    → failed ≡ false
-    → StopsPiece e mid new u → Hears key channel connection t u [] x mid new.calls (asks_all e)
-    → ReadOut key channel connection s held g k ended failed old new e
-stopped key channel connection s t u held g h k ended failed reads x old new mid e p told on good stops q =
-    record {
-      bytes = p.bytes ++ x;
-      after = u;
-      told = told_on g h k p.bytes x p.told told;
-      hears =
-          hears_on key channel connection s t u held p.bytes x old.calls mid new.calls (asks_all e) p.hears q;
-      cause =
-          ends_by e old.calls new ended failed (p.bytes ++ x) u on good
-          (later_piece e old.calls mid p.hears.asked.added new u p.hears.asked.calls stops);
-    }
+pub stopped : (place : Place) (peer : Peer) (g h k : InletState) (t u : SideState) (reads : ℕ) (x : List ℕ)
+    (old mid new : PassState Call) (e : PumpEnd) → UnderWay place peer g h old (listener t mid) reads
+    → Gave h k x → IsReadable k → StopsPiece e mid.calls new u
+    → HeardFront place [] x (listener t mid) (listener u new) e
+    → ReadOut place peer (reader g old) (reader k new) e
+stopped place peer g h k t u reads x old mid new e p told good stops q = record {
+  bytes = p.bytes ++ x;
+  after = u;
+  gave = told_on g.given h.given k.given p.bytes x p.gave told;
+  heard =
+      stops_on place peer.messages p.bytes x (listener peer.side old) (listener t mid) (listener u new) e
+      p.hears q;
+  cause =
+      ends_by e (reader g old) (reader k new) (p.bytes ++ x) u good
+      (later_piece e old.calls mid.calls p.hears.asked.added new u p.hears.asked.calls stops);
+}
 
-told_more : (g h k : Option (List ℕ)) (x : List ℕ) → Told g h x → Told h k [] → Told g k x
-told_more g h k x p q =
-    let T : List ℕ → Type 0 = λ l. Told g k l in subst T (append-nil x) (told_on g h k x [] p q)
+gave_more : (g h k : InletState) (x : List ℕ) → Gave g h x → Gave h k [] → Gave g k x
+gave_more g h k x p q =
+    let T : List ℕ → Type 0 = λ l. Gave g k l in
+    subst T (append-nil x) (told_on g.given h.given k.given x [] p q)
 
 -- no more was read, and reading ended so
-ends_there : (key : List ℕ) (channel : Channel) (connection : ℕ) (s t : SideState)
-    (held : List (List (List ℕ))) (g h k : Option (List ℕ)) (ended failed : Bool) (reads : ℕ)
-    (old new : PassState Call) (e : PumpEnd)
-    → UnderWay key channel connection s t held g h reads old.calls new.calls → Told h k [] → asks_all e ≡ true
-    → ((bytes : List ℕ) → reads ≤ length bytes → EndsBy e old.calls new ended failed bytes t)
-    → ReadOut key channel connection s held g k ended failed old new e
-ends_there key channel connection s t held g h k ended failed reads old new e p told all cause =
-    let H : Bool → Type 0 = λ b. Hears key channel connection s t held p.bytes old.calls new.calls b in
-    record {
-      bytes = p.bytes;
-      after = t;
-      told = told_more g h k p.bytes p.told told;
-      hears = subst H (sym all) p.hears;
-      cause = cause p.bytes p.many;
-    }
+ends_there : (place : Place) (peer : Peer) (g h k : InletState) (t : SideState) (reads : ℕ)
+    (old new : PassState Call) (e : PumpEnd) → UnderWay place peer g h old (listener t new) reads
+    → Gave h k []
+    → ((bytes : List ℕ) → reads ≤ length bytes → EndsBy e (reader g old) (reader k new) bytes t)
+    → ReadOut place peer (reader g old) (reader k new) e
+ends_there place peer g h k t reads old new e p told cause = record {
+  bytes = p.bytes;
+  after = t;
+  gave = gave_more g h k p.bytes p.gave told;
+  heard = hears_whole place peer.messages p.bytes (listener peer.side old) (listener t new) e p.hears;
+  cause = cause p.bytes p.many;
+}
 
-pub ended_there : (key : List ℕ) (channel : Channel) (connection : ℕ) (s t : SideState)
-    (held : List (List (List ℕ))) (g h k : Option (List ℕ)) (ended failed : Bool) (reads : ℕ)
-    (old new : PassState Call)
-    → UnderWay key channel connection s t held g h reads old.calls new.calls → Told h k [] → ended ≡ true
-    → failed ≡ false
-    → ReadOut key channel connection s held g k ended failed old new pump.PeerEnded
-ended_there key channel connection s t held g h k ended failed reads old new p told end good =
-    ends_there key channel connection s t held g h k ended failed reads old new pump.PeerEnded p told refl
-    (λ bytes many. (end, good))
+pub ended_there : (place : Place) (peer : Peer) (g h k : InletState) (t : SideState) (reads : ℕ)
+    (old new : PassState Call) → UnderWay place peer g h old (listener t new) reads → Gave h k []
+    → k.ended ≡ true → k.failed ≡ false → ReadOut place peer (reader g old) (reader k new) pump.PeerEnded
+ended_there place peer g h k t reads old new p told end good =
+    ends_there place peer g h k t reads old new pump.PeerEnded p told (λ bytes many. (end, good))
 
-pub failed_there : (key : List ℕ) (channel : Channel) (connection : ℕ) (s t : SideState)
-    (held : List (List (List ℕ))) (g h k : Option (List ℕ)) (ended failed : Bool) (reads : ℕ)
-    (old new : PassState Call)
-    → UnderWay key channel connection s t held g h reads old.calls new.calls → Told h k [] → ended ≡ false
-    → failed ≡ true
-    → ReadOut key channel connection s held g k ended failed old new pump.ReadFailed
-failed_there key channel connection s t held g h k ended failed reads old new p told on bad =
-    ends_there key channel connection s t held g h k ended failed reads old new pump.ReadFailed p told refl
-    (λ bytes many. (on, inl bad))
+pub failed_there : (place : Place) (peer : Peer) (g h k : InletState) (t : SideState) (reads : ℕ)
+    (old new : PassState Call) → UnderWay place peer g h old (listener t new) reads → Gave h k []
+    → k.ended ≡ false → k.failed ≡ true → ReadOut place peer (reader g old) (reader k new) pump.ReadFailed
+failed_there place peer g h k t reads old new p told on bad =
+    ends_there place peer g h k t reads old new pump.ReadFailed p told (λ bytes many. (on, inl bad))
 
 worn_out : (reads : ℕ) (bytes : List ℕ) → 4294967295 ≤ reads → reads ≤ length bytes → IsWornOut bytes
 unfolding most_reads
 worn_out reads bytes enough many = omega arith
 
-pub read_enough : (key : List ℕ) (channel : Channel) (connection : ℕ) (s t : SideState)
-    (held : List (List (List ℕ))) (g h : Option (List ℕ)) (ended failed : Bool) (reads : ℕ)
-    (old new : PassState Call)
-    → UnderWay key channel connection s t held g h reads old.calls new.calls → 4294967295 ≤ reads
-    → ended ≡ false → failed ≡ false
-    → ReadOut key channel connection s held g h ended failed old new pump.ReadFailed
-read_enough key channel connection s t held g h ended failed reads old new p enough on good =
-    ends_there key channel connection s t held g h h ended failed reads old new pump.ReadFailed p
-    (told_none h) refl
-    (λ bytes many. (on, inr (good, worn_out reads bytes enough many)))
+pub read_enough : (place : Place) (peer : Peer) (g h : InletState) (t : SideState) (reads : ℕ)
+    (old new : PassState Call) → UnderWay place peer g h old (listener t new) reads → 4294967295 ≤ reads
+    → IsReadable h → ReadOut place peer (reader g old) (reader h new) pump.ReadFailed
+read_enough place peer g h t reads old new p enough good =
+    ends_there place peer g h h t reads old new pump.ReadFailed p (told_none h.given)
+    (λ bytes many. (good.0, inr (good.1, worn_out reads bytes enough many)))

@@ -1,15 +1,19 @@
 -- What a turn that was refused shows.
-use Rattle.std.proofs.Common.{◌≡◌, ◌∙◌, ◌⊎◌, inl, inr, Bool, subst, ℕ, true, false, [], ◌∷◌, ◌++◌, Result}
-use Rattle.std.proofs.Common.{Err, refl, sym, ap}
+use Rattle.std.proofs.Common.{◌≡◌, ◌∙◌, inl, inr, subst, ℕ, true, [], ◌∷◌, ◌++◌, Result}
+use Rattle.std.proofs.Common.{Ok, Err, sym, ap, append-nil}
+use mathlib.Core.List.{IsPrefix}
 use Rattle.lab_turn.specs.History.{PassState, Turned}
 use Rattle.kern_core.specs.declared.call.Call.{Call}
 use Rattle.kern_core.specs.declared.call.Reply.{Reply}
 use Rattle.kern_core.specs.declared.fault.KernFault.{KernFault}
-use Rattle.kern_core.specs.declared.fault.KernFault.TheVariants.{Full, Lagged, JournalFull, NoConnection}
+use Rattle.kern_core.specs.declared.fault.KernFault.TheVariants.{OutOfMemory, Full, Lagged, JournalFull}
+use Rattle.kern_core.specs.declared.fault.KernFault.TheVariants.{NoConnection}
 use Rattle.kern_core.specs.Kernels.{is_entry, is_full}
 use Rattle.kern_desk.specs.Seats.{seated_answer}
 use Rattle.kern_net.specs.declared.end.PumpEnd.TheVariants as pump
 use Rattle.kern_net.specs.ReadEnds.{IsReaderCall, LastAnswer, StopsBy}
+use Rattle.kern_net.specs.Calls.{TurnedBy}
+use Rattle.kern_net.proofs.AskLemmas.{Grants, Refuses}
 use Rattle.kern_net.proofs.LagLemmas.{no_lag}
 
 last_answer : (old new : PassState Call) (call : Call) (answer : Result Reply KernFault)
@@ -51,14 +55,37 @@ never_lagged old new call answer first turned is read =
     let entered = turned.entered (ap is_entry is) in
     no_lag call entered.before first read (sym entered.answered ∙ is)
 
-counted_by : (old new : PassState Call) (call : Call) (answer : Result Reply KernFault) (b : Bool)
-    → Turned seated_answer is_entry is_full old call answer new → is_entry answer ≡ b
-    → (new.calls ≡ old.calls ++ call ∷ []) ⊎ (new.calls ≡ old.calls)
-counted_by old new call answer true turned is = inl (turned.entered is).counted
-counted_by old new call answer false turned is = inr (turned.refused is).counted
+pub call_granted : (old new : PassState Call) (call : Call) (answer : Result Reply KernFault)
+    → Turned seated_answer is_entry is_full old call answer new → (reply : Reply) × (answer ≡ Ok reply)
+    → Grants old call new
+call_granted old new call answer turned (reply, is) =
+    let T : Result Reply KernFault → Type 0 = λ a. TurnedBy old call a new in (reply, subst T is turned)
 
--- a turn adds its call, or none
-pub counted : (old new : PassState Call) (call : Call) (answer : Result Reply KernFault)
-    → Turned seated_answer is_entry is_full old call answer new
-    → (new.calls ≡ old.calls ++ call ∷ []) ⊎ (new.calls ≡ old.calls)
-counted old new call answer turned = counted_by old new call answer (is_entry answer) turned refl
+pub worn_onward : (old new : PassState Call) → new ≡ record old { worn = true } → IsPrefix old.seen new.seen
+worn_onward old new is = ([], append-nil old.seen ∙ sym (ap (λ (x : PassState Call). x.seen) is))
+
+-- ---- whether the call stands in the journal
+
+pub refuses_worn : (old new : PassState Call) (call : Call) → new ≡ record old { worn = true }
+    → Refuses old call new pump.Worn
+refuses_worn old new call is = inl (ap (λ (x : PassState Call). x.calls) is)
+
+pub refuses_memory : (old new : PassState Call) (call : Call) (answer : Result Reply KernFault)
+    → Turned seated_answer is_entry is_full old call answer new → answer ≡ Err OutOfMemory
+    → Refuses old call new pump.OutOfMemory
+refuses_memory old new call answer turned is = inl (turned.refused (ap is_entry is)).counted
+
+pub refuses_journal_full : (old new : PassState Call) (call : Call) (answer : Result Reply KernFault)
+    → Turned seated_answer is_entry is_full old call answer new → answer ≡ Err JournalFull
+    → Refuses old call new pump.JournalFull
+refuses_journal_full old new call answer turned is = inl (turned.refused (ap is_entry is)).counted
+
+pub refuses_full : (old new : PassState Call) (call : Call) (answer : Result Reply KernFault)
+    → Turned seated_answer is_entry is_full old call answer new → answer ≡ Err Full
+    → Refuses old call new (pump.Refused Full)
+refuses_full old new call answer turned is = inr (tt, (turned.entered (ap is_entry is)).counted)
+
+pub refuses_unknown : (old new : PassState Call) (call : Call) (answer : Result Reply KernFault)
+    → Turned seated_answer is_entry is_full old call answer new → answer ≡ Err NoConnection
+    → Refuses old call new (pump.Refused NoConnection)
+refuses_unknown old new call answer turned is = inr (tt, (turned.entered (ap is_entry is)).counted)

@@ -11,16 +11,16 @@ use Rattle.jup_wire.specs.Wire.{IsMessage}
 use Rattle.kern_ask.specs.Asks.{request_of}
 use Rattle.kern_core.specs.declared.call.Call.{Call}
 use Rattle.kern_core.specs.declared.call.Call.TheVariants.{Arrive, Subscribe}
+use Rattle.kern_net.specs.declared.pump_in.Place.{Place}
 
--- the call for a message that opens under the key
-pub record IsArrival (key : List ℕ) (channel : Channel) (connection : ℕ) (frames : List (List ℕ))
-    (call : Call)
-    : Type 0 where
+-- the call for a message that opens under the place's key
+pub record IsArrival (place : Place) (frames : List (List ℕ)) (call : Call) : Type 0 where
   pub message : Message
   pub moment : ℕ
-  pub opens : IsMessage key frames message.parts message.header (view message.content)
+  pub opens : IsMessage place.key.now frames message.parts message.header (view message.content)
   pub in_time : moment ≤ 4102444800
-  pub call_is : call ≡ Arrive connection (record { request = request_of channel message; moment = moment })
+  pub call_is : call ≡ Arrive place.connection
+      (record { request = request_of place.channel message; moment = moment })
 
 -- the first byte of a subscription, and of its end
 abbrev pub mark : Bool → ℕ
@@ -32,17 +32,22 @@ abbrev pub subscription_frames : Bool → List ℕ → List (List ℕ)
 subscription_frames wants prefix = (mark wants ∷ prefix) ∷ []
 
 -- the call for these frames
-pub record IsSubscription (connection : ℕ) (frames : List (List ℕ)) (call : Call) : Type 0 where
+pub record IsSubscription (place : Place) (frames : List (List ℕ)) (call : Call) : Type 0 where
   pub wants : Bool
   pub prefix : List ℕ
   pub moment : ℕ
   pub frames_are : frames ≡ subscription_frames wants prefix
   pub in_time : moment ≤ 4102444800
-  pub call_is : call ≡ Subscribe connection (record { wants = wants; prefix = prefix; moment = moment })
+  pub call_is : call ≡ Subscribe place.connection
+      (record { wants = wants; prefix = prefix; moment = moment })
 
-abbrev pub IsAsked : List ℕ → Channel → ℕ → List (List ℕ) → Call → Type 0
-IsAsked key Iopub connection frames call = IsSubscription connection frames call
-IsAsked key channel connection frames call = IsArrival key channel connection frames call
+-- what the frames ask for on a channel: on iopub a subscription, on the others a request
+abbrev pub IsAskedOn : Channel → Place → List (List ℕ) → Call → Type 0
+IsAskedOn Iopub place frames call = IsSubscription place frames call
+IsAskedOn _ place frames call = IsArrival place frames call
+
+abbrev pub IsAsked : Place → List (List ℕ) → Call → Type 0
+IsAsked place frames call = IsAskedOn place.channel place frames call
 
 -- the frames are no message under the key
 abbrev pub IsUnopened : List ℕ → List (List ℕ) → Type 0
@@ -52,17 +57,17 @@ IsUnopened key frames = (p : Parts) (h : Header) (content : Data) → IsMessage 
 abbrev pub IsNoSubscription : List (List ℕ) → Type 0
 IsNoSubscription frames = (wants : Bool) (prefix : List ℕ) → frames ≡ subscription_frames wants prefix → ⊥
 
-abbrev pub IsDropped : List ℕ → Channel → List (List ℕ) → Type 0
-IsDropped key Iopub frames = IsNoSubscription frames
-IsDropped key _ frames = IsUnopened key frames
+abbrev pub IsDroppedOn : Channel → Place → List (List ℕ) → Type 0
+IsDroppedOn Iopub place frames = IsNoSubscription frames
+IsDroppedOn _ place frames = IsUnopened place.key.now frames
+
+abbrev pub IsDropped : Place → List (List ℕ) → Type 0
+IsDropped place frames = IsDroppedOn place.channel place frames
 
 -- one call for each message that asks for something, in order, and none for another
-pub data Asks (key : List ℕ) (channel : Channel) (connection : ℕ) : List (List (List ℕ)) → List Call
-    → Type 0 where
-  NoMore : Asks key channel connection [] []
+pub data Asks (place : Place) : List (List (List ℕ)) → List Call → Type 0 where
+  NoMore : Asks place [] []
   Asked : (frames : List (List ℕ)) (messages : List (List (List ℕ))) (call : Call) (calls : List Call)
-      → IsAsked key channel connection frames call → Asks key channel connection messages calls
-      → Asks key channel connection (frames ∷ messages) (call ∷ calls)
+      → IsAsked place frames call → Asks place messages calls → Asks place (frames ∷ messages) (call ∷ calls)
   Dropped : (frames : List (List ℕ)) (messages : List (List (List ℕ))) (calls : List Call)
-      → IsDropped key channel frames → Asks key channel connection messages calls
-      → Asks key channel connection (frames ∷ messages) calls
+      → IsDropped place frames → Asks place messages calls → Asks place (frames ∷ messages) calls

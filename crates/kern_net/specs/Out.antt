@@ -1,8 +1,9 @@
 -- What a pump wrote, and how it ended.
-use Rattle.std.specs.Prelude.{◌≡◌, ℕ, ◌<◌, ◌⊎◌, Bool, true, false, List, ◌++◌, length, Option, Result, Ok}
+use Rattle.std.specs.Prelude.{◌≡◌, ℕ, ◌<◌, ◌⊎◌, Bool, true, false, List, ◌++◌, length, Result, Ok}
 use Rattle.std.specs.Prelude.{Err, All}
 use Rattle.lab_turn.specs.History.{PassState}
-use Rattle.base_streams.specs.Told.{Told, ToldFront}
+use Rattle.base_streams.specs.States.{OutletState, IsWritable}
+use Rattle.base_streams.specs.Told.{Took, TookFront}
 use Rattle.kern_post.specs.declared.post.Post.{Post}
 use Rattle.kern_core.specs.declared.call.Call.{Call}
 use Rattle.kern_core.specs.declared.call.Call.TheVariants.{Fetch}
@@ -11,10 +12,16 @@ use Rattle.kern_core.specs.declared.call.Reply.TheVariants as reply
 use Rattle.kern_core.specs.declared.fault.KernFault.{KernFault}
 use Rattle.kern_core.specs.declared.fault.KernFault.TheVariants as fault
 use Rattle.kern_net.specs.declared.end.PumpEnd.{PumpEnd}
+use Rattle.kern_net.specs.declared.pump_out.Line.{Line}
 use Rattle.kern_net.specs.declared.end.PumpEnd.TheVariants as end
 use Rattle.kern_net.specs.Gates.{Asked, noes, IsOpen}
 use Rattle.kern_net.specs.Calls.{LastCall, IsJournalFull}
 use Rattle.kern_net.specs.Streams.{posts_in, window, IsStreamOf}
+
+-- what is written to, and the pass of the calls that fetch
+pub record Writer : Type 0 where
+  pub outlet : OutletState
+  pub pass : PassState Call
 
 abbrev pub IsFetch : ℕ → Call → Type 0
 IsFetch connection call = (from : ℕ) × (call ≡ Fetch connection from)
@@ -44,33 +51,32 @@ is_whole end.WriteFailed = false
 is_whole _ = true
 
 -- What was written is a front of the messages of the first of these posts.
-pub record WroteFront (key session : List ℕ) (before after : Option (List ℕ))
-    (posts : List Post) : Type 0 where
+pub record WroteFront (line : Line) (to to' : OutletState) (posts : List Post) : Type 0 where
   pub begun : List Post
   pub others : List Post
   pub split : posts ≡ begun ++ others
   pub bytes : List ℕ
-  pub stream : IsStreamOf key session begun bytes
-  pub front : ToldFront before after bytes
+  pub stream : IsStreamOf line.key.now line.session.now begun bytes
+  pub front : TookFront to to' bytes
 
 -- What was written are the messages of these posts.
-pub record WroteAll (key session : List ℕ) (before after : Option (List ℕ)) (posts : List Post) : Type 0 where
+pub record WroteAll (line : Line) (to to' : OutletState) (posts : List Post) : Type 0 where
   pub bytes : List ℕ
-  pub stream : IsStreamOf key session posts bytes
-  pub told : Told before after bytes
+  pub stream : IsStreamOf line.key.now line.session.now posts bytes
+  pub took : Took to to' bytes
 
 -- Only Fetches were made, and what was written is of the posts to the connection that they reach, in the
 -- history that the pass has seen.
-pub record WroteOut (key session : List ℕ) (connection : ℕ) (before after : Option (List ℕ)) (from : ℕ)
-    (old new : PassState Call) (e : PumpEnd) : Type 0 where
+pub record WroteOut (line : Line) (from : ℕ) (old new : Writer) (e : PumpEnd) : Type 0 where
   pub added : List Call
-  pub calls : new.calls ≡ old.calls ++ added
-  pub fetches : All (IsFetch connection) added
+  pub calls : new.pass.calls ≡ old.pass.calls ++ added
+  pub fetches : All (IsFetch line.connection) added
   pub next : ℕ
-  pub reaches : Reaches connection old new from next
-  pub front : WroteFront key session before after (window connection from next (posts_in new.seen))
-  pub whole : is_whole e ≡ true → WroteAll key session before after
-      (window connection from next (posts_in new.seen))
+  pub reaches : Reaches line.connection old.pass new.pass from next
+  pub front : WroteFront line old.outlet new.outlet
+      (window line.connection from next (posts_in new.pass.seen))
+  pub whole : is_whole e ≡ true → WroteAll line old.outlet new.outlet
+      (window line.connection from next (posts_in new.pass.seen))
 
 -- the last Fetch was answered that a shutdown came, and moved nothing
 abbrev pub SawEnd : ℕ → PassState Call → Type 0
@@ -84,15 +90,18 @@ IsRefused connection pass fault = (from : ℕ) × LastCall pass (Fetch connectio
 
 -- Each end comes only for its cause: the gate has said no, once, or a shutdown was seen and all is written; a
 -- turn answered so; the writer failed. Where the gate isn't the cause it has not said no.
-abbrev pub OutEnds : ℕ → PassState Call → Bool → Asked → PumpEnd → Type 0
-OutEnds connection pass failed asked end.Ended =
-    (failed ≡ false) × ((noes asked ≡ 1) ⊎ (IsOpen asked × SawEnd connection pass))
-OutEnds connection pass failed asked end.WriteFailed = (failed ≡ true) × IsOpen asked
-OutEnds connection pass failed asked end.Lagged =
-    (failed ≡ false) × IsOpen asked × ((first : ℕ) × IsRefused connection pass (fault.Lagged first))
-OutEnds connection pass failed asked (end.Refused fault) =
-    (failed ≡ false) × IsOpen asked × IsRefused connection pass fault
-OutEnds connection pass failed asked end.JournalFull = (failed ≡ false) × IsOpen asked × IsJournalFull pass
-OutEnds connection pass failed asked end.Worn = (failed ≡ false) × IsOpen asked × (pass.worn ≡ true)
-OutEnds connection pass failed asked end.OutOfMemory = (failed ≡ false) × IsOpen asked
-OutEnds connection pass failed asked _ = ⊥
+abbrev pub OutEnds : ℕ → Writer → Asked → PumpEnd → Type 0
+OutEnds connection writer asked end.Ended =
+    IsWritable writer.outlet × ((noes asked ≡ 1) ⊎ (IsOpen asked × SawEnd connection writer.pass))
+OutEnds connection writer asked end.WriteFailed = (writer.outlet.failed ≡ true) × IsOpen asked
+OutEnds connection writer asked end.Lagged =
+    IsWritable writer.outlet × IsOpen asked
+    × ((first : ℕ) × IsRefused connection writer.pass (fault.Lagged first))
+OutEnds connection writer asked (end.Refused fault) =
+    IsWritable writer.outlet × IsOpen asked × IsRefused connection writer.pass fault
+OutEnds connection writer asked end.JournalFull =
+    IsWritable writer.outlet × IsOpen asked × IsJournalFull writer.pass
+OutEnds connection writer asked end.Worn =
+    IsWritable writer.outlet × IsOpen asked × (writer.pass.worn ≡ true)
+OutEnds connection writer asked end.OutOfMemory = IsWritable writer.outlet × IsOpen asked
+OutEnds connection writer asked _ = ⊥

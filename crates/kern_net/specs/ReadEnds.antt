@@ -1,6 +1,7 @@
 -- Why reading from a connection ends.
 use Rattle.std.specs.Prelude.{◌≡◌, ◌≤◌, ◌⊎◌, ℕ, Bool, true, false, List, [], ◌∷◌, ◌++◌, length, Some, Result}
 use Rattle.std.specs.Prelude.{Err}
+use Rattle.base_streams.specs.States.{InletState, IsReadable}
 use Rattle.lab_turn.specs.History.{PassState}
 use Rattle.zmtp_wire.specs.Stream.{SideState}
 use Rattle.kern_core.specs.declared.call.Call.{Call}
@@ -10,6 +11,11 @@ use Rattle.kern_core.specs.declared.fault.KernFault.{KernFault}
 use Rattle.kern_desk.specs.Seats.{seated_answer}
 use Rattle.kern_net.specs.declared.end.PumpEnd.{PumpEnd}
 use Rattle.kern_net.specs.declared.end.PumpEnd.TheVariants as pump
+
+-- what is read, and the pass of the calls that are made for it
+pub record Reader : Type 0 where
+  pub inlet : InletState
+  pub pass : PassState Call
 
 -- the calls that reading makes
 abbrev pub IsReaderCall : Call → Type 0
@@ -27,6 +33,11 @@ pub record LastAnswer (old : List Call) (pass : PassState Call)
   pub history : pass.seen ≡ before ++ (pass.seat, call) ∷ []
   pub own : pass.calls ≡ old ++ (earlier ++ call ∷ [])
   pub answered : seated_answer before call ≡ answer
+
+-- the end is the refusal of a call that stands in the journal
+abbrev pub IsRefusal : PumpEnd → Type 0
+IsRefusal (pump.Refused fault) = Unit {0}
+IsRefusal _ = ⊥
 
 -- an end by a turn, which comes after these calls, or for want of memory
 abbrev pub StopsBy : PumpEnd → List Call → PassState Call → Type 0
@@ -51,11 +62,12 @@ IsWornOut bytes = most_reads ≤ length bytes
 
 -- why it ended, as the pass, the reader, the bytes that were read and the side after them show it; a reader
 -- ends or fails only where reading ends so
-abbrev pub EndsBy : PumpEnd → List Call → PassState Call → Bool → Bool → List ℕ → SideState → Type 0
-EndsBy pump.PeerEnded old pass ended failed bytes side = (ended ≡ true) × (failed ≡ false)
-EndsBy pump.ReadFailed old pass ended failed bytes side =
-    (ended ≡ false) × ((failed ≡ true) ⊎ ((failed ≡ false) × IsWornOut bytes))
-EndsBy e old pass ended failed bytes side = (ended ≡ false) × (failed ≡ false) × StopsPiece e old pass side
+abbrev pub EndsBy : PumpEnd → Reader → Reader → List ℕ → SideState → Type 0
+EndsBy pump.PeerEnded old new bytes side = (new.inlet.ended ≡ true) × (new.inlet.failed ≡ false)
+EndsBy pump.ReadFailed old new bytes side =
+    (new.inlet.ended ≡ false)
+    × ((new.inlet.failed ≡ true) ⊎ ((new.inlet.failed ≡ false) × IsWornOut bytes))
+EndsBy e old new bytes side = IsReadable new.inlet × StopsPiece e old.pass.calls new.pass side
 
 -- at these ends all was asked for
 abbrev pub asks_all : PumpEnd → Bool

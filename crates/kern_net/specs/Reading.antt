@@ -1,59 +1,94 @@
 -- What was read from a connection, and the calls that were made for it.
-use Rattle.std.specs.Prelude.{◌≡◌, ℕ, Bool, true, false, List, [], ◌++◌, Option, Result, MatchResult}
-use Rattle.base_streams.specs.Told.{Told}
+use Rattle.std.specs.Prelude.{◌≡◌, ◌⊎◌, ℕ, true, List, [], ◌∷◌, ◌++◌, Result, Ok, MatchResult}
+use mathlib.Core.List.{IsPrefix}
+use Rattle.base_streams.specs.Told.{Gave}
 use Rattle.lab_turn.specs.History.{PassState}
 use Rattle.zmtp_wire.specs.Stream.{SideState, Completes}
-use Rattle.jup_wire.specs.declared.channel.Channel.{Channel}
+use Rattle.zmtp_peer.specs.declared.handshake.Peer.{Peer}
 use Rattle.kern_core.specs.declared.call.Call.{Call}
+use Rattle.kern_core.specs.declared.call.Reply.{Reply}
 use Rattle.kern_net.specs.declared.end.PumpEnd.{PumpEnd}
+use Rattle.kern_net.specs.declared.pump_in.Place.{Place}
 use Rattle.kern_net.specs.Asking.{Asks}
-use Rattle.kern_net.specs.ReadEnds.{StopsBy, StopsPiece, EndsBy, asks_all}
+use Rattle.kern_net.specs.Calls.{TurnedBy}
+use Rattle.kern_net.specs.ReadEnds.{Reader, IsRefusal, StopsBy, StopsPiece, EndsBy, asks_all}
 
--- a front of these messages was asked for, or all of them
-pub record AsksFront (key : List ℕ) (channel : Channel) (connection : ℕ) (messages : List (List (List ℕ)))
-    (old new : List Call) (is_all : Bool) : Type 0 where
+-- these calls were made, one turn after the other, and none was refused
+pub data Granted (old : PassState Call) : PassState Call → List Call → Type 0 where
+  NoCall : Granted old old []
+  OneMore : (mid new : PassState Call) (calls : List Call) (call : Call) (reply : Reply)
+      → Granted old mid calls → TurnedBy mid call (Ok reply) new → Granted old new (calls ++ call ∷ [])
+
+-- these calls were made, and none was refused, but for the last where the end is its refusal
+pub record Made (old new : PassState Call) (added : List Call) (e : PumpEnd) : Type 0 where
+  pub mid : PassState Call
+  pub granted : List Call
+  pub turns : Granted old mid granted
+  pub onward : IsPrefix mid.seen new.seen
+  pub last : (added ≡ granted) ⊎ (IsRefusal e × ((call : Call) × (added ≡ granted ++ call ∷ [])))
+
+-- all that these messages ask for was asked for, and granted
+pub record AskedAll (place : Place) (messages : List (List (List ℕ))) (old new : PassState Call)
+    : Type 0 where
+  pub added : List Call
+  pub asks : Asks place messages added
+  pub calls : new.calls ≡ old.calls ++ added
+  pub turns : Granted old new added
+
+-- what a front of these messages asks for was asked for, until this end
+pub record AskedFront (place : Place) (messages : List (List (List ℕ))) (old new : PassState Call)
+    (e : PumpEnd) : Type 0 where
   pub front : List (List (List ℕ))
   pub others : List (List (List ℕ))
-  pub added : List Call
   pub messages_are : messages ≡ front ++ others
-  pub asks : Asks key channel connection front added
-  pub calls : new ≡ old ++ added
-  pub all : is_all ≡ true → others ≡ []
+  pub added : List Call
+  pub asks : Asks place front added
+  pub calls : new.calls ≡ old.calls ++ added
+  pub made : Made old new added e
+  pub all : asks_all e ≡ true → others ≡ []
 
 -- these messages were asked for: all of them where it goes on; else a front of them, and why it stops there
-abbrev pub AskedFor : List ℕ → Channel → ℕ → List (List (List ℕ)) → PassState Call → PassState Call
+abbrev pub AskedFor : Place → List (List (List ℕ)) → PassState Call → PassState Call
     → Result (Unit {0}) PumpEnd → Type 0
-AskedFor key channel connection messages old new result = MatchResult result
-    (λ _. AsksFront key channel connection messages old.calls new.calls true)
-    (λ e. AsksFront key channel connection messages old.calls new.calls false × StopsBy e old.calls new)
+AskedFor place messages old new result = MatchResult result
+    (λ _. AskedAll place messages old new)
+    (λ e. AskedFront place messages old new e × StopsBy e old.calls new)
 
--- the side read a front of the bytes, and of the messages in it, behind those that are held, a front was
--- asked for; or all of both
-pub record Hears (key : List ℕ) (channel : Channel) (connection : ℕ) (before after : SideState)
-    (held : List (List (List ℕ))) (bytes : List ℕ) (old new : List Call) (is_all : Bool) : Type 0 where
+-- the side that a peer's bytes are read by, and the pass of the calls that are made for them
+pub record Listener : Type 0 where
+  pub side : SideState
+  pub pass : PassState Call
+
+-- the side read these bytes, and what the messages that were held and those in the bytes ask for was granted
+pub record HeardAll (place : Place) (held : List (List (List ℕ))) (bytes : List ℕ) (old new : Listener)
+    : Type 0 where
+  pub messages : List (List (List ℕ))
+  pub reads : Completes old.side bytes messages new.side
+  pub asked : AskedAll place (held ++ messages) old.pass new.pass
+
+-- the side read a front of the bytes, and a front of what the messages ask for was asked for, until this end
+pub record HeardFront (place : Place) (held : List (List (List ℕ))) (bytes : List ℕ) (old new : Listener)
+    (e : PumpEnd) : Type 0 where
   pub taken : List ℕ
   pub unread : List ℕ
   pub messages : List (List (List ℕ))
   pub bytes_are : bytes ≡ taken ++ unread
-  pub reads : Completes before taken messages after
-  pub asked : AsksFront key channel connection (held ++ messages) old new is_all
-  pub all : is_all ≡ true → unread ≡ []
+  pub reads : Completes old.side taken messages new.side
+  pub asked : AskedFront place (held ++ messages) old.pass new.pass e
+  pub all : asks_all e ≡ true → unread ≡ []
 
 -- the side took this piece, and what was in it was asked for: all of it where it goes on; else as far as the
 -- end says, and why it stops there
-abbrev pub PieceAskedFor : List ℕ → Channel → ℕ → SideState → SideState → List ℕ → PassState Call
-    → PassState Call → Result (Unit {0}) PumpEnd → Type 0
-PieceAskedFor key channel connection before after piece old new result = MatchResult result
-    (λ _. Hears key channel connection before after [] piece old.calls new.calls true)
-    (λ e. Hears key channel connection before after [] piece old.calls new.calls (asks_all e)
-    × StopsPiece e old.calls new after)
+abbrev pub PieceAskedFor : Place → List ℕ → Listener → Listener → Result (Unit {0}) PumpEnd → Type 0
+PieceAskedFor place piece old new result = MatchResult result
+    (λ _. HeardAll place [] piece old new)
+    (λ e. HeardFront place [] piece old new e × StopsPiece e old.pass.calls new.pass new.side)
 
 -- a peer was read from to this end, beginning with the messages that it held
-pub record ReadOut (key : List ℕ) (channel : Channel) (connection : ℕ) (before : SideState)
-    (held : List (List (List ℕ))) (given given' : Option (List ℕ)) (ended failed : Bool)
-    (old new : PassState Call) (e : PumpEnd) : Type 0 where
+pub record ReadOut (place : Place) (peer : Peer) (old new : Reader) (e : PumpEnd) : Type 0 where
   pub bytes : List ℕ
   pub after : SideState
-  pub told : Told given given' bytes
-  pub hears : Hears key channel connection before after held bytes old.calls new.calls (asks_all e)
-  pub cause : EndsBy e old.calls new ended failed bytes after
+  pub gave : Gave old.inlet new.inlet bytes
+  pub heard : HeardFront place peer.messages bytes (record { side = peer.side; pass = old.pass })
+      (record { side = after; pass = new.pass }) e
+  pub cause : EndsBy e old new bytes after

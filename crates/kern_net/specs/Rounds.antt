@@ -1,5 +1,6 @@
 -- What one Fetch and its writing did.
-use Rattle.std.specs.Prelude.{◌≡◌, ℕ, Bool, true, false, List, Option, Result, Ok, Err}
+use Rattle.std.specs.Prelude.{◌≡◌, ℕ, Bool, true, List, Result, Ok, Err}
+use Rattle.base_streams.specs.States.{OutletState, IsWritable}
 use Rattle.lab_turn.specs.History.{PassState}
 use Rattle.kern_post.specs.declared.post.Post.{Post}
 use Rattle.kern_core.specs.declared.call.Call.{Call}
@@ -12,7 +13,8 @@ use Rattle.kern_net.specs.declared.end.PumpEnd.TheVariants as end
 use Rattle.kern_net.specs.Ends.{end_by_kernel}
 use Rattle.kern_net.specs.Calls.{TurnedBy}
 use Rattle.kern_net.specs.declared.pump_out.Batch.{Batch}
-use Rattle.kern_net.specs.Out.{WroteFront, WroteAll}
+use Rattle.kern_net.specs.declared.pump_out.Line.{Line}
+use Rattle.kern_net.specs.Out.{Writer, WroteFront, WroteAll}
 
 -- posts, or a refusal
 abbrev pub IsFetchAnswer : Result Reply KernFault → Type 0
@@ -32,26 +34,22 @@ pub data Denied (connection : ℕ) (old new : PassState Call) (from : ℕ) : Pum
       → TurnedBy old (Fetch connection from) (Err fault) new → Denied connection old new from e
 
 -- memory for the posts was wanting, or the writer failed
-pub data Cut (key session : List ℕ) (before after : Option (List ℕ)) (failed : Bool)
-    (posts : List Post) : PumpEnd → Type 0 where
-  IsUnfit : (e : PumpEnd) → e ≡ end.OutOfMemory → after ≡ before → failed ≡ false
-      → Cut key session before after failed posts e
-  IsFailed : (e : PumpEnd) → e ≡ end.WriteFailed → WroteFront key session before after posts → failed ≡ true
-      → Cut key session before after failed posts e
+pub data Cut (line : Line) (to to' : OutletState) (posts : List Post) : PumpEnd → Type 0 where
+  IsUnfit : (e : PumpEnd) → e ≡ end.OutOfMemory → to' ≡ to → IsWritable to' → Cut line to to' posts e
+  IsFailed : (e : PumpEnd) → e ≡ end.WriteFailed → WroteFront line to to' posts → to'.failed ≡ true
+      → Cut line to to' posts e
 
--- a Fetch was answered, and what it gave is written
-pub record Went (key session : List ℕ) (connection : ℕ) (old new : PassState Call)
-    (before after : Option (List ℕ)) (from next : ℕ) (ended : Bool) : Type 0 where
+-- a Fetch was answered with where to go on and whether a shutdown came, and what it gave is written
+pub record Went (line : Line) (from : ℕ) (old new : Writer) (answer : ℕ × Bool) : Type 0 where
   pub posts : List Post
-  pub turned : TurnedBy old (Fetch connection from) (Ok (reply.Fetched posts next ended)) new
-  pub all : WroteAll key session before after posts
+  pub turned : TurnedBy old.pass (Fetch line.connection from) (Ok (reply.Fetched posts answer.0 answer.1))
+      new.pass
+  pub all : WroteAll line old.outlet new.outlet posts
 
 -- or it went no further: it was denied, or what it gave isn't all written
-pub data Halted (key session : List ℕ) (connection : ℕ) (old new : PassState Call)
-    (before after : Option (List ℕ)) (failed : Bool) (from : ℕ) : PumpEnd → Type 0 where
-  IsDenied : (e : PumpEnd) → Denied connection old new from e → after ≡ before → failed ≡ false
-      → Halted key session connection old new before after failed from e
+pub data Halted (line : Line) (from : ℕ) (old new : Writer) : PumpEnd → Type 0 where
+  IsDenied : (e : PumpEnd) → Denied line.connection old.pass new.pass from e → new.outlet ≡ old.outlet
+      → IsWritable new.outlet → Halted line from old new e
   IsCut : (e : PumpEnd) (posts : List Post) (next : ℕ) (ended : Bool)
-      → TurnedBy old (Fetch connection from) (Ok (reply.Fetched posts next ended)) new
-      → Cut key session before after failed posts e
-      → Halted key session connection old new before after failed from e
+      → TurnedBy old.pass (Fetch line.connection from) (Ok (reply.Fetched posts next ended)) new.pass
+      → Cut line old.outlet new.outlet posts e → Halted line from old new e

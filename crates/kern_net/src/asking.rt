@@ -1,14 +1,16 @@
 //! Asking for one message.
-ghost use Rattle.std.specs.Prelude.{◌≡◌, ◌≤◌, ◌⊎◌, ◌++◌, ◌∷◌, [], true, false, OnOk, OnErr, Err, IfOk, IfErr};
+ghost use Rattle.std.specs.Prelude.{◌≡◌, ◌≤◌, ◌⊎◌, ◌++◌, ◌∷◌, [], true, false, OnOk, OnErr, Ok, Err, IfOk, IfErr};
+ghost use mathlib.Core.List.{IsPrefix};
 ghost use Rattle.std.specs.Prelude.{IfSome, IfNone};
 ghost use Rattle.serde_json.specs.View.{view};
 ghost use Rattle.jup_wire.specs.declared.channel.Channel.TheVariants.{Iopub};
 ghost use Rattle.jup_wire.specs.Wire.{IsMessage};
 ghost use Rattle.kern_ask.specs.Asks.{request_of as request_in};
 ghost use Rattle.kern_core.specs.declared.call.Call.TheVariants.{Arrive, Subscribe};
-ghost use Rattle.kern_core.specs.Kernels.{is_entry};
+ghost use Rattle.kern_core.specs.declared.call.Reply.{Reply};
+ghost use Rattle.kern_net.specs.Calls.{TurnedBy};
 ghost use Rattle.kern_net.specs.Asking.{subscription_frames, IsUnopened, IsNoSubscription};
-ghost use Rattle.kern_net.specs.ReadEnds.{IsReaderCall, StopsBy};
+ghost use Rattle.kern_net.specs.ReadEnds.{IsReaderCall, IsRefusal, StopsBy};
 ghost use Rattle.kern_net.specs.Reading.{AskedFor};
 
 use crate::end::PumpEnd;
@@ -28,7 +30,7 @@ use std::sync::Wait;
 
 // Why a call was refused, if it was.
 fn refusal(answer: Result<Reply, KernFault>) -> Result<(), KernFault>
-    ensures ok { OnOk result (is_entry answer ≡ true) }
+    ensures ok { OnOk result ((reply : Reply) × (answer ≡ Ok reply)) }
     ensures err { IfErr result (λ fault. answer ≡ Err fault) }
 {
     match answer {
@@ -38,7 +40,7 @@ fn refusal(answer: Result<Reply, KernFault>) -> Result<(), KernFault>
 }
 
 // Makes one turn, and wakes those that wait for what it may have changed.
-#[tactic(auto, using(crate::proofs::ReadTurnLemmas::stops_full, crate::proofs::ReadTurnLemmas::stops_unknown, crate::proofs::ReadTurnLemmas::stops_journal_full, crate::proofs::ReadTurnLemmas::never_lagged, crate::proofs::ReadTurnLemmas::counted))]
+#[tactic(auto, using(crate::proofs::ReadTurnLemmas::stops_full, crate::proofs::ReadTurnLemmas::stops_unknown, crate::proofs::ReadTurnLemmas::stops_journal_full, crate::proofs::ReadTurnLemmas::never_lagged, crate::proofs::ReadTurnLemmas::call_granted, crate::proofs::ReadTurnLemmas::worn_onward, crate::proofs::ReadTurnLemmas::refuses_worn, crate::proofs::ReadTurnLemmas::refuses_memory, crate::proofs::ReadTurnLemmas::refuses_journal_full, crate::proofs::ReadTurnLemmas::refuses_full, crate::proofs::ReadTurnLemmas::refuses_unknown, crate::proofs::CallLemmas::turned_prefix))]
 fn make_call<R: Wait, G: Gate>(
     rt: &R,
     desk: &Desk,
@@ -50,10 +52,11 @@ fn make_call<R: Wait, G: Gate>(
     requires read { IsReaderCall call }
     ensures same { (pass.new.turnstile ≡ desk.now) × (pass.new.seat ≡ pass.old.seat) }
     ensures gate { G.asked gate.new ≡ G.asked gate.old }
-    ensures ok { OnOk result (pass.new.calls ≡ pass.old.calls ++ call ∷ []) }
+    ensures ok { OnOk result ((reply : Reply) × TurnedBy pass.old call (Ok reply) pass.new) }
     ensures err { IfErr result (λ e. StopsBy e pass.old.calls pass.new) }
-    ensures counted { OnErr result
-        ((pass.new.calls ≡ pass.old.calls ++ call ∷ []) ⊎ (pass.new.calls ≡ pass.old.calls)) }
+    ensures onward { OnErr result (IsPrefix pass.old.seen pass.new.seen) }
+    ensures counted { IfErr result (λ e. (pass.new.calls ≡ pass.old.calls)
+        ⊎ (IsRefusal e × (pass.new.calls ≡ pass.old.calls ++ call ∷ []))) }
 {
     let Ok(answer) = desk.turn(rt, pass, call) else {
         return Err(PumpEnd::Worn);
@@ -159,29 +162,27 @@ fn opened(alloc: Global, frames: Frames, key: &[u8]) -> Result<Option<Message>, 
     }
 }
 
-#[tactic(auto, using(crate::proofs::AskLemmas::subscribed, crate::proofs::AskLemmas::subscription_refused, crate::proofs::AskLemmas::no_subscription, crate::proofs::AskLemmas::asks_not))]
+#[tactic(auto, using(crate::proofs::AskLemmas::no_subscription, crate::proofs::AskLemmas::asked_none))]
 fn subscribe<R: Wait, G: Gate>(
     rt: &R,
     alloc: Global,
-    desk: &Desk,
     pass: &mut Pass,
     gate: &mut G,
     place: &Place<'_>,
     frames: &Frames,
 ) -> Result<(), PumpEnd>
-    requires own { pass.old.turnstile ≡ desk.now }
+    requires own { pass.old.turnstile ≡ place.now.desk.now }
     requires iopub { place.now.channel ≡ Iopub }
-    ensures same { (pass.new.turnstile ≡ desk.now) × (pass.new.seat ≡ pass.old.seat) }
+    ensures same { (pass.new.turnstile ≡ place.now.desk.now) × (pass.new.seat ≡ pass.old.seat) }
     ensures gate { G.asked gate.new ≡ G.asked gate.old }
-    ensures asked { AskedFor place.now.key.now Iopub place.now.connection (frames.now ∷ [])
-        pass.old pass.new result }
+    ensures asked { AskedFor place.now (frames.now ∷ []) pass.old pass.new result }
 {
     let Some(Wanted { wants, prefix }) = wanted_in(frames) else {
         return Ok(());
     };
     let moment = gate.moment(rt);
     match subscribe_call(alloc, place.connection, wants, prefix, moment) {
-        Ok(call) => match make_call(rt, desk, pass, gate, call) {
+        Ok(call) => match make_call(rt, place.desk, pass, gate, call) {
             Ok(()) => Ok(()),
             Err(end) => Err(end),
         },
@@ -189,28 +190,26 @@ fn subscribe<R: Wait, G: Gate>(
     }
 }
 
-#[tactic(auto, using(crate::proofs::AskLemmas::arrived, crate::proofs::AskLemmas::arrival_refused, crate::proofs::AskLemmas::unopened, crate::proofs::AskLemmas::asks_not))]
+#[tactic(auto, using(crate::proofs::AskLemmas::unopened, crate::proofs::AskLemmas::asked_none))]
 fn arrive<R: Wait, G: Gate>(
     rt: &R,
     alloc: Global,
-    desk: &Desk,
     pass: &mut Pass,
     gate: &mut G,
     place: &Place<'_>,
     frames: Frames,
 ) -> Result<(), PumpEnd>
-    requires own { pass.old.turnstile ≡ desk.now }
+    requires own { pass.old.turnstile ≡ place.now.desk.now }
     requires other { place.now.channel ≡ Iopub → ⊥ }
-    ensures same { (pass.new.turnstile ≡ desk.now) × (pass.new.seat ≡ pass.old.seat) }
+    ensures same { (pass.new.turnstile ≡ place.now.desk.now) × (pass.new.seat ≡ pass.old.seat) }
     ensures gate { G.asked gate.new ≡ G.asked gate.old }
-    ensures asked { AskedFor place.now.key.now place.now.channel place.now.connection (frames ∷ [])
-        pass.old pass.new result }
+    ensures asked { AskedFor place.now (frames ∷ []) pass.old pass.new result }
 {
     match opened(alloc, frames, place.key) {
         Ok(Some(message)) => {
             let moment = gate.moment(rt);
             match arrive_call(alloc, place, message, moment) {
-                Ok(call) => match make_call(rt, desk, pass, gate, call) {
+                Ok(call) => match make_call(rt, place.desk, pass, gate, call) {
                     Ok(()) => Ok(()),
                     Err(end) => Err(end),
                 },
@@ -226,20 +225,18 @@ fn arrive<R: Wait, G: Gate>(
 pub(crate) fn ask_for<R: Wait, G: Gate>(
     rt: &R,
     alloc: Global,
-    desk: &Desk,
     pass: &mut Pass,
     gate: &mut G,
     place: &Place<'_>,
     frames: Frames,
 ) -> Result<(), PumpEnd>
-    requires { pass.old.turnstile ≡ desk.now }
-    ensures same { (pass.new.turnstile ≡ desk.now) × (pass.new.seat ≡ pass.old.seat) }
+    requires { pass.old.turnstile ≡ place.now.desk.now }
+    ensures same { (pass.new.turnstile ≡ place.now.desk.now) × (pass.new.seat ≡ pass.old.seat) }
     ensures gate { G.asked gate.new ≡ G.asked gate.old }
-    ensures asked { AskedFor place.now.key.now place.now.channel place.now.connection (frames ∷ [])
-        pass.old pass.new result }
+    ensures asked { AskedFor place.now (frames ∷ []) pass.old pass.new result }
 {
     if place.channel == Channel::Iopub {
-        return subscribe(rt, alloc, desk, pass, gate, place, &frames);
+        return subscribe(rt, alloc, pass, gate, place, &frames);
     }
-    arrive(rt, alloc, desk, pass, gate, place, frames)
+    arrive(rt, alloc, pass, gate, place, frames)
 }

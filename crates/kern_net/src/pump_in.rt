@@ -1,5 +1,6 @@
 //! Reading from a connection to its end.
-ghost use Rattle.std.specs.Prelude.{◌≡◌, false};
+ghost use Rattle.std.specs.Prelude.{◌≡◌};
+ghost use Rattle.base_streams.specs.States.{IsReadable};
 ghost use Rattle.zmtp_wire.specs.declared.fault.StreamFault.{StreamFault};
 ghost use Rattle.kern_net.specs.declared.end.PumpEnd.TheVariants as pump;
 ghost use Rattle.kern_net.specs.Gates.{IsOpen};
@@ -18,9 +19,10 @@ use zmtp_peer::handshake::Peer;
 use zmtp_wire::incomings::Incomings;
 use zmtp_wire::side::Side;
 
-/// Where messages come from, and how they are signed.
+/// Where messages come from, how they are signed, and at which desk they are asked for.
 #[derive(Clone, Copy)]
 pub struct Place<'a> {
+    pub desk: &'a Desk,
     /// The connection's number, as its Join was answered.
     pub connection: u32,
     /// The channel of its Join.
@@ -33,20 +35,18 @@ pub struct Place<'a> {
 fn ask_for_all<R: Wait, G: Gate>(
     rt: &R,
     alloc: Global,
-    desk: &Desk,
     pass: &mut Pass,
     gate: &mut G,
     place: &Place<'_>,
     messages: Incomings,
 ) -> Result<(), PumpEnd>
-    requires { pass.old.turnstile ≡ desk.now }
-    ensures same { (pass.new.turnstile ≡ desk.now) × (pass.new.seat ≡ pass.old.seat) }
+    requires { pass.old.turnstile ≡ place.now.desk.now }
+    ensures same { (pass.new.turnstile ≡ place.now.desk.now) × (pass.new.seat ≡ pass.old.seat) }
     ensures gate { G.asked gate.new ≡ G.asked gate.old }
-    ensures asked { AskedFor place.now.key.now place.now.channel place.now.connection messages
-        pass.old pass.new result }
+    ensures asked { AskedFor place.now messages pass.old pass.new result }
 {
     for frames in messages.into_vec() {
-        match ask_for(rt, alloc, desk, pass, gate, place, frames) {
+        match ask_for(rt, alloc, pass, gate, place, frames) {
             Ok(()) => {}
             Err(end) => return Err(end),
         }
@@ -54,26 +54,25 @@ fn ask_for_all<R: Wait, G: Gate>(
     Ok(())
 }
 
-#[tactic(auto, using(crate::proofs::ReadLemmas::hears_piece, crate::proofs::ReadLemmas::hears_refused, crate::proofs::ReadLemmas::hears_not, crate::proofs::ReadLemmas::stops_piece))]
+#[tactic(auto, using(crate::proofs::ReadLemmas::hears_piece, crate::proofs::ReadLemmas::hears_broken, crate::proofs::ReadLemmas::hears_refused, crate::proofs::ReadLemmas::hears_not, crate::proofs::ReadLemmas::stops_piece))]
 fn take_piece<R: Wait, G: Gate>(
     rt: &R,
     alloc: Global,
-    desk: &Desk,
     pass: &mut Pass,
     gate: &mut G,
     place: &Place<'_>,
     side: &mut Side,
     piece: &[u8],
 ) -> Result<(), PumpEnd>
-    requires { pass.old.turnstile ≡ desk.now }
-    ensures same { (pass.new.turnstile ≡ desk.now) × (pass.new.seat ≡ pass.old.seat) }
+    requires { pass.old.turnstile ≡ place.now.desk.now }
+    ensures same { (pass.new.turnstile ≡ place.now.desk.now) × (pass.new.seat ≡ pass.old.seat) }
     ensures gate { G.asked gate.new ≡ G.asked gate.old }
-    ensures asked { PieceAskedFor place.now.key.now place.now.channel place.now.connection
-        side.old side.new piece.now pass.old pass.new result }
+    ensures asked { PieceAskedFor place.now piece.now (record { side = side.old; pass = pass.old })
+        (record { side = side.new; pass = pass.new }) result }
 {
     match feed(alloc, side, piece) {
         Ok(Fed { messages, broken }) => {
-            match ask_for_all(rt, alloc, desk, pass, gate, place, messages) {
+            match ask_for_all(rt, alloc, pass, gate, place, messages) {
                 Ok(()) => match broken {
                     None => Ok(()),
                     Some(cause) => Err(PumpEnd::Wire(cause)),
@@ -90,35 +89,32 @@ fn take_piece<R: Wait, G: Gate>(
 /// the key, and what isn't a subscription on iopub, are dropped.
 ///
 /// It reads until the stream ends, fails or breaks, 4,294,967,295 times at most, or until a call is
-/// refused.
+/// refused: then it makes no other.
 #[tactic(auto, using(crate::proofs::ReadLemmas::held_refused, crate::proofs::ReadLemmas::stopped_first, crate::proofs::ReadLemmas::stopped, crate::proofs::ReadLemmas::under_way, crate::proofs::ReadLemmas::under_way_on, crate::proofs::ReadLemmas::ended_there, crate::proofs::ReadLemmas::failed_there, crate::proofs::ReadLemmas::read_enough))]
 pub fn pump_in<R: Wait, I: Inlet, G: Gate>(
     rt: &R,
     alloc: Global,
-    desk: &Desk,
     pass: &mut Pass,
     gate: &mut G,
     from: &mut I,
     peer: Peer,
     place: &Place<'_>,
 ) -> PumpEnd
-    requires own { pass.old.turnstile ≡ desk.now }
+    requires own { pass.old.turnstile ≡ place.now.desk.now }
     requires open { IsOpen (G.asked gate.old) }
-    requires ended { I.ended from.old ≡ false }
-    requires failed { I.failed from.old ≡ false }
-    ensures same { (pass.new.turnstile ≡ desk.now) × (pass.new.seat ≡ pass.old.seat) }
+    requires readable { IsReadable (I.state from.old) }
+    ensures same { (pass.new.turnstile ≡ place.now.desk.now) × (pass.new.seat ≡ pass.old.seat) }
     ensures gate { G.asked gate.new ≡ G.asked gate.old }
-    ensures read { ReadOut place.now.key.now place.now.channel place.now.connection peer.side peer.messages
-        (I.given from.old) (I.given from.new) (I.ended from.new) (I.failed from.new)
-        pass.old pass.new result }
+    ensures read { ReadOut place.now peer (record { inlet = I.state from.old; pass = pass.old })
+        (record { inlet = I.state from.new; pass = pass.new }) result }
 {
     let Peer { mut side, messages } = peer;
-    match ask_for_all(rt, alloc, desk, pass, gate, place, messages) {
+    match ask_for_all(rt, alloc, pass, gate, place, messages) {
         Ok(()) => {}
         Err(end) => return end,
     }
     // The side may have met a fault behind READY.
-    match take_piece(rt, alloc, desk, pass, gate, place, &mut side, &[]) {
+    match take_piece(rt, alloc, pass, gate, place, &mut side, &[]) {
         Ok(()) => {}
         Err(end) => return end,
     }
@@ -130,7 +126,7 @@ pub fn pump_in<R: Wait, I: Inlet, G: Gate>(
             Err(_) => return PumpEnd::ReadFailed,
         };
         let piece = &buffer[..count];
-        match take_piece(rt, alloc, desk, pass, gate, place, &mut side, piece) {
+        match take_piece(rt, alloc, pass, gate, place, &mut side, piece) {
             Ok(()) => {}
             Err(end) => return end,
         }

@@ -1,5 +1,6 @@
 //! Writing the posts that go to a connection.
-ghost use Rattle.std.specs.Prelude.{◌≡◌, ◌≤◌, ◌+◌, length, IfOk, IfErr, OnOk, Ok, true, false};
+ghost use Rattle.std.specs.Prelude.{◌≡◌, ◌≤◌, ◌+◌, length, IfOk, IfErr, OnOk, Ok};
+ghost use Rattle.base_streams.specs.States.{IsWritable};
 ghost use Rattle.kern_core.specs.declared.call.Call.TheVariants.{Fetch};
 ghost use Rattle.kern_core.specs.declared.call.Reply.TheVariants.{Fetched};
 ghost use Rattle.kern_net.specs.Calls.{TurnedBy};
@@ -19,9 +20,10 @@ use kern_post::post::{Post, Posts};
 use std::alloc::Global;
 use std::sync::Wait;
 
-/// Which posts go out, and how they are sealed.
+/// At which desk posts are fetched, which of them go out, and how they are sealed.
 #[derive(Clone, Copy)]
 pub struct Line<'a> {
+    pub desk: &'a Desk,
     /// The connection's number, as its Join answered it.
     pub connection: u32,
     /// The key of the signatures; an empty one leaves them empty.
@@ -58,20 +60,15 @@ fn batch_of(answer: Result<Reply, KernFault>) -> Result<Batch, PumpEnd>
 }
 
 // Fetches the posts from a number on.
-fn fetch<R: Wait>(
-    rt: &R,
-    desk: &Desk,
-    pass: &mut Pass,
-    connection: u32,
-    from: u64,
-) -> Result<Batch, PumpEnd>
-    requires { pass.old.turnstile ≡ desk.now }
-    ensures same { (pass.new.turnstile ≡ desk.now) × (pass.new.seat ≡ pass.old.seat) }
-    ensures ok { IfOk result (λ batch. TurnedBy pass.old (Fetch connection from)
+fn fetch<R: Wait>(rt: &R, pass: &mut Pass, line: &Line<'_>, from: u64) -> Result<Batch, PumpEnd>
+    requires { pass.old.turnstile ≡ line.now.desk.now }
+    ensures same { (pass.new.turnstile ≡ line.now.desk.now) × (pass.new.seat ≡ pass.old.seat) }
+    ensures ok { IfOk result (λ batch. TurnedBy pass.old (Fetch line.now.connection from)
         (Ok (Fetched batch.posts batch.next batch.ended)) pass.new) }
-    ensures err { IfErr result (Denied connection pass.old pass.new from) }
+    ensures err { IfErr result (Denied line.now.connection pass.old pass.new from) }
 {
-    match desk.turn(rt, pass, Call::Fetch { connection, from }) {
+    let connection = line.connection;
+    match line.desk.turn(rt, pass, Call::Fetch { connection, from }) {
         Ok(answer) => batch_of(answer),
         Err(_) => Err(PumpEnd::Worn),
     }
@@ -84,12 +81,10 @@ fn write_posts<W: Outlet>(
     line: &Line<'_>,
     posts: &[Post],
 ) -> Result<(), PumpEnd>
-    requires { W.failed to.old ≡ false }
-    ensures ok { OnOk result (WroteAll line.now.key.now line.now.session.now
-        (W.taken to.old) (W.taken to.new) posts.now) }
-    ensures good { OnOk result (W.failed to.new ≡ false) }
-    ensures err { IfErr result (Cut line.now.key.now line.now.session.now
-        (W.taken to.old) (W.taken to.new) (W.failed to.new) posts.now) }
+    requires { IsWritable (W.state to.old) }
+    ensures ok { OnOk result (WroteAll line.now (W.state to.old) (W.state to.new) posts.now) }
+    ensures good { OnOk result (IsWritable (W.state to.new)) }
+    ensures err { IfErr result (Cut line.now (W.state to.old) (W.state to.new) posts.now) }
 {
     let Ok(bytes) = stream_of(alloc, posts, line.key, line.session) else {
         return Err(PumpEnd::OutOfMemory);
@@ -105,22 +100,21 @@ fn write_posts<W: Outlet>(
 fn fetch_on<R: Wait, W: Outlet>(
     rt: &R,
     alloc: Global,
-    desk: &Desk,
     pass: &mut Pass,
     to: &mut W,
     line: &Line<'_>,
     from: u64,
 ) -> Result<(u64, bool), PumpEnd>
-    requires pass { pass.old.turnstile ≡ desk.now }
-    requires good { W.failed to.old ≡ false }
-    ensures same { (pass.new.turnstile ≡ desk.now) × (pass.new.seat ≡ pass.old.seat) }
-    ensures ok { IfOk result (λ r. Went line.now.key.now line.now.session.now line.now.connection
-        pass.old pass.new (W.taken to.old) (W.taken to.new) from r.0 r.1) }
-    ensures good { OnOk result (W.failed to.new ≡ false) }
-    ensures err { IfErr result (Halted line.now.key.now line.now.session.now line.now.connection
-        pass.old pass.new (W.taken to.old) (W.taken to.new) (W.failed to.new) from) }
+    requires pass { pass.old.turnstile ≡ line.now.desk.now }
+    requires good { IsWritable (W.state to.old) }
+    ensures same { (pass.new.turnstile ≡ line.now.desk.now) × (pass.new.seat ≡ pass.old.seat) }
+    ensures ok { IfOk result (Went line.now from (record { outlet = W.state to.old; pass = pass.old })
+        (record { outlet = W.state to.new; pass = pass.new })) }
+    ensures good { OnOk result (IsWritable (W.state to.new)) }
+    ensures err { IfErr result (Halted line.now from (record { outlet = W.state to.old; pass = pass.old })
+        (record { outlet = W.state to.new; pass = pass.new })) }
 {
-    match fetch(rt, desk, pass, line.connection, from) {
+    match fetch(rt, pass, line, from) {
         Ok(Batch { posts, next, ended }) => {
             match write_posts(alloc, to, line, posts.as_slice()) {
                 Ok(()) => Ok((next, ended)),
@@ -139,28 +133,27 @@ fn fetch_on<R: Wait, W: Outlet>(
 pub fn pump_out<R: Wait, W: Outlet, G: Gate>(
     rt: &R,
     alloc: Global,
-    desk: &Desk,
     pass: &mut Pass,
     gate: &mut G,
     to: &mut W,
     line: &Line<'_>,
     from: u64,
 ) -> PumpEnd
-    requires pass { pass.old.turnstile ≡ desk.now }
-    requires good { W.failed to.old ≡ false }
+    requires pass { pass.old.turnstile ≡ line.now.desk.now }
+    requires good { IsWritable (W.state to.old) }
     requires gate { IsOpen (G.asked gate.old) }
-    ensures same { (pass.new.turnstile ≡ desk.now) × (pass.new.seat ≡ pass.old.seat) }
-    ensures wrote { WroteOut line.now.key.now line.now.session.now line.now.connection
-        (W.taken to.old) (W.taken to.new) from pass.old pass.new result }
+    ensures same { (pass.new.turnstile ≡ line.now.desk.now) × (pass.new.seat ≡ pass.old.seat) }
+    ensures wrote { WroteOut line.now from (record { outlet = W.state to.old; pass = pass.old })
+        (record { outlet = W.state to.new; pass = pass.new }) result }
     ensures idle { idles (G.asked gate.new) + length pass.old.calls
         ≤ idles (G.asked gate.old) + length pass.new.calls }
     ensures before { SameBefore (G.asked gate.old) (G.asked gate.new) }
-    ensures ends { OutEnds line.now.connection pass.new (W.failed to.new)
+    ensures ends { OutEnds line.now.connection (record { outlet = W.state to.new; pass = pass.new })
         (G.asked gate.new) result }
 {
     let mut next = from;
     for _ in rt.forever() {
-        match fetch_on(rt, alloc, desk, pass, to, line, next) {
+        match fetch_on(rt, alloc, pass, to, line, next) {
             Err(end) => return end,
             Ok((after, ended)) => {
                 if after == next {

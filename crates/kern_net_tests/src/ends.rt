@@ -6,7 +6,7 @@ use crate::gates::Measured;
 use crate::messages::{Part, TWO};
 use crate::rows::expect_at;
 use crate::table::{Table, open_table};
-use crate::talks::{AMPLE, BOTH_END, Client, line_of, read_as, talk_at};
+use crate::talks::{AMPLE, BOTH_END, Client, read_as, talk_at};
 use crate::texts::count_of;
 use base_streams::memory::Sink;
 use jup_wire::channel::Channel;
@@ -99,7 +99,7 @@ fn write_from<R: Wait>(
 ) -> Wrote {
     let mut to = Sink::new(alloc, 1 << 20, 9999);
     let mut gate = Measured::new(0, 2);
-    let end = table.write(rt, alloc, &mut gate, &mut to, &line_of(connection), from);
+    let end = table.write(rt, alloc, &mut gate, &mut to, connection, from);
     let wrote = Wrote {
         end,
         said: gate.told(),

@@ -48,6 +48,14 @@ fn are_entries(seated: &Seated, calls: &str) -> bool {
     seated.entry(calls.len()).is_none()
 }
 
+/// Where messages come from at a table, and how they are signed.
+#[derive(Clone, Copy)]
+pub struct Origin<'a> {
+    pub connection: u32,
+    pub channel: Channel,
+    pub key: &'a [u8],
+}
+
 /// A desk with two passes.
 #[derive(Drop)]
 pub struct Table {
@@ -88,47 +96,41 @@ impl Table {
         gate: &mut Measured,
         from: &mut Source,
         peer: Peer,
-        place: &Place<'_>,
+        origin: Origin<'_>,
     ) -> PumpEnd
         requires open { IsOpen gate.old.counts }
         requires ended { from.old.ended ≡ false }
         requires failed { from.old.failed ≡ false }
     {
-        pump_in(
-            rt,
-            alloc,
-            &self.desk,
-            &mut self.reading,
-            gate,
-            from,
-            peer,
-            place,
-        )
+        let place = Place {
+            desk: &self.desk,
+            connection: origin.connection,
+            channel: origin.channel,
+            key: origin.key,
+        };
+        pump_in(rt, alloc, &mut self.reading, gate, from, peer, &place)
     }
 
-    /// Writes the posts from a number on, at a gate.
+    /// Writes the posts of a connection from a number on, at a gate and without a key.
     pub fn write<R: Wait>(
         &mut self,
         rt: &R,
         alloc: Global,
         gate: &mut Measured,
         to: &mut Sink,
-        line: &Line<'_>,
+        connection: u32,
         from: u64,
     ) -> PumpEnd
         requires good { to.old.failed ≡ false }
         requires open { IsOpen gate.old.counts }
     {
-        pump_out(
-            rt,
-            alloc,
-            &self.desk,
-            &mut self.writing,
-            gate,
-            to,
-            line,
-            from,
-        )
+        let line = Line {
+            desk: &self.desk,
+            connection,
+            key: b"",
+            session: "S",
+        };
+        pump_out(rt, alloc, &mut self.writing, gate, to, &line, from)
     }
 
     /// Makes slices at a gate.

@@ -4,12 +4,10 @@ ghost use Rattle.kern_net.specs.Gates.{IsOpen};
 
 use crate::gates::Measured;
 use crate::messages::{KEY, Part, is_front, joined};
-use crate::table::Table;
+use crate::table::{Origin, Table};
 use base_streams::memory::{Sink, Source};
 use jup_wire::channel::Channel;
 use kern_net::end::PumpEnd;
-use kern_net::pump_in::Place;
-use kern_net::pump_out::Line;
 use std::alloc::Global;
 use std::process::Abort;
 use std::sync::Wait;
@@ -120,15 +118,6 @@ pub struct Told {
     pub is_front: bool,
 }
 
-/// A connection without a key, for writing.
-pub fn line_of(connection: u32) -> Line<'static> {
-    Line {
-        connection,
-        key: b"",
-        session: "S",
-    }
-}
-
 fn course_of<R: Wait + Abort>(
     rt: &R,
     alloc: Global,
@@ -146,15 +135,15 @@ fn course_of<R: Wait + Abort>(
         Err(fault) => return Course::Unmet(fault),
     };
     let connection = table.join(rt, alloc, client.channel());
-    let place = Place {
+    let origin = Origin {
         connection,
         channel: client.channel(),
         key: client.key(),
     };
     let mut gate = Measured::new(0, 0);
-    let read = table.read(rt, alloc, &mut gate, from, peer, &place);
+    let read = table.read(rt, alloc, &mut gate, from, peer, origin);
     let mut gate = Measured::new(0, 2);
-    let wrote = table.write(rt, alloc, &mut gate, to, &line_of(connection), 1);
+    let wrote = table.write(rt, alloc, &mut gate, to, connection, 1);
     Course::Met(read, wrote)
 }
 
@@ -194,13 +183,13 @@ fn read_met<R: Wait + Abort>(
     requires failed { from.old.failed ≡ false }
     requires good { to.old.failed ≡ false }
 {
-    let place = Place {
+    let origin = Origin {
         connection,
         channel: Channel::Shell,
         key: b"",
     };
     match handshake(alloc, from, to, Role::Router) {
-        Ok(peer) => Ok(table.read(rt, alloc, gate, from, peer, &place)),
+        Ok(peer) => Ok(table.read(rt, alloc, gate, from, peer, origin)),
         Err(fault) => Err(fault),
     }
 }

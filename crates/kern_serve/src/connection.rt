@@ -48,9 +48,11 @@ pub struct Seats {
     pub second: Pass,
 }
 
-// The two ends of a connection: its socket, and whether its reader has closed it.
+// The two ends of a connection: its number and channel, its socket, and whether its reader has closed it.
 #[derive(Drop)]
 struct Ends {
+    connection: u32,
+    channel: Channel,
     stream: TcpStream,
     is_closed: AtomicBool,
 }
@@ -62,7 +64,6 @@ fn read_on<R: Wait + Clock>(
     shared: &Shared,
     mut pass: Pass,
     peer: &mut Option<Peer>,
-    place: &Place<'_>,
     ends: &Ends,
 ) -> Pass
     requires { pass.turnstile ≡ shared.now.desk }
@@ -78,16 +79,13 @@ fn read_on<R: Wait + Clock>(
         counts: Counts::new(),
     };
     let mut from = StdInlet::new(&ends.stream);
-    let end = pump_in(
-        rt,
-        alloc,
-        &shared.desk,
-        &mut pass,
-        &mut gate,
-        &mut from,
-        peer,
-        place,
-    );
+    let place = Place {
+        desk: &shared.desk,
+        connection: ends.connection,
+        channel: ends.channel,
+        key: shared.key.as_str().as_bytes(),
+    };
+    let end = pump_in(rt, alloc, &mut pass, &mut gate, &mut from, peer, &place);
     if end == PumpEnd::JournalFull {
         bell.ask(rt);
         return pass;
@@ -124,21 +122,13 @@ fn write_on<R: Wait + Clock>(
         bell,
     };
     let line = Line {
+        desk: &shared.desk,
         connection: joined.connection,
         key: shared.key.as_str().as_bytes(),
         session: shared.session.as_str(),
     };
     bell.begin_writer(rt);
-    let _ = pump_out(
-        rt,
-        alloc,
-        &shared.desk,
-        &mut pass,
-        &mut gate,
-        &mut to,
-        &line,
-        joined.from,
-    );
+    let _ = pump_out(rt, alloc, &mut pass, &mut gate, &mut to, &line, joined.from);
     close(&ends.stream);
     bell.end_writer(rt);
     pass
@@ -161,12 +151,9 @@ fn pump<R: Wait + Clock + Threads + Sync>(
     let Seats { first, second } = seats;
     // The reader takes the peer out of here.
     let mut peer = Some(peer);
-    let place = Place {
+    let ends = Ends {
         connection: joined.connection,
         channel,
-        key: shared.key.as_str().as_bytes(),
-    };
-    let ends = Ends {
         stream,
         is_closed: AtomicBool::new(false),
     };
@@ -175,7 +162,7 @@ fn pump<R: Wait + Clock + Threads + Sync>(
         || -> Pass
             requires { first.turnstile ≡ shared.now.desk }
             ensures { result.turnstile ≡ shared.entry.now.desk }
-        { read_on(rt, alloc, shared, first, &mut peer, &place, &ends) },
+        { read_on(rt, alloc, shared, first, &mut peer, &ends) },
         || -> Pass
             requires { second.turnstile ≡ shared.now.desk }
             ensures { result.turnstile ≡ shared.entry.now.desk }

@@ -10,9 +10,7 @@ pub struct CountedOutlet<'a, W: Outlet + Drop> {
 }
 
 impl<'a, W: Outlet + Drop> Outlet for CountedOutlet<'a, W> {
-    ghost taken = { λ s. W.taken s.outlet };
-
-    ghost failed = { λ s. W.failed s.outlet };
+    ghost state = { λ s. W.state s.outlet };
 
     fn write(&mut self, bytes: &[u8]) -> Result<usize, IoFault> {
         self.bell.count_write();

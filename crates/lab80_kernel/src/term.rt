@@ -30,7 +30,7 @@ fn connect<R: Net<Listener = TcpListener, Stream = TcpStream>>(
     port: u16,
 ) -> io::Result<Socket>
     ensures { IfOk result (λ socket.
-        (socket.from.1 ≡ false) × (socket.from.2 ≡ false) × (socket.to.1 ≡ false)) }
+        (socket.from.ended ≡ false) × (socket.from.failed ≡ false) × (socket.to.failed ≡ false)) }
 {
     let stream = TcpStream::connect(rt, (file.ip, port))?;
     stream.set_nodelay(true)?;
@@ -47,8 +47,8 @@ fn connect_both<R: Net<Listener = TcpListener, Stream = TcpStream>>(
     file: &ConnectionFile,
 ) -> io::Result<(Socket, Socket)>
     ensures { IfOk result (λ sockets.
-        (sockets.0.from.1 ≡ false) × (sockets.0.from.2 ≡ false) × (sockets.0.to.1 ≡ false)
-        × (sockets.1.from.1 ≡ false) × (sockets.1.from.2 ≡ false) × (sockets.1.to.1 ≡ false)) }
+        (sockets.0.from.ended ≡ false) × (sockets.0.from.failed ≡ false) × (sockets.0.to.failed ≡ false)
+        × (sockets.1.from.ended ≡ false) × (sockets.1.from.failed ≡ false) × (sockets.1.to.failed ≡ false)) }
 {
     let shell = connect(rt, file, file.shell_port)?;
     match connect(rt, file, file.iopub_port) {
@@ -79,8 +79,10 @@ fn run_over<R: Print + AllocGlobal>(
     cell: &Cell<'_>,
 ) -> Status
     requires moment { cell.now.moment ≤ 4102444800 }
-    requires shell { (shell.old.from.1 ≡ false) × (shell.old.from.2 ≡ false) × (shell.old.to.1 ≡ false) }
-    requires iopub { (iopub.old.from.1 ≡ false) × (iopub.old.from.2 ≡ false) × (iopub.old.to.1 ≡ false) }
+    requires shell { (shell.old.from.ended ≡ false) × (shell.old.from.failed ≡ false)
+        × (shell.old.to.failed ≡ false) }
+    requires iopub { (iopub.old.from.ended ≡ false) × (iopub.old.from.failed ≡ false)
+        × (iopub.old.to.failed ≡ false) }
 {
     let mut output = StdOutlet::new(io::writer(rt));
     let ran = run_cell(rt.alloc(), shell, iopub, &mut output, cell);

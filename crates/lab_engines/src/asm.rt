@@ -46,10 +46,10 @@ pub const RUN_LIMIT: u64 = 100_000;
 /// kept than of the longest cell.
 /// Nothing is written before all is read.
 pub fn run_asm<R: Inlet, W: Outlet>(alloc: Global, reader: &mut R, writer: &mut W) -> Status
-    ensures answers { AnswersInput asm_status asm_text result (R.left reader.old)
-        (W.taken writer.old) (W.taken writer.new) }
-    ensures blame { BlamesStreams result (R.failed reader.old) (R.failed reader.new)
-        (W.failed writer.old) (W.failed writer.new) (R.left reader.old) }
+    ensures answers { AnswersInput asm_status asm_text result (R.state reader.old)
+        (W.state writer.old) (W.state writer.new) }
+    ensures blame { BlamesStreams result (R.state reader.old) (R.state reader.new)
+        (W.state writer.old) (W.state writer.new) }
 {
     match asm_report(alloc, reader) {
         Ok(report) => deliver(writer, &report),
@@ -58,10 +58,9 @@ pub fn run_asm<R: Inlet, W: Outlet>(alloc: Global, reader: &mut R, writer: &mut 
 }
 
 fn asm_report<R: Inlet>(alloc: Global, reader: &mut R) -> Result<Report, Status>
-    ensures report { ReportsInput asm_status asm_text result (R.left reader.old) }
+    ensures report { ReportsInput asm_status asm_text result (R.state reader.old) }
     ensures failure { IfErr result IsFailure }
-    ensures blame { BlamesReader IfFailed result (R.failed reader.old) (R.failed reader.new)
-        (R.left reader.old) }
+    ensures blame { BlamesReader IfFailed result (R.state reader.old) (R.state reader.new) }
 {
     match read_text(alloc, MOST_BYTES, reader) {
         Ok(text) => text_report(alloc, text).map_err(|_| Status::OutOfMemory),

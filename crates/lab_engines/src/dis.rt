@@ -22,10 +22,10 @@ pub fn run_dis<R: Inlet, W: Outlet>(
     reader: &mut R,
     writer: &mut W,
 ) -> Status
-    ensures answers { AnswersInput (dis_status origin) (dis_text origin) result (R.left reader.old)
-        (W.taken writer.old) (W.taken writer.new) }
-    ensures blame { BlamesStreams result (R.failed reader.old) (R.failed reader.new)
-        (W.failed writer.old) (W.failed writer.new) (R.left reader.old) }
+    ensures answers { AnswersInput (dis_status origin) (dis_text origin) result (R.state reader.old)
+        (W.state writer.old) (W.state writer.new) }
+    ensures blame { BlamesStreams result (R.state reader.old) (R.state reader.new)
+        (W.state writer.old) (W.state writer.new) }
 {
     match dis_report(alloc, origin, reader) {
         Ok(report) => deliver(writer, &report),
@@ -34,10 +34,9 @@ pub fn run_dis<R: Inlet, W: Outlet>(
 }
 
 fn dis_report<R: Inlet>(alloc: Global, origin: u16, reader: &mut R) -> Result<Report, Status>
-    ensures report { ReportsInput (dis_status origin) (dis_text origin) result (R.left reader.old) }
+    ensures report { ReportsInput (dis_status origin) (dis_text origin) result (R.state reader.old) }
     ensures failure { IfErr result IsFailure }
-    ensures blame { BlamesReader IfFailed result (R.failed reader.old) (R.failed reader.new)
-        (R.left reader.old) }
+    ensures blame { BlamesReader IfFailed result (R.state reader.old) (R.state reader.new) }
 {
     match read_hex(alloc, reader) {
         Ok(bytes) => listed_report(alloc, origin, &bytes).map_err(|_| Status::OutOfMemory),

@@ -1,24 +1,25 @@
 -- What every engine promises of what it writes.
-use Rattle.std.specs.Prelude.{◌≡◌, ◌⊎◌, ℕ, List, Option, IfSome, Bool, true, if◌then◌else◌}
-use Rattle.base_streams.specs.Told.{Told, ToldFront}
+use Rattle.std.specs.Prelude.{◌≡◌, ◌⊎◌, ℕ, List, IfSome, Bool, true, if◌then◌else◌}
+use Rattle.base_streams.specs.States.{InletState, OutletState}
+use Rattle.base_streams.specs.Told.{Took, TookFront}
 use Rattle.lab_io.specs.declared.status.Status.{Status}
 use Rattle.lab_io.specs.declared.status.Status.TheVariants.{Success, Refused, Usage, OutOfMemory, Failed}
 use Rattle.lab_io.specs.Streams.{IsEndless}
 
 -- The status is the text's and all of the text was written; where it ran out of memory or a read or a write
 -- failed, a front of it.
-abbrev pub Answers : Status → List ℕ → Status → Option (List ℕ) → Option (List ℕ) → Type 0
-Answers status text Success old new = (status ≡ Success) × Told old new text
-Answers status text Refused old new = (status ≡ Refused) × Told old new text
+abbrev pub Answers : Status → List ℕ → Status → OutletState → OutletState → Type 0
+Answers status text Success old new = (status ≡ Success) × Took old new text
+Answers status text Refused old new = (status ≡ Refused) × Took old new text
 Answers status text Usage old new = ⊥
-Answers status text OutOfMemory old new = ToldFront old new text
-Answers status text Failed old new = ToldFront old new text
+Answers status text OutOfMemory old new = TookFront old new text
+Answers status text Failed old new = TookFront old new text
 
 -- so for every input that the reader has left, with the status and the text of that input
-abbrev pub AnswersInput : (List ℕ → Status) → (List ℕ → List ℕ) → Status → Option (List ℕ) → Option (List ℕ)
-    → Option (List ℕ) → Type 0
-AnswersInput status_of text_of result left old new =
-    IfSome left (λ input. Answers (status_of input) (text_of input) result old new)
+abbrev pub AnswersInput : (List ℕ → Status) → (List ℕ → List ℕ) → Status → InletState → OutletState
+    → OutletState → Type 0
+AnswersInput status_of text_of result reader old new =
+    IfSome reader.left (λ input. Answers (status_of input) (text_of input) result old new)
 
 abbrev pub answered : Bool → Status
 answered is_refused = if is_refused then Refused else Success
@@ -34,12 +35,11 @@ IfFailed Failed some none = some
 IfFailed _ some none = none
 
 -- It answers that a read or a write failed where one did, or where the input didn't end, and only there: any
--- other status says that none failed. `reader` and `writer` are whether they had failed before, with a prime
--- after; `left` is what the reader had left.
-abbrev pub BlamesStreams : Status → Bool → Bool → Bool → Bool → Option (List ℕ) → Type 0
-BlamesStreams status reader reader' writer writer' left =
-    IfFailed status ((reader' ≡ true) ⊎ (writer' ≡ true) ⊎ IsEndless left)
-    ((reader' ≡ reader) × (writer' ≡ writer))
+-- other status says that none failed. The reader and the writer have a prime after it.
+abbrev pub BlamesStreams : Status → InletState → InletState → OutletState → OutletState → Type 0
+BlamesStreams status reader reader' writer writer' =
+    IfFailed status ((reader'.failed ≡ true) ⊎ (writer'.failed ≡ true) ⊎ IsEndless reader)
+    ((reader'.failed ≡ reader.failed) × (writer'.failed ≡ writer.failed))
 
 -- the program exits with 0, with 1 for refused input, with 2 for a wrong command line, with 3 where it ran
 -- out of memory and with 4 where a read or a write failed

@@ -1,5 +1,6 @@
 -- What a report says.
-use Rattle.std.specs.Prelude.{◌≡◌, ℕ, List, [], ◌∷◌, ◌++◌, Option, IfSome, Result, IfOk, codes, string_bytes}
+use Rattle.std.specs.Prelude.{◌≡◌, ℕ, List, [], ◌∷◌, ◌++◌, IfSome, Result, IfOk, codes, string_bytes}
+use Rattle.base_streams.specs.States.{InletState}
 use Rattle.lab_io.specs.declared.status.Status.{Status}
 use Rattle.lab_io.specs.Engine.{answered}
 use Rattle.lab_io.specs.HexInput.{Input, BadHex, PastEnd, Bytes}
@@ -15,10 +16,9 @@ pub record IsReport (report : Report) (status : Status) (text : List ℕ) : Type
   pub text_is : string_bytes report.text ≡ text
 
 -- for every input that the reader has left: the report, if there is one, has the input's status and text
-abbrev pub ReportsInput : (List ℕ → Status) → (List ℕ → List ℕ) → Result Report Status → Option (List ℕ)
-    → Type 0
-ReportsInput status_of text_of result left =
-    IfSome left (λ input. IfOk result (λ report. IsReport report (status_of input) (text_of input)))
+abbrev pub ReportsInput : (List ℕ → Status) → (List ℕ → List ℕ) → Result Report Status → InletState → Type 0
+ReportsInput status_of text_of result reader =
+    IfSome reader.left (λ input. IfOk result (λ report. IsReport report (status_of input) (text_of input)))
 
 abbrev pub line : List ℕ → List ℕ
 line words = words ++ 10 ∷ []

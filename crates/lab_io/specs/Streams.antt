@@ -1,7 +1,8 @@
 -- What was found in all that a reader had.
-use Rattle.std.specs.Prelude.{◌≡◌, ◌≤◌, ◌⊎◌, ℕ, List, length, Bool, true, Option, IfSome}
+use Rattle.std.specs.Prelude.{◌≡◌, ◌≤◌, ◌⊎◌, ℕ, List, length, true, IfSome}
 use Rattle.std.specs.Prelude.{Result, Ok, Err, MatchResult}
 use Rattle.std.specs.Global.{Vec}
+use Rattle.base_streams.specs.States.{InletState}
 use Rattle.lab_io.specs.HexInput.{input_of, BadHex, PastEnd, Bytes}
 use Rattle.lab_io.specs.HexState.{HexState, StandsFor}
 use Rattle.lab_io.specs.declared.hex_input.HexFault.{HexFault}
@@ -13,9 +14,10 @@ use Rattle.lab_io.specs.declared.text_input.TextFault.TheVariants as text
 unfoldable pub most_reads : ℕ
 most_reads = 4294967295
 
--- so many reads, of which each gave a byte at least, didn't come to the end of the input, if that is known
-abbrev pub IsEndless : Option (List ℕ) → Type 0
-IsEndless left = IfSome left (λ input. most_reads ≤ length input)
+-- so many reads, of which each gave a byte at least, didn't come to the end of what the reader has left, if
+-- that is known
+abbrev pub IsEndless : InletState → Type 0
+IsEndless inlet = IfSome inlet.left (λ input. most_reads ≤ length input)
 
 -- the one where the fault is that a read failed, else the other
 abbrev pub IfReadFailed : HexFault → Type 0 → Type 0 → Type 0
@@ -29,12 +31,11 @@ IfTextFailed text.OutOfMemory some none = none
 
 -- A failed read is reported where one failed, or where the input didn't end; any other answer says that none
 -- failed. `IfReported` is the first of two facts at a fault that reports a failed read, else the second.
--- `before` and `after` are whether the reader had failed, and `left` is what it had left.
-abbrev pub BlamesReader : {A E : Type 0} → (E → Type 0 → Type 0 → Type 0) → Result A E → Bool → Bool
-    → Option (List ℕ) → Type 0
-BlamesReader IfReported result before after left =
-    MatchResult result (λ _. after ≡ before)
-    (λ fault. IfReported fault ((after ≡ true) ⊎ IsEndless left) (after ≡ before))
+abbrev pub BlamesReader : {A E : Type 0} → (E → Type 0 → Type 0 → Type 0) → Result A E → InletState
+    → InletState → Type 0
+BlamesReader IfReported result old new =
+    MatchResult result (λ _. new.failed ≡ old.failed)
+    (λ fault. IfReported fault ((new.failed ≡ true) ⊎ IsEndless old) (new.failed ≡ old.failed))
 
 -- the digits of an input, or that one of its characters is bad
 abbrev pub IsReading : Result HexState HexFault → List ℕ → Type 0

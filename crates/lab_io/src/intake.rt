@@ -67,9 +67,8 @@ pub(crate) fn pour<R: Inlet, I: Intake>(
     requires buffer { 0 < length buffer.old }
     requires input { I.stands input [] }
     ensures limit { IfOk result (λ read. I.limit read ≡ I.limit input) }
-    ensures read { IfSome (R.left reader.old) (IsPoured I.stands I.refuses result) }
-    ensures blame { BlamesReader IfPourFailed result (R.failed reader.old) (R.failed reader.new)
-        (R.left reader.old) }
+    ensures read { IfSome (R.state reader.old).left (IsPoured I.stands I.refuses result) }
+    ensures blame { BlamesReader IfPourFailed result (R.state reader.old) (R.state reader.new) }
 {
     for reads in 0..u32::MAX {
         match reader.read(buffer) {

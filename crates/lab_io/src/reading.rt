@@ -25,9 +25,8 @@ fn new_buffer(alloc: Global) -> Result<Vec<u8>, AllocError>
 /// Reads hexadecimal text to its end, piece by piece, and gives the bytes that it means. What
 /// follows a character that is neither a digit nor a blank isn't read.
 pub fn read_hex<R: Inlet>(alloc: Global, reader: &mut R) -> Result<Vec<u8>, HexFault>
-    ensures bytes { IfSome (R.left reader.old) (IsHex result) }
-    ensures blame { BlamesReader IfReadFailed result (R.failed reader.old) (R.failed reader.new)
-        (R.left reader.old) }
+    ensures bytes { IfSome (R.state reader.old).left (IsHex result) }
+    ensures blame { BlamesReader IfReadFailed result (R.state reader.old) (R.state reader.new) }
 {
     let mut buffer = new_buffer(alloc)?;
     let input = read_digits(alloc, reader, &mut buffer)?;
@@ -43,9 +42,8 @@ fn read_digits<R: Inlet>(
     buffer: &mut [u8],
 ) -> Result<HexInput, HexFault>
     requires { 0 < length buffer.old }
-    ensures digits { IfSome (R.left reader.old) (IsReading result) }
-    ensures blame { BlamesReader IfReadFailed result (R.failed reader.old) (R.failed reader.new)
-        (R.left reader.old) }
+    ensures digits { IfSome (R.state reader.old).left (IsReading result) }
+    ensures blame { BlamesReader IfReadFailed result (R.state reader.old) (R.state reader.new) }
 {
     match pour(reader, buffer, HexInput::new(alloc)) {
         Ok(input) => Ok(input),
@@ -62,9 +60,8 @@ pub fn read_text<R: Inlet>(
     limit: usize,
     reader: &mut R,
 ) -> Result<Option<String>, TextFault>
-    ensures text { IfSome (R.left reader.old) (IsText limit result) }
-    ensures blame { BlamesReader IfTextFailed result (R.failed reader.old) (R.failed reader.new)
-        (R.left reader.old) }
+    ensures text { IfSome (R.state reader.old).left (IsText limit result) }
+    ensures blame { BlamesReader IfTextFailed result (R.state reader.old) (R.state reader.new) }
 {
     let Ok(mut buffer) = new_buffer(alloc) else {
         return Err(TextFault::OutOfMemory);
@@ -84,9 +81,8 @@ fn read_pieces<R: Inlet>(
     requires buffer { 0 < length buffer.old }
     requires input { StandsFor input [] }
     ensures limit { IfOk result (λ read. read.limit ≡ input.limit) }
-    ensures text { IfSome (R.left reader.old) (IsTextReading result) }
-    ensures blame { BlamesReader IfTextFailed result (R.failed reader.old) (R.failed reader.new)
-        (R.left reader.old) }
+    ensures text { IfSome (R.state reader.old).left (IsTextReading result) }
+    ensures blame { BlamesReader IfTextFailed result (R.state reader.old) (R.state reader.new) }
 {
     match pour(reader, buffer, input) {
         Ok(read) => Ok(read),
@@ -98,11 +94,10 @@ fn read_pieces<R: Inlet>(
 
 /// Reads all bytes to the end, piece by piece.
 pub fn read_all<R: Inlet>(alloc: Global, reader: &mut R) -> Result<Vec<u8>, Status>
-    ensures all { IfSome (R.left reader.old) (λ input.
+    ensures all { IfSome (R.state reader.old).left (λ input.
         IfOk result (λ bytes. bytes.items ≡ input)) }
     ensures failure { IfErr result IsFailure }
-    ensures blame { BlamesReader IfFailed result (R.failed reader.old) (R.failed reader.new)
-        (R.left reader.old) }
+    ensures blame { BlamesReader IfFailed result (R.state reader.old) (R.state reader.new) }
 {
     let Ok(mut buffer) = new_buffer(alloc) else {
         return Err(Status::OutOfMemory);

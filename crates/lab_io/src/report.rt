@@ -57,10 +57,10 @@ pub fn text_refusal(alloc: Global, fault: TextFault) -> Result<Report, Status>
 /// Writes the report's text, and answers its status where that went well.
 pub fn deliver<W: Outlet>(writer: &mut W, report: &Report) -> Status
     ensures answers { Answers (answered report.now.is_refused) (string_bytes report.now.text) result
-        (W.taken writer.old) (W.taken writer.new) }
+        (W.state writer.old) (W.state writer.new) }
     ensures blame { IfFailed result
-        (W.failed writer.new ≡ true)
-        (W.failed writer.new ≡ W.failed writer.old) }
+        ((W.state writer.new).failed ≡ true)
+        ((W.state writer.new).failed ≡ (W.state writer.old).failed) }
 {
     if write_all(writer, report.text.as_bytes()).is_err() {
         return Status::Failed;

@@ -19,10 +19,10 @@ pub const STEP_LIMIT: u64 = 1000;
 /// power-on, and writes the registers after each step and last how the run ended.
 /// What is refused is answered by one line, and nothing is written before all of the text is read.
 pub fn run_step<R: Inlet, W: Outlet>(alloc: Global, reader: &mut R, writer: &mut W) -> Status
-    ensures answers { AnswersInput step_status step_text result (R.left reader.old)
-        (W.taken writer.old) (W.taken writer.new) }
-    ensures blame { BlamesStreams result (R.failed reader.old) (R.failed reader.new)
-        (W.failed writer.old) (W.failed writer.new) (R.left reader.old) }
+    ensures answers { AnswersInput step_status step_text result (R.state reader.old)
+        (W.state writer.old) (W.state writer.new) }
+    ensures blame { BlamesStreams result (R.state reader.old) (R.state reader.new)
+        (W.state writer.old) (W.state writer.new) }
 {
     match step_report(alloc, reader) {
         Ok(report) => deliver(writer, &report),
@@ -31,10 +31,9 @@ pub fn run_step<R: Inlet, W: Outlet>(alloc: Global, reader: &mut R, writer: &mut
 }
 
 fn step_report<R: Inlet>(alloc: Global, reader: &mut R) -> Result<Report, Status>
-    ensures report { ReportsInput step_status step_text result (R.left reader.old) }
+    ensures report { ReportsInput step_status step_text result (R.state reader.old) }
     ensures failure { IfErr result IsFailure }
-    ensures blame { BlamesReader IfFailed result (R.failed reader.old) (R.failed reader.new)
-        (R.left reader.old) }
+    ensures blame { BlamesReader IfFailed result (R.state reader.old) (R.state reader.new) }
 {
     match read_hex(alloc, reader) {
         Ok(bytes) => program_report(alloc, &bytes).map_err(|_| Status::OutOfMemory),

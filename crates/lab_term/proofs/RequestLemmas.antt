@@ -8,6 +8,7 @@ use Rattle.jup_wire.proofs.PartLemmas.{same_parts, text_is}
 use Rattle.jup_date.specs.Dates.{IsDate}
 use Rattle.lab_term.specs.Requests.{request_header, request_content, request_parts, request_frames, IsDraftOf}
 use Rattle.lab_term.specs.Requests.{IsRequest}
+use Rattle.lab_term.specs.declared.cell.Cell.{Cell}
 
 pub sealed_is_request : (key date session code : List ℕ) (draft : Draft) (frames : List (List ℕ))
     → IsDraftOf date session code draft → IsSealed key draft frames
@@ -20,10 +21,10 @@ sealed_is_request key date session code draft frames of s =
     (s.parent_header ∙ of.parent_header) metadata body in
     s.whole ∙ ap (λ p. frames_of p (signature_frame key p)) same
 
-pub request_is : (code key session : List ℕ) (moment : ℕ) (date header : List ℕ) (frames : List (List ℕ))
-    → IsDate moment date → frames ≡ request_frames key date session code → header ≡ slice_index_or frames 2 []
-    → IsRequest code key session moment header frames
-request_is code key session moment date header frames dated is at = record {
+pub request_is : (cell : Cell) (date header : List ℕ) (frames : List (List ℕ)) → IsDate cell.moment date
+    → frames ≡ request_frames cell.key.now date cell.session.now cell.code.now
+    → header ≡ slice_index_or frames 2 [] → IsRequest cell header frames
+request_is cell date header frames dated is at = record {
   date = date;
   dated = dated;
   header_is = at ∙ ap (λ (l : List (List ℕ)). slice_index_or l 2 []) is;

@@ -1,6 +1,7 @@
 -- Why a cell wasn't run to its end.
-use Rattle.std.specs.Prelude.{◌≡◌, ℕ, ◌≤◌, ◌⊎◌, Bool, true, false, List, ◌∷◌, ◌++◌, length, Option, Some}
-use Rattle.base_streams.specs.Told.{Told}
+use Rattle.std.specs.Prelude.{◌≡◌, ℕ, ◌≤◌, ◌⊎◌, true, List, ◌∷◌, ◌++◌, length, Some}
+use Rattle.base_streams.specs.States.{InletState, OutletState, IsReadable}
+use Rattle.base_streams.specs.Told.{Gave}
 use Rattle.zmtp_wire.specs.declared.fault.StreamFault.{StreamFault}
 use Rattle.zmtp_wire.specs.declared.role.Role.{Role}
 use Rattle.zmtp_wire.specs.declared.role.Role.TheVariants.{Dealer, Sub}
@@ -14,42 +15,36 @@ use Rattle.lab_term.specs.declared.fault.TermFault.{TermFault}
 use Rattle.lab_term.specs.declared.fault.TermFault.TheVariants.{OutOfMemory, Ended, ReadFailed, WriteFailed}
 use Rattle.lab_term.specs.declared.fault.TermFault.TheVariants.{Wire}
 use Rattle.lab_term.specs.declared.fault.WireCause.TheVariants.{Stream, Message}
+use Rattle.lab_term.specs.Connections.{Ports, Client}
 use Rattle.lab_term.specs.Events.{IsUnopened}
 use Rattle.lab_term.specs.Faults.{term_fault_of}
 
--- what a reader had given before and has given after, and whether it has ended and whether it has failed
-pub record Reader : Type 0 where
-  pub before : Option (List ℕ)
-  pub after : Option (List ℕ)
-  pub ended : Bool
-  pub failed : Bool
-
 -- so many bytes were read as are read at most
-pub record ReadsMost (r : Reader) : Type 0 where
+pub record ReadsMost (from from' : InletState) : Type 0 where
   pub stream : List ℕ
-  pub told : Told r.before r.after stream
+  pub gave : Gave from from' stream
   pub most : most_bytes ≤ length stream
 
 -- the reader failed, or gave as many bytes as are read at most
-abbrev pub FailsReading : Reader → Type 0
-FailsReading r = (r.failed ≡ true) ⊎ ReadsMost r
+abbrev pub FailsReading : InletState → InletState → Type 0
+FailsReading from from' = (from'.failed ≡ true) ⊎ ReadsMost from from'
 
 -- the handshake of this role refused its peer for this cause
-abbrev pub RefusesPeer : Role → Reader → StreamFault → Type 0
-RefusesPeer role r cause = NoPeer role r.before r.after r.failed (peer.Wire cause)
+abbrev pub RefusesPeer : Role → InletState → InletState → StreamFault → Type 0
+RefusesPeer role from from' cause = NoPeer role from from' (peer.Wire cause)
 
 -- what the reader gave breaks the stream with this fault
-pub record Breaks (r : Reader) (cause : StreamFault) : Type 0 where
+pub record Breaks (from from' : InletState) (cause : StreamFault) : Type 0 where
   pub side : SideState
   pub messages : List (List (List ℕ))
-  pub heard : Heard r.before r.after side messages 0
+  pub heard : Heard from from' side messages 0
   pub broken : side.fault ≡ Some cause
 
 -- a message that was heard doesn't open under the key
-pub record HearsUnopened (key : List ℕ) (r : Reader) (cause : WireFault) : Type 0 where
+pub record HearsUnopened (key : List ℕ) (from from' : InletState) (cause : WireFault) : Type 0 where
   pub side : SideState
   pub messages : List (List (List ℕ))
-  pub heard : Heard r.before r.after side messages 0
+  pub heard : Heard from from' side messages 0
   pub earlier : List (List (List ℕ))
   pub frames : List (List ℕ)
   pub others : List (List (List ℕ))
@@ -57,41 +52,41 @@ pub record HearsUnopened (key : List ℕ) (r : Reader) (cause : WireFault) : Typ
   pub unopened : IsUnopened key frames (Wire (Message cause))
 
 -- the handshake of this role failed: why, and what was read of the peer
-pub record Ungreeted (role : Role) (r : Reader) (refused : Bool) (fault : TermFault) : Type 0 where
+pub record Ungreeted (role : Role) (old new : Ports) (fault : TermFault) : Type 0 where
   pub cause : PeerFault
   pub fault_is : fault ≡ term_fault_of cause
-  pub blames : Blames cause r.ended r.failed refused
-  pub lost : NoPeer role r.before r.after r.failed cause
+  pub blames : Blames cause new.from new.to
+  pub lost : NoPeer role old.from new.from cause
 
 -- why a message wasn't sent: memory was wanting, or the writer failed
-abbrev pub Unsent : Bool → TermFault → Type 0
-Unsent refused OutOfMemory = Unit {0}
-Unsent refused WriteFailed = refused ≡ true
-Unsent refused _ = ⊥
+abbrev pub Unsent : OutletState → TermFault → Type 0
+Unsent to OutOfMemory = Unit {0}
+Unsent to WriteFailed = to.failed ≡ true
+Unsent to _ = ⊥
 
 -- a stream is broken
 abbrev pub IsBroken : TermFault → Type 0
 IsBroken (Wire (Stream cause)) = Unit {0}
 IsBroken _ = ⊥
 
--- why no more messages were taken, by what was read and by whether the output failed
-abbrev pub Stalls : List ℕ → Reader → Bool → TermFault → Type 0
-Stalls key r refused OutOfMemory = (r.ended ≡ false) × (r.failed ≡ false)
-Stalls key r refused Ended = r.ended ≡ true
-Stalls key r refused ReadFailed = FailsReading r
-Stalls key r refused WriteFailed = refused ≡ true
-Stalls key r refused (Wire (Stream cause)) = Breaks r cause
-Stalls key r refused (Wire (Message cause)) = HearsUnopened key r cause
+-- why no more messages were taken, by what was read and by what was printed to
+abbrev pub Stalls : List ℕ → InletState → InletState → OutletState → TermFault → Type 0
+Stalls key from from' to OutOfMemory = IsReadable from'
+Stalls key from from' to Ended = from'.ended ≡ true
+Stalls key from from' to ReadFailed = FailsReading from from'
+Stalls key from from' to WriteFailed = to.failed ≡ true
+Stalls key from from' to (Wire (Stream cause)) = Breaks from from' cause
+Stalls key from from' to (Wire (Message cause)) = HearsUnopened key from from' cause
 
--- What each fault says of the readers of shell and iopub, of the writers of shell and iopub, and of the
--- output: whether each of those three has failed.
-abbrev pub Causes : List ℕ → Reader → Reader → Bool → Bool → Bool → TermFault → Type 0
-Causes key shell iopub asking subscribing printing OutOfMemory =
-    (shell.ended ≡ false) × (shell.failed ≡ false) × (iopub.ended ≡ false) × (iopub.failed ≡ false)
-Causes key shell iopub asking subscribing printing Ended = (shell.ended ≡ true) ⊎ (iopub.ended ≡ true)
-Causes key shell iopub asking subscribing printing ReadFailed = FailsReading shell ⊎ FailsReading iopub
-Causes key shell iopub asking subscribing printing WriteFailed =
-    (asking ≡ true) ⊎ ((subscribing ≡ true) ⊎ (printing ≡ true))
-Causes key shell iopub asking subscribing printing (Wire (Stream cause)) =
-    RefusesPeer Dealer shell cause ⊎ (RefusesPeer Sub iopub cause ⊎ Breaks iopub cause)
-Causes key shell iopub asking subscribing printing (Wire (Message cause)) = HearsUnopened key iopub cause
+-- what each fault says of the readers, of the writers, and of what is printed to
+abbrev pub Causes : List ℕ → Client → Client → TermFault → Type 0
+Causes key old new OutOfMemory = IsReadable new.shell.from × IsReadable new.iopub.from
+Causes key old new Ended = (new.shell.from.ended ≡ true) ⊎ (new.iopub.from.ended ≡ true)
+Causes key old new ReadFailed =
+    FailsReading old.shell.from new.shell.from ⊎ FailsReading old.iopub.from new.iopub.from
+Causes key old new WriteFailed =
+    (new.shell.to.failed ≡ true) ⊎ ((new.iopub.to.failed ≡ true) ⊎ (new.output.failed ≡ true))
+Causes key old new (Wire (Stream cause)) =
+    RefusesPeer Dealer old.shell.from new.shell.from cause
+    ⊎ (RefusesPeer Sub old.iopub.from new.iopub.from cause ⊎ Breaks old.iopub.from new.iopub.from cause)
+Causes key old new (Wire (Message cause)) = HearsUnopened key old.iopub.from new.iopub.from cause

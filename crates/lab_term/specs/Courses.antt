@@ -1,6 +1,8 @@
 -- How a cell goes: what was taken of the messages that came, and what was printed of them.
-use Rattle.std.specs.Prelude.{◌≡◌, ℕ, Bool, false, true, ◌&&◌, List, [], ◌∷◌, ◌++◌, Option}
-use Rattle.base_streams.specs.Told.{Told, ToldFront}
+use Rattle.std.specs.Prelude.{◌≡◌, ℕ, Bool, false, true, ◌&&◌, List, [], ◌∷◌, ◌++◌}
+use Rattle.std.specs.List.{list_any}
+use Rattle.base_streams.specs.States.{OutletState, IsWritable}
+use Rattle.base_streams.specs.Told.{Took, TookFront}
 use Rattle.lab_term.specs.declared.fault.TermFault.{TermFault}
 use Rattle.lab_term.specs.declared.fault.TermFault.TheVariants.{OutOfMemory, WriteFailed}
 use Rattle.lab_term.specs.declared.fault.TermFault.TheVariants.{Wire}
@@ -9,69 +11,88 @@ use Rattle.lab_term.specs.declared.follow.Course.{Course}
 use Rattle.lab_term.specs.Events.{Notice, IsNotice, IsUnopened, AreNotices, is_of, is_error, is_status, shown}
 use Rattle.lab_term.specs.Events.{printed, has_error, ends}
 
--- the last of these messages is one for which this is true
+-- the request that messages belong to: the key that they are signed with, and its header
+pub record Parent : Type 0 where
+  pub key : List ℕ
+  pub header : List ℕ
+
+-- this is true for none of these messages
+abbrev pub HasNo : (Notice → Bool) → List Notice → Type 0
+HasNo holds notices = list_any holds notices ≡ false
+
+-- the last of these messages is the first for which this is true
 pub record EndsIn (holds : Notice → Bool) (notices : List Notice) : Type 0 where
   pub before : List Notice
   pub last : Notice
   pub are : notices ≡ before ++ last ∷ []
+  pub first : HasNo holds before
   pub is : holds last ≡ true
 
--- the last of these messages tells a status
+-- the last of these messages is the first that tells a status
 abbrev pub EndsInStatus : List Notice → Type 0
 EndsInStatus notices = EndsIn is_status notices
 
--- the last of these messages says that the kernel is done with the request
+-- the last of these messages is the first that says that the kernel is done with the request
 abbrev pub EndsInIdle : List ℕ → List Notice → Type 0
 EndsInIdle header notices = EndsIn (ends header) notices
 
 -- why messages were taken no further: memory was wanting, the writer failed, or the next one doesn't open
-abbrev pub StopsAt : List ℕ → List (List (List ℕ)) → Bool → TermFault → Type 0
-StopsAt key others refused OutOfMemory = refused ≡ false
-StopsAt key others refused WriteFailed = refused ≡ true
-StopsAt key others refused (Wire (Message cause)) =
-    (refused ≡ false) × (frames : List (List ℕ)) × (rest : List (List (List ℕ)))
+abbrev pub StopsAt : List ℕ → List (List (List ℕ)) → OutletState → TermFault → Type 0
+StopsAt key others to OutOfMemory = IsWritable to
+StopsAt key others to WriteFailed = to.failed ≡ true
+StopsAt key others to (Wire (Message cause)) =
+    IsWritable to × (frames : List (List ℕ)) × (rest : List (List (List ℕ)))
     × (others ≡ frames ∷ rest) × IsUnopened key frames (Wire (Message cause))
-StopsAt key others refused _ = ⊥
+StopsAt key others to _ = ⊥
 
--- messages were looked at up to a status, or all of them
-pub record Passes (key : List ℕ) (queue queue' : List (List (List ℕ))) (found : Bool) : Type 0 where
+-- messages were looked at
+pub record Passes (key : List ℕ) (queue queue' : List (List (List ℕ))) : Type 0 where
   pub taken : List (List (List ℕ))
   pub queue_is : queue ≡ taken ++ queue'
   pub notices : List Notice
   pub are : AreNotices key taken notices
-  pub status : found ≡ true → EndsInStatus notices
-  pub all : found ≡ false → queue' ≡ []
 
--- messages were taken, and the request's among them printed, up to its idle, or all of them
-pub record Takes (key header : List ℕ) (queue queue' : List (List (List ℕ))) (out out' : Option (List ℕ))
-    (course : Course) : Type 0 where
-  pub taken : List (List (List ℕ))
-  pub queue_is : queue ≡ taken ++ queue'
-  pub notices : List Notice
-  pub are : AreNotices key taken notices
-  pub wrote : Told out out' (printed header notices)
-  pub failed : course.has_failed ≡ has_error header notices
-  pub idle : course.is_idle ≡ true → EndsInIdle header notices
-  pub all : course.is_idle ≡ false → queue' ≡ []
-
--- messages were taken, a front of what is printed of them was printed, and then it stopped
-pub record Cut (key header : List ℕ) (queue : List (List (List ℕ))) (out out' : Option (List ℕ))
-    (refused : Bool)
-    (fault : TermFault) : Type 0 where
+-- messages were looked at, and then it stopped
+pub record StopsIn (key : List ℕ) (queue : List (List (List ℕ))) (to : OutletState) (fault : TermFault)
+    : Type 0 where
   pub taken : List (List (List ℕ))
   pub others : List (List (List ℕ))
   pub queue_is : queue ≡ taken ++ others
   pub notices : List Notice
   pub are : AreNotices key taken notices
-  pub wrote : ToldFront out out' (printed header notices)
-  pub stops : StopsAt key others refused fault
+  pub stops : StopsAt key others to fault
+
+-- messages were taken, and the request's among them printed, up to its idle, or all of them
+pub record Takes (parent : Parent) (queue queue' : List (List (List ℕ))) (to to' : OutletState)
+    (course : Course) : Type 0 where
+  pub taken : List (List (List ℕ))
+  pub queue_is : queue ≡ taken ++ queue'
+  pub notices : List Notice
+  pub are : AreNotices parent.key taken notices
+  pub wrote : Took to to' (printed parent.header notices)
+  pub failed : course.has_failed ≡ has_error parent.header notices
+  pub idle : course.is_idle ≡ true → EndsInIdle parent.header notices
+  pub busy : course.is_idle ≡ false → HasNo (ends parent.header) notices
+  pub all : course.is_idle ≡ false → queue' ≡ []
+
+-- messages were taken, none of them the request's idle, a front of what is printed of them was printed, and
+-- then it stopped
+pub record Cut (parent : Parent) (queue : List (List (List ℕ))) (to to' : OutletState) (fault : TermFault)
+    : Type 0 where
+  pub taken : List (List (List ℕ))
+  pub others : List (List (List ℕ))
+  pub queue_is : queue ≡ taken ++ others
+  pub notices : List Notice
+  pub are : AreNotices parent.key taken notices
+  pub busy : HasNo (ends parent.header) notices
+  pub wrote : TookFront to to' (printed parent.header notices)
+  pub stops : StopsAt parent.key others to' fault
 
 -- a message was taken, and printed if it is the request's
-pub record TakesOne (key header : List ℕ) (frames : List (List ℕ)) (out out' : Option (List ℕ))
-    (course : Course)
+pub record TakesOne (parent : Parent) (frames : List (List ℕ)) (to to' : OutletState) (course : Course)
     : Type 0 where
   pub notice : Notice
-  pub is : IsNotice key frames notice
-  pub wrote : Told out out' (shown header notice)
-  pub failed : course.has_failed ≡ is_of header notice && is_error notice
-  pub idle : course.is_idle ≡ ends header notice
+  pub is : IsNotice parent.key frames notice
+  pub wrote : Took to to' (shown parent.header notice)
+  pub failed : course.has_failed ≡ is_of parent.header notice && is_error notice
+  pub idle : course.is_idle ≡ ends parent.header notice

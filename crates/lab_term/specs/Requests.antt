@@ -9,6 +9,7 @@ use Rattle.jup_wire.specs.declared.sealing.Draft.{Draft}
 use Rattle.jup_wire.specs.Header.{empty_object, header_json}
 use Rattle.jup_wire.specs.Seal.{frames_of, signature_frame}
 use Rattle.jup_date.specs.Dates.{IsDate}
+use Rattle.lab_term.specs.declared.cell.Cell.{Cell}
 
 -- a client sends one request in its session
 abbrev pub request_header : List ℕ → List ℕ → Data
@@ -40,10 +41,9 @@ abbrev pub request_frames : List ℕ → List ℕ → List ℕ → List ℕ → 
 request_frames key date session code =
     frames_of (request_parts date session code) (signature_frame key (request_parts date session code))
 
--- the request of this moment has these frames, and this header in them
-pub record IsRequest (code key session : List ℕ) (moment : ℕ) (header : List ℕ) (frames : List (List ℕ))
-    : Type 0 where
+-- the request of the cell has these frames, and this header in them
+pub record IsRequest (cell : Cell) (header : List ℕ) (frames : List (List ℕ)) : Type 0 where
   pub date : List ℕ
-  pub dated : IsDate moment date
-  pub header_is : header ≡ compact_text (request_header date session)
-  pub frames_are : frames ≡ request_frames key date session code
+  pub dated : IsDate cell.moment date
+  pub header_is : header ≡ compact_text (request_header date cell.session.now)
+  pub frames_are : frames ≡ request_frames cell.key.now date cell.session.now cell.code.now

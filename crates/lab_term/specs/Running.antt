@@ -1,67 +1,76 @@
 -- What running a cell comes to.
-use Rattle.std.specs.Prelude.{◌≡◌, ℕ, Bool, not, List, [], ◌∷◌, ◌++◌, Option}
-use Rattle.base_streams.specs.Told.{Told}
+use Rattle.std.specs.Prelude.{◌≡◌, ℕ, Bool, not, List, [], ◌∷◌, ◌++◌}
+use Rattle.base_streams.specs.States.{OutletState}
+use Rattle.base_streams.specs.Told.{Took}
 use Rattle.zmtp_wire.specs.declared.role.Role.{Role}
 use Rattle.zmtp_wire.specs.declared.role.Role.TheVariants.{Dealer, Sub}
 use Rattle.zmtp_wire.specs.Stream.{SideState}
 use Rattle.zmtp_wire.specs.Writing.{message_bytes}
 use Rattle.zmtp_peer.specs.Hearing.{Heard}
 use Rattle.zmtp_peer.specs.Sending.{WroteWhole}
+use Rattle.lab_term.specs.declared.cell.Cell.{Cell}
+use Rattle.lab_term.specs.Connections.{Ports, Client}
 use Rattle.lab_term.specs.Events.{Notice, AreNotices, printed, has_error}
-use Rattle.lab_term.specs.Courses.{EndsInStatus, EndsInIdle}
+use Rattle.lab_term.specs.Courses.{Parent, EndsInStatus, EndsInIdle}
 use Rattle.lab_term.specs.Requests.{IsRequest}
 
--- after the messages that had passed, those of the request were printed up to its idle, in their order; and
--- whether there was no error among them
-pub record Followed (key header : List ℕ) (given given' : Option (List ℕ)) (passed : List (List (List ℕ)))
-    (out out' : Option (List ℕ)) (good : Bool) : Type 0 where
+-- After the messages that had passed, those of the request were printed up to its first idle, in their order.
+-- The ports are the reader of iopub and what is printed to.
+pub record Followed (parent : Parent) (passed : List (List (List ℕ))) (old new : Ports) : Type 0 where
   pub side : SideState
   pub messages : List (List (List ℕ))
-  pub heard : Heard given given' side messages 0
+  pub heard : Heard old.from new.from side messages 0
   pub taken : List (List (List ℕ))
   pub others : List (List (List ℕ))
   pub messages_are : messages ≡ (passed ++ taken) ++ others
   pub notices : List Notice
-  pub are : AreNotices key taken notices
-  pub idle : EndsInIdle header notices
-  pub wrote : Told out out' (printed header notices)
-  pub good_is : good ≡ not (has_error header notices)
+  pub are : AreNotices parent.key taken notices
+  pub idle : EndsInIdle parent.header notices
+  pub wrote : Took old.to new.to (printed parent.header notices)
 
 -- the handshake of this role was written, and then this message
-pub record Said (taken taken' : Option (List ℕ)) (role : Role) (message : List (List ℕ)) : Type 0 where
-  pub between : Option (List ℕ)
-  pub handshake : WroteWhole taken between role
-  pub told : Told between taken' (message_bytes message)
+pub record Said (to to' : OutletState) (role : Role) (message : List (List ℕ)) : Type 0 where
+  pub between : OutletState
+  pub handshake : WroteWhole to between role
+  pub took : Took between to' (message_bytes message)
 
 -- subscribes to everything (RFC 23, "The Publish-Subscribe Pattern")
 abbrev pub subscription : List (List ℕ)
 subscription = (1 ∷ []) ∷ []
 
 -- the request was sent, with this header in it
-pub record Asked (code key session : List ℕ) (moment : ℕ) (header : List ℕ) (taken taken' : Option (List ℕ))
-    : Type 0 where
+pub record Asked (cell : Cell) (header : List ℕ) (to to' : OutletState) : Type 0 where
   pub frames : List (List ℕ)
-  pub request : IsRequest code key session moment header frames
-  pub told : Told taken taken' (message_bytes frames)
+  pub request : IsRequest cell header frames
+  pub took : Took to to' (message_bytes frames)
 
 -- The subscription and a request with this header were sent, and nothing else; these messages had come before
 -- the request was, the last of them a status.
-pub record Began (code key session : List ℕ) (moment : ℕ) (asked asked' : Option (List ℕ))
-    (subscribed subscribed' : Option (List ℕ)) (header : List ℕ) (passed : List (List (List ℕ)))
+pub record Began (cell : Cell) (old new : Client) (header : List ℕ) (passed : List (List (List ℕ)))
     : Type 0 where
   pub frames : List (List ℕ)
-  pub request : IsRequest code key session moment header frames
-  pub asks : Said asked asked' Dealer frames
-  pub subscribes : Said subscribed subscribed' Sub subscription
+  pub request : IsRequest cell header frames
+  pub asks : Said old.shell.to new.shell.to Dealer frames
+  pub subscribes : Said old.iopub.to new.iopub.to Sub subscription
   pub earlier : List Notice
-  pub passed_are : AreNotices key passed earlier
+  pub passed_are : AreNotices cell.key.now passed earlier
   pub status : EndsInStatus earlier
 
--- The cell was run: all that the kernel told of it was printed, up to its idle.
-pub record Ran (code key session : List ℕ) (moment : ℕ) (asked asked' : Option (List ℕ))
-    (subscribed subscribed' : Option (List ℕ)) (given given' : Option (List ℕ)) (out out' : Option (List ℕ))
-    (good : Bool) : Type 0 where
+-- the parent of the messages that a cell's request with this header brings about
+abbrev pub parent_of : Cell → List ℕ → Parent
+parent_of cell header = record { key = cell.key.now; header = header }
+
+-- the reader of iopub, and what is printed to
+abbrev pub printing : Client → Ports
+printing client = record { from = client.iopub.from; to = client.output }
+
+-- The cell was run: all that the kernel told of it was printed, up to its first idle.
+pub record Ran (cell : Cell) (old new : Client) : Type 0 where
   pub header : List ℕ
   pub passed : List (List (List ℕ))
-  pub began : Began code key session moment asked asked' subscribed subscribed' header passed
-  pub followed : Followed key header given given' passed out out' good
+  pub began : Began cell old new header passed
+  pub followed : Followed (parent_of cell header) passed (printing old) (printing new)
+
+-- no error was among the request's messages
+abbrev pub went_well : {cell : Cell} {old new : Client} → Ran cell old new → Bool
+went_well ran = not (has_error ran.header ran.followed.notices)

@@ -76,8 +76,7 @@ fn header_of(alloc: Global, frames: &Frames) -> Result<Bytes, AllocError>
 /// The request that runs a cell (Jupyter messaging 5.4, "Execute").
 pub(crate) fn request_of(alloc: Global, cell: &Cell<'_>) -> Result<Request, AllocError>
     requires { cell.now.moment ≤ last_moment }
-    ensures { IfOk result (λ request. IsRequest cell.now.code.now cell.now.key.now cell.now.session.now
-        cell.now.moment request.header request.frames) }
+    ensures { IfOk result (λ request. IsRequest cell.now request.header request.frames) }
 {
     let date = date_text(alloc, cell.moment)?;
     let frames = dated_frames(alloc, cell, date.as_str())?;

@@ -1,9 +1,11 @@
 //! Waiting for the kernel, and following a cell to its end.
-ghost use Rattle.std.specs.Prelude.{◌≡◌, ◌||◌, ℕ, ◌+◌, List, [], ◌∷◌, ◌++◌, Option, false, IfOk, IfErr, OnOk};
-ghost use Rattle.base_streams.specs.Told.{Told, ToldFront};
+ghost use Rattle.std.specs.Prelude.{◌≡◌, ◌||◌, ℕ, ◌+◌, List, [], ◌∷◌, ◌++◌, true, false, not};
+ghost use Rattle.std.specs.Prelude.{IfOk, IfErr, OnOk};
+ghost use Rattle.base_streams.specs.States.{InletState, OutletState, IsReadable, IsWritable};
+ghost use Rattle.base_streams.specs.Told.{Took, TookFront};
 ghost use Rattle.lab_term.specs.Causes.{Stalls};
-ghost use Rattle.lab_term.specs.Courses.{Passes, StopsAt, TakesOne, Takes, Cut};
-ghost use Rattle.lab_term.specs.Events.{notice_of, text_of, is_status};
+ghost use Rattle.lab_term.specs.Courses.{EndsInStatus, HasNo, Passes, StopsAt, StopsIn, TakesOne, Takes, Cut};
+ghost use Rattle.lab_term.specs.Events.{notice_of, text_of, has_error, is_status};
 ghost use Rattle.lab_term.specs.Reading.{Holds, Waited};
 ghost use Rattle.lab_term.specs.Running.{Followed};
 ghost use Rattle.lab_term.specs.Stopping.{FollowedFront};
@@ -51,12 +53,13 @@ fn is_status(event: Event) -> bool
 }
 
 // Looks at the messages up to a status, and reports whether there was one.
-#[tactic(auto, using(crate::proofs::CourseLemmas::passing_first, crate::proofs::CourseLemmas::passing_on, crate::proofs::CourseLemmas::passes_status, crate::proofs::CourseLemmas::passes_all, crate::proofs::CourseLemmas::passing_cut))]
+#[tactic(auto, using(crate::proofs::CourseLemmas::passing_first, crate::proofs::CourseLemmas::passing_cut))]
 fn pass_status(alloc: Global, queue: &mut VecDeque<Frames>, key: &[u8]) -> Result<bool, TermFault>
-    ensures passes { IfOk result (Passes key.now queue.old.items queue.new.items) }
+    ensures passes { IfOk result (λ found. (p : Passes key.now queue.old.items queue.new.items)
+        × (found ≡ true → EndsInStatus p.notices) × (found ≡ false → HasNo is_status p.notices)) }
     ensures rest { IfOk result (λ found. found ≡ false → queue.new.items ≡ []) }
-    ensures cut { IfErr result (λ fault. (out : Option (List ℕ))
-        → Cut key.now [] queue.old.items out out false fault) }
+    ensures stops { IfErr result (λ fault. (to : OutletState) → IsWritable to
+        → StopsIn key.now queue.old.items to fault) }
 {
     while let Some(frames) = queue.pop_front() {
         match open_event(alloc, frames, key) {
@@ -78,19 +81,14 @@ pub(crate) fn await_status<I: Inlet>(
     subscriber: &mut Subscriber,
     key: &[u8],
 ) -> Result<(), TermFault>
-    requires ended { I.ended from.old ≡ false }
-    requires failed { I.failed from.old ≡ false }
-    ensures good { OnOk result ((I.ended from.new ≡ false) × (I.failed from.new ≡ false)) }
-    ensures waited { OnOk result ((before : Option (List ℕ)) → Holds before (I.given from.old) subscriber.old [] 0
-        → Waited key.now before (I.given from.new) subscriber.new) }
-    ensures stalls { IfErr result (λ fault. (before : Option (List ℕ))
-        → Holds before (I.given from.old) subscriber.old [] 0
-        → Stalls key.now (record {
-          before = before;
-          after = I.given from.new;
-          ended = I.ended from.new;
-          failed = I.failed from.new;
-        }) false fault) }
+    requires { IsReadable (I.state from.old) }
+    ensures good { OnOk result (IsReadable (I.state from.new)) }
+    ensures waited { OnOk result ((before : InletState) → Holds before (I.state from.old) subscriber.old [] 0
+        → Waited key.now before (I.state from.new) subscriber.new) }
+    // Whatever is printed to, it isn't the cause.
+    ensures stalls { IfErr result (λ fault. (before : InletState) (to : OutletState)
+        → Holds before (I.state from.old) subscriber.old [] 0 → IsWritable to
+        → Stalls key.now before (I.state from.new) to fault) }
 {
     for _ in 0..u32::MAX {
         match pass_status(alloc, &mut subscriber.queue, key) {
@@ -111,11 +109,12 @@ pub(crate) fn await_status<I: Inlet>(
 
 // Prints what is to be printed of a message.
 fn print<O: Outlet>(alloc: Global, output: &mut O, event: &Event) -> Result<(), TermFault>
-    requires { O.failed output.old ≡ false }
-    ensures wrote { OnOk result (Told (O.taken output.old) (O.taken output.new) (text_of (notice_of event.now))) }
-    ensures good { OnOk result (O.failed output.new ≡ false) }
-    ensures front { ToldFront (O.taken output.old) (O.taken output.new) (text_of (notice_of event.now)) }
-    ensures stops { IfErr result (StopsAt [] [] (O.failed output.new)) }
+    requires { IsWritable (O.state output.old) }
+    ensures wrote { OnOk result
+        (Took (O.state output.old) (O.state output.new) (text_of (notice_of event.now))) }
+    ensures good { OnOk result (IsWritable (O.state output.new)) }
+    ensures front { TookFront (O.state output.old) (O.state output.new) (text_of (notice_of event.now)) }
+    ensures stops { IfErr result (StopsAt [] [] (O.state output.new)) }
 {
     let Ok(text) = event.text(alloc) else {
         return Err(TermFault::OutOfMemory);
@@ -127,7 +126,7 @@ fn print<O: Outlet>(alloc: Global, output: &mut O, event: &Event) -> Result<(), 
 }
 
 // Opens a message, and prints it if it belongs to the request.
-#[tactic(auto, using(crate::proofs::CourseLemmas::one_other, crate::proofs::CourseLemmas::one_own, crate::proofs::CourseLemmas::cut_unopened, crate::proofs::CourseLemmas::cut_printing))]
+#[tactic(auto, using(crate::proofs::CourseLemmas::one_other, crate::proofs::CourseLemmas::one_own, crate::proofs::CourseLemmas::one_idle, crate::proofs::CourseLemmas::cut_unopened, crate::proofs::CourseLemmas::cut_printing))]
 fn take_message<O: Outlet>(
     alloc: Global,
     output: &mut O,
@@ -135,12 +134,12 @@ fn take_message<O: Outlet>(
     key: &[u8],
     header: &[u8],
 ) -> Result<Course, TermFault>
-    requires { O.failed output.old ≡ false }
-    ensures takes { IfOk result (λ course. TakesOne key.now header.now frames (O.taken output.old)
-        (O.taken output.new) course) }
-    ensures good { OnOk result (O.failed output.new ≡ false) }
-    ensures cut { IfErr result (Cut key.now header.now (frames ∷ []) (O.taken output.old) (O.taken output.new)
-        (O.failed output.new)) }
+    requires { IsWritable (O.state output.old) }
+    ensures takes { IfOk result (TakesOne (record { key = key.now; header = header.now }) frames
+        (O.state output.old) (O.state output.new)) }
+    ensures good { OnOk result (IsWritable (O.state output.new)) }
+    ensures cut { IfErr result (Cut (record { key = key.now; header = header.now }) (frames ∷ [])
+        (O.state output.old) (O.state output.new)) }
 {
     let event = match open_event(alloc, frames, key) {
         Ok(event) => event,
@@ -152,9 +151,16 @@ fn take_message<O: Outlet>(
             has_failed: false,
         });
     }
+    // Nothing is printed of a status.
+    if event.is_idle() {
+        return Ok(Course {
+            is_idle: true,
+            has_failed: event.is_error(),
+        });
+    }
     match print(alloc, output, &event) {
         Ok(()) => Ok(Course {
-            is_idle: event.is_idle(),
+            is_idle: false,
             has_failed: event.is_error(),
         }),
         Err(fault) => Err(fault),
@@ -162,7 +168,7 @@ fn take_message<O: Outlet>(
 }
 
 // Takes messages up to the request's idle, and reports whether it came and whether there was an error.
-#[tactic(auto, using(crate::proofs::CourseLemmas::going_first, crate::proofs::CourseLemmas::going_on, crate::proofs::CourseLemmas::takes_idle, crate::proofs::CourseLemmas::takes_all, crate::proofs::CourseLemmas::going_cut))]
+#[tactic(auto, using(crate::proofs::CourseLemmas::busy_first, crate::proofs::CourseLemmas::takes_idle, crate::proofs::CourseLemmas::takes_all, crate::proofs::CourseLemmas::going_cut))]
 fn take_messages<O: Outlet>(
     alloc: Global,
     output: &mut O,
@@ -170,13 +176,13 @@ fn take_messages<O: Outlet>(
     key: &[u8],
     header: &[u8],
 ) -> Result<Course, TermFault>
-    requires { O.failed output.old ≡ false }
+    requires { IsWritable (O.state output.old) }
     ensures rest { IfOk result (λ course. course.is_idle ≡ false → queue.new.items ≡ []) }
-    ensures takes { IfOk result (Takes key.now header.now queue.old.items queue.new.items (O.taken output.old)
-        (O.taken output.new)) }
-    ensures good { OnOk result (O.failed output.new ≡ false) }
-    ensures cut { IfErr result (Cut key.now header.now queue.old.items (O.taken output.old)
-        (O.taken output.new) (O.failed output.new)) }
+    ensures takes { IfOk result (Takes (record { key = key.now; header = header.now })
+        queue.old.items queue.new.items (O.state output.old) (O.state output.new)) }
+    ensures good { OnOk result (IsWritable (O.state output.new)) }
+    ensures cut { IfErr result (Cut (record { key = key.now; header = header.now }) queue.old.items
+        (O.state output.old) (O.state output.new)) }
 {
     let mut course = Course {
         is_idle: false,
@@ -204,25 +210,22 @@ pub(crate) fn follow<I: Inlet, O: Outlet>(
     key: &[u8],
     header: &[u8],
 ) -> Result<bool, TermFault>
-    requires ended { I.ended from.old ≡ false }
-    requires failed { I.failed from.old ≡ false }
-    requires refused { O.failed output.old ≡ false }
-    ensures followed { IfOk result (λ good. (before : Option (List ℕ)) (passed : List (List (List ℕ)))
-        → Holds before (I.given from.old) subscriber.old passed 0
-        → Followed key.now header.now before (I.given from.new) passed (O.taken output.old)
-        (O.taken output.new) good) }
-    ensures front { IfErr result (λ fault. (before : Option (List ℕ)) (passed : List (List (List ℕ)))
-        → Holds before (I.given from.old) subscriber.old passed 0
-        → FollowedFront key.now header.now before (I.given from.new) passed (O.taken output.old)
-        (O.taken output.new) fault) }
-    ensures stalls { IfErr result (λ fault. (before : Option (List ℕ)) (passed : List (List (List ℕ)))
-        → Holds before (I.given from.old) subscriber.old passed 0
-        → Stalls key.now (record {
-          before = before;
-          after = I.given from.new;
-          ended = I.ended from.new;
-          failed = I.failed from.new;
-        }) (O.failed output.new) fault) }
+    requires readable { IsReadable (I.state from.old) }
+    requires writable { IsWritable (O.state output.old) }
+    ensures followed { IfOk result (λ good. (before : InletState) (passed : List (List (List ℕ)))
+        → Holds before (I.state from.old) subscriber.old passed 0
+        → (f : Followed (record { key = key.now; header = header.now }) passed
+        (record { from = before; to = O.state output.old })
+        (record { from = I.state from.new; to = O.state output.new }))
+        × (good ≡ not (has_error header.now f.notices))) }
+    ensures front { IfErr result (λ fault. (before : InletState) (passed : List (List (List ℕ)))
+        → Holds before (I.state from.old) subscriber.old passed 0
+        → FollowedFront (record { key = key.now; header = header.now }) passed
+        (record { from = before; to = O.state output.old })
+        (record { from = I.state from.new; to = O.state output.new }) fault) }
+    ensures stalls { IfErr result (λ fault. (before : InletState) (passed : List (List (List ℕ)))
+        → Holds before (I.state from.old) subscriber.old passed 0
+        → Stalls key.now before (I.state from.new) (O.state output.new) fault) }
 {
     let mut has_failed = false;
     for _ in 0..u32::MAX {

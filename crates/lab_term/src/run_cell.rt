@@ -1,12 +1,14 @@
 //! Running a cell in a kernel.
-ghost use Rattle.std.specs.Prelude.{◌≡◌, ◌≤◌, false, IfOk, IfErr, OnOk};
+ghost use Rattle.std.specs.Prelude.{◌≡◌, ◌≤◌, IfOk, IfErr, OnOk};
 ghost use Rattle.zmtp_wire.specs.Writing.{message_bytes};
-ghost use Rattle.base_streams.specs.Told.{Told, ToldFront};
+ghost use Rattle.base_streams.specs.States.{IsReadable, IsWritable};
+ghost use Rattle.base_streams.specs.Told.{Took, TookFront};
 ghost use Rattle.jup_date.specs.Dates.{last_moment};
 ghost use Rattle.zmtp_peer.specs.Hearing.{Heard};
 ghost use Rattle.zmtp_peer.specs.Sending.{WroteFront, WroteWhole};
 ghost use Rattle.lab_term.specs.Causes.{Ungreeted, Unsent, Causes};
-ghost use Rattle.lab_term.specs.Running.{subscription, Asked, Ran};
+ghost use Rattle.lab_term.specs.Connections.{IsGood, IsGoodClient, client_of, ports_of};
+ghost use Rattle.lab_term.specs.Running.{subscription, went_well, Asked, Ran};
 ghost use Rattle.lab_term.specs.Stopping.{AskedFront, Stopped};
 
 use crate::cell::{Cell, Request, request_of};
@@ -34,23 +36,14 @@ fn greet<I: Inlet + Drop, W: Outlet + Drop>(
     connection: &mut Connection<I, W>,
     role: Role,
 ) -> Result<Peer, TermFault>
-    requires ended { I.ended connection.old.from ≡ false }
-    requires failed { I.failed connection.old.from ≡ false }
-    requires refused { W.failed connection.old.to ≡ false }
+    requires { IsGood (ports_of I.state W.state connection.old) }
     ensures heard { IfOk result (λ peer.
-        Heard (I.given connection.old.from) (I.given connection.new.from) peer.side peer.messages 0) }
-    ensures good { OnOk result ((I.ended connection.new.from ≡ false) × (I.failed connection.new.from ≡ false)
-        × (W.failed connection.new.to ≡ false)) }
-    ensures whole { OnOk result (WroteWhole (W.taken connection.old.to) (W.taken connection.new.to) role) }
-    ensures front { WroteFront (W.taken connection.old.to) (W.taken connection.new.to) role }
+        Heard (I.state connection.old.from) (I.state connection.new.from) peer.side peer.messages 0) }
+    ensures good { OnOk result (IsGood (ports_of I.state W.state connection.new)) }
+    ensures whole { OnOk result (WroteWhole (W.state connection.old.to) (W.state connection.new.to) role) }
+    ensures front { WroteFront (W.state connection.old.to) (W.state connection.new.to) role }
     ensures ungreeted { IfErr result (Ungreeted role
-        (record {
-          before = I.given connection.old.from;
-          after = I.given connection.new.from;
-          ended = I.ended connection.new.from;
-          failed = I.failed connection.new.from;
-        })
-        (W.failed connection.new.to)) }
+        (ports_of I.state W.state connection.old) (ports_of I.state W.state connection.new)) }
 {
     match handshake(alloc, &mut connection.from, &mut connection.to, role) {
         Ok(peer) => Ok(peer),
@@ -70,9 +63,9 @@ fn subscription(alloc: Global) -> Result<Frames, AllocError>
 
 // Writes a message.
 fn send<W: Outlet>(alloc: Global, to: &mut W, frames: &Frames) -> Result<(), TermFault>
-    ensures whole { OnOk result (Told (W.taken to.old) (W.taken to.new) (message_bytes frames.now)) }
-    ensures front { ToldFront (W.taken to.old) (W.taken to.new) (message_bytes frames.now) }
-    ensures unsent { IfErr result (Unsent (W.failed to.new)) }
+    ensures whole { OnOk result (Took (W.state to.old) (W.state to.new) (message_bytes frames.now)) }
+    ensures front { TookFront (W.state to.old) (W.state to.new) (message_bytes frames.now) }
+    ensures unsent { IfErr result (Unsent (W.state to.new)) }
 {
     if frames.len() == 0 {
         return Ok(());
@@ -88,9 +81,9 @@ fn send<W: Outlet>(alloc: Global, to: &mut W, frames: &Frames) -> Result<(), Ter
 
 // Subscribes to everything.
 fn subscribe<W: Outlet>(alloc: Global, to: &mut W) -> Result<(), TermFault>
-    ensures whole { OnOk result (Told (W.taken to.old) (W.taken to.new) (message_bytes subscription)) }
-    ensures front { ToldFront (W.taken to.old) (W.taken to.new) (message_bytes subscription) }
-    ensures unsent { IfErr result (Unsent (W.failed to.new)) }
+    ensures whole { OnOk result (Took (W.state to.old) (W.state to.new) (message_bytes subscription)) }
+    ensures front { TookFront (W.state to.old) (W.state to.new) (message_bytes subscription) }
+    ensures unsent { IfErr result (Unsent (W.state to.new)) }
 {
     let Ok(frames) = subscription(alloc) else {
         return Err(TermFault::OutOfMemory);
@@ -101,11 +94,9 @@ fn subscribe<W: Outlet>(alloc: Global, to: &mut W) -> Result<(), TermFault>
 // Sends the request of a cell, and gives its header.
 fn request<W: Outlet>(alloc: Global, to: &mut W, cell: &Cell<'_>) -> Result<Bytes, TermFault>
     requires { cell.now.moment ≤ last_moment }
-    ensures whole { IfOk result (λ header. Asked cell.now.code.now cell.now.key.now cell.now.session.now
-        cell.now.moment header (W.taken to.old) (W.taken to.new)) }
-    ensures front { IfErr result (AskedFront cell.now.code.now cell.now.key.now cell.now.session.now
-        cell.now.moment (W.taken to.old) (W.taken to.new)) }
-    ensures unsent { IfErr result (Unsent (W.failed to.new)) }
+    ensures whole { IfOk result (λ header. Asked cell.now header (W.state to.old) (W.state to.new)) }
+    ensures front { IfErr result (AskedFront cell.now (W.state to.old) (W.state to.new)) }
+    ensures unsent { IfErr result (Unsent (W.state to.new)) }
 {
     let Ok(Request { header, frames }) = request_of(alloc, cell) else {
         return Err(TermFault::OutOfMemory);
@@ -127,31 +118,16 @@ pub fn run_cell<I: Inlet + Drop, W: Outlet + Drop, O: Outlet>(
     cell: &Cell<'_>,
 ) -> Result<bool, TermFault>
     requires moment { cell.now.moment ≤ last_moment }
-    requires shell { (I.ended shell.old.from ≡ false) × (I.failed shell.old.from ≡ false)
-        × (W.failed shell.old.to ≡ false) }
-    requires iopub { (I.ended iopub.old.from ≡ false) × (I.failed iopub.old.from ≡ false)
-        × (W.failed iopub.old.to ≡ false) }
-    requires output { O.failed output.old ≡ false }
-    ensures ran { IfOk result (Ran cell.now.code.now cell.now.key.now cell.now.session.now cell.now.moment
-        (W.taken shell.old.to) (W.taken shell.new.to) (W.taken iopub.old.to) (W.taken iopub.new.to)
-        (I.given iopub.old.from) (I.given iopub.new.from) (O.taken output.old) (O.taken output.new)) }
-    ensures stopped { IfErr result (Stopped cell.now.code.now cell.now.key.now cell.now.session.now cell.now.moment
-        (W.taken shell.old.to) (W.taken shell.new.to) (W.taken iopub.old.to) (W.taken iopub.new.to)
-        (I.given iopub.old.from) (I.given iopub.new.from) (O.taken output.old) (O.taken output.new)) }
+    requires good { IsGoodClient (client_of I.state W.state O.state shell.old iopub.old output.old) }
+    ensures ran { IfOk result (λ good. (ran : Ran cell.now
+        (client_of I.state W.state O.state shell.old iopub.old output.old)
+        (client_of I.state W.state O.state shell.new iopub.new output.new)) × (good ≡ went_well ran)) }
+    ensures stopped { IfErr result (Stopped cell.now
+        (client_of I.state W.state O.state shell.old iopub.old output.old)
+        (client_of I.state W.state O.state shell.new iopub.new output.new)) }
     ensures cause { IfErr result (Causes cell.now.key.now
-        (record {
-          before = I.given shell.old.from;
-          after = I.given shell.new.from;
-          ended = I.ended shell.new.from;
-          failed = I.failed shell.new.from;
-        })
-        (record {
-          before = I.given iopub.old.from;
-          after = I.given iopub.new.from;
-          ended = I.ended iopub.new.from;
-          failed = I.failed iopub.new.from;
-        })
-        (W.failed shell.new.to) (W.failed iopub.new.to) (O.failed output.new)) }
+        (client_of I.state W.state O.state shell.old iopub.old output.old)
+        (client_of I.state W.state O.state shell.new iopub.new output.new)) }
 {
     match greet(alloc, shell, Role::Dealer) {
         Ok(peer) => drop(peer),

@@ -1,7 +1,7 @@
 //! The messages of iopub, as they come.
-ghost use Rattle.std.specs.Prelude.{◌≡◌, ◌<◌, ◌≤◌, ◌+◌, ℕ, List, [], Option, false, take, length, IfOk};
-ghost use Rattle.std.specs.Prelude.{IfErr, OnOk, OnErr};
-ghost use Rattle.base_streams.specs.Told.{Told};
+ghost use Rattle.std.specs.Prelude.{◌≡◌, ◌<◌, ◌≤◌, ◌+◌, ℕ, List, [], take, length, IfOk, IfErr, OnOk, OnErr};
+ghost use Rattle.base_streams.specs.States.{InletState, IsReadable};
+ghost use Rattle.base_streams.specs.Told.{Gave};
 ghost use Rattle.lab_term.specs.declared.subscriber.Subscriber.{Subscriber};
 ghost use Rattle.zmtp_peer.specs.Hearing.{Heard};
 ghost use Rattle.lab_term.specs.Causes.{IsBroken};
@@ -32,8 +32,8 @@ pub(crate) struct Subscriber {
 
 /// Begins with the messages that came with READY.
 pub(crate) fn subscriber_of(alloc: Global, peer: Peer) -> Result<Subscriber, TermFault>
-    ensures holds { IfOk result (λ subscriber. (before given : Option (List ℕ)) (least : ℕ)
-        → Heard before given peer.side peer.messages least → Holds before given subscriber [] least) }
+    ensures holds { IfOk result (λ subscriber. (before from : InletState) (least : ℕ)
+        → Heard before from peer.side peer.messages least → Holds before from subscriber [] least) }
     ensures err { IfErr result (λ fault. fault ≡ TermFault.OutOfMemory) }
 {
     let Peer { mut side, messages } = peer;
@@ -60,14 +60,12 @@ pub(crate) fn subscriber_of(alloc: Global, peer: Peer) -> Result<Subscriber, Ter
 
 // Reads a piece, which isn't empty, to the front of the buffer, and reports its length.
 fn read_piece<I: Inlet>(from: &mut I, buffer: &mut [u8; PIECE_SIZE]) -> Result<usize, TermFault>
-    requires ended { I.ended from.old ≡ false }
-    requires failed { I.failed from.old ≡ false }
+    requires { IsReadable (I.state from.old) }
     ensures count { IfOk result (λ n. (0 < n) × (n ≤ length buffer.new)) }
-    ensures given { IfOk result (λ n. Told (I.given from.old) (I.given from.new) (take n buffer.new)) }
-    ensures good { OnOk result ((I.ended from.new ≡ false) × (I.failed from.new ≡ false)) }
-    ensures starves { IfErr result (λ fault. (s : Subscriber)
-        → Starves fault (I.ended from.new) (I.failed from.new) s) }
-    ensures unread { OnErr result (Told (I.given from.old) (I.given from.new) []) }
+    ensures given { IfOk result (λ n. Gave (I.state from.old) (I.state from.new) (take n buffer.new)) }
+    ensures good { OnOk result (IsReadable (I.state from.new)) }
+    ensures starves { IfErr result (λ fault. (s : Subscriber) → Starves fault (I.state from.new) s) }
+    ensures unread { OnErr result (Gave (I.state from.old) (I.state from.new) []) }
     ensures unbroken { IfErr result (λ fault. IsBroken fault → ⊥) }
 {
     match from.read(buffer) {
@@ -83,17 +81,16 @@ pub(crate) fn refill<I: Inlet>(
     from: &mut I,
     subscriber: &mut Subscriber,
 ) -> Result<(), TermFault>
-    requires ended { I.ended from.old ≡ false }
-    requires failed { I.failed from.old ≡ false }
+    requires readable { IsReadable (I.state from.old) }
     requires empty { subscriber.old.queue.items ≡ [] }
-    ensures good { OnOk result ((I.ended from.new ≡ false) × (I.failed from.new ≡ false)) }
-    ensures holds { OnOk result ((before : Option (List ℕ)) (passed : List (List (List ℕ))) (least : ℕ)
-        → Holds before (I.given from.old) subscriber.old passed least
-        → Holds before (I.given from.new) subscriber.new passed (least + 1)) }
-    ensures starves { IfErr result (λ fault. Starves fault (I.ended from.new) (I.failed from.new) subscriber.new) }
+    ensures good { OnOk result (IsReadable (I.state from.new)) }
+    ensures holds { OnOk result ((before : InletState) (passed : List (List (List ℕ))) (least : ℕ)
+        → Holds before (I.state from.old) subscriber.old passed least
+        → Holds before (I.state from.new) subscriber.new passed (least + 1)) }
+    ensures starves { IfErr result (λ fault. Starves fault (I.state from.new) subscriber.new) }
     ensures stays { IfErr result (λ fault. IsBroken fault
-        → (subscriber.new ≡ subscriber.old) × (I.given from.new ≡ I.given from.old)) }
-    ensures unheard { IfErr result (Unheard (I.given from.old) (I.given from.new)) }
+        → (subscriber.new ≡ subscriber.old) × (I.state from.new ≡ I.state from.old)) }
+    ensures unheard { IfErr result (Unheard (I.state from.old) (I.state from.new)) }
 {
     if let Some(cause) = subscriber.broken {
         return Err(TermFault::Wire(WireCause::Stream(cause)));

@@ -1,5 +1,5 @@
 -- What was echoed, message by message and piece by piece.
-use Rattle.std.proofs.Common.{◌≡◌, ℕ, ◌+◌, ◌≤◌, ◌<◌, inl, inr, Bool, false, List, [], ◌∷◌, ◌++◌, length, take}
+use Rattle.std.proofs.Common.{◌≡◌, ℕ, ◌+◌, ◌≤◌, ◌<◌, inl, inr, List, [], ◌∷◌, ◌++◌, length, take}
 use Rattle.std.proofs.Common.{drop, get_or, Option, Some, refl, sym, ap, ◌∙◌, subst, arith, append-nil}
 use Rattle.std.proofs.Common.{append_assoc, length-append}
 use Rattle.std.proofs.lemmas.List.{take_more, take-append-drop}
@@ -8,15 +8,16 @@ use Rattle.zmtp_wire.specs.declared.fault.StreamFault.{StreamFault}
 use Rattle.zmtp_wire.specs.declared.role.Role.TheVariants.{Rep}
 use Rattle.zmtp_wire.specs.Stream.{SideState, StandsFor, Completes}
 use Rattle.zmtp_wire.specs.Writing.{message_bytes}
-use Rattle.base_streams.specs.Told.{Told, ToldFront}
+use Rattle.base_streams.specs.States.{InletState, OutletState, IsReadable}
+use Rattle.base_streams.specs.Told.{Told, ToldFront, Gave, Took, TookFront}
 use Rattle.base_streams.proofs.TellLemmas.{told_on}
 use Rattle.zmtp_peer.specs.declared.fault.PeerFault.{PeerFault}
 use Rattle.zmtp_peer.specs.declared.fault.PeerFault.TheVariants.{OutOfMemory, ReadFailed, WriteFailed, Wire}
 use Rattle.zmtp_peer.specs.Ends.{Ends, EndsReading, Explains, NoPeer, Stops, Refuses, Blames}
 use Rattle.zmtp_peer.specs.Hearing.{Heard}
 use Rattle.zmtp_peer.specs.Sending.{IsHandshakeOf, WroteFront, WroteWhole, messages_bytes, Echoes}
-use Rattle.zmtp_peer.specs.Beating.{EchoedPiece, EchoedRound, LostPiece, LostRound}
-use Rattle.zmtp_peer.proofs.HearingLemmas.{explains_stop, most_is, told_none, told_whole}
+use Rattle.zmtp_peer.specs.Beating.{Conversation, EchoedPiece, EchoedRound, LostPiece, LostRound}
+use Rattle.zmtp_peer.proofs.HearingLemmas.{explains_stop, gave_whole, most_is, told_none}
 use Rattle.zmtp_peer.proofs.SendingLemmas.{front_all, front_before, front_on}
 
 pub bytes_on : (m n : List (List (List ℕ))) → messages_bytes (m ++ n) ≡ messages_bytes m ++ messages_bytes n
@@ -65,27 +66,30 @@ completes_none s = record {
 }
 
 -- the faults of a writer, or of memory
-explains_refused : (fault : PeerFault) (refused failed : Bool) (s : SideState) (heard : List ℕ)
-    → Refuses fault refused → Explains fault failed s heard []
-explains_refused OutOfMemory refused failed s heard h = tt
-explains_refused WriteFailed refused failed s heard h = refl
-explains_refused _ refused failed s heard h = absurd h
+explains_refused : (fault : PeerFault) (to : OutletState) (from : InletState) (s : SideState) (heard : List ℕ)
+    → Refuses fault to → Explains fault from s heard []
+explains_refused OutOfMemory to from s heard h = tt
+explains_refused WriteFailed to from s heard h = refl
+explains_refused _ to from s heard h = absurd h
 
-refused_reading : (fault : PeerFault) (refused : Bool) → Refuses fault refused → EndsReading fault → ⊥
-refused_reading OutOfMemory refused h r = r
-refused_reading WriteFailed refused h r = r
-refused_reading _ refused h r = h
+refused_reading : (fault : PeerFault) (to : OutletState) → Refuses fault to → EndsReading fault → ⊥
+refused_reading OutOfMemory to h r = r
+refused_reading WriteFailed to h r = r
+refused_reading _ to h r = h
 
-pub blames_refused : (fault : PeerFault) (ended failed refused : Bool) → Refuses fault refused → ended ≡ false
-    → failed ≡ false → Blames fault ended failed refused
-blames_refused OutOfMemory ended failed refused h e f = (e, f, h)
-blames_refused WriteFailed ended failed refused h e f = (e, f, h)
-blames_refused _ ended failed refused h e f = absurd h
+pub blames_refused : (fault : PeerFault) (from : InletState) (to : OutletState) → Refuses fault to
+    → IsReadable from → Blames fault from to
+blames_refused OutOfMemory from to h r = (r, h)
+blames_refused WriteFailed from to h r = (r, h)
+blames_refused _ from to h r = absurd h
+
+abbrev pub conversation : InletState → SideState → OutletState → Conversation
+conversation from s to = record { inlet = from; side = s; outlet = to }
 
 -- memory was wanting before the side took the piece
-pub piece_memory : (piece : List ℕ) (s t : SideState) (taken : Option (List ℕ)) (failed : Bool) → t ≡ s
-    → LostPiece piece s t taken taken failed OutOfMemory
-piece_memory piece s t taken failed e =
+pub piece_memory : (piece : List ℕ) (from : InletState) (s t : SideState) (to : OutletState) → t ≡ s
+    → LostPiece piece (conversation from s to) (conversation from t to) OutOfMemory
+piece_memory piece from s t to e =
     let P : SideState → Type 0 = λ (x : SideState). Completes s [] [] x in
     record {
       heard = [];
@@ -94,81 +98,76 @@ piece_memory piece s t taken failed e =
       messages = [];
       completes = subst P (sym e) (completes_none s);
       explains = tt;
-      front = front_all taken taken [] (told_none taken);
+      front = front_all to.taken to.taken [] (told_none to.taken);
       whole = λ r. absurd r;
     }
 
 -- the writer failed, or memory was wanting, while the messages were written
-pub piece_refused : (piece : List ℕ) (s t : SideState) (taken taken' : Option (List ℕ))
-    (messages : List (List (List ℕ))) (failed refused : Bool) (fault : PeerFault)
-    → Completes s piece messages t → Refuses fault refused → ToldFront taken taken' (messages_bytes messages)
-    → LostPiece piece s t taken taken' failed fault
-piece_refused piece s t taken taken' messages failed refused fault r h f = record {
+pub piece_refused : (piece : List ℕ) (from : InletState) (s t : SideState) (to to' : OutletState)
+    (messages : List (List (List ℕ))) (fault : PeerFault) → Completes s piece messages t → Refuses fault to'
+    → TookFront to to' (messages_bytes messages)
+    → LostPiece piece (conversation from s to) (conversation from t to') fault
+piece_refused piece from s t to to' messages fault r h f = record {
   heard = piece;
   unheard = [];
   piece_is = sym (append-nil piece);
   messages = messages;
   completes = r;
-  explains = explains_refused fault refused failed t piece h;
+  explains = explains_refused fault to' from t piece h;
   front = f;
-  whole = λ e. absurd (refused_reading fault refused h e);
+  whole = λ e. absurd (refused_reading fault to' h e);
 }
 
 -- the stream is broken after the messages
-pub piece_wire : (piece : List ℕ) (s t : SideState) (taken taken' : Option (List ℕ))
-    (messages : List (List (List ℕ))) (failed : Bool) (cause : StreamFault) → Completes s piece messages t
-    → t.fault ≡ Some cause → Told taken taken' (messages_bytes messages)
-    → LostPiece piece s t taken taken' failed (Wire cause)
-piece_wire piece s t taken taken' messages failed cause r e o = record {
+pub piece_wire : (piece : List ℕ) (from : InletState) (s t : SideState) (to to' : OutletState)
+    (messages : List (List (List ℕ))) (cause : StreamFault) → Completes s piece messages t
+    → t.fault ≡ Some cause → Took to to' (messages_bytes messages)
+    → LostPiece piece (conversation from s to) (conversation from t to') (Wire cause)
+piece_wire piece from s t to to' messages cause r e o = record {
   heard = piece;
   unheard = [];
   piece_is = sym (append-nil piece);
   messages = messages;
   completes = r;
   explains = (refl, e);
-  front = front_all taken taken' (messages_bytes messages) o;
+  front = front_all to.taken to'.taken (messages_bytes messages) o;
   whole = λ _. o;
 }
 
 -- the reader ended or failed
-pub round_stop : (given given' : Option (List ℕ)) (s : SideState) (taken : Option (List ℕ))
-    (fault : PeerFault) (ended failed : Bool) → Told given given' [] → Stops fault ended failed
-    → LostRound given given' s s taken taken failed fault
-round_stop given given' s taken fault ended failed o h = record {
+pub round_stop : (from from' : InletState) (s : SideState) (to : OutletState) (fault : PeerFault)
+    → Gave from from' [] → Stops fault from'
+    → LostRound (conversation from s to) (conversation from' s to) fault
+round_stop from from' s to fault o h = record {
   piece = [];
-  told = o;
+  gave = o;
   lost = record {
     heard = [];
     unheard = [];
     piece_is = refl;
     messages = [];
     completes = completes_none s;
-    explains = explains_stop fault ended failed s [] h;
-    front = front_all taken taken [] (told_none taken);
-    whole = λ _. told_none taken;
+    explains = explains_stop fault from' s [] h;
+    front = front_all to.taken to.taken [] (told_none to.taken);
+    whole = λ _. told_none to.taken;
   };
 }
 
-explains_any : (fault : PeerFault) (failed : Bool) (s : SideState) (heard unheard : List ℕ)
-    → Explains fault false s heard unheard → Explains fault failed s heard unheard
-explains_any OutOfMemory failed s heard unheard h = tt
-explains_any ReadFailed failed s heard unheard (e, inl f) = absurd cc
-explains_any ReadFailed failed s heard unheard (e, inr f) = (e, inr f)
-explains_any _ failed s heard unheard h = h
-
-pub round_lost : (given given' : Option (List ℕ)) (piece : List ℕ) (s t : SideState)
-    (taken taken' : Option (List ℕ)) (failed : Bool) (fault : PeerFault) → Told given given' piece
-    → LostPiece piece s t taken taken' false fault → LostRound given given' s t taken taken' failed fault
-round_lost given given' piece s t taken taken' failed fault o l = record {
+-- what the reader gave wasn't echoed whole
+pub round_lost : (from from' : InletState) (piece : List ℕ) (s t : SideState) (to to' : OutletState)
+    (fault : PeerFault) → Gave from from' piece
+    → ((x : InletState) → LostPiece piece (conversation x s to) (conversation x t to') fault)
+    → LostRound (conversation from s to) (conversation from' t to') fault
+round_lost from from' piece s t to to' fault o lost = let l = lost from' in record {
   piece = piece;
-  told = o;
+  gave = o;
   lost = record {
     heard = l.heard;
     unheard = l.unheard;
     piece_is = l.piece_is;
     messages = l.messages;
     completes = l.completes;
-    explains = explains_any fault failed t l.heard l.unheard l.explains;
+    explains = l.explains;
     front = l.front;
     whole = l.whole;
   };
@@ -176,163 +175,163 @@ round_lost given given' piece s t taken taken' failed fault o l = record {
 
 -- how far a heartbeat has come: all that was read was heard, and its messages were written after the
 -- handshake
-pub record Beats (given given' taken taken' : Option (List ℕ)) (side : SideState) (least : ℕ) : Type 0 where
+pub record Beats (from from' : InletState) (to to' : OutletState) (side : SideState) (least : ℕ)
+    : Type 0 where
   pub messages : List (List (List ℕ))
-  pub heard : Heard given given' side messages least
+  pub heard : Heard from from' side messages least
   pub role : side.role ≡ Rep
   pub handshake : List ℕ
   pub is : IsHandshakeOf handshake Rep
-  pub told : Told taken taken' (handshake ++ messages_bytes messages)
+  pub took : Took to to' (handshake ++ messages_bytes messages)
 
-abbrev pub Ended : Option (List ℕ) → Option (List ℕ) → Option (List ℕ) → Option (List ℕ) → Bool → PeerFault
-    → Type 0
-Ended given given' taken taken' failed fault =
+abbrev pub Ended : InletState → InletState → OutletState → OutletState → PeerFault → Type 0
+Ended from from' to to' fault =
     (side : SideState) × (messages : List (List (List ℕ)))
-    × Ends Rep given given' failed fault side messages × Echoes taken taken' side messages fault
+    × Ends Rep from from' fault side messages × Echoes to to' side messages fault
 
 -- the handshake gave no peer
-pub ended_early : (given given' taken taken' : Option (List ℕ)) (failed : Bool) (fault : PeerFault)
-    → NoPeer Rep given given' failed fault → WroteFront taken taken' Rep
-    → Ended given given' taken taken' failed fault
-ended_early given given' taken taken' failed fault n w = (
+pub ended_early : (from from' : InletState) (to to' : OutletState) (fault : PeerFault)
+    → NoPeer Rep from from' fault → WroteFront to to' Rep → Ended from from' to to' fault
+ended_early from from' to to' fault n w = (
   n.side,
   n.messages,
   n.ends,
   record {
     handshake = w.handshake;
     is = w.is;
-    front = front_before taken taken' w.handshake (messages_bytes n.messages) w.told;
+    front = front_before to.taken to'.taken w.handshake (messages_bytes n.messages) w.front;
     whole = λ r t. absurd (n.unready r t);
   },
 )
 
 -- the messages that came with READY were written
-pub beats_first : (given given' taken t1 t2 : Option (List ℕ)) (s : SideState) (m : List (List (List ℕ)))
-    → s.role ≡ Rep → Heard given given' s m 0 → WroteWhole taken t1 Rep → Told t1 t2 (messages_bytes m)
-    → Beats given given' taken t2 s 0
-beats_first given given' taken t1 t2 s m e h w o = record {
+pub beats_first : (from from' : InletState) (to t1 t2 : OutletState) (s : SideState)
+    (m : List (List (List ℕ))) → s.role ≡ Rep → Heard from from' s m 0 → WroteWhole to t1 Rep
+    → Took t1 t2 (messages_bytes m) → Beats from from' to t2 s 0
+beats_first from from' to t1 t2 s m e h w o = record {
   messages = m;
   heard = h;
   role = e;
   handshake = w.handshake;
   is = w.is;
-  told = told_on taken t1 t2 w.handshake (messages_bytes m) w.told o;
+  took = told_on to.taken t1.taken t2.taken w.handshake (messages_bytes m) w.took o;
 }
 
-pub ended_first : (given given' taken t1 t2 : Option (List ℕ)) (s : SideState) (m : List (List (List ℕ)))
-    (failed refused : Bool) (fault : PeerFault) → s.role ≡ Rep → Heard given given' s m 0
-    → WroteWhole taken t1 Rep → Refuses fault refused → ToldFront t1 t2 (messages_bytes m)
-    → Ended given given' taken t2 failed fault
-ended_first given given' taken t1 t2 s m failed refused fault e h w r f = (
+pub ended_first : (from from' : InletState) (to t1 t2 : OutletState) (s : SideState)
+    (m : List (List (List ℕ))) (fault : PeerFault) → s.role ≡ Rep → Heard from from' s m 0
+    → WroteWhole to t1 Rep → Refuses fault t2 → TookFront t1 t2 (messages_bytes m)
+    → Ended from from' to t2 fault
+ended_first from from' to t1 t2 s m fault e h w r f = (
   s,
   m,
   record {
     heard = h.stream;
     unheard = [];
-    told = told_whole given given' h.stream h.told;
+    gave = gave_whole from from' h.stream h.gave;
     role_is = e;
     stands = h.stands;
-    explains = explains_refused fault refused failed s h.stream r;
+    explains = explains_refused fault t2 from' s h.stream r;
   },
   record {
     handshake = w.handshake;
     is = w.is;
-    front = front_on taken t1 t2 w.handshake (messages_bytes m) w.told f;
-    whole = λ q. absurd (refused_reading fault refused r q);
+    front = front_on to.taken t1.taken t2.taken w.handshake (messages_bytes m) w.took f;
+    whole = λ q. absurd (refused_reading fault t2 r q);
   },
 )
 
-wrote_on : (taken t1 t2 : Option (List ℕ)) (h : List ℕ) (m n : List (List (List ℕ)))
-    → Told taken t1 (h ++ messages_bytes m) → Told t1 t2 (messages_bytes n)
-    → Told taken t2 (h ++ messages_bytes (m ++ n))
-wrote_on taken t1 t2 h m n o p =
-    let P : List ℕ → Type 0 = λ l. Told taken t2 l in
+wrote_on : (to t1 t2 : OutletState) (h : List ℕ) (m n : List (List (List ℕ)))
+    → Took to t1 (h ++ messages_bytes m) → Took t1 t2 (messages_bytes n)
+    → Took to t2 (h ++ messages_bytes (m ++ n))
+wrote_on to t1 t2 h m n o p =
+    let P : List ℕ → Type 0 = λ l. Took to t2 l in
     subst P (append_assoc h (messages_bytes m) (messages_bytes n)
     ∙ ap (λ (l : List ℕ). h ++ l) (sym (bytes_on m n)))
-    (told_on taken t1 t2 (h ++ messages_bytes m) (messages_bytes n) o p)
+    (told_on to.taken t1.taken t2.taken (h ++ messages_bytes m) (messages_bytes n) o p)
 
-wrote_front : (taken t1 t2 : Option (List ℕ)) (h : List ℕ) (m n : List (List (List ℕ)))
-    → Told taken t1 (h ++ messages_bytes m) → ToldFront t1 t2 (messages_bytes n)
-    → ToldFront taken t2 (h ++ messages_bytes (m ++ n))
-wrote_front taken t1 t2 h m n o p =
-    let P : List ℕ → Type 0 = λ l. ToldFront taken t2 l in
+wrote_front : (to t1 t2 : OutletState) (h : List ℕ) (m n : List (List (List ℕ)))
+    → Took to t1 (h ++ messages_bytes m) → TookFront t1 t2 (messages_bytes n)
+    → TookFront to t2 (h ++ messages_bytes (m ++ n))
+wrote_front to t1 t2 h m n o p =
+    let P : List ℕ → Type 0 = λ l. TookFront to t2 l in
     subst P (append_assoc h (messages_bytes m) (messages_bytes n)
     ∙ ap (λ (l : List ℕ). h ++ l) (sym (bytes_on m n)))
-    (front_on taken t1 t2 (h ++ messages_bytes m) (messages_bytes n) o p)
+    (front_on to.taken t1.taken t2.taken (h ++ messages_bytes m) (messages_bytes n) o p)
 
 -- one piece more
-pub beats_piece : (given g1 g2 taken t1 t2 : Option (List ℕ)) (piece : List ℕ) (s t : SideState) (n c : ℕ)
-    → c ≤ length piece → Told g1 g2 piece → EchoedPiece piece s t t1 t2 → Beats given g1 taken t1 s n
-    → Beats given g2 taken t2 t (n + c)
-beats_piece given g1 g2 taken t1 t2 piece s t n c fits o p b =
+pub beats_piece : (from g1 g2 : InletState) (to t1 t2 : OutletState) (piece : List ℕ) (s t : SideState)
+    (n c : ℕ) → c ≤ length piece → Gave g1 g2 piece → EchoedPiece piece s t t1 t2 → Beats from g1 to t1 s n
+    → Beats from g2 to t2 t (n + c)
+beats_piece from g1 g2 to t1 t2 piece s t n c fits o p b =
     let size = length-append b.heard.stream piece in
     let least = b.heard.long in
     record {
       messages = b.messages ++ p.messages;
       heard = record {
         stream = b.heard.stream ++ piece;
-        told = told_on given g1 g2 b.heard.stream piece b.heard.told o;
+        gave = told_on from.given g1.given g2.given b.heard.stream piece b.heard.gave o;
         stands = p.completes.stands b.heard.stream b.messages b.heard.stands;
         long = omega arith;
       };
       role = p.completes.role ∙ b.role;
       handshake = b.handshake;
       is = b.is;
-      told = wrote_on taken t1 t2 b.handshake b.messages p.messages b.told p.told;
+      took = wrote_on to t1 t2 b.handshake b.messages p.messages b.took p.took;
     }
 
-pub beats_round : (given g1 g2 taken t1 t2 : Option (List ℕ)) (s t : SideState) (n : ℕ)
-    → EchoedRound g1 g2 s t t1 t2 → Beats given g1 taken t1 s n → Beats given g2 taken t2 t (n + 1)
-beats_round given g1 g2 taken t1 t2 s t n r b =
+pub beats_round : (from g1 g2 : InletState) (to t1 t2 : OutletState) (s t : SideState) (n : ℕ)
+    → EchoedRound (conversation g1 s t1) (conversation g2 t t2) → Beats from g1 to t1 s n
+    → Beats from g2 to t2 t (n + 1)
+beats_round from g1 g2 to t1 t2 s t n r b =
     let some = r.some in
-    beats_piece given g1 g2 taken t1 t2 r.piece s t n 1 (omega arith) r.told r.echoed b
+    beats_piece from g1 g2 to t1 t2 r.piece s t n 1 (omega arith) r.gave r.echoed b
 
-explains_on : (fault : PeerFault) (failed : Bool) (s : SideState) (before heard unheard : List ℕ)
-    → Explains fault failed s heard unheard → Explains fault failed s (before ++ heard) unheard
-explains_on OutOfMemory failed s before heard unheard h = tt
-explains_on ReadFailed failed s before heard unheard (e, inl f) = (e, inl f)
-explains_on ReadFailed failed s before heard unheard (e, inr f) =
+explains_on : (fault : PeerFault) (from : InletState) (s : SideState) (before heard unheard : List ℕ)
+    → Explains fault from s heard unheard → Explains fault from s (before ++ heard) unheard
+explains_on OutOfMemory from s before heard unheard h = tt
+explains_on ReadFailed from s before heard unheard (e, inl f) = (e, inl f)
+explains_on ReadFailed from s before heard unheard (e, inr f) =
     let size = length-append before heard in (e, inr (omega arith))
-explains_on _ failed s before heard unheard h = h
+explains_on _ from s before heard unheard h = h
 
 -- a round ended it
-pub ended_round : (given g1 g2 taken t1 t2 : Option (List ℕ)) (s t : SideState) (n : ℕ) (failed : Bool)
-    (fault : PeerFault) → LostRound g1 g2 s t t1 t2 failed fault → Beats given g1 taken t1 s n
-    → Ended given g2 taken t2 failed fault
-ended_round given g1 g2 taken t1 t2 s t n failed fault r b =
+pub ended_round : (from g1 g2 : InletState) (to t1 t2 : OutletState) (s t : SideState) (n : ℕ)
+    (fault : PeerFault) → LostRound (conversation g1 s t1) (conversation g2 t t2) fault
+    → Beats from g1 to t1 s n → Ended from g2 to t2 fault
+ended_round from g1 g2 to t1 t2 s t n fault r b =
     let l = r.lost in
-    let P : List ℕ → Type 0 = λ x. Told given g2 x in (
+    let P : List ℕ → Type 0 = λ x. Gave from g2 x in (
       t,
       b.messages ++ l.messages,
       record {
         heard = b.heard.stream ++ l.heard;
         unheard = l.unheard;
-        told =
+        gave =
             subst P (ap (λ (x : List ℕ). b.heard.stream ++ x) l.piece_is
             ∙ sym (append_assoc b.heard.stream l.heard l.unheard))
-            (told_on given g1 g2 b.heard.stream r.piece b.heard.told r.told);
+            (told_on from.given g1.given g2.given b.heard.stream r.piece b.heard.gave r.gave);
         role_is = l.completes.role ∙ b.role;
         stands = l.completes.stands b.heard.stream b.messages b.heard.stands;
-        explains = explains_on fault failed t b.heard.stream l.heard l.unheard l.explains;
+        explains = explains_on fault g2 t b.heard.stream l.heard l.unheard l.explains;
       },
       record {
         handshake = b.handshake;
         is = b.is;
-        front = wrote_front taken t1 t2 b.handshake b.messages l.messages b.told l.front;
-        whole = λ e _. wrote_on taken t1 t2 b.handshake b.messages l.messages b.told (l.whole e);
+        front = wrote_front to t1 t2 b.handshake b.messages l.messages b.took l.front;
+        whole = λ e _. wrote_on to t1 t2 b.handshake b.messages l.messages b.took (l.whole e);
       },
     )
 
 -- as many pieces came as a conversation may have
-pub ended_most : (given g1 taken t1 : Option (List ℕ)) (s : SideState) (n : ℕ) (failed : Bool)
-    → 4294967295 ≤ n → Beats given g1 taken t1 s n → Ended given g1 taken t1 failed ReadFailed
-ended_most given g1 taken t1 s n failed most b = let long = b.heard.long in (
+pub ended_most : (from g1 : InletState) (to t1 : OutletState) (s : SideState) (n : ℕ) → 4294967295 ≤ n
+    → Beats from g1 to t1 s n → Ended from g1 to t1 ReadFailed
+ended_most from g1 to t1 s n most b = let long = b.heard.long in (
   s,
   b.messages,
   record {
     heard = b.heard.stream;
     unheard = [];
-    told = told_whole given g1 b.heard.stream b.heard.told;
+    gave = gave_whole from g1 b.heard.stream b.heard.gave;
     role_is = b.role;
     stands = b.heard.stands;
     explains = (refl, inr (rw most_is (omega arith)));
@@ -340,7 +339,7 @@ ended_most given g1 taken t1 s n failed most b = let long = b.heard.long in (
   record {
     handshake = b.handshake;
     is = b.is;
-    front = front_all taken t1 (b.handshake ++ messages_bytes b.messages) b.told;
-    whole = λ _ _. b.told;
+    front = front_all to.taken t1.taken (b.handshake ++ messages_bytes b.messages) b.took;
+    whole = λ _ _. b.took;
   },
 )

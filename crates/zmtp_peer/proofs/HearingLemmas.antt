@@ -7,7 +7,8 @@ use Rattle.zmtp_wire.specs.declared.fault.StreamFault.{StreamFault}
 use Rattle.zmtp_wire.specs.declared.role.Role.{Role}
 use Rattle.zmtp_wire.specs.declared.head.Stage.TheVariants.{Traffic}
 use Rattle.zmtp_wire.specs.Stream.{SideState, StandsFor, Completes}
-use Rattle.base_streams.specs.Told.{Told}
+use Rattle.base_streams.specs.States.{InletState, OutletState, IsWritable}
+use Rattle.base_streams.specs.Told.{Told, Gave}
 use Rattle.base_streams.proofs.TellLemmas.{told_on}
 use Rattle.zmtp_peer.specs.declared.fault.PeerFault.{PeerFault}
 use Rattle.zmtp_peer.specs.declared.fault.PeerFault.TheVariants.{OutOfMemory, PeerEnded, ReadFailed}
@@ -22,15 +23,15 @@ told_none None = tt
 told_none (Some v) = ap Some (sym (append-nil v))
 
 -- nothing has been heard yet
-pub heard_first : (given : Option (List ℕ)) (s : SideState) (m : List (List (List ℕ))) → StandsFor s [] []
-    → m ≡ [] → Heard given given s m 0
-heard_first given s m k e =
+pub heard_first : (inlet : InletState) (s : SideState) (m : List (List (List ℕ))) → StandsFor s [] []
+    → m ≡ [] → Heard inlet inlet s m 0
+heard_first inlet s m k e =
     let P : List (List (List ℕ)) → Type 0 = λ l. StandsFor s [] l in
-    record { stream = []; told = told_none given; stands = subst P (sym e) k; long = omega arith }
+    record { stream = []; gave = told_none inlet.given; stands = subst P (sym e) k; long = omega arith }
 
 -- one piece more, before READY
-pub heard_on : (g h k : Option (List ℕ)) (s t : SideState) (x : List ℕ) (m out : List (List (List ℕ)))
-    (n c : ℕ) → (s.stage ≡ Traffic → ⊥) → Completes s x out t → Told h k x → c ≤ length x → Heard g h s m n
+pub heard_on : (g h k : InletState) (s t : SideState) (x : List ℕ) (m out : List (List (List ℕ)))
+    (n c : ℕ) → (s.stage ≡ Traffic → ⊥) → Completes s x out t → Gave h k x → c ≤ length x → Heard g h s m n
     → Heard g k t out (n + c)
 heard_on g h k s t x m out n c unready r o fits p =
     let P : List (List (List ℕ)) → Type 0 = λ l. StandsFor t (p.stream ++ x) (l ++ out) in
@@ -38,66 +39,65 @@ heard_on g h k s t x m out n c unready r o fits p =
     let least = p.long in
     record {
       stream = p.stream ++ x;
-      told = told_on g h k p.stream x p.told o;
+      gave = told_on g.given h.given k.given p.stream x p.gave o;
       stands = subst P (side_quiet s p.stream m unready p.stands) (r.stands p.stream m p.stands);
       long = omega arith;
     }
 
 -- fewer bytes at least
-pub heard_less : (g h : Option (List ℕ)) (s : SideState) (m : List (List (List ℕ))) (n c : ℕ) → c ≤ n
+pub heard_less : (g h : InletState) (s : SideState) (m : List (List (List ℕ))) (n c : ℕ) → c ≤ n
     → Heard g h s m n → Heard g h s m c
 heard_less g h s m n c fits p =
-    let least = p.long in record { stream = p.stream; told = p.told; stands = p.stands; long = omega arith }
+    let least = p.long in record { stream = p.stream; gave = p.gave; stands = p.stands; long = omega arith }
 
-pub told_whole : (g h : Option (List ℕ)) (x : List ℕ) → Told g h x → Told g h (x ++ [])
-told_whole g h x o = let P : List ℕ → Type 0 = λ l. Told g h l in subst P (sym (append-nil x)) o
+pub gave_whole : (g h : InletState) (x : List ℕ) → Gave g h x → Gave g h (x ++ [])
+gave_whole g h x o = let P : List ℕ → Type 0 = λ l. Gave g h l in subst P (sym (append-nil x)) o
 
 -- the reader ended or failed
-pub explains_stop : (fault : PeerFault) (ended failed : Bool) (s : SideState) (heard : List ℕ)
-    → Stops fault ended failed → Explains fault failed s heard []
-explains_stop PeerEnded ended failed s heard h = refl
-explains_stop ReadFailed ended failed s heard h = (refl, inl h.1)
-explains_stop _ ended failed s heard h = absurd h
+pub explains_stop : (fault : PeerFault) (k : InletState) (s : SideState) (heard : List ℕ) → Stops fault k
+    → Explains fault k s heard []
+explains_stop PeerEnded k s heard h = refl
+explains_stop ReadFailed k s heard h = (refl, inl h.1)
+explains_stop _ k s heard h = absurd h
 
-pub ends_stop : (g h k : Option (List ℕ)) (s : SideState) (m : List (List (List ℕ))) (n : ℕ)
-    (fault : PeerFault) (ended failed : Bool) → Stops fault ended failed → Told h k [] → Heard g h s m n
-    → Ends s.role g k failed fault s m
-ends_stop g h k s m n fault ended failed stops o p = record {
+pub ends_stop : (g h k : InletState) (s : SideState) (m : List (List (List ℕ))) (n : ℕ)
+    (fault : PeerFault) → Stops fault k → Gave h k [] → Heard g h s m n → Ends s.role g k fault s m
+ends_stop g h k s m n fault stops o p = record {
   heard = p.stream;
   unheard = [];
-  told = told_on g h k p.stream [] p.told o;
+  gave = told_on g.given h.given k.given p.stream [] p.gave o;
   role_is = refl;
   stands = p.stands;
-  explains = explains_stop fault ended failed s p.stream stops;
+  explains = explains_stop fault k s p.stream stops;
 }
 
-pub blames_stop : (fault : PeerFault) (ended failed refused : Bool) → Stops fault ended failed
-    → refused ≡ false → Blames fault ended failed refused
-blames_stop PeerEnded ended failed refused h r = (h.0, h.1, r)
-blames_stop ReadFailed ended failed refused h r = (h.0, r)
-blames_stop _ ended failed refused h r = absurd h
+pub blames_stop : (fault : PeerFault) (from : InletState) (to : OutletState) → Stops fault from
+    → IsWritable to → Blames fault from to
+blames_stop PeerEnded from to h w = (h.0, h.1, w)
+blames_stop ReadFailed from to h w = (h.0, w)
+blames_stop _ from to h w = absurd h
 
-pub lost_stop : (g h k : Option (List ℕ)) (s : SideState) (m : List (List (List ℕ))) (n : ℕ)
-    (fault : PeerFault) (ended failed : Bool) → (s.stage ≡ Traffic → ⊥) → Stops fault ended failed
-    → Told h k [] → Heard g h s m n → NoPeer s.role g k failed fault
-lost_stop g h k s m n fault ended failed unready stops o p = record {
+pub lost_stop : (g h k : InletState) (s : SideState) (m : List (List (List ℕ))) (n : ℕ)
+    (fault : PeerFault) → (s.stage ≡ Traffic → ⊥) → Stops fault k → Gave h k [] → Heard g h s m n
+    → NoPeer s.role g k fault
+lost_stop g h k s m n fault unready stops o p = record {
   side = s;
   messages = m;
-  ends = ends_stop g h k s m n fault ended failed stops o p;
+  ends = ends_stop g h k s m n fault stops o p;
   unready = λ r. unready;
 }
 
 -- memory was wanting after this piece was read
-pub lost_memory : (g h k : Option (List ℕ)) (s : SideState) (x : List ℕ) (m : List (List (List ℕ))) (n : ℕ)
-    (failed : Bool) → Told h k x → Heard g h s m n → NoPeer s.role g k failed OutOfMemory
-lost_memory g h k s x m n failed o p = record {
+pub lost_memory : (g h k : InletState) (s : SideState) (x : List ℕ) (m : List (List (List ℕ))) (n : ℕ)
+    → Gave h k x → Heard g h s m n → NoPeer s.role g k OutOfMemory
+lost_memory g h k s x m n o p = record {
   side = s;
   messages = m;
   ends =
       record {
         heard = p.stream;
         unheard = x;
-        told = told_on g h k p.stream x p.told o;
+        gave = told_on g.given h.given k.given p.stream x p.gave o;
         role_is = refl;
         stands = p.stands;
         explains = tt;
@@ -106,60 +106,60 @@ lost_memory g h k s x m n failed o p = record {
 }
 
 -- all that the reader gave was heard
-ends_whole : (g k : Option (List ℕ)) (role : Role) (t : SideState) (m : List (List (List ℕ))) (n : ℕ)
-    (failed : Bool) (fault : PeerFault) → t.role ≡ role → (p : Heard g k t m n)
-    → Explains fault failed t p.stream [] → Ends role g k failed fault t m
-ends_whole g k role t m n failed fault e p why = record {
+ends_whole : (g k : InletState) (role : Role) (t : SideState) (m : List (List (List ℕ))) (n : ℕ)
+    (fault : PeerFault) → t.role ≡ role → (p : Heard g k t m n) → Explains fault k t p.stream []
+    → Ends role g k fault t m
+ends_whole g k role t m n fault e p why = record {
   heard = p.stream;
   unheard = [];
-  told = told_whole g k p.stream p.told;
+  gave = gave_whole g k p.stream p.gave;
   role_is = e;
   stands = p.stands;
   explains = why;
 }
 
 -- the stream is broken before READY
-pub lost_wire : (g k : Option (List ℕ)) (role : Role) (t : SideState) (m : List (List (List ℕ))) (n : ℕ)
-    (failed : Bool) (cause : StreamFault) → t.role ≡ role → (t.stage ≡ Traffic → ⊥) → t.fault ≡ Some cause
-    → Heard g k t m n → NoPeer role g k failed (Wire cause)
-lost_wire g k role t m n failed cause e unready broken p = record {
+pub lost_wire : (g k : InletState) (role : Role) (t : SideState) (m : List (List (List ℕ))) (n : ℕ)
+    (cause : StreamFault) → t.role ≡ role → (t.stage ≡ Traffic → ⊥) → t.fault ≡ Some cause
+    → Heard g k t m n → NoPeer role g k (Wire cause)
+lost_wire g k role t m n cause e unready broken p = record {
   side = t;
   messages = m;
-  ends = ends_whole g k role t m n failed (Wire cause) e p (refl, broken);
+  ends = ends_whole g k role t m n (Wire cause) e p (refl, broken);
   unready = λ r. unready;
 }
 
-lost_write : (g k : Option (List ℕ)) (role : Role) (t : SideState) (m : List (List (List ℕ))) (n : ℕ)
-    (failed : Bool) → t.role ≡ role → Heard g k t m n → NoPeer role g k failed WriteFailed
-lost_write g k role t m n failed e p = record {
+lost_write : (g k : InletState) (role : Role) (t : SideState) (m : List (List (List ℕ))) (n : ℕ)
+    → t.role ≡ role → Heard g k t m n → NoPeer role g k WriteFailed
+lost_write g k role t m n e p = record {
   side = t;
   messages = m;
-  ends = ends_whole g k role t m n failed WriteFailed e p refl;
+  ends = ends_whole g k role t m n WriteFailed e p refl;
   unready = λ r. absurd r;
 }
 
 -- the writer failed
-pub lost_writer : (g k : Option (List ℕ)) (role : Role) (t : SideState) (m : List (List (List ℕ))) (n : ℕ)
-    (failed : Bool) (fault : PeerFault) → fault ≡ WriteFailed → t.role ≡ role → Heard g k t m n
-    → NoPeer role g k failed fault
-lost_writer g k role t m n failed fault w e p =
-    let P : PeerFault → Type 0 = λ (x : PeerFault). NoPeer role g k failed x in
-    subst P (sym w) (lost_write g k role t m n failed e p)
+pub lost_writer : (g k : InletState) (role : Role) (t : SideState) (m : List (List (List ℕ))) (n : ℕ)
+    (fault : PeerFault) → fault ≡ WriteFailed → t.role ≡ role → Heard g k t m n
+    → NoPeer role g k fault
+lost_writer g k role t m n fault w e p =
+    let P : PeerFault → Type 0 = λ (x : PeerFault). NoPeer role g k x in
+    subst P (sym w) (lost_write g k role t m n e p)
 
-pub lost_as : (g k : Option (List ℕ)) (role other : Role) (failed : Bool) (fault : PeerFault) → other ≡ role
-    → NoPeer other g k failed fault → NoPeer role g k failed fault
-lost_as g k role other failed fault e p =
-    let P : Role → Type 0 = λ (x : Role). NoPeer x g k failed fault in
+pub lost_as : (g k : InletState) (role other : Role) (fault : PeerFault) → other ≡ role
+    → NoPeer other g k fault → NoPeer role g k fault
+lost_as g k role other fault e p =
+    let P : Role → Type 0 = λ (x : Role). NoPeer x g k fault in
     subst P e p
 
 -- as many bytes came as a conversation may have
-pub lost_most : (g k : Option (List ℕ)) (role : Role) (t : SideState) (m : List (List (List ℕ))) (n : ℕ)
-    (failed : Bool) → most_bytes ≡ n → t.role ≡ role → (t.stage ≡ Traffic → ⊥) → Heard g k t m n
-    → NoPeer role g k failed ReadFailed
-lost_most g k role t m n failed most e unready p = let long = p.long in record {
+pub lost_most : (g k : InletState) (role : Role) (t : SideState) (m : List (List (List ℕ))) (n : ℕ)
+    → most_bytes ≡ n → t.role ≡ role → (t.stage ≡ Traffic → ⊥) → Heard g k t m n
+    → NoPeer role g k ReadFailed
+lost_most g k role t m n most e unready p = let long = p.long in record {
   side = t;
   messages = m;
-  ends = ends_whole g k role t m n failed ReadFailed e p (refl, inr (rw most long));
+  ends = ends_whole g k role t m n ReadFailed e p (refl, inr (rw most long));
   unready = λ r. unready;
 }
 

@@ -2,7 +2,8 @@
 use Rattle.std.proofs.Common.{◌≡◌, ℕ, List, [], ◌++◌, Option, sym, ap, ◌∙◌, append-nil, append_assoc}
 use Rattle.zmtp_wire.specs.declared.role.Role.{Role}
 use Rattle.zmtp_wire.specs.Writing.{written_greeting, IsReadyOf}
-use Rattle.base_streams.specs.Told.{Told, ToldFront}
+use Rattle.base_streams.specs.States.{OutletState}
+use Rattle.base_streams.specs.Told.{Told, ToldFront, Took, TookFront}
 use Rattle.base_streams.proofs.TellLemmas.{told_on}
 use Rattle.zmtp_peer.specs.Sending.{IsHandshakeOf, WroteFront, WroteWhole}
 
@@ -32,42 +33,42 @@ spelled greeting ready role e r =
     record { ready = ready; is_ready = r; spelled = ap (λ (l : List ℕ). l ++ ready) e }
 
 -- a front of the greeting was written
-pub wrote_greeting : (a b : Option (List ℕ)) (greeting ready : List ℕ) (role : Role)
-    → greeting ≡ written_greeting → IsReadyOf ready role → ToldFront a b greeting → WroteFront a b role
+pub wrote_greeting : (a b : OutletState) (greeting ready : List ℕ) (role : Role)
+    → greeting ≡ written_greeting → IsReadyOf ready role → TookFront a b greeting → WroteFront a b role
 wrote_greeting a b greeting ready role e r f = record {
   handshake = greeting ++ ready;
   is = spelled greeting ready role e r;
-  told = front_before a b greeting ready f;
+  front = front_before a.taken b.taken greeting ready f;
 }
 
 -- the greeting was written whole
-pub wrote_greeting_whole : (a b : Option (List ℕ)) (greeting ready : List ℕ) (role : Role)
-    → greeting ≡ written_greeting → IsReadyOf ready role → Told a b greeting → WroteFront a b role
+pub wrote_greeting_whole : (a b : OutletState) (greeting ready : List ℕ) (role : Role)
+    → greeting ≡ written_greeting → IsReadyOf ready role → Took a b greeting → WroteFront a b role
 wrote_greeting_whole a b greeting ready role e r o =
-    wrote_greeting a b greeting ready role e r (front_all a b greeting o)
+    wrote_greeting a b greeting ready role e r (front_all a.taken b.taken greeting o)
 
 -- and then a front of READY
-pub wrote_ready : (a b c : Option (List ℕ)) (greeting ready : List ℕ) (role : Role)
-    → greeting ≡ written_greeting → IsReadyOf ready role → Told a b greeting → ToldFront b c ready
+pub wrote_ready : (a b c : OutletState) (greeting ready : List ℕ) (role : Role)
+    → greeting ≡ written_greeting → IsReadyOf ready role → Took a b greeting → TookFront b c ready
     → WroteFront a c role
 wrote_ready a b c greeting ready role e r o f = record {
   handshake = greeting ++ ready;
   is = spelled greeting ready role e r;
-  told = front_on a b c greeting ready o f;
+  front = front_on a.taken b.taken c.taken greeting ready o f;
 }
 
 -- and then READY whole
-pub wrote_whole : (a b c : Option (List ℕ)) (greeting ready : List ℕ) (role : Role)
-    → greeting ≡ written_greeting → IsReadyOf ready role → Told a b greeting → Told b c ready
+pub wrote_whole : (a b c : OutletState) (greeting ready : List ℕ) (role : Role)
+    → greeting ≡ written_greeting → IsReadyOf ready role → Took a b greeting → Took b c ready
     → WroteWhole a c role
 wrote_whole a b c greeting ready role e r o p = record {
   handshake = greeting ++ ready;
   is = spelled greeting ready role e r;
-  told = told_on a b c greeting ready o p;
+  took = told_on a.taken b.taken c.taken greeting ready o p;
 }
 
-pub wrote_ready_whole : (a b c : Option (List ℕ)) (greeting ready : List ℕ) (role : Role)
-    → greeting ≡ written_greeting → IsReadyOf ready role → Told a b greeting → Told b c ready
+pub wrote_ready_whole : (a b c : OutletState) (greeting ready : List ℕ) (role : Role)
+    → greeting ≡ written_greeting → IsReadyOf ready role → Took a b greeting → Took b c ready
     → WroteFront a c role
 wrote_ready_whole a b c greeting ready role e r o p =
-    wrote_ready a b c greeting ready role e r o (front_all b c ready p)
+    wrote_ready a b c greeting ready role e r o (front_all b.taken c.taken ready p)

@@ -1,41 +1,45 @@
 -- One round of a heartbeat.
-use Rattle.std.specs.Prelude.{◌≡◌, ℕ, ◌<◌, List, ◌++◌, length, Option, Bool}
+use Rattle.std.specs.Prelude.{◌≡◌, ℕ, ◌<◌, List, ◌++◌, length}
 use Rattle.zmtp_wire.specs.Stream.{SideState, Completes}
-use Rattle.base_streams.specs.Told.{Told, ToldFront}
+use Rattle.base_streams.specs.States.{InletState, OutletState}
+use Rattle.base_streams.specs.Told.{Gave, Took, TookFront}
 use Rattle.zmtp_peer.specs.declared.fault.PeerFault.{PeerFault}
 use Rattle.zmtp_peer.specs.Ends.{Explains, EndsReading}
 use Rattle.zmtp_peer.specs.Sending.{messages_bytes}
 
+-- a conversation: its reader, the side that hears what that gives, and its writer
+pub record Conversation : Type 0 where
+  pub inlet : InletState
+  pub side : SideState
+  pub outlet : OutletState
+
 -- the side took this piece, and the messages that it completes were written
-pub record EchoedPiece (piece : List ℕ) (old new : SideState) (taken taken' : Option (List ℕ)) : Type 0 where
+pub record EchoedPiece (piece : List ℕ) (side side' : SideState) (to to' : OutletState) : Type 0 where
   pub messages : List (List (List ℕ))
-  pub completes : Completes old piece messages new
-  pub told : Told taken taken' (messages_bytes messages)
+  pub completes : Completes side piece messages side'
+  pub took : Took to to' (messages_bytes messages)
 
 -- the reader gave a piece that isn't empty, which was echoed
-pub record EchoedRound (given given' : Option (List ℕ)) (old new : SideState) (taken taken' : Option (List ℕ))
-    : Type 0 where
+pub record EchoedRound (old new : Conversation) : Type 0 where
   pub piece : List ℕ
   pub some : 0 < length piece
-  pub told : Told given given' piece
-  pub echoed : EchoedPiece piece old new taken taken'
+  pub gave : Gave old.inlet new.inlet piece
+  pub echoed : EchoedPiece piece old.side new.side old.outlet new.outlet
 
 -- the fault ended a round: so far the side heard the piece, and a front of what that completes was written,
 -- all of it where the fault came from reading
-pub record LostPiece (piece : List ℕ) (old new : SideState) (taken taken' : Option (List ℕ)) (failed : Bool)
-    (fault : PeerFault) : Type 0 where
+pub record LostPiece (piece : List ℕ) (old new : Conversation) (fault : PeerFault) : Type 0 where
   pub heard : List ℕ
   pub unheard : List ℕ
   pub piece_is : piece ≡ heard ++ unheard
   pub messages : List (List (List ℕ))
-  pub completes : Completes old heard messages new
-  pub explains : Explains fault failed new heard unheard
-  pub front : ToldFront taken taken' (messages_bytes messages)
-  pub whole : EndsReading fault → Told taken taken' (messages_bytes messages)
+  pub completes : Completes old.side heard messages new.side
+  pub explains : Explains fault new.inlet new.side heard unheard
+  pub front : TookFront old.outlet new.outlet (messages_bytes messages)
+  pub whole : EndsReading fault → Took old.outlet new.outlet (messages_bytes messages)
 
 -- the same of what the reader gave
-pub record LostRound (given given' : Option (List ℕ)) (old new : SideState) (taken taken' : Option (List ℕ))
-    (failed : Bool) (fault : PeerFault) : Type 0 where
+pub record LostRound (old new : Conversation) (fault : PeerFault) : Type 0 where
   pub piece : List ℕ
-  pub told : Told given given' piece
-  pub lost : LostPiece piece old new taken taken' failed fault
+  pub gave : Gave old.inlet new.inlet piece
+  pub lost : LostPiece piece old new fault

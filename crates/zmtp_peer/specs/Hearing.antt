@@ -1,12 +1,13 @@
 -- What was heard of a peer.
-use Rattle.std.specs.Prelude.{ℕ, ◌≤◌, List, length, Option}
+use Rattle.std.specs.Prelude.{ℕ, ◌≤◌, List, length}
 use Rattle.zmtp_wire.specs.Stream.{SideState, StandsFor}
-use Rattle.base_streams.specs.Told.{Told}
+use Rattle.base_streams.specs.States.{InletState}
+use Rattle.base_streams.specs.Told.{Gave}
 
 -- the side has read what the reader gave, so many bytes at least, and these were the messages in it
-pub record Heard (given given' : Option (List ℕ)) (side : SideState) (messages : List (List (List ℕ)))
-    (least : ℕ) : Type 0 where
+pub record Heard (old new : InletState) (side : SideState) (messages : List (List (List ℕ))) (least : ℕ)
+    : Type 0 where
   pub stream : List ℕ
-  pub told : Told given given' stream
+  pub gave : Gave old new stream
   pub stands : StandsFor side stream messages
   pub long : least ≤ length stream

@@ -1,11 +1,12 @@
 -- What is written to a peer (RFC 23).
-use Rattle.std.specs.Prelude.{◌≡◌, ℕ, Bool, false, List, ◌++◌, Option, Result, MatchResult, flat_map}
+use Rattle.std.specs.Prelude.{◌≡◌, ℕ, List, ◌++◌, Result, MatchResult, flat_map}
 use Rattle.zmtp_wire.specs.declared.role.Role.{Role}
 use Rattle.zmtp_wire.specs.declared.role.Role.TheVariants.{Rep}
 use Rattle.zmtp_wire.specs.declared.head.Stage.TheVariants.{Traffic}
 use Rattle.zmtp_wire.specs.Stream.{SideState}
 use Rattle.zmtp_wire.specs.Writing.{written_greeting, IsReadyOf, message_bytes}
-use Rattle.base_streams.specs.Told.{Told, ToldFront}
+use Rattle.base_streams.specs.States.{OutletState, IsWritable}
+use Rattle.base_streams.specs.Told.{Took, TookFront}
 use Rattle.zmtp_peer.specs.declared.fault.PeerFault.{PeerFault}
 use Rattle.zmtp_peer.specs.Ends.{EndsReading, Refuses}
 
@@ -16,22 +17,22 @@ pub record IsHandshakeOf (bytes : List ℕ) (role : Role) : Type 0 where
   pub spelled : bytes ≡ written_greeting ++ ready
 
 -- these bytes were written where it goes on; else a front of them, and the fault says why
-abbrev pub Writes : List ℕ → Option (List ℕ) → Option (List ℕ) → Bool → Result (Unit {0}) PeerFault → Type 0
-Writes bytes taken taken' failed result = MatchResult result
-    (λ _. Told taken taken' bytes × (failed ≡ false))
-    (λ fault. ToldFront taken taken' bytes × Refuses fault failed)
+abbrev pub Writes : List ℕ → OutletState → OutletState → Result (Unit {0}) PeerFault → Type 0
+Writes bytes old new result = MatchResult result
+    (λ _. Took old new bytes × IsWritable new)
+    (λ fault. TookFront old new bytes × Refuses fault new)
 
 -- a front of the role's handshake was written
-pub record WroteFront (taken taken' : Option (List ℕ)) (role : Role) : Type 0 where
+pub record WroteFront (old new : OutletState) (role : Role) : Type 0 where
   pub handshake : List ℕ
   pub is : IsHandshakeOf handshake role
-  pub told : ToldFront taken taken' handshake
+  pub front : TookFront old new handshake
 
 -- the role's handshake was written whole
-pub record WroteWhole (taken taken' : Option (List ℕ)) (role : Role) : Type 0 where
+pub record WroteWhole (old new : OutletState) (role : Role) : Type 0 where
   pub handshake : List ℕ
   pub is : IsHandshakeOf handshake role
-  pub told : Told taken taken' handshake
+  pub took : Took old new handshake
 
 -- messages as they are written, one after the other
 abbrev pub messages_bytes : List (List (List ℕ)) → List ℕ
@@ -39,10 +40,9 @@ messages_bytes messages = flat_map message_bytes messages
 
 -- a front of the handshake and these messages was written; all of it where the peer was accepted and
 -- reading came to this end
-pub record Echoes (taken taken' : Option (List ℕ)) (side : SideState) (messages : List (List (List ℕ)))
+pub record Echoes (old new : OutletState) (side : SideState) (messages : List (List (List ℕ)))
     (fault : PeerFault) : Type 0 where
   pub handshake : List ℕ
   pub is : IsHandshakeOf handshake Rep
-  pub front : ToldFront taken taken' (handshake ++ messages_bytes messages)
-  pub whole : EndsReading fault → side.stage ≡ Traffic
-      → Told taken taken' (handshake ++ messages_bytes messages)
+  pub front : TookFront old new (handshake ++ messages_bytes messages)
+  pub whole : EndsReading fault → side.stage ≡ Traffic → Took old new (handshake ++ messages_bytes messages)

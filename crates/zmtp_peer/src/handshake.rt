@@ -1,5 +1,6 @@
 //! The handshake of a connection (RFC 23, "The NULL Security Mechanism").
-ghost use Rattle.std.specs.Prelude.{◌≡◌, ◌+◌, ◌<◌, ℕ, List, Option, false, IfOk, IfErr, OnOk};
+ghost use Rattle.std.specs.Prelude.{◌≡◌, ◌+◌, ◌<◌, ℕ, IfOk, IfErr, OnOk};
+ghost use Rattle.base_streams.specs.States.{InletState, OutletState, IsReadable, IsWritable};
 ghost use Rattle.zmtp_wire.specs.declared.head.Stage.TheVariants.{Traffic};
 ghost use Rattle.zmtp_peer.specs.Ends.{Blames, NoPeer};
 ghost use Rattle.zmtp_peer.specs.Hearing.{Heard};
@@ -32,19 +33,20 @@ pub struct Peer {
 
 // Reads a piece before READY, and reports its length.
 fn listen_once<I: Inlet>(alloc: Global, from: &mut I, peer: &mut Peer) -> Result<usize, PeerFault>
-    requires ended { I.ended from.old ≡ false }
-    requires failed { I.failed from.old ≡ false }
+    requires readable { IsReadable (I.state from.old) }
     requires unready { peer.old.side.stage ≡ Traffic → ⊥ }
     ensures some { IfOk result (λ count. 0 < count) }
     ensures role { peer.new.side.role ≡ peer.old.side.role }
-    ensures good { OnOk result ((I.ended from.new ≡ false) × (I.failed from.new ≡ false)) }
-    ensures heard { IfOk result (λ count. (before : Option (List ℕ)) (least : ℕ)
-        → Heard before (I.given from.old) peer.old.side peer.old.messages least
-        → Heard before (I.given from.new) peer.new.side peer.new.messages (least + count)) }
-    ensures blames { IfErr result (λ fault. Blames fault (I.ended from.new) (I.failed from.new) false) }
-    ensures lost { IfErr result (λ fault. (before : Option (List ℕ)) (least : ℕ)
-        → Heard before (I.given from.old) peer.old.side peer.old.messages least
-        → NoPeer peer.old.side.role before (I.given from.new) (I.failed from.new) fault) }
+    ensures good { OnOk result (IsReadable (I.state from.new)) }
+    ensures heard { IfOk result (λ count. (before : InletState) (least : ℕ)
+        → Heard before (I.state from.old) peer.old.side peer.old.messages least
+        → Heard before (I.state from.new) peer.new.side peer.new.messages (least + count)) }
+    // No writer has failed by it.
+    ensures blames { IfErr result (λ fault. (to : OutletState) → IsWritable to
+        → Blames fault (I.state from.new) to) }
+    ensures lost { IfErr result (λ fault. (before : InletState) (least : ℕ)
+        → Heard before (I.state from.old) peer.old.side peer.old.messages least
+        → NoPeer peer.old.side.role before (I.state from.new) fault) }
 {
     let mut buffer = [0u8; PIECE_SIZE];
     let count = match read_piece(from, &mut buffer) {
@@ -68,20 +70,21 @@ fn listen<I: Inlet>(
     peer: &mut Peer,
     bytes: usize,
 ) -> Result<(), PeerFault>
-    requires ended { I.ended from.old ≡ false }
-    requires failed { I.failed from.old ≡ false }
+    requires { IsReadable (I.state from.old) }
     ensures role { peer.new.side.role ≡ peer.old.side.role }
     ensures stays { peer.old.side.stage ≡ Traffic → peer.new.side.stage ≡ Traffic }
-    ensures good { OnOk result ((I.ended from.new ≡ false) × (I.failed from.new ≡ false)) }
-    ensures heard { OnOk result ((before : Option (List ℕ)) (least : ℕ)
-        → Heard before (I.given from.old) peer.old.side peer.old.messages least
-        → Heard before (I.given from.new) peer.new.side peer.new.messages least
+    ensures good { OnOk result (IsReadable (I.state from.new)) }
+    ensures heard { OnOk result ((before : InletState) (least : ℕ)
+        → Heard before (I.state from.old) peer.old.side peer.old.messages least
+        → Heard before (I.state from.new) peer.new.side peer.new.messages least
         × ((peer.new.side.stage ≡ Traffic → ⊥)
-        → Heard before (I.given from.new) peer.new.side peer.new.messages (least + bytes))) }
-    ensures blames { IfErr result (λ fault. Blames fault (I.ended from.new) (I.failed from.new) false) }
-    ensures lost { IfErr result (λ fault. (before : Option (List ℕ)) (least : ℕ)
-        → Heard before (I.given from.old) peer.old.side peer.old.messages least
-        → NoPeer peer.old.side.role before (I.given from.new) (I.failed from.new) fault) }
+        → Heard before (I.state from.new) peer.new.side peer.new.messages (least + bytes))) }
+    // No writer has failed by it.
+    ensures blames { IfErr result (λ fault. (to : OutletState) → IsWritable to
+        → Blames fault (I.state from.new) to) }
+    ensures lost { IfErr result (λ fault. (before : InletState) (least : ℕ)
+        → Heard before (I.state from.old) peer.old.side peer.old.messages least
+        → NoPeer peer.old.side.role before (I.state from.new) fault) }
 {
     let mut count = 0usize;
     while count < bytes && !peer.side.is_ready() {
@@ -101,22 +104,18 @@ pub fn handshake<I: Inlet, W: Outlet>(
     to: &mut W,
     role: Role,
 ) -> Result<Peer, PeerFault>
-    requires ended { I.ended from.old ≡ false }
-    requires failed { I.failed from.old ≡ false }
-    requires refused { W.failed to.old ≡ false }
+    requires readable { IsReadable (I.state from.old) }
+    requires writable { IsWritable (W.state to.old) }
     // The peer has read what the reader gave, and holds the messages in it.
     ensures heard { IfOk result (λ peer.
-        Heard (I.given from.old) (I.given from.new) peer.side peer.messages 0) }
+        Heard (I.state from.old) (I.state from.new) peer.side peer.messages 0) }
     ensures ready { IfOk result (λ peer. peer.side.stage ≡ Traffic) }
     ensures role { IfOk result (λ peer. peer.side.role ≡ role) }
-    ensures front { WroteFront (W.taken to.old) (W.taken to.new) role }
-    ensures whole { OnOk result (WroteWhole (W.taken to.old) (W.taken to.new) role) }
-    ensures good { OnOk result ((I.ended from.new ≡ false) × (I.failed from.new ≡ false)
-        × (W.failed to.new ≡ false)) }
-    ensures blames { IfErr result (λ fault.
-        Blames fault (I.ended from.new) (I.failed from.new) (W.failed to.new)) }
-    ensures lost { IfErr result (λ fault.
-        NoPeer role (I.given from.old) (I.given from.new) (I.failed from.new) fault) }
+    ensures front { WroteFront (W.state to.old) (W.state to.new) role }
+    ensures whole { OnOk result (WroteWhole (W.state to.old) (W.state to.new) role) }
+    ensures good { OnOk result (IsReadable (I.state from.new) × IsWritable (W.state to.new)) }
+    ensures blames { IfErr result (λ fault. Blames fault (I.state from.new) (W.state to.new)) }
+    ensures lost { IfErr result (NoPeer role (I.state from.old) (I.state from.new)) }
 {
     let (greeting, ready) = (greeting(), ready(role));
     let mut peer = Peer {

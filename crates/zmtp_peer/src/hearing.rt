@@ -1,6 +1,7 @@
 //! Reading from a peer.
-ghost use Rattle.std.specs.Prelude.{◌≡◌, ◌<◌, ◌≤◌, [], false, take, length, IfOk, IfErr, OnOk, MatchResult};
-ghost use Rattle.base_streams.specs.Told.{Told};
+ghost use Rattle.std.specs.Prelude.{◌<◌, ◌≤◌, [], take, length, IfOk, IfErr, OnOk, MatchResult};
+ghost use Rattle.base_streams.specs.States.{IsReadable};
+ghost use Rattle.base_streams.specs.Told.{Gave};
 ghost use Rattle.zmtp_peer.specs.Ends.{Stops};
 
 use crate::fault::PeerFault;
@@ -14,14 +15,13 @@ pub(crate) fn read_piece<I: Inlet>(
     from: &mut I,
     buffer: &mut [u8; PIECE_SIZE],
 ) -> Result<usize, PeerFault>
-    requires ended { I.ended from.old ≡ false }
-    requires failed { I.failed from.old ≡ false }
+    requires { IsReadable (I.state from.old) }
     ensures count { IfOk result (λ n. (0 < n) × (n ≤ length buffer.new)) }
     ensures given { MatchResult result
-        (λ n. Told (I.given from.old) (I.given from.new) (take n buffer.new))
-        (λ _. Told (I.given from.old) (I.given from.new) []) }
-    ensures good { OnOk result ((I.ended from.new ≡ false) × (I.failed from.new ≡ false)) }
-    ensures stops { IfErr result (λ fault. Stops fault (I.ended from.new) (I.failed from.new)) }
+        (λ n. Gave (I.state from.old) (I.state from.new) (take n buffer.new))
+        (λ _. Gave (I.state from.old) (I.state from.new) []) }
+    ensures good { OnOk result (IsReadable (I.state from.new)) }
+    ensures stops { IfErr result (λ fault. Stops fault (I.state from.new)) }
 {
     match from.read(buffer) {
         Ok(0) => Err(PeerFault::PeerEnded),

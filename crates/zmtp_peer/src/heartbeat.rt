@@ -1,5 +1,6 @@
 //! The heartbeat (Jupyter messaging 5.4, "Heartbeat for kernels"), which sends back what it reads.
-ghost use Rattle.std.specs.Prelude.{◌≡◌, ℕ, List, false, length, IfErr, OnOk};
+ghost use Rattle.std.specs.Prelude.{ℕ, List, length, IfErr, OnOk};
+ghost use Rattle.base_streams.specs.States.{InletState, IsReadable, IsWritable};
 ghost use Rattle.zmtp_wire.specs.declared.role.Role.TheVariants.{Rep};
 ghost use Rattle.zmtp_wire.specs.Stream.{SideState, Completes};
 ghost use Rattle.zmtp_wire.specs.Writing.{message_bytes};
@@ -22,8 +23,8 @@ use zmtp_wire::writing::put_message;
 
 // Writes a message; one of no frames has no bytes.
 fn echo_message<W: Outlet>(alloc: Global, to: &mut W, message: &Frames) -> Result<(), PeerFault>
-    requires { W.failed to.old ≡ false }
-    ensures { Writes (message_bytes message.now) (W.taken to.old) (W.taken to.new) (W.failed to.new) result }
+    requires { IsWritable (W.state to.old) }
+    ensures { Writes (message_bytes message.now) (W.state to.old) (W.state to.new) result }
 {
     if message.len() == 0 {
         return Ok(());
@@ -36,8 +37,8 @@ fn echo_message<W: Outlet>(alloc: Global, to: &mut W, message: &Frames) -> Resul
 
 // Writes messages in their order.
 fn echo<W: Outlet>(alloc: Global, to: &mut W, messages: &Incomings) -> Result<(), PeerFault>
-    requires { W.failed to.old ≡ false }
-    ensures { Writes (messages_bytes messages.now) (W.taken to.old) (W.taken to.new) (W.failed to.new) result }
+    requires { IsWritable (W.state to.old) }
+    ensures { Writes (messages_bytes messages.now) (W.state to.old) (W.state to.new) result }
 {
     for message in messages.as_slice() {
         match echo_message(alloc, to, message) {
@@ -55,12 +56,15 @@ fn echo_piece<W: Outlet>(
     side: &mut Side,
     piece: &[u8],
 ) -> Result<(), PeerFault>
-    requires { W.failed to.old ≡ false }
-    ensures ok { OnOk result (EchoedPiece piece.now side.old side.new (W.taken to.old) (W.taken to.new)) }
-    ensures good { OnOk result (W.failed to.new ≡ false) }
-    ensures err { IfErr result (λ fault. LostPiece piece.now side.old side.new (W.taken to.old)
-        (W.taken to.new) false fault) }
-    ensures blames { IfErr result (λ fault. Blames fault false false (W.failed to.new)) }
+    requires { IsWritable (W.state to.old) }
+    ensures ok { OnOk result (EchoedPiece piece.now side.old side.new (W.state to.old) (W.state to.new)) }
+    ensures good { OnOk result (IsWritable (W.state to.new)) }
+    // Whatever the reader is, it isn't to blame.
+    ensures err { IfErr result (λ fault. (from : InletState) → LostPiece piece.now
+        (record { inlet = from; side = side.old; outlet = W.state to.old })
+        (record { inlet = from; side = side.new; outlet = W.state to.new }) fault) }
+    ensures blames { IfErr result (λ fault. (from : InletState) → IsReadable from
+        → Blames fault from (W.state to.new)) }
 {
     let Ok(Fed { messages, broken }) = feed(alloc, side, piece) else {
         return Err(PeerFault::OutOfMemory);
@@ -82,17 +86,16 @@ fn beat<I: Inlet, W: Outlet>(
     to: &mut W,
     side: &mut Side,
 ) -> Result<(), PeerFault>
-    requires ended { I.ended from.old ≡ false }
-    requires failed { I.failed from.old ≡ false }
-    requires refused { W.failed to.old ≡ false }
-    ensures ok { OnOk result (EchoedRound (I.given from.old) (I.given from.new) side.old side.new
-        (W.taken to.old) (W.taken to.new)) }
-    ensures good { OnOk result ((I.ended from.new ≡ false) × (I.failed from.new ≡ false)
-        × (W.failed to.new ≡ false)) }
-    ensures blames { IfErr result (λ fault.
-        Blames fault (I.ended from.new) (I.failed from.new) (W.failed to.new)) }
-    ensures lost { IfErr result (λ fault. LostRound (I.given from.old) (I.given from.new) side.old side.new
-        (W.taken to.old) (W.taken to.new) (I.failed from.new) fault) }
+    requires readable { IsReadable (I.state from.old) }
+    requires writable { IsWritable (W.state to.old) }
+    ensures ok { OnOk result (EchoedRound
+        (record { inlet = I.state from.old; side = side.old; outlet = W.state to.old })
+        (record { inlet = I.state from.new; side = side.new; outlet = W.state to.new })) }
+    ensures good { OnOk result (IsReadable (I.state from.new) × IsWritable (W.state to.new)) }
+    ensures blames { IfErr result (λ fault. Blames fault (I.state from.new) (W.state to.new)) }
+    ensures lost { IfErr result (LostRound
+        (record { inlet = I.state from.old; side = side.old; outlet = W.state to.old })
+        (record { inlet = I.state from.new; side = side.new; outlet = W.state to.new })) }
 {
     let mut buffer = [0u8; PIECE_SIZE];
     match read_piece(from, &mut buffer) {
@@ -104,14 +107,13 @@ fn beat<I: Inlet, W: Outlet>(
 /// Makes the handshake as REP, and sends each message back as it came, until the reader, the writer or the
 /// stream ends it.
 pub fn heartbeat<I: Inlet, W: Outlet>(alloc: Global, from: &mut I, to: &mut W) -> PeerFault
-    requires ended { I.ended from.old ≡ false }
-    requires failed { I.failed from.old ≡ false }
-    requires refused { W.failed to.old ≡ false }
-    ensures blames { Blames result (I.ended from.new) (I.failed from.new) (W.failed to.new) }
+    requires readable { IsReadable (I.state from.old) }
+    requires writable { IsWritable (W.state to.old) }
+    ensures blames { Blames result (I.state from.new) (W.state to.new) }
     // What was read of the stream, the messages in it, and what was written of them.
     ensures echoes { (side : SideState) × (messages : List (List (List ℕ)))
-        × Ends Rep (I.given from.old) (I.given from.new) (I.failed from.new) result side messages
-        × Echoes (W.taken to.old) (W.taken to.new) side messages result }
+        × Ends Rep (I.state from.old) (I.state from.new) result side messages
+        × Echoes (W.state to.old) (W.state to.new) side messages result }
 {
     let mut peer = match handshake(alloc, from, to, Role::Rep) {
         Ok(peer) => peer,

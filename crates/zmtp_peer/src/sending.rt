@@ -1,6 +1,6 @@
 //! Writing to a peer.
-ghost use Rattle.std.specs.Prelude.{◌≡◌, true, false, OnOk, IfErr};
-ghost use Rattle.base_streams.specs.Told.{Told, ToldFront};
+ghost use Rattle.std.specs.Prelude.{◌≡◌, true, OnOk, IfErr};
+ghost use Rattle.base_streams.specs.Told.{Took, TookFront};
 ghost use Rattle.zmtp_peer.specs.declared.fault.PeerFault.TheVariants.{WriteFailed};
 
 use crate::fault::PeerFault;
@@ -9,10 +9,10 @@ use base_streams::writing::write_all;
 
 /// Writes all the bytes, or a front of them where the writer fails.
 pub(crate) fn send<W: Outlet>(to: &mut W, bytes: &[u8]) -> Result<(), PeerFault>
-    ensures front { ToldFront (W.taken to.old) (W.taken to.new) bytes.now }
-    ensures all { OnOk result (Told (W.taken to.old) (W.taken to.new) bytes.now) }
-    ensures good { OnOk result (W.failed to.new ≡ W.failed to.old) }
-    ensures err { IfErr result (λ fault. (fault ≡ WriteFailed) × (W.failed to.new ≡ true)) }
+    ensures front { TookFront (W.state to.old) (W.state to.new) bytes.now }
+    ensures all { OnOk result (Took (W.state to.old) (W.state to.new) bytes.now) }
+    ensures good { OnOk result ((W.state to.new).failed ≡ (W.state to.old).failed) }
+    ensures err { IfErr result (λ fault. (fault ≡ WriteFailed) × ((W.state to.new).failed ≡ true)) }
 {
     match write_all(to, bytes) {
         Ok(()) => Ok(()),

@@ -1,12 +1,12 @@
 use Rattle.std.proofs.Common.{◌≡◌, ◌≤◌, ◌-◌, length, take}
-use Rattle.base_streams.specs.Told.{Told}
+use Rattle.base_streams.specs.Told.{Took}
 use Rattle.base_streams.proofs.writing.write_all.Given as goal
 
 abbrev pub invariant-loop-place : goal.invariant-loop-place
 invariant-loop-place g l = record {
   within : l.place ≤ length l.bytes;
-  told : Told (g.W.Outlet.taken l.fn.to) (g.W.Outlet.taken l.to) (take l.place l.bytes);
-  failed : g.W.Outlet.failed l.to ≡ g.W.Outlet.failed l.fn.to;
+  told : Took (g.W.Outlet.state l.fn.to) (g.W.Outlet.state l.to) (take l.place l.bytes);
+  failed : (g.W.Outlet.state l.to).failed ≡ (g.W.Outlet.state l.fn.to).failed;
 }
 
 abbrev pub decreases-loop-place : goal.decreases-loop-place

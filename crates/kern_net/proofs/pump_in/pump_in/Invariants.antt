@@ -1,14 +1,14 @@
-use Rattle.std.proofs.Common.{◌≡◌, false}
+use Rattle.std.proofs.Common.{◌≡◌}
+use Rattle.base_streams.specs.States.{IsReadable}
 use Rattle.kern_net.proofs.ReadLemmas.{UnderWay}
 use Rattle.kern_net.proofs.pump_in.pump_in.Given as goal
 
 abbrev pub invariant-loop-reads : goal.invariant-loop-reads
 invariant-loop-reads g l = record {
-  own : l.pass.turnstile ≡ l.desk;
+  own : l.pass.turnstile ≡ l.place.desk.now;
   seat : l.pass.seat ≡ l.fn.pass.seat;
   gate : g.G.Gate.asked l.gate ≡ g.G.Gate.asked l.fn.gate;
-  ended : g.I.Inlet.ended l.from ≡ false;
-  failed : g.I.Inlet.failed l.from ≡ false;
-  read : UnderWay l.place.key.now l.place.channel l.place.connection l.fn.peer.side l.side l.fn.peer.messages
-      (g.I.Inlet.given l.fn.from) (g.I.Inlet.given l.from) l.reads l.fn.pass.calls l.pass.calls;
+  readable : IsReadable (g.I.Inlet.state l.from);
+  read : UnderWay l.place l.fn.peer (g.I.Inlet.state l.fn.from) (g.I.Inlet.state l.from) l.fn.pass
+      (record { side = l.side; pass = l.pass }) l.reads;
 }

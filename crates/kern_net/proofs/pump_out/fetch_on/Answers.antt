@@ -8,8 +8,8 @@ returns-in-Ok-clause-err g c =
     let batch = c.in-Ok.field-0 in
     let end = c.in-Err-write_posts.end in
     let C : List Post → Type 0 =
-    λ posts. Cut c.args.line.now.key.now c.args.line.now.session.now (g.W.Outlet.taken c.args.to.now)
-    (g.W.Outlet.taken c.write_posts.new.to) (g.W.Outlet.failed c.write_posts.new.to) posts end in
+    λ posts. Cut c.args.line.now (g.W.Outlet.state c.args.to.now)
+    (g.W.Outlet.state c.write_posts.new.to) posts end in
     let k : c.as_slice.result.now ≡ batch.posts = cc in
     IsCut end batch.posts batch.next batch.ended c.in-Ok.ensures.ok
     (subst C k c.in-Err-write_posts.ensures.err)

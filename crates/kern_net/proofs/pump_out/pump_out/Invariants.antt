@@ -1,4 +1,5 @@
-use Rattle.std.proofs.Common.{◌≡◌, ◌≤◌, ◌+◌, length, false}
+use Rattle.std.proofs.Common.{◌≡◌, ◌≤◌, ◌+◌, length}
+use Rattle.base_streams.specs.States.{IsWritable}
 use Rattle.kern_net.specs.Gates.{idles, SameBefore, IsOpen}
 use Rattle.kern_net.specs.Out.{Reaches}
 use Rattle.kern_net.proofs.OutLemmas.{Written, Fetching}
@@ -6,12 +7,11 @@ use Rattle.kern_net.proofs.pump_out.pump_out.Given as goal
 
 abbrev pub invariant-loop : goal.invariant-loop
 invariant-loop g l = record {
-  own : l.pass.turnstile ≡ l.desk;
+  own : l.pass.turnstile ≡ l.line.desk.now;
   seat : l.pass.seat ≡ l.fn.pass.seat;
-  good : g.W.Outlet.failed l.to ≡ false;
+  good : IsWritable (g.W.Outlet.state l.to);
   gate : IsOpen (g.G.Gate.asked l.gate);
-  written : Written l.line.key.now l.line.session.now l.line.connection (g.W.Outlet.taken l.fn.to)
-      (g.W.Outlet.taken l.to) l.from l.next l.pass.seen;
+  written : Written l.line (g.W.Outlet.state l.fn.to) (g.W.Outlet.state l.to) l.from l.next l.pass.seen;
   reaches : Reaches l.line.connection l.fn.pass l.pass l.from l.next;
   fetching : Fetching l.line.connection l.fn.pass.calls l.pass.calls;
   asked : idles (g.G.Gate.asked l.gate) + length l.fn.pass.calls ≤ idles (g.G.Gate.asked l.fn.gate)

@@ -23,7 +23,8 @@ loop-reads-preserved g c =
 pub returns-in-Err-Bad-clause-read : goal.returns-in-Err-Bad-clause-read
 returns-in-Err-Bad-clause-read g c =
     let bad = rw c.split_at.ensures.front at (c.in-Err-Bad.ensures.bad (ap Err c.in-Err-Bad.field-0-is)) in
-    read_bad g.I.Intake.stands g.I.Intake.refuses _ _ _ _ _ _ c.loop-reads.invariant.read
+    read_bad g.I.Intake.stands g.I.Intake.refuses _ _ _ (g.R.Inlet.state c.read.new.self) _ _
+    c.loop-reads.invariant.read
     c.in-Ok.ensures.left.0 bad
 
 pub returns-clause-blame : goal.returns-clause-blame

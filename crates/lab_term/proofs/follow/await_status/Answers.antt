@@ -1,4 +1,4 @@
-use Rattle.std.proofs.Common.{refl, arith, []}
+use Rattle.std.proofs.Common.{refl, arith}
 use Rattle.lab_term.specs.declared.subscriber.Subscriber.{Subscriber}
 use Rattle.lab_term.proofs.CourseLemmas.{waited, waiting_first, waiting_on}
 use Rattle.lab_term.proofs.StopLemmas.{stalls_cut, stalls_starved, worn}
@@ -6,15 +6,13 @@ use Rattle.lab_term.proofs.follow.await_status.Goals as goal
 
 pub loop-init : goal.loop-init
 loop-init g c = record {
-  ended = c.requires.ended;
-  failed = c.requires.failed;
+  readable = c.requires;
   waiting = λ before h. waiting_first _ before _ c.args.subscriber.now 0 h;
 }
 
 pub loop-preserved : goal.loop-preserved
 loop-preserved g c = record {
-  ended = c.in-Ok-refill.ensures.good.0;
-  failed = c.in-Ok-refill.ensures.good.1;
+  readable = c.in-Ok-refill.ensures.good;
   waiting =
       λ before h. waiting_on _ before _ _ c.loop.subscriber _ c.refill.new.subscriber c.loop.counter
       c.in-Ok.found c.if-found.false c.in-Ok.ensures.passes refl refl c.in-Ok-refill.ensures.holds
@@ -28,20 +26,20 @@ returns-then-found-clause-waited g c = λ before h.
     c.in-Ok.ensures.passes refl refl (c.loop.invariant.waiting before h)
 
 pub returns-in-Err-clause-stalls : goal.returns-in-Err-clause-stalls
-returns-in-Err-clause-stalls g c = λ before h.
+returns-in-Err-clause-stalls g c = λ before to h writable.
     let w = c.loop.invariant.waiting before h in
-    stalls_cut _ [] before _ _ _ _ c.loop.subscriber w.passed c.loop.counter before before c.in-Err.fault
-    c.loop.invariant.ended c.loop.invariant.failed (c.in-Err.ensures.cut before) w.holds
+    stalls_cut _ before _ c.loop.subscriber w.passed c.loop.counter to c.in-Err.fault
+    c.loop.invariant.readable (c.in-Err.ensures.stops to writable) w.holds
 
 pub returns-in-Err-refill-clause-stalls : goal.returns-in-Err-refill-clause-stalls
-returns-in-Err-refill-clause-stalls g c = λ before h.
+returns-in-Err-refill-clause-stalls g c = λ before to h writable.
     let new : Subscriber = record c.loop.subscriber { queue = c.pass_status.new.queue } in
     let w = c.loop.invariant.waiting before h in
-    stalls_starved _ before _ _ _ _ _ c.loop.subscriber new c.refill.new.subscriber w.passed c.loop.counter
+    stalls_starved _ before _ _ to c.loop.subscriber new c.refill.new.subscriber w.passed c.loop.counter
     c.in-Err-refill.fault refl c.in-Err-refill.ensures.starves c.in-Err-refill.ensures.stays w.holds
 
 pub returns-clause-stalls : goal.returns-clause-stalls
-returns-clause-stalls g c = λ before h.
+returns-clause-stalls g c = λ before to h writable.
     let w = c.loop.invariant.waiting before h in
-    worn before (g.I.Inlet.given c.loop.from) (g.I.Inlet.ended c.loop.from) (g.I.Inlet.failed c.loop.from)
+    worn before (g.I.Inlet.state c.loop.from)
     c.loop.subscriber w.passed c.loop.counter (omega arith) w.holds

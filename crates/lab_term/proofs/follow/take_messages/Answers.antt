@@ -1,16 +1,16 @@
 use Rattle.std.proofs.Common.{◌∙◌, ◌∷◌, [], sym}
-use Rattle.lab_term.proofs.CourseLemmas.{going_by, going_cut, takes_idle}
+use Rattle.lab_term.proofs.CourseLemmas.{busy_by, going_cut, takes_idle}
 use Rattle.lab_term.proofs.follow.take_messages.Goals as goal
 
 pub returns-in-Err-clause-cut : goal.returns-in-Err-clause-cut
 returns-in-Err-clause-cut g c =
-    going_cut _ _ _ c.loop-frames.queue.items c.pop_front.new.self.items (c.in-Some.frames ∷ []) _ _ _ _ _
+    going_cut _ _ c.loop-frames.queue.items c.pop_front.new.self.items (c.in-Some.frames ∷ []) _ _ _ _
     c.in-Err.fault
     c.in-Some.ensures.items c.loop-frames.invariant.going c.in-Err.ensures.cut
 
 pub returns-then-course-clause-takes : goal.returns-then-course-clause-takes
 returns-then-course-clause-takes g c =
-    takes_idle _ _ _ c.loop-frames.queue.items c.pop_front.new.self.items c.in-Some.frames _ _ _
+    takes_idle _ _ c.loop-frames.queue.items c.pop_front.new.self.items c.in-Some.frames _ _ _
     c.loop-frames.course.has_failed c.in-Ok.next c.joined-course.result
     c.in-Some.ensures.items c.loop-frames.invariant.going c.in-Ok.ensures.takes
     (sym c.joined-course.ensures.idle ∙ c.if-course.true) c.if-course.true c.joined-course.ensures.failed
@@ -20,8 +20,9 @@ loop-frames-preserved g c = record {
   good = c.in-Ok.ensures.good;
   idle = c.if-course.false;
   going =
-      going_by _ _ _ c.loop-frames.queue.items c.pop_front.new.self.items c.in-Some.frames _ _ _
+      busy_by _ _ c.loop-frames.queue.items c.pop_front.new.self.items c.in-Some.frames _ _ _
       c.loop-frames.course.has_failed _ c.in-Ok.next
-      c.joined-course.ensures.failed c.in-Some.ensures.items c.loop-frames.invariant.going
+      c.joined-course.ensures.failed (sym c.joined-course.ensures.idle ∙ c.if-course.false)
+      c.in-Some.ensures.items c.loop-frames.invariant.going
       c.in-Ok.ensures.takes;
 }

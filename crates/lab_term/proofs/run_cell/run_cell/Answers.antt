@@ -1,19 +1,35 @@
 use Rattle.std.proofs.Common.{refl}
 use Rattle.std.proofs.lemmas.Result.{IfOk-weaker, IfErr-weaker}
+use Rattle.lab_term.specs.Connections.{client_of}
 use Rattle.lab_term.proofs.CourseLemmas.{ran_by}
-use Rattle.lab_term.proofs.StopLemmas.{reader, cause_iopub, causes_followed, stopped_asking, stopped_after}
+use Rattle.lab_term.proofs.StopLemmas.{cause_iopub, cause_stalls, causes_followed, stopped_asking}
+use Rattle.lab_term.proofs.StopLemmas.{stopped_after}
 use Rattle.lab_term.proofs.run_cell.run_cell.Goals as goal
 
 pub returns-in-Err-greet-clause-cause : goal.returns-in-Err-greet-clause-cause
 returns-in-Err-greet-clause-cause g c =
-    cause_iopub _ (reader _ _ _ _) (reader _ _ _ _) _ _ _ c.in-Err-greet.fault
-    c.in-Err-greet.ensures.ungreeted c.in-Ok.ensures.good.0 c.in-Ok.ensures.good.1
+    let client = client_of g.I.Inlet.state g.W.Outlet.state g.O.Outlet.state in
+    cause_iopub _ (client c.args.shell.now c.args.iopub.now c.args.output.now)
+    (client c.greet.new.connection c.greet-2.new.connection c.args.output.now) c.in-Err-greet.fault
+    c.in-Err-greet.ensures.ungreeted c.in-Ok.ensures.good.0
+
+pub returns-in-Err-await_status-clause-cause : goal.returns-in-Err-await_status-clause-cause
+returns-in-Err-await_status-clause-cause g c =
+    let client = client_of g.I.Inlet.state g.W.Outlet.state g.O.Outlet.state in
+    let holds = c.in-Ok-subscriber_of.ensures.holds _ _ 0 c.in-Ok-greet.ensures.heard in
+    let to = g.O.Outlet.state c.args.output.now in
+    cause_stalls _ (client c.args.shell.now c.args.iopub.now c.args.output.now)
+    (client c.greet.new.connection
+    (record { from = c.await_status.new.from; to = c.subscribe.new.to }) c.args.output.now)
+    to c.in-Err-await_status.fault (λ h. h) c.in-Ok.ensures.good.0
+    (c.in-Err-await_status.ensures.stalls _ to holds c.requires.good.2)
 
 pub returns-in-Err-request-clause-stopped : goal.returns-in-Err-request-clause-stopped
 returns-in-Err-request-clause-stopped g c =
     let holds = c.in-Ok-subscriber_of.ensures.holds _ _ 0 c.in-Ok-greet.ensures.heard in
     let w = c.in-Ok-await_status.ensures.waited _ holds in
-    stopped_asking _ _ _ _ _ _ _ _ _ _ _ _ _ _ c.await_status.new.subscriber c.in-Err-request.fault
+    stopped_asking _ _ _ (g.W.Outlet.state c.greet.new.connection.to)
+    (g.W.Outlet.state c.greet-2.new.connection.to) c.await_status.new.subscriber c.in-Err-request.fault
     c.in-Ok.ensures.whole c.in-Err-request.ensures.front c.in-Ok-greet.ensures.whole
     c.in-Ok-subscribe.ensures.whole w refl
 
@@ -23,8 +39,10 @@ returns-clause-ran g c =
     let w = c.in-Ok-await_status.ensures.waited _ holds in
     let cell = c.args.cell.now in
     IfOk-weaker c.follow.result _ _
-    (λ good f. ran_by cell.code.now cell.key.now cell.session.now cell.moment c.in-Ok-request.header
-    c.as_slice.result.now _ _ _ _ _ _ _ _ _ _ _ c.await_status.new.subscriber good
+    (λ good f. ran_by cell _ _ c.in-Ok-request.header
+    c.as_slice.result.now (g.W.Outlet.state c.greet.new.connection.to)
+    (g.W.Outlet.state c.greet-2.new.connection.to)
+    (g.I.Inlet.state c.await_status.new.from) c.await_status.new.subscriber good
     c.as_slice.ensures c.in-Ok.ensures.whole c.in-Ok-request.ensures.whole c.in-Ok-greet.ensures.whole
     c.in-Ok-subscribe.ensures.whole w (f _ w.passed w.holds))
     c.follow.ensures.followed
@@ -35,15 +53,21 @@ returns-clause-stopped g c =
     let w = c.in-Ok-await_status.ensures.waited _ holds in
     let cell = c.args.cell.now in
     IfErr-weaker c.follow.result _ _
-    (λ fault f. stopped_after cell.code.now cell.key.now cell.session.now cell.moment c.in-Ok-request.header
-    c.as_slice.result.now _ _ _ _ _ _ _ _ _ _ _ c.await_status.new.subscriber fault
+    (λ fault f. stopped_after cell _ _ c.in-Ok-request.header
+    c.as_slice.result.now (g.W.Outlet.state c.greet.new.connection.to)
+    (g.W.Outlet.state c.greet-2.new.connection.to)
+    (g.I.Inlet.state c.await_status.new.from) c.await_status.new.subscriber fault
     c.as_slice.ensures c.in-Ok.ensures.whole c.in-Ok-request.ensures.whole c.in-Ok-greet.ensures.whole
     c.in-Ok-subscribe.ensures.whole w (f _ w.passed w.holds))
     c.follow.ensures.front
 
 pub returns-clause-cause : goal.returns-clause-cause
 returns-clause-cause g c =
+    let client = client_of g.I.Inlet.state g.W.Outlet.state g.O.Outlet.state in
     let holds = c.in-Ok-subscriber_of.ensures.holds _ _ 0 c.in-Ok-greet.ensures.heard in
     let w = c.in-Ok-await_status.ensures.waited _ holds in
-    causes_followed c.follow.result _ _ _ _ _ _ _ _ _ _ c.await_status.new.subscriber w c.in-Ok.ensures.good.0
-    c.in-Ok.ensures.good.1 c.follow.ensures.stalls
+    causes_followed c.follow.result _ (client c.args.shell.now c.args.iopub.now c.args.output.now)
+    (client (record { from = c.greet.new.connection.from; to = c.request.new.to })
+    (record { from = c.follow.new.from; to = c.subscribe.new.to }) c.follow.new.output)
+    (g.I.Inlet.state c.await_status.new.from) c.await_status.new.subscriber w c.in-Ok.ensures.good.0
+    c.follow.ensures.stalls

@@ -4,7 +4,7 @@ use Rattle.zmtp_peer.proofs.handshake.listen_once.Goals as goal
 
 pub returns-in_default-clause-lost : goal.returns-in_default-clause-lost
 returns-in_default-clause-lost g c =
-    λ before least heard. lost_memory before _ _ _ _ _ least _ c.in-Ok.ensures.given heard
+    λ before least heard. lost_memory before _ _ _ _ _ least c.in-Ok.ensures.given heard
 
 pub returns-in-Some-clause-lost : goal.returns-in-Some-clause-lost
 returns-in-Some-clause-lost g c = λ before least heard.
@@ -12,7 +12,7 @@ returns-in-Some-clause-lost g c = λ before least heard.
     let on =
     heard_on before _ _ _ c.feed.new.side _ _ _ least c.in-Ok.count c.requires.unready
     c.in-Ok-feed.ensures.completes c.in-Ok.ensures.given fits heard in
-    lost_wire before _ _ c.feed.new.side _ _ _ c.in-Some.cause c.in-Ok-feed.ensures.completes.role
+    lost_wire before _ _ c.feed.new.side _ _ c.in-Some.cause c.in-Ok-feed.ensures.completes.role
     (unready_by _ c.feed.new.side c.is_ready.ensures c.if-not-is_ready.true)
     (sym c.in-Ok-feed.ensures.broken ∙ c.in-Some.is) on
 

@@ -1,6 +1,14 @@
-use Rattle.zmtp_peer.proofs.EchoLemmas.{round_stop}
+use Rattle.std.proofs.lemmas.Result.{IfErr-weaker}
+use Rattle.zmtp_peer.proofs.EchoLemmas.{round_lost, round_stop}
 use Rattle.zmtp_peer.proofs.heartbeat.beat.Goals as goal
 
 pub returns-in-Err-clause-lost : goal.returns-in-Err-clause-lost
 returns-in-Err-clause-lost g c =
-    round_stop _ _ c.args.side.now _ c.in-Err.fault _ _ c.in-Err.ensures.given c.in-Err.ensures.stops
+    round_stop _ _ c.args.side.now _ c.in-Err.fault c.in-Err.ensures.given c.in-Err.ensures.stops
+
+pub returns-in-Ok-clause-lost : goal.returns-in-Ok-clause-lost
+returns-in-Ok-clause-lost g c =
+    IfErr-weaker c.echo_piece.result _ _
+    (λ fault lost. round_lost _ _ _ c.args.side.now c.echo_piece.new.side _ _ fault c.in-Ok.ensures.given
+    lost)
+    c.echo_piece.ensures.err

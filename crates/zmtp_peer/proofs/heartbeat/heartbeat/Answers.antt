@@ -6,11 +6,11 @@ use Rattle.zmtp_peer.proofs.heartbeat.heartbeat.Goals as goal
 
 pub returns-in-Err-clause-echoes : goal.returns-in-Err-clause-echoes
 returns-in-Err-clause-echoes g c =
-    ended_early _ _ _ _ _ c.in-Err.fault c.in-Err.ensures.lost c.in-Err.ensures.front
+    ended_early _ _ _ _ c.in-Err.fault c.in-Err.ensures.lost c.in-Err.ensures.front
 
 pub returns-in-Err-echo-clause-echoes : goal.returns-in-Err-echo-clause-echoes
 returns-in-Err-echo-clause-echoes g c =
-    ended_first _ _ _ _ _ c.in-Ok.peer.side c.in-Ok.peer.messages _ _ c.in-Err-echo.fault c.in-Ok.ensures.role
+    ended_first _ _ _ _ _ c.in-Ok.peer.side c.in-Ok.peer.messages c.in-Err-echo.fault c.in-Ok.ensures.role
     c.in-Ok.ensures.heard c.in-Ok.ensures.whole c.in-Err-echo.ensures.1 c.in-Err-echo.ensures.0
 
 pub returns-in-Err-echo_piece-clause-echoes : goal.returns-in-Err-echo_piece-clause-echoes
@@ -18,8 +18,8 @@ returns-in-Err-echo_piece-clause-echoes g c =
     let first =
     beats_first _ _ _ _ _ c.in-Ok.peer.side c.in-Ok.peer.messages c.in-Ok.ensures.role
     c.in-Ok.ensures.heard c.in-Ok.ensures.whole c.in-Ok-echo.ensures.0 in
-    ended_round _ _ _ _ _ _ c.in-Ok.peer.side c.echo_piece.new.side 0 _ c.in-Err-echo_piece.fault
-    (round_lost _ _ [] c.in-Ok.peer.side c.echo_piece.new.side _ _ _ c.in-Err-echo_piece.fault (told_none _)
+    ended_round _ _ _ _ _ _ c.in-Ok.peer.side c.echo_piece.new.side 0 c.in-Err-echo_piece.fault
+    (round_lost _ _ [] c.in-Ok.peer.side c.echo_piece.new.side _ _ c.in-Err-echo_piece.fault (told_none _)
     c.in-Err-echo_piece.ensures.err) first
 
 pub loop-init : goal.loop-init
@@ -28,9 +28,8 @@ loop-init g c =
     beats_first _ _ _ _ _ c.in-Ok.peer.side c.in-Ok.peer.messages c.in-Ok.ensures.role
     c.in-Ok.ensures.heard c.in-Ok.ensures.whole c.in-Ok-echo.ensures.0 in
     record {
-      ended = c.in-Ok.ensures.good.0;
-      failed = c.in-Ok.ensures.good.1;
-      refused = c.in-Ok-echo_piece.ensures.good;
+      readable = c.in-Ok.ensures.good.0;
+      writable = c.in-Ok-echo_piece.ensures.good;
       beats =
           beats_piece _ _ _ _ _ _ [] c.in-Ok.peer.side c.echo_piece.new.side 0 0 (omega arith) (told_none _)
           c.in-Ok-echo_piece.ensures.ok first;
@@ -38,14 +37,13 @@ loop-init g c =
 
 pub returns-in-Err-beat-clause-echoes : goal.returns-in-Err-beat-clause-echoes
 returns-in-Err-beat-clause-echoes g c =
-    ended_round _ _ _ _ _ _ c.loop.peer.side c.beat.new.side c.loop.counter _ c.in-Err-beat.fault
+    ended_round _ _ _ _ _ _ c.loop.peer.side c.beat.new.side c.loop.counter c.in-Err-beat.fault
     c.in-Err-beat.ensures.lost c.loop.invariant.beats
 
 pub loop-preserved : goal.loop-preserved
 loop-preserved g c = record {
-  ended = c.in-Ok-beat.ensures.good.0;
-  failed = c.in-Ok-beat.ensures.good.1;
-  refused = c.in-Ok-beat.ensures.good.2;
+  readable = c.in-Ok-beat.ensures.good.0;
+  writable = c.in-Ok-beat.ensures.good.1;
   beats =
       beats_round _ _ _ _ _ _ c.loop.peer.side c.beat.new.side c.loop.counter c.in-Ok-beat.ensures.ok
       c.loop.invariant.beats;
@@ -53,5 +51,5 @@ loop-preserved g c = record {
 
 pub returns-clause-echoes : goal.returns-clause-echoes
 returns-clause-echoes g c =
-    ended_most _ _ _ _ c.loop.peer.side c.loop.counter _ (omega (arith, c.loop-test.false))
+    ended_most _ _ _ _ c.loop.peer.side c.loop.counter (omega (arith, c.loop-test.false))
     c.loop.invariant.beats

@@ -1,12 +1,11 @@
-use Rattle.std.proofs.Common.{◌≡◌, false}
+use Rattle.base_streams.specs.States.{IsReadable, IsWritable}
 use Rattle.zmtp_peer.proofs.EchoLemmas.{Beats}
 use Rattle.zmtp_peer.proofs.heartbeat.heartbeat.Given as goal
 
 abbrev pub invariant-loop : goal.invariant-loop
 invariant-loop g l = record {
-  ended : g.I.Inlet.ended l.from ≡ false;
-  failed : g.I.Inlet.failed l.from ≡ false;
-  refused : g.W.Outlet.failed l.to ≡ false;
-  beats : Beats (g.I.Inlet.given l.fn.from) (g.I.Inlet.given l.from) (g.W.Outlet.taken l.fn.to)
-      (g.W.Outlet.taken l.to) l.peer.side l.counter;
+  readable : IsReadable (g.I.Inlet.state l.from);
+  writable : IsWritable (g.W.Outlet.state l.to);
+  beats : Beats (g.I.Inlet.state l.fn.from) (g.I.Inlet.state l.from) (g.W.Outlet.state l.fn.to)
+      (g.W.Outlet.state l.to) l.peer.side l.counter;
 }

@@ -1,0 +1,34 @@
+-- What is known of a reader and of a writer.
+use Rattle.std.specs.Prelude.{◌≡◌, ℕ, Bool, false, List, Option}
+
+-- A reader: the bytes that it has given and those that it has still to give, where they are known; whether a
+-- read has come to the end, and whether one has failed.
+pub record InletState : Type 0 where
+  pub given : Option (List ℕ)
+  pub left : Option (List ℕ)
+  pub ended : Bool
+  pub failed : Bool
+
+-- a writer: the bytes that it has taken, where they are known, and whether a write has failed
+pub record OutletState : Type 0 where
+  pub taken : Option (List ℕ)
+  pub failed : Bool
+
+-- the reader has neither ended nor failed
+abbrev pub IsReadable : InletState → Type 0
+IsReadable inlet = (inlet.ended ≡ false) × (inlet.failed ≡ false)
+
+-- the writer has not failed
+abbrev pub IsWritable : OutletState → Type 0
+IsWritable outlet = outlet.failed ≡ false
+
+-- a reader of std, and what its reads came to
+pub record StdInletState (R : Type 0) : Type 0 where
+  pub reader : R
+  pub ended : Bool
+  pub failed : Bool
+
+-- a writer of std, and what its writes came to
+pub record StdOutletState (W : Type 0) : Type 0 where
+  pub writer : W
+  pub failed : Bool
