@@ -29,6 +29,19 @@ def unit_seconds(word, size, count, without=None):
     return max(whole, 1e-9) / count
 
 
+def first_and_last(word, units, count, part):
+    """The seconds of a unit of a work in the first and in the last few of so many rounds of so many units on one kernel,
+    each in the fastest of a few runs."""
+    first, last = [], []
+    for _ in range(ROUNDS):
+        words = [PROGRAM, "rounds", word, str(units), str(count)]
+        with subprocess.Popen(words, stdout=subprocess.PIPE) as process:
+            ends = [time.perf_counter()] + [time.perf_counter() for _ in process.stdout]
+        first.append(ends[part] - ends[0])
+        last.append(ends[-1] - ends[-1 - part])
+    return min(first) / (part * units), min(last) / (part * units)
+
+
 def rate(word, size, count, without=None):
     """How many units of a work are done a second."""
     return 1 / unit_seconds(word, size, count, without)

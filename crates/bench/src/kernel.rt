@@ -23,6 +23,40 @@ fn made(alloc: Global, work: Work, before: u64, count: u64) -> Result<u64, Alloc
     made
 }
 
+// One more round of so many units, and how much it gave.
+fn round<P: Print>(rt: &P, alloc: Global, shell: &mut Shell, work: Work, units: u64) -> Result<()> {
+    let made = shell.units(alloc, work, units)?;
+    println!(rt; "{made}")?;
+    Ok(())
+}
+
+fn rounds_by<P: Print>(
+    rt: &P,
+    alloc: Global,
+    shell: &mut Shell,
+    work: Work,
+    units: u64,
+    count: u64,
+) -> Result<()> {
+    shell.prepare(alloc, work)?;
+    for _ in 0..count {
+        round(rt, alloc, shell, work, units)?;
+    }
+    Ok(())
+}
+
+/// Does so many rounds of so many units of the work of this name on one kernel, and prints after each how much it
+/// gave: who times the lines sees how the rate changes as the journal grows.
+pub fn rounds<P: Print>(rt: &P, alloc: Global, word: &str, units: u64, count: u64) -> Result<()> {
+    let Some(work) = Work::named(word) else {
+        bail!("there is no such work");
+    };
+    let mut shell = Shell::new(alloc)?;
+    let done = rounds_by(rt, alloc, &mut shell, work, units, count);
+    drop(shell);
+    done
+}
+
 /// Does so many units of the work of this name, after so many others. How many frames, posts or slices they gave.
 pub fn work(alloc: Global, word: &str, before: u64, count: u64) -> Result<u64> {
     match Work::named(word) {

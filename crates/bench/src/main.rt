@@ -1,6 +1,7 @@
 // Does what is timed of lab80's parts, and prints what it came to: `bench WORD SIZE COUNT` so much of a work,
 // `bench core WORKLOAD COUNT` so many instructions on the machine, `bench plain WORKLOAD COUNT` and `bench
-// attached WORKLOAD COUNT` on a board, without a debugger and with one. The scripts in bench/ time it.
+// attached WORKLOAD COUNT` on a board, without a debugger and with one; `bench rounds WORD UNITS COUNT` so many
+// rounds of so many units on one kernel, with a line after each. The scripts in bench/ time it.
 // With no word it does a little of each, which the gate compares.
 #![tactic(auto)]
 
@@ -24,7 +25,7 @@ use std::sync::Wait;
 use std::thread::Threads;
 
 /// What is done with no word, of each work a little.
-const FEW: [(&str, u64, u64); 15] = [
+const FEW: [(&str, u64, u64); 16] = [
     ("assembler", 1000, 1),
     ("listing", 1000, 1),
     ("reassembly", 1000, 1),
@@ -39,6 +40,7 @@ const FEW: [(&str, u64, u64); 15] = [
     ("executions", 0, 10),
     ("fetches", 0, 10),
     ("slices", 0, 10),
+    ("waits", 0, 10),
     ("idle", 0, 10),
 ];
 
@@ -108,7 +110,7 @@ fn check<R: Threads + Wait + Sync + Print>(rt: &R, alloc: Global) -> Result<()> 
     for (word, size, count) in FEW {
         report(rt, alloc, word, size, count)?;
     }
-    Ok(())
+    kernel::rounds(rt, alloc, "fetches", 3, 2)
 }
 
 fn main(rt: HostRuntime) -> Result<()> {
@@ -123,6 +125,12 @@ fn main(rt: HostRuntime) -> Result<()> {
                 _ => report(&rt, alloc, word, size.as_str().parse()?, count),
             }
         }
-        _ => bail!("usage: bench [WORD SIZE COUNT | core|plain|attached WORKLOAD COUNT]"),
+        [first, work, units, count] if first.as_str() == "rounds" => {
+            let (units, count) = (units.as_str().parse()?, count.as_str().parse()?);
+            kernel::rounds(&rt, alloc, work.as_str(), units, count)
+        }
+        _ => bail!(
+            "usage: bench [WORD SIZE COUNT | core|plain|attached WORKLOAD COUNT | rounds WORD UNITS COUNT]"
+        ),
     }
 }

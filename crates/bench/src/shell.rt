@@ -18,6 +18,9 @@ const SESSION: &str = "01234567-89ab-4cde-8f01-23456789abcd";
 /// A cell that never ends.
 const ENDLESS: &str = "X: JMP X\nEND X\n";
 
+/// A cell that waits for ever: each slice of it is a turn without a step.
+const WAITING: &str = "EI\nHLT\nEND 0\n";
+
 /// A cell that ends at once.
 const SHORT: &str = "HLT\nEND 0\n";
 
@@ -40,6 +43,8 @@ pub enum Work {
     Fetch,
     /// A slice of a cell that never ends.
     Slice,
+    /// A slice of a cell that waits for an interrupt, which makes no step.
+    Wait,
     /// A slice of a kernel that has nothing to do.
     Idle,
 }
@@ -52,6 +57,7 @@ impl Work {
             "executions" => Some(Work::Execution),
             "fetches" => Some(Work::Fetch),
             "slices" => Some(Work::Slice),
+            "waits" => Some(Work::Wait),
             "idle" => Some(Work::Idle),
             _ => None,
         }
@@ -109,11 +115,16 @@ impl Shell {
         match work {
             Work::Info | Work::Execution | Work::Idle => {}
             Work::Fetch => self.ask_often(alloc)?,
-            Work::Slice => {
-                arrive(alloc, &mut self.kernel, Question::Execute(ENDLESS))?;
-                self.slices(2);
-            }
+            Work::Slice => self.begin(alloc, ENDLESS)?,
+            Work::Wait => self.begin(alloc, WAITING)?,
         }
+        Ok(())
+    }
+
+    // Begins with a cell: it is loaded, started, and runs for a slice.
+    fn begin(&mut self, alloc: Global, cell: &'static str) -> Result<(), AllocError> {
+        arrive(alloc, &mut self.kernel, Question::Execute(cell))?;
+        self.slices(3);
         Ok(())
     }
 
@@ -173,7 +184,7 @@ impl Shell {
                 Ok(self.fetch_next())
             }
             Work::Fetch => Ok(self.fetch_from(1).0),
-            Work::Slice | Work::Idle => Ok(self.slices(1)),
+            Work::Slice | Work::Wait | Work::Idle => Ok(self.slices(1)),
         }
     }
 
