@@ -2,9 +2,9 @@
 use base_text::sequence::{Bytes, Frames};
 use base_text::text::Text;
 use jup_wire::channel::Channel;
-use kern_ask::ask::{Ask, ExecuteRequest, Request};
+use kern_request::request::{RequestBody, ExecuteRequest, Request};
 use kern_core::call::{Arrival, Call, Reply};
-use kern_core::fault::KernFault;
+use kern_core::fault::KernelFault;
 use kern_core::held::Held;
 use kern_core::kernel::Kernel;
 use kern_post::post::Post;
@@ -23,8 +23,8 @@ pub enum Question {
     Execute(&'static str),
 }
 
-fn execution(code: Text) -> Ask {
-    Ask::Execute(ExecuteRequest {
+fn execution(code: Text) -> RequestBody {
+    RequestBody::Execute(ExecuteRequest {
         code,
         is_silent: false,
         stores_history: true,
@@ -32,27 +32,27 @@ fn execution(code: Text) -> Ask {
     })
 }
 
-fn ask(alloc: Global, question: Question) -> Result<Ask, AllocError> {
+fn body(alloc: Global, question: Question) -> Result<RequestBody, AllocError> {
     match question {
-        Question::KernelInfo => Ok(Ask::KernelInfo),
+        Question::KernelInfo => Ok(RequestBody::KernelInfo),
         Question::Execute(code) => Ok(execution(Text::copy_of(alloc, code)?)),
     }
 }
 
-fn arrival(ask: Ask, header: Bytes, alloc: Global) -> Arrival {
+fn arrival(body: RequestBody, header: Bytes, alloc: Global) -> Arrival {
     Arrival {
         request: Request {
-            ask,
+            body,
             identities: Frames::new(alloc),
             header,
         },
-        moment: MOMENT,
+        unix_seconds: MOMENT,
     }
 }
 
 fn held(alloc: Global, question: Question) -> Result<Held<Arrival>, AllocError> {
     let header = Bytes::copy_of(alloc, HEADER)?;
-    Held::new(alloc, arrival(ask(alloc, question)?, header, alloc))
+    Held::new(alloc, arrival(body(alloc, question)?, header, alloc))
 }
 
 fn is_accepted(kernel: &mut Kernel, call: Call) -> bool {
@@ -84,17 +84,17 @@ pub fn arrive(alloc: Global, kernel: &mut Kernel, question: Question) -> Result<
 
 /// The kernel goes on. Whether the call was accepted.
 pub fn slice(kernel: &mut Kernel) -> bool {
-    is_accepted(kernel, Call::Slice { moment: MOMENT })
+    is_accepted(kernel, Call::Slice { unix_seconds: MOMENT })
 }
 
 /// What a fetch for connection 1 answers.
-pub fn fetch(kernel: &mut Kernel, from: u64) -> Result<Reply, KernFault> {
+pub fn fetch(kernel: &mut Kernel, from: u64) -> Result<Reply, KernelFault> {
     let connection = 1;
     kernel.act(Call::Fetch { connection, from })
 }
 
 /// The posts of an answer, and the number to go on from.
-pub fn fetched(reply: &Result<Reply, KernFault>) -> Option<(&[Post], u64)> {
+pub fn fetched(reply: &Result<Reply, KernelFault>) -> Option<(&[Post], u64)> {
     match reply {
         Ok(Reply::Fetched { posts, next, .. }) => Some((posts.as_slice(), *next)),
         _ => None,

@@ -3,7 +3,7 @@ use anyhow::{Result, bail};
 use base_text::sequence::Bytes;
 use std::alloc::{AllocError, Global};
 use zmtp_wire::role::Role;
-use zmtp_wire::side::Side;
+use zmtp_wire::decoder::Decoder;
 use zmtp_wire::writing::{greeting, put_message, ready};
 
 // A message of one frame of so many bytes.
@@ -27,8 +27,8 @@ fn stream_of(alloc: Global, frame_size: u64, messages: u64) -> Result<Vec<u8>, A
 }
 
 // How many messages come with a piece, if the stream goes on.
-fn fed(alloc: Global, side: &mut Side, piece: &[u8]) -> Option<u64> {
-    let answer = side.feed(alloc, piece);
+fn fed(alloc: Global, decoder: &mut Decoder, piece: &[u8]) -> Option<u64> {
+    let answer = decoder.feed(alloc, piece);
     let count = match &answer {
         Ok(messages) => Some(messages.as_slice().len() as u64),
         Err(_) => None,
@@ -39,10 +39,10 @@ fn fed(alloc: Global, side: &mut Side, piece: &[u8]) -> Option<u64> {
 
 // How many messages a side reads that is fed the stream in pieces of this size.
 fn count(alloc: Global, stream: &[u8], piece_size: usize) -> Option<u64> {
-    let mut side = Side::new(alloc, Role::Router);
+    let mut decoder = Decoder::new(alloc, Role::Router);
     let mut count = 0u64;
     for piece in stream.chunks(piece_size.max(1)) {
-        count = count.saturating_add(fed(alloc, &mut side, piece)?);
+        count = count.saturating_add(fed(alloc, &mut decoder, piece)?);
     }
     Some(count)
 }

@@ -1,7 +1,7 @@
 //! A kernel with one frontend, and the work that is timed on it.
 use crate::calls::{Question, arrive, fetch, fetched, join, slice};
 use kern_core::call::Reply;
-use kern_core::fault::KernFault;
+use kern_core::fault::KernelFault;
 use kern_core::kernel::Kernel;
 use kern_post::post::Post;
 use kern_render::rendering::render;
@@ -78,7 +78,7 @@ fn frame_counts(alloc: Global, posts: &[Post]) -> Result<u64, AllocError> {
 }
 
 // How many posts were fetched, and the number to go on from.
-fn counted(reply: &Result<Reply, KernFault>, from: u64) -> (u64, u64) {
+fn counted(reply: &Result<Reply, KernelFault>, from: u64) -> (u64, u64) {
     match fetched(reply) {
         Some((posts, next)) => (posts.len() as u64, next),
         None => (0, from),
@@ -88,7 +88,7 @@ fn counted(reply: &Result<Reply, KernFault>, from: u64) -> (u64, u64) {
 // How many frames the posts have that were fetched, and the number to go on from.
 fn rendered(
     alloc: Global,
-    reply: &Result<Reply, KernFault>,
+    reply: &Result<Reply, KernelFault>,
     from: u64,
 ) -> Result<(u64, u64), AllocError> {
     match fetched(reply) {
@@ -114,7 +114,7 @@ impl Shell {
     pub fn prepare(&mut self, alloc: Global, work: Work) -> Result<(), AllocError> {
         match work {
             Work::Info | Work::Execution | Work::Idle => {}
-            Work::Fetch => self.ask_often(alloc)?,
+            Work::Fetch => self.request_often(alloc)?,
             Work::Slice => self.begin(alloc, ENDLESS)?,
             Work::Wait => self.begin(alloc, WAITING)?,
         }
@@ -128,7 +128,7 @@ impl Shell {
         Ok(())
     }
 
-    fn ask_often(&mut self, alloc: Global) -> Result<(), AllocError> {
+    fn request_often(&mut self, alloc: Global) -> Result<(), AllocError> {
         for _ in 0..22 {
             arrive(alloc, &mut self.kernel, Question::KernelInfo)?;
         }

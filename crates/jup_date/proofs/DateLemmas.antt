@@ -26,6 +26,6 @@ same_text a b e =
     let time = same_time a.time b.time (time_nanos_injective a.time b.time parts.1) in
     rw (date, time) refl
 
-pub one_date : (moment : ℕ) (a b : List ℕ) → IsDate moment a → IsDate moment b → a ≡ b
-one_date moment a b (p, nanos, text) (q, nanos', text') =
+pub one_date : (unix_seconds : ℕ) (a b : List ℕ) → IsDate unix_seconds a → IsDate unix_seconds b → a ≡ b
+one_date unix_seconds a b (p, nanos, text) (q, nanos', text') =
     text ∙ (same_text p q (nanos ∙ sym nanos') ∙ sym text')

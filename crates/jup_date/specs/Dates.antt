@@ -11,8 +11,8 @@ letter_t = 84
 -- The text is that of the civil date and time in UTC so many seconds after 1970 began, and `Z`: the form
 -- of RFC 3339, as in `2000-02-29T00:00:00Z`.
 abbrev pub IsDate : ℕ → List ℕ → Type 0
-IsDate moment text =
-    (dt : DateTime) × (civil_nanos dt ≡ pos moment *ℤ pos 1_000_000_000)
+IsDate unix_seconds text =
+    (dt : DateTime) × (civil_nanos dt ≡ pos unix_seconds *ℤ pos 1_000_000_000)
     × (text ≡ datetime_text false letter_t None dt ++ zulu_text false)
 
 -- 2100-01-01T00:00:00Z, the last moment that is written

@@ -4,5 +4,5 @@ ghost use Rattle.jup_date.specs.Dates.{IsDate};
 
 /// A moment has at most one date.
 pub fn has_one_date()
-    ensures { (moment : ℕ) (a : List ℕ) (b : List ℕ) → IsDate moment a → IsDate moment b → a ≡ b }
+    ensures { (unix_seconds : ℕ) (a : List ℕ) (b : List ℕ) → IsDate unix_seconds a → IsDate unix_seconds b → a ≡ b }
 {}

@@ -4,7 +4,7 @@ use Rattle.std.proofs.Common.{refl, sym, ap, subst, arith, if◌then◌else◌}
 use Rattle.lab_core.specs.Labs.{LabState, StandsFor as LabStandsFor}
 use Rattle.kern_post.specs.declared.post.Letter.{Letter}
 use Rattle.kern_post.specs.Posts.{StoreState, Keeps, posted}
-use Rattle.kern_peers.specs.Present.{Present}
+use Rattle.kern_peers.specs.Connections.{Connections}
 use Rattle.kern_exec.specs.declared.execution.Execution.{Execution}
 use Rattle.kern_exec.specs.declared.execution.Current.{Current}
 use Rattle.kern_exec.specs.declared.loading.Loading.{Loading}
@@ -13,10 +13,10 @@ use Rattle.kern_exec.specs.Ends.{loading_letters}
 use Rattle.kern_exec.specs.Boards.{cell_given, loading_of, board_after}
 use Rattle.kern_core.specs.declared.call.Reply.{Reply}
 use Rattle.kern_core.specs.declared.call.Reply.TheVariants.{More}
-use Rattle.kern_core.specs.declared.fault.KernFault.{KernFault}
-use Rattle.kern_core.specs.Sessions.{Session, after}
+use Rattle.kern_core.specs.declared.fault.KernelFault.{KernelFault}
+use Rattle.kern_core.specs.States.{KernelState, after}
 use Rattle.kern_core.specs.Slices.{loading}
-use Rattle.kern_core.specs.Stands.{SessionState, StandsFor, Grows}
+use Rattle.kern_core.specs.Stands.{KernelFields, StandsFor, Grows}
 
 one_more : (b : Bool) (n : ℕ) → (if b then n + 1 else n) ≤ n + 1
 one_more true n = omega arith
@@ -26,17 +26,17 @@ counted : (x : Execution) (n : ℕ) → count_with x n ≤ n + 1
 counted x n = one_more (not x.request.is_silent && x.request.stores_history) n
 
 -- loading a cell changes the board, the executions and the posts
-abbrev pub IsLoaded : SessionState → LabState → SessionState → Type 0
+abbrev pub IsLoaded : KernelFields → LabState → KernelFields → Type 0
 IsLoaded old lab new = new ≡ record old { lab = lab; work = new.work; store = new.store }
 
-pub load_grows : (old new : SessionState) (lab : LabState) (x : Execution) (rest : List Execution)
+pub load_grows : (old new : KernelFields) (lab : LabState) (x : Execution) (rest : List Execution)
     (l : Loading)
     → IsLoaded old lab new → new.work ≡ taken x rest l old.work → new.store.made ≤ old.store.made + 8
     → Grows old new
 load_grows old new lab x rest l loaded work made =
     let counts : new.work.count ≡ count_with x old.work.count = ap (λ (w : Work). w.count) work in
-    let joined : new.present.joined ≡ old.present.joined =
-    ap (λ (v : SessionState). v.present.joined) loaded in
+    let joined : new.connections.joined ≡ old.connections.joined =
+    ap (λ (v : KernelFields). v.connections.joined) loaded in
     let less = counted x old.work.count in
     record {
       posts = made;
@@ -44,33 +44,33 @@ load_grows old new lab x rest l loaded work made =
       count = omega arith;
     }
 
-pub load_stands : (moment : ℕ) (s : Session) (old new : SessionState) (lab : LabState) (x : Execution)
+pub load_stands : (unix_seconds : ℕ) (s : KernelState) (old new : KernelFields) (lab : LabState) (x : Execution)
     (rest : List Execution) (c : Current) (l : Loading)
     → StandsFor old s → old.work.queue ≡ x ∷ rest → c ≡ current_of x old.work.count
     → l ≡ loading_of (cell_given x.request.code s.board)
     → LabStandsFor lab (board_after s.board (cell_given x.request.code s.board))
     → IsLoaded old lab new → new.work ≡ taken x rest l old.work
-    → Keeps (posted moment (loading_letters old.present c l) s.posts) new.store
-    → (Ok More ≡ (loading moment s.work.queue s).answer)
-    × StandsFor new (after (loading moment s.work.queue s))
-load_stands moment s old new lab x rest c l stands queue current is_loading board loaded work kept =
+    → Keeps (posted unix_seconds (loading_letters old.connections c l) s.posts) new.store
+    → (Ok More ≡ (loading unix_seconds s.work.queue s).answer)
+    × StandsFor new (after (loading unix_seconds s.work.queue s))
+load_stands unix_seconds s old new lab x rest c l stands queue current is_loading board loaded work kept =
     let g = cell_given x.request.code s.board in
     let waits : s.work.queue ≡ x ∷ rest = ap (λ (w : Work). w.queue) (sym stands.work) ∙ queue in
     let it : c ≡ current_of x s.work.count = current ∙ ap (λ (w : Work). current_of x w.count) stands.work in
     let B : LabState → Type 0 = λ v. LabStandsFor v (board_after s.board g) in
-    let P : Present → Type 0 = λ w. Keeps (posted moment (loading_letters w c l) s.posts) new.store in
-    let Q : Current → Type 0 = λ k. Keeps (posted moment (loading_letters s.present k l) s.posts) new.store in
+    let P : Connections → Type 0 = λ w. Keeps (posted unix_seconds (loading_letters w c l) s.posts) new.store in
+    let Q : Current → Type 0 = λ k. Keeps (posted unix_seconds (loading_letters s.connections k l) s.posts) new.store in
     let R : Loading → Type 0 =
-    λ k. Keeps (posted moment (loading_letters s.present (current_of x s.work.count) k) s.posts)
+    λ k. Keeps (posted unix_seconds (loading_letters s.connections (current_of x s.work.count) k) s.posts)
     new.store in
     let W : Loading → Type 0 = λ k. new.work ≡ taken x rest k s.work in
     rw waits (
       refl,
       record {
-        board = subst B (sym (ap (λ (v : SessionState). v.lab) loaded)) board;
-        present = ap (λ (v : SessionState). v.present) loaded ∙ stands.present;
+        board = subst B (sym (ap (λ (v : KernelFields). v.lab) loaded)) board;
+        connections = ap (λ (v : KernelFields). v.connections) loaded ∙ stands.connections;
         work = subst W is_loading (work ∙ ap (taken x rest l) stands.work);
-        posts = subst R is_loading (subst Q it (subst P stands.present kept));
-        is_shut = ap (λ (v : SessionState). v.is_shut) loaded ∙ stands.is_shut;
+        posts = subst R is_loading (subst Q it (subst P stands.connections kept));
+        is_shut = ap (λ (v : KernelFields). v.is_shut) loaded ∙ stands.is_shut;
       },
     )

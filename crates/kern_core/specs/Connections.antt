@@ -12,31 +12,31 @@ use Rattle.kern_post.specs.declared.post.Head.TheVariants.{Topic}
 use Rattle.kern_post.specs.declared.post.Letter.{Letter}
 use Rattle.kern_post.specs.Posts.{fetched as posts_to, first_kept, next_from}
 use Rattle.kern_peers.specs.declared.peer.Peer.{Peer}
-use Rattle.kern_peers.specs.Present.{Present, has_no_place, joined_by, peer_at, without, is_on, is_full}
-use Rattle.kern_peers.specs.Present.{subscribed_by, cancelled}
+use Rattle.kern_peers.specs.Connections.{Connections, has_no_place, joined_by, peer_at, without, is_on, is_full}
+use Rattle.kern_peers.specs.Connections.{subscribed_by, cancelled}
 use Rattle.kern_exec.specs.declared.execution.Execution.{Execution}
 use Rattle.kern_exec.specs.Boards.{is_run}
 use Rattle.kern_core.specs.declared.call.Reply.TheVariants as reply
-use Rattle.kern_core.specs.declared.fault.KernFault.TheVariants.{Full, Lagged, NoConnection}
-use Rattle.kern_core.specs.Sessions.{Session, Turn, refused, quiet, posting}
+use Rattle.kern_core.specs.declared.fault.KernelFault.TheVariants.{Full, Lagged, NoConnection}
+use Rattle.kern_core.specs.States.{KernelState, Turn, refused, quiet, posting}
 
 -- ---- joining and leaving
 
-abbrev pub joined : Channel → List ℕ → Session → Turn
+abbrev pub joined : Channel → List ℕ → KernelState → Turn
 joined channel identity s =
-    if has_no_place channel identity s.present.peers then refused Full s else
-    quiet (reply.Joined (s.present.joined + 1) (length s.posts + 1))
-    (record s { present = joined_by channel identity s.present })
+    if has_no_place channel identity s.connections.peers then refused Full s else
+    quiet (reply.Joined (s.connections.joined + 1) (length s.posts + 1))
+    (record s { connections = joined_by channel identity s.connections })
 
-abbrev pub by_peer : Option Peer → Session → (Peer → Turn) → Turn
+abbrev pub by_peer : Option Peer → KernelState → (Peer → Turn) → Turn
 by_peer None s f = refused NoConnection s
 by_peer (Some p) s f = f p
 
-abbrev pub with_peer : ℕ → Session → (Peer → Turn) → Turn
-with_peer n s f = by_peer (peer_at n s.present.peers) s f
+abbrev pub with_peer : ℕ → KernelState → (Peer → Turn) → Turn
+with_peer n s f = by_peer (peer_at n s.connections.peers) s f
 
-abbrev pub left : ℕ → Session → Turn
-left n s = with_peer n s (λ p. quiet reply.Left (record s { present = without n s.present }))
+abbrev pub left : ℕ → KernelState → Turn
+left n s = with_peer n s (λ p. quiet reply.Left (record s { connections = without n s.connections }))
 
 -- ---- subscribing
 
@@ -49,44 +49,44 @@ abbrev pub is_empty : List Execution → Bool
 is_empty [] = true
 is_empty (x ∷ rest) = false
 
-abbrev pub is_busy : Session → Bool
+abbrev pub is_busy : KernelState → Bool
 is_busy s = is_run s.board.run || (is_some_start s.work.pending || not (is_empty s.work.queue))
 
-abbrev pub state_of : Session → ExecutionState
+abbrev pub state_of : KernelState → ExecutionState
 state_of s = if is_busy s then Busy else Idle
 
 -- to that connection alone
-abbrev pub status_to : ℕ → Session → Letter
+abbrev pub status_to : ℕ → KernelState → Letter
 status_to n s = record {
   envelope = record { to = n ∷ []; head = Topic; parent = codes "{}" };
   content = Status (state_of s);
 }
 
 -- who subscribes to statuses is told how the kernel is
-abbrev pub first_status : ℕ → List ℕ → Session → List Letter
+abbrev pub first_status : ℕ → List ℕ → KernelState → List Letter
 first_status n prefix s =
     if starts_with (λ x y. x == y) (codes "status") prefix then status_to n s ∷ [] else []
 
-abbrev pub new_subscription : ℕ → List ℕ → ℕ → Session → Turn
-new_subscription n prefix moment s =
-    posting reply.Subscribed moment (first_status n prefix s)
-    (record s { present = subscribed_by n prefix s.present })
+abbrev pub new_subscription : ℕ → List ℕ → ℕ → KernelState → Turn
+new_subscription n prefix unix_seconds s =
+    posting reply.Subscribed unix_seconds (first_status n prefix s)
+    (record s { connections = subscribed_by n prefix s.connections })
 
-abbrev pub unsubscribed : ℕ → List ℕ → Session → Turn
-unsubscribed n prefix s = quiet reply.Subscribed (record s { present = cancelled n prefix s.present })
+abbrev pub unsubscribed : ℕ → List ℕ → KernelState → Turn
+unsubscribed n prefix s = quiet reply.Subscribed (record s { connections = cancelled n prefix s.connections })
 
-abbrev pub subscribing : ℕ → Bool → List ℕ → ℕ → Session → Turn
-subscribing n wants prefix moment s = with_peer n s (λ p.
+abbrev pub subscribing : ℕ → Bool → List ℕ → ℕ → KernelState → Turn
+subscribing n wants prefix unix_seconds s = with_peer n s (λ p.
     if not (is_on Iopub p) then refused NoConnection s else
     if not wants then unsubscribed n prefix s else
-    if is_full p then refused Full s else new_subscription n prefix moment s)
+    if is_full p then refused Full s else new_subscription n prefix unix_seconds s)
 
 -- ---- fetching
 
-abbrev pub fetching : ℕ → ℕ → Session → Turn
+abbrev pub fetching : ℕ → ℕ → KernelState → Turn
 fetching n from s =
     if nat_lt from (first_kept (length s.posts)) then refused (Lagged (first_kept (length s.posts))) s else
     quiet (reply.Fetched (posts_to n from s.posts) (next_from from (length s.posts)) s.is_shut) s
 
-abbrev pub fetched : ℕ → ℕ → Session → Turn
+abbrev pub fetched : ℕ → ℕ → KernelState → Turn
 fetched n from s = with_peer n s (λ p. fetching n from s)

@@ -1,6 +1,6 @@
-pub mod Sessions
+pub mod States
 pub mod Connections
-pub mod Asks
+pub mod Requests
 pub mod Debugging
 pub mod Slices
 pub mod Turns

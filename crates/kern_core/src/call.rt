@@ -3,7 +3,7 @@
 use crate::held::Held;
 use base_text::sequence::Bytes;
 use jup_wire::channel::Channel;
-use kern_ask::ask::Request;
+use kern_request::request::Request;
 use kern_post::post::Posts;
 
 /// What a connection wants or no longer wants: the posts whose topic begins with the prefix.
@@ -11,14 +11,14 @@ use kern_post::post::Posts;
 pub struct Subscription {
     pub wants: bool,
     pub prefix: Bytes,
-    pub moment: u64,
+    pub unix_seconds: u64,
 }
 
 /// A request, and when it came.
 #[derive(Drop)]
 pub struct Arrival {
     pub request: Request,
-    pub moment: u64,
+    pub unix_seconds: u64,
 }
 
 /// A call, as it is journaled. Moments are seconds since 1970.
@@ -48,7 +48,7 @@ pub enum Call {
     },
     /// The kernel goes on: with the run, its start or the next cell.
     Slice {
-        moment: u64,
+        unix_seconds: u64,
     },
     /// The posts to a connection among the 64 numbers from this one on.
     Fetch {

@@ -7,7 +7,7 @@ use thiserror::Error;
 /// Why a call is refused. The kernel is as it was, but that all others than `OutOfMemory` and
 /// `JournalFull` are entries of its journal.
 #[derive(Clone, Copy, PartialEq, Eq, Debug, Error)]
-pub enum KernFault {
+pub enum KernelFault {
     #[error("out of memory")]
     OutOfMemory,
     /// The channel has sixteen connections or this identity, or the connection 64 subscriptions.
@@ -23,12 +23,12 @@ pub enum KernFault {
     NoConnection,
 }
 
-impl From<AllocError> for KernFault {
-    ghost use Rattle.kern_core.specs.declared.fault.KernFault.TheVariants.{OutOfMemory};
+impl From<AllocError> for KernelFault {
+    ghost use Rattle.kern_core.specs.declared.fault.KernelFault.TheVariants.{OutOfMemory};
 
     ghost from_gives = { λ _ fault. fault ≡ OutOfMemory };
 
-    fn from(_: AllocError) -> KernFault {
-        KernFault::OutOfMemory
+    fn from(_: AllocError) -> KernelFault {
+        KernelFault::OutOfMemory
     }
 }

@@ -1,19 +1,19 @@
 //! The kernel.
 ghost use Rattle.std.specs.Prelude.{◌≡◌, ◌<◌, ◌≤◌, ◌++◌, ◌∷◌, [], length, nat_le, true, false, Err, IfOk};
 ghost use Rattle.std.specs.Prelude.{option_map, slice_get};
-ghost use Rattle.kern_core.specs.declared.fault.KernFault.TheVariants.{JournalFull};
+ghost use Rattle.kern_core.specs.declared.fault.KernelFault.TheVariants.{JournalFull};
 ghost use Rattle.kern_core.specs.Turns.{answer_after};
 ghost use Rattle.kern_core.specs.Kernels.{is_entry, is_full};
 
 use crate::call::{Call, Reply};
-use crate::fault::KernFault;
-use crate::session::Session;
+use crate::fault::KernelFault;
+use crate::state::KernelState;
 use std::alloc::{AllocError, Global};
 use std::marker::Model;
 
 /// A kernel: its state, and its journal, which is the list of the calls that made it so.
 pub struct Kernel {
-    session: Session,
+    state: KernelState,
     entries: Vec<Call>,
     limit: u32,
 }
@@ -22,7 +22,7 @@ pub struct Kernel {
 impl Drop for Kernel {
     fn drop(self) {
         let Self {
-            session: _,
+            state: _,
             entries: _,
             limit: _,
         } = self;
@@ -30,20 +30,20 @@ impl Drop for Kernel {
 }
 
 impl Model for Kernel {
-    ghost use Rattle.kern_core.specs.Kernels.{KernelState, IsKept};
+    ghost use Rattle.kern_core.specs.Kernels.{JournalState, IsKept};
 
-    ghost Value = { KernelState };
+    ghost Value = { JournalState };
 
     ghost view = { λ k. record { entries = k.entries.items; limit = k.limit } };
 
-    ghost invariant = { λ k. IsKept k.session k.entries.items k.limit };
+    ghost invariant = { λ k. IsKept k.state k.entries.items k.limit };
 }
 
 /// Whether a call that was answered so is an entry of the journal.
-pub fn is_entry(answer: &Result<Reply, KernFault>) -> bool
+pub fn is_entry(answer: &Result<Reply, KernelFault>) -> bool
     ensures { result ≡ is_entry answer.now }
 {
-    !matches!(answer, Err(KernFault::OutOfMemory | KernFault::JournalFull))
+    !matches!(answer, Err(KernelFault::OutOfMemory | KernelFault::JournalFull))
 }
 
 impl Kernel {
@@ -53,9 +53,9 @@ impl Kernel {
         requires few { journal_limit ≤ 4194304 }
         ensures { IfOk result (λ kernel. kernel ≡ record { entries = []; limit = journal_limit }) }
     {
-        let session = Session::new(alloc)?;
+        let state = KernelState::new(alloc)?;
         Ok(Kernel {
-            session,
+            state,
             entries: Vec::new(alloc),
             limit: journal_limit,
         })
@@ -63,7 +63,7 @@ impl Kernel {
 
     /// One call. It becomes the last entry, and its reply is the stated one after those before it; or
     /// memory was wanting, or the journal has as many entries as it may, and nothing changed.
-    pub fn act(&mut self, call: Call) -> Result<Reply, KernFault>
+    pub fn act(&mut self, call: Call) -> Result<Reply, KernelFault>
         ensures limit { self.new.limit ≡ self.old.limit }
         ensures entered { is_entry result ≡ true → self.new.entries ≡ self.old.entries ++ call ∷ [] }
         ensures answered { is_entry result ≡ true → result ≡ answer_after self.old.entries call }
@@ -76,20 +76,20 @@ impl Kernel {
     {
         if self.entries.len() >= self.limit as usize {
             drop(call);
-            return Err(KernFault::JournalFull);
+            return Err(KernelFault::JournalFull);
         }
         if self.entries.reserve(1).is_err() {
             drop(call);
-            return Err(KernFault::OutOfMemory);
+            return Err(KernelFault::OutOfMemory);
         }
-        let answer = self.session.make(&call);
+        let answer = self.state.make(&call);
         if is_entry(&answer) {
             self.entries.push_reserved(call);
             return answer;
         }
         drop(call);
         drop(answer);
-        Err(KernFault::OutOfMemory)
+        Err(KernelFault::OutOfMemory)
     }
 
     /// Whether the journal has as many entries as it may.

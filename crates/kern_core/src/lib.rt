@@ -12,4 +12,4 @@ pub mod fault;
 pub mod held;
 pub mod kernel;
 mod replies;
-mod session;
+mod state;

@@ -1,12 +1,12 @@
 //! Replies that neither ask the board nor change anything.
 ghost use Rattle.std.specs.Prelude.{◌≡◌, IfOk, MatchResult, Ok, Err};
 ghost use Rattle.asm_text.specs.Statements.{statements_of};
-ghost use Rattle.kern_core.specs.Asks.{completeness_by, completeness_of, plain_reply};
+ghost use Rattle.kern_core.specs.Requests.{completeness_by, completeness_of, plain_reply};
 
 use asm_syntax::fault::{AsmFault, FaultKind};
 use asm_text::statements::statements;
 use base_text::text::Text;
-use kern_ask::ask::{Ask, NeedyRequest};
+use kern_request::request::{RequestBody, NeedyRequest};
 use kern_post::content::{Cause, Completeness, Content, Ending, RefusedRequest};
 use std::alloc::{AllocError, Global};
 
@@ -32,7 +32,7 @@ fn completeness_of(alloc: Global, code: &Text) -> Result<Completeness, AllocErro
 }
 
 fn bad_content(request: NeedyRequest, count: u64) -> Option<Content>
-    ensures { result ≡ plain_reply count (Ask.BadContent request) }
+    ensures { result ≡ plain_reply count (RequestBody.BadContent request) }
 {
     match request {
         NeedyRequest::Execute => Some(Content::ExecuteReply {
@@ -47,26 +47,26 @@ fn bad_content(request: NeedyRequest, count: u64) -> Option<Content>
 }
 
 /// The one reply to a request that is answered by one, after so many executions were counted.
-pub fn plain_reply(alloc: Global, ask: &Ask, count: u64) -> Result<Option<Content>, AllocError>
-    ensures { IfOk result (λ content. content ≡ plain_reply count ask.now) }
+pub fn plain_reply(alloc: Global, body: &RequestBody, count: u64) -> Result<Option<Content>, AllocError>
+    ensures { IfOk result (λ content. content ≡ plain_reply count body.now) }
 {
-    match ask {
-        Ask::KernelInfo => Ok(Some(Content::KernelInfoReply)),
-        Ask::IsComplete { code } => {
+    match body {
+        RequestBody::KernelInfo => Ok(Some(Content::KernelInfoReply)),
+        RequestBody::IsComplete { code } => {
             let completeness = completeness_of(alloc, code)?;
             Ok(Some(Content::IsCompleteReply(completeness)))
         }
-        Ask::Complete { cursor_pos } => Ok(Some(Content::CompleteReply {
+        RequestBody::Complete { cursor_pos } => Ok(Some(Content::CompleteReply {
             cursor_pos: *cursor_pos,
         })),
-        Ask::Inspect => Ok(Some(Content::InspectReply)),
-        Ask::History => Ok(Some(Content::HistoryReply)),
-        Ask::CommInfo => Ok(Some(Content::CommInfoReply)),
-        Ask::BadDebug(response) => {
+        RequestBody::Inspect => Ok(Some(Content::InspectReply)),
+        RequestBody::History => Ok(Some(Content::HistoryReply)),
+        RequestBody::CommInfo => Ok(Some(Content::CommInfoReply)),
+        RequestBody::BadDebug(response) => {
             let response = response.clone()?;
             Ok(Some(Content::DebugReply(response)))
         }
-        Ask::BadContent(request) => Ok(bad_content(*request, count)),
+        RequestBody::BadContent(request) => Ok(bad_content(*request, count)),
         _ => Ok(None),
     }
 }

@@ -7,57 +7,57 @@ use Rattle.kern_core.specs.declared.call.Call.{Call}
 use Rattle.kern_core.specs.declared.call.Call.TheVariants.{Join}
 use Rattle.kern_core.specs.declared.call.Reply.{Reply}
 use Rattle.kern_core.specs.declared.call.Reply.TheVariants as reply
-use Rattle.kern_core.specs.declared.fault.KernFault.{KernFault}
-use Rattle.kern_core.specs.declared.fault.KernFault.TheVariants.{Full}
+use Rattle.kern_core.specs.declared.fault.KernelFault.{KernelFault}
+use Rattle.kern_core.specs.declared.fault.KernelFault.TheVariants.{Full}
 use Rattle.kern_core.specs.Kernels.{is_entry, is_full}
-use Rattle.kern_core.specs.Sessions.{Session, refused, quiet}
-use Rattle.kern_core.specs.Turns.{turn, session_after}
+use Rattle.kern_core.specs.States.{KernelState, refused, quiet}
+use Rattle.kern_core.specs.Turns.{turn, state_after}
 use Rattle.kern_desk.specs.declared.desks.Joined.{Joined}
 use Rattle.kern_desk.specs.Joins.{IsJoinAnswer, IsUnjoined, IsRefused}
 use Rattle.kern_desk.specs.Seats.{calls_of, seated_answer}
 
-join_at : (b : Bool) (s t : Session) (c f : ℕ)
+join_at : (b : Bool) (s t : KernelState) (c f : ℕ)
     → IsJoinAnswer (if b then refused Full s else quiet (reply.Joined c f) t).answer
 join_at true s t c f = tt
 join_at false s t c f = tt
 
-join_fits : (channel : Channel) (identity : List ℕ) (s : Session)
+join_fits : (channel : Channel) (identity : List ℕ) (s : KernelState)
     → IsJoinAnswer (turn (Join channel identity) s).answer
 unfolding turn
 join_fits channel identity s = join_at _ s _ _ _
 
-entry_fits : (v w : PassState Call) (channel : Channel) (identity : List ℕ) (answer : Result Reply KernFault)
+entry_fits : (v w : PassState Call) (channel : Channel) (identity : List ℕ) (answer : Result Reply KernelFault)
     → Turned seated_answer is_entry is_full v (Join channel identity) answer w → is_entry answer ≡ true
     → IsJoinAnswer answer
 entry_fits v w channel identity answer t h =
     let e = t.entered h in
-    let P : Result Reply KernFault → Type 0 = λ a. IsJoinAnswer a in
-    subst P (sym e.answered) (join_fits channel identity (session_after (calls_of e.before)))
+    let P : Result Reply KernelFault → Type 0 = λ a. IsJoinAnswer a in
+    subst P (sym e.answered) (join_fits channel identity (state_after (calls_of e.before)))
 
 pub join_answer : (v w : PassState Call) (channel : Channel) (identity : List ℕ)
-    (answer : Result Reply KernFault)
+    (answer : Result Reply KernelFault)
     → Turned seated_answer is_entry is_full v (Join channel identity) answer w → IsJoinAnswer answer
 join_answer v w channel identity (Ok r) t = entry_fits v w channel identity (Ok r) t refl
 join_answer v w channel identity (Err f) t = tt
 
 -- a refusal
-pub unjoined_by : {J : Type 0} (v w : PassState Call) (call : Call) (answer : Result Reply KernFault)
-    (result : Result J KernFault)
+pub unjoined_by : {J : Type 0} (v w : PassState Call) (call : Call) (answer : Result Reply KernelFault)
+    (result : Result J KernelFault)
     → Turned seated_answer is_entry is_full v call answer w → IfErr result (λ f. answer ≡ Err f)
     → IfErr result (IsUnjoined v call w)
 unjoined_by v w call answer (Ok j) t e = tt
 unjoined_by v w call answer (Err f) t e =
-    let T : Result Reply KernFault → Type 0 = λ a. Turned seated_answer is_entry is_full v call a w in
+    let T : Result Reply KernelFault → Type 0 = λ a. Turned seated_answer is_entry is_full v call a w in
     IsRefused f (subst T e t)
 
 -- a number, and where to begin
-pub came_by : (v w : PassState Call) (call : Call) (answer : Result Reply KernFault)
-    (result : Result Joined KernFault)
+pub came_by : (v w : PassState Call) (call : Call) (answer : Result Reply KernelFault)
+    (result : Result Joined KernelFault)
     → Turned seated_answer is_entry is_full v call answer w
     → IfOk result (λ j. answer ≡ Ok (reply.Joined j.connection j.from))
     → IfOk result (λ j. Turned seated_answer is_entry is_full v call (Ok (reply.Joined j.connection j.from))
     w)
 came_by v w call answer (Err f) t e = tt
 came_by v w call answer (Ok j) t e =
-    let T : Result Reply KernFault → Type 0 = λ a. Turned seated_answer is_entry is_full v call a w in
+    let T : Result Reply KernelFault → Type 0 = λ a. Turned seated_answer is_entry is_full v call a w in
     subst T e t

@@ -2,7 +2,7 @@
 use Rattle.std.specs.Prelude.{ℕ, List, map, Result}
 use Rattle.kern_core.specs.declared.call.Call.{Call}
 use Rattle.kern_core.specs.declared.call.Reply.{Reply}
-use Rattle.kern_core.specs.declared.fault.KernFault.{KernFault}
+use Rattle.kern_core.specs.declared.fault.KernelFault.{KernelFault}
 use Rattle.kern_core.specs.Turns.{answer_after}
 
 -- each entry is the seat that made the call, and the call
@@ -14,5 +14,5 @@ abbrev pub calls_of : List (ℕ × Call) → List Call
 calls_of entries = map (λ entry. entry.1) entries
 
 -- what a call answers doesn't depend on seats
-abbrev pub seated_answer : List (ℕ × Call) → Call → Result Reply KernFault
+abbrev pub seated_answer : List (ℕ × Call) → Call → Result Reply KernelFault
 seated_answer entries call = answer_after (calls_of entries) call

@@ -11,7 +11,7 @@ use crate::seated::{Desk, Pass, Seated};
 use base_text::sequence::Bytes;
 use jup_wire::channel::Channel;
 use kern_core::call::{Call, Reply};
-use kern_core::fault::KernFault;
+use kern_core::fault::KernelFault;
 use kern_core::held::Held;
 use kern_core::kernel::Kernel;
 use lab_turn::turnstile::Turnstile;
@@ -66,7 +66,7 @@ pub fn close_desk(desk: Desk, passes: Vec<Pass>) -> Option<Seated>
     }
 }
 
-fn joined_by(answer: &Result<Reply, KernFault>) -> Result<Joined, KernFault>
+fn joined_by(answer: &Result<Reply, KernelFault>) -> Result<Joined, KernelFault>
     requires { IsJoinAnswer answer.now }
     ensures ok { IfOk result (λ joined. answer.now ≡ Ok (reply.Joined joined.connection joined.from)) }
     ensures err { IfErr result (λ fault. answer.now ≡ Err fault) }
@@ -97,7 +97,7 @@ pub fn join<R: Wait>(
     pass: &mut Pass,
     channel: Channel,
     identity: Held<Bytes>,
-) -> Result<Joined, KernFault>
+) -> Result<Joined, KernelFault>
     requires { pass.old.turnstile ≡ desk.now }
     ensures same { (pass.new.turnstile ≡ desk.now) × (pass.new.seat ≡ pass.old.seat) }
     ensures ok { IfOk result (λ joined. Turned seated_answer is_entry is_full pass.old (Join channel identity)
@@ -110,6 +110,6 @@ pub fn join<R: Wait>(
             drop(answer);
             joined
         }
-        Err(_) => Err(KernFault::JournalFull),
+        Err(_) => Err(KernelFault::JournalFull),
     }
 }

@@ -3,7 +3,7 @@ ghost use Rattle.std.specs.Prelude.{◌≡◌, [], option_map, slice_get};
 ghost use Rattle.kern_desk.specs.Seats.{calls_of};
 
 use kern_core::call::{Call, Reply};
-use kern_core::fault::KernFault;
+use kern_core::fault::KernelFault;
 use kern_core::kernel::{Kernel, is_entry};
 use lab_turn::journaled::Journaled;
 use lab_turn::turnstile::Turnstile;
@@ -78,7 +78,7 @@ impl Seated {
 impl Journaled for Seated {
     type Call = Call;
 
-    type Reply = Result<Reply, KernFault>;
+    type Reply = Result<Reply, KernelFault>;
 
     ghost use Rattle.kern_core.specs.Kernels.{is_entry, is_full};
     ghost use Rattle.kern_desk.specs.Seats.{seated_answer};
@@ -94,9 +94,9 @@ impl Journaled for Seated {
     ghost is_full = { is_full };
 
     /// Makes the call on the kernel.
-    fn act(&mut self, seat: u32, call: Call) -> Result<Reply, KernFault> {
+    fn act(&mut self, seat: u32, call: Call) -> Result<Reply, KernelFault> {
         if self.seats.reserve(1).is_err() {
-            return Err(KernFault::OutOfMemory);
+            return Err(KernelFault::OutOfMemory);
         }
         let answer = self.kernel.act(call);
         if is_entry(&answer) {

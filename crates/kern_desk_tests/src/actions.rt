@@ -4,7 +4,7 @@ use base_text::sequence::{Bytes, Frames};
 use base_text::text::Text;
 use dap_talk::command::{DapCommand, DapRequest};
 use jup_wire::channel::Channel;
-use kern_ask::ask::{Ask, ExecuteRequest, Request};
+use kern_request::request::{RequestBody, ExecuteRequest, Request};
 use kern_core::call::{Arrival, Call, Subscription};
 use kern_core::held::Held;
 use std::alloc::{AllocError, Global};
@@ -18,7 +18,7 @@ pub enum Action {
     /// A connection wants all posts.
     Subscribe(u32),
     /// A connection asks.
-    Ask(u32, Question),
+    RequestBody(u32, Question),
     Slice,
     Fetch(u32, u64),
 }
@@ -35,13 +35,13 @@ pub enum Question {
 }
 
 /// The call at a moment.
-pub fn call_of(alloc: Global, action: Action, moment: u64) -> Result<Call, AllocError> {
+pub fn call_of(alloc: Global, action: Action, unix_seconds: u64) -> Result<Call, AllocError> {
     match action {
         Action::Join(channel) => join_call(alloc, channel),
         Action::Leave(connection) => Ok(Call::Leave { connection }),
-        Action::Subscribe(connection) => subscribe_call(alloc, connection, moment),
-        Action::Ask(connection, question) => arrive_call(alloc, connection, question, moment),
-        Action::Slice => Ok(Call::Slice { moment }),
+        Action::Subscribe(connection) => subscribe_call(alloc, connection, unix_seconds),
+        Action::RequestBody(connection, question) => arrive_call(alloc, connection, question, unix_seconds),
+        Action::Slice => Ok(Call::Slice { unix_seconds }),
         Action::Fetch(connection, from) => Ok(Call::Fetch { connection, from }),
     }
 }
@@ -51,11 +51,11 @@ fn join_call(alloc: Global, channel: Channel) -> Result<Call, AllocError> {
     Ok(Call::Join { channel, identity })
 }
 
-fn subscribe_call(alloc: Global, connection: u32, moment: u64) -> Result<Call, AllocError> {
+fn subscribe_call(alloc: Global, connection: u32, unix_seconds: u64) -> Result<Call, AllocError> {
     let subscription = Subscription {
         wants: true,
         prefix: Bytes::new(alloc),
-        moment,
+        unix_seconds,
     };
     let subscription = Held::new(alloc, subscription)?;
     Ok(Call::Subscribe {
@@ -68,35 +68,35 @@ fn arrive_call(
     alloc: Global,
     connection: u32,
     question: Question,
-    moment: u64,
+    unix_seconds: u64,
 ) -> Result<Call, AllocError> {
     let header = Bytes::copy_of(alloc, b"{}")?;
     let request = Request {
-        ask: ask_of(alloc, question)?,
+        body: body_of(alloc, question)?,
         identities: Frames::new(alloc),
         header,
     };
-    let arrival = Held::new(alloc, Arrival { request, moment })?;
+    let arrival = Held::new(alloc, Arrival { request, unix_seconds })?;
     Ok(Call::Arrive {
         connection,
         arrival,
     })
 }
 
-fn ask_of(alloc: Global, question: Question) -> Result<Ask, AllocError> {
+fn body_of(alloc: Global, question: Question) -> Result<RequestBody, AllocError> {
     match question {
-        Question::KernelInfo => Ok(Ask::KernelInfo),
+        Question::KernelInfo => Ok(RequestBody::KernelInfo),
         Question::Execute(code) => execute(alloc, code),
-        Question::Interrupt => Ok(Ask::Interrupt),
-        Question::Shutdown => Ok(Ask::Shutdown { restarts: false }),
+        Question::Interrupt => Ok(RequestBody::Interrupt),
+        Question::Shutdown => Ok(RequestBody::Shutdown { restarts: false }),
         Question::Switches(value) => Ok(debug(DapCommand::BoardSwitches { value })),
         Question::Variables(reference) => Ok(debug(variables(reference))),
     }
 }
 
-fn execute(alloc: Global, code: &str) -> Result<Ask, AllocError> {
+fn execute(alloc: Global, code: &str) -> Result<RequestBody, AllocError> {
     let code = Text::copy_of(alloc, code)?;
-    Ok(Ask::Execute(ExecuteRequest {
+    Ok(RequestBody::Execute(ExecuteRequest {
         code,
         is_silent: false,
         stores_history: true,
@@ -112,20 +112,20 @@ fn variables(reference: u32) -> DapCommand {
     }
 }
 
-fn debug(command: DapCommand) -> Ask {
-    Ask::Debug(DapRequest { seq: 1, command })
+fn debug(command: DapCommand) -> RequestBody {
+    RequestBody::Debug(DapRequest { seq: 1, command })
 }
 
 /// Whether a call is this one. A Join, a Leave and a Fetch have no moment.
-pub fn is_call(call: &Call, action: Action, moment: u64) -> bool {
+pub fn is_call(call: &Call, action: Action, unix_seconds: u64) -> bool {
     match (call, action) {
         (Call::Join { channel, .. }, Action::Join(wanted)) => *channel == wanted,
         (Call::Leave { connection }, Action::Leave(wanted)) => *connection == wanted,
-        (Call::Subscribe { .. }, Action::Subscribe(wanted)) => is_subscribe(call, wanted, moment),
-        (Call::Arrive { .. }, Action::Ask(wanted, question)) => {
-            is_arrive(call, wanted, question, moment)
+        (Call::Subscribe { .. }, Action::Subscribe(wanted)) => is_subscribe(call, wanted, unix_seconds),
+        (Call::Arrive { .. }, Action::RequestBody(wanted, question)) => {
+            is_arrive(call, wanted, question, unix_seconds)
         }
-        (Call::Slice { moment: made }, Action::Slice) => *made == moment,
+        (Call::Slice { unix_seconds: made }, Action::Slice) => *made == unix_seconds,
         (Call::Fetch { connection, from }, Action::Fetch(wanted, first)) => {
             *connection == wanted && *from == first
         }
@@ -133,7 +133,7 @@ pub fn is_call(call: &Call, action: Action, moment: u64) -> bool {
     }
 }
 
-fn is_subscribe(call: &Call, wanted: u32, moment: u64) -> bool {
+fn is_subscribe(call: &Call, wanted: u32, unix_seconds: u64) -> bool {
     match call {
         Call::Subscribe {
             connection,
@@ -141,33 +141,33 @@ fn is_subscribe(call: &Call, wanted: u32, moment: u64) -> bool {
         } => {
             let told = subscription.get();
             let is_for_all = told.wants && told.prefix.len() == 0;
-            is_for_all && told.moment == moment && *connection == wanted
+            is_for_all && told.unix_seconds == unix_seconds && *connection == wanted
         }
         _ => false,
     }
 }
 
-fn is_arrive(call: &Call, wanted: u32, question: Question, moment: u64) -> bool {
+fn is_arrive(call: &Call, wanted: u32, question: Question, unix_seconds: u64) -> bool {
     match call {
         Call::Arrive {
             connection,
             arrival,
         } => {
             let told = arrival.get();
-            let is_asked = is_question(&told.request.ask, question);
-            is_asked && told.moment == moment && *connection == wanted
+            let is_asked = is_question(&told.request.body, question);
+            is_asked && told.unix_seconds == unix_seconds && *connection == wanted
         }
         _ => false,
     }
 }
 
-fn is_question(ask: &Ask, question: Question) -> bool {
-    match (ask, question) {
-        (Ask::KernelInfo, Question::KernelInfo) => true,
-        (Ask::Execute(execute), Question::Execute(code)) => execute.code.as_str() == code,
-        (Ask::Interrupt, Question::Interrupt) => true,
-        (Ask::Shutdown { restarts }, Question::Shutdown) => !*restarts,
-        (Ask::Debug(request), _) => is_command(&request.command, question),
+fn is_question(body: &RequestBody, question: Question) -> bool {
+    match (body, question) {
+        (RequestBody::KernelInfo, Question::KernelInfo) => true,
+        (RequestBody::Execute(execute), Question::Execute(code)) => execute.code.as_str() == code,
+        (RequestBody::Interrupt, Question::Interrupt) => true,
+        (RequestBody::Shutdown { restarts }, Question::Shutdown) => !*restarts,
+        (RequestBody::Debug(request), _) => is_command(&request.command, question),
         _ => false,
     }
 }

@@ -54,7 +54,7 @@ fn entry_at<R: Abort>(
     let at = count_up(rt, next, seat);
     let turns = made.get(seat as usize).expect(rt, "the calls of a seat");
     let turn = *turns.get(at).expect(rt, "no more entries than calls");
-    let is_made = is_call(call, turn.action, turn.moment);
+    let is_made = is_call(call, turn.action, turn.unix_seconds);
     expect_at(rt, is_made, "another call at entry", place as u64);
     Entry { seat, turn }
 }
@@ -82,7 +82,7 @@ pub fn replay<R: Abort>(rt: &R, alloc: Global, entries: &[Entry]) {
 
 fn make_again<R: Abort>(rt: &R, alloc: Global, kernel: &mut Kernel, entries: &[Entry]) {
     for (place, entry) in entries.iter().enumerate() {
-        let again = act(rt, alloc, kernel, entry.turn.action, entry.turn.moment);
+        let again = act(rt, alloc, kernel, entry.turn.action, entry.turn.unix_seconds);
         expect_at(rt, again == entry.turn.outcome, "entry", place as u64);
     }
 }

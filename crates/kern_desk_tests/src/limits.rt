@@ -5,7 +5,7 @@ use crate::outcomes::Outcome;
 use crate::seats::run_rows;
 use crate::turns::{Row, act, expect_at};
 use jup_wire::channel::Channel;
-use kern_core::fault::KernFault;
+use kern_core::fault::KernelFault;
 use kern_core::kernel::Kernel;
 use kern_desk::desks::MOST_ENTRIES;
 use std::alloc::Global;
@@ -17,24 +17,24 @@ fn expect_act<R: Abort>(
     alloc: Global,
     kernel: &mut Kernel,
     action: Action,
-    moment: u64,
+    unix_seconds: u64,
     wanted: Outcome,
 ) {
-    let outcome = act(rt, alloc, kernel, action, moment);
-    expect_at(rt, outcome == wanted, "the call at", moment);
+    let outcome = act(rt, alloc, kernel, action, unix_seconds);
+    expect_at(rt, outcome == wanted, "the call at", unix_seconds);
 }
 
 // Has a new kernel make 9,096 posts: a Join on shell as connection 1, and 3,032 requests of three posts.
 // The reply is the second of the three, and the only one that goes to the connection.
-fn ask_often<R: Abort>(rt: &R, alloc: Global, kernel: &mut Kernel) {
+fn request_often<R: Abort>(rt: &R, alloc: Global, kernel: &mut Kernel) {
     act(rt, alloc, kernel, Action::Join(Channel::Shell), 0);
-    for moment in 1..3033 {
-        let action = Action::Ask(1, Question::KernelInfo);
-        expect_act(rt, alloc, kernel, action, moment, Outcome::Arrived);
+    for unix_seconds in 1..3033 {
+        let action = Action::RequestBody(1, Question::KernelInfo);
+        expect_act(rt, alloc, kernel, action, unix_seconds, Outcome::Arrived);
     }
 }
 
-const LAGGED: Outcome = Outcome::Refused(KernFault::Lagged { first: 5001 });
+const LAGGED: Outcome = Outcome::Refused(KernelFault::Lagged { first: 5001 });
 
 // From which post to fetch, and what the fetch gives: of 9,096 posts the last 4,096 are kept, from 5,001
 // on.
@@ -99,24 +99,24 @@ fn expect_all<R: Abort>(rt: &R, alloc: Global, kernel: &mut Kernel) {
 #[test]
 fn kept_posts(rt: HostRuntime) {
     let mut kernel = new_kernel(&rt, rt.alloc());
-    ask_often(&rt, rt.alloc(), &mut kernel);
+    request_often(&rt, rt.alloc(), &mut kernel);
     expect_kept(&rt, rt.alloc(), &mut kernel);
     expect_all(&rt, rt.alloc(), &mut kernel);
     drop(kernel);
 }
 
-const FULL: Outcome = Outcome::Refused(KernFault::JournalFull);
+const FULL: Outcome = Outcome::Refused(KernelFault::JournalFull);
 
 // A journal takes exactly as many slices as its limit tells.
 fn expect_slices<R: Abort>(rt: &R, alloc: Global, kernel: &mut Kernel, limit: u32) {
-    for moment in 0..limit {
-        expect_at(rt, !kernel.full(), "full at", u64::from(moment));
+    for unix_seconds in 0..limit {
+        expect_at(rt, !kernel.full(), "full at", u64::from(unix_seconds));
         expect_act(
             rt,
             alloc,
             kernel,
             Action::Slice,
-            u64::from(moment),
+            u64::from(unix_seconds),
             Outcome::Idle,
         );
     }
@@ -125,8 +125,8 @@ fn expect_slices<R: Abort>(rt: &R, alloc: Global, kernel: &mut Kernel, limit: u3
 // It is full then, and takes no slice more.
 fn expect_full<R: Abort>(rt: &R, alloc: Global, kernel: &mut Kernel, limit: u32) {
     expect_at(rt, kernel.full(), "not full at", u64::from(limit));
-    for moment in 0..3 {
-        expect_act(rt, alloc, kernel, Action::Slice, moment, FULL);
+    for unix_seconds in 0..3 {
+        expect_act(rt, alloc, kernel, Action::Slice, unix_seconds, FULL);
     }
     let ends_there = kernel.entry(limit as usize).is_none();
     expect_at(rt, ends_there, "an entry past", u64::from(limit));
@@ -155,10 +155,10 @@ const FULL_JOURNAL: [Row; 12] = [
     (
         2,
         Action::Fetch(1, 0),
-        Outcome::Refused(KernFault::Lagged { first: 1 }),
+        Outcome::Refused(KernelFault::Lagged { first: 1 }),
     ),
     (0, Action::Subscribe(1), NO_CONNECTION),
-    (1, Action::Ask(1, Question::KernelInfo), Outcome::Arrived),
+    (1, Action::RequestBody(1, Question::KernelInfo), Outcome::Arrived),
     (
         2,
         Action::Fetch(1, 1),
@@ -167,12 +167,12 @@ const FULL_JOURNAL: [Row; 12] = [
     (0, Action::Join(Channel::Iopub), FULL),
     (1, Action::Leave(9), FULL),
     (2, Action::Subscribe(1), FULL),
-    (0, Action::Ask(1, Question::Shutdown), FULL),
+    (0, Action::RequestBody(1, Question::Shutdown), FULL),
     (1, Action::Slice, FULL),
     (2, Action::Fetch(1, 1), FULL),
 ];
 
-const NO_CONNECTION: Outcome = Outcome::Refused(KernFault::NoConnection);
+const NO_CONNECTION: Outcome = Outcome::Refused(KernelFault::NoConnection);
 
 #[test]
 fn a_full_journal(rt: HostRuntime) {

@@ -1,7 +1,7 @@
 //! Replies as plain data.
 
 use kern_core::call::Reply;
-use kern_core::fault::KernFault;
+use kern_core::fault::KernelFault;
 use kern_post::content::{Cause, Content, Ending};
 use kern_post::post::{Post, Posts};
 
@@ -22,11 +22,11 @@ pub enum Outcome {
     /// How many posts, the numbers of the first six of them, with 0 where there are fewer, how many tell
     /// that a cell was interrupted, from which number to go on, and whether a shutdown came.
     Fetched(usize, [u64; TOLD], usize, u64, bool),
-    Refused(KernFault),
+    Refused(KernelFault),
 }
 
 /// What an answer tells.
-pub fn outcome_of(answer: &Result<Reply, KernFault>) -> Outcome {
+pub fn outcome_of(answer: &Result<Reply, KernelFault>) -> Outcome {
     match answer {
         Ok(reply) => told(reply),
         Err(fault) => Outcome::Refused(*fault),

@@ -55,7 +55,7 @@ fn asking(turn: u32, connection: u32, from: u64) -> Action {
         return Action::Join(Channel::Shell);
     }
     if turn % 2 == 1 {
-        return Action::Ask(connection, Question::KernelInfo);
+        return Action::RequestBody(connection, Question::KernelInfo);
     }
     Action::Fetch(connection, from)
 }
@@ -70,8 +70,8 @@ fn listening(turn: u32, connection: u32, from: u64) -> Action {
 
 fn interrupting(turn: u32, connection: u32, from: u64) -> Action {
     match turn {
-        0..40 => Action::Ask(connection, Question::KernelInfo),
-        40 => Action::Ask(connection, Question::Interrupt),
+        0..40 => Action::RequestBody(connection, Question::KernelInfo),
+        40 => Action::RequestBody(connection, Question::Interrupt),
         _ => Action::Fetch(connection, from),
     }
 }
@@ -107,12 +107,12 @@ impl Player {
         requires { self.old.pass.turnstile ≡ desk.now }
         ensures { self.new.pass.turnstile ≡ desk.now }
     {
-        let moment = self.turns.len() as u64;
-        let outcome = make(rt, alloc, desk, &mut self.pass, action, moment);
+        let unix_seconds = self.turns.len() as u64;
+        let outcome = make(rt, alloc, desk, &mut self.pass, action, unix_seconds);
         self.note(outcome);
         let turn = Turn {
             action,
-            moment,
+            unix_seconds,
             outcome,
         };
         self.turns.push(turn).expect(rt, "memory for a turn");

@@ -8,7 +8,7 @@ use crate::turns::{Row, expect_at, make};
 use dap_answers::answer::{Body, Outcome as Answered};
 use jup_wire::channel::Channel;
 use kern_core::call::Reply;
-use kern_core::fault::KernFault;
+use kern_core::fault::KernelFault;
 use kern_desk::desks::{MOST_ENTRIES, close_desk, open_desk};
 use kern_desk::seated::{Desk, Pass, Seated};
 use kern_post::content::Content;
@@ -25,15 +25,15 @@ fn make_row<R: Wait + Abort>(
     desk: &Desk,
     passes: &mut [Pass],
     row: Row,
-    moment: u64,
+    unix_seconds: u64,
 )
     requires { All (λ p. p.turnstile ≡ desk.now) passes.old }
     ensures { All (λ p. p.turnstile ≡ desk.now) passes.new }
 {
     let (seat, action, wanted) = row;
     assert!(rt; seat < passes.len());
-    let outcome = make(rt, alloc, desk, &mut passes[seat], action, moment);
-    expect_at(rt, outcome == wanted, "row", moment);
+    let outcome = make(rt, alloc, desk, &mut passes[seat], action, unix_seconds);
+    expect_at(rt, outcome == wanted, "row", unix_seconds);
 }
 
 fn make_rows<R: Wait + Abort>(rt: &R, alloc: Global, desk: &Desk, passes: &mut [Pass], rows: &[Row])
@@ -78,7 +78,7 @@ const SIX_TURNS: [Row; 6] = [
     (1, Action::Join(Channel::Iopub), Outcome::Joined(2, 1)),
     (2, Action::Slice, Outcome::Idle),
     (1, Action::Subscribe(2), Outcome::Subscribed),
-    (0, Action::Ask(1, Question::KernelInfo), Outcome::Arrived),
+    (0, Action::RequestBody(1, Question::KernelInfo), Outcome::Arrived),
     (
         1,
         Action::Fetch(2, 1),
@@ -96,7 +96,7 @@ const SESSION: [Row; 20] = [
     (0, Action::Join(Channel::Shell), Outcome::Joined(1, 1)),
     (1, Action::Join(Channel::Iopub), Outcome::Joined(2, 1)),
     (1, Action::Subscribe(2), Outcome::Subscribed),
-    (0, Action::Ask(1, Question::KernelInfo), Outcome::Arrived),
+    (0, Action::RequestBody(1, Question::KernelInfo), Outcome::Arrived),
     (
         1,
         Action::Fetch(2, 1),
@@ -109,7 +109,7 @@ const SESSION: [Row; 20] = [
     ),
     (
         0,
-        Action::Ask(1, Question::Execute("HLT\nEND 0")),
+        Action::RequestBody(1, Question::Execute("HLT\nEND 0")),
         Outcome::Arrived,
     ),
     (
@@ -141,7 +141,7 @@ const SESSION: [Row; 20] = [
         Outcome::Fetched(1, [7, 0, 0, 0, 0, 0], 0, 9, false),
     ),
     (2, Action::Slice, Outcome::Idle),
-    (0, Action::Ask(1, Question::Shutdown), Outcome::Arrived),
+    (0, Action::RequestBody(1, Question::Shutdown), Outcome::Arrived),
     (2, Action::Slice, Outcome::Ended),
     (
         1,
@@ -161,11 +161,11 @@ fn a_session(rt: HostRuntime) {
 }
 
 // What a fetch tells, and whether its post 5 shows the switches as 05AH.
-fn seen(answer: Result<Reply, KernFault>) -> (Outcome, bool) {
+fn seen(answer: Result<Reply, KernelFault>) -> (Outcome, bool) {
     (outcome_of(&answer), shows_switches(&answer))
 }
 
-fn shows_switches(answer: &Result<Reply, KernFault>) -> bool {
+fn shows_switches(answer: &Result<Reply, KernelFault>) -> bool {
     match answer {
         Ok(Reply::Fetched { posts, .. }) => posts.as_slice().iter().any(|post| is_shown(post)),
         _ => false,
@@ -249,10 +249,10 @@ const SWITCHES: [Row; 4] = [
     (0, Action::Join(Channel::Control), Outcome::Joined(1, 1)),
     (
         0,
-        Action::Ask(1, Question::Switches(0x5A)),
+        Action::RequestBody(1, Question::Switches(0x5A)),
         Outcome::Arrived,
     ),
-    (1, Action::Ask(1, Question::Variables(3)), Outcome::Arrived),
+    (1, Action::RequestBody(1, Question::Variables(3)), Outcome::Arrived),
     (
         1,
         Action::Fetch(1, 1),

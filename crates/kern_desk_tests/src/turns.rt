@@ -4,7 +4,7 @@ ghost use Rattle.std.specs.Prelude.{◌≡◌};
 use crate::actions::{Action, call_of};
 use crate::outcomes::{Outcome, outcome_of};
 use kern_core::call::Reply;
-use kern_core::fault::KernFault;
+use kern_core::fault::KernelFault;
 use kern_core::kernel::Kernel;
 use kern_desk::seated::{Desk, Pass};
 use std::alloc::Global;
@@ -19,7 +19,7 @@ pub type Row = (usize, Action, Outcome);
 #[derive(Clone, Copy)]
 pub struct Turn {
     pub action: Action,
-    pub moment: u64,
+    pub unix_seconds: u64,
     pub outcome: Outcome,
 }
 
@@ -36,12 +36,12 @@ pub fn make<R: Wait + Abort>(
     desk: &Desk,
     pass: &mut Pass,
     action: Action,
-    moment: u64,
+    unix_seconds: u64,
 ) -> Outcome
     requires { pass.old.turnstile ≡ desk.now }
     ensures { pass.new.turnstile ≡ desk.now }
 {
-    let call = call_of(alloc, action, moment).expect(rt, "memory for a call");
+    let call = call_of(alloc, action, unix_seconds).expect(rt, "memory for a call");
     told_by(desk.turn(rt, pass, call).expect(rt, "a turn"))
 }
 
@@ -51,12 +51,12 @@ pub fn act<R: Abort>(
     alloc: Global,
     kernel: &mut Kernel,
     action: Action,
-    moment: u64,
+    unix_seconds: u64,
 ) -> Outcome {
-    let call = call_of(alloc, action, moment).expect(rt, "memory for a call");
+    let call = call_of(alloc, action, unix_seconds).expect(rt, "memory for a call");
     told_by(kernel.act(call))
 }
 
-fn told_by(answer: Result<Reply, KernFault>) -> Outcome {
+fn told_by(answer: Result<Reply, KernelFault>) -> Outcome {
     outcome_of(&answer)
 }

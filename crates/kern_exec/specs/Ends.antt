@@ -19,43 +19,43 @@ use Rattle.kern_post.specs.declared.content.Ending.{Ending}
 use Rattle.kern_post.specs.declared.content.Ending.TheVariants.{Done, Failed}
 use Rattle.kern_post.specs.declared.content.Cause.TheVariants.{UndefinedOpcode}
 use Rattle.kern_post.specs.declared.post.Letter.{Letter}
-use Rattle.kern_peers.specs.Present.{Present, stdin_of}
+use Rattle.kern_peers.specs.Connections.{Connections, stdin_of}
 use Rattle.kern_exec.specs.declared.execution.Execution.{Execution}
 use Rattle.kern_exec.specs.declared.execution.Current.{Current}
 use Rattle.kern_exec.specs.declared.loading.Loading.{Loading}
 use Rattle.kern_exec.specs.declared.loading.Loading.TheVariants.{Starts, Ends}
-use Rattle.kern_exec.specs.Letters.{heard, replied}
+use Rattle.kern_exec.specs.Letters.{published, replied}
 
 -- ---- the end
 
 -- where the execution isn't silent and failed
-abbrev pub error_letters : Bool → Present → List ℕ → Ending → List Letter
-error_letters true who parent ending = []
-error_letters false who parent Done = []
-error_letters false who parent (Failed cause) = heard who parent (content.Error cause) ∷ []
+abbrev pub error_letters : Bool → Connections → List ℕ → Ending → List Letter
+error_letters true connections parent ending = []
+error_letters false connections parent Done = []
+error_letters false connections parent (Failed cause) = published connections parent (content.Error cause) ∷ []
 
-abbrev pub end_letters : Present → Current → Ending → List Letter
-end_letters who c ending =
-    error_letters c.execution.request.is_silent who c.execution.header ending ++
+abbrev pub end_letters : Connections → Current → Ending → List Letter
+end_letters connections c ending =
+    error_letters c.execution.request.is_silent connections c.execution.header ending ++
     replied c.execution.connection c.execution.identities c.execution.header
     (content.ExecuteReply c.count ending) ∷
-    heard who c.execution.header (content.Status Idle) ∷ []
+    published connections c.execution.header (content.Status Idle) ∷ []
 
 -- ---- the beginning
 
-abbrev pub input_letters : Present → Current → List Letter
-input_letters who c =
+abbrev pub input_letters : Connections → Current → List Letter
+input_letters connections c =
     if c.execution.request.is_silent then [] else
-    heard who c.execution.header (content.ExecuteInput c.execution.request.code c.count) ∷ []
+    published connections c.execution.header (content.ExecuteInput c.execution.request.code c.count) ∷ []
 
 -- a cell without a start ends when it is loaded, and so does one that can't be
-abbrev pub end_of_loading : Present → Current → Loading → List Letter
-end_of_loading who c (Starts address) = []
-end_of_loading who c (Ends ending) = end_letters who c ending
+abbrev pub end_of_loading : Connections → Current → Loading → List Letter
+end_of_loading connections c (Starts address) = []
+end_of_loading connections c (Ends ending) = end_letters connections c ending
 
-abbrev pub loading_letters : Present → Current → Loading → List Letter
-loading_letters who c loading =
-    heard who c.execution.header (content.Status Busy) ∷ (input_letters who c ++ end_of_loading who c loading)
+abbrev pub loading_letters : Connections → Current → Loading → List Letter
+loading_letters connections c loading =
+    published connections c.execution.header (content.Status Busy) ∷ (input_letters connections c ++ end_of_loading connections c loading)
 
 -- ---- a slice of the run
 
@@ -64,26 +64,26 @@ abbrev pub printed : PortOperation → Option ℕ
 printed (In port byte) = None
 printed (Out port byte) = if port == 1 then Some byte else None
 
-abbrev pub stream_letters : Present → Current → List ℕ → List Letter
-stream_letters who c [] = []
-stream_letters who c (byte ∷ bytes) =
+abbrev pub stream_letters : Connections → Current → List ℕ → List Letter
+stream_letters connections c [] = []
+stream_letters connections c (byte ∷ bytes) =
     if c.execution.request.is_silent then [] else
-    heard who c.execution.header (content.Stream (byte ∷ bytes)) ∷ []
+    published connections c.execution.header (content.Stream (byte ∷ bytes)) ∷ []
 
 -- a line was asked for
-abbrev pub is_asking : PortOperation → Bool
-is_asking (In port byte) = false
-is_asking (Out port byte) = port == 3
+abbrev pub requests_line : PortOperation → Bool
+requests_line (In port byte) = false
+requests_line (Out port byte) = port == 3
 
 abbrev pub input_request_to : Option ℕ → Current → List Letter
 input_request_to None c = []
 input_request_to (Some n) c = replied n c.execution.identities c.execution.header content.InputRequest ∷ []
 
 -- of the stdin connection that has the identity with which the requester joined, where the request allows it
-abbrev pub input_request_letters : Present → Current → Bool → List Letter
-input_request_letters who c asks =
-    if asks && c.execution.request.allows_stdin
-    then input_request_to (stdin_of c.execution.identity who.peers) c else []
+abbrev pub input_request_letters : Connections → Current → Bool → List Letter
+input_request_letters connections c wants_line =
+    if wants_line && c.execution.request.allows_stdin
+    then input_request_to (stdin_of c.execution.identity connections.peers) c else []
 
 abbrev pub reason_of : Stop → StopReason
 reason_of stop.Breakpoint = reason.Breakpoint
@@ -93,16 +93,16 @@ abbrev pub ending_of : End → Ending
 ending_of end.Halted = Done
 ending_of (end.Undefined opcode pc) = Failed (UndefinedOpcode opcode pc)
 
-abbrev pub outcome_letters : Present → Current → SliceOutcome → List Letter
-outcome_letters who c outcome.More = []
-outcome_letters who c outcome.Waiting = []
-outcome_letters who c (outcome.Stop s) =
-    heard who c.execution.header (content.DebugEvent (Stopped (reason_of s))) ∷ []
-outcome_letters who c (outcome.End e) = end_letters who c (ending_of e)
+abbrev pub outcome_letters : Connections → Current → SliceOutcome → List Letter
+outcome_letters connections c outcome.More = []
+outcome_letters connections c outcome.Waiting = []
+outcome_letters connections c (outcome.Stop s) =
+    published connections c.execution.header (content.DebugEvent (Stopped (reason_of s))) ∷ []
+outcome_letters connections c (outcome.End e) = end_letters connections c (ending_of e)
 
 -- what a slice with this traffic posts that ended so
-abbrev pub slice_letters : Present → Current → List PortOperation → SliceOutcome → List Letter
-slice_letters who c traffic ending =
-    stream_letters who c (filter_map printed traffic) ++
-    (input_request_letters who c (list_any is_asking traffic) ++
-    outcome_letters who c ending)
+abbrev pub slice_letters : Connections → Current → List PortOperation → SliceOutcome → List Letter
+slice_letters connections c traffic ending =
+    stream_letters connections c (filter_map printed traffic) ++
+    (input_request_letters connections c (list_any requests_line traffic) ++
+    outcome_letters connections c ending)

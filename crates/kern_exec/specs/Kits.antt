@@ -13,7 +13,7 @@ use Rattle.kern_post.specs.declared.content.Ending.{Ending}
 use Rattle.kern_post.specs.declared.content.Ending.TheVariants.{Done, Failed}
 use Rattle.kern_post.specs.declared.post.Envelope.{Envelope}
 use Rattle.kern_post.specs.declared.post.Letter.{Letter}
-use Rattle.kern_peers.specs.Present.{Present, stdin_of}
+use Rattle.kern_peers.specs.Connections.{Connections, stdin_of}
 use Rattle.kern_exec.specs.declared.execution.Current.{Current}
 use Rattle.kern_exec.specs.declared.ends.EndKit.{EndKit}
 use Rattle.kern_exec.specs.declared.letters.BusyIdle.{BusyIdle}
@@ -21,22 +21,22 @@ use Rattle.kern_exec.specs.declared.slices.SliceKit.{SliceKit}
 use Rattle.kern_exec.specs.declared.cells.LoadingKit.{LoadingKit}
 use Rattle.kern_exec.specs.declared.loading.Loading.{Loading}
 use Rattle.kern_exec.specs.declared.loading.Loading.TheVariants.{Starts, Ends}
-use Rattle.kern_exec.specs.Letters.{heard_under, heard, addressed}
-use Rattle.kern_exec.specs.Ends.{reason_of, ending_of, input_letters, printed, is_asking}
+use Rattle.kern_exec.specs.Letters.{published_under, published, addressed}
+use Rattle.kern_exec.specs.Ends.{reason_of, ending_of, input_letters, printed, requests_line}
 
 -- ---- of a request
 
-pub record IsAround (who : Present) (parent : List ℕ) (a : BusyIdle) : Type 0 where
-  pub letters : a.letters ≡ heard who parent (content.Status Busy) ∷ []
-  pub idle : a.idle ≡ heard who parent (content.Status Idle)
+pub record IsEnclosed (connections : Connections) (parent : List ℕ) (a : BusyIdle) : Type 0 where
+  pub letters : a.letters ≡ published connections parent (content.Status Busy) ∷ []
+  pub idle : a.idle ≡ published connections parent (content.Status Idle)
 
 -- ---- of an end
 
-abbrev pub end_kit_of : Present → Current → EndKit
-end_kit_of who c = record {
-  error = heard_under who c.execution.header (codes "error");
+abbrev pub end_kit_of : Connections → Current → EndKit
+end_kit_of connections c = record {
+  error = published_under connections c.execution.header (codes "error");
   reply = addressed c.execution.connection c.execution.identities c.execution.header;
-  idle = heard_under who c.execution.header (codes "status");
+  idle = published_under connections c.execution.header (codes "status");
   is_silent = c.execution.request.is_silent;
   count = c.count;
 }
@@ -68,13 +68,13 @@ abbrev pub to_stdin : Option ℕ → Current → Option Envelope
 to_stdin None c = None
 to_stdin (Some n) c = Some (addressed n c.execution.identities c.execution.header)
 
-abbrev pub asked_of : Present → Current → Option Envelope
-asked_of who c =
-    if c.execution.request.allows_stdin then to_stdin (stdin_of c.execution.identity who.peers) c else None
+abbrev pub line_request_of : Connections → Current → Option Envelope
+line_request_of connections c =
+    if c.execution.request.allows_stdin then to_stdin (stdin_of c.execution.identity connections.peers) c else None
 
-abbrev pub asked_line : Option Envelope → Bool → List Letter
-asked_line None asks = []
-asked_line (Some e) asks = if asks then record { envelope = e; content = content.InputRequest } ∷ [] else []
+abbrev pub line_request : Option Envelope → Bool → List Letter
+line_request None wants_line = []
+line_request (Some e) wants_line = if wants_line then record { envelope = e; content = content.InputRequest } ∷ [] else []
 
 abbrev pub told_outcome : Envelope → EndKit → SliceOutcome → List Letter
 told_outcome e k outcome.More = []
@@ -84,19 +84,19 @@ told_outcome e k (outcome.Stop s) =
 told_outcome e k (outcome.End end) = told_end k (ending_of end)
 
 -- all that a slice of an execution may post, with room for it
-pub record IsSliceKit (who : Present) (c : Current) (k : SliceKit) : Type 0 where
+pub record IsSliceKit (connections : Connections) (c : Current) (k : SliceKit) : Type 0 where
   pub letters : k.letters ≡ []
   pub text : k.text.items ≡ []
   pub room : 4096 ≤ vec_capacity k.text
-  pub stream : k.stream ≡ heard_under who c.execution.header (codes "stream")
-  pub line : k.line ≡ asked_of who c
-  pub stopped : k.stopped ≡ heard_under who c.execution.header (codes "debug_event")
-  pub end : k.end ≡ end_kit_of who c
+  pub stream : k.stream ≡ published_under connections c.execution.header (codes "stream")
+  pub line : k.line ≡ line_request_of connections c
+  pub stopped : k.stopped ≡ published_under connections c.execution.header (codes "debug_event")
+  pub end : k.end ≡ end_kit_of connections c
 
 abbrev pub told_slice : SliceKit → List PortOperation → SliceOutcome → List Letter
 told_slice k traffic ending =
     streamed k.end.is_silent k.stream (filter_map printed traffic) ++
-    (asked_line k.line (list_any is_asking traffic) ++
+    (line_request k.line (list_any requests_line traffic) ++
     told_outcome k.stopped k.end ending)
 
 -- ---- of a cell that is loaded
@@ -105,6 +105,6 @@ abbrev pub told_loading : EndKit → Loading → List Letter
 told_loading k (Starts address) = []
 told_loading k (Ends ending) = told_end k ending
 
-pub record IsLoadingKit (who : Present) (c : Current) (k : LoadingKit) : Type 0 where
-  pub letters : k.letters ≡ heard who c.execution.header (content.Status Busy) ∷ input_letters who c
-  pub end : k.end ≡ end_kit_of who c
+pub record IsLoadingKit (connections : Connections) (c : Current) (k : LoadingKit) : Type 0 where
+  pub letters : k.letters ≡ published connections c.execution.header (content.Status Busy) ∷ input_letters connections c
+  pub end : k.end ≡ end_kit_of connections c

@@ -12,7 +12,7 @@ use lab_core::fault::EventFault;
 use lab_core::lab::Lab;
 
 // One event.
-pub(crate) fn ask(lab: &mut Lab, event: Event) -> Result<Answer, EventFault>
+pub(crate) fn apply_event(lab: &mut Lab, event: Event) -> Result<Answer, EventFault>
     requires { Fits event }
     ensures given { Does (given event) lab.old result lab.new }
     ensures few { (n : ℕ) (b : Board) → event ≡ Event.Slice n → StandsFor lab.old b

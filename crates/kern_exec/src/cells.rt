@@ -3,17 +3,17 @@ ghost use Rattle.std.specs.Prelude.{◌≡◌, ◌≢◌, ◌<◌, ◌≤◌, �
 ghost use Rattle.dap_answers.specs.Murmur.{cell_path};
 ghost use Rattle.lab_core.specs.Board.{Board};
 ghost use Rattle.lab_core.specs.Labs.{StandsFor};
-ghost use Rattle.kern_peers.specs.Present.{Present};
+ghost use Rattle.kern_peers.specs.Connections.{Connections};
 ghost use Rattle.kern_exec.specs.declared.execution.Current.{Current};
 ghost use Rattle.kern_post.specs.declared.content.Ending.TheVariants.{Failed};
 ghost use Rattle.kern_exec.specs.Boards.{cell_given, cause_of, loading_by, loading_of, board_after};
 ghost use Rattle.kern_exec.specs.Ends.{input_letters, loading_letters};
 ghost use Rattle.kern_exec.specs.Kits.{IsLoadingKit, told_loading};
 
-use crate::board::ask;
+use crate::board::apply_event;
 use crate::ends::{EndKit, end_kit, push_end};
 use crate::execution::{Execution, copy_text};
-use crate::letters::{busy, heard};
+use crate::letters::{busy, publish};
 use crate::loading::Loading;
 use base_text::text::Text;
 use dap_answers::cell::cell_path;
@@ -52,7 +52,7 @@ fn push_input(
     }
     let code = copy_text(alloc, &execution.request.code)?;
     let content = Content::ExecuteInput { code, count };
-    let input = heard(alloc, peers, &execution.header, content)?;
+    let input = publish(alloc, peers, &execution.header, content)?;
     letters.push(input);
     Ok(())
 }
@@ -77,8 +77,8 @@ pub fn loading_kit(
 pub fn letters_of(kit: LoadingKit, loading: Loading) -> Letters
     requires { length kit.letters ≤ 2 }
     ensures told { result ≡ kit.letters ++ told_loading kit.end loading }
-    ensures letters { (who : Present) (c : Current) → IsLoadingKit who c kit
-        → result ≡ loading_letters who c loading }
+    ensures letters { (connections : Connections) (c : Current) → IsLoadingKit connections c kit
+        → result ≡ loading_letters connections c loading }
 {
     let LoadingKit { mut letters, end } = kit;
     match loading {
@@ -135,7 +135,7 @@ pub fn load(alloc: Global, lab: &mut Lab, code: &Text) -> Result<Loading, AllocE
     ensures err { OnErr result (lab.new ≡ lab.old) }
 {
     let event = load_event(alloc, code)?;
-    match ask(lab, event) {
+    match apply_event(lab, event) {
         Ok(answer) => Ok(loading_by(answer)),
         Err(fault) => {
             let loading = refused(fault)?;

@@ -2,11 +2,11 @@
 ghost use Rattle.std.specs.Prelude.{◌≡◌, ◌<◌, ◌≤◌, ◌+◌, ◌++◌, length, ◌∷◌, [], IfOk};
 ghost use Rattle.kern_post.specs.declared.content.Ending.{Ending};
 ghost use Rattle.kern_exec.specs.declared.execution.Current.{Current};
-ghost use Rattle.kern_peers.specs.Present.{Present};
+ghost use Rattle.kern_peers.specs.Connections.{Connections};
 ghost use Rattle.kern_exec.specs.Kits.{end_kit_of, told_error, told_end, told_cut};
 
 use crate::execution::{Current, Execution};
-use crate::letters::{BusyIdle, addressed, heard_under};
+use crate::letters::{BusyIdle, address, published_under};
 use kern_peers::peers::Peers;
 use kern_post::content::{Cause, Content, Ending, ExecutionState};
 use kern_post::letters::Letters;
@@ -32,14 +32,14 @@ pub fn end_kit(
 ) -> Result<EndKit, AllocError>
     ensures { IfOk result (λ kit. kit ≡ end_kit_of peers.now (record { execution = execution.now; count = count })) }
 {
-    let error = heard_under(alloc, peers, &execution.header, "error")?;
-    let reply = addressed(
+    let error = published_under(alloc, peers, &execution.header, "error")?;
+    let reply = address(
         alloc,
         execution.connection,
         &execution.identities,
         &execution.header,
     )?;
-    match heard_under(alloc, peers, &execution.header, "status") {
+    match published_under(alloc, peers, &execution.header, "status") {
         Ok(idle) => Ok(EndKit {
             error,
             reply,
@@ -111,11 +111,11 @@ fn push_cut(letters: &mut Letters, kit: Option<EndKit>, cause: Cause)
 /// What a request posts that ends a run from outside: between busy and idle the end of the execution,
 /// if there is a run, and the reply.
 #[tactic(auto, using(crate::proofs::KitLemmas::grouped))]
-pub fn cut_letters(around: BusyIdle, kit: Option<EndKit>, cause: Cause, reply: Letter) -> Letters
-    requires { length around.letters ≤ 1 }
-    ensures { result ≡ around.letters ++ ((told_cut kit cause ++ reply ∷ []) ++ around.idle ∷ []) }
+pub fn cut_letters(enclosed: BusyIdle, kit: Option<EndKit>, cause: Cause, reply: Letter) -> Letters
+    requires { length enclosed.letters ≤ 1 }
+    ensures { result ≡ enclosed.letters ++ ((told_cut kit cause ++ reply ∷ []) ++ enclosed.idle ∷ []) }
 {
-    let BusyIdle { mut letters, idle } = around;
+    let BusyIdle { mut letters, idle } = enclosed;
     push_cut(&mut letters, kit, cause);
     letters.push(reply);
     letters.push(idle);

@@ -4,7 +4,7 @@ ghost use Rattle.kern_exec.specs.Executions.{execution_of};
 
 use base_text::sequence::{Bytes, Frames};
 use base_text::text::Text;
-use kern_ask::ask::{ExecuteRequest, Request};
+use kern_request::request::{ExecuteRequest, Request};
 use kern_post::post::copy_bytes;
 use std::alloc::{AllocError, Global};
 

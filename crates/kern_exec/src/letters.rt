@@ -1,7 +1,7 @@
 //! Letters and the envelopes round them.
 ghost use Rattle.std.specs.Prelude.{◌≡◌, [], ◌∷◌, IfOk};
-ghost use Rattle.kern_exec.specs.Letters.{heard_under, heard, addressed, replied};
-ghost use Rattle.kern_exec.specs.Kits.{IsAround};
+ghost use Rattle.kern_exec.specs.Letters.{published_under, published, addressed, replied};
+ghost use Rattle.kern_exec.specs.Kits.{IsEnclosed};
 
 use crate::execution::copy_frames;
 use base_text::sequence::{Bytes, Frames, Sequence};
@@ -12,15 +12,15 @@ use kern_post::post::{Envelope, Head, Letter, copy_bytes};
 use std::alloc::{AllocError, Global};
 
 /// The envelope of what goes to all who subscribed to a topic.
-pub fn heard_under(
+pub fn published_under(
     alloc: Global,
     peers: &Peers,
     parent: &Bytes,
     topic: &str,
 ) -> Result<Envelope, AllocError>
-    ensures { IfOk result (λ e. e ≡ heard_under peers.now parent.now topic.now) }
+    ensures { IfOk result (λ e. e ≡ published_under peers.now parent.now topic.now) }
 {
-    let to = peers.hearers(alloc, topic)?;
+    let to = peers.subscribers(alloc, topic)?;
     let parent = copy_bytes(parent)?;
     Ok(Envelope {
         to,
@@ -30,15 +30,15 @@ pub fn heard_under(
 }
 
 /// A letter to all who subscribed to its topic.
-pub fn heard(
+pub fn publish(
     alloc: Global,
     peers: &Peers,
     parent: &Bytes,
     content: Content,
 ) -> Result<Letter, AllocError>
-    ensures { IfOk result (λ letter. letter ≡ heard peers.now parent.now content) }
+    ensures { IfOk result (λ letter. letter ≡ published peers.now parent.now content) }
 {
-    match heard_under(alloc, peers, parent, content.topic()) {
+    match published_under(alloc, peers, parent, content.topic()) {
         Ok(envelope) => Ok(Letter { envelope, content }),
         Err(_) => {
             drop(content);
@@ -48,7 +48,7 @@ pub fn heard(
 }
 
 /// The envelope of what goes to one connection, with the identities of a request.
-pub fn addressed(
+pub fn address(
     alloc: Global,
     connection: u32,
     identities: &Frames,
@@ -67,7 +67,7 @@ pub fn addressed(
 }
 
 /// A letter to one connection, with the identities of a request.
-pub fn replied(
+pub fn reply(
     alloc: Global,
     connection: u32,
     identities: &Frames,
@@ -76,7 +76,7 @@ pub fn replied(
 ) -> Result<Letter, AllocError>
     ensures { IfOk result (λ letter. letter ≡ replied connection identities.now parent.now content) }
 {
-    match addressed(alloc, connection, identities, parent) {
+    match address(alloc, connection, identities, parent) {
         Ok(envelope) => Ok(Letter { envelope, content }),
         Err(_) => {
             drop(content);
@@ -94,20 +94,20 @@ pub struct BusyIdle {
 
 // Letters that begin with busy.
 pub(crate) fn busy(alloc: Global, peers: &Peers, header: &Bytes) -> Result<Letters, AllocError>
-    ensures { IfOk result (λ letters. letters ≡ heard peers.now header.now
+    ensures { IfOk result (λ letters. letters ≡ published peers.now header.now
         (Content.Status ExecutionState.Busy) ∷ []) }
 {
     let mut letters = Letters::new(alloc)?;
-    let busy = heard(alloc, peers, header, Content::Status(ExecutionState::Busy))?;
+    let busy = publish(alloc, peers, header, Content::Status(ExecutionState::Busy))?;
     letters.push(busy);
     Ok(letters)
 }
 
 /// Busy and idle for a request with this header.
-pub fn around(alloc: Global, peers: &Peers, header: &Bytes) -> Result<BusyIdle, AllocError>
-    ensures { IfOk result (IsAround peers.now header.now) }
+pub fn enclose(alloc: Global, peers: &Peers, header: &Bytes) -> Result<BusyIdle, AllocError>
+    ensures { IfOk result (IsEnclosed peers.now header.now) }
 {
     let letters = busy(alloc, peers, header)?;
-    let idle = heard(alloc, peers, header, Content::Status(ExecutionState::Idle))?;
+    let idle = publish(alloc, peers, header, Content::Status(ExecutionState::Idle))?;
     Ok(BusyIdle { letters, idle })
 }

@@ -7,7 +7,7 @@ ghost use Rattle.lab_core.specs.Events.{started, reset, with_operation};
 ghost use Rattle.lab_core.specs.Labs.{StandsFor};
 ghost use Rattle.kern_exec.specs.Boards.{interrupted};
 
-use crate::board::ask;
+use crate::board::apply_event;
 use base_text::sequence::Bytes;
 use kern_post::post::copy_bytes;
 use lab_core::answer::Answer;
@@ -28,14 +28,14 @@ fn is_done(answer: Result<Answer, EventFault>) -> bool
 pub fn start(lab: &mut Lab, address: u16)
     ensures { (b : Board) → StandsFor lab.old b → b.run ≡ NoRun → StandsFor lab.new (started address b) }
 {
-    drop(ask(lab, Event::Start(address)));
+    drop(apply_event(lab, Event::Start(address)));
 }
 
 /// Ends the run, where there is one.
 pub fn interrupt(lab: &mut Lab)
     ensures { (b : Board) → StandsFor lab.old b → StandsFor lab.new (interrupted b) }
 {
-    drop(ask(lab, Event::Interrupt));
+    drop(apply_event(lab, Event::Interrupt));
 }
 
 /// Machine and devices as at power-on, and no run.
@@ -43,7 +43,7 @@ pub fn reset(lab: &mut Lab) -> Result<(), AllocError>
     ensures ok { OnOk result ((b : Board) → StandsFor lab.old b → StandsFor lab.new (reset b)) }
     ensures err { OnErr result (lab.new ≡ lab.old) }
 {
-    if is_done(ask(lab, Event::Reset)) {
+    if is_done(apply_event(lab, Event::Reset)) {
         return Ok(());
     }
     Err(AllocError)
@@ -56,7 +56,7 @@ pub fn type_bytes(lab: &mut Lab, bytes: &Bytes) -> Result<(), AllocError>
     ensures err { OnErr result (lab.new ≡ lab.old) }
 {
     let bytes = copy_bytes(bytes)?;
-    if is_done(ask(lab, Event::Typed(bytes))) {
+    if is_done(apply_event(lab, Event::Typed(bytes))) {
         return Ok(());
     }
     Err(AllocError)

@@ -6,18 +6,18 @@ ghost use Rattle.lab_core.specs.declared.run_state.RunState.TheVariants.{Running
 ghost use Rattle.lab_core.specs.Board.{Board};
 ghost use Rattle.lab_core.specs.Slices.{traffic_of};
 ghost use Rattle.lab_core.specs.Labs.{StandsFor};
-ghost use Rattle.kern_peers.specs.Present.{Present, stdin_of};
+ghost use Rattle.kern_peers.specs.Connections.{Connections, stdin_of};
 ghost use Rattle.kern_exec.specs.declared.execution.Current.{Current};
 ghost use Rattle.kern_exec.specs.Boards.{slice_end, after_slice};
-ghost use Rattle.kern_exec.specs.Ends.{printed, is_asking, reason_of, ending_of, slice_letters};
-ghost use Rattle.kern_exec.specs.Letters.{heard_under};
-ghost use Rattle.kern_exec.specs.Kits.{IsSliceKit, end_kit_of, asked_of, streamed, asked_line, told_outcome};
+ghost use Rattle.kern_exec.specs.Ends.{printed, requests_line, reason_of, ending_of, slice_letters};
+ghost use Rattle.kern_exec.specs.Letters.{published_under};
+ghost use Rattle.kern_exec.specs.Kits.{IsSliceKit, end_kit_of, line_request_of, streamed, line_request, told_outcome};
 ghost use Rattle.kern_exec.specs.Kits.{told_slice};
 
-use crate::board::ask;
+use crate::board::apply_event;
 use crate::ends::{EndKit, end_kit, push_end};
 use crate::execution::Current;
-use crate::letters::{addressed, heard_under};
+use crate::letters::{address, published_under};
 use base_text::sequence::Bytes;
 use dap_answers::answer::{Event as DebugEvent, StopReason};
 use i80_devs::traffic::Traffic;
@@ -52,7 +52,7 @@ fn line_envelope(
     peers: &Peers,
     current: &Current,
 ) -> Result<Option<Envelope>, AllocError>
-    ensures { IfOk result (λ e. e ≡ asked_of peers.now current.now) }
+    ensures { IfOk result (λ e. e ≡ line_request_of peers.now current.now) }
 {
     let execution = &current.execution;
     if !execution.request.allows_stdin {
@@ -61,7 +61,7 @@ fn line_envelope(
     match peers.stdin_of(execution.identity.as_slice()) {
         None => Ok(None),
         Some(connection) => {
-            let envelope = addressed(alloc, connection, &execution.identities, &execution.header)?;
+            let envelope = address(alloc, connection, &execution.identities, &execution.header)?;
             Ok(Some(envelope))
         }
     }
@@ -73,11 +73,11 @@ fn ending_parts(
     peers: &Peers,
     current: &Current,
 ) -> Result<(Envelope, EndKit), AllocError>
-    ensures { IfOk result (λ made. (made.0 ≡ heard_under peers.now current.now.execution.header (codes "debug_event"))
+    ensures { IfOk result (λ made. (made.0 ≡ published_under peers.now current.now.execution.header (codes "debug_event"))
         × (made.1 ≡ end_kit_of peers.now current.now)) }
 {
     let execution = &current.execution;
-    let stopped = heard_under(alloc, peers, &execution.header, "debug_event")?;
+    let stopped = published_under(alloc, peers, &execution.header, "debug_event")?;
     match end_kit(alloc, peers, execution, current.count) {
         Ok(end) => Ok((stopped, end)),
         Err(_) => {
@@ -94,7 +94,7 @@ pub fn slice_kit(alloc: Global, peers: &Peers, current: &Current) -> Result<Slic
     let header = &current.execution.header;
     let letters = Letters::new(alloc)?;
     let text = Vec::with_capacity(alloc, STEPS.into())?;
-    let stream = heard_under(alloc, peers, header, "stream")?;
+    let stream = published_under(alloc, peers, header, "stream")?;
     let line = line_envelope(alloc, peers, current)?;
     match ending_parts(alloc, peers, current) {
         Ok((stopped, end)) => Ok(SliceKit {
@@ -136,16 +136,16 @@ fn print_all(mut text: Vec<u8>, traffic: &[PortOperation]) -> Vec<u8>
     text
 }
 
-fn is_asking(operation: &PortOperation) -> bool
-    ensures { result ≡ is_asking operation.now }
+fn requests_line(operation: &PortOperation) -> bool
+    ensures { result ≡ requests_line operation.now }
 {
     matches!(operation, PortOperation::Out { port: 3, .. })
 }
 
-fn asks_for_line(traffic: &[PortOperation]) -> bool
-    ensures { result ≡ list_any is_asking traffic.now }
+fn is_line_requested(traffic: &[PortOperation]) -> bool
+    ensures { result ≡ list_any requests_line traffic.now }
 {
-    traffic.iter().any(is_asking)
+    traffic.iter().any(requests_line)
 }
 
 fn push_stream(letters: &mut Letters, envelope: Envelope, is_silent: bool, text: Vec<u8>)
@@ -163,15 +163,15 @@ fn push_stream(letters: &mut Letters, envelope: Envelope, is_silent: bool, text:
     });
 }
 
-fn push_line(letters: &mut Letters, envelope: Option<Envelope>, asks: bool)
+fn push_line(letters: &mut Letters, envelope: Option<Envelope>, wants_line: bool)
     requires { length letters.old < 8 }
-    ensures said { letters.new ≡ letters.old ++ asked_line envelope asks }
+    ensures said { letters.new ≡ letters.old ++ line_request envelope wants_line }
     ensures few { length letters.new ≤ length letters.old + 1 }
 {
     let Some(envelope) = envelope else {
         return;
     };
-    if !asks {
+    if !wants_line {
         return;
     }
     letters.push(Letter {
@@ -226,8 +226,8 @@ pub fn letters_of(kit: SliceKit, traffic: &[PortOperation], outcome: SliceOutcom
     requires room { length traffic.now ≤ vec_capacity kit.text }
     requires empty { (kit.text.items ≡ []) × (kit.letters ≡ []) }
     ensures told { result ≡ told_slice kit traffic.now outcome }
-    ensures letters { (who : Present) (c : Current) → IsSliceKit who c kit
-        → result ≡ slice_letters who c traffic.now outcome }
+    ensures letters { (connections : Connections) (c : Current) → IsSliceKit connections c kit
+        → result ≡ slice_letters connections c traffic.now outcome }
 {
     let SliceKit {
         mut letters,
@@ -239,7 +239,7 @@ pub fn letters_of(kit: SliceKit, traffic: &[PortOperation], outcome: SliceOutcom
     } = kit;
     let text = print_all(text, traffic);
     push_stream(&mut letters, stream, end.is_silent, text);
-    push_line(&mut letters, line, asks_for_line(traffic));
+    push_line(&mut letters, line, is_line_requested(traffic));
     push_outcome(&mut letters, stopped, end, outcome);
     letters
 }
@@ -252,7 +252,7 @@ pub fn slice(lab: &mut Lab) -> Result<(Traffic, SliceOutcome), AllocError>
     ensures few { (b : Board) → StandsFor lab.old b → IfOk result (λ made. length made.0 ≤ 4096) }
     ensures err { (b : Board) → StandsFor lab.old b → OnErr result (lab.new ≡ lab.old) }
 {
-    match ask(lab, Event::Slice(STEPS)) {
+    match apply_event(lab, Event::Slice(STEPS)) {
         Ok(
             Answer::Sliced {
                 traffic,

@@ -13,7 +13,7 @@ use Rattle.jup_wire.specs.declared.message.WireFault.{WireFault}
 use Rattle.jup_wire.specs.declared.message.WireFault.TheVariants.{OutOfMemory}
 use Rattle.jup_wire.specs.Wire.{IsMessage}
 use Rattle.serde_json.specs.Data.{Data}
-use Rattle.kern_ask.specs.Asks.{request_of}
+use Rattle.kern_request.specs.Requests.{request_of}
 use Rattle.kern_core.specs.declared.call.Call.{Call}
 use Rattle.kern_core.specs.declared.call.Call.TheVariants.{Arrive, Subscribe}
 use Rattle.kern_core.specs.declared.call.Reply.{Reply}
@@ -116,40 +116,40 @@ subscribed_on : (channel : Channel) (place : Place) (frames : List (List ℕ)) (
 subscribed_on Iopub place frames call is s = s
 subscribed_on _ place frames call is s = absurd cc
 
-asked_subscription : (place : Place) (wants : Bool) (prefix : List ℕ) (moment : ℕ)
+asked_subscription : (place : Place) (wants : Bool) (prefix : List ℕ) (unix_seconds : ℕ)
     (frames : List (List ℕ)) (call : Call) → place.channel ≡ Iopub
-    → moment ≤ 4102444800 → frames ≡ subscription_frames wants prefix
-    → call ≡ Subscribe place.connection (record { wants = wants; prefix = prefix; moment = moment })
+    → unix_seconds ≤ 4102444800 → frames ≡ subscription_frames wants prefix
+    → call ≡ Subscribe place.connection (record { wants = wants; prefix = prefix; unix_seconds = unix_seconds })
     → IsAsked place frames call
-asked_subscription place wants prefix moment frames call iopub in_time frames_are call_is =
+asked_subscription place wants prefix unix_seconds frames call iopub in_time frames_are call_is =
     subscribed_on place.channel place frames call iopub (record {
       wants = wants;
       prefix = prefix;
-      moment = moment;
+      unix_seconds = unix_seconds;
       frames_are = frames_are;
       in_time = in_time;
       call_is = call_is;
     })
 
-pub subscribed : (place : Place) (wants : Bool) (prefix : List ℕ) (moment : ℕ) (frames : List (List ℕ))
+pub subscribed : (place : Place) (wants : Bool) (prefix : List ℕ) (unix_seconds : ℕ) (frames : List (List ℕ))
     (call : Call) (old new : PassState Call) → place.channel ≡ Iopub
-    → moment ≤ 4102444800 → frames ≡ subscription_frames wants prefix
-    → call ≡ Subscribe place.connection (record { wants = wants; prefix = prefix; moment = moment })
+    → unix_seconds ≤ 4102444800 → frames ≡ subscription_frames wants prefix
+    → call ≡ Subscribe place.connection (record { wants = wants; prefix = prefix; unix_seconds = unix_seconds })
     → Grants old call new → AskedAll place (frames ∷ []) old new
-subscribed place wants prefix moment frames call old new iopub in_time frames_are call_is turned =
+subscribed place wants prefix unix_seconds frames call old new iopub in_time frames_are call_is turned =
     asked_one place frames call old new
-    (asked_subscription place wants prefix moment frames call iopub in_time frames_are call_is) turned
+    (asked_subscription place wants prefix unix_seconds frames call iopub in_time frames_are call_is) turned
 
-pub subscription_refused : (place : Place) (wants : Bool) (prefix : List ℕ) (moment : ℕ)
+pub subscription_refused : (place : Place) (wants : Bool) (prefix : List ℕ) (unix_seconds : ℕ)
     (frames : List (List ℕ)) (call : Call) (old new : PassState Call) (e : PumpEnd) → place.channel ≡ Iopub
-    → moment ≤ 4102444800 → frames ≡ subscription_frames wants prefix
-    → call ≡ Subscribe place.connection (record { wants = wants; prefix = prefix; moment = moment })
+    → unix_seconds ≤ 4102444800 → frames ≡ subscription_frames wants prefix
+    → call ≡ Subscribe place.connection (record { wants = wants; prefix = prefix; unix_seconds = unix_seconds })
     → StopsBy e old.calls new → IsPrefix old.seen new.seen → Refuses old call new e
     → AskedFront place (frames ∷ []) old new e
-subscription_refused place wants prefix moment frames call old new e iopub in_time frames_are call_is stops
+subscription_refused place wants prefix unix_seconds frames call old new e iopub in_time frames_are call_is stops
     onward refused =
     asked_refused place frames call old new e
-    (asked_subscription place wants prefix moment frames call iopub in_time frames_are call_is)
+    (asked_subscription place wants prefix unix_seconds frames call iopub in_time frames_are call_is)
     (not_all e old.calls new stops) onward refused
 
 unsubscribed_on : (channel : Channel) (place : Place) (frames : List (List ℕ)) → channel ≡ Iopub
@@ -181,38 +181,38 @@ dropped_on : (channel : Channel) (place : Place) (frames : List (List ℕ)) → 
 dropped_on Iopub place frames other unopened = absurd (other refl)
 dropped_on _ place frames other unopened = unopened
 
-asked_arrival : (place : Place) (message : Message) (moment : ℕ) (frames : List (List ℕ)) (call : Call)
-    → (place.channel ≡ Iopub → ⊥) → moment ≤ 4102444800
+asked_arrival : (place : Place) (message : Message) (unix_seconds : ℕ) (frames : List (List ℕ)) (call : Call)
+    → (place.channel ≡ Iopub → ⊥) → unix_seconds ≤ 4102444800
     → IsMessage place.key.now frames message.parts message.header (view message.content)
-    → call ≡ Arrive place.connection (record { request = request_of place.channel message; moment = moment })
+    → call ≡ Arrive place.connection (record { request = request_of place.channel message; unix_seconds = unix_seconds })
     → IsAsked place frames call
-asked_arrival place message moment frames call other in_time opens call_is =
+asked_arrival place message unix_seconds frames call other in_time opens call_is =
     arrived_on place.channel place frames call other (record {
       message = message;
-      moment = moment;
+      unix_seconds = unix_seconds;
       opens = opens;
       in_time = in_time;
       call_is = call_is;
     })
 
-pub arrived : (place : Place) (message : Message) (moment : ℕ) (frames : List (List ℕ)) (call : Call)
-    (old new : PassState Call) → (place.channel ≡ Iopub → ⊥) → moment ≤ 4102444800
+pub arrived : (place : Place) (message : Message) (unix_seconds : ℕ) (frames : List (List ℕ)) (call : Call)
+    (old new : PassState Call) → (place.channel ≡ Iopub → ⊥) → unix_seconds ≤ 4102444800
     → IsMessage place.key.now frames message.parts message.header (view message.content)
-    → call ≡ Arrive place.connection (record { request = request_of place.channel message; moment = moment })
+    → call ≡ Arrive place.connection (record { request = request_of place.channel message; unix_seconds = unix_seconds })
     → Grants old call new → AskedAll place (frames ∷ []) old new
-arrived place message moment frames call old new other in_time opens call_is turned =
+arrived place message unix_seconds frames call old new other in_time opens call_is turned =
     asked_one place frames call old new
-    (asked_arrival place message moment frames call other in_time opens call_is) turned
+    (asked_arrival place message unix_seconds frames call other in_time opens call_is) turned
 
-pub arrival_refused : (place : Place) (message : Message) (moment : ℕ) (frames : List (List ℕ)) (call : Call)
-    (old new : PassState Call) (e : PumpEnd) → (place.channel ≡ Iopub → ⊥) → moment ≤ 4102444800
+pub arrival_refused : (place : Place) (message : Message) (unix_seconds : ℕ) (frames : List (List ℕ)) (call : Call)
+    (old new : PassState Call) (e : PumpEnd) → (place.channel ≡ Iopub → ⊥) → unix_seconds ≤ 4102444800
     → IsMessage place.key.now frames message.parts message.header (view message.content)
-    → call ≡ Arrive place.connection (record { request = request_of place.channel message; moment = moment })
+    → call ≡ Arrive place.connection (record { request = request_of place.channel message; unix_seconds = unix_seconds })
     → StopsBy e old.calls new → IsPrefix old.seen new.seen → Refuses old call new e
     → AskedFront place (frames ∷ []) old new e
-arrival_refused place message moment frames call old new e other in_time opens call_is stops onward refused =
+arrival_refused place message unix_seconds frames call old new e other in_time opens call_is stops onward refused =
     asked_refused place frames call old new e
-    (asked_arrival place message moment frames call other in_time opens call_is)
+    (asked_arrival place message unix_seconds frames call other in_time opens call_is)
     (not_all e old.calls new stops) onward refused
 
 pub unopened : (place : Place) (frames : List (List ℕ)) (old : PassState Call)

@@ -6,7 +6,7 @@ use Rattle.lab_turn.specs.History.{PassState, calls_of}
 use Rattle.lab_turn.proofs.HistoryLemmas.{calls_own, prefix_trans}
 use Rattle.kern_core.specs.declared.call.Call.{Call}
 use Rattle.kern_core.specs.declared.call.Reply.{Reply}
-use Rattle.kern_core.specs.declared.fault.KernFault.{KernFault}
+use Rattle.kern_core.specs.declared.fault.KernelFault.{KernelFault}
 use Rattle.kern_core.specs.Kernels.{is_entry}
 use Rattle.kern_net.specs.Calls.{TurnedBy, LastCall}
 
@@ -16,27 +16,27 @@ pub calls_on : (old mid new added more : List Call) → mid ≡ old ++ added →
 calls_on old mid new added more is then =
     then ∙ ap (λ (l : List Call). l ++ more) is ∙ append_assoc old added more
 
-pub entry_calls : (v w : PassState Call) (call : Call) (answer : Result Reply KernFault)
+pub entry_calls : (v w : PassState Call) (call : Call) (answer : Result Reply KernelFault)
     → TurnedBy v call answer w → is_entry answer ≡ true → w.calls ≡ v.calls ++ call ∷ []
 entry_calls v w call answer t h = (t.entered h).counted
 
-pub no_entry_calls : (v w : PassState Call) (call : Call) (answer : Result Reply KernFault)
+pub no_entry_calls : (v w : PassState Call) (call : Call) (answer : Result Reply KernelFault)
     → TurnedBy v call answer w → is_entry answer ≡ false → w.calls ≡ v.calls
 no_entry_calls v w call answer t h = (t.refused h).counted
 
 -- the history that was seen only grows
-prefix_if : (b : Bool) (v w : PassState Call) (call : Call) (answer : Result Reply KernFault)
+prefix_if : (b : Bool) (v w : PassState Call) (call : Call) (answer : Result Reply KernelFault)
     → is_entry answer ≡ b → TurnedBy v call answer w → IsPrefix v.seen w.seen
 prefix_if true v w call answer h t =
     let e = t.entered h in prefix_trans v.seen e.before w.seen e.onward ((v.seat, call) ∷ [], sym e.history)
 prefix_if false v w call answer h t = (t.refused h).onward
 
-pub turned_prefix : (v w : PassState Call) (call : Call) (answer : Result Reply KernFault)
+pub turned_prefix : (v w : PassState Call) (call : Call) (answer : Result Reply KernelFault)
     → TurnedBy v call answer w → IsPrefix v.seen w.seen
 turned_prefix v w call answer t = prefix_if (is_entry answer) v w call answer refl t
 
 -- a call that is an entry is the last one
-pub last_call : (v w : PassState Call) (call : Call) (answer : Result Reply KernFault)
+pub last_call : (v w : PassState Call) (call : Call) (answer : Result Reply KernelFault)
     → is_entry answer ≡ true → TurnedBy v call answer w → LastCall w call answer
 last_call v w call answer h t =
     let e = t.entered h in
@@ -51,7 +51,7 @@ last_call v w call answer h t =
     }
 
 -- and stays it in a longer history with the same calls
-pub last_kept : (v w : PassState Call) (call : Call) (answer : Result Reply KernFault) → w.seat ≡ v.seat
+pub last_kept : (v w : PassState Call) (call : Call) (answer : Result Reply KernelFault) → w.seat ≡ v.seat
     → IsPrefix v.seen w.seen → w.calls ≡ v.calls → LastCall v call answer → LastCall w call answer
 last_kept v w call answer s p k l =
     let P : ℕ → Type 0 = λ (i : ℕ). IsPrefix (l.before ++ (i, call) ∷ []) w.seen in

@@ -16,12 +16,12 @@ use Rattle.kern_core.specs.declared.call.Call.{Call}
 use Rattle.kern_core.specs.declared.call.Call.TheVariants.{Fetch}
 use Rattle.kern_core.specs.declared.call.Reply.{Reply}
 use Rattle.kern_core.specs.declared.call.Reply.TheVariants as reply
-use Rattle.kern_core.specs.declared.fault.KernFault.{KernFault}
-use Rattle.kern_core.specs.declared.fault.KernFault.TheVariants as fault
+use Rattle.kern_core.specs.declared.fault.KernelFault.{KernelFault}
+use Rattle.kern_core.specs.declared.fault.KernelFault.TheVariants as fault
 use Rattle.kern_core.specs.Kernels.{is_entry}
-use Rattle.kern_core.specs.Sessions.{Session, Turn, refused, quiet}
+use Rattle.kern_core.specs.States.{KernelState, Turn, refused, quiet}
 use Rattle.kern_core.specs.Connections.{by_peer, fetching}
-use Rattle.kern_core.specs.Turns.{turn, session_after}
+use Rattle.kern_core.specs.Turns.{turn, state_after}
 use Rattle.kern_desk.specs.Seats.{calls_of, seated_answer}
 use Rattle.kern_net.specs.Calls.{TurnedBy}
 use Rattle.kern_net.specs.Streams.{posts_in, window}
@@ -33,7 +33,7 @@ fits_if : (b : Bool) (t u : Turn) → IsFetchAnswer t.answer → IsFetchAnswer u
 fits_if true t u p q = p
 fits_if false t u p q = q
 
-fits_at : (peer : Option Peer) (connection from : ℕ) (s : Session)
+fits_at : (peer : Option Peer) (connection from : ℕ) (s : KernelState)
     → IsFetchAnswer (by_peer peer s (λ p. fetching connection from s)).answer
 fits_at None connection from s = tt
 fits_at (Some p) connection from s =
@@ -42,18 +42,18 @@ fits_at (Some p) connection from s =
     (quiet (reply.Fetched (posts_to connection from s.posts) (next_from from (length s.posts)) s.is_shut) s)
     tt tt
 
-fetch_fits : (connection from : ℕ) (s : Session) → IsFetchAnswer (turn (Fetch connection from) s).answer
+fetch_fits : (connection from : ℕ) (s : KernelState) → IsFetchAnswer (turn (Fetch connection from) s).answer
 unfolding turn
 fetch_fits connection from s = fits_at _ connection from s
 
-entry_fits : (v w : PassState Call) (connection from : ℕ) (answer : Result Reply KernFault)
+entry_fits : (v w : PassState Call) (connection from : ℕ) (answer : Result Reply KernelFault)
     → TurnedBy v (Fetch connection from) answer w → is_entry answer ≡ true → IsFetchAnswer answer
 entry_fits v w connection from answer t h =
     let e = t.entered h in
-    let P : Result Reply KernFault → Type 0 = λ a. IsFetchAnswer a in
-    subst P (sym e.answered) (fetch_fits connection from (session_after (calls_of e.before)))
+    let P : Result Reply KernelFault → Type 0 = λ a. IsFetchAnswer a in
+    subst P (sym e.answered) (fetch_fits connection from (state_after (calls_of e.before)))
 
-pub fetch_answer : (v w : PassState Call) (connection from : ℕ) (answer : Result Reply KernFault)
+pub fetch_answer : (v w : PassState Call) (connection from : ℕ) (answer : Result Reply KernelFault)
     → TurnedBy v (Fetch connection from) answer w → IsFetchAnswer answer
 fetch_answer v w connection from (Ok r) t = entry_fits v w connection from (Ok r) t refl
 fetch_answer v w connection from (Err f) t = tt
@@ -91,7 +91,7 @@ onwards k f n = omega arith
 from_one : (f x : ℕ) → nat_lt f (max 1 x) ≡ false → 1 ≤ f
 from_one f x h = let b = ltb-false f (max 1 x) h in let m = le-max_left 1 x in omega (arith, b, m)
 
-gives_if : (b : Bool) (c f : ℕ) (s : Session) (lagged : KernFault) (posts : List Post) (next : ℕ)
+gives_if : (b : Bool) (c f : ℕ) (s : KernelState) (lagged : KernelFault) (posts : List Post) (next : ℕ)
     (ended : Bool)
     → nat_lt f (first_kept (length s.posts)) ≡ b
     → Ok (reply.Fetched posts next ended) ≡ (if b then refused lagged s else quiet
@@ -113,7 +113,7 @@ gives_if false c f s lagged posts next ended h e =
       within = rw at w;
     }
 
-gives_at : (peer : Option Peer) (c f : ℕ) (s : Session) (posts : List Post) (next : ℕ) (ended : Bool)
+gives_at : (peer : Option Peer) (c f : ℕ) (s : KernelState) (posts : List Post) (next : ℕ) (ended : Bool)
     → Ok (reply.Fetched posts next ended) ≡ (by_peer peer s (λ p. fetching c f s)).answer
     → Gives c f s.posts posts next
 gives_at None c f s posts next ended e = absurd cc
@@ -121,7 +121,7 @@ gives_at (Some p) c f s posts next ended e =
     gives_if (nat_lt f (first_kept (length s.posts))) c f s (fault.Lagged (first_kept (length s.posts))) posts
     next ended refl e
 
-gives_there : (c f : ℕ) (s : Session) (posts : List Post) (next : ℕ) (ended : Bool)
+gives_there : (c f : ℕ) (s : KernelState) (posts : List Post) (next : ℕ) (ended : Bool)
     → Ok (reply.Fetched posts next ended) ≡ (turn (Fetch c f) s).answer → Gives c f s.posts posts next
 unfolding turn
 gives_there c f s posts next ended e = gives_at _ c f s posts next ended e
@@ -129,4 +129,4 @@ gives_there c f s posts next ended e = gives_at _ c f s posts next ended e
 pub gives : (before : List (ℕ × Call)) (c f : ℕ) (posts : List Post) (next : ℕ) (ended : Bool)
     → Ok (reply.Fetched posts next ended) ≡ seated_answer before (Fetch c f)
     → Gives c f (posts_in before) posts next
-gives before c f posts next ended e = gives_there c f (session_after (calls_of before)) posts next ended e
+gives before c f posts next ended e = gives_there c f (state_after (calls_of before)) posts next ended e

@@ -8,8 +8,8 @@ use mathlib.Core.List.{IsPrefix}
 use Rattle.kern_post.specs.declared.post.Post.{Post}
 use Rattle.kern_post.specs.Posts.{numbered}
 use Rattle.kern_core.specs.declared.call.Call.{Call}
-use Rattle.kern_core.specs.Sessions.{Session, opened}
-use Rattle.kern_core.specs.Turns.{turn, next, session_after}
+use Rattle.kern_core.specs.States.{KernelState, opened}
+use Rattle.kern_core.specs.Turns.{turn, next, state_after}
 use Rattle.kern_desk.specs.Seats.{calls_of}
 use Rattle.kern_net.specs.Streams.{posts_in}
 use Rattle.kern_net.proofs.TurnLemmas.{turn_leaves_posts}
@@ -22,16 +22,16 @@ pub record Grows (old new : List Post) : Type 0 where
 grows_none : (posts : List Post) → Grows posts posts
 grows_none posts = record { more = []; whole = sym (append-nil posts) }
 
-step_grows : (s : Session) (call : Call) → Grows s.posts (next s call).posts
+step_grows : (s : KernelState) (call : Call) → Grows s.posts (next s call).posts
 step_grows s call =
     let t = turn call s in
     let kept = turn_leaves_posts call s in
     record {
-      more = numbered (length t.session.posts) t.moment t.letters;
-      whole = ap (λ (p : List Post). p ++ numbered (length t.session.posts) t.moment t.letters) kept;
+      more = numbered (length t.state.posts) t.unix_seconds t.letters;
+      whole = ap (λ (p : List Post). p ++ numbered (length t.state.posts) t.unix_seconds t.letters) kept;
     }
 
-calls_grow : (s : Session) (calls : List Call) → Grows s.posts (fold next s calls).posts
+calls_grow : (s : KernelState) (calls : List Call) → Grows s.posts (fold next s calls).posts
 calls_grow s [] = grows_none s.posts
 calls_grow s (call ∷ calls) =
     let a = step_grows s call in
@@ -44,8 +44,8 @@ calls_grow s (call ∷ calls) =
 pub posts_grow : (a b : List (ℕ × Call)) → IsPrefix a b → Grows (posts_in a) (posts_in b)
 posts_grow a b p =
     let G : List (ℕ × Call) → Type 0 = λ l. Grows (posts_in a) (posts_in l) in
-    let H : Session → Type 0 = λ (s : Session). Grows (posts_in a) s.posts in
-    let joined : session_after (calls_of (a ++ p.0)) ≡ fold next (session_after (calls_of a)) (calls_of p.0) =
+    let H : KernelState → Type 0 = λ (s : KernelState). Grows (posts_in a) s.posts in
+    let joined : state_after (calls_of (a ++ p.0)) ≡ fold next (state_after (calls_of a)) (calls_of p.0) =
     ap (fold next opened) (map-append (λ (e : ℕ × Call). e.1) a p.0)
     ∙ fold-append next opened (calls_of a) (calls_of p.0) in
-    subst G p.1 (subst H (sym joined) (calls_grow (session_after (calls_of a)) (calls_of p.0)))
+    subst G p.1 (subst H (sym joined) (calls_grow (state_after (calls_of a)) (calls_of p.0)))

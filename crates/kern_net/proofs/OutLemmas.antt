@@ -21,8 +21,8 @@ use Rattle.kern_core.specs.declared.call.Call.{Call}
 use Rattle.kern_core.specs.declared.call.Call.TheVariants.{Fetch}
 use Rattle.kern_core.specs.declared.call.Reply.{Reply}
 use Rattle.kern_core.specs.declared.call.Reply.TheVariants as reply
-use Rattle.kern_core.specs.declared.fault.KernFault.{KernFault}
-use Rattle.kern_core.specs.declared.fault.KernFault.TheVariants as fault
+use Rattle.kern_core.specs.declared.fault.KernelFault.{KernelFault}
+use Rattle.kern_core.specs.declared.fault.KernelFault.TheVariants as fault
 use Rattle.kern_core.specs.Kernels.{is_entry}
 use Rattle.kern_net.specs.declared.end.PumpEnd.{PumpEnd}
 use Rattle.kern_net.specs.declared.end.PumpEnd.TheVariants as end
@@ -311,11 +311,11 @@ pub went_calls : (line : Line) (b d : OutletState) (f next : ℕ) (ended : Bool)
 went_calls line b d f next ended v w s = (s.turned.entered refl).counted
 
 -- a refusal
-pub denied_by : (c f : ℕ) (v w : PassState Call) (answer : Result Reply KernFault) (r : Result Batch PumpEnd)
+pub denied_by : (c f : ℕ) (v w : PassState Call) (answer : Result Reply KernelFault) (r : Result Batch PumpEnd)
     → TurnedBy v (Fetch c f) answer w → Answers answer r → IfErr r (Denied c v w f)
 denied_by c f v w answer (Ok b) t e = tt
 denied_by c f v w answer (Err e) t (x, is, same) =
-    let T : Result Reply KernFault → Type 0 = λ a. TurnedBy v (Fetch c f) a w in
+    let T : Result Reply KernelFault → Type 0 = λ a. TurnedBy v (Fetch c f) a w in
     IsRefused e x same (subst T is t)
 
 -- ---- rounds
@@ -402,7 +402,7 @@ module _ (line : Line) (a b d : OutletState) (from f : ℕ) (o v w : PassState C
         whole = λ h. t;
       }
 
-  refused_if : (e : PumpEnd) (x : KernFault) (i : Bool) → is_entry (Err x) ≡ i
+  refused_if : (e : PumpEnd) (x : KernelFault) (i : Bool) → is_entry (Err x) ≡ i
       → TurnedBy v (Fetch line.connection f) (Err x) w → d ≡ b
       → WroteOut line from (writer a o) (writer d w) e
   refused_if e x true h t same =
@@ -470,7 +470,7 @@ ends_as : (c : ℕ) (w : PassState Call) (d : OutletState) (g : Asked) (e e' : P
     → OutEnds c (writer d w) g e' → OutEnds c (writer d w) g e
 ends_as c w d g e e' k h = let E : PumpEnd → Type 0 = λ x. OutEnds c (writer d w) g x in subst E (sym k) h
 
-refused_ends : (c f : ℕ) (v w : PassState Call) (d : OutletState) (g : Asked) (x : KernFault) → IsOpen g
+refused_ends : (c f : ℕ) (v w : PassState Call) (d : OutletState) (g : Asked) (x : KernelFault) → IsOpen g
     → IsWritable d → TurnedBy v (Fetch c f) (Err x) w → OutEnds c (writer d w) g (end_by_kernel x)
 refused_ends c f v w d g fault.OutOfMemory o n t = (n, o)
 refused_ends c f v w d g fault.JournalFull o n t = (n, o, (t.full refl).1)
@@ -510,7 +510,7 @@ pub went_over : (line : Line) (b d : OutletState) (f next : ℕ) (ended : Bool)
 went_over line b d f next ended v w g o n e k s =
     let answer : Ok (reply.Fetched s.posts next ended) ≡ Ok (reply.Fetched s.posts f true) =
     ap (λ (i : ℕ). Ok (reply.Fetched s.posts i ended)) k ∙ ap (λ x. Ok (reply.Fetched s.posts f x)) e in
-    let L : Result Reply KernFault → Type 0 = λ r. LastCall w (Fetch line.connection f) r in (
+    let L : Result Reply KernelFault → Type 0 = λ r. LastCall w (Fetch line.connection f) r in (
       n,
       inr (
         o,
@@ -540,7 +540,7 @@ said_yes a b true e n =
     }
 
 -- no call goes away
-turned_calls : (v w : PassState Call) (c f : ℕ) (r : Result Reply KernFault) (x : Bool) → is_entry r ≡ x
+turned_calls : (v w : PassState Call) (c f : ℕ) (r : Result Reply KernelFault) (x : Bool) → is_entry r ≡ x
     → TurnedBy v (Fetch c f) r w → length v.calls ≤ length w.calls
 turned_calls v w c f r true h t =
     let k = ap length (t.entered h).counted in omega (arith, k, length-append v.calls (Fetch c f ∷ []))

@@ -6,7 +6,7 @@ use Rattle.std.proofs.lemmas.List.{length-take-le}
 use Rattle.base_streams.specs.States.{InletState, IsReadable}
 use Rattle.base_streams.specs.Told.{Gave}
 use Rattle.base_streams.proofs.TellLemmas.{told_on}
-use Rattle.zmtp_wire.specs.Stream.{SideState, StandsFor, Completes}
+use Rattle.zmtp_wire.specs.Stream.{DecoderState, StandsFor, Completes}
 use Rattle.zmtp_peer.specs.declared.handshake.Peer.{Peer}
 use Rattle.zmtp_peer.proofs.EchoLemmas.{completes_none}
 use Rattle.zmtp_peer.proofs.HearingLemmas.{told_none}
@@ -39,26 +39,26 @@ later (pump.Refused fault) old mid added pass is stops = record {
 }
 later _ old mid added pass is stops = stops
 
-later_piece : (e : PumpEnd) (old mid added : List Call) (pass : PassState Call) (side : SideState)
+later_piece : (e : PumpEnd) (old mid added : List Call) (pass : PassState Call) (decoder : DecoderState)
     → mid ≡ old ++ added
-    → StopsPiece e mid pass side → StopsPiece e old pass side
-later_piece (pump.Wire cause) old mid added pass side is stops = stops
-later_piece e old mid added pass side is stops = later e old mid added pass is stops
+    → StopsPiece e mid pass decoder → StopsPiece e old pass decoder
+later_piece (pump.Wire cause) old mid added pass decoder is stops = stops
+later_piece e old mid added pass decoder is stops = later e old mid added pass is stops
 
-pub stops_piece : (e : PumpEnd) (old : List Call) (pass : PassState Call) (side : SideState)
-    → StopsBy e old pass → StopsPiece e old pass side
-stops_piece (pump.Wire cause) old pass side stops = absurd stops
-stops_piece _ old pass side stops = stops
+pub stops_piece : (e : PumpEnd) (old : List Call) (pass : PassState Call) (decoder : DecoderState)
+    → StopsBy e old pass → StopsPiece e old pass decoder
+stops_piece (pump.Wire cause) old pass decoder stops = absurd stops
+stops_piece _ old pass decoder stops = stops
 
-ends_by : (e : PumpEnd) (old new : Reader) (bytes : List ℕ) (side : SideState)
-    → IsReadable new.inlet → StopsPiece e old.pass.calls new.pass side → EndsBy e old new bytes side
-ends_by pump.PeerEnded old new bytes side good stops = absurd stops
-ends_by pump.ReadFailed old new bytes side good stops = absurd stops
-ends_by _ old new bytes side good stops = (good, stops)
+ends_by : (e : PumpEnd) (old new : Reader) (bytes : List ℕ) (decoder : DecoderState)
+    → IsReadable new.inlet → StopsPiece e old.pass.calls new.pass decoder → EndsBy e old new bytes decoder
+ends_by pump.PeerEnded old new bytes decoder good stops = absurd stops
+ends_by pump.ReadFailed old new bytes decoder good stops = absurd stops
+ends_by _ old new bytes decoder good stops = (good, stops)
 
 -- ---- what a side completes
 
-completes_on : (s t u : SideState) (x y : List ℕ) (m n : List (List (List ℕ))) → Completes s x m t
+completes_on : (s t u : DecoderState) (x y : List ℕ) (m n : List (List (List ℕ))) → Completes s x m t
     → Completes t y n u
     → Completes s (x ++ y) (m ++ n) u
 completes_on s t u x y m n p q = record {
@@ -214,10 +214,10 @@ coming_end place messages rest old new p e =
 
 -- ---- pieces
 
-abbrev pub listener : SideState → PassState Call → Listener
-listener side pass = record { side = side; pass = pass }
+abbrev pub listener : DecoderState → PassState Call → Listener
+listener decoder pass = record { decoder = decoder; pass = pass }
 
-pub hears_piece : (place : Place) (s t : SideState) (bytes : List ℕ) (messages : List (List (List ℕ)))
+pub hears_piece : (place : Place) (s t : DecoderState) (bytes : List ℕ) (messages : List (List (List ℕ)))
     (old new : PassState Call) → Completes s bytes messages t → AskedAll place messages old new
     → HeardAll place [] bytes (listener s old) (listener t new)
 hears_piece place s t bytes messages old new reads asked =
@@ -236,14 +236,14 @@ hears_whole place held bytes old new e h = record {
 }
 
 -- all was asked for, and the stream is broken after it
-pub hears_broken : (place : Place) (s t : SideState) (bytes : List ℕ) (messages : List (List (List ℕ)))
+pub hears_broken : (place : Place) (s t : DecoderState) (bytes : List ℕ) (messages : List (List (List ℕ)))
     (old new : PassState Call) (e : PumpEnd) → Completes s bytes messages t → AskedAll place messages old new
     → HeardFront place [] bytes (listener s old) (listener t new) e
 hears_broken place s t bytes messages old new e reads asked =
     hears_whole place [] bytes (listener s old) (listener t new) e
     (hears_piece place s t bytes messages old new reads asked)
 
-hears_front : (place : Place) (s t : SideState) (held : List (List (List ℕ))) (bytes : List ℕ)
+hears_front : (place : Place) (s t : DecoderState) (held : List (List (List ℕ))) (bytes : List ℕ)
     (messages : List (List (List ℕ))) (old new : PassState Call) (e : PumpEnd) → Completes s bytes messages t
     → AskedFront place (held ++ messages) old new e
     → HeardFront place held bytes (listener s old) (listener t new) e
@@ -257,26 +257,26 @@ hears_front place s t held bytes messages old new e reads asked = record {
   all = λ _. refl;
 }
 
-pub hears_refused : (place : Place) (s t : SideState) (bytes : List ℕ) (messages : List (List (List ℕ)))
+pub hears_refused : (place : Place) (s t : DecoderState) (bytes : List ℕ) (messages : List (List (List ℕ)))
     (old new : PassState Call) (e : PumpEnd) → Completes s bytes messages t
     → AskedFront place messages old new e → HeardFront place [] bytes (listener s old) (listener t new) e
 hears_refused place s t bytes messages old new e reads asked =
     hears_front place s t [] bytes messages old new e reads asked
 
 -- the piece wasn't taken
-pub hears_not : (place : Place) (s t : SideState) (bytes : List ℕ) (old : PassState Call) → t ≡ s
+pub hears_not : (place : Place) (s t : DecoderState) (bytes : List ℕ) (old : PassState Call) → t ≡ s
     → HeardFront place [] bytes (listener s old) (listener t old) pump.OutOfMemory
-hears_not place s t bytes old side = record {
+hears_not place s t bytes old decoder = record {
   taken = [];
   unread = bytes;
   messages = [];
   bytes_are = refl;
-  reads = (let C : SideState → Type 0 = λ u. Completes s [] [] u in subst C (sym side) (completes_none s));
+  reads = (let C : DecoderState → Type 0 = λ u. Completes s [] [] u in subst C (sym decoder) (completes_none s));
   asked = asked_none place [] old;
   all = λ h. absurd cc;
 }
 
-hears_held : (place : Place) (s : SideState) (held : List (List (List ℕ))) (old new : PassState Call)
+hears_held : (place : Place) (s : DecoderState) (held : List (List (List ℕ))) (old new : PassState Call)
     → AskedAll place held old new → HeardAll place held [] (listener s old) (listener s new)
 hears_held place s held old new asked = record {
   messages = [];
@@ -286,7 +286,7 @@ hears_held place s held old new asked = record {
       subst A (sym (append-nil held)) asked);
 }
 
-front_held : (place : Place) (s : SideState) (held : List (List (List ℕ))) (old new : PassState Call)
+front_held : (place : Place) (s : DecoderState) (held : List (List (List ℕ))) (old new : PassState Call)
     (e : PumpEnd) → AskedFront place held old new e
     → HeardFront place held [] (listener s old) (listener s new) e
 front_held place s held old new e asked =
@@ -299,7 +299,7 @@ hears_on place held x y old mid new p q =
     let A : List (List (List ℕ)) → Type 0 = λ l. AskedAll place l old.pass new.pass in
     record {
       messages = p.messages ++ q.messages;
-      reads = completes_on old.side mid.side new.side x y p.messages q.messages p.reads q.reads;
+      reads = completes_on old.decoder mid.decoder new.decoder x y p.messages q.messages p.reads q.reads;
       asked =
           subst A (append_assoc held p.messages q.messages)
           (all_on place (held ++ p.messages) q.messages old.pass mid.pass new.pass p.asked q.asked);
@@ -315,7 +315,7 @@ stops_on place held x y old mid new e p q =
       unread = q.unread;
       messages = p.messages ++ q.messages;
       bytes_are = ap (λ (l : List ℕ). x ++ l) q.bytes_are ∙ sym (append_assoc x q.taken q.unread);
-      reads = completes_on old.side mid.side new.side x q.taken p.messages q.messages p.reads q.reads;
+      reads = completes_on old.decoder mid.decoder new.decoder x q.taken p.messages q.messages p.reads q.reads;
       asked =
           subst A (append_assoc held p.messages q.messages)
           (front_on place (held ++ p.messages) q.messages old.pass mid.pass new.pass e p.asked q.asked);
@@ -332,24 +332,24 @@ pub record UnderWay (place : Place) (peer : Peer) (from from' : InletState) (old
     (new : Listener) (reads : ℕ) : Type 0 where
   pub bytes : List ℕ
   pub gave : Gave from from' bytes
-  pub hears : HeardAll place peer.messages bytes (listener peer.side old) new
+  pub hears : HeardAll place peer.messages bytes (listener peer.decoder old) new
   pub many : reads ≤ length bytes
 
-pub under_way : (place : Place) (peer : Peer) (from : InletState) (t : SideState)
+pub under_way : (place : Place) (peer : Peer) (from : InletState) (t : DecoderState)
     (old mid new : PassState Call)
     → AskedAll place peer.messages old mid
-    → HeardAll place [] [] (listener peer.side mid) (listener t new)
+    → HeardAll place [] [] (listener peer.decoder mid) (listener t new)
     → UnderWay place peer from from old (listener t new) 0
 under_way place peer from t old mid new p q = record {
   bytes = [];
   gave = told_none from.given;
   hears =
-      hears_on place peer.messages [] [] (listener peer.side old) (listener peer.side mid) (listener t new)
-      (hears_held place peer.side peer.messages old mid p) q;
+      hears_on place peer.messages [] [] (listener peer.decoder old) (listener peer.decoder mid) (listener t new)
+      (hears_held place peer.decoder peer.messages old mid p) q;
   many = omega arith;
 }
 
-pub under_way_on : (place : Place) (peer : Peer) (g h k : InletState) (t u : SideState) (reads : ℕ)
+pub under_way_on : (place : Place) (peer : Peer) (g h k : InletState) (t u : DecoderState) (reads : ℕ)
     (x : List ℕ) (old mid new : PassState Call) → UnderWay place peer g h old (listener t mid) reads
     → Gave h k x → HeardAll place [] x (listener t mid) (listener u new) → 1 ≤ length x
     → UnderWay place peer g k old (listener u new) (reads + 1)
@@ -360,7 +360,7 @@ under_way_on place peer g h k t u reads x old mid new p told q some =
       bytes = p.bytes ++ x;
       gave = told_on g.given h.given k.given p.bytes x p.gave told;
       hears =
-          hears_on place peer.messages p.bytes x (listener peer.side old) (listener t mid) (listener u new)
+          hears_on place peer.messages p.bytes x (listener peer.decoder old) (listener t mid) (listener u new)
           p.hears q;
       many = omega (arith, more);
     }
@@ -383,33 +383,33 @@ pub held_refused : (place : Place) (peer : Peer) (from : InletState) (old new : 
     → ReadOut place peer (reader from old) (reader from new) e
 held_refused place peer from old new e good stops asked = record {
   bytes = [];
-  after = peer.side;
+  after = peer.decoder;
   gave = told_none from.given;
-  heard = front_held place peer.side peer.messages old new e asked;
+  heard = front_held place peer.decoder peer.messages old new e asked;
   cause =
-      ends_by e (reader from old) (reader from new) [] peer.side good
-      (stops_piece e old.calls new peer.side stops);
+      ends_by e (reader from old) (reader from new) [] peer.decoder good
+      (stops_piece e old.calls new peer.decoder stops);
 }
 
 -- stopped at a fault behind READY
-pub stopped_first : (place : Place) (peer : Peer) (from : InletState) (t : SideState)
+pub stopped_first : (place : Place) (peer : Peer) (from : InletState) (t : DecoderState)
     (old mid new : PassState Call) (e : PumpEnd) → IsReadable from → AskedAll place peer.messages old mid
-    → StopsPiece e mid.calls new t → HeardFront place [] [] (listener peer.side mid) (listener t new) e
+    → StopsPiece e mid.calls new t → HeardFront place [] [] (listener peer.decoder mid) (listener t new) e
     → ReadOut place peer (reader from old) (reader from new) e
 stopped_first place peer from t old mid new e good p stops q = record {
   bytes = [];
   after = t;
   gave = told_none from.given;
   heard =
-      stops_on place peer.messages [] [] (listener peer.side old) (listener peer.side mid) (listener t new) e
-      (hears_held place peer.side peer.messages old mid p) q;
+      stops_on place peer.messages [] [] (listener peer.decoder old) (listener peer.decoder mid) (listener t new) e
+      (hears_held place peer.decoder peer.messages old mid p) q;
   cause =
       ends_by e (reader from old) (reader from new) [] t good
       (later_piece e old.calls mid.calls p.added new t p.calls stops);
 }
 
 -- stopped in a piece
-pub stopped : (place : Place) (peer : Peer) (g h k : InletState) (t u : SideState) (reads : ℕ) (x : List ℕ)
+pub stopped : (place : Place) (peer : Peer) (g h k : InletState) (t u : DecoderState) (reads : ℕ) (x : List ℕ)
     (old mid new : PassState Call) (e : PumpEnd) → UnderWay place peer g h old (listener t mid) reads
     → Gave h k x → IsReadable k → StopsPiece e mid.calls new u
     → HeardFront place [] x (listener t mid) (listener u new) e
@@ -419,7 +419,7 @@ stopped place peer g h k t u reads x old mid new e p told good stops q = record 
   after = u;
   gave = told_on g.given h.given k.given p.bytes x p.gave told;
   heard =
-      stops_on place peer.messages p.bytes x (listener peer.side old) (listener t mid) (listener u new) e
+      stops_on place peer.messages p.bytes x (listener peer.decoder old) (listener t mid) (listener u new) e
       p.hears q;
   cause =
       ends_by e (reader g old) (reader k new) (p.bytes ++ x) u good
@@ -432,7 +432,7 @@ gave_more g h k x p q =
     subst T (append-nil x) (told_on g.given h.given k.given x [] p q)
 
 -- no more was read, and reading ended so
-ends_there : (place : Place) (peer : Peer) (g h k : InletState) (t : SideState) (reads : ℕ)
+ends_there : (place : Place) (peer : Peer) (g h k : InletState) (t : DecoderState) (reads : ℕ)
     (old new : PassState Call) (e : PumpEnd) → UnderWay place peer g h old (listener t new) reads
     → Gave h k []
     → ((bytes : List ℕ) → reads ≤ length bytes → EndsBy e (reader g old) (reader k new) bytes t)
@@ -441,17 +441,17 @@ ends_there place peer g h k t reads old new e p told cause = record {
   bytes = p.bytes;
   after = t;
   gave = gave_more g h k p.bytes p.gave told;
-  heard = hears_whole place peer.messages p.bytes (listener peer.side old) (listener t new) e p.hears;
+  heard = hears_whole place peer.messages p.bytes (listener peer.decoder old) (listener t new) e p.hears;
   cause = cause p.bytes p.many;
 }
 
-pub ended_there : (place : Place) (peer : Peer) (g h k : InletState) (t : SideState) (reads : ℕ)
+pub ended_there : (place : Place) (peer : Peer) (g h k : InletState) (t : DecoderState) (reads : ℕ)
     (old new : PassState Call) → UnderWay place peer g h old (listener t new) reads → Gave h k []
     → k.ended ≡ true → k.failed ≡ false → ReadOut place peer (reader g old) (reader k new) pump.PeerEnded
 ended_there place peer g h k t reads old new p told end good =
     ends_there place peer g h k t reads old new pump.PeerEnded p told (λ bytes many. (end, good))
 
-pub failed_there : (place : Place) (peer : Peer) (g h k : InletState) (t : SideState) (reads : ℕ)
+pub failed_there : (place : Place) (peer : Peer) (g h k : InletState) (t : DecoderState) (reads : ℕ)
     (old new : PassState Call) → UnderWay place peer g h old (listener t new) reads → Gave h k []
     → k.ended ≡ false → k.failed ≡ true → ReadOut place peer (reader g old) (reader k new) pump.ReadFailed
 failed_there place peer g h k t reads old new p told on bad =
@@ -461,7 +461,7 @@ worn_out : (reads : ℕ) (bytes : List ℕ) → 4294967295 ≤ reads → reads �
 unfolding most_reads
 worn_out reads bytes enough many = omega arith
 
-pub read_enough : (place : Place) (peer : Peer) (g h : InletState) (t : SideState) (reads : ℕ)
+pub read_enough : (place : Place) (peer : Peer) (g h : InletState) (t : DecoderState) (reads : ℕ)
     (old new : PassState Call) → UnderWay place peer g h old (listener t new) reads → 4294967295 ≤ reads
     → IsReadable h → ReadOut place peer (reader g old) (reader h new) pump.ReadFailed
 read_enough place peer g h t reads old new p enough good =

@@ -5,9 +5,9 @@ use mathlib.Core.List.{IsPrefix}
 use Rattle.lab_turn.specs.History.{PassState, Turned}
 use Rattle.kern_core.specs.declared.call.Call.{Call}
 use Rattle.kern_core.specs.declared.call.Reply.{Reply}
-use Rattle.kern_core.specs.declared.fault.KernFault.{KernFault}
-use Rattle.kern_core.specs.declared.fault.KernFault.TheVariants.{OutOfMemory, Full, Lagged, JournalFull}
-use Rattle.kern_core.specs.declared.fault.KernFault.TheVariants.{NoConnection}
+use Rattle.kern_core.specs.declared.fault.KernelFault.{KernelFault}
+use Rattle.kern_core.specs.declared.fault.KernelFault.TheVariants.{OutOfMemory, Full, Lagged, JournalFull}
+use Rattle.kern_core.specs.declared.fault.KernelFault.TheVariants.{NoConnection}
 use Rattle.kern_core.specs.Kernels.{is_entry, is_full}
 use Rattle.kern_desk.specs.Seats.{seated_answer}
 use Rattle.kern_net.specs.declared.end.PumpEnd.TheVariants as pump
@@ -16,7 +16,7 @@ use Rattle.kern_net.specs.Calls.{TurnedBy}
 use Rattle.kern_net.proofs.AskLemmas.{Grants, Refuses}
 use Rattle.kern_net.proofs.LagLemmas.{no_lag}
 
-last_answer : (old new : PassState Call) (call : Call) (answer : Result Reply KernFault)
+last_answer : (old new : PassState Call) (call : Call) (answer : Result Reply KernelFault)
     → Turned seated_answer is_entry is_full old call answer new → is_entry answer ≡ true
     → LastAnswer old.calls new answer
 last_answer old new call answer turned entry =
@@ -31,35 +31,35 @@ last_answer old new call answer turned entry =
       answered = sym entered.answered;
     }
 
-pub stops_full : (old new : PassState Call) (call : Call) (answer : Result Reply KernFault)
+pub stops_full : (old new : PassState Call) (call : Call) (answer : Result Reply KernelFault)
     → Turned seated_answer is_entry is_full old call answer new → answer ≡ Err Full
     → StopsBy (pump.Refused Full) old.calls new
 stops_full old new call answer turned is =
     subst (LastAnswer old.calls new) is (last_answer old new call answer turned (ap is_entry is))
 
-pub stops_unknown : (old new : PassState Call) (call : Call) (answer : Result Reply KernFault)
+pub stops_unknown : (old new : PassState Call) (call : Call) (answer : Result Reply KernelFault)
     → Turned seated_answer is_entry is_full old call answer new → answer ≡ Err NoConnection
     → StopsBy (pump.Refused NoConnection) old.calls new
 stops_unknown old new call answer turned is =
     subst (LastAnswer old.calls new) is (last_answer old new call answer turned (ap is_entry is))
 
-pub stops_journal_full : (old new : PassState Call) (call : Call) (answer : Result Reply KernFault)
+pub stops_journal_full : (old new : PassState Call) (call : Call) (answer : Result Reply KernelFault)
     → Turned seated_answer is_entry is_full old call answer new → answer ≡ Err JournalFull
     → StopsBy pump.JournalFull old.calls new
 stops_journal_full old new call answer turned is = (turned.full (ap is_full is)).1
 
-pub never_lagged : (old new : PassState Call) (call : Call) (answer : Result Reply KernFault) (first : ℕ)
+pub never_lagged : (old new : PassState Call) (call : Call) (answer : Result Reply KernelFault) (first : ℕ)
     → Turned seated_answer is_entry is_full old call answer new → answer ≡ Err (Lagged first)
     → IsReaderCall call → ⊥
 never_lagged old new call answer first turned is read =
     let entered = turned.entered (ap is_entry is) in
     no_lag call entered.before first read (sym entered.answered ∙ is)
 
-pub call_granted : (old new : PassState Call) (call : Call) (answer : Result Reply KernFault)
+pub call_granted : (old new : PassState Call) (call : Call) (answer : Result Reply KernelFault)
     → Turned seated_answer is_entry is_full old call answer new → (reply : Reply) × (answer ≡ Ok reply)
     → Grants old call new
 call_granted old new call answer turned (reply, is) =
-    let T : Result Reply KernFault → Type 0 = λ a. TurnedBy old call a new in (reply, subst T is turned)
+    let T : Result Reply KernelFault → Type 0 = λ a. TurnedBy old call a new in (reply, subst T is turned)
 
 pub worn_onward : (old new : PassState Call) → new ≡ record old { worn = true } → IsPrefix old.seen new.seen
 worn_onward old new is = ([], append-nil old.seen ∙ sym (ap (λ (x : PassState Call). x.seen) is))
@@ -70,22 +70,22 @@ pub refuses_worn : (old new : PassState Call) (call : Call) → new ≡ record o
     → Refuses old call new pump.Worn
 refuses_worn old new call is = inl (ap (λ (x : PassState Call). x.calls) is)
 
-pub refuses_memory : (old new : PassState Call) (call : Call) (answer : Result Reply KernFault)
+pub refuses_memory : (old new : PassState Call) (call : Call) (answer : Result Reply KernelFault)
     → Turned seated_answer is_entry is_full old call answer new → answer ≡ Err OutOfMemory
     → Refuses old call new pump.OutOfMemory
 refuses_memory old new call answer turned is = inl (turned.refused (ap is_entry is)).counted
 
-pub refuses_journal_full : (old new : PassState Call) (call : Call) (answer : Result Reply KernFault)
+pub refuses_journal_full : (old new : PassState Call) (call : Call) (answer : Result Reply KernelFault)
     → Turned seated_answer is_entry is_full old call answer new → answer ≡ Err JournalFull
     → Refuses old call new pump.JournalFull
 refuses_journal_full old new call answer turned is = inl (turned.refused (ap is_entry is)).counted
 
-pub refuses_full : (old new : PassState Call) (call : Call) (answer : Result Reply KernFault)
+pub refuses_full : (old new : PassState Call) (call : Call) (answer : Result Reply KernelFault)
     → Turned seated_answer is_entry is_full old call answer new → answer ≡ Err Full
     → Refuses old call new (pump.Refused Full)
 refuses_full old new call answer turned is = inr (tt, (turned.entered (ap is_entry is)).counted)
 
-pub refuses_unknown : (old new : PassState Call) (call : Call) (answer : Result Reply KernFault)
+pub refuses_unknown : (old new : PassState Call) (call : Call) (answer : Result Reply KernelFault)
     → Turned seated_answer is_entry is_full old call answer new → answer ≡ Err NoConnection
     → Refuses old call new (pump.Refused NoConnection)
 refuses_unknown old new call answer turned is = inr (tt, (turned.entered (ap is_entry is)).counted)

@@ -8,8 +8,8 @@ use Rattle.kern_core.specs.declared.call.Call.{Call}
 use Rattle.kern_core.specs.declared.call.Call.TheVariants.{Slice}
 use Rattle.kern_core.specs.declared.call.Reply.{Reply}
 use Rattle.kern_core.specs.declared.call.Reply.TheVariants as reply
-use Rattle.kern_core.specs.declared.fault.KernFault.{KernFault}
-use Rattle.kern_core.specs.declared.fault.KernFault.TheVariants as fault
+use Rattle.kern_core.specs.declared.fault.KernelFault.{KernelFault}
+use Rattle.kern_core.specs.declared.fault.KernelFault.TheVariants as fault
 use Rattle.kern_net.specs.declared.end.PumpEnd.{PumpEnd}
 use Rattle.kern_net.specs.declared.end.PumpEnd.TheVariants as end
 use Rattle.kern_net.specs.Gates.{Asked}
@@ -23,26 +23,26 @@ ended_as : (v w : PassState Call) (o : Option (Result Bool PumpEnd)) (e e' : Pum
 ended_as v w o e e' is h same =
     let E : PumpEnd → Type 0 = λ x. SliceEnds v w x in let k : e ≡ e' = cc in subst E k h
 
-slice_ends : (v w : PassState Call) (moment : ℕ) (answer : Result Reply KernFault) (e : PumpEnd)
-    → TurnedBy v (Slice moment) answer w → outcome_of answer ≡ Some (Err e) → SliceEnds v w e
-slice_ends v w moment (Ok reply.Ended) e t h =
+slice_ends : (v w : PassState Call) (unix_seconds : ℕ) (answer : Result Reply KernelFault) (e : PumpEnd)
+    → TurnedBy v (Slice unix_seconds) answer w → outcome_of answer ≡ Some (Err e) → SliceEnds v w e
+slice_ends v w unix_seconds (Ok reply.Ended) e t h =
     ended_as v w (outcome_of (Ok reply.Ended)) end.Ended e refl (
-      (moment, entry_calls v w (Slice moment) (Ok reply.Ended) t refl),
-      (moment, last_call v w (Slice moment) (Ok reply.Ended) refl t),
+      (unix_seconds, entry_calls v w (Slice unix_seconds) (Ok reply.Ended) t refl),
+      (unix_seconds, last_call v w (Slice unix_seconds) (Ok reply.Ended) refl t),
     ) h
-slice_ends v w moment (Err fault.OutOfMemory) e t h =
+slice_ends v w unix_seconds (Err fault.OutOfMemory) e t h =
     ended_as v w (outcome_of (Err fault.OutOfMemory)) end.OutOfMemory e refl
-    (no_entry_calls v w (Slice moment) (Err fault.OutOfMemory) t refl) h
-slice_ends v w moment (Err fault.JournalFull) e t h =
+    (no_entry_calls v w (Slice unix_seconds) (Err fault.OutOfMemory) t refl) h
+slice_ends v w unix_seconds (Err fault.JournalFull) e t h =
     ended_as v w (outcome_of (Err fault.JournalFull)) end.JournalFull e refl
-    (no_entry_calls v w (Slice moment) (Err fault.JournalFull) t refl, (t.full refl).1) h
-slice_ends v w moment _ e t h = absurd cc
+    (no_entry_calls v w (Slice unix_seconds) (Err fault.JournalFull) t refl, (t.full refl).1) h
+slice_ends v w unix_seconds _ e t h = absurd cc
 
-pub slice_err : (v w : PassState Call) (moment : ℕ) (answer : Result Reply KernFault)
-    (r : Result Bool PumpEnd) → TurnedBy v (Slice moment) answer w → outcome_of answer ≡ Some r
+pub slice_err : (v w : PassState Call) (unix_seconds : ℕ) (answer : Result Reply KernelFault)
+    (r : Result Bool PumpEnd) → TurnedBy v (Slice unix_seconds) answer w → outcome_of answer ≡ Some r
     → IfErr r (SliceEnds v w)
-slice_err v w moment answer (Ok more) t e = tt
-slice_err v w moment answer (Err e) t h = slice_ends v w moment answer e t h
+slice_err v w unix_seconds answer (Ok more) t e = tt
+slice_err v w unix_seconds answer (Err e) t h = slice_ends v w unix_seconds answer e t h
 
 -- round after round
 pub sliced_then : (old mid new : List Call) (a b d : Asked) → Sliced old mid a b → Sliced mid new b d

@@ -8,7 +8,7 @@ use Rattle.jup_wire.specs.declared.message.Header.{Header}
 use Rattle.jup_wire.specs.declared.message.Message.{Message}
 use Rattle.jup_wire.specs.declared.message.Parts.{Parts}
 use Rattle.jup_wire.specs.Wire.{IsMessage}
-use Rattle.kern_ask.specs.Asks.{request_of}
+use Rattle.kern_request.specs.Requests.{request_of}
 use Rattle.kern_core.specs.declared.call.Call.{Call}
 use Rattle.kern_core.specs.declared.call.Call.TheVariants.{Arrive, Subscribe}
 use Rattle.kern_net.specs.declared.pump_in.Place.{Place}
@@ -16,11 +16,11 @@ use Rattle.kern_net.specs.declared.pump_in.Place.{Place}
 -- the call for a message that opens under the place's key
 pub record IsArrival (place : Place) (frames : List (List ℕ)) (call : Call) : Type 0 where
   pub message : Message
-  pub moment : ℕ
+  pub unix_seconds : ℕ
   pub opens : IsMessage place.key.now frames message.parts message.header (view message.content)
-  pub in_time : moment ≤ 4102444800
+  pub in_time : unix_seconds ≤ 4102444800
   pub call_is : call ≡ Arrive place.connection
-      (record { request = request_of place.channel message; moment = moment })
+      (record { request = request_of place.channel message; unix_seconds = unix_seconds })
 
 -- the first byte of a subscription, and of its end
 abbrev pub mark : Bool → ℕ
@@ -35,11 +35,11 @@ subscription_frames wants prefix = (mark wants ∷ prefix) ∷ []
 pub record IsSubscription (place : Place) (frames : List (List ℕ)) (call : Call) : Type 0 where
   pub wants : Bool
   pub prefix : List ℕ
-  pub moment : ℕ
+  pub unix_seconds : ℕ
   pub frames_are : frames ≡ subscription_frames wants prefix
-  pub in_time : moment ≤ 4102444800
+  pub in_time : unix_seconds ≤ 4102444800
   pub call_is : call ≡ Subscribe place.connection
-      (record { wants = wants; prefix = prefix; moment = moment })
+      (record { wants = wants; prefix = prefix; unix_seconds = unix_seconds })
 
 -- what the frames ask for on a channel: on iopub a subscription, on the others a request
 abbrev pub IsAskedOn : Channel → Place → List (List ℕ) → Call → Type 0

@@ -4,16 +4,16 @@ use mathlib.Core.List.{IsPrefix}
 use Rattle.lab_turn.specs.History.{PassState, Turned, calls_of}
 use Rattle.kern_core.specs.declared.call.Call.{Call}
 use Rattle.kern_core.specs.declared.call.Reply.{Reply}
-use Rattle.kern_core.specs.declared.fault.KernFault.{KernFault}
+use Rattle.kern_core.specs.declared.fault.KernelFault.{KernelFault}
 use Rattle.kern_core.specs.Kernels.{is_entry, is_full}
 use Rattle.kern_desk.specs.Seats.{seated_answer}
 
 -- one turn at the kernel's desk
-abbrev pub TurnedBy : PassState Call → Call → Result Reply KernFault → PassState Call → Type 0
+abbrev pub TurnedBy : PassState Call → Call → Result Reply KernelFault → PassState Call → Type 0
 TurnedBy old call answer new = Turned seated_answer is_entry is_full old call answer new
 
 -- In the history that the pass has seen its last call is this one, and this is the kernel's answer there.
-pub record LastCall (pass : PassState Call) (call : Call) (answer : Result Reply KernFault) : Type 0 where
+pub record LastCall (pass : PassState Call) (call : Call) (answer : Result Reply KernelFault) : Type 0 where
   pub before : List (ℕ × Call)
   pub seen : IsPrefix (before ++ (pass.seat, call) ∷ []) pass.seen
   pub last : pass.calls ≡ calls_of pass.seat before ++ call ∷ []

@@ -1,6 +1,6 @@
 -- How a peer's fault, or a call's, ends a thread's work.
-use Rattle.kern_core.specs.declared.fault.KernFault.{KernFault}
-use Rattle.kern_core.specs.declared.fault.KernFault.TheVariants as fault
+use Rattle.kern_core.specs.declared.fault.KernelFault.{KernelFault}
+use Rattle.kern_core.specs.declared.fault.KernelFault.TheVariants as fault
 use Rattle.zmtp_peer.specs.declared.fault.PeerFault.{PeerFault}
 use Rattle.zmtp_peer.specs.declared.fault.PeerFault.TheVariants as peer
 use Rattle.kern_net.specs.declared.end.PumpEnd.{PumpEnd}
@@ -13,7 +13,7 @@ end_by_peer peer.ReadFailed = end.ReadFailed
 end_by_peer peer.WriteFailed = end.WriteFailed
 end_by_peer (peer.Wire cause) = end.Wire cause
 
-abbrev pub end_by_kernel : KernFault → PumpEnd
+abbrev pub end_by_kernel : KernelFault → PumpEnd
 end_by_kernel fault.OutOfMemory = end.OutOfMemory
 end_by_kernel fault.JournalFull = end.JournalFull
 end_by_kernel (fault.Lagged first) = end.Lagged

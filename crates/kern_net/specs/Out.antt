@@ -9,8 +9,8 @@ use Rattle.kern_core.specs.declared.call.Call.{Call}
 use Rattle.kern_core.specs.declared.call.Call.TheVariants.{Fetch}
 use Rattle.kern_core.specs.declared.call.Reply.{Reply}
 use Rattle.kern_core.specs.declared.call.Reply.TheVariants as reply
-use Rattle.kern_core.specs.declared.fault.KernFault.{KernFault}
-use Rattle.kern_core.specs.declared.fault.KernFault.TheVariants as fault
+use Rattle.kern_core.specs.declared.fault.KernelFault.{KernelFault}
+use Rattle.kern_core.specs.declared.fault.KernelFault.TheVariants as fault
 use Rattle.kern_net.specs.declared.end.PumpEnd.{PumpEnd}
 use Rattle.kern_net.specs.declared.pump_out.Line.{Line}
 use Rattle.kern_net.specs.declared.end.PumpEnd.TheVariants as end
@@ -27,14 +27,14 @@ abbrev pub IsFetch : ℕ → Call → Type 0
 IsFetch connection call = (from : ℕ) × (call ≡ Fetch connection from)
 
 -- the number below which all posts were fetched, after a Fetch from a number that was answered so
-abbrev pub next_after : ℕ → Result Reply KernFault → ℕ
+abbrev pub next_after : ℕ → Result Reply KernelFault → ℕ
 next_after from (Ok (reply.Fetched posts next ended)) = next
 next_after from _ = from
 
 -- its last call was a Fetch, and all posts below the number were fetched
 abbrev pub HasFetched : ℕ → PassState Call → ℕ → Type 0
 HasFetched connection pass next =
-    (from : ℕ) × (answer : Result Reply KernFault) × LastCall pass (Fetch connection from) answer
+    (from : ℕ) × (answer : Result Reply KernelFault) × LastCall pass (Fetch connection from) answer
     × (next ≡ next_after from answer)
 
 -- all posts from one number to another were fetched: none where no call was made, else as the last Fetch of
@@ -85,7 +85,7 @@ SawEnd connection pass =
     (Ok (reply.Fetched posts from true))
 
 -- the last Fetch was refused so
-abbrev pub IsRefused : ℕ → PassState Call → KernFault → Type 0
+abbrev pub IsRefused : ℕ → PassState Call → KernelFault → Type 0
 IsRefused connection pass fault = (from : ℕ) × LastCall pass (Fetch connection from) (Err fault)
 
 -- Each end comes only for its cause: the gate has said no, once, or a shutdown was seen and all is written; a

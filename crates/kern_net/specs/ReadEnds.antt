@@ -3,11 +3,11 @@ use Rattle.std.specs.Prelude.{◌≡◌, ◌≤◌, ◌⊎◌, ℕ, Bool, true, 
 use Rattle.std.specs.Prelude.{Err}
 use Rattle.base_streams.specs.States.{InletState, IsReadable}
 use Rattle.lab_turn.specs.History.{PassState}
-use Rattle.zmtp_wire.specs.Stream.{SideState}
+use Rattle.zmtp_wire.specs.Stream.{DecoderState}
 use Rattle.kern_core.specs.declared.call.Call.{Call}
 use Rattle.kern_core.specs.declared.call.Call.TheVariants.{Subscribe, Arrive}
 use Rattle.kern_core.specs.declared.call.Reply.{Reply}
-use Rattle.kern_core.specs.declared.fault.KernFault.{KernFault}
+use Rattle.kern_core.specs.declared.fault.KernelFault.{KernelFault}
 use Rattle.kern_desk.specs.Seats.{seated_answer}
 use Rattle.kern_net.specs.declared.end.PumpEnd.{PumpEnd}
 use Rattle.kern_net.specs.declared.end.PumpEnd.TheVariants as pump
@@ -26,7 +26,7 @@ IsReaderCall _ = ⊥
 -- the last call in the history that the pass has seen is its own and comes after these, and this is the
 -- answer to it
 pub record LastAnswer (old : List Call) (pass : PassState Call)
-    (answer : Result Reply KernFault) : Type 0 where
+    (answer : Result Reply KernelFault) : Type 0 where
   pub before : List (ℕ × Call)
   pub call : Call
   pub earlier : List Call
@@ -48,9 +48,9 @@ StopsBy pump.Worn old pass = pass.worn ≡ true
 StopsBy _ old pass = ⊥
 
 -- or the stream broke
-abbrev pub StopsPiece : PumpEnd → List Call → PassState Call → SideState → Type 0
-StopsPiece (pump.Wire cause) old pass side = side.fault ≡ Some cause
-StopsPiece e old pass side = StopsBy e old pass
+abbrev pub StopsPiece : PumpEnd → List Call → PassState Call → DecoderState → Type 0
+StopsPiece (pump.Wire cause) old pass decoder = decoder.fault ≡ Some cause
+StopsPiece e old pass decoder = StopsBy e old pass
 
 -- no reader is asked more often
 unfoldable pub most_reads : ℕ
@@ -62,12 +62,12 @@ IsWornOut bytes = most_reads ≤ length bytes
 
 -- why it ended, as the pass, the reader, the bytes that were read and the side after them show it; a reader
 -- ends or fails only where reading ends so
-abbrev pub EndsBy : PumpEnd → Reader → Reader → List ℕ → SideState → Type 0
-EndsBy pump.PeerEnded old new bytes side = (new.inlet.ended ≡ true) × (new.inlet.failed ≡ false)
-EndsBy pump.ReadFailed old new bytes side =
+abbrev pub EndsBy : PumpEnd → Reader → Reader → List ℕ → DecoderState → Type 0
+EndsBy pump.PeerEnded old new bytes decoder = (new.inlet.ended ≡ true) × (new.inlet.failed ≡ false)
+EndsBy pump.ReadFailed old new bytes decoder =
     (new.inlet.ended ≡ false)
     × ((new.inlet.failed ≡ true) ⊎ ((new.inlet.failed ≡ false) × IsWornOut bytes))
-EndsBy e old new bytes side = IsReadable new.inlet × StopsPiece e old.pass.calls new.pass side
+EndsBy e old new bytes decoder = IsReadable new.inlet × StopsPiece e old.pass.calls new.pass decoder
 
 -- at these ends all was asked for
 abbrev pub asks_all : PumpEnd → Bool

@@ -3,7 +3,7 @@ use Rattle.std.specs.Prelude.{◌≡◌, ◌⊎◌, ℕ, true, List, [], ◌∷�
 use mathlib.Core.List.{IsPrefix}
 use Rattle.base_streams.specs.Told.{Gave}
 use Rattle.lab_turn.specs.History.{PassState}
-use Rattle.zmtp_wire.specs.Stream.{SideState, Completes}
+use Rattle.zmtp_wire.specs.Stream.{DecoderState, Completes}
 use Rattle.zmtp_peer.specs.declared.handshake.Peer.{Peer}
 use Rattle.kern_core.specs.declared.call.Call.{Call}
 use Rattle.kern_core.specs.declared.call.Reply.{Reply}
@@ -56,14 +56,14 @@ AskedFor place messages old new result = MatchResult result
 
 -- the side that a peer's bytes are read by, and the pass of the calls that are made for them
 pub record Listener : Type 0 where
-  pub side : SideState
+  pub decoder : DecoderState
   pub pass : PassState Call
 
 -- the side read these bytes, and what the messages that were held and those in the bytes ask for was granted
 pub record HeardAll (place : Place) (held : List (List (List ℕ))) (bytes : List ℕ) (old new : Listener)
     : Type 0 where
   pub messages : List (List (List ℕ))
-  pub reads : Completes old.side bytes messages new.side
+  pub reads : Completes old.decoder bytes messages new.decoder
   pub asked : AskedAll place (held ++ messages) old.pass new.pass
 
 -- the side read a front of the bytes, and a front of what the messages ask for was asked for, until this end
@@ -73,7 +73,7 @@ pub record HeardFront (place : Place) (held : List (List (List ℕ))) (bytes : L
   pub unread : List ℕ
   pub messages : List (List (List ℕ))
   pub bytes_are : bytes ≡ taken ++ unread
-  pub reads : Completes old.side taken messages new.side
+  pub reads : Completes old.decoder taken messages new.decoder
   pub asked : AskedFront place (held ++ messages) old.pass new.pass e
   pub all : asks_all e ≡ true → unread ≡ []
 
@@ -82,13 +82,13 @@ pub record HeardFront (place : Place) (held : List (List (List ℕ))) (bytes : L
 abbrev pub PieceAskedFor : Place → List ℕ → Listener → Listener → Result (Unit {0}) PumpEnd → Type 0
 PieceAskedFor place piece old new result = MatchResult result
     (λ _. HeardAll place [] piece old new)
-    (λ e. HeardFront place [] piece old new e × StopsPiece e old.pass.calls new.pass new.side)
+    (λ e. HeardFront place [] piece old new e × StopsPiece e old.pass.calls new.pass new.decoder)
 
 -- a peer was read from to this end, beginning with the messages that it held
 pub record ReadOut (place : Place) (peer : Peer) (old new : Reader) (e : PumpEnd) : Type 0 where
   pub bytes : List ℕ
-  pub after : SideState
+  pub after : DecoderState
   pub gave : Gave old.inlet new.inlet bytes
-  pub heard : HeardFront place peer.messages bytes (record { side = peer.side; pass = old.pass })
-      (record { side = after; pass = new.pass }) e
+  pub heard : HeardFront place peer.messages bytes (record { decoder = peer.decoder; pass = old.pass })
+      (record { decoder = after; pass = new.pass }) e
   pub cause : EndsBy e old new bytes after

@@ -7,7 +7,7 @@ use Rattle.kern_core.specs.declared.call.Call.{Call}
 use Rattle.kern_core.specs.declared.call.Call.TheVariants.{Fetch}
 use Rattle.kern_core.specs.declared.call.Reply.{Reply}
 use Rattle.kern_core.specs.declared.call.Reply.TheVariants as reply
-use Rattle.kern_core.specs.declared.fault.KernFault.{KernFault}
+use Rattle.kern_core.specs.declared.fault.KernelFault.{KernelFault}
 use Rattle.kern_net.specs.declared.end.PumpEnd.{PumpEnd}
 use Rattle.kern_net.specs.declared.end.PumpEnd.TheVariants as end
 use Rattle.kern_net.specs.Ends.{end_by_kernel}
@@ -17,20 +17,20 @@ use Rattle.kern_net.specs.declared.pump_out.Line.{Line}
 use Rattle.kern_net.specs.Out.{Writer, WroteFront, WroteAll}
 
 -- posts, or a refusal
-abbrev pub IsFetchAnswer : Result Reply KernFault → Type 0
+abbrev pub IsFetchAnswer : Result Reply KernelFault → Type 0
 IsFetchAnswer (Ok (reply.Fetched posts next ended)) = Unit {0}
 IsFetchAnswer (Ok _) = ⊥
 IsFetchAnswer (Err fault) = Unit {0}
 
 -- the answer gives the batch, or is a refusal that ends the work so
-abbrev pub Answers : Result Reply KernFault → Result Batch PumpEnd → Type 0
+abbrev pub Answers : Result Reply KernelFault → Result Batch PumpEnd → Type 0
 Answers answer (Ok b) = answer ≡ Ok (reply.Fetched b.posts b.next b.ended)
-Answers answer (Err e) = (fault : KernFault) × (answer ≡ Err fault) × (e ≡ end_by_kernel fault)
+Answers answer (Err e) = (fault : KernelFault) × (answer ≡ Err fault) × (e ≡ end_by_kernel fault)
 
 -- no turn was had, or it was refused
 pub data Denied (connection : ℕ) (old new : PassState Call) (from : ℕ) : PumpEnd → Type 0 where
   IsWorn : (e : PumpEnd) → e ≡ end.Worn → new ≡ record old { worn = true } → Denied connection old new from e
-  IsRefused : (e : PumpEnd) (fault : KernFault) → e ≡ end_by_kernel fault
+  IsRefused : (e : PumpEnd) (fault : KernelFault) → e ≡ end_by_kernel fault
       → TurnedBy old (Fetch connection from) (Err fault) new → Denied connection old new from e
 
 -- memory for the posts was wanting, or the writer failed

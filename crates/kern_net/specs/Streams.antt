@@ -5,13 +5,13 @@ use Rattle.zmtp_wire.specs.Writing.{message_bytes}
 use Rattle.kern_post.specs.declared.post.Post.{Post}
 use Rattle.kern_post.specs.Posts.{is_to}
 use Rattle.kern_core.specs.declared.call.Call.{Call}
-use Rattle.kern_core.specs.Turns.{session_after}
+use Rattle.kern_core.specs.Turns.{state_after}
 use Rattle.kern_desk.specs.Seats.{calls_of}
 use Rattle.kern_render.specs.Rendering.{IsRendered}
 
 -- all posts of the kernel after a history
 abbrev pub posts_in : List (ℕ × Call) → List Post
-posts_in history = (session_after (calls_of history)).posts
+posts_in history = (state_after (calls_of history)).posts
 
 -- the posts to a connection from a number on and below another; a post's number is its place, from 1
 unfoldable pub window : ℕ → ℕ → ℕ → List Post → List Post

@@ -6,21 +6,21 @@ use Rattle.kern_core.specs.declared.call.Call.{Call}
 use Rattle.kern_core.specs.declared.call.Call.TheVariants.{Slice}
 use Rattle.kern_core.specs.declared.call.Reply.{Reply}
 use Rattle.kern_core.specs.declared.call.Reply.TheVariants as reply
-use Rattle.kern_core.specs.declared.fault.KernFault.{KernFault}
-use Rattle.kern_core.specs.declared.fault.KernFault.TheVariants.{OutOfMemory, JournalFull}
+use Rattle.kern_core.specs.declared.fault.KernelFault.{KernelFault}
+use Rattle.kern_core.specs.declared.fault.KernelFault.TheVariants.{OutOfMemory, JournalFull}
 use Rattle.kern_net.specs.declared.end.PumpEnd.{PumpEnd}
 use Rattle.kern_net.specs.declared.end.PumpEnd.TheVariants as end
 use Rattle.kern_net.specs.Gates.{Asked, idles, noes, IsOpen}
 use Rattle.kern_net.specs.Calls.{LastCall, IsJournalFull}
 
 abbrev pub IsSlice : Call → Type 0
-IsSlice call = (moment : ℕ) × (call ≡ Slice moment)
+IsSlice call = (unix_seconds : ℕ) × (call ≡ Slice unix_seconds)
 
 abbrev pub OneSlice : List Call → List Call → Type 0
-OneSlice old new = (moment : ℕ) × (new ≡ old ++ Slice moment ∷ [])
+OneSlice old new = (unix_seconds : ℕ) × (new ≡ old ++ Slice unix_seconds ∷ [])
 
 -- what the answers to a Slice say: whether there may be more to do, or how the work ends; others are none
-abbrev pub outcome_of : Result Reply KernFault → Option (Result Bool PumpEnd)
+abbrev pub outcome_of : Result Reply KernelFault → Option (Result Bool PumpEnd)
 outcome_of (Ok reply.More) = Some (Ok true)
 outcome_of (Ok reply.Idle) = Some (Ok false)
 outcome_of (Ok reply.Ended) = Some (Err end.Ended)
@@ -37,7 +37,7 @@ is_short _ = false
 
 -- the last call was a Slice, and was answered that a shutdown came
 abbrev pub SawShutdown : PassState Call → Type 0
-SawShutdown pass = (moment : ℕ) × LastCall pass (Slice moment) (Ok reply.Ended)
+SawShutdown pass = (unix_seconds : ℕ) × LastCall pass (Slice unix_seconds) (Ok reply.Ended)
 
 -- how a Slice ends the work
 abbrev pub SliceEnds : PassState Call → PassState Call → PumpEnd → Type 0

@@ -5,7 +5,7 @@ ghost use Rattle.std.specs.Prelude.{IfSome, IfNone};
 ghost use Rattle.serde_json.specs.View.{view};
 ghost use Rattle.jup_wire.specs.declared.channel.Channel.TheVariants.{Iopub};
 ghost use Rattle.jup_wire.specs.Wire.{IsMessage};
-ghost use Rattle.kern_ask.specs.Asks.{request_of as request_in};
+ghost use Rattle.kern_request.specs.Requests.{request_of as request_in};
 ghost use Rattle.kern_core.specs.declared.call.Call.TheVariants.{Arrive, Subscribe};
 ghost use Rattle.kern_core.specs.declared.call.Reply.{Reply};
 ghost use Rattle.kern_net.specs.Calls.{TurnedBy};
@@ -20,16 +20,16 @@ use base_text::sequence::{Bytes, Frames};
 use jup_wire::channel::Channel;
 use jup_wire::message::{Message, WireFault};
 use jup_wire::opening::open_message;
-use kern_ask::asking::request_of;
+use kern_request::reading::request_of;
 use kern_core::call::{Arrival, Call, Reply, Subscription};
-use kern_core::fault::KernFault;
+use kern_core::fault::KernelFault;
 use kern_core::held::Held;
 use kern_desk::seated::{Desk, Pass};
 use std::alloc::{AllocError, Global};
 use std::sync::Wait;
 
 // Why a call was refused, if it was.
-fn refusal(answer: Result<Reply, KernFault>) -> Result<(), KernFault>
+fn refusal(answer: Result<Reply, KernelFault>) -> Result<(), KernelFault>
     ensures ok { OnOk result ((reply : Reply) × (answer ≡ Ok reply)) }
     ensures err { IfErr result (λ fault. answer ≡ Err fault) }
 {
@@ -64,11 +64,11 @@ fn make_call<R: Wait, G: Gate>(
     gate.wake(rt);
     match refusal(answer) {
         Ok(()) => Ok(()),
-        Err(KernFault::OutOfMemory) => Err(PumpEnd::OutOfMemory),
-        Err(KernFault::JournalFull) => Err(PumpEnd::JournalFull),
-        Err(KernFault::Full) => Err(PumpEnd::Refused(KernFault::Full)),
-        Err(KernFault::NoConnection) => Err(PumpEnd::Refused(KernFault::NoConnection)),
-        Err(KernFault::Lagged { .. }) => Err(PumpEnd::Lagged),
+        Err(KernelFault::OutOfMemory) => Err(PumpEnd::OutOfMemory),
+        Err(KernelFault::JournalFull) => Err(PumpEnd::JournalFull),
+        Err(KernelFault::Full) => Err(PumpEnd::Refused(KernelFault::Full)),
+        Err(KernelFault::NoConnection) => Err(PumpEnd::Refused(KernelFault::NoConnection)),
+        Err(KernelFault::Lagged { .. }) => Err(PumpEnd::Lagged),
     }
 }
 
@@ -107,10 +107,10 @@ fn subscribe_call(
     connection: u32,
     wants: bool,
     prefix: &[u8],
-    moment: u64,
+    unix_seconds: u64,
 ) -> Result<Call, AllocError>
     ensures { IfOk result (λ call. call
-        ≡ Subscribe connection (record { wants = wants; prefix = prefix.now; moment = moment })) }
+        ≡ Subscribe connection (record { wants = wants; prefix = prefix.now; unix_seconds = unix_seconds })) }
 {
     let prefix = Bytes::copy_of(alloc, prefix)?;
     let subscription = Held::new(
@@ -118,7 +118,7 @@ fn subscribe_call(
         Subscription {
             wants,
             prefix,
-            moment,
+            unix_seconds,
         },
     )?;
     Ok(Call::Subscribe {
@@ -131,13 +131,13 @@ fn arrive_call(
     alloc: Global,
     place: &Place<'_>,
     message: Message,
-    moment: u64,
+    unix_seconds: u64,
 ) -> Result<Call, AllocError>
     ensures { IfOk result (λ call. call ≡ Arrive place.now.connection
-        (record { request = request_in place.now.channel message; moment = moment })) }
+        (record { request = request_in place.now.channel message; unix_seconds = unix_seconds })) }
 {
     let request = request_of(alloc, place.channel, message)?;
-    let arrival = Held::new(alloc, Arrival { request, moment })?;
+    let arrival = Held::new(alloc, Arrival { request, unix_seconds })?;
     Ok(Call::Arrive {
         connection: place.connection,
         arrival,
@@ -180,8 +180,8 @@ fn subscribe<R: Wait, G: Gate>(
     let Some(Wanted { wants, prefix }) = wanted_in(frames) else {
         return Ok(());
     };
-    let moment = gate.moment(rt);
-    match subscribe_call(alloc, place.connection, wants, prefix, moment) {
+    let unix_seconds = gate.unix_seconds(rt);
+    match subscribe_call(alloc, place.connection, wants, prefix, unix_seconds) {
         Ok(call) => match make_call(rt, place.desk, pass, gate, call) {
             Ok(()) => Ok(()),
             Err(end) => Err(end),
@@ -207,8 +207,8 @@ fn arrive<R: Wait, G: Gate>(
 {
     match opened(alloc, frames, place.key) {
         Ok(Some(message)) => {
-            let moment = gate.moment(rt);
-            match arrive_call(alloc, place, message, moment) {
+            let unix_seconds = gate.unix_seconds(rt);
+            match arrive_call(alloc, place, message, unix_seconds) {
                 Ok(call) => match make_call(rt, place.desk, pass, gate, call) {
                     Ok(()) => Ok(()),
                     Err(end) => Err(end),

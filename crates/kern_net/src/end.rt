@@ -1,6 +1,6 @@
 //! How the worker or a pump ends.
 
-use kern_core::fault::KernFault;
+use kern_core::fault::KernelFault;
 use zmtp_peer::fault::PeerFault;
 use zmtp_wire::fault::StreamFault;
 
@@ -21,7 +21,7 @@ pub enum PumpEnd {
     /// A gate said no, or a shutdown came and all is written.
     Ended,
     /// A call was refused for another reason.
-    Refused(KernFault),
+    Refused(KernelFault),
     /// No more turns can be had.
     Worn,
 }
@@ -43,18 +43,18 @@ impl From<PeerFault> for PumpEnd {
     }
 }
 
-impl From<KernFault> for PumpEnd {
+impl From<KernelFault> for PumpEnd {
     ghost use Rattle.std.specs.Prelude.{◌≡◌};
     ghost use Rattle.kern_net.specs.Ends.{end_by_kernel};
 
     ghost from_gives = { λ fault end. end ≡ end_by_kernel fault };
 
-    fn from(fault: KernFault) -> PumpEnd {
+    fn from(fault: KernelFault) -> PumpEnd {
         match fault {
-            KernFault::OutOfMemory => PumpEnd::OutOfMemory,
-            KernFault::JournalFull => PumpEnd::JournalFull,
-            KernFault::Lagged { .. } => PumpEnd::Lagged,
-            KernFault::Full | KernFault::NoConnection => PumpEnd::Refused(fault),
+            KernelFault::OutOfMemory => PumpEnd::OutOfMemory,
+            KernelFault::JournalFull => PumpEnd::JournalFull,
+            KernelFault::Lagged { .. } => PumpEnd::Lagged,
+            KernelFault::Full | KernelFault::NoConnection => PumpEnd::Refused(fault),
         }
     }
 }

@@ -25,7 +25,7 @@ pub trait Gate {
         ensures { asked self.new ≡ asked self.old };
 
     /// Whole seconds since 1970, at most those of 2100-01-01T00:00:00Z: a later clock counts as that.
-    fn moment<R: Wait>(&mut self, rt: &R) -> u64
+    fn unix_seconds<R: Wait>(&mut self, rt: &R) -> u64
         ensures asked { asked self.new ≡ asked self.old }
         ensures bound { result ≤ 4102444800 };
 }

@@ -16,8 +16,8 @@ use std::alloc::Global;
 use std::sync::Wait;
 use zmtp_peer::feeding::{Fed, feed};
 use zmtp_peer::handshake::Peer;
-use zmtp_wire::incomings::Incomings;
-use zmtp_wire::side::Side;
+use zmtp_wire::messages::Messages;
+use zmtp_wire::decoder::Decoder;
 
 /// Where messages come from, how they are signed, and at which desk they are asked for.
 #[derive(Clone, Copy)]
@@ -38,7 +38,7 @@ fn ask_for_all<R: Wait, G: Gate>(
     pass: &mut Pass,
     gate: &mut G,
     place: &Place<'_>,
-    messages: Incomings,
+    messages: Messages,
 ) -> Result<(), PumpEnd>
     requires { pass.old.turnstile ≡ place.now.desk.now }
     ensures same { (pass.new.turnstile ≡ place.now.desk.now) × (pass.new.seat ≡ pass.old.seat) }
@@ -61,16 +61,16 @@ fn take_piece<R: Wait, G: Gate>(
     pass: &mut Pass,
     gate: &mut G,
     place: &Place<'_>,
-    side: &mut Side,
+    decoder: &mut Decoder,
     piece: &[u8],
 ) -> Result<(), PumpEnd>
     requires { pass.old.turnstile ≡ place.now.desk.now }
     ensures same { (pass.new.turnstile ≡ place.now.desk.now) × (pass.new.seat ≡ pass.old.seat) }
     ensures gate { G.asked gate.new ≡ G.asked gate.old }
-    ensures asked { PieceAskedFor place.now piece.now (record { side = side.old; pass = pass.old })
-        (record { side = side.new; pass = pass.new }) result }
+    ensures asked { PieceAskedFor place.now piece.now (record { decoder = decoder.old; pass = pass.old })
+        (record { decoder = decoder.new; pass = pass.new }) result }
 {
-    match feed(alloc, side, piece) {
+    match feed(alloc, decoder, piece) {
         Ok(Fed { messages, broken }) => {
             match ask_for_all(rt, alloc, pass, gate, place, messages) {
                 Ok(()) => match broken {
@@ -108,13 +108,13 @@ pub fn pump_in<R: Wait, I: Inlet, G: Gate>(
     ensures read { ReadOut place.now peer (record { inlet = I.state from.old; pass = pass.old })
         (record { inlet = I.state from.new; pass = pass.new }) result }
 {
-    let Peer { mut side, messages } = peer;
+    let Peer { mut decoder, messages } = peer;
     match ask_for_all(rt, alloc, pass, gate, place, messages) {
         Ok(()) => {}
         Err(end) => return end,
     }
     // The side may have met a fault behind READY.
-    match take_piece(rt, alloc, pass, gate, place, &mut side, &[]) {
+    match take_piece(rt, alloc, pass, gate, place, &mut decoder, &[]) {
         Ok(()) => {}
         Err(end) => return end,
     }
@@ -126,7 +126,7 @@ pub fn pump_in<R: Wait, I: Inlet, G: Gate>(
             Err(_) => return PumpEnd::ReadFailed,
         };
         let piece = &buffer[..count];
-        match take_piece(rt, alloc, pass, gate, place, &mut side, piece) {
+        match take_piece(rt, alloc, pass, gate, place, &mut decoder, piece) {
             Ok(()) => {}
             Err(end) => return end,
         }

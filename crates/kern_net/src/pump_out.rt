@@ -14,7 +14,7 @@ use crate::stream::stream_of;
 use base_streams::ports::Outlet;
 use base_streams::writing::write_all;
 use kern_core::call::{Call, Reply};
-use kern_core::fault::KernFault;
+use kern_core::fault::KernelFault;
 use kern_desk::seated::{Desk, Pass};
 use kern_post::post::{Post, Posts};
 use std::alloc::Global;
@@ -40,7 +40,7 @@ struct Batch {
 }
 
 // What the answer to a Fetch gives, or how it ends the work.
-fn batch_of(answer: Result<Reply, KernFault>) -> Result<Batch, PumpEnd>
+fn batch_of(answer: Result<Reply, KernelFault>) -> Result<Batch, PumpEnd>
     requires { IsFetchAnswer answer }
     ensures { Answers answer result }
 {

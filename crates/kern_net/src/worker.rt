@@ -6,12 +6,12 @@ ghost use Rattle.kern_net.specs.Work.{outcome_of, OneSlice, SliceEnds, Sliced, S
 use crate::end::PumpEnd;
 use crate::gate::Gate;
 use kern_core::call::{Call, Reply};
-use kern_core::fault::KernFault;
+use kern_core::fault::KernelFault;
 use kern_desk::seated::{Desk, Pass};
 use std::sync::Wait;
 
 // What the answer to a Slice says: whether there may be more to do at once, or how the work ends.
-fn outcome_of(answer: Result<Reply, KernFault>) -> Result<bool, PumpEnd>
+fn outcome_of(answer: Result<Reply, KernelFault>) -> Result<bool, PumpEnd>
     requires { IsSome (outcome_of answer) }
     ensures { outcome_of answer ≡ Some result }
 {
@@ -19,8 +19,8 @@ fn outcome_of(answer: Result<Reply, KernFault>) -> Result<bool, PumpEnd>
         Ok(Reply::More) => Ok(true),
         Ok(Reply::Idle) => Ok(false),
         Ok(Reply::Ended) => Err(PumpEnd::Ended),
-        Err(KernFault::OutOfMemory) => Err(PumpEnd::OutOfMemory),
-        Err(KernFault::JournalFull) => Err(PumpEnd::JournalFull),
+        Err(KernelFault::OutOfMemory) => Err(PumpEnd::OutOfMemory),
+        Err(KernelFault::JournalFull) => Err(PumpEnd::JournalFull),
         Ok(
             Reply::Joined { .. }
             | Reply::Left
@@ -28,7 +28,7 @@ fn outcome_of(answer: Result<Reply, KernFault>) -> Result<bool, PumpEnd>
             | Reply::Arrived
             | Reply::Fetched { .. },
         )
-        | Err(KernFault::Full | KernFault::Lagged { .. } | KernFault::NoConnection) => {
+        | Err(KernelFault::Full | KernelFault::Lagged { .. } | KernelFault::NoConnection) => {
             unreachable!()
         }
     }
@@ -47,8 +47,8 @@ fn slice<R: Wait, G: Gate>(
     ensures ok { OnOk result (OneSlice pass.old.calls pass.new.calls) }
     ensures err { IfErr result (SliceEnds pass.old pass.new) }
 {
-    let moment = gate.moment(rt);
-    match desk.turn(rt, pass, Call::Slice { moment }) {
+    let unix_seconds = gate.unix_seconds(rt);
+    match desk.turn(rt, pass, Call::Slice { unix_seconds }) {
         Ok(answer) => {
             gate.wake(rt);
             outcome_of(answer)

@@ -10,7 +10,7 @@ use crate::talks::{AMPLE, BOTH_END, Client, read_as, talk_at};
 use crate::texts::count_of;
 use base_streams::memory::Sink;
 use jup_wire::channel::Channel;
-use kern_core::fault::KernFault;
+use kern_core::fault::KernelFault;
 use kern_desk::desks::MOST_ENTRIES;
 use kern_net::end::PumpEnd;
 use std::alloc::Global;
@@ -164,7 +164,7 @@ fn lagged(rt: HostRuntime) {
     drop(table.close(&rt, rt.alloc()));
 }
 
-const REFUSED: PumpEnd = PumpEnd::Refused(KernFault::NoConnection);
+const REFUSED: PumpEnd = PumpEnd::Refused(KernelFault::NoConnection);
 
 // Nobody joined: the first turn of each pump is refused, but is an entry. The writer writes nothing.
 #[test]

@@ -61,7 +61,7 @@ impl Gate for Measured {
         self.wakes = self.wakes.saturating_add(1);
     }
 
-    fn moment<R: Wait>(&mut self, _rt: &R) -> u64 {
+    fn unix_seconds<R: Wait>(&mut self, _rt: &R) -> u64 {
         MOMENT
     }
 }

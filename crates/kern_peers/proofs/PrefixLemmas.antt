@@ -6,7 +6,7 @@ use Rattle.std.specs.Str.{bytes_eq}
 use Rattle.std.proofs.lemmas.Bool.{cases_Bool, cases_lt, lt-ltb, le-ltb}
 use Rattle.std.proofs.lemmas.List.Sums.{prefix_len-le-length}
 use Rattle.kern_peers.specs.declared.peer.Peer.{Peer}
-use Rattle.kern_peers.specs.Present.{is_number, changed_at, without_first}
+use Rattle.kern_peers.specs.Connections.{is_number, changed_at, without_first}
 
 -- ---- the place that a search tells
 

@@ -20,7 +20,7 @@ pub struct Peer {
 }
 
 impl Peer {
-    ghost use Rattle.kern_peers.specs.Present.{is_full};
+    ghost use Rattle.kern_peers.specs.Connections.{is_full};
 
     /// Whether it has as many subscriptions as a connection may have.
     pub fn is_full(&self) -> bool

@@ -3,8 +3,8 @@ ghost use Rattle.std.specs.Prelude.{◌≡◌, ◌<◌, ◌+◌, ◌^◌, ◌++�
 ghost use Rattle.std.specs.List.{list_any, find, position};
 ghost use Rattle.std.specs.Str.{bytes_eq};
 ghost use Rattle.jup_wire.specs.declared.channel.Channel.TheVariants.{Stdin};
-ghost use Rattle.kern_peers.specs.Present.{
-  nobody,
+ghost use Rattle.kern_peers.specs.Connections.{
+  no_connections,
   is_empty,
   is_number,
   is_on,
@@ -14,8 +14,8 @@ ghost use Rattle.kern_peers.specs.Present.{
   peer_at,
   stdin_of,
   begins,
-  hears,
-  hearers,
+  is_subscribed,
+  subscribers,
   joined_by,
   without,
   without_first,
@@ -42,9 +42,9 @@ pub struct Peers {
 }
 
 impl Model for Peers {
-    ghost use Rattle.kern_peers.specs.Present.{Present};
+    ghost use Rattle.kern_peers.specs.Connections.{Connections};
 
-    ghost Value = { Present };
+    ghost Value = { Connections };
 
     ghost view = { λ p. record { peers = p.peers.items; joined = p.joined } };
 }
@@ -52,7 +52,7 @@ impl Model for Peers {
 impl Peers {
     /// Nobody.
     pub fn new(alloc: Global) -> Peers
-        ensures { result ≡ nobody }
+        ensures { result ≡ no_connections }
     {
         Peers {
             peers: Vec::new(alloc),
@@ -124,12 +124,12 @@ impl Peers {
     }
 
     /// The numbers of those on iopub that have a subscription to a prefix of this topic, in order.
-    pub fn hearers(&self, alloc: Global, topic: &str) -> Result<Sequence<u32>, AllocError>
-        ensures { IfOk result (λ numbers. numbers ≡ hearers topic.now self.now.peers) }
+    pub fn subscribers(&self, alloc: Global, topic: &str) -> Result<Sequence<u32>, AllocError>
+        ensures { IfOk result (λ numbers. numbers ≡ subscribers topic.now self.now.peers) }
     {
         let mut numbers = Sequence::new(alloc);
         for peer in &self.peers {
-            push_if_hears(&mut numbers, peer, topic)?;
+            push_if_subscribed(&mut numbers, peer, topic)?;
         }
         Ok(numbers)
     }
@@ -245,16 +245,16 @@ fn is_subscribed(prefixes: &[Bytes], topic: &[u8]) -> bool
     prefixes.iter().any(|prefix| begins_topic(prefix, topic))
 }
 
-fn hears(peer: &Peer, topic: &str) -> bool
-    ensures { result ≡ hears topic.now peer.now }
+fn is_subscribed(peer: &Peer, topic: &str) -> bool
+    ensures { result ≡ is_subscribed topic.now peer.now }
 {
     is_on(peer, Channel::Iopub) && is_subscribed(peer.prefixes.as_slice(), topic.as_bytes())
 }
 
-fn push_if_hears(numbers: &mut Sequence<u32>, peer: &Peer, topic: &str) -> Result<(), AllocError>
-    ensures { OnOk result (numbers.new ≡ numbers.old ++ hearers topic.now (peer.now ∷ [])) }
+fn push_if_subscribed(numbers: &mut Sequence<u32>, peer: &Peer, topic: &str) -> Result<(), AllocError>
+    ensures { OnOk result (numbers.new ≡ numbers.old ++ subscribers topic.now (peer.now ∷ [])) }
 {
-    if hears(peer, topic) {
+    if is_subscribed(peer, topic) {
         numbers.push(peer.number)?;
         return Ok(());
     }

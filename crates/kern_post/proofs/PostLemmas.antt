@@ -10,12 +10,12 @@ use Rattle.kern_post.specs.declared.post.Post.{Post}
 use Rattle.kern_post.specs.Posts.{numbered, posted}
 
 -- posting the first letter, and then the others behind it
-pub posted-cons : (moment : ℕ) (l : Letter) (ls : List Letter) (posts : List Post)
-    → posted moment ls (posted moment (l ∷ []) posts) ≡ posted moment (l ∷ ls) posts
-posted-cons moment l ls posts =
-    let p : Post = record { number = length posts + 1; moment = moment; letter = l } in
+pub posted-cons : (unix_seconds : ℕ) (l : Letter) (ls : List Letter) (posts : List Post)
+    → posted unix_seconds ls (posted unix_seconds (l ∷ []) posts) ≡ posted unix_seconds (l ∷ ls) posts
+posted-cons unix_seconds l ls posts =
+    let p : Post = record { number = length posts + 1; unix_seconds = unix_seconds; letter = l } in
     rw (length-append posts (p ∷ []))
-    (append_assoc posts (p ∷ []) (numbered (length posts + 1) moment ls))
+    (append_assoc posts (p ∷ []) (numbered (length posts + 1) unix_seconds ls))
 
 -- one item more
 pub filter_more : {A : Type 0} (p : A → Bool) (xs : List A) (i : ℕ) (x : A) → i < length xs

@@ -6,13 +6,13 @@ use Rattle.kern_post.specs.declared.post.Post.{Post}
 
 -- the letters as posts of one moment, behind the post with this number
 abbrev pub numbered : ℕ → ℕ → List Letter → List Post
-numbered last moment [] = []
-numbered last moment (l ∷ ls) =
-    record { number = last + 1; moment = moment; letter = l } ∷ numbered (last + 1) moment ls
+numbered last unix_seconds [] = []
+numbered last unix_seconds (l ∷ ls) =
+    record { number = last + 1; unix_seconds = unix_seconds; letter = l } ∷ numbered (last + 1) unix_seconds ls
 
 -- all posts, with these letters posted
 abbrev pub posted : ℕ → List Letter → List Post → List Post
-posted moment letters posts = posts ++ numbered (length posts) moment letters
+posted unix_seconds letters posts = posts ++ numbered (length posts) unix_seconds letters
 
 abbrev pub is_to : ℕ → Post → Bool
 is_to connection p = list_any (λ k. k == connection) p.letter.envelope.to

@@ -31,7 +31,7 @@ pub struct Letter {
 /// A letter with its number, from 1, and the moment at which it was made, in seconds since 1970.
 pub struct Post {
     pub number: u64,
-    pub moment: u64,
+    pub unix_seconds: u64,
     pub letter: Letter,
 }
 
@@ -40,7 +40,7 @@ impl Drop for Post {
     fn drop(self) {
         let Self {
             number: _,
-            moment: _,
+            unix_seconds: _,
             letter: _,
         } = self;
     }
@@ -80,7 +80,7 @@ impl Post {
         let letter = self.letter.copy()?;
         Ok(Post {
             number: self.number,
-            moment: self.moment,
+            unix_seconds: self.unix_seconds,
             letter,
         })
     }

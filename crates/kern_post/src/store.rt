@@ -104,16 +104,16 @@ impl Store {
     }
 
     // Posts one letter; the oldest post goes where all places are taken.
-    fn push(&mut self, moment: u64, letter: Letter)
+    fn push(&mut self, unix_seconds: u64, letter: Letter)
         requires { self.old.made + 1 < 2 ^ 63 }
         ensures made { self.new.made ≡ self.old.made + 1 }
         ensures keeps { (posts : List Post) → Keeps posts self.old
-            → Keeps (posted moment (letter ∷ []) posts) self.new }
+            → Keeps (posted unix_seconds (letter ∷ []) posts) self.new }
     {
         self.made += 1;
         let post = Post {
             number: self.made,
-            moment,
+            unix_seconds,
             letter,
         };
         push_behind(&mut self.kept, post);
@@ -121,14 +121,14 @@ impl Store {
 
     /// Posts letters in their order, all at one moment, in seconds since 1970. It takes no memory:
     /// the oldest posts go where all places are taken.
-    pub fn push_all(&mut self, moment: u64, mut letters: Letters)
+    pub fn push_all(&mut self, unix_seconds: u64, mut letters: Letters)
         requires { self.old.made + length letters < 2 ^ 63 }
         ensures made { self.new.made ≡ self.old.made + length letters }
         ensures keeps { (posts : List Post) → Keeps posts self.old
-            → Keeps (posted moment letters posts) self.new }
+            → Keeps (posted unix_seconds letters posts) self.new }
     {
         while let Some(letter) = letters.pop() {
-            self.push(moment, letter);
+            self.push(unix_seconds, letter);
         }
     }
 

@@ -6,15 +6,15 @@ use Rattle.jup_wire.specs.Header.{empty_object}
 use Rattle.jup_wire.specs.Seal.{IsSealed, frames_of, signature_frame}
 use Rattle.jup_wire.proofs.PartLemmas.{same_parts, text_is}
 use Rattle.kern_post.specs.declared.post.Post.{Post}
-use Rattle.kern_json.specs.Json.{content_json}
-use Rattle.kern_json.proofs.FloatLemmas.{content_has_no_float}
+use Rattle.kern_render.specs.Json.{content_json}
+use Rattle.kern_render.proofs.FloatLemmas.{content_has_no_float}
 use Rattle.jup_date.specs.Dates.{IsDate, last_moment}
 use Rattle.kern_render.specs.Rendering.{post_header, parts_of, rendered, IsRendered}
 use Rattle.kern_render.specs.Drafts.{IsDraftOf}
 use Rattle.jup_date.proofs.DateLemmas.{one_date}
 
 pub sealed_is_rendered : (key date session : List ℕ) (post : Post) (draft : Draft) (frames : List (List ℕ))
-    → IsDate (min post.moment last_moment) date → IsDraftOf date session post draft
+    → IsDate (min post.unix_seconds last_moment) date → IsDraftOf date session post draft
     → IsSealed key draft frames → IsRendered key session post frames
 sealed_is_rendered key date session post draft frames dated of s =
     let number = post.number in

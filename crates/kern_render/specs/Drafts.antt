@@ -4,7 +4,7 @@ use Rattle.serde_json.specs.View.{view}
 use Rattle.jup_wire.specs.declared.sealing.Draft.{Draft}
 use Rattle.jup_wire.specs.Header.{empty_object}
 use Rattle.kern_post.specs.declared.post.Post.{Post}
-use Rattle.kern_json.specs.Json.{content_json}
+use Rattle.kern_render.specs.Json.{content_json}
 use Rattle.kern_render.specs.Rendering.{post_header, head_frames}
 
 -- the draft of the post's message, with this date in the header

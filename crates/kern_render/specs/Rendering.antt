@@ -10,7 +10,7 @@ use Rattle.kern_post.specs.declared.post.Head.{Head}
 use Rattle.kern_post.specs.declared.post.Head.TheVariants.{Topic, Identities}
 use Rattle.kern_post.specs.declared.post.Post.{Post}
 use Rattle.kern_post.specs.Topics.{topic_of}
-use Rattle.kern_json.specs.Json.{content_json}
+use Rattle.kern_render.specs.Json.{content_json}
 use Rattle.jup_date.specs.Dates.{IsDate, last_moment}
 
 -- the header of the post's message
@@ -40,4 +40,4 @@ rendered date key session post =
 -- these are the frames; a later moment counts as the last one that is written
 abbrev pub IsRendered : List ℕ → List ℕ → Post → List (List ℕ) → Type 0
 IsRendered key session post frames =
-    (date : List ℕ) × IsDate (min post.moment last_moment) date × (frames ≡ rendered date key session post)
+    (date : List ℕ) × IsDate (min post.unix_seconds last_moment) date × (frames ≡ rendered date key session post)

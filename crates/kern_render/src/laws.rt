@@ -1,7 +1,23 @@
 //! Laws of the definitions.
-ghost use Rattle.std.specs.Prelude.{◌≡◌, ℕ, List};
+ghost use Rattle.std.specs.Prelude.{◌≡◌, ◌≤◌, ℕ, List, false};
 ghost use Rattle.kern_post.specs.declared.post.Post.{Post};
 ghost use Rattle.kern_render.specs.Rendering.{IsRendered};
+ghost use Rattle.serde_json.specs.Data.{depth};
+ghost use Rattle.serde_json.specs.Written.{has_float};
+ghost use Rattle.kern_post.specs.declared.content.Content.{Content};
+ghost use Rattle.kern_render.specs.Json.{content_json};
+
+/// No number in a content is a float, so that the content has one compact text.
+#[tactic(auto, using(crate::proofs::FloatLemmas::content_has_no_float))]
+pub fn has_no_float()
+    ensures { (number : ℕ) (content : Content) → has_float (content_json number content) ≡ false }
+{}
+
+/// A content nests at most 6 deep, so that its text can be read again.
+#[tactic(auto, using(crate::proofs::DepthLemmas::content_is_shallow))]
+pub fn is_shallow()
+    ensures { (number : ℕ) (content : Content) → depth (content_json number content) ≤ 6 }
+{}
 
 /// The frames of a post under a key are determined.
 pub fn has_one_rendering()

@@ -9,7 +9,7 @@ use base_text::text::Text;
 use jup_date::date::{LAST_MOMENT, date_text};
 use jup_wire::header::{empty_object, header_json};
 use jup_wire::sealing::{Draft, seal_message};
-use kern_json::content::content_json;
+use crate::content::content_json;
 use kern_post::content::Content;
 use kern_post::post::{Head, Post, copy_bytes};
 use std::alloc::{AllocError, Global};
@@ -51,9 +51,9 @@ fn draft_of(alloc: Global, post: &Post, date: &str, session: &str) -> Result<Dra
 }
 
 fn date_of(alloc: Global, post: &Post) -> Result<Text, AllocError>
-    ensures { IfOk result (IsDate (min post.now.moment last_moment)) }
+    ensures { IfOk result (IsDate (min post.now.unix_seconds last_moment)) }
 {
-    date_text(alloc, post.moment.min(LAST_MOMENT))
+    date_text(alloc, post.unix_seconds.min(LAST_MOMENT))
 }
 
 /// The frames of a post under a key, in the session of this name: the type of the content, which is

@@ -12,7 +12,7 @@ use base_text::sequence::Bytes;
 use base_text::text::Text;
 use jup_wire::channel::Channel;
 use kern_core::call::Call;
-use kern_core::fault::KernFault;
+use kern_core::fault::KernelFault;
 use kern_core::held::Held;
 use kern_desk::desks::{Joined, join};
 use kern_desk::seated::{Desk, Pass};
@@ -173,7 +173,7 @@ fn pump<R: Wait + Clock + Threads + Sync>(
 
 // The identity of a peer, or an empty one.
 fn identity_of(alloc: Global, peer: &Peer) -> Result<Held<Bytes>, AllocError> {
-    match peer.side.identity() {
+    match peer.decoder.identity() {
         Some(identity) => Held::new(alloc, Bytes::copy_of(alloc, identity.as_slice())?),
         None => Held::new(alloc, Bytes::new(alloc)),
     }
@@ -193,7 +193,7 @@ fn join_as<R: Wait>(
     shared.bell.count_entries(1);
     match join(rt, &shared.desk, pass, channel, identity) {
         Ok(joined) => Some(joined),
-        Err(KernFault::JournalFull) => {
+        Err(KernelFault::JournalFull) => {
             shared.bell.ask(rt);
             None
         }

@@ -3,7 +3,7 @@ ghost use Rattle.std.specs.Prelude.{◌≡◌, ◌≤◌, ◌+◌, ◌<◌, ◌�
 
 use crate::bell::Bell;
 use crate::pace::{JOURNAL_LIMIT, RESERVE, SHORTEST_GAP, SLICES_AT_FULL_SPEED, next_gap, pause};
-use crate::system::moment;
+use crate::system::unix_seconds;
 use kern_net::counts::Counts;
 use kern_net::gate::Gate;
 use std::rt::Clock;
@@ -37,8 +37,8 @@ impl<'a, C: Clock> Gate for InGate<'a, C> {
         self.bell.ask(rt);
     }
 
-    fn moment<R: Wait>(&mut self, _rt: &R) -> u64 {
-        moment(self.clock)
+    fn unix_seconds<R: Wait>(&mut self, _rt: &R) -> u64 {
+        unix_seconds(self.clock)
     }
 }
 
@@ -87,8 +87,8 @@ impl<'a, C: Clock> Gate for OutGate<'a, C> {
 
     fn wake<R: Wait>(&mut self, _rt: &R) {}
 
-    fn moment<R: Wait>(&mut self, _rt: &R) -> u64 {
-        moment(self.clock)
+    fn unix_seconds<R: Wait>(&mut self, _rt: &R) -> u64 {
+        unix_seconds(self.clock)
     }
 }
 
@@ -230,7 +230,7 @@ impl<'a, C: Wait + Clock> Gate for WorkGate<'a, C> {
         self.ring(rt);
     }
 
-    fn moment<R: Wait>(&mut self, _rt: &R) -> u64 {
-        moment(self.clock)
+    fn unix_seconds<R: Wait>(&mut self, _rt: &R) -> u64 {
+        unix_seconds(self.clock)
     }
 }

@@ -12,7 +12,7 @@ use std::time::{SystemTime, UNIX_EPOCH};
 const LAST_MOMENT: u64 = 4_102_444_800;
 
 /// Whole seconds since 1970, at most those of 2100-01-01T00:00:00Z; 0 where no clock can be read.
-pub fn moment<C: Clock>(clock: &C) -> u64
+pub fn unix_seconds<C: Clock>(clock: &C) -> u64
     ensures { result ≤ 4102444800 }
 {
     let Ok(now) = SystemTime::now(clock) else {

@@ -6,7 +6,7 @@ use base_text::sequence::{Bytes, Frames};
 use jup_wire::channel::Channel;
 use jup_wire::message::{DELIMITER, Message};
 use jup_wire::opening::open_message;
-use kern_ask::asking::request_of;
+use kern_request::reading::request_of;
 use kern_core::call::{Arrival, Call, Subscription};
 use kern_core::held::Held;
 use serde_json::Value;
@@ -49,12 +49,12 @@ fn leave(call: &Value) -> Result<Call, SessionFault> {
 fn subscribe(alloc: Global, call: &Value) -> Result<Call, SessionFault> {
     let connection = small_number(call, "connection")?;
     let wants = truth(call, "on")?;
-    let moment = number(call, "moment")?;
+    let unix_seconds = number(call, "moment")?;
     let prefix = bytes(alloc, call, "prefix")?;
     let subscription = Subscription {
         wants,
         prefix,
-        moment,
+        unix_seconds,
     };
     Ok(Call::Subscribe {
         connection,
@@ -63,8 +63,8 @@ fn subscribe(alloc: Global, call: &Value) -> Result<Call, SessionFault> {
 }
 
 fn slice(call: &Value) -> Result<Call, SessionFault> {
-    let moment = number(call, "moment")?;
-    Ok(Call::Slice { moment })
+    let unix_seconds = number(call, "moment")?;
+    Ok(Call::Slice { unix_seconds })
 }
 
 fn fetch(call: &Value) -> Result<Call, SessionFault> {
@@ -76,11 +76,11 @@ fn fetch(call: &Value) -> Result<Call, SessionFault> {
 // The message goes the whole way of one that comes over a wire.
 fn arrive(alloc: Global, call: &Value) -> Result<Call, SessionFault> {
     let connection = small_number(call, "connection")?;
-    let moment = number(call, "moment")?;
+    let unix_seconds = number(call, "moment")?;
     let channel = channel_of(call)?;
     let message = message_of(alloc, call)?;
     let request = request_of(alloc, channel, message)?;
-    let arrival = Held::new(alloc, Arrival { request, moment })?;
+    let arrival = Held::new(alloc, Arrival { request, unix_seconds })?;
     Ok(Call::Arrive {
         connection,
         arrival,

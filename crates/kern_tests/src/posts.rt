@@ -2,7 +2,7 @@
 
 use crate::fault::SessionFault;
 use crate::members::{are_frames, has_bytes, has_number, has_text, list};
-use kern_json::content::content_json;
+use kern_render::content::content_json;
 use kern_post::post::{Head, Post};
 use kern_render::rendering::render;
 use serde_json::Value;
@@ -22,10 +22,10 @@ pub fn is_to(told: &Value, connection: u32) -> Result<bool, SessionFault> {
 pub fn compare_post(
     alloc: Global,
     told: &Value,
-    moment: u64,
+    unix_seconds: u64,
     post: &Post,
 ) -> Result<(), SessionFault> {
-    if let Some(part) = other_part(alloc, told, moment, post)? {
+    if let Some(part) = other_part(alloc, told, unix_seconds, post)? {
         return Err(SessionFault::Post {
             number: post.number,
             part,
@@ -56,13 +56,13 @@ const PARTS: [(Part, &str); 5] = [
 fn other_part(
     alloc: Global,
     told: &Value,
-    moment: u64,
+    unix_seconds: u64,
     post: &Post,
 ) -> Result<Option<&'static str>, AllocError> {
     if !has_number(told, "number", post.number) {
         return Ok(Some("number"));
     }
-    if moment != post.moment {
+    if unix_seconds != post.unix_seconds {
         return Ok(Some("moment"));
     }
     for (part, name) in PARTS {

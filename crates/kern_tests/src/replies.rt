@@ -3,15 +3,15 @@
 use crate::fault::SessionFault;
 use crate::members::{has_number, has_text, has_truth, items};
 use kern_core::call::Reply;
-use kern_core::fault::KernFault;
+use kern_core::fault::KernelFault;
 use kern_post::post::{Post, Posts};
 use serde_json::Value;
 
 /// Compares an answer with the reply that a line tells.
-pub fn compare_reply(told: &Value, answer: &Result<Reply, KernFault>) -> Result<(), SessionFault> {
+pub fn compare_reply(told: &Value, answer: &Result<Reply, KernelFault>) -> Result<(), SessionFault> {
     let is_told = match answer {
         Ok(reply) => is_reply(told, reply),
-        Err(KernFault::OutOfMemory) => return Err(SessionFault::OutOfMemory),
+        Err(KernelFault::OutOfMemory) => return Err(SessionFault::OutOfMemory),
         Err(fault) => is_refusal(told, *fault),
     };
     if is_told {
@@ -70,9 +70,9 @@ fn are_numbers(told: &Value, posts: &[Post]) -> bool {
     true
 }
 
-fn is_refusal(told: &Value, fault: KernFault) -> bool {
+fn is_refusal(told: &Value, fault: KernelFault) -> bool {
     match fault {
-        KernFault::Lagged { first } => is_lagged(told, first),
+        KernelFault::Lagged { first } => is_lagged(told, first),
         _ => has_text(told, "refused", name_of(fault)),
     }
 }
@@ -81,12 +81,12 @@ fn is_lagged(told: &Value, first: u64) -> bool {
     has_text(told, "refused", "Lagged") && has_number(told, "first", first)
 }
 
-fn name_of(fault: KernFault) -> &'static str {
+fn name_of(fault: KernelFault) -> &'static str {
     match fault {
-        KernFault::OutOfMemory => "OutOfMemory",
-        KernFault::Full => "Full",
-        KernFault::Lagged { .. } => "Lagged",
-        KernFault::JournalFull => "JournalFull",
-        KernFault::NoConnection => "NoConnection",
+        KernelFault::OutOfMemory => "OutOfMemory",
+        KernelFault::Full => "Full",
+        KernelFault::Lagged { .. } => "Lagged",
+        KernelFault::JournalFull => "JournalFull",
+        KernelFault::NoConnection => "NoConnection",
     }
 }

@@ -6,7 +6,7 @@ use crate::members::{has_number, list, member, number, small_number};
 use crate::posts::{compare_post, is_to};
 use crate::replies::compare_reply;
 use kern_core::call::{Call, Reply};
-use kern_core::fault::KernFault;
+use kern_core::fault::KernelFault;
 use kern_core::kernel::Kernel;
 use kern_post::post::{Post, Posts};
 use serde_json::Value;
@@ -161,7 +161,7 @@ impl Session {
         &mut self,
         alloc: Global,
         line: &Value,
-        answer: &Result<Reply, KernFault>,
+        answer: &Result<Reply, KernelFault>,
     ) -> Result<(), SessionFault> {
         compare_reply(member(line, "reply")?, answer)?;
         self.made.calls = self.made.calls.saturating_add(1);
@@ -173,7 +173,7 @@ impl Session {
         &mut self,
         alloc: Global,
         line: &Value,
-        answer: &Result<Reply, KernFault>,
+        answer: &Result<Reply, KernelFault>,
     ) -> Result<(), SessionFault> {
         match answer {
             Ok(Reply::Joined { connection, .. }) => {
@@ -227,7 +227,7 @@ fn compare_seen(
     alloc: Global,
     line: &Value,
     connection: u32,
-    answer: &Result<Reply, KernFault>,
+    answer: &Result<Reply, KernelFault>,
 ) -> Result<(), SessionFault> {
     match answer {
         Ok(Reply::Fetched { posts, .. }) => compare_fetched(alloc, line, connection, posts),
@@ -304,6 +304,6 @@ fn compare_made(
     told: &Value,
     post: &Post,
 ) -> Result<(), SessionFault> {
-    let moment = number(member(line, "call")?, "moment")?;
-    compare_post(alloc, told, moment, post)
+    let unix_seconds = number(member(line, "call")?, "moment")?;
+    compare_post(alloc, told, unix_seconds, post)
 }

@@ -1,14 +1,14 @@
 // lab80, an Intel 8080 laboratory: `lab80 asm` assembles and runs a cell, `lab80 dis` lists bytes as assembler
-// text. What each word does stands in lab_engines, with its contract; this file calls it with the streams of
+// text. What each word does stands in cli_engines, with its contract; this file calls it with the streams of
 // the system. The word `step` is that of the program lab80_step, `kernel` and `term` are those of lab80_kernel.
 #![tactic(auto)]
 
 use base_streams::std_io::{StdInlet, StdOutlet};
-use lab_engines::asm::run_asm;
-use lab_engines::dis::run_dis;
-use lab_io::command::{Command, read_command};
-use lab_io::report::flushed;
-use lab_io::words::{read_words, show_usage};
+use cli_engines::asm::run_asm;
+use cli_engines::dis::run_dis;
+use cli_io::command::{Command, read_command};
+use cli_io::report::flushed;
+use cli_io::words::{read_words, show_usage};
 use std::io;
 use std::process::ExitCode;
 

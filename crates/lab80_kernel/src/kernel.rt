@@ -5,7 +5,7 @@ use jup_connection::connection_file::ConnectionFile;
 use kern_serve::fault::ServerFault;
 use kern_serve::listeners::Listeners;
 use kern_serve::server::{ServerEnd, serve};
-use lab_io::status::Status;
+use cli_io::status::Status;
 use std::io;
 use std::net::{Net, TcpListener, TcpStream};
 use std::random::RandomSource;

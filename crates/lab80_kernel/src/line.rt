@@ -1,5 +1,5 @@
 //! Lines on standard output.
-use lab_io::status::Status;
+use cli_io::status::Status;
 
 /// Prints a line, and gives this status; or that a write failed.
 pub fn say(rt: &impl Print, line: &str, status: Status) -> Status {

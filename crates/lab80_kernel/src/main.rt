@@ -10,8 +10,8 @@ mod kernel;
 mod line;
 mod term;
 
-use lab_io::command::{Command, read_command};
-use lab_io::words::{read_words, show_usage};
+use cli_io::command::{Command, read_command};
+use cli_io::words::{read_words, show_usage};
 use std::process::ExitCode;
 
 fn main(rt: HostRuntime) -> ExitCode {

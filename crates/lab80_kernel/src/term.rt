@@ -6,9 +6,9 @@ use crate::line::say;
 use base_streams::std_io::{StdInlet, StdOutlet};
 use jup_connection::connection_file::ConnectionFile;
 use kern_serve::fault::ServerFault;
-use kern_serve::system::{moment, new_session};
-use lab_io::reading::read_all;
-use lab_io::status::Status;
+use kern_serve::system::{unix_seconds, new_session};
+use cli_io::reading::read_all;
+use cli_io::status::Status;
 use lab_term::cell::Cell;
 use lab_term::fault::TermFault;
 use lab_term::run_cell::{Connection, run_cell};
@@ -78,7 +78,7 @@ fn run_over<R: Print + AllocGlobal>(
     iopub: &mut Socket,
     cell: &Cell<'_>,
 ) -> Status
-    requires moment { cell.now.moment ≤ 4102444800 }
+    requires unix_seconds { cell.now.unix_seconds ≤ 4102444800 }
     requires shell { (shell.old.from.ended ≡ false) × (shell.old.from.failed ≡ false)
         × (shell.old.to.failed ≡ false) }
     requires iopub { (iopub.old.from.ended ≡ false) × (iopub.old.from.failed ≡ false)
@@ -104,7 +104,7 @@ fn run_named<R: Net<Listener = TcpListener, Stream = TcpStream> + Print + AllocG
                 code,
                 key: file.key.as_str().as_bytes(),
                 session,
-                moment: moment(rt),
+                unix_seconds: unix_seconds(rt),
             };
             let status = run_over(rt, &mut shell, &mut iopub, &cell);
             drop(shell);

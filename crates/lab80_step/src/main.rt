@@ -1,13 +1,13 @@
 // `lab80 step`: runs a program's bytes and prints what each instruction did. What the word does stands in
-// lab_run, with its contract; this file calls it with the streams of the system. The other words are those
+// cli_run, with its contract; this file calls it with the streams of the system. The other words are those
 // of the programs lab80 and lab80_kernel: this one stands on no assembler, so that it is built soon.
 #![tactic(auto)]
 
 use base_streams::std_io::{StdInlet, StdOutlet};
-use lab_io::command::{Command, read_command};
-use lab_io::report::flushed;
-use lab_io::words::{read_words, show_usage};
-use lab_run::step::run_step;
+use cli_io::command::{Command, read_command};
+use cli_io::report::flushed;
+use cli_io::words::{read_words, show_usage};
+use cli_run::step::run_step;
 use std::io;
 use std::process::ExitCode;
 

@@ -13,7 +13,7 @@ use Rattle.lab_term.specs.declared.fault.WireCause.TheVariants.{Message}
 use Rattle.lab_term.specs.declared.follow.Course.{Course}
 use Rattle.lab_term.specs.Events.{Notice, IsNotice, IsUnopened, AreNotices, NoNotice, is_of, is_error}
 use Rattle.lab_term.specs.Events.{is_idle, is_status, text_of, shown, printed, has_error, ends}
-use Rattle.zmtp_wire.specs.Stream.{SideState, StandsFor, Completes}
+use Rattle.zmtp_wire.specs.Stream.{DecoderState, StandsFor, Completes}
 use Rattle.zmtp_wire.specs.Writing.{message_bytes}
 use Rattle.zmtp_wire.specs.declared.role.Role.TheVariants.{Dealer, Sub}
 use Rattle.zmtp_peer.specs.Sending.{WroteWhole}
@@ -363,32 +363,32 @@ pub holds_less : (given given' : InletState) (s : Subscriber) (passed : List (Li
     → Holds given given' s passed n → Holds given given' s passed 0
 holds_less given given' s passed n h = record {
   messages = h.messages;
-  heard = heard_less given given' s.side h.messages n 0 (omega arith) h.heard;
+  heard = heard_less given given' s.decoder h.messages n 0 (omega arith) h.heard;
   messages_are = h.messages_are;
   broken_is = h.broken_is;
 }
 
 -- part of the queue was looked at
 pub holds_passed : (given given' : InletState) (s t : Subscriber) (passed taken : List (List (List ℕ)))
-    (n : ℕ) → t.side ≡ s.side → t.broken ≡ s.broken → s.queue.items ≡ taken ++ t.queue.items
+    (n : ℕ) → t.decoder ≡ s.decoder → t.broken ≡ s.broken → s.queue.items ≡ taken ++ t.queue.items
     → Holds given given' s passed n → Holds given given' t (passed ++ taken) n
 holds_passed given given' s t passed taken n e b q h =
-    let P : SideState → Type 0 = λ (x : SideState). Heard given given' x h.messages n in
+    let P : DecoderState → Type 0 = λ (x : DecoderState). Heard given given' x h.messages n in
     record {
       messages = h.messages;
       heard = subst P (sym e) h.heard;
       messages_are =
           h.messages_are ∙ ap (λ (l : List (List (List ℕ))). passed ++ l) q
           ∙ sym (append_assoc passed taken t.queue.items);
-      broken_is = b ∙ h.broken_is ∙ ap (λ (x : SideState). x.fault) (sym e);
+      broken_is = b ∙ h.broken_is ∙ ap (λ (x : DecoderState). x.fault) (sym e);
     }
 
 -- the messages that came with READY, and those after them
-pub holds_first : (before given : InletState) (s : SideState) (m out : List (List (List ℕ)))
-    (t : Subscriber) (n : ℕ) → Completes s [] out t.side → t.queue.items ≡ m ++ out → t.broken ≡ t.side.fault
+pub holds_first : (before given : InletState) (s : DecoderState) (m out : List (List (List ℕ)))
+    (t : Subscriber) (n : ℕ) → Completes s [] out t.decoder → t.queue.items ≡ m ++ out → t.broken ≡ t.decoder.fault
     → Heard before given s m n → Holds before given t [] n
 holds_first before given s m out t n r q b h =
-    let P : List ℕ → Type 0 = λ l. StandsFor t.side l (m ++ out) in
+    let P : List ℕ → Type 0 = λ l. StandsFor t.decoder l (m ++ out) in
     record {
       messages = m ++ out;
       heard =
@@ -404,8 +404,8 @@ holds_first before given s m out t n r q b h =
 
 -- a piece more
 pub holds_on : (before g1 g2 : InletState) (s t : Subscriber) (passed out : List (List (List ℕ)))
-    (piece : List ℕ) (n : ℕ) → s.queue.items ≡ [] → Completes s.side piece out t.side → Gave g1 g2 piece
-    → 1 ≤ length piece → t.queue.items ≡ out → t.broken ≡ t.side.fault → Holds before g1 s passed n
+    (piece : List ℕ) (n : ℕ) → s.queue.items ≡ [] → Completes s.decoder piece out t.decoder → Gave g1 g2 piece
+    → 1 ≤ length piece → t.queue.items ≡ out → t.broken ≡ t.decoder.fault → Holds before g1 s passed n
     → Holds before g2 t passed (n + 1)
 holds_on before g1 g2 s t passed out piece n empty r o fits q b h =
     let size = length-append h.heard.stream piece in
@@ -443,7 +443,7 @@ waiting_first key before given s n h =
     record { passed = []; holds = h; notices = []; are = NoNotice; none = refl }
 
 pub waiting_on : (key : List ℕ) (before g1 g2 : InletState) (s t u : Subscriber) (n : ℕ) (found : Bool)
-    → found ≡ false → Found key s.queue.items t.queue.items found → t.side ≡ s.side → t.broken ≡ s.broken
+    → found ≡ false → Found key s.queue.items t.queue.items found → t.decoder ≡ s.decoder → t.broken ≡ s.broken
     → ((x : InletState) (passed : List (List (List ℕ))) (least : ℕ) → Holds x g1 t passed least
     → Holds x g2 u passed (least + 1)) → Waiting key before g1 s n → Waiting key before g2 u (n + 1)
 waiting_on key before g1 g2 s t u n found lacks (p, status, none) e b f w = record {
@@ -456,7 +456,7 @@ waiting_on key before g1 g2 s t u n found lacks (p, status, none) e b f w = reco
 }
 
 pub waited : (key : List ℕ) (before g1 : InletState) (s t : Subscriber) (n : ℕ) (found : Bool)
-    → found ≡ true → Found key s.queue.items t.queue.items found → t.side ≡ s.side → t.broken ≡ s.broken
+    → found ≡ true → Found key s.queue.items t.queue.items found → t.decoder ≡ s.decoder → t.broken ≡ s.broken
     → Waiting key before g1 s n → Waited key before g1 t
 waited key before g1 s t n found some (p, status, none) e b w =
     record {
@@ -510,7 +510,7 @@ failed_more header x y a b p q =
 -- messages were taken
 pub follows_taken : (parent : Parent) (before g1 : InletState) (s t : Subscriber)
     (passed : List (List (List ℕ))) (n : ℕ) (out o1 o2 : OutletState) (failed : Bool) (course : Course)
-    → course.is_idle ≡ false → Takes parent s.queue.items t.queue.items o1 o2 course → t.side ≡ s.side
+    → course.is_idle ≡ false → Takes parent s.queue.items t.queue.items o1 o2 course → t.decoder ≡ s.decoder
     → t.broken ≡ s.broken
     → Follows parent before g1 s passed n out o1 failed
     → Follows parent before g1 t passed n out o2 (failed || course.has_failed)
@@ -551,7 +551,7 @@ FollowedTo parent passed old new good =
 
 followed : (parent : Parent) (before g1 : InletState) (s t : Subscriber)
     (passed : List (List (List ℕ))) (n : ℕ) (out o1 o2 : OutletState) (failed : Bool) (course : Course)
-    → Takes parent s.queue.items t.queue.items o1 o2 course → t.side ≡ s.side → t.broken ≡ s.broken
+    → Takes parent s.queue.items t.queue.items o1 o2 course → t.decoder ≡ s.decoder → t.broken ≡ s.broken
     → course.is_idle ≡ true → Follows parent before g1 s passed n out o1 failed
     → FollowedTo parent passed (record { from = before; to = out }) (record { from = g1; to = o2 })
     (not (failed || course.has_failed))
@@ -559,9 +559,9 @@ followed parent before g1 s t passed n out o1 o2 failed course p e b i w =
     let h = holds_passed before g1 s t (passed ++ w.taken) p.taken n e b p.queue_is w.holds in
     let Q : List (List (List ℕ)) → Type 0 = λ l. h.messages ≡ l ++ t.queue.items in (
       record {
-        side = t.side;
+        decoder = t.decoder;
         messages = h.messages;
-        heard = heard_less before g1 t.side h.messages n 0 (omega arith) h.heard;
+        heard = heard_less before g1 t.decoder h.messages n 0 (omega arith) h.heard;
         taken = w.taken ++ p.taken;
         others = t.queue.items;
         messages_are = subst Q (append_assoc passed w.taken p.taken) h.messages_are;
@@ -594,7 +594,7 @@ began cell old new header a b before given s x asked y told w = record {
 pub follows_by : (parent : Parent) (before g1 g2 : InletState) (s t u : Subscriber)
     (passed : List (List (List ℕ))) (n : ℕ) (out o1 o2 : OutletState) (failed total : Bool)
     (course : Course) → total ≡ failed || course.has_failed → course.is_idle ≡ false
-    → Takes parent s.queue.items t.queue.items o1 o2 course → t.side ≡ s.side → t.broken ≡ s.broken
+    → Takes parent s.queue.items t.queue.items o1 o2 course → t.decoder ≡ s.decoder → t.broken ≡ s.broken
     → ((x : InletState) (passed : List (List (List ℕ))) (least : ℕ) → Holds x g1 t passed least
     → Holds x g2 u passed (least + 1)) → Follows parent before g1 s passed n out o1 failed
     → Follows parent before g2 u passed (n + 1) out o2 total
@@ -606,7 +606,7 @@ follows_by parent before g1 g2 s t u passed n out o1 o2 failed total course is i
 pub followed_by : (parent : Parent) (before g1 : InletState) (s t : Subscriber)
     (passed : List (List (List ℕ))) (n : ℕ) (out o1 o2 : OutletState) (failed total : Bool)
     (course : Course) → total ≡ failed || course.has_failed
-    → Takes parent s.queue.items t.queue.items o1 o2 course → t.side ≡ s.side → t.broken ≡ s.broken
+    → Takes parent s.queue.items t.queue.items o1 o2 course → t.decoder ≡ s.decoder → t.broken ≡ s.broken
     → course.is_idle ≡ true → Follows parent before g1 s passed n out o1 failed
     → FollowedTo parent passed (record { from = before; to = out }) (record { from = g1; to = o2 })
     (not total)

@@ -21,7 +21,7 @@ sealed_is_request key date session code draft frames of s =
     (s.parent_header ∙ of.parent_header) metadata body in
     s.whole ∙ ap (λ p. frames_of p (signature_frame key p)) same
 
-pub request_is : (cell : Cell) (date header : List ℕ) (frames : List (List ℕ)) → IsDate cell.moment date
+pub request_is : (cell : Cell) (date header : List ℕ) (frames : List (List ℕ)) → IsDate cell.unix_seconds date
     → frames ≡ request_frames cell.key.now date cell.session.now cell.code.now
     → header ≡ slice_index_or frames 2 [] → IsRequest cell header frames
 request_is cell date header frames dated is at = record {

@@ -36,8 +36,8 @@ use Rattle.lab_term.proofs.EventLemmas.{notices_more, none_more, printed_more}
 -- ---- why
 
 heard_some : (before given : InletState) (s : Subscriber) (passed : List (List (List ℕ))) (n : ℕ)
-    → (h : Holds before given s passed n) → Heard before given s.side h.messages 0
-heard_some before given s passed n h = heard_less before given s.side h.messages n 0 (omega arith) h.heard
+    → (h : Holds before given s passed n) → Heard before given s.decoder h.messages 0
+heard_some before given s passed n h = heard_less before given s.decoder h.messages n 0 (omega arith) h.heard
 
 pub stalls_cut : (key : List ℕ) (before given : InletState) (s : Subscriber)
     (passed : List (List (List ℕ))) (n : ℕ) (out : OutletState) (fault : TermFault) → IsReadable given
@@ -47,7 +47,7 @@ stalls_cut key before given s passed n out OutOfMemory good c h = good
 stalls_cut key before given s passed n out WriteFailed good c h = c.stops
 stalls_cut key before given s passed n out (Wire (Message cause)) good c h =
     record {
-      side = s.side;
+      decoder = s.decoder;
       messages = h.messages;
       heard = heard_some before given s passed n h;
       earlier = passed ++ c.taken;
@@ -70,9 +70,9 @@ stalls_starved key before g1 g2 out s t u passed n Ended b v k h = v.0
 stalls_starved key before g1 g2 out s t u passed n ReadFailed b v k h = inl v.1
 stalls_starved key before g1 g2 out s t u passed n WriteFailed b v k h = absurd v
 stalls_starved key before g1 g2 out s t u passed n (Wire (Stream cause)) b v k h =
-    let P : InletState → Type 0 = λ g. Heard before g s.side h.messages 0 in
+    let P : InletState → Type 0 = λ g. Heard before g s.decoder h.messages 0 in
     record {
-      side = s.side;
+      decoder = s.decoder;
       messages = h.messages;
       heard = subst P (sym (k tt).1) (heard_some before g1 s passed n h);
       broken = sym h.broken_is ∙ sym b ∙ ap (λ (x : Subscriber). x.broken) (sym (k tt).0) ∙ v.1;
@@ -172,7 +172,7 @@ pub front_here : (parent : Parent) (before g1 g2 : InletState) (s : Subscriber)
     → Follows parent before g1 s passed n out o1 failed
     → FollowedFront parent passed (record { from = before; to = out }) (record { from = g2; to = o1 }) fault
 front_here parent before g1 g2 s passed n out o1 failed fault u none w = record {
-  side = s.side;
+  decoder = s.decoder;
   messages = w.holds.messages;
   heard = w.holds.heard.stream;
   unheard = u.bytes;
@@ -206,7 +206,7 @@ pub front_cut : (parent : Parent) (before given : InletState) (s : Subscriber)
 front_cut parent before given s passed n out o1 o2 failed fault c w =
     let P : List ℕ → Type 0 = λ l. TookFront out o2 l in
     record {
-      side = s.side;
+      decoder = s.decoder;
       messages = w.holds.messages;
       heard = w.holds.heard.stream;
       unheard = [];
@@ -234,7 +234,7 @@ front_cut parent before given s passed n out o1 o2 failed fault c w =
 awaited : (key : List ℕ) (before given : InletState) (s : Subscriber) → Waited key before given s
     → Awaited key before given
 awaited key before given s w = record {
-  side = s.side;
+  decoder = s.decoder;
   messages = w.holds.messages;
   heard = w.holds.heard;
   passed = w.passed;

@@ -5,7 +5,7 @@ use Rattle.base_streams.specs.Told.{Gave}
 use Rattle.zmtp_wire.specs.declared.fault.StreamFault.{StreamFault}
 use Rattle.zmtp_wire.specs.declared.role.Role.{Role}
 use Rattle.zmtp_wire.specs.declared.role.Role.TheVariants.{Dealer, Sub}
-use Rattle.zmtp_wire.specs.Stream.{SideState}
+use Rattle.zmtp_wire.specs.Stream.{DecoderState}
 use Rattle.jup_wire.specs.declared.message.WireFault.{WireFault}
 use Rattle.zmtp_peer.specs.declared.fault.PeerFault.{PeerFault}
 use Rattle.zmtp_peer.specs.declared.fault.PeerFault.TheVariants as peer
@@ -35,16 +35,16 @@ RefusesPeer role from from' cause = NoPeer role from from' (peer.Wire cause)
 
 -- what the reader gave breaks the stream with this fault
 pub record Breaks (from from' : InletState) (cause : StreamFault) : Type 0 where
-  pub side : SideState
+  pub decoder : DecoderState
   pub messages : List (List (List ℕ))
-  pub heard : Heard from from' side messages 0
-  pub broken : side.fault ≡ Some cause
+  pub heard : Heard from from' decoder messages 0
+  pub broken : decoder.fault ≡ Some cause
 
 -- a message that was heard doesn't open under the key
 pub record HearsUnopened (key : List ℕ) (from from' : InletState) (cause : WireFault) : Type 0 where
-  pub side : SideState
+  pub decoder : DecoderState
   pub messages : List (List (List ℕ))
-  pub heard : Heard from from' side messages 0
+  pub heard : Heard from from' decoder messages 0
   pub earlier : List (List (List ℕ))
   pub frames : List (List ℕ)
   pub others : List (List (List ℕ))

@@ -16,9 +16,9 @@ use Rattle.lab_term.specs.declared.fault.WireCause.TheVariants.{Stream, Message}
 pub record Holds (from from' : InletState) (s : Subscriber) (passed : List (List (List ℕ))) (least : ℕ)
     : Type 0 where
   pub messages : List (List (List ℕ))
-  pub heard : Heard from from' s.side messages least
+  pub heard : Heard from from' s.decoder messages least
   pub messages_are : messages ≡ passed ++ s.queue.items
-  pub broken_is : s.broken ≡ s.side.fault
+  pub broken_is : s.broken ≡ s.decoder.fault
 
 -- why a read gave no messages
 abbrev pub Starves : TermFault → InletState → Subscriber → Type 0

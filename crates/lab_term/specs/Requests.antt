@@ -44,6 +44,6 @@ request_frames key date session code =
 -- the request of the cell has these frames, and this header in them
 pub record IsRequest (cell : Cell) (header : List ℕ) (frames : List (List ℕ)) : Type 0 where
   pub date : List ℕ
-  pub dated : IsDate cell.moment date
+  pub dated : IsDate cell.unix_seconds date
   pub header_is : header ≡ compact_text (request_header date cell.session.now)
   pub frames_are : frames ≡ request_frames cell.key.now date cell.session.now cell.code.now

@@ -4,7 +4,7 @@ use Rattle.base_streams.specs.States.{OutletState}
 use Rattle.base_streams.specs.Told.{Took}
 use Rattle.zmtp_wire.specs.declared.role.Role.{Role}
 use Rattle.zmtp_wire.specs.declared.role.Role.TheVariants.{Dealer, Sub}
-use Rattle.zmtp_wire.specs.Stream.{SideState}
+use Rattle.zmtp_wire.specs.Stream.{DecoderState}
 use Rattle.zmtp_wire.specs.Writing.{message_bytes}
 use Rattle.zmtp_peer.specs.Hearing.{Heard}
 use Rattle.zmtp_peer.specs.Sending.{WroteWhole}
@@ -17,9 +17,9 @@ use Rattle.lab_term.specs.Requests.{IsRequest}
 -- After the messages that had passed, those of the request were printed up to its first idle, in their order.
 -- The ports are the reader of iopub and what is printed to.
 pub record Followed (parent : Parent) (passed : List (List (List ℕ))) (old new : Ports) : Type 0 where
-  pub side : SideState
+  pub decoder : DecoderState
   pub messages : List (List (List ℕ))
-  pub heard : Heard old.from new.from side messages 0
+  pub heard : Heard old.from new.from decoder messages 0
   pub taken : List (List (List ℕ))
   pub others : List (List (List ℕ))
   pub messages_are : messages ≡ (passed ++ taken) ++ others

@@ -4,7 +4,7 @@ use Rattle.base_streams.specs.States.{InletState, OutletState}
 use Rattle.base_streams.specs.Told.{Gave, Took, TookFront}
 use Rattle.zmtp_wire.specs.declared.role.Role.{Role}
 use Rattle.zmtp_wire.specs.declared.role.Role.TheVariants.{Dealer, Sub}
-use Rattle.zmtp_wire.specs.Stream.{SideState, StandsFor}
+use Rattle.zmtp_wire.specs.Stream.{DecoderState, StandsFor}
 use Rattle.zmtp_wire.specs.Writing.{message_bytes}
 use Rattle.zmtp_peer.specs.Hearing.{Heard}
 use Rattle.zmtp_peer.specs.Sending.{WroteFront, WroteWhole}
@@ -33,9 +33,9 @@ pub data AskedFront (cell : Cell) (to to' : OutletState) (fault : TermFault) : T
 
 -- these messages were heard first, and the last of them tells a status
 pub record Awaited (key : List ℕ) (from from' : InletState) : Type 0 where
-  pub side : SideState
+  pub decoder : DecoderState
   pub messages : List (List (List ℕ))
-  pub heard : Heard from from' side messages 0
+  pub heard : Heard from from' decoder messages 0
   pub passed : List (List (List ℕ))
   pub others : List (List (List ℕ))
   pub messages_are : messages ≡ passed ++ others
@@ -54,13 +54,13 @@ EndsStream _ = ⊥
 -- reader gave was heard, but where memory was wanting.
 pub record FollowedFront (parent : Parent) (passed : List (List (List ℕ))) (old new : Ports) (fault : TermFault)
     : Type 0 where
-  pub side : SideState
+  pub decoder : DecoderState
   pub messages : List (List (List ℕ))
   pub heard : List ℕ
   pub unheard : List ℕ
   pub gave : Gave old.from new.from (heard ++ unheard)
   pub all : (unheard ≡ []) ⊎ (fault ≡ OutOfMemory)
-  pub stands : StandsFor side heard messages
+  pub stands : StandsFor decoder heard messages
   pub taken : List (List (List ℕ))
   pub others : List (List (List ℕ))
   pub messages_are : messages ≡ (passed ++ taken) ++ others

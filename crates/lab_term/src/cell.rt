@@ -22,7 +22,7 @@ pub struct Cell<'a> {
     /// The name of the client's session.
     pub session: &'a str,
     /// When the request is made, in seconds since 1970.
-    pub moment: u64,
+    pub unix_seconds: u64,
 }
 
 /// A request as it is sent, and the header in it.
@@ -75,10 +75,10 @@ fn header_of(alloc: Global, frames: &Frames) -> Result<Bytes, AllocError>
 
 /// The request that runs a cell (Jupyter messaging 5.4, "Execute").
 pub(crate) fn request_of(alloc: Global, cell: &Cell<'_>) -> Result<Request, AllocError>
-    requires { cell.now.moment ≤ last_moment }
+    requires { cell.now.unix_seconds ≤ last_moment }
     ensures { IfOk result (λ request. IsRequest cell.now request.header request.frames) }
 {
-    let date = date_text(alloc, cell.moment)?;
+    let date = date_text(alloc, cell.unix_seconds)?;
     let frames = dated_frames(alloc, cell, date.as_str())?;
     let header = header_of(alloc, &frames)?;
     Ok(Request { header, frames })

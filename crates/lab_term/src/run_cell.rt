@@ -38,7 +38,7 @@ fn greet<I: Inlet + Drop, W: Outlet + Drop>(
 ) -> Result<Peer, TermFault>
     requires { IsGood (ports_of I.state W.state connection.old) }
     ensures heard { IfOk result (λ peer.
-        Heard (I.state connection.old.from) (I.state connection.new.from) peer.side peer.messages 0) }
+        Heard (I.state connection.old.from) (I.state connection.new.from) peer.decoder peer.messages 0) }
     ensures good { OnOk result (IsGood (ports_of I.state W.state connection.new)) }
     ensures whole { OnOk result (WroteWhole (W.state connection.old.to) (W.state connection.new.to) role) }
     ensures front { WroteFront (W.state connection.old.to) (W.state connection.new.to) role }
@@ -93,7 +93,7 @@ fn subscribe<W: Outlet>(alloc: Global, to: &mut W) -> Result<(), TermFault>
 
 // Sends the request of a cell, and gives its header.
 fn request<W: Outlet>(alloc: Global, to: &mut W, cell: &Cell<'_>) -> Result<Bytes, TermFault>
-    requires { cell.now.moment ≤ last_moment }
+    requires { cell.now.unix_seconds ≤ last_moment }
     ensures whole { IfOk result (λ header. Asked cell.now header (W.state to.old) (W.state to.new)) }
     ensures front { IfErr result (AskedFront cell.now (W.state to.old) (W.state to.new)) }
     ensures unsent { IfErr result (Unsent (W.state to.new)) }
@@ -117,7 +117,7 @@ pub fn run_cell<I: Inlet + Drop, W: Outlet + Drop, O: Outlet>(
     output: &mut O,
     cell: &Cell<'_>,
 ) -> Result<bool, TermFault>
-    requires moment { cell.now.moment ≤ last_moment }
+    requires unix_seconds { cell.now.unix_seconds ≤ last_moment }
     requires good { IsGoodClient (client_of I.state W.state O.state shell.old iopub.old output.old) }
     ensures ran { IfOk result (λ good. (ran : Ran cell.now
         (client_of I.state W.state O.state shell.old iopub.old output.old)

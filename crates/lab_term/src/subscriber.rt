@@ -16,7 +16,7 @@ use std::collections::VecDeque;
 use zmtp_peer::feeding::{Fed, feed};
 use zmtp_peer::handshake::Peer;
 use zmtp_wire::fault::StreamFault;
-use zmtp_wire::side::Side;
+use zmtp_wire::decoder::Decoder;
 
 /// How much is read at once, in bytes.
 const PIECE_SIZE: usize = 8192;
@@ -24,7 +24,7 @@ const PIECE_SIZE: usize = 8192;
 /// A side that reads, and the messages that came and weren't looked at yet.
 #[derive(Drop)]
 pub(crate) struct Subscriber {
-    pub side: Side,
+    pub decoder: Decoder,
     pub queue: VecDeque<Frames>,
     /// What is wrong with the stream after these messages.
     pub broken: Option<StreamFault>,
@@ -33,17 +33,17 @@ pub(crate) struct Subscriber {
 /// Begins with the messages that came with READY.
 pub(crate) fn subscriber_of(alloc: Global, peer: Peer) -> Result<Subscriber, TermFault>
     ensures holds { IfOk result (λ subscriber. (before from : InletState) (least : ℕ)
-        → Heard before from peer.side peer.messages least → Holds before from subscriber [] least) }
+        → Heard before from peer.decoder peer.messages least → Holds before from subscriber [] least) }
     ensures err { IfErr result (λ fault. fault ≡ TermFault.OutOfMemory) }
 {
-    let Peer { mut side, messages } = peer;
+    let Peer { mut decoder, messages } = peer;
     // What came with READY may have broken the stream.
     let Ok(
         Fed {
             messages: others,
             broken,
         },
-    ) = feed(alloc, &mut side, &[])
+    ) = feed(alloc, &mut decoder, &[])
     else {
         return Err(TermFault::OutOfMemory);
     };
@@ -52,7 +52,7 @@ pub(crate) fn subscriber_of(alloc: Global, peer: Peer) -> Result<Subscriber, Ter
         return Err(TermFault::OutOfMemory);
     }
     Ok(Subscriber {
-        side,
+        decoder,
         queue: VecDeque::from(queue),
         broken,
     })
@@ -100,7 +100,7 @@ pub(crate) fn refill<I: Inlet>(
         Ok(count) => count,
         Err(fault) => return Err(fault),
     };
-    let Ok(Fed { messages, broken }) = feed(alloc, &mut subscriber.side, &buffer[..count]) else {
+    let Ok(Fed { messages, broken }) = feed(alloc, &mut subscriber.decoder, &buffer[..count]) else {
         return Err(TermFault::OutOfMemory);
     };
     subscriber.queue = VecDeque::from(messages.into_vec());

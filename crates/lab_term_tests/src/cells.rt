@@ -53,7 +53,7 @@ const CELL: Cell<'static> = Cell {
     code: "HLT",
     key: KEY,
     session: "s",
-    moment: 0,
+    unix_seconds: 0,
 };
 
 fn push_texts(alloc: Global, frames: &mut Frames, texts: &[&str]) -> Result<(), AllocError> {

@@ -6,7 +6,7 @@ use Rattle.std.proofs.lemmas.List.{take_more, take-append-drop}
 use Rattle.std.proofs.lemmas.Grind.{flat_map-append}
 use Rattle.zmtp_wire.specs.declared.fault.StreamFault.{StreamFault}
 use Rattle.zmtp_wire.specs.declared.role.Role.TheVariants.{Rep}
-use Rattle.zmtp_wire.specs.Stream.{SideState, StandsFor, Completes}
+use Rattle.zmtp_wire.specs.Stream.{DecoderState, StandsFor, Completes}
 use Rattle.zmtp_wire.specs.Writing.{message_bytes}
 use Rattle.base_streams.specs.States.{InletState, OutletState, IsReadable}
 use Rattle.base_streams.specs.Told.{Told, ToldFront, Gave, Took, TookFront}
@@ -56,7 +56,7 @@ echo_cut a b c items i m fits e o f =
     (subst P bytes (front_on a b c (messages_bytes (take i items)) (message_bytes m) o f)))
 
 -- a side completes nothing of no bytes
-pub completes_none : (s : SideState) → Completes s [] [] s
+pub completes_none : (s : DecoderState) → Completes s [] [] s
 completes_none s = record {
   role = refl;
   stands = λ stream messages k.
@@ -66,7 +66,7 @@ completes_none s = record {
 }
 
 -- the faults of a writer, or of memory
-explains_refused : (fault : PeerFault) (to : OutletState) (from : InletState) (s : SideState) (heard : List ℕ)
+explains_refused : (fault : PeerFault) (to : OutletState) (from : InletState) (s : DecoderState) (heard : List ℕ)
     → Refuses fault to → Explains fault from s heard []
 explains_refused OutOfMemory to from s heard h = tt
 explains_refused WriteFailed to from s heard h = refl
@@ -83,14 +83,14 @@ blames_refused OutOfMemory from to h r = (r, h)
 blames_refused WriteFailed from to h r = (r, h)
 blames_refused _ from to h r = absurd h
 
-abbrev pub conversation : InletState → SideState → OutletState → Conversation
-conversation from s to = record { inlet = from; side = s; outlet = to }
+abbrev pub conversation : InletState → DecoderState → OutletState → Conversation
+conversation from s to = record { inlet = from; decoder = s; outlet = to }
 
 -- memory was wanting before the side took the piece
-pub piece_memory : (piece : List ℕ) (from : InletState) (s t : SideState) (to : OutletState) → t ≡ s
+pub piece_memory : (piece : List ℕ) (from : InletState) (s t : DecoderState) (to : OutletState) → t ≡ s
     → LostPiece piece (conversation from s to) (conversation from t to) OutOfMemory
 piece_memory piece from s t to e =
-    let P : SideState → Type 0 = λ (x : SideState). Completes s [] [] x in
+    let P : DecoderState → Type 0 = λ (x : DecoderState). Completes s [] [] x in
     record {
       heard = [];
       unheard = piece;
@@ -103,7 +103,7 @@ piece_memory piece from s t to e =
     }
 
 -- the writer failed, or memory was wanting, while the messages were written
-pub piece_refused : (piece : List ℕ) (from : InletState) (s t : SideState) (to to' : OutletState)
+pub piece_refused : (piece : List ℕ) (from : InletState) (s t : DecoderState) (to to' : OutletState)
     (messages : List (List (List ℕ))) (fault : PeerFault) → Completes s piece messages t → Refuses fault to'
     → TookFront to to' (messages_bytes messages)
     → LostPiece piece (conversation from s to) (conversation from t to') fault
@@ -119,7 +119,7 @@ piece_refused piece from s t to to' messages fault r h f = record {
 }
 
 -- the stream is broken after the messages
-pub piece_wire : (piece : List ℕ) (from : InletState) (s t : SideState) (to to' : OutletState)
+pub piece_wire : (piece : List ℕ) (from : InletState) (s t : DecoderState) (to to' : OutletState)
     (messages : List (List (List ℕ))) (cause : StreamFault) → Completes s piece messages t
     → t.fault ≡ Some cause → Took to to' (messages_bytes messages)
     → LostPiece piece (conversation from s to) (conversation from t to') (Wire cause)
@@ -135,7 +135,7 @@ piece_wire piece from s t to to' messages cause r e o = record {
 }
 
 -- the reader ended or failed
-pub round_stop : (from from' : InletState) (s : SideState) (to : OutletState) (fault : PeerFault)
+pub round_stop : (from from' : InletState) (s : DecoderState) (to : OutletState) (fault : PeerFault)
     → Gave from from' [] → Stops fault from'
     → LostRound (conversation from s to) (conversation from' s to) fault
 round_stop from from' s to fault o h = record {
@@ -154,7 +154,7 @@ round_stop from from' s to fault o h = record {
 }
 
 -- what the reader gave wasn't echoed whole
-pub round_lost : (from from' : InletState) (piece : List ℕ) (s t : SideState) (to to' : OutletState)
+pub round_lost : (from from' : InletState) (piece : List ℕ) (s t : DecoderState) (to to' : OutletState)
     (fault : PeerFault) → Gave from from' piece
     → ((x : InletState) → LostPiece piece (conversation x s to) (conversation x t to') fault)
     → LostRound (conversation from s to) (conversation from' t to') fault
@@ -175,25 +175,25 @@ round_lost from from' piece s t to to' fault o lost = let l = lost from' in reco
 
 -- how far a heartbeat has come: all that was read was heard, and its messages were written after the
 -- handshake
-pub record Beats (from from' : InletState) (to to' : OutletState) (side : SideState) (least : ℕ)
+pub record Beats (from from' : InletState) (to to' : OutletState) (decoder : DecoderState) (least : ℕ)
     : Type 0 where
   pub messages : List (List (List ℕ))
-  pub heard : Heard from from' side messages least
-  pub role : side.role ≡ Rep
+  pub heard : Heard from from' decoder messages least
+  pub role : decoder.role ≡ Rep
   pub handshake : List ℕ
   pub is : IsHandshakeOf handshake Rep
   pub took : Took to to' (handshake ++ messages_bytes messages)
 
 abbrev pub Ended : InletState → InletState → OutletState → OutletState → PeerFault → Type 0
 Ended from from' to to' fault =
-    (side : SideState) × (messages : List (List (List ℕ)))
-    × Ends Rep from from' fault side messages × Echoes to to' side messages fault
+    (decoder : DecoderState) × (messages : List (List (List ℕ)))
+    × Ends Rep from from' fault decoder messages × Echoes to to' decoder messages fault
 
 -- the handshake gave no peer
 pub ended_early : (from from' : InletState) (to to' : OutletState) (fault : PeerFault)
     → NoPeer Rep from from' fault → WroteFront to to' Rep → Ended from from' to to' fault
 ended_early from from' to to' fault n w = (
-  n.side,
+  n.decoder,
   n.messages,
   n.ends,
   record {
@@ -205,7 +205,7 @@ ended_early from from' to to' fault n w = (
 )
 
 -- the messages that came with READY were written
-pub beats_first : (from from' : InletState) (to t1 t2 : OutletState) (s : SideState)
+pub beats_first : (from from' : InletState) (to t1 t2 : OutletState) (s : DecoderState)
     (m : List (List (List ℕ))) → s.role ≡ Rep → Heard from from' s m 0 → WroteWhole to t1 Rep
     → Took t1 t2 (messages_bytes m) → Beats from from' to t2 s 0
 beats_first from from' to t1 t2 s m e h w o = record {
@@ -217,7 +217,7 @@ beats_first from from' to t1 t2 s m e h w o = record {
   took = told_on to.taken t1.taken t2.taken w.handshake (messages_bytes m) w.took o;
 }
 
-pub ended_first : (from from' : InletState) (to t1 t2 : OutletState) (s : SideState)
+pub ended_first : (from from' : InletState) (to t1 t2 : OutletState) (s : DecoderState)
     (m : List (List (List ℕ))) (fault : PeerFault) → s.role ≡ Rep → Heard from from' s m 0
     → WroteWhole to t1 Rep → Refuses fault t2 → TookFront t1 t2 (messages_bytes m)
     → Ended from from' to t2 fault
@@ -259,7 +259,7 @@ wrote_front to t1 t2 h m n o p =
     (front_on to.taken t1.taken t2.taken (h ++ messages_bytes m) (messages_bytes n) o p)
 
 -- one piece more
-pub beats_piece : (from g1 g2 : InletState) (to t1 t2 : OutletState) (piece : List ℕ) (s t : SideState)
+pub beats_piece : (from g1 g2 : InletState) (to t1 t2 : OutletState) (piece : List ℕ) (s t : DecoderState)
     (n c : ℕ) → c ≤ length piece → Gave g1 g2 piece → EchoedPiece piece s t t1 t2 → Beats from g1 to t1 s n
     → Beats from g2 to t2 t (n + c)
 beats_piece from g1 g2 to t1 t2 piece s t n c fits o p b =
@@ -279,14 +279,14 @@ beats_piece from g1 g2 to t1 t2 piece s t n c fits o p b =
       took = wrote_on to t1 t2 b.handshake b.messages p.messages b.took p.took;
     }
 
-pub beats_round : (from g1 g2 : InletState) (to t1 t2 : OutletState) (s t : SideState) (n : ℕ)
+pub beats_round : (from g1 g2 : InletState) (to t1 t2 : OutletState) (s t : DecoderState) (n : ℕ)
     → EchoedRound (conversation g1 s t1) (conversation g2 t t2) → Beats from g1 to t1 s n
     → Beats from g2 to t2 t (n + 1)
 beats_round from g1 g2 to t1 t2 s t n r b =
     let some = r.some in
     beats_piece from g1 g2 to t1 t2 r.piece s t n 1 (omega arith) r.gave r.echoed b
 
-explains_on : (fault : PeerFault) (from : InletState) (s : SideState) (before heard unheard : List ℕ)
+explains_on : (fault : PeerFault) (from : InletState) (s : DecoderState) (before heard unheard : List ℕ)
     → Explains fault from s heard unheard → Explains fault from s (before ++ heard) unheard
 explains_on OutOfMemory from s before heard unheard h = tt
 explains_on ReadFailed from s before heard unheard (e, inl f) = (e, inl f)
@@ -295,7 +295,7 @@ explains_on ReadFailed from s before heard unheard (e, inr f) =
 explains_on _ from s before heard unheard h = h
 
 -- a round ended it
-pub ended_round : (from g1 g2 : InletState) (to t1 t2 : OutletState) (s t : SideState) (n : ℕ)
+pub ended_round : (from g1 g2 : InletState) (to t1 t2 : OutletState) (s t : DecoderState) (n : ℕ)
     (fault : PeerFault) → LostRound (conversation g1 s t1) (conversation g2 t t2) fault
     → Beats from g1 to t1 s n → Ended from g2 to t2 fault
 ended_round from g1 g2 to t1 t2 s t n fault r b =
@@ -323,7 +323,7 @@ ended_round from g1 g2 to t1 t2 s t n fault r b =
     )
 
 -- as many pieces came as a conversation may have
-pub ended_most : (from g1 : InletState) (to t1 : OutletState) (s : SideState) (n : ℕ) → 4294967295 ≤ n
+pub ended_most : (from g1 : InletState) (to t1 : OutletState) (s : DecoderState) (n : ℕ) → 4294967295 ≤ n
     → Beats from g1 to t1 s n → Ended from g1 to t1 ReadFailed
 ended_most from g1 to t1 s n most b = let long = b.heard.long in (
   s,

@@ -1,6 +1,6 @@
 -- One round of a heartbeat.
 use Rattle.std.specs.Prelude.{◌≡◌, ℕ, ◌<◌, List, ◌++◌, length}
-use Rattle.zmtp_wire.specs.Stream.{SideState, Completes}
+use Rattle.zmtp_wire.specs.Stream.{DecoderState, Completes}
 use Rattle.base_streams.specs.States.{InletState, OutletState}
 use Rattle.base_streams.specs.Told.{Gave, Took, TookFront}
 use Rattle.zmtp_peer.specs.declared.fault.PeerFault.{PeerFault}
@@ -10,13 +10,13 @@ use Rattle.zmtp_peer.specs.Sending.{messages_bytes}
 -- a conversation: its reader, the side that hears what that gives, and its writer
 pub record Conversation : Type 0 where
   pub inlet : InletState
-  pub side : SideState
+  pub decoder : DecoderState
   pub outlet : OutletState
 
 -- the side took this piece, and the messages that it completes were written
-pub record EchoedPiece (piece : List ℕ) (side side' : SideState) (to to' : OutletState) : Type 0 where
+pub record EchoedPiece (piece : List ℕ) (decoder decoder' : DecoderState) (to to' : OutletState) : Type 0 where
   pub messages : List (List (List ℕ))
-  pub completes : Completes side piece messages side'
+  pub completes : Completes decoder piece messages decoder'
   pub took : Took to to' (messages_bytes messages)
 
 -- the reader gave a piece that isn't empty, which was echoed
@@ -24,7 +24,7 @@ pub record EchoedRound (old new : Conversation) : Type 0 where
   pub piece : List ℕ
   pub some : 0 < length piece
   pub gave : Gave old.inlet new.inlet piece
-  pub echoed : EchoedPiece piece old.side new.side old.outlet new.outlet
+  pub echoed : EchoedPiece piece old.decoder new.decoder old.outlet new.outlet
 
 -- the fault ended a round: so far the side heard the piece, and a front of what that completes was written,
 -- all of it where the fault came from reading
@@ -33,8 +33,8 @@ pub record LostPiece (piece : List ℕ) (old new : Conversation) (fault : PeerFa
   pub unheard : List ℕ
   pub piece_is : piece ≡ heard ++ unheard
   pub messages : List (List (List ℕ))
-  pub completes : Completes old.side heard messages new.side
-  pub explains : Explains fault new.inlet new.side heard unheard
+  pub completes : Completes old.decoder heard messages new.decoder
+  pub explains : Explains fault new.inlet new.decoder heard unheard
   pub front : TookFront old.outlet new.outlet (messages_bytes messages)
   pub whole : EndsReading fault → Took old.outlet new.outlet (messages_bytes messages)
 

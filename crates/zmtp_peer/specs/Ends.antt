@@ -2,7 +2,7 @@
 use Rattle.std.specs.Prelude.{◌≡◌, ℕ, ◌≤◌, ◌⊎◌, true, false, List, [], ◌++◌, length, Some}
 use Rattle.zmtp_wire.specs.declared.role.Role.{Role}
 use Rattle.zmtp_wire.specs.declared.head.Stage.TheVariants.{Traffic}
-use Rattle.zmtp_wire.specs.Stream.{SideState, StandsFor}
+use Rattle.zmtp_wire.specs.Stream.{DecoderState, StandsFor}
 use Rattle.base_streams.specs.States.{InletState, OutletState, IsReadable, IsWritable}
 use Rattle.base_streams.specs.Told.{Gave}
 use Rattle.zmtp_peer.specs.declared.fault.PeerFault.{PeerFault}
@@ -23,23 +23,23 @@ most_bytes = 4294967295
 
 -- what each fault says of the bytes that the side heard and of those that it didn't: only where memory was
 -- wanting are there some that it didn't, and a broken stream is broken with the fault's cause
-abbrev pub Explains : PeerFault → InletState → SideState → List ℕ → List ℕ → Type 0
-Explains OutOfMemory inlet side heard unheard = Unit {0}
-Explains PeerEnded inlet side heard unheard = unheard ≡ []
-Explains ReadFailed inlet side heard unheard =
+abbrev pub Explains : PeerFault → InletState → DecoderState → List ℕ → List ℕ → Type 0
+Explains OutOfMemory inlet decoder heard unheard = Unit {0}
+Explains PeerEnded inlet decoder heard unheard = unheard ≡ []
+Explains ReadFailed inlet decoder heard unheard =
     (unheard ≡ []) × ((inlet.failed ≡ true) ⊎ (most_bytes ≤ length heard))
-Explains WriteFailed inlet side heard unheard = unheard ≡ []
-Explains (Wire cause) inlet side heard unheard = (unheard ≡ []) × (side.fault ≡ Some cause)
+Explains WriteFailed inlet decoder heard unheard = unheard ≡ []
+Explains (Wire cause) inlet decoder heard unheard = (unheard ≡ []) × (decoder.fault ≡ Some cause)
 
 -- what the reader gave, as far as a side of this role heard it, with these messages in it
-pub record Ends (role : Role) (old new : InletState) (fault : PeerFault) (side : SideState)
+pub record Ends (role : Role) (old new : InletState) (fault : PeerFault) (decoder : DecoderState)
     (messages : List (List (List ℕ))) : Type 0 where
   pub heard : List ℕ
   pub unheard : List ℕ
   pub gave : Gave old new (heard ++ unheard)
-  pub role_is : side.role ≡ role
-  pub stands : StandsFor side heard messages
-  pub explains : Explains fault new side heard unheard
+  pub role_is : decoder.role ≡ role
+  pub stands : StandsFor decoder heard messages
+  pub explains : Explains fault new decoder heard unheard
 
 -- the fault came from reading
 abbrev pub EndsReading : PeerFault → Type 0
@@ -61,7 +61,7 @@ Refuses _ outlet = ⊥
 
 -- a handshake ended without a peer: where the fault came from reading, READY wasn't accepted
 pub record NoPeer (role : Role) (old new : InletState) (fault : PeerFault) : Type 0 where
-  pub side : SideState
+  pub decoder : DecoderState
   pub messages : List (List (List ℕ))
-  pub ends : Ends role old new fault side messages
-  pub unready : EndsReading fault → side.stage ≡ Traffic → ⊥
+  pub ends : Ends role old new fault decoder messages
+  pub unready : EndsReading fault → decoder.stage ≡ Traffic → ⊥

@@ -3,7 +3,7 @@ use Rattle.std.specs.Prelude.{◌≡◌, ℕ, List, ◌++◌, Result, MatchResul
 use Rattle.zmtp_wire.specs.declared.role.Role.{Role}
 use Rattle.zmtp_wire.specs.declared.role.Role.TheVariants.{Rep}
 use Rattle.zmtp_wire.specs.declared.head.Stage.TheVariants.{Traffic}
-use Rattle.zmtp_wire.specs.Stream.{SideState}
+use Rattle.zmtp_wire.specs.Stream.{DecoderState}
 use Rattle.zmtp_wire.specs.Writing.{written_greeting, IsReadyOf, message_bytes}
 use Rattle.base_streams.specs.States.{OutletState, IsWritable}
 use Rattle.base_streams.specs.Told.{Took, TookFront}
@@ -40,9 +40,9 @@ messages_bytes messages = flat_map message_bytes messages
 
 -- a front of the handshake and these messages was written; all of it where the peer was accepted and
 -- reading came to this end
-pub record Echoes (old new : OutletState) (side : SideState) (messages : List (List (List ℕ)))
+pub record Echoes (old new : OutletState) (decoder : DecoderState) (messages : List (List (List ℕ)))
     (fault : PeerFault) : Type 0 where
   pub handshake : List ℕ
   pub is : IsHandshakeOf handshake Rep
   pub front : TookFront old new (handshake ++ messages_bytes messages)
-  pub whole : EndsReading fault → side.stage ≡ Traffic → Took old new (handshake ++ messages_bytes messages)
+  pub whole : EndsReading fault → decoder.stage ≡ Traffic → Took old new (handshake ++ messages_bytes messages)

@@ -4,24 +4,24 @@ ghost use Rattle.zmtp_wire.specs.Stream.{Completes};
 
 use std::alloc::{AllocError, Global};
 use zmtp_wire::fault::{FeedFault, StreamFault};
-use zmtp_wire::incomings::Incomings;
-use zmtp_wire::side::Side;
+use zmtp_wire::messages::Messages;
+use zmtp_wire::decoder::Decoder;
 
 /// What a piece completes, and what is wrong with the stream after it, if something is.
 #[derive(Drop)]
 pub struct Fed {
-    pub messages: Incomings,
+    pub messages: Messages,
     pub broken: Option<StreamFault>,
 }
 
 /// Feeds a piece to a side. A stream that breaks still gives the messages before its fault. On an error
 /// the side is as it was.
-pub fn feed(alloc: Global, side: &mut Side, piece: &[u8]) -> Result<Fed, AllocError>
-    ensures completes { IfOk result (λ fed. Completes side.old piece.now fed.messages side.new) }
-    ensures broken { IfOk result (λ fed. fed.broken ≡ side.new.fault) }
-    ensures err { OnErr result (side.new ≡ side.old) }
+pub fn feed(alloc: Global, decoder: &mut Decoder, piece: &[u8]) -> Result<Fed, AllocError>
+    ensures completes { IfOk result (λ fed. Completes decoder.old piece.now fed.messages decoder.new) }
+    ensures broken { IfOk result (λ fed. fed.broken ≡ decoder.new.fault) }
+    ensures err { OnErr result (decoder.new ≡ decoder.old) }
 {
-    match side.feed(alloc, piece) {
+    match decoder.feed(alloc, piece) {
         Ok(messages) => Ok(Fed {
             messages,
             broken: None,

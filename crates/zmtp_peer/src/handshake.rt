@@ -12,9 +12,9 @@ use crate::hearing::{PIECE_SIZE, read_piece};
 use crate::sending::send;
 use base_streams::ports::{Inlet, Outlet};
 use std::alloc::Global;
-use zmtp_wire::incomings::Incomings;
+use zmtp_wire::messages::Messages;
 use zmtp_wire::role::Role;
-use zmtp_wire::side::Side;
+use zmtp_wire::decoder::Decoder;
 use zmtp_wire::writing::{greeting, ready};
 
 // The size of a greeting, in bytes.
@@ -27,38 +27,38 @@ const MOST_BYTES: usize = 4_294_967_295;
 /// them: then the next feed, of no bytes too, says so.
 #[derive(Drop)]
 pub struct Peer {
-    pub side: Side,
-    pub messages: Incomings,
+    pub decoder: Decoder,
+    pub messages: Messages,
 }
 
 // Reads a piece before READY, and reports its length.
 fn listen_once<I: Inlet>(alloc: Global, from: &mut I, peer: &mut Peer) -> Result<usize, PeerFault>
     requires readable { IsReadable (I.state from.old) }
-    requires unready { peer.old.side.stage ≡ Traffic → ⊥ }
+    requires unready { peer.old.decoder.stage ≡ Traffic → ⊥ }
     ensures some { IfOk result (λ count. 0 < count) }
-    ensures role { peer.new.side.role ≡ peer.old.side.role }
+    ensures role { peer.new.decoder.role ≡ peer.old.decoder.role }
     ensures good { OnOk result (IsReadable (I.state from.new)) }
     ensures heard { IfOk result (λ count. (before : InletState) (least : ℕ)
-        → Heard before (I.state from.old) peer.old.side peer.old.messages least
-        → Heard before (I.state from.new) peer.new.side peer.new.messages (least + count)) }
+        → Heard before (I.state from.old) peer.old.decoder peer.old.messages least
+        → Heard before (I.state from.new) peer.new.decoder peer.new.messages (least + count)) }
     // No writer has failed by it.
     ensures blames { IfErr result (λ fault. (to : OutletState) → IsWritable to
         → Blames fault (I.state from.new) to) }
     ensures lost { IfErr result (λ fault. (before : InletState) (least : ℕ)
-        → Heard before (I.state from.old) peer.old.side peer.old.messages least
-        → NoPeer peer.old.side.role before (I.state from.new) fault) }
+        → Heard before (I.state from.old) peer.old.decoder peer.old.messages least
+        → NoPeer peer.old.decoder.role before (I.state from.new) fault) }
 {
     let mut buffer = [0u8; PIECE_SIZE];
     let count = match read_piece(from, &mut buffer) {
         Ok(count) => count,
         Err(fault) => return Err(fault),
     };
-    let Ok(Fed { messages, broken }) = feed(alloc, &mut peer.side, &buffer[..count]) else {
+    let Ok(Fed { messages, broken }) = feed(alloc, &mut peer.decoder, &buffer[..count]) else {
         return Err(PeerFault::OutOfMemory);
     };
     peer.messages = messages;
     match broken {
-        Some(cause) if !peer.side.is_ready() => Err(PeerFault::Wire(cause)),
+        Some(cause) if !peer.decoder.is_ready() => Err(PeerFault::Wire(cause)),
         Some(_) | None => Ok(count),
     }
 }
@@ -71,23 +71,23 @@ fn listen<I: Inlet>(
     bytes: usize,
 ) -> Result<(), PeerFault>
     requires { IsReadable (I.state from.old) }
-    ensures role { peer.new.side.role ≡ peer.old.side.role }
-    ensures stays { peer.old.side.stage ≡ Traffic → peer.new.side.stage ≡ Traffic }
+    ensures role { peer.new.decoder.role ≡ peer.old.decoder.role }
+    ensures stays { peer.old.decoder.stage ≡ Traffic → peer.new.decoder.stage ≡ Traffic }
     ensures good { OnOk result (IsReadable (I.state from.new)) }
     ensures heard { OnOk result ((before : InletState) (least : ℕ)
-        → Heard before (I.state from.old) peer.old.side peer.old.messages least
-        → Heard before (I.state from.new) peer.new.side peer.new.messages least
-        × ((peer.new.side.stage ≡ Traffic → ⊥)
-        → Heard before (I.state from.new) peer.new.side peer.new.messages (least + bytes))) }
+        → Heard before (I.state from.old) peer.old.decoder peer.old.messages least
+        → Heard before (I.state from.new) peer.new.decoder peer.new.messages least
+        × ((peer.new.decoder.stage ≡ Traffic → ⊥)
+        → Heard before (I.state from.new) peer.new.decoder peer.new.messages (least + bytes))) }
     // No writer has failed by it.
     ensures blames { IfErr result (λ fault. (to : OutletState) → IsWritable to
         → Blames fault (I.state from.new) to) }
     ensures lost { IfErr result (λ fault. (before : InletState) (least : ℕ)
-        → Heard before (I.state from.old) peer.old.side peer.old.messages least
-        → NoPeer peer.old.side.role before (I.state from.new) fault) }
+        → Heard before (I.state from.old) peer.old.decoder peer.old.messages least
+        → NoPeer peer.old.decoder.role before (I.state from.new) fault) }
 {
     let mut count = 0usize;
-    while count < bytes && !peer.side.is_ready() {
+    while count < bytes && !peer.decoder.is_ready() {
         match listen_once(alloc, from, peer) {
             Ok(more) => count = count.saturating_add(more),
             Err(fault) => return Err(fault),
@@ -108,9 +108,9 @@ pub fn handshake<I: Inlet, W: Outlet>(
     requires writable { IsWritable (W.state to.old) }
     // The peer has read what the reader gave, and holds the messages in it.
     ensures heard { IfOk result (λ peer.
-        Heard (I.state from.old) (I.state from.new) peer.side peer.messages 0) }
-    ensures ready { IfOk result (λ peer. peer.side.stage ≡ Traffic) }
-    ensures role { IfOk result (λ peer. peer.side.role ≡ role) }
+        Heard (I.state from.old) (I.state from.new) peer.decoder peer.messages 0) }
+    ensures ready { IfOk result (λ peer. peer.decoder.stage ≡ Traffic) }
+    ensures role { IfOk result (λ peer. peer.decoder.role ≡ role) }
     ensures front { WroteFront (W.state to.old) (W.state to.new) role }
     ensures whole { OnOk result (WroteWhole (W.state to.old) (W.state to.new) role) }
     ensures good { OnOk result (IsReadable (I.state from.new) × IsWritable (W.state to.new)) }
@@ -119,8 +119,8 @@ pub fn handshake<I: Inlet, W: Outlet>(
 {
     let (greeting, ready) = (greeting(), ready(role));
     let mut peer = Peer {
-        side: Side::new(alloc, role),
-        messages: Incomings::new(alloc),
+        decoder: Decoder::new(alloc, role),
+        messages: Messages::new(alloc),
     };
     match send(to, greeting) {
         Ok(()) => {}
@@ -138,7 +138,7 @@ pub fn handshake<I: Inlet, W: Outlet>(
         Ok(()) => {}
         Err(fault) => return Err(fault),
     }
-    if !peer.side.is_ready() {
+    if !peer.decoder.is_ready() {
         return Err(PeerFault::ReadFailed);
     }
     Ok(peer)

@@ -2,7 +2,7 @@
 ghost use Rattle.std.specs.Prelude.{ℕ, List, length, IfErr, OnOk};
 ghost use Rattle.base_streams.specs.States.{InletState, IsReadable, IsWritable};
 ghost use Rattle.zmtp_wire.specs.declared.role.Role.TheVariants.{Rep};
-ghost use Rattle.zmtp_wire.specs.Stream.{SideState, Completes};
+ghost use Rattle.zmtp_wire.specs.Stream.{DecoderState, Completes};
 ghost use Rattle.zmtp_wire.specs.Writing.{message_bytes};
 ghost use Rattle.zmtp_peer.specs.Ends.{Blames, Ends};
 ghost use Rattle.zmtp_peer.specs.Sending.{Echoes, Writes, messages_bytes};
@@ -16,9 +16,9 @@ use crate::sending::send;
 use base_streams::ports::{Inlet, Outlet};
 use base_text::sequence::Frames;
 use std::alloc::Global;
-use zmtp_wire::incomings::Incomings;
+use zmtp_wire::messages::Messages;
 use zmtp_wire::role::Role;
-use zmtp_wire::side::Side;
+use zmtp_wire::decoder::Decoder;
 use zmtp_wire::writing::put_message;
 
 // Writes a message; one of no frames has no bytes.
@@ -36,7 +36,7 @@ fn echo_message<W: Outlet>(alloc: Global, to: &mut W, message: &Frames) -> Resul
 }
 
 // Writes messages in their order.
-fn echo<W: Outlet>(alloc: Global, to: &mut W, messages: &Incomings) -> Result<(), PeerFault>
+fn echo<W: Outlet>(alloc: Global, to: &mut W, messages: &Messages) -> Result<(), PeerFault>
     requires { IsWritable (W.state to.old) }
     ensures { Writes (messages_bytes messages.now) (W.state to.old) (W.state to.new) result }
 {
@@ -53,20 +53,20 @@ fn echo<W: Outlet>(alloc: Global, to: &mut W, messages: &Incomings) -> Result<()
 fn echo_piece<W: Outlet>(
     alloc: Global,
     to: &mut W,
-    side: &mut Side,
+    decoder: &mut Decoder,
     piece: &[u8],
 ) -> Result<(), PeerFault>
     requires { IsWritable (W.state to.old) }
-    ensures ok { OnOk result (EchoedPiece piece.now side.old side.new (W.state to.old) (W.state to.new)) }
+    ensures ok { OnOk result (EchoedPiece piece.now decoder.old decoder.new (W.state to.old) (W.state to.new)) }
     ensures good { OnOk result (IsWritable (W.state to.new)) }
     // Whatever the reader is, it isn't to blame.
     ensures err { IfErr result (λ fault. (from : InletState) → LostPiece piece.now
-        (record { inlet = from; side = side.old; outlet = W.state to.old })
-        (record { inlet = from; side = side.new; outlet = W.state to.new }) fault) }
+        (record { inlet = from; decoder = decoder.old; outlet = W.state to.old })
+        (record { inlet = from; decoder = decoder.new; outlet = W.state to.new }) fault) }
     ensures blames { IfErr result (λ fault. (from : InletState) → IsReadable from
         → Blames fault from (W.state to.new)) }
 {
-    let Ok(Fed { messages, broken }) = feed(alloc, side, piece) else {
+    let Ok(Fed { messages, broken }) = feed(alloc, decoder, piece) else {
         return Err(PeerFault::OutOfMemory);
     };
     match echo(alloc, to, &messages) {
@@ -84,22 +84,22 @@ fn beat<I: Inlet, W: Outlet>(
     alloc: Global,
     from: &mut I,
     to: &mut W,
-    side: &mut Side,
+    decoder: &mut Decoder,
 ) -> Result<(), PeerFault>
     requires readable { IsReadable (I.state from.old) }
     requires writable { IsWritable (W.state to.old) }
     ensures ok { OnOk result (EchoedRound
-        (record { inlet = I.state from.old; side = side.old; outlet = W.state to.old })
-        (record { inlet = I.state from.new; side = side.new; outlet = W.state to.new })) }
+        (record { inlet = I.state from.old; decoder = decoder.old; outlet = W.state to.old })
+        (record { inlet = I.state from.new; decoder = decoder.new; outlet = W.state to.new })) }
     ensures good { OnOk result (IsReadable (I.state from.new) × IsWritable (W.state to.new)) }
     ensures blames { IfErr result (λ fault. Blames fault (I.state from.new) (W.state to.new)) }
     ensures lost { IfErr result (LostRound
-        (record { inlet = I.state from.old; side = side.old; outlet = W.state to.old })
-        (record { inlet = I.state from.new; side = side.new; outlet = W.state to.new })) }
+        (record { inlet = I.state from.old; decoder = decoder.old; outlet = W.state to.old })
+        (record { inlet = I.state from.new; decoder = decoder.new; outlet = W.state to.new })) }
 {
     let mut buffer = [0u8; PIECE_SIZE];
     match read_piece(from, &mut buffer) {
-        Ok(count) => echo_piece(alloc, to, side, &buffer[..count]),
+        Ok(count) => echo_piece(alloc, to, decoder, &buffer[..count]),
         Err(fault) => Err(fault),
     }
 }
@@ -111,9 +111,9 @@ pub fn heartbeat<I: Inlet, W: Outlet>(alloc: Global, from: &mut I, to: &mut W) -
     requires writable { IsWritable (W.state to.old) }
     ensures blames { Blames result (I.state from.new) (W.state to.new) }
     // What was read of the stream, the messages in it, and what was written of them.
-    ensures echoes { (side : SideState) × (messages : List (List (List ℕ)))
-        × Ends Rep (I.state from.old) (I.state from.new) result side messages
-        × Echoes (W.state to.old) (W.state to.new) side messages result }
+    ensures echoes { (decoder : DecoderState) × (messages : List (List (List ℕ)))
+        × Ends Rep (I.state from.old) (I.state from.new) result decoder messages
+        × Echoes (W.state to.old) (W.state to.new) decoder messages result }
 {
     let mut peer = match handshake(alloc, from, to, Role::Rep) {
         Ok(peer) => peer,
@@ -124,12 +124,12 @@ pub fn heartbeat<I: Inlet, W: Outlet>(alloc: Global, from: &mut I, to: &mut W) -
         Err(fault) => return fault,
     }
     // What came with READY may have broken the stream.
-    match echo_piece(alloc, to, &mut peer.side, &[]) {
+    match echo_piece(alloc, to, &mut peer.decoder, &[]) {
         Ok(()) => {}
         Err(fault) => return fault,
     }
     for _ in 0..u32::MAX {
-        match beat(alloc, from, to, &mut peer.side) {
+        match beat(alloc, from, to, &mut peer.decoder) {
             Ok(()) => {}
             Err(fault) => return fault,
         }

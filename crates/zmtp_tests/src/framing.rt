@@ -7,9 +7,9 @@ use std::alloc::{AllocError, Global};
 use std::process::Abort;
 use std::test::Fail;
 use zmtp_wire::fault::{FeedFault, StreamFault};
-use zmtp_wire::incomings::Incomings;
+use zmtp_wire::messages::Messages;
 use zmtp_wire::role::Role;
-use zmtp_wire::side::Side;
+use zmtp_wire::decoder::Decoder;
 use zmtp_wire::writing::{greeting, put_message, ready};
 
 // A greeting with all that is free filled in, and a DEALER's READY.
@@ -74,11 +74,11 @@ fn text_after<'a>(text: &'a [u8], messages: &[Frames]) -> Option<&'a [u8]> {
 }
 
 // Whether a peer's READY was accepted, and whether it gave an identity.
-fn known(side: &Side) -> (bool, bool) {
-    (side.is_ready(), side.identity().is_some())
+fn known(decoder: &Decoder) -> (bool, bool) {
+    (decoder.is_ready(), decoder.identity().is_some())
 }
 
-fn is_out_of_memory(answer: &Result<Incomings, FeedFault>) -> bool {
+fn is_out_of_memory(answer: &Result<Messages, FeedFault>) -> bool {
     match answer {
         Err(FeedFault::OutOfMemory) => true,
         _ => false,
@@ -86,23 +86,23 @@ fn is_out_of_memory(answer: &Result<Incomings, FeedFault>) -> bool {
 }
 
 // What a feed gives. Where memory is refused the side has to be as before, and the same piece is fed again.
-fn answer_of(alloc: Global, side: &mut Side, piece: &[u8]) -> Result<Incomings, FeedFault> {
-    let before = known(side);
-    let answer = side.feed(alloc, piece);
-    if is_out_of_memory(&answer) && known(side) == before {
+fn answer_of(alloc: Global, decoder: &mut Decoder, piece: &[u8]) -> Result<Messages, FeedFault> {
+    let before = known(decoder);
+    let answer = decoder.feed(alloc, piece);
+    if is_out_of_memory(&answer) && known(decoder) == before {
         drop(answer);
-        return side.feed(alloc, piece);
+        return decoder.feed(alloc, piece);
     }
     answer
 }
 
-fn text_left<'a>(text: &'a [u8], messages: &Incomings) -> Result<&'a [u8], Fail> {
+fn text_left<'a>(text: &'a [u8], messages: &Messages) -> Result<&'a [u8], Fail> {
     Ok(text_after(text, messages.as_slice()).ok_or("other messages")?)
 }
 
 fn told<'a>(
     text: &'a [u8],
-    answer: &Result<Incomings, FeedFault>,
+    answer: &Result<Messages, FeedFault>,
 ) -> Result<(&'a [u8], Option<StreamFault>), Fail> {
     match answer {
         Ok(messages) => Ok((text_left(text, messages)?, None)),
@@ -114,11 +114,11 @@ fn told<'a>(
 // Feeds a piece that gives the messages at the front of a text. Gives the text that is left, and the fault.
 fn feed<'a>(
     alloc: Global,
-    side: &mut Side,
+    decoder: &mut Decoder,
     piece: &[u8],
     text: &'a [u8],
 ) -> Result<(&'a [u8], Option<StreamFault>), Fail> {
-    let answer = answer_of(alloc, side, piece);
+    let answer = answer_of(alloc, decoder, piece);
     let told = told(text, &answer);
     drop(answer);
     told
@@ -128,7 +128,7 @@ fn feed<'a>(
 // bytes were fed when the stream broke, and why it did.
 fn feed_all(
     alloc: Global,
-    side: &mut Side,
+    decoder: &mut Decoder,
     bytes: &[u8],
     size: usize,
     text: &str,
@@ -137,7 +137,7 @@ fn feed_all(
     let mut fed = 0usize;
     let mut broken = None;
     for piece in bytes.chunks(size.max(1)) {
-        let (left, fault) = feed(alloc, side, piece, text)?;
+        let (left, fault) = feed(alloc, decoder, piece, text)?;
         text = left;
         fed = fed.saturating_add(piece.len());
         if let Some(fault) = fault {
@@ -152,23 +152,23 @@ fn feed_all(
     }
 }
 
-fn is_fed(alloc: Global, side: &mut Side, bytes: &[u8]) -> bool {
-    let answer = side.feed(alloc, bytes);
+fn is_fed(alloc: Global, decoder: &mut Decoder, bytes: &[u8]) -> bool {
+    let answer = decoder.feed(alloc, bytes);
     let is_fed = answer.is_ok();
     drop(answer);
     is_fed
 }
 
 // A ROUTER that has read these bytes, in one piece.
-fn router_after(alloc: Global, greeting: &str, ready: &str) -> Result<Side, Fail> {
+fn router_after(alloc: Global, greeting: &str, ready: &str) -> Result<Decoder, Fail> {
     let bytes = bytes_of(alloc, greeting, ready, "")?;
-    let mut side = Side::new(alloc, Role::Router);
-    let is_fed = is_fed(alloc, &mut side, bytes.as_slice());
+    let mut decoder = Decoder::new(alloc, Role::Router);
+    let is_fed = is_fed(alloc, &mut decoder, bytes.as_slice());
     drop(bytes);
     if is_fed {
-        return Ok(side);
+        return Ok(decoder);
     }
-    drop(side);
+    drop(decoder);
     Err(Fail::from("no handshake"))
 }
 
@@ -177,12 +177,12 @@ type Row = (&'static str, &'static str, Option<(usize, StreamFault)>);
 
 fn feed_one_by_one(
     alloc: Global,
-    side: &mut Side,
+    decoder: &mut Decoder,
     digits: &str,
     text: &str,
 ) -> Result<Option<(usize, StreamFault)>, Fail> {
     let bytes = bytes_of(alloc, "", "", digits)?;
-    feed_all(alloc, side, bytes.as_slice(), 1, text)
+    feed_all(alloc, decoder, bytes.as_slice(), 1, text)
 }
 
 // Feeds bytes one by one to a ROUTER that has read the greeting and the READY.
@@ -193,9 +193,9 @@ fn outcome(
     digits: &str,
     text: &str,
 ) -> Result<Option<(usize, StreamFault)>, Fail> {
-    let mut side = router_after(alloc, greeting, ready)?;
-    let outcome = feed_one_by_one(alloc, &mut side, digits, text);
-    drop(side);
+    let mut decoder = router_after(alloc, greeting, ready)?;
+    let outcome = feed_one_by_one(alloc, &mut decoder, digits, text);
+    drop(decoder);
     outcome
 }
 
@@ -343,9 +343,9 @@ fn streams(rt: HostRuntime) -> Result<(), Fail> {
 }
 
 // Feeds the same piece again and again.
-fn check_again(rt: &impl Abort, alloc: Global, side: &mut Side) -> Result<(), Fail> {
+fn check_again(rt: &impl Abort, alloc: Global, decoder: &mut Decoder) -> Result<(), Fail> {
     for text in &["a,.", "", ""] {
-        let broken = feed_all(alloc, side, b"\0\x01a\x08", 4, text)?;
+        let broken = feed_all(alloc, decoder, b"\0\x01a\x08", 4, text)?;
         assert!(rt; broken == Some((4, StreamFault::Flags)));
     }
     Ok(())
@@ -353,9 +353,9 @@ fn check_again(rt: &impl Abort, alloc: Global, side: &mut Side) -> Result<(), Fa
 
 #[test]
 fn faults_stay(rt: HostRuntime) -> Result<(), Fail> {
-    let mut side = router_after(rt.alloc(), GREETING, DEALER)?;
-    let checked = check_again(&rt, rt.alloc(), &mut side);
-    drop(side);
+    let mut decoder = router_after(rt.alloc(), GREETING, DEALER)?;
+    let checked = check_again(&rt, rt.alloc(), &mut decoder);
+    drop(decoder);
     checked
 }
 
@@ -377,8 +377,8 @@ const IDENTITIES: [(&str, bool, Option<&[u8]>); 4] = [
 ];
 
 // Whether the peer gave this identity, or none.
-fn has_identity(side: &Side, want: Option<&[u8]>) -> bool {
-    match (side.identity(), want) {
+fn has_identity(decoder: &Decoder, want: Option<&[u8]>) -> bool {
+    match (decoder.identity(), want) {
         (Some(identity), Some(want)) => identity.as_slice() == want,
         (None, None) => true,
         _ => false,
@@ -387,9 +387,9 @@ fn has_identity(side: &Side, want: Option<&[u8]>) -> bool {
 
 // Whether READY is accepted, and whether it gives this identity, or none.
 fn known_after(alloc: Global, ready: &str, want: Option<&[u8]>) -> Result<(bool, bool), Fail> {
-    let side = router_after(alloc, GREETING, ready)?;
-    let known = (side.is_ready(), has_identity(&side, want));
-    drop(side);
+    let decoder = router_after(alloc, GREETING, ready)?;
+    let known = (decoder.is_ready(), has_identity(&decoder, want));
+    drop(decoder);
     Ok(known)
 }
 
@@ -523,9 +523,9 @@ fn outcome_in_pieces(
     size: usize,
     text: &str,
 ) -> Result<Option<(usize, StreamFault)>, Fail> {
-    let mut side = Side::new(alloc, Role::Router);
-    let outcome = feed_all(alloc, &mut side, bytes, size, text);
-    drop(side);
+    let mut decoder = Decoder::new(alloc, Role::Router);
+    let outcome = feed_all(alloc, &mut decoder, bytes, size, text);
+    drop(decoder);
     outcome
 }
 
@@ -541,10 +541,10 @@ fn pieces(rt: HostRuntime) -> Result<(), Fail> {
 }
 
 // Feeds a handshake and a message in two parts. Gives whether READY was accepted in the first.
-fn feed_two(alloc: Global, side: &mut Side, front: &[u8], back: &[u8]) -> Result<bool, Fail> {
-    let (text, fault) = feed(alloc, side, front, ",hello,.".as_bytes())?;
-    let is_ready = side.is_ready();
-    let (rest, broken) = feed(alloc, side, back, text)?;
+fn feed_two(alloc: Global, decoder: &mut Decoder, front: &[u8], back: &[u8]) -> Result<bool, Fail> {
+    let (text, fault) = feed(alloc, decoder, front, ",hello,.".as_bytes())?;
+    let is_ready = decoder.is_ready();
+    let (rest, broken) = feed(alloc, decoder, back, text)?;
     if text.len() == 8 && rest.is_empty() && fault.is_none() && broken.is_none() {
         Ok(is_ready)
     } else {
@@ -554,9 +554,9 @@ fn feed_two(alloc: Global, side: &mut Side, front: &[u8], back: &[u8]) -> Result
 
 fn ready_between(alloc: Global, bytes: &[u8], cut: usize) -> Result<bool, Fail> {
     let (front, back) = bytes.split_at(cut.min(bytes.len()));
-    let mut side = Side::new(alloc, Role::Router);
-    let is_ready = feed_two(alloc, &mut side, front, back);
-    drop(side);
+    let mut decoder = Decoder::new(alloc, Role::Router);
+    let is_ready = feed_two(alloc, &mut decoder, front, back);
+    drop(decoder);
     is_ready
 }
 
@@ -581,7 +581,7 @@ fn one_frame(alloc: Global) -> Result<Frames, AllocError> {
 // That message, moved in and out.
 fn frames_moved(rt: &impl Abort, alloc: Global) -> Frames {
     let frames = one_frame(alloc).expect(rt, "memory");
-    let mut messages = Incomings::new(alloc);
+    let mut messages = Messages::new(alloc);
     messages.push(frames).expect(rt, "memory");
     let mut messages = messages.into_vec();
     let last = messages.pop();
@@ -619,19 +619,19 @@ const CONVERSATION: &[u8] =
 // READY was accepted, and whether it gave its identity.
 fn conversed(
     alloc: Global,
-    side: &mut Side,
+    decoder: &mut Decoder,
     size: usize,
 ) -> Result<(Option<(usize, StreamFault)>, bool, bool), Fail> {
     let text = "a,hi,.,.,hello,!,.";
-    let broken = feed_all(alloc, side, CONVERSATION, size, text)?;
-    Ok((broken, side.is_ready(), has_identity(side, Some(b"me"))))
+    let broken = feed_all(alloc, decoder, CONVERSATION, size, text)?;
+    Ok((broken, decoder.is_ready(), has_identity(decoder, Some(b"me"))))
 }
 
 // Nothing here but the feeds takes memory, and with an allocation refused the answer is the same.
 fn converse(rt: &impl Abort, alloc: Global, size: usize) -> Result<(), Fail> {
-    let mut side = Side::new(alloc, Role::Router);
-    let found = conversed(alloc, &mut side, size);
-    drop(side);
+    let mut decoder = Decoder::new(alloc, Role::Router);
+    let found = conversed(alloc, &mut decoder, size);
+    drop(decoder);
     let broken = Some((CONVERSATION.len(), StreamFault::Flags));
     assert!(rt; found? == (broken, true, true));
     Ok(())

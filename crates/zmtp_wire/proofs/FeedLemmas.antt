@@ -11,7 +11,7 @@ use Rattle.zmtp_wire.specs.declared.progress.Progress.{Progress}
 use Rattle.zmtp_wire.specs.Framing.{IsAllowed}
 use Rattle.zmtp_wire.specs.Stream.{Got, opening, Step, Greets as Greeted, Readies, Skips}
 use Rattle.zmtp_wire.specs.Stream.{Takes as TakesFrame, Reads, Stays, Fault, InGreeting, InFlag, InSize}
-use Rattle.zmtp_wire.specs.Stream.{InCommand, IsPartial, SideState, got_by, EndsIn, StandsFor, Completes}
+use Rattle.zmtp_wire.specs.Stream.{InCommand, IsPartial, DecoderState, got_by, EndsIn, StandsFor, Completes}
 use Rattle.zmtp_wire.specs.Progress.{got_in, identity_from, WhateverBefore, EndsAt}
 use Rattle.zmtp_wire.proofs.ReadingLemmas.{reads_preceded, reads_more, reads_cut, fault_more}
 use Rattle.zmtp_wire.proofs.ReadingLemmas.{partial_wants, Ends, one_reading_lem}
@@ -56,7 +56,7 @@ partial_same role g h bytes a b p = record {
 partial_empty : (role : Role) → IsPartial role opening []
 partial_empty role = partial_wants role opening [] refl
 
-pub stands_new : (s : SideState) → s.stage ≡ Greeting → s.identity ≡ None → s.frames ≡ [] → s.rest ≡ []
+pub stands_new : (s : DecoderState) → s.stage ≡ Greeting → s.identity ≡ None → s.frames ≡ [] → s.rest ≡ []
     → s.fault ≡ None → StandsFor s [] []
 stands_new s a b d e f =
     let g : opening ≡ got_by s [] = cc in
@@ -67,7 +67,7 @@ stands_new s a b d e f =
     }
 
 -- the state of a feed before its first item
-abbrev pub start_of : SideState → Option (List ℕ) → Got
+abbrev pub start_of : DecoderState → Option (List ℕ) → Got
 start_of s before = record { stage = s.stage; identity = before; messages = []; frames = s.frames }
 
 -- a side after a feed: it keeps the rest, but none after a fault
@@ -75,8 +75,8 @@ abbrev pub kept_rest : List ℕ → Option StreamFault → List ℕ
 kept_rest rest None = rest
 kept_rest rest (Some c) = []
 
-abbrev pub side_after : SideState → Progress → List ℕ → Option StreamFault → SideState
-side_after old p rest fault = record {
+abbrev pub decoder_after : DecoderState → Progress → List ℕ → Option StreamFault → DecoderState
+decoder_after old p rest fault = record {
   role = old.role;
   stage = p.stage;
   identity = identity_from p.accepted old.identity;
@@ -85,33 +85,33 @@ side_after old p rest fault = record {
   fault = fault;
 }
 
-ends_in : (old : SideState) (p : Progress) (rest : List ℕ) (fault : Option StreamFault)
+ends_in : (old : DecoderState) (p : Progress) (rest : List ℕ) (fault : Option StreamFault)
     (messages : List (List (List ℕ)))
     → EndsAt old.role rest fault p
-    → EndsIn (side_after old p rest fault) (got_by (side_after old p rest fault) messages) rest fault
+    → EndsIn (decoder_after old p rest fault) (got_by (decoder_after old p rest fault) messages) rest fault
 ends_in old p rest None messages ends = (
   refl,
-  partial_same old.role (got_in p old.identity) (got_by (side_after old p rest None)
+  partial_same old.role (got_in p old.identity) (got_by (decoder_after old p rest None)
       messages) rest refl refl
       (ends old.identity),
 )
 ends_in old p rest (Some c) messages ends = (
   refl,
-  fault_same old.role (got_by (side_after old p rest (Some c)) messages)
+  fault_same old.role (got_by (decoder_after old p rest (Some c)) messages)
       (got_in p old.identity) rest c refl refl
       (ends old.identity),
 )
 
 -- a feed that found items and then a rest, or a fault
-completes : (old : SideState) (piece rest : List ℕ) (p : Progress) (fault : Option StreamFault)
+completes : (old : DecoderState) (piece rest : List ℕ) (p : Progress) (fault : Option StreamFault)
     → old.fault ≡ None
     → ((before : Option (List ℕ))
     → Reads old.role (start_of old before) (old.rest ++ piece) (got_in p before) rest)
-    → EndsAt old.role rest fault p → Completes old piece p.messages.items (side_after old p rest fault)
+    → EndsAt old.role rest fault p → Completes old piece p.messages.items (decoder_after old p rest fault)
 completes old piece rest p fault f reads ends = record {
   role = refl;
   stands = λ stream messages st. (
-      let new = side_after old p rest fault in
+      let new = decoder_after old p rest fault in
       let e = rw f at st.ends in
       let h = got_by new (messages ++ p.messages.items) in
       let now = reads_preceded old.role messages (start_of old old.identity) (got_in p old.identity)
@@ -125,7 +125,7 @@ completes old piece rest p fault f reads ends = record {
 }
 
 -- a broken side stays so
-pub stays_broken : (s : SideState) (piece : List ℕ) (c : StreamFault) → s.fault ≡ Some c
+pub stays_broken : (s : DecoderState) (piece : List ℕ) (c : StreamFault) → s.fault ≡ Some c
     → Completes s piece [] s
 stays_broken s piece c f = record {
   role = refl;
@@ -139,12 +139,12 @@ stays_broken s piece c f = record {
 }
 
 -- the same, from what a feed began with: this buffer, and no more than the side had
-pub feed_completes : (old : SideState) (piece buffer rest : List ℕ) (p0 p : Progress)
+pub feed_completes : (old : DecoderState) (piece buffer rest : List ℕ) (p0 p : Progress)
     (fault : Option StreamFault)
     → old.fault ≡ None → p0.stage ≡ old.stage → p0.accepted ≡ None → p0.frames ≡ old.frames
     → p0.messages.items ≡ [] → buffer ≡ old.rest ++ piece
     → WhateverBefore p0 p (λ g h. Reads old.role g buffer h rest) → EndsAt old.role rest fault p
-    → Completes old piece p.messages.items (side_after old p rest fault)
+    → Completes old piece p.messages.items (decoder_after old p rest fault)
 feed_completes old piece buffer rest p0 p fault f s a fr ms b reads ends =
     completes old piece rest p fault f
     (λ before. (
@@ -153,23 +153,23 @@ feed_completes old piece buffer rest p0 p fault f s a fr ms b reads ends =
     rw (← g, ← b) (reads before)))
     ends
 
-ends_of : (s : SideState) (g : Got) (rest : List ℕ) (o : Option StreamFault) → EndsIn s g rest o
+ends_of : (s : DecoderState) (g : Got) (rest : List ℕ) (o : Option StreamFault) → EndsIn s g rest o
     → Ends s.role g rest o
 ends_of s g rest None e = e.1
 ends_of s g rest (Some c) e = e.1
 
-rest_of : (s t : SideState) (g h : Got) (rest : List ℕ) (o : Option StreamFault) → EndsIn s g rest o
+rest_of : (s t : DecoderState) (g h : Got) (rest : List ℕ) (o : Option StreamFault) → EndsIn s g rest o
     → EndsIn t h rest o → s.rest ≡ t.rest
 rest_of s t g h rest None e f = sym e.0 ∙ f.0
 rest_of s t g h rest (Some c) e f = e.0 ∙ sym f.0
 
 -- a state of these parts
-abbrev state_of : Role → Stage → Option (List ℕ) → List (List ℕ) → List ℕ → Option StreamFault → SideState
+abbrev state_of : Role → Stage → Option (List ℕ) → List (List ℕ) → List ℕ → Option StreamFault → DecoderState
 state_of role stage identity frames rest fault =
     record { role = role; stage = stage; identity = identity; frames = frames; rest = rest; fault = fault }
 
 -- two sides that stand for one stream are the same, and have read the same messages
-pub one_state : (s t : SideState) (stream : List ℕ) (m n : List (List (List ℕ))) → s.role ≡ t.role
+pub one_state : (s t : DecoderState) (stream : List ℕ) (m n : List (List (List ℕ))) → s.role ≡ t.role
     → StandsFor s stream m → StandsFor t stream n → (m ≡ n) × (s ≡ t)
 one_state s t stream m n r a b =
     let o = one_reading_lem s.role opening (got_by s m) (got_by t n) stream a.rest b.rest s.fault t.fault

@@ -3,10 +3,10 @@ use Rattle.std.specs.Prelude.{◌≡◌, Some, List, [], ℕ, Result, Err}
 use Rattle.zmtp_wire.specs.declared.fault.StreamFault.{StreamFault}
 use Rattle.zmtp_wire.specs.declared.fault.FeedFault.{FeedFault}
 use Rattle.zmtp_wire.specs.declared.fault.FeedFault.TheVariants.{OutOfMemory, Broken}
-use Rattle.zmtp_wire.specs.Stream.{SideState, Completes}
+use Rattle.zmtp_wire.specs.Stream.{DecoderState, Completes}
 
 -- out of memory, the side is as it was; else the stream is broken, after the messages before the fault
-abbrev pub FeedFails : SideState → List ℕ → FeedFault → SideState → Type 0
+abbrev pub FeedFails : DecoderState → List ℕ → FeedFault → DecoderState → Type 0
 FeedFails old piece OutOfMemory new = new ≡ old
 FeedFails old piece (Broken before cause) new = Completes old piece before new × (new.fault ≡ Some cause)
 

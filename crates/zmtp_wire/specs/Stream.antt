@@ -68,7 +68,7 @@ pub record IsPartial (role : Role) (g : Got) (bytes : List ℕ) : Type 0 where
   pub good : (c : StreamFault) → Fault role g bytes c → ⊥
 
 -- what a side keeps of its stream
-pub record SideState : Type 0 where
+pub record DecoderState : Type 0 where
   pub role : Role
   pub stage : Stage
   pub identity : Option (List ℕ)
@@ -77,22 +77,22 @@ pub record SideState : Type 0 where
   pub fault : Option StreamFault
 
 -- how far a side has come, with these messages before
-abbrev pub got_by : SideState → List (List (List ℕ)) → Got
+abbrev pub got_by : DecoderState → List (List (List ℕ)) → Got
 got_by s messages = record { stage = s.stage; identity = s.identity; messages = messages; frames = s.frames }
 
 -- after the whole items comes the rest that the side keeps, or a fault, and then it keeps none
-abbrev pub EndsIn : SideState → Got → List ℕ → Option StreamFault → Type 0
+abbrev pub EndsIn : DecoderState → Got → List ℕ → Option StreamFault → Type 0
 EndsIn s g rest None = (rest ≡ s.rest) × IsPartial s.role g rest
 EndsIn s g rest (Some c) = (s.rest ≡ []) × Fault s.role g rest c
 
 -- the side has read this stream, and these were all the messages in it
-pub record StandsFor (s : SideState) (stream : List ℕ) (messages : List (List (List ℕ))) : Type 0 where
+pub record StandsFor (s : DecoderState) (stream : List ℕ) (messages : List (List (List ℕ))) : Type 0 where
   pub rest : List ℕ
   pub reads : Reads s.role opening stream (got_by s messages) rest
   pub ends : EndsIn s (got_by s messages) rest s.fault
 
 -- whatever the stream was before, this piece comes after it, and completes these messages
-pub record Completes (old : SideState) (piece : List ℕ) (out : List (List (List ℕ))) (new : SideState)
+pub record Completes (old : DecoderState) (piece : List ℕ) (out : List (List (List ℕ))) (new : DecoderState)
     : Type 0 where
   pub role : new.role ≡ old.role
   pub stands : (stream : List ℕ) (messages : List (List (List ℕ))) → StandsFor old stream messages

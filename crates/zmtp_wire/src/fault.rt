@@ -1,6 +1,6 @@
 //! Why a stream can't be read on.
 
-use crate::incomings::Incomings;
+use crate::messages::Messages;
 use std::fmt;
 use thiserror::Error;
 
@@ -61,7 +61,7 @@ pub enum FeedFault {
     /// The messages that were complete before the fault, and what is wrong. It stays so for good.
     #[error("{cause}")]
     Broken {
-        before: Incomings,
+        before: Messages,
         cause: StreamFault,
     },
 }

@@ -10,7 +10,7 @@ use Rattle.kern_exec.proofs.cells.load.Goals as goal
 pub returns-in-Ok-clause-loaded : goal.returns-in-Ok-clause-loaded
 returns-in-Ok-clause-loaded c = λ b stands.
     let old = c.args.lab.now in
-    let new = c.ask.new.lab in
+    let new = c.apply_event.new.lab in
     let P : Event → Type 0 = λ e. Does (given e) old (ok c.in-Ok.answer) new in
     let g = subst P c.in_ok-event.ensures c.in-Ok.ensures.given in
     let l =
@@ -21,7 +21,7 @@ returns-in-Ok-clause-loaded c = λ b stands.
 pub returns-in_ok-loading-in-Err-clause-loaded : goal.returns-in_ok-loading-in-Err-clause-loaded
 returns-in_ok-loading-in-Err-clause-loaded c = λ b stands.
     let old = c.args.lab.now in
-    let new = c.ask.new.lab in
+    let new = c.apply_event.new.lab in
     let P : Event → Type 0 = λ e. Does (given e) old (err c.in-Err.fault) new in
     let g = subst P c.in_ok-event.ensures c.in-Err.ensures.given in
     let refused = c.in_ok-loading-in-Err.ensures in

@@ -4,7 +4,7 @@ use Rattle.kern_net.proofs.asking.arrive.Goals as goal
 pub returns-in-Ok-make_call-clause-asked : goal.returns-in-Ok-make_call-clause-asked
 returns-in-Ok-make_call-clause-asked g c =
     let opens = rw c.in-Ok-Some.field-0-is at c.in-Ok-Some.ensures.some in
-    arrived _ c.in-Ok-Some.message _ _ _ _ _ c.requires.other c.moment-moment.ensures.bound opens
+    arrived _ c.in-Ok-Some.message _ _ _ _ _ c.requires.other c.unix_seconds-unix_seconds.ensures.bound opens
     c.in-Ok.ensures
     c.in-Ok-make_call.ensures.ok
 
@@ -12,7 +12,7 @@ pub returns-in-Err-make_call-clause-asked : goal.returns-in-Err-make_call-clause
 returns-in-Err-make_call-clause-asked g c =
     let opens = rw c.in-Ok-Some.field-0-is at c.in-Ok-Some.ensures.some in (
       arrival_refused _ c.in-Ok-Some.message _ _ _ _ _ c.in-Err-make_call.end c.requires.other
-          c.moment-moment.ensures.bound opens c.in-Ok.ensures c.in-Err-make_call.ensures.err
+          c.unix_seconds-unix_seconds.ensures.bound opens c.in-Ok.ensures c.in-Err-make_call.ensures.err
           c.in-Err-make_call.ensures.onward c.in-Err-make_call.ensures.counted,
       c.in-Err-make_call.ensures.err,
     )

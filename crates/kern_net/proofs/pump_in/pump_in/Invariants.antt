@@ -10,5 +10,5 @@ invariant-loop-reads g l = record {
   gate : g.G.Gate.asked l.gate ≡ g.G.Gate.asked l.fn.gate;
   readable : IsReadable (g.I.Inlet.state l.from);
   read : UnderWay l.place l.fn.peer (g.I.Inlet.state l.fn.from) (g.I.Inlet.state l.from) l.fn.pass
-      (record { side = l.side; pass = l.pass }) l.reads;
+      (record { decoder = l.decoder; pass = l.pass }) l.reads;
 }

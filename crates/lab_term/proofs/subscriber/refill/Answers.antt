@@ -10,7 +10,7 @@ returns-clause-holds g c = λ before passed least h.
     let some = c.in-Ok.ensures.count.0 in
     let fits : 1 ≤ length (take c.in-Ok.count c.read_piece.new.buffer) = omega (arith, size, some) in
     let new : Subscriber =
-    record { side = c.feed.new.side; queue = c.from.result; broken = c.in-Ok-feed.field-0.broken } in
+    record { decoder = c.feed.new.decoder; queue = c.from.result; broken = c.in-Ok-feed.field-0.broken } in
     holds_on before _ _ c.args.subscriber.now new passed _ _ least c.requires.empty
     c.in-Ok-feed.ensures.completes c.in-Ok.ensures.given fits
     (c.from.ensures.0 ∙ c.into_vec.ensures) c.in-Ok-feed.ensures.broken h

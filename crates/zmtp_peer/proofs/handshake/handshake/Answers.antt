@@ -34,7 +34,7 @@ returns-in-Err-send-clause-lost g c =
     let heard =
     c.in-Ok-listen.ensures.heard _ _ (heard_first _ c.new.result _ c.new.ensures.stands
     c.new-2.ensures) in
-    lost_writer _ _ c.args.role c.listen.new.peer.side _ _ c.in-Err-send.fault c.in-Err-send.ensures.err.0
+    lost_writer _ _ c.args.role c.listen.new.peer.decoder _ _ c.in-Err-send.fault c.in-Err-send.ensures.err.0
     (c.in-Ok-listen.ensures.role ∙ c.new.ensures.role) heard.0
 
 pub returns-in-Err-listen-2-clause-front : goal.returns-in-Err-listen-2-clause-front
@@ -57,13 +57,13 @@ returns-then-not-is_ready-clause-front g c =
 
 pub returns-then-not-is_ready-clause-lost : goal.returns-then-not-is_ready-clause-lost
 returns-then-not-is_ready-clause-lost g c =
-    let unready = unready_by _ c.listen-2.new.peer.side c.is_ready.ensures c.if-not-is_ready.true in
+    let unready = unready_by _ c.listen-2.new.peer.decoder c.is_ready.ensures c.if-not-is_ready.true in
     let first =
     c.in-Ok-listen.ensures.heard _ _ (heard_first _ c.new.result _ c.new.ensures.stands
     c.new-2.ensures) in
     let heard = first.1 (λ t. unready (c.in-Ok-listen-2.ensures.stays t)) in
     let second = (c.in-Ok-listen-2.ensures.heard _ _ heard).1 unready in
-    lost_most _ _ c.args.role c.listen-2.new.peer.side _ _ most_is
+    lost_most _ _ c.args.role c.listen-2.new.peer.decoder _ _ most_is
     (c.in-Ok-listen-2.ensures.role ∙ c.in-Ok-listen.ensures.role ∙ c.new.ensures.role) unready second
 
 pub returns-clause-heard : goal.returns-clause-heard

@@ -10,20 +10,20 @@ pub returns-in-Some-clause-lost : goal.returns-in-Some-clause-lost
 returns-in-Some-clause-lost g c = λ before least heard.
     let fits = taken_size c.in-Ok.count c.read_piece.new.buffer c.in-Ok.ensures.count.1 in
     let on =
-    heard_on before _ _ _ c.feed.new.side _ _ _ least c.in-Ok.count c.requires.unready
+    heard_on before _ _ _ c.feed.new.decoder _ _ _ least c.in-Ok.count c.requires.unready
     c.in-Ok-feed.ensures.completes c.in-Ok.ensures.given fits heard in
-    lost_wire before _ _ c.feed.new.side _ _ c.in-Some.cause c.in-Ok-feed.ensures.completes.role
-    (unready_by _ c.feed.new.side c.is_ready.ensures c.if-not-is_ready.true)
+    lost_wire before _ _ c.feed.new.decoder _ _ c.in-Some.cause c.in-Ok-feed.ensures.completes.role
+    (unready_by _ c.feed.new.decoder c.is_ready.ensures c.if-not-is_ready.true)
     (sym c.in-Ok-feed.ensures.broken ∙ c.in-Some.is) on
 
 pub returns-in-Some-2-clause-heard : goal.returns-in-Some-2-clause-heard
 returns-in-Some-2-clause-heard g c = λ before least heard.
     let fits = taken_size c.in-Ok.count c.read_piece.new.buffer c.in-Ok.ensures.count.1 in
-    heard_on before _ _ _ c.feed.new.side _ _ _ least c.in-Ok.count c.requires.unready
+    heard_on before _ _ _ c.feed.new.decoder _ _ _ least c.in-Ok.count c.requires.unready
     c.in-Ok-feed.ensures.completes c.in-Ok.ensures.given fits heard
 
 pub returns-in-Some-2-2-clause-heard : goal.returns-in-Some-2-2-clause-heard
 returns-in-Some-2-2-clause-heard g c = λ before least heard.
     let fits = taken_size c.in-Ok.count c.read_piece.new.buffer c.in-Ok.ensures.count.1 in
-    heard_on before _ _ _ c.feed.new.side _ _ _ least c.in-Ok.count c.requires.unready
+    heard_on before _ _ _ c.feed.new.decoder _ _ _ least c.in-Ok.count c.requires.unready
     c.in-Ok-feed.ensures.completes c.in-Ok.ensures.given fits heard

@@ -7,5 +7,5 @@ invariant-loop g l = record {
   readable : IsReadable (g.I.Inlet.state l.from);
   writable : IsWritable (g.W.Outlet.state l.to);
   beats : Beats (g.I.Inlet.state l.fn.from) (g.I.Inlet.state l.from) (g.W.Outlet.state l.fn.to)
-      (g.W.Outlet.state l.to) l.peer.side l.counter;
+      (g.W.Outlet.state l.to) l.peer.decoder l.counter;
 }

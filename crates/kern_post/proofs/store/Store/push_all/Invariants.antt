@@ -8,7 +8,7 @@ invariant-loop-letter l = record {
   made : l.self.made + length l.letters ≡ l.fn.self.made + length l.fn.letters;
   keeps : (posts : List Post) → Keeps posts l.fn.self
       → (so_far : List Post) × Keeps so_far l.self
-      × (posted l.moment l.letters so_far ≡ posted l.moment l.fn.letters posts);
+      × (posted l.unix_seconds l.letters so_far ≡ posted l.unix_seconds l.fn.letters posts);
 }
 
 abbrev pub decreases-loop-letter : goal.decreases-loop-letter

@@ -1,0 +1,15 @@
+// What no clause of cli_io, cli_run and cli_engines says: that they succeed where there is memory, on readers
+// and writers that give and take little at a time, are interrupted, or fail; and how faults are displayed.
+// Nothing is here but tests. Whole inputs with what they print are tables of the clients' test_engines.
+#![tactic(auto)]
+
+#[cfg(test)]
+mod commands;
+#[cfg(test)]
+mod engines;
+#[cfg(test)]
+mod input;
+#[cfg(test)]
+mod names;
+#[cfg(test)]
+mod words;

@@ -1,0 +1,181 @@
+//! Hexadecimal text that comes in pieces.
+ghost use Rattle.std.specs.Prelude.{◌≡◌, ◌<◌, ◌++◌, ◌∷◌, [], List, ℕ, Option, Some, None, OnOk, IsErrOf};
+ghost use Rattle.std.specs.Prelude.{IfOk, IfSome, All, if◌then◌else◌};
+ghost use Rattle.cli_io.specs.HexInput.{is_blank, is_hex_digit, digit_value, input_of, paired};
+ghost use Rattle.cli_io.specs.HexState.{kept_more};
+
+use crate::intake::{Intake, IntakeFault};
+use base_text::hexadecimal::digit_value;
+use i80_rows::memory::MEMORY_SIZE;
+use std::alloc::{AllocError, AllocFailed, Global};
+use std::marker::Model;
+use thiserror::Error;
+
+/// How many digits the bytes of a whole memory have.
+const MOST_DIGITS: usize = 2 * MEMORY_SIZE;
+
+/// Why hexadecimal text gives no bytes.
+#[derive(Clone, Copy, PartialEq, Eq, Debug, Error)]
+pub enum HexFault {
+    /// A character is neither a digit nor a blank, or the number of digits is odd.
+    #[error("bad hex")]
+    BadHex,
+    /// There are more bytes than memory has.
+    #[error("past end")]
+    PastEnd,
+    #[error("out of memory")]
+    OutOfMemory,
+    /// A read failed, or 4,294,967,295 reads didn't come to the end.
+    #[error("a read failed")]
+    Read,
+}
+
+impl From<AllocError> for HexFault {
+    ghost use Rattle.std.specs.Prelude.{◌≡◌};
+    ghost use Rattle.cli_io.specs.declared.hex_input.HexFault.TheVariants.{OutOfMemory};
+
+    ghost from_gives = { λ _ fault. fault ≡ OutOfMemory };
+
+    fn from(_: AllocError) -> HexFault {
+        HexFault::OutOfMemory
+    }
+}
+
+impl From<AllocFailed<u8>> for HexFault {
+    ghost use Rattle.std.specs.Prelude.{◌≡◌};
+    ghost use Rattle.cli_io.specs.declared.hex_input.HexFault.TheVariants.{OutOfMemory};
+
+    ghost from_gives = { λ _ fault. fault ≡ OutOfMemory };
+
+    fn from(_: AllocFailed<u8>) -> HexFault {
+        HexFault::OutOfMemory
+    }
+}
+
+/// The digits of hexadecimal text so far, of which no more are kept than memory has room for.
+#[derive(Drop)]
+pub struct HexInput {
+    digits: Vec<u8>,
+    is_odd: bool,
+    is_long: bool,
+}
+
+impl Model for HexInput {
+    ghost use Rattle.cli_io.specs.HexState.{HexState};
+
+    ghost Value = { HexState };
+
+    ghost view = { λ h. record { digits = h.digits.items; is_odd = h.is_odd; is_long = h.is_long } };
+
+    ghost use Rattle.std.specs.Prelude.{All, ◌<◌};
+
+    ghost invariant = { λ h. All (λ d. d < 16) h.digits.items };
+}
+
+impl Intake for HexInput {
+    ghost use Rattle.std.specs.Prelude.{◌≡◌};
+    ghost use Rattle.cli_io.specs.HexInput.{input_of, BadHex};
+    ghost use Rattle.cli_io.specs.HexState.{StandsFor};
+
+    ghost stands = { StandsFor };
+
+    ghost refuses = { λ input. input_of input ≡ BadHex };
+
+    ghost limit = { λ _. 0 };
+
+    #[tactic(auto, using(crate::proofs::HexLemmas::bad_around))]
+    fn take(&mut self, piece: &[u8]) -> Result<(), IntakeFault> {
+        match self.feed(piece) {
+            Ok(()) => Ok(()),
+            Err(HexFault::BadHex) => Err(IntakeFault::Bad),
+            Err(_) => Err(IntakeFault::OutOfMemory),
+        }
+    }
+}
+
+impl HexInput {
+    ghost use Rattle.cli_io.specs.HexState.{StandsFor, Reads, IsBad, Finds};
+
+    /// No text yet.
+    pub fn new(alloc: Global) -> HexInput
+        ensures { StandsFor result [] }
+    {
+        HexInput {
+            digits: Vec::new(alloc),
+            is_odd: false,
+            is_long: false,
+        }
+    }
+
+    /// Takes the next piece of text. After an `Err` the rest of the text is of no use.
+    pub fn feed(&mut self, piece: &[u8]) -> Result<(), HexFault>
+        ensures ok { OnOk result (Reads piece.now self.old self.new) }
+        ensures bad { IsErrOf result HexFault.BadHex → IsBad piece.now }
+    {
+        for byte in piece {
+            if let Err(fault) = self.feed_byte(*byte) {
+                return Err(fault);
+            }
+        }
+        Ok(())
+    }
+
+    /// The values of the digits, high one of each byte first, once all of the text is there.
+    pub fn digits(&self) -> Result<&[u8], HexFault>
+        ensures found { (text : List ℕ) → StandsFor self.now text
+            → Finds (λ digits. digits.now) result (input_of text) }
+        ensures small { IfOk result (λ digits. All (λ d. d < 16) digits.now) }
+    {
+        if self.is_odd {
+            return Err(HexFault::BadHex);
+        }
+        if self.is_long {
+            return Err(HexFault::PastEnd);
+        }
+        Ok(self.digits.as_slice())
+    }
+
+    fn feed_byte(&mut self, byte: u8) -> Result<(), HexFault>
+        ensures ok { OnOk result (Reads (byte ∷ []) self.old self.new) }
+        ensures bad { IsErrOf result HexFault.BadHex → IsBad (byte ∷ []) }
+    {
+        if matches!(byte, b' ' | b'\t' | b'\n' | b'\r') {
+            return Ok(());
+        }
+        let Some(value) = digit_value(byte) else {
+            return Err(HexFault::BadHex);
+        };
+        self.keep(value)?;
+        Ok(())
+    }
+
+    #[tactic(auto, unfolding(crate::specs::HexState::most_digits))]
+    fn keep(&mut self, value: u8) -> Result<(), AllocFailed<u8>>
+        requires { value < 16 }
+        ensures { OnOk result (self.new ≡ kept_more self.old value) }
+    {
+        if self.digits.len() < MOST_DIGITS {
+            self.digits.push(value)?;
+        } else {
+            self.is_long = true;
+        }
+        self.is_odd = !self.is_odd;
+        Ok(())
+    }
+}
+
+/// The bytes whose digits have these values, the high digit of each first. A digit that is left over
+/// makes no byte.
+pub fn paired(alloc: Global, digits: &[u8]) -> Result<Vec<u8>, AllocError>
+    requires { All (λ d. d < 16) digits.now }
+    ensures { IfOk result (λ bytes. bytes.items ≡ paired digits.now) }
+{
+    let mut bytes = Vec::new(alloc);
+    let mut rest = digits;
+    while rest.len() >= 2 {
+        let (pair, others) = rest.split_at(2);
+        bytes.push(16 * pair[0] + pair[1])?;
+        rest = others;
+    }
+    Ok(bytes)
+}

@@ -1,0 +1,88 @@
+//! An input that is read to its end, piece by piece, into what takes it.
+ghost use Rattle.std.specs.Prelude.{◌≡◌, ◌<◌, ◌++◌, ℕ, List, [], OnOk, IsErrOf, IfOk, IfSome, length};
+ghost use Rattle.cli_io.specs.Streams.{BlamesReader};
+ghost use Rattle.cli_io.specs.Pouring.{IsPoured, IfPourFailed};
+
+use base_streams::ports::Inlet;
+
+/// Why a piece isn't taken.
+#[derive(Clone, Copy)]
+pub(crate) enum IntakeFault {
+    Bad,
+    OutOfMemory,
+}
+
+/// Why an input wasn't taken to its end.
+#[derive(Clone, Copy)]
+pub(crate) enum PourFault {
+    /// It is one that is refused.
+    Bad,
+    OutOfMemory,
+    /// A read failed, or 4,294,967,295 reads didn't come to the end.
+    Read,
+}
+
+/// What takes an input piece by piece.
+pub(crate) trait Intake: Drop {
+    // The text so far that it stands for, the inputs that it refuses, and a limit that it has.
+    ghost stands: { Self → List ℕ → Type 0 };
+
+    ghost refuses: { List ℕ → Type 0 };
+
+    ghost limit: { Self → ℕ };
+
+    /// Takes the next piece. After an `Err` the rest is of no use.
+    fn take(&mut self, piece: &[u8]) -> Result<(), IntakeFault>
+        ensures limit { limit self.new ≡ limit self.old }
+        ensures ok { OnOk result
+            ((text : List ℕ) → stands self.old text → stands self.new (text ++ piece.now)) }
+        ensures bad { IsErrOf result IntakeFault.Bad →
+            (text more : List ℕ) → stands self.old text → refuses ((text ++ piece.now) ++ more) };
+}
+
+// All bytes, as they are.
+impl Intake for Vec<u8> {
+    ghost use Rattle.std.specs.Prelude.{◌≡◌};
+
+    ghost stands = { λ v bytes. v.items ≡ bytes };
+
+    ghost refuses = { λ _. ⊥ };
+
+    ghost limit = { λ _. 0 };
+
+    fn take(&mut self, piece: &[u8]) -> Result<(), IntakeFault> {
+        match self.extend_from_slice(piece) {
+            Ok(()) => Ok(()),
+            Err(_) => Err(IntakeFault::OutOfMemory),
+        }
+    }
+}
+
+/// Reads to the end, through the buffer.
+pub(crate) fn pour<R: Inlet, I: Intake>(
+    reader: &mut R,
+    buffer: &mut [u8],
+    mut input: I,
+) -> Result<I, PourFault>
+    requires buffer { 0 < length buffer.old }
+    requires input { I.stands input [] }
+    ensures limit { IfOk result (λ read. I.limit read ≡ I.limit input) }
+    ensures read { IfSome (R.state reader.old).left (IsPoured I.stands I.refuses result) }
+    ensures blame { BlamesReader IfPourFailed result (R.state reader.old) (R.state reader.new) }
+{
+    for reads in 0..u32::MAX {
+        match reader.read(buffer) {
+            Ok(0) => return Ok(input),
+            Ok(count) => {
+                let (piece, _) = buffer.split_at(count);
+                match input.take(piece) {
+                    Ok(()) => continue,
+                    Err(IntakeFault::Bad) => return Err(PourFault::Bad),
+                    Err(IntakeFault::OutOfMemory) => return Err(PourFault::OutOfMemory),
+                }
+            }
+            Err(_) => return Err(PourFault::Read),
+        }
+    }
+    Err(PourFault::Read)
+}

@@ -1,2 +1,0 @@
-pub mod MessageTypes
-pub mod Asks

@@ -1,0 +1,26 @@
+use Rattle.std.proofs.Common.{◌∙◌, sym, ap, subst, rules}
+use Rattle.std.proofs.lemmas.Bool.{false≢true}
+use Rattle.kern_peers.specs.Connections.{Connections}
+use Rattle.kern_core.specs.Debugging.{IsDebugKit, told_by}
+use Rattle.kern_core.specs.Stands.{StandsFor}
+use Rattle.kern_core.proofs.DebugLemmas.{performed_stands}
+use Rattle.kern_core.proofs.state.KernelState.perform.Goals as goal
+
+pub returns : goal.returns
+returns c = (
+  λ s stands ne.
+      let viewed : StandsFor _ s = subst (λ v. StandsFor v s) (sym c.self.view_is) stands in
+      let n = c.args.connection in
+      let r = c.args.request.now in
+      let d = c.args.debug.now in
+      let K : Connections → Type 0 = λ w. IsDebugKit w n r d c.in_ok-kit.kit in
+      let kit = subst K stands.connections c.in_ok-kit.ensures.kit in
+      let letter = c.in_ok-kit.ensures.after s stands in
+      let told = c.in_ok-letters.ensures.told ∙ ap (told_by c.in_ok-kit.kit c.perform-result.result) letter in
+      performed_stands n r d c.args.unix_seconds s _ c.perform-result.new.lab c.push_all.new.self
+      c.perform-result.result c.in_ok-kit.kit c.in_ok-letters.letters
+      viewed c.requires.other c.perform-result.ensures.0
+      (λ e. absurd (false≢true (c.in_ok-letters.ensures.want e))) kit told
+      (c.push_all.ensures.keeps s.posts viewed.posts),
+  search rules,
+)

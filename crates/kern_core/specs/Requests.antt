@@ -1,0 +1,230 @@
+-- What each request is answered with, and what it makes of a kernel (Jupyter messaging, "Messages on the
+-- shell channel" and the sections that follow it).
+use Rattle.std.specs.Prelude.{ℕ, nat_lt, nat_le, List, [], ◌∷◌, ◌++◌, length, Bool, true, false, ◌&&◌, Option}
+use Rattle.std.specs.Prelude.{Some, None, option_to_list, Result, Ok, Err, codes, if◌then◌else◌}
+use Rattle.jup_wire.specs.declared.channel.Channel.TheVariants.{Iopub}
+use Rattle.asm_syntax.specs.declared.fault.FaultKind.{FaultKind}
+use Rattle.asm_syntax.specs.declared.fault.FaultKind.TheVariants.{Conditional}
+use Rattle.asm_syntax.specs.Outcome.{CellFault}
+use Rattle.asm_text.specs.Statements.{statements_of}
+use Rattle.i80_devs.specs.Past.{Typed}
+use Rattle.lab_core.specs.declared.fault.EventFault.{EventFault}
+use Rattle.lab_core.specs.Board.{Board}
+use Rattle.lab_core.specs.Events.{reset, with_operation}
+use Rattle.dap_talk.specs.declared.command.DapCommand.{DapCommand}
+use Rattle.dap_talk.specs.declared.command.DapCommand.TheVariants.{SetBreakpoints, Disassemble, BoardReset}
+use Rattle.dap_talk.specs.declared.command.DapRequest.{DapRequest}
+use Rattle.dap_talk.specs.Table.{name_of, spelled}
+use Rattle.dap_answers.specs.declared.answer.Body.{Body}
+use Rattle.dap_answers.specs.declared.answer.Event.{Event}
+use Rattle.dap_answers.specs.declared.answer.Outcome.{Outcome}
+use Rattle.dap_answers.specs.declared.answer.Outcome.TheVariants.{Success, Refused}
+use Rattle.dap_answers.specs.declared.answer.Response.{Response}
+use Rattle.kern_debug.specs.Commands.{performed}
+use Rattle.kern_debug.specs.Names.{refusal_name, event_after}
+use Rattle.kern_request.specs.declared.request.RequestBody.{RequestBody}
+use Rattle.kern_request.specs.declared.request.RequestBody.TheVariants as body
+use Rattle.kern_request.specs.declared.request.ExecuteRequest.{ExecuteRequest}
+use Rattle.kern_request.specs.declared.request.NeedyRequest.{NeedyRequest}
+use Rattle.kern_request.specs.declared.request.NeedyRequest.TheVariants as needy
+use Rattle.kern_request.specs.declared.request.Request.{Request}
+use Rattle.kern_peers.specs.declared.peer.Peer.{Peer}
+use Rattle.kern_peers.specs.Connections.{Connections, is_on}
+use Rattle.kern_post.specs.declared.content.Cause.{Cause}
+use Rattle.kern_post.specs.declared.content.Cause.TheVariants as cause
+use Rattle.kern_post.specs.declared.content.Completeness.{Completeness}
+use Rattle.kern_post.specs.declared.content.Completeness.TheVariants as completeness
+use Rattle.kern_post.specs.declared.content.Content.{Content}
+use Rattle.kern_post.specs.declared.content.Content.TheVariants as content
+use Rattle.kern_post.specs.declared.content.Ending.TheVariants.{Failed}
+use Rattle.kern_post.specs.declared.content.RefusedRequest.TheVariants as bad
+use Rattle.kern_post.specs.declared.post.Letter.{Letter}
+use Rattle.kern_exec.specs.declared.execution.Current.{Current}
+use Rattle.kern_exec.specs.declared.ends.EndKit.{EndKit}
+use Rattle.kern_exec.specs.Kits.{end_kit_of}
+use Rattle.kern_exec.specs.Letters.{published, replied, enclosed}
+use Rattle.kern_exec.specs.Executions.{Work, execution_of, queued, ended}
+use Rattle.kern_exec.specs.Ends.{error_letters, end_letters}
+use Rattle.kern_exec.specs.Boards.{is_run, interrupted}
+use Rattle.kern_core.specs.declared.call.Reply.TheVariants.{Arrived}
+use Rattle.kern_core.specs.declared.fault.KernelFault.TheVariants.{NoConnection}
+use Rattle.kern_core.specs.States.{KernelState, Turn, refused, quiet, posting}
+use Rattle.kern_core.specs.Connections.{with_peer}
+
+-- ---- one reply between busy and idle
+
+-- a text is incomplete where its first fault, and so its only one, is that an ENDIF is missing
+abbrev pub completeness_by : FaultKind → Completeness
+completeness_by (Conditional true) = completeness.Incomplete
+completeness_by _ = completeness.Invalid
+
+abbrev pub completeness_of : {A : Type 0} → Result A CellFault → Completeness
+completeness_of (Ok statements) = completeness.Complete
+completeness_of (Err (line, column, kind)) = completeness_by kind
+
+-- what is answered by one reply that neither asks the board nor changes anything
+abbrev pub plain_reply : ℕ → RequestBody → Option Content
+plain_reply count body.KernelInfo = Some content.KernelInfoReply
+plain_reply count (body.IsComplete code) =
+    Some (content.IsCompleteReply (completeness_of (statements_of code)))
+plain_reply count (body.Complete cursor_pos) = Some (content.CompleteReply cursor_pos)
+plain_reply count body.Inspect = Some content.InspectReply
+plain_reply count body.History = Some content.HistoryReply
+plain_reply count body.CommInfo = Some content.CommInfoReply
+plain_reply count (body.BadDebug response) = Some (content.DebugReply response)
+plain_reply count (body.BadContent needy.Execute) = Some (content.ExecuteReply count (Failed cause.BadContent))
+plain_reply count (body.BadContent needy.IsComplete) = Some (content.BadContentReply bad.IsComplete)
+plain_reply count (body.BadContent needy.Complete) = Some (content.BadContentReply bad.Complete)
+plain_reply count (body.BadContent needy.Shutdown) = Some (content.BadContentReply bad.Shutdown)
+plain_reply count _ = None
+
+abbrev pub reply_to : ℕ → Request → Content → Letter
+reply_to n r c = replied n r.identities r.header c
+
+abbrev pub replying : ℕ → Request → Content → ℕ → KernelState → Turn
+replying n r c unix_seconds s = posting Arrived unix_seconds (enclosed s.connections r.header (reply_to n r c ∷ [])) s
+
+-- ---- executions
+
+-- the error, where the request isn't silent, and the reply
+abbrev pub full_letters : ℕ → Request → Bool → Connections → ℕ → List Letter
+full_letters n r is_silent connections count =
+    error_letters is_silent connections r.header (Failed cause.QueueFull) ++
+    reply_to n r (content.ExecuteReply count (Failed cause.QueueFull)) ∷ []
+
+abbrev pub queue_full : ℕ → Request → ExecuteRequest → ℕ → KernelState → Turn
+queue_full n r x unix_seconds s = posting Arrived unix_seconds
+    (enclosed s.connections r.header (full_letters n r x.is_silent s.connections s.work.count)) s
+
+abbrev pub executing : ℕ → List ℕ → Request → ExecuteRequest → ℕ → KernelState → Turn
+executing n identity r x unix_seconds s =
+    if nat_lt (length s.work.queue) 64
+    then quiet Arrived (record s { work = queued (execution_of n identity r x) s.work })
+    else queue_full n r x unix_seconds s
+
+-- ---- a run that is ended from outside
+
+abbrev pub end_of : Option Current → KernelState → Cause → List Letter
+end_of None s c = []
+end_of (Some current) s c = end_letters s.connections current (Failed c)
+
+-- what the execution posts whose run is ended, if there is a run
+abbrev pub cut_letters : Cause → KernelState → List Letter
+cut_letters c s = if is_run s.board.run then end_of s.work.current s c else []
+
+-- the envelopes for that
+abbrev pub kit_of : Option Current → KernelState → Option EndKit
+kit_of None s = None
+kit_of (Some current) s = Some (end_kit_of s.connections current)
+
+abbrev pub cut_kit_of : KernelState → Option EndKit
+cut_kit_of s = if is_run s.board.run then kit_of s.work.current s else None
+
+abbrev pub cut_work : KernelState → Work
+cut_work s = if is_run s.board.run then ended s.work else s.work
+
+abbrev pub with_board : Board → Work → KernelState → KernelState
+with_board b w s = record s { board = b; work = w }
+
+abbrev pub interrupting : ℕ → Request → ℕ → KernelState → Turn
+interrupting n r unix_seconds s = posting Arrived unix_seconds
+    (enclosed s.connections r.header (cut_letters cause.Interrupted s ++ reply_to n r content.InterruptReply ∷ []))
+    (with_board (interrupted s.board) (cut_work s) s)
+
+abbrev pub shut : KernelState → KernelState
+shut s = record s { is_shut = true }
+
+-- with a restart the board is reset
+abbrev pub shutting : ℕ → Request → Bool → ℕ → KernelState → Turn
+shutting n r false unix_seconds s = posting Arrived unix_seconds
+    (enclosed s.connections r.header (reply_to n r (content.ShutdownReply false) ∷ [])) (shut s)
+shutting n r true unix_seconds s = posting Arrived unix_seconds
+    (enclosed s.connections r.header (cut_letters cause.Reset s ++ reply_to n r (content.ShutdownReply true) ∷ []))
+    (shut (with_board (reset s.board) (cut_work s) s))
+
+-- ---- debug requests
+
+abbrev pub response_to : DapRequest → Outcome → Response
+response_to d outcome =
+    record { request_seq = d.seq; command = spelled (name_of d.command); outcome = outcome }
+
+abbrev pub debug_reply : ℕ → Request → DapRequest → Outcome → Letter
+debug_reply n r d outcome = reply_to n r (content.DebugReply (response_to d outcome))
+
+-- only a reset of the board ends a run
+abbrev pub is_reset : DapCommand → Bool
+is_reset BoardReset = true
+is_reset _ = false
+
+abbrev pub ended_by : DapCommand → KernelState → List Letter
+ended_by command s = if is_reset command then cut_letters cause.Reset s else []
+
+abbrev pub work_by : DapCommand → KernelState → Work
+work_by command s = if is_reset command then cut_work s else s.work
+
+-- what all are told when it was done
+abbrev pub after_letter : Option Event → Request → KernelState → Option Letter
+after_letter None r s = None
+after_letter (Some e) r s = Some (published s.connections r.header (content.DebugEvent e))
+
+abbrev pub refusing : ℕ → Request → DapRequest → List ℕ → ℕ → KernelState → Turn
+refusing n r d message unix_seconds s = posting Arrived unix_seconds
+    (enclosed s.connections r.header (debug_reply n r d (Refused message) ∷ [])) s
+
+abbrev pub answering : ℕ → Request → DapRequest → ℕ → KernelState → Result (Body × Board) EventFault → Turn
+answering n r d unix_seconds s (Ok (body, b)) = posting Arrived unix_seconds
+    (enclosed s.connections r.header
+    (ended_by d.command s ++ debug_reply n r d (Success body)
+    ∷ option_to_list (after_letter (event_after d.command) r s)))
+    (with_board b (work_by d.command s) s)
+answering n r d unix_seconds s (Err fault) = refusing n r d (refusal_name fault) unix_seconds s
+
+abbrev pub performing : ℕ → Request → DapRequest → ℕ → KernelState → Turn
+performing n r d unix_seconds s = answering n r d unix_seconds s (performed d.command s.board)
+
+-- no request that was read is out of these bounds
+abbrev pub is_bounded : DapCommand → Bool
+is_bounded (SetBreakpoints path lines) = nat_le (length lines) 256
+is_bounded (Disassemble address offset instruction_offset count) = nat_le 1 count && nat_le count 256
+is_bounded _ = true
+
+abbrev pub debugging : ℕ → Request → DapRequest → ℕ → KernelState → Turn
+debugging n r d unix_seconds s =
+    if is_bounded d.command then performing n r d unix_seconds s else refusing n r d (codes "Arguments") unix_seconds s
+
+-- ---- the others
+
+abbrev pub typing : List ℕ → KernelState → Turn
+typing bytes s = quiet Arrived (record s { board = with_operation (Typed bytes) s.board })
+
+abbrev pub closing : Request → List ℕ → ℕ → KernelState → Turn
+closing r comm_id unix_seconds s = posting Arrived unix_seconds
+    (enclosed s.connections r.header (published s.connections r.header (content.CommClose comm_id) ∷ [])) s
+
+-- no more than busy and idle
+abbrev pub passing : Request → ℕ → KernelState → Turn
+passing r unix_seconds s = posting Arrived unix_seconds (enclosed s.connections r.header []) s
+
+-- an input_reply that isn't as needed is passed over
+abbrev pub unanswered : Request → NeedyRequest → ℕ → KernelState → Turn
+unanswered r needy.InputReply unix_seconds s = quiet Arrived s
+unanswered r _ unix_seconds s = passing r unix_seconds s
+
+abbrev pub other : ℕ → List ℕ → Request → RequestBody → ℕ → KernelState → Turn
+other n identity r (body.Execute x) unix_seconds s = executing n identity r x unix_seconds s
+other n identity r (body.CommOpen comm_id) unix_seconds s = closing r comm_id unix_seconds s
+other n identity r (body.Shutdown restarts) unix_seconds s = shutting n r restarts unix_seconds s
+other n identity r body.Interrupt unix_seconds s = interrupting n r unix_seconds s
+other n identity r (body.Debug d) unix_seconds s = debugging n r d unix_seconds s
+other n identity r (body.InputReply typed) unix_seconds s = typing typed s
+other n identity r (body.BadContent lacking) unix_seconds s = unanswered r lacking unix_seconds s
+other n identity r _ unix_seconds s = passing r unix_seconds s
+
+abbrev pub by_reply : Option Content → ℕ → List ℕ → Request → ℕ → KernelState → Turn
+by_reply (Some c) n identity r unix_seconds s = replying n r c unix_seconds s
+by_reply None n identity r unix_seconds s = other n identity r r.body unix_seconds s
+
+abbrev pub arriving : ℕ → Request → ℕ → KernelState → Turn
+arriving n r unix_seconds s = with_peer n s (λ p.
+    if is_on Iopub p then refused NoConnection s else
+    by_reply (plain_reply s.work.count r.body) n p.identity r unix_seconds s)

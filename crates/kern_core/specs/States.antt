@@ -1,0 +1,42 @@
+-- A kernel without its journal, and what a call makes of it.
+use Rattle.std.specs.Prelude.{ℕ, List, [], Bool, false, Result, Ok, Err}
+use Rattle.lab_core.specs.Board.{Board, opening}
+use Rattle.kern_post.specs.declared.post.Letter.{Letter}
+use Rattle.kern_post.specs.declared.post.Post.{Post}
+use Rattle.kern_post.specs.Posts.{posted}
+use Rattle.kern_peers.specs.Connections.{Connections, no_connections}
+use Rattle.kern_exec.specs.Executions.{Work, nothing}
+use Rattle.kern_core.specs.declared.call.Reply.{Reply}
+use Rattle.kern_core.specs.declared.fault.KernelFault.{KernelFault}
+
+pub record KernelState : Type 0 where
+  pub board : Board
+  pub connections : Connections
+  pub work : Work
+  -- all that were made
+  pub posts : List Post
+  -- a shutdown came
+  pub is_shut : Bool
+
+abbrev pub opened : KernelState
+opened = record { board = opening; connections = no_connections; work = nothing; posts = []; is_shut = false }
+
+-- what a call gives: the reply, the kernel with its posts so far, and the letters that it posts at this
+-- moment
+pub record Turn : Type 0 where
+  pub answer : Result Reply KernelFault
+  pub state : KernelState
+  pub unix_seconds : ℕ
+  pub letters : List Letter
+
+abbrev pub after : Turn → KernelState
+after t = record t.state { posts = posted t.unix_seconds t.letters t.state.posts }
+
+abbrev pub refused : KernelFault → KernelState → Turn
+refused fault s = record { answer = Err fault; state = s; unix_seconds = 0; letters = [] }
+
+abbrev pub quiet : Reply → KernelState → Turn
+quiet reply s = record { answer = Ok reply; state = s; unix_seconds = 0; letters = [] }
+
+abbrev pub posting : Reply → ℕ → List Letter → KernelState → Turn
+posting reply unix_seconds letters s = record { answer = Ok reply; state = s; unix_seconds = unix_seconds; letters = letters }

@@ -1,0 +1,107 @@
+//! A kernel without its journal.
+ghost use Rattle.std.specs.Prelude.{◌≡◌, ◌≤◌, ◌+◌, List, length, IfOk};
+ghost use Rattle.kern_post.specs.declared.post.Letter.{Letter};
+ghost use Rattle.kern_post.specs.declared.post.Post.{Post};
+ghost use Rattle.kern_post.specs.Posts.{Keeps, posted};
+ghost use Rattle.kern_core.specs.States.{opened};
+ghost use Rattle.kern_core.specs.Turns.{turn};
+ghost use Rattle.kern_core.specs.Stands.{StandsFor, Stands, Takes, HasRoom};
+
+mod requests;
+mod connections;
+mod debug;
+mod slices;
+
+use crate::call::{Arrival, Call, Reply, Subscription};
+use crate::fault::KernelFault;
+use kern_exec::executions::Executions;
+use kern_peers::peers::Peers;
+use kern_post::store::Store;
+use lab_core::lab::Lab;
+use std::alloc::{AllocError, Global};
+use std::marker::Model;
+
+/// A kernel without its journal: the board, who is there, the executions, the posts that are kept.
+#[derive(Drop)]
+pub struct KernelState {
+    lab: Lab,
+    peers: Peers,
+    executions: Executions,
+    store: Store,
+    is_shut: bool,
+    alloc: Global,
+}
+
+impl Model for KernelState {
+    ghost use Rattle.kern_core.specs.Stands.{KernelFields};
+
+    ghost Value = { KernelFields };
+
+    ghost view = { λ s. record {
+      lab = s.lab;
+      connections = s.peers;
+      work = s.executions;
+      store = s.store;
+      is_shut = s.is_shut;
+    } };
+}
+
+impl KernelState {
+    /// A kernel on which no call was made, with room for all posts that are kept and all executions
+    /// that may wait.
+    pub fn new(alloc: Global) -> Result<KernelState, AllocError>
+        ensures stands { IfOk result (λ state. StandsFor state opened) }
+        ensures room { IfOk result (λ state. (state.store.made ≡ 0)
+            × ((state.connections.joined ≡ 0) × (state.work.count ≡ 0))) }
+    {
+        let store = Store::new(alloc)?;
+        let executions = Executions::new(alloc)?;
+        match Lab::new(alloc) {
+            Ok(lab) => Ok(KernelState {
+                lab,
+                peers: Peers::new(alloc),
+                executions,
+                store,
+                is_shut: false,
+                alloc,
+            }),
+            Err(_) => {
+                drop(executions);
+                Err(AllocError)
+            }
+        }
+    }
+
+    /// One call.
+    #[tactic(auto, unfolding(crate::specs::Turns::turn))]
+    pub fn make(&mut self, call: &Call) -> Result<Reply, KernelFault>
+        requires room { HasRoom self.old }
+        requires stands { Stands self.old }
+        ensures { Takes (turn call.now) self.old result self.new }
+    {
+        match call {
+            Call::Join { channel, identity } => self.join(*channel, identity.get()),
+            Call::Leave { connection } => self.leave(*connection),
+            Call::Subscribe {
+                connection,
+                subscription,
+            } => {
+                let Subscription {
+                    wants,
+                    prefix,
+                    unix_seconds,
+                } = subscription.get();
+                self.subscribe(*connection, *wants, prefix, *unix_seconds)
+            }
+            Call::Arrive {
+                connection,
+                arrival,
+            } => {
+                let Arrival { request, unix_seconds } = arrival.get();
+                self.arrive(*connection, request, *unix_seconds)
+            }
+            Call::Slice { unix_seconds } => self.slice(*unix_seconds),
+            Call::Fetch { connection, from } => self.fetch(*connection, *from),
+        }
+    }
+}

@@ -1,0 +1,273 @@
+//! Requests of a debugger.
+ghost use Rattle.std.specs.Prelude.{◌≡◌, ◌<◌, ◌≤◌, ◌+◌, ◌++◌, length, true, false, option_to_list, None, Err};
+ghost use Rattle.std.specs.Prelude.{IfOk, IsOk, IsErr, IsTrue, codes};
+ghost use Rattle.dap_talk.specs.Table.{IsBounded};
+ghost use Rattle.kern_debug.specs.Names.{event_after};
+ghost use Rattle.kern_core.specs.Requests.{is_reset, after_letter, is_bounded, refusing, performing, debugging};
+ghost use Rattle.kern_core.specs.Debugging.{IsDebugKit, told_debug, told_by};
+ghost use Rattle.dap_answers.specs.declared.answer.Outcome.TheVariants.{Refused};
+ghost use Rattle.kern_debug.specs.Names.{refusal_name};
+ghost use Rattle.kern_core.specs.States.{KernelState as KernelStateOf};
+ghost use Rattle.kern_core.specs.Stands.{StandsFor, Takes, HasRoom};
+
+use crate::call::Reply;
+use crate::fault::KernelFault;
+use crate::state::KernelState;
+use base_text::text::Text;
+use dap_answers::answer::{Body, Outcome, Response};
+use dap_talk::command::{DapCommand, DapRequest};
+use kern_request::request::Request;
+use kern_debug::names::{event_after, outcome_of};
+use kern_debug::perform::perform;
+use kern_exec::letters::{BusyIdle, address, enclose, publish};
+use kern_post::content::{Cause, Content};
+use kern_post::letters::Letters;
+use kern_post::post::{Envelope, Letter};
+use lab_core::fault::EventFault;
+use std::alloc::{AllocError, Global};
+
+/// The most lines of a list of breakpoints.
+const MOST_LINES: usize = 256;
+
+/// All that the answer to a debug request needs, made before the board is asked.
+#[derive(Drop)]
+pub struct DebugKit {
+    pub enclosed: BusyIdle,
+    pub envelope: Envelope,
+    pub request_seq: u32,
+    pub command: Text,
+}
+
+fn is_reset(command: &DapCommand) -> bool
+    ensures { result ≡ is_reset command.now }
+{
+    matches!(command, DapCommand::BoardReset)
+}
+
+fn is_bounded(command: &DapCommand) -> bool
+    ensures bounded { result ≡ is_bounded command.now }
+    ensures fits { IsTrue result → IsBounded command.now }
+{
+    match command {
+        DapCommand::SetBreakpoints { lines, .. } => lines.len() <= MOST_LINES,
+        DapCommand::Disassemble {
+            instruction_count,
+            ..
+        } => 1 <= *instruction_count && *instruction_count <= 256,
+        _ => true,
+    }
+}
+
+fn push_some(letters: &mut Letters, letter: Option<Letter>)
+    requires { length letters.old < 8 }
+    ensures said { letters.new ≡ letters.old ++ option_to_list letter }
+    ensures few { length letters.new ≤ length letters.old + 1 }
+{
+    match letter {
+        None => {}
+        Some(letter) => letters.push(letter),
+    }
+}
+
+// Between busy and idle the reply with this outcome, and what all are told after it.
+fn debug_letters(kit: DebugKit, outcome: Outcome, after: Option<Letter>) -> Letters
+    requires { length kit.enclosed.letters ≤ 1 }
+    ensures { result ≡ told_debug kit outcome after }
+{
+    let DebugKit {
+        enclosed,
+        envelope,
+        request_seq,
+        command,
+    } = kit;
+    let BusyIdle { mut letters, idle } = enclosed;
+    letters.push(Letter {
+        envelope,
+        content: Content::DebugReply(Response {
+            request_seq,
+            command,
+            outcome,
+        }),
+    });
+    push_some(&mut letters, after);
+    letters.push(idle);
+    letters
+}
+
+// The same of a refusal; that memory was wanting is none.
+fn refusal_letters(alloc: Global, kit: DebugKit, fault: EventFault) -> Result<Letters, AllocError>
+    requires few { length kit.enclosed.letters ≤ 1 }
+    ensures told { IfOk result (λ letters. letters ≡ told_debug kit (Refused (refusal_name fault)) None) }
+    ensures want { fault ≡ EventFault.OutOfMemory → IsErr result }
+{
+    if matches!(fault, EventFault::OutOfMemory) {
+        drop(kit);
+        return Err(AllocError);
+    }
+    match outcome_of(alloc, fault) {
+        Ok(outcome) => Ok(debug_letters(kit, outcome, None)),
+        Err(_) => {
+            drop(kit);
+            Err(AllocError)
+        }
+    }
+}
+
+// The letters that tell what became of a command. What was done is told without memory.
+fn letters_by(
+    alloc: Global,
+    kit: DebugKit,
+    performed: Result<Body, EventFault>,
+    after: Option<Letter>,
+) -> Result<Letters, AllocError>
+    requires few { length kit.enclosed.letters ≤ 1 }
+    ensures told { IfOk result (λ letters. letters ≡ told_by kit performed after) }
+    ensures done { IsOk performed → IsOk result }
+    ensures want { performed ≡ Err EventFault.OutOfMemory → IsErr result }
+{
+    match performed {
+        Ok(body) => Ok(debug_letters(kit, Outcome::Success(body), after)),
+        Err(fault) => {
+            drop(after);
+            refusal_letters(alloc, kit, fault)
+        }
+    }
+}
+
+impl KernelState {
+    pub(super) fn debug(
+        &mut self,
+        connection: u32,
+        request: &Request,
+        debug: &DapRequest,
+        unix_seconds: u64,
+    ) -> Result<Reply, KernelFault>
+        requires { HasRoom self.old }
+        ensures { Takes (debugging connection request.now debug.now unix_seconds) self.old result self.new }
+    {
+        if !is_bounded(&debug.command) {
+            return self.refuse(connection, request, debug, unix_seconds);
+        }
+        if is_reset(&debug.command) {
+            return self.reset_by(connection, request, debug, unix_seconds);
+        }
+        self.perform(connection, request, debug, unix_seconds)
+    }
+
+    fn debug_kit(
+        &self,
+        connection: u32,
+        request: &Request,
+        debug: &DapRequest,
+    ) -> Result<DebugKit, AllocError>
+        ensures { IfOk result (IsDebugKit self.now.connections connection request.now debug.now) }
+    {
+        let command = Text::copy_of(self.alloc, debug.command.name().as_str())?;
+        let envelope = address(self.alloc, connection, &request.identities, &request.header)?;
+        let enclosed = enclose(self.alloc, &self.peers, &request.header)?;
+        Ok(DebugKit {
+            enclosed,
+            envelope,
+            request_seq: debug.seq,
+            command,
+        })
+    }
+
+    fn after_letter(
+        &self,
+        request: &Request,
+        command: &DapCommand,
+    ) -> Result<Option<Letter>, AllocError>
+        ensures { (s : KernelStateOf) → StandsFor self.now s → IfOk result (λ letter.
+            letter ≡ after_letter (event_after command.now) request.now s) }
+    {
+        match event_after(command) {
+            None => Ok(None),
+            Some(event) => {
+                let content = Content::DebugEvent(event);
+                let letter = publish(self.alloc, &self.peers, &request.header, content)?;
+                Ok(Some(letter))
+            }
+        }
+    }
+
+    fn prepare(
+        &self,
+        connection: u32,
+        request: &Request,
+        debug: &DapRequest,
+    ) -> Result<(DebugKit, Option<Letter>), AllocError>
+        ensures kit { IfOk result (λ made. IsDebugKit self.now.connections connection request.now debug.now made.0) }
+        ensures after { (s : KernelStateOf) → StandsFor self.now s → IfOk result (λ made.
+            made.1 ≡ after_letter (event_after debug.now.command) request.now s) }
+    {
+        let after = self.after_letter(request, &debug.command)?;
+        match self.debug_kit(connection, request, debug) {
+            Ok(kit) => Ok((kit, after)),
+            Err(_) => {
+                drop(after);
+                Err(AllocError)
+            }
+        }
+    }
+
+    fn refuse(
+        &mut self,
+        connection: u32,
+        request: &Request,
+        debug: &DapRequest,
+        unix_seconds: u64,
+    ) -> Result<Reply, KernelFault>
+        requires { HasRoom self.old }
+        ensures { Takes (refusing connection request.now debug.now (codes "Arguments") unix_seconds)
+            self.old result self.new }
+    {
+        let message = Text::copy_of(self.alloc, "Arguments")?;
+        let kit = self.debug_kit(connection, request, debug)?;
+        let letters = debug_letters(kit, Outcome::Refused(message), None);
+        self.store.push_all(unix_seconds, letters);
+        Ok(Reply::Arrived)
+    }
+
+    // The board is reset by a debugger.
+    fn reset_by(
+        &mut self,
+        connection: u32,
+        request: &Request,
+        debug: &DapRequest,
+        unix_seconds: u64,
+    ) -> Result<Reply, KernelFault>
+        requires room { HasRoom self.old }
+        requires reset { is_reset debug.now.command ≡ true }
+        ensures { Takes (performing connection request.now debug.now unix_seconds) self.old result self.new }
+    {
+        let command = Text::copy_of(self.alloc, debug.command.name().as_str())?;
+        let content = Content::DebugReply(Response {
+            request_seq: debug.seq,
+            command,
+            outcome: Outcome::Success(Body::Empty),
+        });
+        let letters = self.cut_letters(connection, request, Cause::Reset, content)?;
+        self.reset_board(letters, unix_seconds)?;
+        Ok(Reply::Arrived)
+    }
+
+    fn perform(
+        &mut self,
+        connection: u32,
+        request: &Request,
+        debug: &DapRequest,
+        unix_seconds: u64,
+    ) -> Result<Reply, KernelFault>
+        requires room { HasRoom self.old }
+        requires bounded { IsBounded debug.now.command }
+        requires other { is_reset debug.now.command ≡ false }
+        ensures { Takes (performing connection request.now debug.now unix_seconds) self.old result self.new }
+    {
+        let (kit, after) = self.prepare(connection, request, debug)?;
+        let result = perform(self.alloc, &mut self.lab, &debug.command);
+        let letters = letters_by(self.alloc, kit, result, after)?;
+        self.store.push_all(unix_seconds, letters);
+        Ok(Reply::Arrived)
+    }
+}

@@ -1,0 +1,13 @@
+-- Debug requests that are refused.
+use Rattle.std.proofs.Common.{◌≡◌, ◌≢◌, Err, refl}
+use Rattle.dap_talk.specs.declared.fault.DapFault.{DapFault}
+use Rattle.dap_talk.specs.declared.fault.DapFault.TheVariants as fault
+use Rattle.dap_talk.specs.Fault.{refused}
+use Rattle.dap_talk.specs.Reading.{Reading, Answers}
+use Rattle.kern_request.specs.declared.request.RequestBody.TheVariants.{BadDebug}
+use Rattle.kern_request.specs.Requests.{debug_body}
+
+pub bad_debug : (reading : Reading) (f : DapFault) → f ≢ fault.OutOfMemory → Answers reading (Err f)
+    → debug_body reading ≡ BadDebug (refused f)
+bad_debug reading fault.OutOfMemory other answers = absurd (other refl)
+bad_debug reading _ other answers = rw answers refl

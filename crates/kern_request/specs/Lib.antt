@@ -1,0 +1,2 @@
+pub mod MessageTypes
+pub mod Requests

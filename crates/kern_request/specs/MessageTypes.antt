@@ -1,0 +1,38 @@
+-- The types of requests, and the channels on which each is answered.
+use Rattle.std.specs.Prelude.{ℕ, List, [], ◌∷◌, Option, find, codes}
+use Rattle.std.specs.Str.{bytes_eq}
+use Rattle.jup_wire.specs.declared.channel.Channel.{Channel}
+use Rattle.jup_wire.specs.declared.channel.Channel.TheVariants.{Shell, Control, Stdin, Iopub}
+use Rattle.kern_request.specs.declared.message_type.MessageType.{MessageType}
+use Rattle.kern_request.specs.declared.message_type.MessageType.TheVariants as message
+
+abbrev pub spelled : MessageType → List ℕ
+spelled message.KernelInfo = codes "kernel_info_request"
+spelled message.Execute = codes "execute_request"
+spelled message.IsComplete = codes "is_complete_request"
+spelled message.Complete = codes "complete_request"
+spelled message.Inspect = codes "inspect_request"
+spelled message.History = codes "history_request"
+spelled message.CommInfo = codes "comm_info_request"
+spelled message.CommOpen = codes "comm_open"
+spelled message.Shutdown = codes "shutdown_request"
+spelled message.Interrupt = codes "interrupt_request"
+spelled message.Debug = codes "debug_request"
+spelled message.InputReply = codes "input_reply"
+
+-- what is answered on a channel
+abbrev pub types_on : Channel → List MessageType
+types_on Shell =
+    message.KernelInfo ∷ message.Execute ∷ message.IsComplete ∷ message.Complete ∷ message.Inspect ∷
+    message.History ∷ message.CommInfo ∷ message.CommOpen ∷ message.Shutdown ∷ message.Interrupt ∷ []
+types_on Control = message.KernelInfo ∷ message.Shutdown ∷ message.Interrupt ∷ message.Debug ∷ []
+types_on Stdin = message.InputReply ∷ []
+types_on Iopub = []
+
+-- the first of these that is spelled so
+abbrev pub first_named : List MessageType → List ℕ → Option MessageType
+first_named types t = find (λ message_type. bytes_eq (spelled message_type) t) types
+
+-- the type that is spelled so, if the channel has it
+abbrev pub named : Channel → List ℕ → Option MessageType
+named channel t = first_named (types_on channel) t

@@ -1,0 +1,172 @@
+//! From a message to what it asks for.
+ghost use Rattle.std.specs.Prelude.{◌≡◌, IfOk};
+ghost use Rattle.serde_json.specs.View.{view};
+ghost use Rattle.dap_talk.specs.Reading.{reading};
+ghost use Rattle.kern_request.specs.declared.request.NeedyRequest.{NeedyRequest};
+ghost use Rattle.kern_request.specs.Requests.{
+  needed,
+  execute_body,
+  is_complete_body,
+  complete_body,
+  comm_open_body,
+  shutdown_body,
+  input_reply_body,
+  debug_body,
+  body_by_type,
+  body_of,
+  request_of,
+};
+
+use crate::request::{RequestBody, ExecuteRequest, NeedyRequest, Request};
+use crate::content::{truth_or, whole_at};
+use crate::message_type::MessageType;
+use base_latin::latin::to_bytes;
+use base_text::text::Text;
+use dap_talk::fault::DapFault;
+use dap_talk::members::text_at;
+use dap_talk::reading::read_request;
+use jup_wire::channel::Channel;
+use jup_wire::message::{Message, Parts};
+use serde_json::Value;
+use std::alloc::{AllocError, Global};
+
+fn execute(alloc: Global, content: &Value) -> Result<RequestBody, AllocError>
+    ensures { IfOk result (λ body. body ≡ needed NeedyRequest.Execute (execute_body (view content.now))) }
+{
+    let Some(code) = text_at(content, "code") else {
+        return Ok(RequestBody::BadContent(NeedyRequest::Execute));
+    };
+    let Some(is_silent) = truth_or(content, "silent", false) else {
+        return Ok(RequestBody::BadContent(NeedyRequest::Execute));
+    };
+    let Some(stores_history) = truth_or(content, "store_history", true) else {
+        return Ok(RequestBody::BadContent(NeedyRequest::Execute));
+    };
+    let Some(allows_stdin) = truth_or(content, "allow_stdin", true) else {
+        return Ok(RequestBody::BadContent(NeedyRequest::Execute));
+    };
+    let code = Text::copy_of(alloc, code)?;
+    Ok(RequestBody::Execute(ExecuteRequest {
+        code,
+        is_silent,
+        stores_history,
+        allows_stdin,
+    }))
+}
+
+fn is_complete(alloc: Global, content: &Value) -> Result<RequestBody, AllocError>
+    ensures { IfOk result
+        (λ body. body ≡ needed NeedyRequest.IsComplete (is_complete_body (view content.now))) }
+{
+    let Some(code) = text_at(content, "code") else {
+        return Ok(RequestBody::BadContent(NeedyRequest::IsComplete));
+    };
+    let code = Text::copy_of(alloc, code)?;
+    Ok(RequestBody::IsComplete { code })
+}
+
+fn complete(content: &Value) -> RequestBody
+    ensures { result ≡ needed NeedyRequest.Complete (complete_body (view content.now)) }
+{
+    match whole_at(content, "cursor_pos") {
+        Some(cursor_pos) => RequestBody::Complete { cursor_pos },
+        None => RequestBody::BadContent(NeedyRequest::Complete),
+    }
+}
+
+fn comm_open(alloc: Global, content: &Value) -> Result<RequestBody, AllocError>
+    ensures { IfOk result
+        (λ body. body ≡ needed NeedyRequest.CommOpen (comm_open_body (view content.now))) }
+{
+    let Some(comm_id) = text_at(content, "comm_id") else {
+        return Ok(RequestBody::BadContent(NeedyRequest::CommOpen));
+    };
+    let comm_id = Text::copy_of(alloc, comm_id)?;
+    Ok(RequestBody::CommOpen { comm_id })
+}
+
+fn shutdown(content: &Value) -> RequestBody
+    ensures { result ≡ needed NeedyRequest.Shutdown (shutdown_body (view content.now)) }
+{
+    match truth_or(content, "restart", false) {
+        Some(restarts) => RequestBody::Shutdown { restarts },
+        None => RequestBody::BadContent(NeedyRequest::Shutdown),
+    }
+}
+
+fn input_reply(alloc: Global, content: &Value) -> Result<RequestBody, AllocError>
+    ensures { IfOk result
+        (λ body. body ≡ needed NeedyRequest.InputReply (input_reply_body (view content.now))) }
+{
+    let Some(value) = text_at(content, "value") else {
+        return Ok(RequestBody::BadContent(NeedyRequest::InputReply));
+    };
+    let mut typed = to_bytes(alloc, value)?;
+    typed.push(b'\n')?;
+    Ok(RequestBody::InputReply { typed })
+}
+
+#[tactic(auto, using(crate::proofs::DebugLemmas::bad_debug))]
+fn debug(alloc: Global, content: &Value) -> Result<RequestBody, AllocError>
+    ensures { IfOk result (λ body. body ≡ debug_body (reading (view content.now))) }
+{
+    match read_request(alloc, content) {
+        Ok(request) => Ok(RequestBody::Debug(request)),
+        Err(DapFault::OutOfMemory) => Err(AllocError),
+        Err(fault) => {
+            let response = fault.to_response(alloc)?;
+            Ok(RequestBody::BadDebug(response))
+        }
+    }
+}
+
+fn body_by_type(alloc: Global, message_type: MessageType, content: &Value) -> Result<RequestBody, AllocError>
+    ensures { IfOk result (λ body. body ≡ body_by_type message_type (view content.now)) }
+{
+    match message_type {
+        MessageType::KernelInfo => Ok(RequestBody::KernelInfo),
+        MessageType::Execute => execute(alloc, content),
+        MessageType::IsComplete => is_complete(alloc, content),
+        MessageType::Complete => Ok(complete(content)),
+        MessageType::Inspect => Ok(RequestBody::Inspect),
+        MessageType::History => Ok(RequestBody::History),
+        MessageType::CommInfo => Ok(RequestBody::CommInfo),
+        MessageType::CommOpen => comm_open(alloc, content),
+        MessageType::Shutdown => Ok(shutdown(content)),
+        MessageType::Interrupt => Ok(RequestBody::Interrupt),
+        MessageType::Debug => debug(alloc, content),
+        MessageType::InputReply => input_reply(alloc, content),
+    }
+}
+
+/// What a message asks for on its channel (Jupyter messaging 5.4, "Messages on the shell channel" and
+/// the sections that follow it). The content is looked at only as far as the request needs it; then
+/// it must be an object.
+#[tactic(auto, unfolding(crate::specs::Requests::body_of))]
+pub fn body_of(alloc: Global, channel: Channel, message: &Message) -> Result<RequestBody, AllocError>
+    ensures { IfOk result
+        (λ body. body ≡ body_of channel message.now.header.msg_type (view message.now.content)) }
+{
+    match MessageType::named(channel, message.header.msg_type.as_str()) {
+        Some(message_type) => body_by_type(alloc, message_type, &message.content),
+        None => Ok(RequestBody::Unknown),
+    }
+}
+
+/// The request of a message: what it asks for, and its identities and header frame, which are moved
+/// out of it.
+pub fn request_of(alloc: Global, channel: Channel, message: Message) -> Result<Request, AllocError>
+    ensures { IfOk result (λ request. request ≡ request_of channel message) }
+{
+    let body = body_of(alloc, channel, &message)?;
+    let Parts {
+        identities,
+        header,
+        ..
+    } = message.parts;
+    Ok(Request {
+        body,
+        identities,
+        header,
+    })
+}

@@ -1,7 +1,0 @@
-use Rattle.std.proofs.Common.{take}
-use Rattle.lab_io.specs.HexState.{Reads}
-use Rattle.lab_io.proofs.hex_input.HexInput.feed.Given as goal
-
--- the bytes so far were read
-abbrev pub invariant-loop-byte : goal.invariant-loop-byte
-invariant-loop-byte l = Reads (take l.byte-index l.piece) l.fn.self l.self
