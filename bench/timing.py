@@ -1,6 +1,9 @@
-"""Times the program `bench` from outside, for the scripts beside this file."""
+"""Times programs from outside, for the scripts beside this file, and holds what was measured to its goals."""
+import os
 import subprocess
+import tempfile
 import time
+from contextlib import contextmanager
 from pathlib import Path
 
 TOP = Path(__file__).resolve().parent.parent
@@ -10,6 +13,23 @@ ROUNDS = 5
 
 def build():
     subprocess.run([TOP / "build", "bench"], check=True)
+
+
+class Goals:
+    """What was measured, each as a part of its goal: 1 is the goal, more is better."""
+
+    def __init__(self):
+        self.parts = []
+
+    def at_least(self, figure, goal):
+        self.parts.append(figure / goal)
+
+    def at_most(self, figure, goal):
+        self.parts.append(goal / max(figure, 1e-9))
+
+    def print_ratio(self):
+        """Prints the least part, as a script's last line."""
+        print(f"ratio {min(self.parts):.2f}")
 
 
 def seconds(*words):
@@ -45,3 +65,40 @@ def first_and_last(word, units, count, part):
 def rate(word, size, count, without=None):
     """How many units of a work are done a second."""
     return 1 / unit_seconds(word, size, count, without)
+
+
+# ---- programs that are compared with one another
+
+@contextmanager
+def compiled(source):
+    """A program in C of this folder, compiled by gcc -O2."""
+    with tempfile.TemporaryDirectory() as folder:
+        program = Path(folder) / "plain"
+        subprocess.run(["gcc", "-O2", "-o", program, TOP / "bench" / source], check=True)
+        yield program
+
+
+def processor_seconds(words):
+    """The processor's seconds of one run, in the program itself."""
+    with subprocess.Popen([*map(str, words)], stdout=subprocess.DEVNULL) as process:
+        _, status, usage = os.wait4(process.pid, 0)
+        process.returncode = os.waitstatus_to_exitcode(status)
+    if process.returncode:
+        raise SystemExit(f"{words}: ended with status {process.returncode}")
+    return usage.ru_utime
+
+
+def best_by_turns(commands, rounds):
+    """The processor's seconds of the best run of each command. They run by turns, so that other work on the machine
+    burdens none alone."""
+    best = [float("inf")] * len(commands)
+    for _ in range(rounds):
+        best = [min(least, processor_seconds(words)) for least, words in zip(best, commands)]
+    return best
+
+
+def require_same(*commands):
+    """Ends where the programs don't print the same."""
+    texts = {subprocess.run([*map(str, words)], stdout=subprocess.PIPE, check=True).stdout for words in commands}
+    if len(texts) != 1:
+        raise SystemExit(f"these differ: {commands}")

@@ -1,5 +1,5 @@
-//! Three endless workloads on the machine, which `bench/core` times beside a plain switch interpreter
-//! in C.
+//! Endless workloads on the machine: three that `bench/core` times beside a plain switch interpreter in C, and a jump to itself, as
+//! `bench/kernel` has it in a cell.
 ghost use Rattle.std.specs.Prelude.{◌≤◌};
 
 use crate::slot::Slot;
@@ -26,6 +26,9 @@ static CALLS: [u8; 41] = [
     0xe6, 0x3f, 0x88, 0x17, 0x94, 0xde, 5, 0x27, 0x2f, 0x6f, 0xcd, 0x24, 0, 0x78, 0xc1, 0xc9, 0xb0,
     0x3f, 0xd0, 0x67, 0xc9,
 ];
+
+/// A jump to itself.
+static JUMP: [u8; 3] = [0xc3, 0, 0];
 
 fn loaded(alloc: Global, code: &[u8]) -> Result<Machine, AllocError> {
     let mut machine = Machine::new(alloc)?;
@@ -57,7 +60,8 @@ pub fn work(alloc: Global, name: &str, count: u64) -> Result<Registers> {
         "loop" => LOOP.as_slice(),
         "sort" => SORT.as_slice(),
         "calls" => CALLS.as_slice(),
-        _ => bail!("the workloads are loop, sort and calls"),
+        "jump" => JUMP.as_slice(),
+        _ => bail!("the workloads are loop, sort, calls and jump"),
     };
     Ok(run(loaded(alloc, code)?, &mut Slot::new(), count).regs())
 }

@@ -17,7 +17,7 @@ use Rattle.serde_json.specs.Data.{
   member,
 }
 use Rattle.serde_json.specs.View.{items_of}
-use Rattle.lab_core.specs.declared.answer.Breakpoint.{Breakpoint}
+use Rattle.lab_views.specs.declared.shown.Breakpoint.{Breakpoint}
 use Rattle.lab_views.specs.declared.shown.StackFrame.{StackFrame}
 use Rattle.lab_views.specs.declared.shown.Variable.{Variable}
 use Rattle.lab_views.specs.declared.shown.CodeLine.{CodeLine}

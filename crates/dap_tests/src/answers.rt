@@ -3,8 +3,7 @@ use base_text::sequence::Sequence;
 use base_text::text::Text;
 use dap_answers::answer::{Body, DebugState, Event, Outcome, Response, StopReason};
 use dap_answers::sending::{event, response};
-use lab_core::answer::Breakpoint;
-use lab_views::shown::{CodeLine, SourceBreakpoints, StackFrame, Variable};
+use lab_views::shown::{Breakpoint, CodeLine, SourceBreakpoints, StackFrame, Variable};
 use serde_json::Value;
 use std::alloc::{AllocError, Global};
 

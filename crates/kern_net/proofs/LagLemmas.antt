@@ -25,9 +25,9 @@ use Rattle.kern_core.specs.declared.call.Reply.TheVariants.{Arrived, Subscribed}
 use Rattle.kern_core.specs.declared.fault.KernelFault.TheVariants.{Full, Lagged, NoConnection}
 use Rattle.kern_core.specs.States.{KernelState, Turn, refused, quiet}
 use Rattle.kern_core.specs.Connections.{by_peer, unsubscribed, new_subscription, subscribing}
-use Rattle.kern_core.specs.Asks.{plain_reply, replying, queue_full, executing, interrupting, shutting}
-use Rattle.kern_core.specs.Asks.{is_bounded, refusing, answering, performing, debugging, typing, closing}
-use Rattle.kern_core.specs.Asks.{passing, unanswered, other, by_reply, arriving}
+use Rattle.kern_core.specs.Requests.{plain_reply, replying, queue_full, executing, interrupting, shutting}
+use Rattle.kern_core.specs.Requests.{is_bounded, refusing, answering, performing, debugging, typing, closing}
+use Rattle.kern_core.specs.Requests.{passing, unanswered, other, by_reply, arriving}
 use Rattle.kern_core.specs.Turns.{turn, state_after}
 use Rattle.kern_desk.specs.Seats.{calls_of, seated_answer}
 use Rattle.kern_net.specs.ReadEnds.{IsReaderCall}
@@ -104,12 +104,12 @@ other_keeps n identity r _ unix_seconds s = answered (passing r unix_seconds s) 
 by_reply_keeps : (c : Option Content) (n : ℕ) (identity : List ℕ) (r : Request) (unix_seconds : ℕ) (s : KernelState)
     → KeepsUp (by_reply c n identity r unix_seconds s)
 by_reply_keeps (Some c) n identity r unix_seconds s = answered (replying n r c unix_seconds s) Arrived refl
-by_reply_keeps None n identity r unix_seconds s = other_keeps n identity r r.ask unix_seconds s
+by_reply_keeps None n identity r unix_seconds s = other_keeps n identity r r.body unix_seconds s
 
 arriving_keeps : (n : ℕ) (r : Request) (unix_seconds : ℕ) (s : KernelState) → KeepsUp (arriving n r unix_seconds s)
 arriving_keeps n r unix_seconds s = at_peer (peer_at n s.connections.peers) s _ (λ p.
     either KeepsUp (is_on Iopub p) (refused NoConnection s) _ (unknown s)
-    (by_reply_keeps (plain_reply s.work.count r.ask) n p.identity r unix_seconds s))
+    (by_reply_keeps (plain_reply s.work.count r.body) n p.identity r unix_seconds s))
 
 turn_keeps : (c : Call) (s : KernelState) → IsReaderCall c → KeepsUp (turn c s)
 unfolding turn

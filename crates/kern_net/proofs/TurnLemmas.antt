@@ -31,8 +31,8 @@ use Rattle.kern_core.specs.declared.call.Reply.TheVariants as reply
 use Rattle.kern_core.specs.declared.fault.KernelFault.TheVariants as fault
 use Rattle.kern_core.specs.States.{KernelState, Turn, refused, quiet}
 use Rattle.kern_core.specs.Connections.{by_peer, joined, unsubscribed, new_subscription, fetching}
-use Rattle.kern_core.specs.Asks.{plain_reply, by_reply, other, executing, queue_full, shutting, answering}
-use Rattle.kern_core.specs.Asks.{performing, refusing, is_bounded, debugging, unanswered}
+use Rattle.kern_core.specs.Requests.{plain_reply, by_reply, other, executing, queue_full, shutting, answering}
+use Rattle.kern_core.specs.Requests.{performing, refusing, is_bounded, debugging, unanswered}
 use Rattle.kern_core.specs.Slices.{running_to, by_run, by_start, loading, slicing}
 use Rattle.kern_core.specs.Turns.{turn}
 use Rattle.kern_net.proofs.ChoiceLemmas.{either}
@@ -86,7 +86,7 @@ others n identity r _ unix_seconds s = record { same = refl }
 replies : (plain : Option Content) (n : ℕ) (identity : List ℕ) (r : Request) (unix_seconds : ℕ) (s : KernelState)
     → Leaves s (by_reply plain n identity r unix_seconds s)
 replies (Some c) n identity r unix_seconds s = record { same = refl }
-replies None n identity r unix_seconds s = others n identity r r.ask unix_seconds s
+replies None n identity r unix_seconds s = others n identity r r.body unix_seconds s
 
 -- ---- slices
 
@@ -141,13 +141,13 @@ subscribes (Some p) n wants prefix unix_seconds s =
 
 arrives : (peer : Option Peer) (n : ℕ) (r : Request) (unix_seconds : ℕ) (s : KernelState)
     → Leaves s (by_peer peer s (λ p.
-    if is_on Iopub p then refused fault.NoConnection s else by_reply (plain_reply s.work.count r.ask) n
+    if is_on Iopub p then refused fault.NoConnection s else by_reply (plain_reply s.work.count r.body) n
     p.identity r unix_seconds s))
 arrives None n r unix_seconds s = record { same = refl }
 arrives (Some p) n r unix_seconds s =
     either (Leaves s) (is_on Iopub p) (refused fault.NoConnection s)
-    (by_reply (plain_reply s.work.count r.ask) n p.identity r unix_seconds s)
-    (record { same = refl }) (replies (plain_reply s.work.count r.ask) n p.identity r unix_seconds s)
+    (by_reply (plain_reply s.work.count r.body) n p.identity r unix_seconds s)
+    (record { same = refl }) (replies (plain_reply s.work.count r.body) n p.identity r unix_seconds s)
 
 fetches : (peer : Option Peer) (n from : ℕ) (s : KernelState) → Leaves s (by_peer peer s (λ p. fetching n from s))
 fetches None n from s = record { same = refl }

@@ -239,7 +239,7 @@ fn begins_topic(prefix: &Bytes, topic: &[u8]) -> bool
     topic.starts_with(prefix.as_slice())
 }
 
-fn is_subscribed(prefixes: &[Bytes], topic: &[u8]) -> bool
+fn has_matching_prefix(prefixes: &[Bytes], topic: &[u8]) -> bool
     ensures { result ≡ list_any (begins topic.now) prefixes.now }
 {
     prefixes.iter().any(|prefix| begins_topic(prefix, topic))
@@ -248,7 +248,7 @@ fn is_subscribed(prefixes: &[Bytes], topic: &[u8]) -> bool
 fn is_subscribed(peer: &Peer, topic: &str) -> bool
     ensures { result ≡ is_subscribed topic.now peer.now }
 {
-    is_on(peer, Channel::Iopub) && is_subscribed(peer.prefixes.as_slice(), topic.as_bytes())
+    is_on(peer, Channel::Iopub) && has_matching_prefix(peer.prefixes.as_slice(), topic.as_bytes())
 }
 
 fn push_if_subscribed(numbers: &mut Sequence<u32>, peer: &Peer, topic: &str) -> Result<(), AllocError>

@@ -30,7 +30,7 @@ use Rattle.lab_core.specs.declared.fault.EventFault.{EventFault}
 use Rattle.lab_core.specs.declared.fault.EventFault.TheVariants.{NotRunning, NotStopped, NotAttached}
 use Rattle.lab_core.specs.declared.fault.EventFault.TheVariants.{NoSource, Busy, Latched, Vector, Assembly}
 use Rattle.lab_core.specs.declared.event.StepRequest.{StepRequest}
-use Rattle.lab_core.specs.declared.answer.Breakpoint.{Breakpoint}
+use Rattle.lab_views.specs.declared.shown.Breakpoint.{Breakpoint}
 use Rattle.lab_core.specs.declared.answer.SliceOutcome.{SliceOutcome}
 use Rattle.lab_core.specs.declared.answer.Answer.{Answer}
 use Rattle.lab_core.specs.declared.answer.Answer.TheVariants as answer

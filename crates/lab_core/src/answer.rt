@@ -3,7 +3,7 @@ use crate::fault::EventFault;
 use base_text::sequence::Sequence;
 use base_text::text::Text;
 use i80_devs::traffic::Traffic;
-use lab_views::shown::Shown;
+use lab_views::shown::{Breakpoint, Shown};
 
 /// Where a debugger stops a run.
 #[derive(Clone, Copy)]
@@ -34,13 +34,6 @@ pub enum SliceOutcome {
     Stop(Stop),
     /// The run has ended.
     End(End),
-}
-
-/// A line that was set as a breakpoint, and whether its text has that line.
-#[derive(Clone, Copy)]
-pub struct Breakpoint {
-    pub line: u32,
-    pub is_verified: bool,
 }
 
 /// What an event answers.

@@ -34,6 +34,13 @@ pub struct CodeLine {
     pub text: Text,
 }
 
+/// A line that was set as a breakpoint, and whether its text has that line.
+#[derive(Clone, Copy)]
+pub struct Breakpoint {
+    pub line: u32,
+    pub is_verified: bool,
+}
+
 /// The breakpoints of a source.
 #[derive(Clone, Drop)]
 pub struct SourceBreakpoints {

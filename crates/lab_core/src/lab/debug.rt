@@ -6,7 +6,7 @@ ghost use Rattle.lab_core.specs.Labs.{StandsFor, AppliesTo};
 ghost use Rattle.lab_core.specs.Memory.{MayLackMemory};
 ghost use Rattle.lab_views.specs.Parts as views;
 
-use crate::answer::{Answer, Breakpoint};
+use crate::answer::Answer;
 use crate::event::{Event, StepRequest};
 use crate::fault::EventFault;
 use crate::lab::Lab;
@@ -14,6 +14,7 @@ use crate::run_state::RunState;
 use base_text::sequence::Sequence;
 use lab_sources::lines::line_count;
 use lab_views::parts::Parts;
+use lab_views::shown::Breakpoint;
 use lab_views::view::View;
 use lab_views::views::show;
 use std::alloc::{AllocError, Global};
