@@ -12,7 +12,8 @@ use Rattle.asm_build.specs.Meaning.{Output, Meaning, with_line, output_of, symbo
 use Rattle.asm_build.specs.Meaning.{built_of}
 use Rattle.asm_build.specs.Refusals.{Part, StandsOn, LayoutFault, ValueFault, rank, NoneStands}
 use Rattle.asm_build.specs.Refusals.{IsFirst, IsFaultOf, IsFaultless}
-use Rattle.asm_build.proofs.ReadingLemmas.{one_reading}
+use Rattle.asm_build.proofs.ReadingLemmas.{one_reading, found, only}
+use Rattle.asm_build.specs.Cells.{CellGives}
 use Rattle.asm_build.proofs.LayoutRounds.{Next, on_line, LayoutVerdict, layout_judged}
 use Rattle.asm_build.proofs.ByteFaults.{GivenBy, IsImageOf, LineVerdict, line_judged}
 
@@ -187,3 +188,26 @@ faulted kept ss f = (
         → built_of kept ss ≡ Err f
     by first (Ok m) is v = absurd (no_fault kept ss f v first)
     by first (Err g) is v = is ∙ ap (λ (h : CellFault). Err h) (one_fault kept ss g f v first)
+
+-- ---- what is given by readings, as one relation
+
+pub judged_so : (kept : Entries) (ss : List Statement) (r : Result Meaning CellFault) → built_of kept ss ≡ r
+    → CellGives kept ss r
+judged_so kept ss (Ok m) is = record {
+  faultless = (gives kept ss).0 (m, is);
+  found = found kept ss m is;
+  only = only kept ss m is;
+}
+judged_so kept ss (Err f) is = (faulted kept ss f).0 is
+
+so_judged : (kept : Entries) (ss : List Statement) (r : Result Meaning CellFault) → CellGives kept ss r
+    → built_of kept ss ≡ r
+so_judged kept ss (Ok m) so =
+    let built = (gives kept ss).1 so.faultless in
+    let one = so.found in
+    built.1 ∙ sym (only kept ss built.0 built.1 one.0 one.1) ∙ one.2
+so_judged kept ss (Err f) so = (faulted kept ss f).1 so
+
+pub judged : (kept : Entries) (ss : List Statement) (r : Result Meaning CellFault)
+    → (built_of kept ss ≡ r) ↔ CellGives kept ss r
+judged kept ss r = (judged_so kept ss r, so_judged kept ss r)

@@ -99,10 +99,10 @@ layout_reads (s ∷ ss) kept earlier all e =
     )
 
 pub found : (kept : Entries) (ss : List Statement) (m : Meaning) → built_of kept ss ≡ Ok m
-    → (all : Lines) × (IsReading kept ss all × (meaning_of kept all ≡ Ok m))
+    → IsMeaning kept ss m
 found kept ss m e =
     let a = bind_ok (layout kept [] ss) (λ all. meaning_of kept all) m e in
-    (a.0, (layout_reads ss kept [] a.0 a.1, a.2))
+    (a.0, layout_reads ss kept [] a.0 a.1, a.2)
 
 -- ---- there is one consistent reading
 
@@ -142,20 +142,27 @@ one_reading (s ∷ ss) kept earlier l m a b =
     one_reading ss kept ((s, b.0) ∷ earlier) l m
     (subst (λ (r : Laid). Reads kept ((s, r) ∷ earlier) ss l) same a.2) b.2
 
+pub same_reading : (kept : Entries) (ss : List Statement) (lines lines' : Lines) → IsReading kept ss lines
+    → IsReading kept ss lines' → lines ≡ lines'
+same_reading kept ss lines lines' = one_reading ss kept [] lines lines'
+
+-- so what one gives, each gives
+pub each_gives : (kept : Entries) (ss : List Statement) (m : Meaning) → IsMeaning kept ss m
+    → IsOnlyMeaning kept ss m
+each_gives kept ss m one all h = ap (meaning_of kept) (same_reading kept ss all one.0 h one.1) ∙ one.2
+
 pub only : (kept : Entries) (ss : List Statement) (m : Meaning) → built_of kept ss ≡ Ok m
-    → (all : Lines) → IsReading kept ss all → meaning_of kept all ≡ Ok m
-only kept ss m e all h =
-    let f = found kept ss m e in
-    ap (meaning_of kept) (one_reading ss kept [] all f.0 h f.1.0) ∙ f.1.1
+    → IsOnlyMeaning kept ss m
+only kept ss m e = each_gives kept ss m (found kept ss m e)
 
 -- ---- of what a function answers
 
 pub found_in : (kept : Entries) (ss : List Statement) (r : Result Built AsmFault)
-    → Gives meaning_in r (built_of kept ss) → IfOk r (λ b. IsMeaning kept ss b)
+    → Gives meaning_in r (built_of kept ss) → IfOk r (λ b. IsMeaning kept ss (meaning_in b))
 found_in kept ss (Ok b) e = found kept ss (meaning_in b) e
 found_in kept ss (Err f) e = tt
 
 pub only_in : (kept : Entries) (ss : List Statement) (r : Result Built AsmFault)
-    → Gives meaning_in r (built_of kept ss) → IfOk r (λ b. IsOnlyMeaning kept ss b)
+    → Gives meaning_in r (built_of kept ss) → IfOk r (λ b. IsOnlyMeaning kept ss (meaning_in b))
 only_in kept ss (Ok b) e = only kept ss (meaning_in b) e
 only_in kept ss (Err f) e = tt

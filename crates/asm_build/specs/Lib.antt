@@ -1,3 +1,4 @@
+pub mod Cells
 pub mod Images
 pub mod Layout
 pub mod Meaning

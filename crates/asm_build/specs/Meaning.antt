@@ -229,11 +229,9 @@ meaning_in b = record {
 }
 
 -- the cell has a consistent reading, which gives this
-abbrev pub IsMeaning : Entries → List Statement → Built → Type 0
-IsMeaning kept ss b =
-    (all : Lines) × (IsReading kept ss all × (meaning_of kept all ≡ Ok (meaning_in b)))
+abbrev pub IsMeaning : Entries → List Statement → Meaning → Type 0
+IsMeaning kept ss m = (all : Lines) × IsReading kept ss all × (meaning_of kept all ≡ Ok m)
 
 -- each consistent reading of the cell gives this
-abbrev pub IsOnlyMeaning : Entries → List Statement → Built → Type 0
-IsOnlyMeaning kept ss b =
-    (all : Lines) → IsReading kept ss all → meaning_of kept all ≡ Ok (meaning_in b)
+abbrev pub IsOnlyMeaning : Entries → List Statement → Meaning → Type 0
+IsOnlyMeaning kept ss m = (all : Lines) → IsReading kept ss all → meaning_of kept all ≡ Ok m

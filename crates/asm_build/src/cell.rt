@@ -74,8 +74,8 @@ fn both_rounds(alloc: Global, statements: &[Statement], kept: &Symbols) -> Resul
 /// 8080/8085 Assembly Language Programming Manual, chapters 2 and 4.
 pub fn build(alloc: Global, statements: &Statements, kept: &Symbols) -> Result<Built, AsmFault>
     ensures exact { Gives meaning_in result (built_of kept.now statements.now) }
-    ensures found { IfOk result (λ b. IsMeaning kept.now statements.now b) }
-    ensures only { IfOk result (λ b. IsOnlyMeaning kept.now statements.now b) }
+    ensures found { IfOk result (λ b. IsMeaning kept.now statements.now (meaning_in b)) }
+    ensures only { IfOk result (λ b. IsOnlyMeaning kept.now statements.now (meaning_in b)) }
 {
     both_rounds(alloc, statements.as_slice(), kept)
 }

@@ -240,7 +240,7 @@ assembles : (kept : Entries) (text : List ℕ) (ss : List Statement) (rows : Lis
     → built_of kept ss ≡ Ok (only_image kept image rows) → AssemblesTo kept text image
 assembles kept text ss rows image says built =
     let f = reading.found kept ss (only_image kept image rows) built in
-    (ss, rows, says, built, (f.0, f.1.0), reading.only kept ss (only_image kept image rows) built)
+    (ss, rows, says, built, (f.0, f.1), reading.only kept ss (only_image kept image rows) built)
 
 given_assembles : (kept : Entries) (address : ℕ) (bytes : List ℕ) (gs : List Given) → bytes_given gs ≡ bytes
     → length gs ≤ length bytes → 0 < length bytes

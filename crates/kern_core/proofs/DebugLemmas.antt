@@ -1,6 +1,6 @@
 -- A reset of the board, asked by a debugger.
-use Rattle.std.proofs.Common.{◌≡◌, ◌≢◌, ◌∙◌, ℕ, List, [], ◌∷◌, ◌++◌, Bool, true, false, Option, None, Result}
-use Rattle.std.proofs.Common.{Ok, Err, refl, sym, ap, subst, option_to_list}
+use Rattle.std.proofs.Common.{◌≡◌, ◌≢◌, ◌∙◌, ℕ, List, [], ◌∷◌, ◌++◌, true, false, Result}
+use Rattle.std.proofs.Common.{Ok, Err, refl, ap, subst}
 use Rattle.std.proofs.lemmas.Bool.{false≢true}
 use Rattle.lab_core.specs.Events.{reset}
 use Rattle.dap_talk.specs.declared.command.DapCommand.{DapCommand}
@@ -8,29 +8,22 @@ use Rattle.dap_talk.specs.declared.command.DapCommand.TheVariants as command
 use Rattle.dap_talk.specs.declared.command.DapRequest.{DapRequest}
 use Rattle.dap_answers.specs.declared.answer.Body.{Body}
 use Rattle.dap_answers.specs.declared.answer.Body.TheVariants.{Empty}
-use Rattle.dap_answers.specs.declared.answer.Outcome.{Outcome}
 use Rattle.dap_answers.specs.declared.answer.Outcome.TheVariants.{Success, Refused}
 use Rattle.lab_core.specs.declared.fault.EventFault.{EventFault}
 use Rattle.lab_core.specs.declared.fault.EventFault.TheVariants.{OutOfMemory}
 use Rattle.lab_core.specs.Board.{Board}
 use Rattle.lab_core.specs.Labs.{LabState, StandsFor as LabStandsFor, Did, Does}
-use Rattle.kern_debug.specs.Names.{refusal_name, event_after}
+use Rattle.kern_debug.specs.Names.{event_after}
 use Rattle.kern_post.specs.declared.post.Letter.{Letter}
-use Rattle.kern_post.specs.declared.post.Post.{Post}
 use Rattle.kern_post.specs.Posts.{StoreState, Keeps, posted}
-use Rattle.kern_peers.specs.Connections.{Connections}
 use Rattle.kern_request.specs.declared.request.Request.{Request}
 use Rattle.kern_debug.specs.Commands.{performed}
 use Rattle.kern_exec.specs.Letters.{enclosed}
 use Rattle.kern_post.specs.declared.content.Cause.TheVariants as cause
-use Rattle.kern_core.specs.declared.call.Reply.{Reply}
 use Rattle.kern_core.specs.declared.call.Reply.TheVariants.{Arrived}
-use Rattle.kern_core.specs.declared.fault.KernelFault.{KernelFault}
-use Rattle.kern_core.specs.declared.state.debug.DebugKit.{DebugKit}
 use Rattle.kern_core.specs.States.{KernelState, Turn, after, posting}
-use Rattle.kern_core.specs.Requests.{is_reset, ended_by, work_by, cut_letters, cut_work, with_board, debug_reply}
-use Rattle.kern_core.specs.Requests.{after_letter, answering, performing}
-use Rattle.kern_core.specs.Debugging.{IsDebugKit, told_debug, told_by}
+use Rattle.kern_core.specs.Requests.{is_reset, cut_letters, cut_work, with_board, debug_reply}
+use Rattle.kern_core.specs.Requests.{after_letter, performed_letters, refusing, answering, performing}
 use Rattle.kern_core.specs.Stands.{KernelFields, StandsFor}
 
 abbrev request_with : ℕ → DapCommand → DapRequest
@@ -53,65 +46,67 @@ by_reset n r d unix_seconds s is = by_command n r d.seq d.command unix_seconds s
 
 -- ---- the other commands
 
-told_is : (connections : Connections) (n : ℕ) (r : Request) (d : DapRequest) (k : DebugKit) (outcome : Outcome)
-    (letter : Option Letter)
-    → IsDebugKit connections n r d k
-    → told_debug k outcome letter ≡ enclosed connections r.header (debug_reply n r d outcome ∷ option_to_list letter)
-told_is connections n r d k outcome letter kit =
-    rw (kit.enclosed.letters, kit.enclosed.idle, kit.envelope, kit.request_seq, kit.command) refl
-
 abbrev pub Stood : Turn → KernelFields → Type 0
 Stood t new = (Ok Arrived ≡ t.answer) × StandsFor new (after t)
 
--- the fields stand for a session with this board, and what was told of it
+-- the fields stand for a state with this board, and these letters are posted
 told_stands : (n : ℕ) (r : Request) (d : DapRequest) (unix_seconds : ℕ) (s : KernelState) (old : KernelFields)
-    (lab : LabState) (store : StoreState)
-    (k : DebugKit) (b : Board) (outcome : Outcome) (letter : Option Letter) (letters : List Letter)
-    → StandsFor old s → LabStandsFor lab b → IsDebugKit s.connections n r d k
-    → letters ≡ told_debug k outcome letter
+    (lab : LabState) (store : StoreState) (b : Board) (told letters : List Letter)
+    → StandsFor old s → LabStandsFor lab b → letters ≡ enclosed s.connections r.header told
     → Keeps (posted unix_seconds letters s.posts) store
-    → Stood (posting Arrived unix_seconds (enclosed s.connections r.header
-    (debug_reply n r d outcome ∷ option_to_list letter)) (with_board b s.work s))
+    → Stood (posting Arrived unix_seconds (enclosed s.connections r.header told) (with_board b s.work s))
     (record old { lab = lab; store = store })
-told_stands n r d unix_seconds s old lab store k b outcome letter letters stands board kit told kept =
+told_stands n r d unix_seconds s old lab store b told letters stands board are kept =
     let P : List Letter → Type 0 = λ ls. Keeps (posted unix_seconds ls s.posts) store in (
       refl,
       record {
         board = board;
         connections = stands.connections;
         work = stands.work;
-        posts = subst P (told ∙ told_is s.connections n r d k outcome letter kit) kept;
+        posts = subst P are kept;
         is_shut = stands.is_shut;
       },
     )
 
+pub refused_stands : (n : ℕ) (r : Request) (d : DapRequest) (unix_seconds : ℕ) (s : KernelState) (old : KernelFields)
+    (store : StoreState) (message : List ℕ) (letters : List Letter)
+    → StandsFor old s
+    → letters ≡ enclosed s.connections r.header (debug_reply n r d (Refused message) ∷ [])
+    → Keeps (posted unix_seconds letters s.posts) store
+    → Stood (refusing n r d message unix_seconds s) (record old { store = store })
+refused_stands n r d unix_seconds s old store message letters stands are kept =
+    told_stands n r d unix_seconds s old old.lab store s.board (debug_reply n r d (Refused message) ∷ []) letters stands
+    stands.board are kept
+
 by_performed : (g : Result (Body × Board) EventFault) (n : ℕ) (r : Request) (d : DapRequest) (unix_seconds : ℕ)
-    (s : KernelState) (old : KernelFields)
-    (lab : LabState) (store : StoreState) (res : Result Body EventFault) (k : DebugKit)
+    (s : KernelState) (old : KernelFields) (lab : LabState) (store : StoreState) (res : Result Body EventFault)
     (letters : List Letter)
-    → StandsFor old s → is_reset d.command ≡ false → Did s.board g res lab → IsDebugKit s.connections n r d k
-    → letters ≡ told_by k res (after_letter (event_after d.command) r s)
+    → StandsFor old s → is_reset d.command ≡ false → Did s.board g res lab
+    → letters ≡ enclosed s.connections r.header
+    (performed_letters res (after_letter (event_after d.command) r s) n r d)
     → Keeps (posted unix_seconds letters s.posts) store
     → Stood (answering n r d unix_seconds s g) (record old { lab = lab; store = store })
-by_performed (Ok (body, b)) n r d unix_seconds s old lab store res k letters stands other did kit told kept =
-    let letter = after_letter (event_after d.command) r s in
-    let L : Result Body EventFault → List Letter = λ x. told_by k x letter in
-    rw other (told_stands n r d unix_seconds s old lab store k b (Success body) letter letters stands did.1 kit
-    (told ∙ ap L did.0) kept)
-by_performed (Err fault) n r d unix_seconds s old lab store res k letters stands other did kit told kept =
+by_performed (Ok (body, b)) n r d unix_seconds s old lab store res letters stands other did are kept =
+    let after = after_letter (event_after d.command) r s in
     let L : Result Body EventFault → List Letter =
-    λ x. told_by k x (after_letter (event_after d.command) r s) in
-    told_stands n r d unix_seconds s old lab store k s.board (Refused (refusal_name fault)) None letters stands
-    did.1 kit (told ∙ ap L did.0) kept
+    λ x. enclosed s.connections r.header (performed_letters x after n r d) in
+    rw other (told_stands n r d unix_seconds s old lab store b (performed_letters (Ok body) after n r d) letters stands
+    did.1 (are ∙ ap L did.0) kept)
+by_performed (Err fault) n r d unix_seconds s old lab store res letters stands other did are kept =
+    let after = after_letter (event_after d.command) r s in
+    let L : Result Body EventFault → List Letter =
+    λ x. enclosed s.connections r.header (performed_letters x after n r d) in
+    told_stands n r d unix_seconds s old lab store s.board (performed_letters (Err fault) after n r d) letters stands
+    did.1 (are ∙ ap L did.0) kept
 
 pub performed_stands : (n : ℕ) (r : Request) (d : DapRequest) (unix_seconds : ℕ) (s : KernelState) (old : KernelFields)
-    (lab : LabState) (store : StoreState)
-    (res : Result Body EventFault) (k : DebugKit) (letters : List Letter)
+    (lab : LabState) (store : StoreState) (res : Result Body EventFault) (letters : List Letter)
     → StandsFor old s → is_reset d.command ≡ false → Does (performed d.command) old.lab res lab
     → res ≢ Err OutOfMemory
-    → IsDebugKit s.connections n r d k → letters ≡ told_by k res (after_letter (event_after d.command) r s)
+    → letters ≡ enclosed s.connections r.header
+    (performed_letters res (after_letter (event_after d.command) r s) n r d)
     → Keeps (posted unix_seconds letters s.posts) store
     → Stood (performing n r d unix_seconds s) (record old { lab = lab; store = store })
-performed_stands n r d unix_seconds s old lab store res k letters stands other does want kit told kept =
-    by_performed (performed d.command s.board) n r d unix_seconds s old lab store res k letters stands other
-    (does s.board stands.board want) kit told kept
+performed_stands n r d unix_seconds s old lab store res letters stands other does want are kept =
+    by_performed (performed d.command s.board) n r d unix_seconds s old lab store res letters stands other
+    (does s.board stands.board want) are kept

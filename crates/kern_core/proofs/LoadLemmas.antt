@@ -1,9 +1,8 @@
 -- The next cell: its letters, and the fields after it.
-use Rattle.std.proofs.Common.{◌≡◌, ◌∙◌, ℕ, ◌+◌, ◌≤◌, Bool, true, false, List, ◌∷◌, not, ◌&&◌, Result, Ok}
+use Rattle.std.proofs.Common.{◌≡◌, ◌∙◌, ℕ, ◌+◌, ◌≤◌, Bool, true, false, List, ◌∷◌, not, ◌&&◌, Ok}
 use Rattle.std.proofs.Common.{refl, sym, ap, subst, arith, if◌then◌else◌}
 use Rattle.lab_core.specs.Labs.{LabState, StandsFor as LabStandsFor}
-use Rattle.kern_post.specs.declared.post.Letter.{Letter}
-use Rattle.kern_post.specs.Posts.{StoreState, Keeps, posted}
+use Rattle.kern_post.specs.Posts.{Keeps, posted}
 use Rattle.kern_peers.specs.Connections.{Connections}
 use Rattle.kern_exec.specs.declared.execution.Execution.{Execution}
 use Rattle.kern_exec.specs.declared.execution.Current.{Current}
@@ -11,9 +10,7 @@ use Rattle.kern_exec.specs.declared.loading.Loading.{Loading}
 use Rattle.kern_exec.specs.Executions.{Work, count_with, current_of, taken}
 use Rattle.kern_exec.specs.Ends.{loading_letters}
 use Rattle.kern_exec.specs.Boards.{cell_given, loading_of, board_after}
-use Rattle.kern_core.specs.declared.call.Reply.{Reply}
 use Rattle.kern_core.specs.declared.call.Reply.TheVariants.{More}
-use Rattle.kern_core.specs.declared.fault.KernelFault.{KernelFault}
 use Rattle.kern_core.specs.States.{KernelState, after}
 use Rattle.kern_core.specs.Slices.{loading}
 use Rattle.kern_core.specs.Stands.{KernelFields, StandsFor, Grows}

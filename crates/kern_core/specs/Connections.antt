@@ -2,7 +2,6 @@
 use Rattle.std.specs.Prelude.{ℕ, ◌+◌, ◌==◌, nat_lt, List, [], ◌∷◌, length, Bool, true, false, ◌||◌, not}
 use Rattle.std.specs.Prelude.{Option, Some, None, codes, if◌then◌else◌}
 use Rattle.std.specs.List.{starts_with}
-use Rattle.lab_core.specs.declared.run_state.RunState.{RunState}
 use Rattle.jup_wire.specs.declared.channel.Channel.{Channel}
 use Rattle.jup_wire.specs.declared.channel.Channel.TheVariants.{Iopub}
 use Rattle.kern_post.specs.declared.content.Content.TheVariants.{Status}
@@ -12,7 +11,7 @@ use Rattle.kern_post.specs.declared.post.Head.TheVariants.{Topic}
 use Rattle.kern_post.specs.declared.post.Letter.{Letter}
 use Rattle.kern_post.specs.Posts.{fetched as posts_to, first_kept, next_from}
 use Rattle.kern_peers.specs.declared.peer.Peer.{Peer}
-use Rattle.kern_peers.specs.Connections.{Connections, has_no_place, joined_by, peer_at, without, is_on, is_full}
+use Rattle.kern_peers.specs.Connections.{has_no_place, joined_by, peer_at, without, is_on, is_full}
 use Rattle.kern_peers.specs.Connections.{subscribed_by, cancelled}
 use Rattle.kern_exec.specs.declared.execution.Execution.{Execution}
 use Rattle.kern_exec.specs.Boards.{is_run}

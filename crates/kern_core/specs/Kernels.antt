@@ -1,10 +1,9 @@
 -- What a contract sees of a kernel, and when its fields stand for its entries.
-use Rattle.std.specs.Prelude.{◌≡◌, ℕ, ◌*◌, ◌≤◌, Bool, true, false, List, length, Result, Ok, Err}
+use Rattle.std.specs.Prelude.{ℕ, ◌*◌, ◌≤◌, Bool, true, false, List, length, Result, Err}
 use Rattle.kern_core.specs.declared.call.Call.{Call}
 use Rattle.kern_core.specs.declared.call.Reply.{Reply}
 use Rattle.kern_core.specs.declared.fault.KernelFault.{KernelFault}
-use Rattle.kern_core.specs.declared.fault.KernelFault.TheVariants.{OutOfMemory, Full, Lagged, JournalFull}
-use Rattle.kern_core.specs.declared.fault.KernelFault.TheVariants.{NoConnection}
+use Rattle.kern_core.specs.declared.fault.KernelFault.TheVariants.{OutOfMemory, JournalFull}
 use Rattle.kern_core.specs.Turns.{state_after}
 use Rattle.kern_core.specs.Stands.{KernelFields, StandsFor}
 

@@ -28,7 +28,6 @@ use Rattle.kern_request.specs.declared.request.ExecuteRequest.{ExecuteRequest}
 use Rattle.kern_request.specs.declared.request.NeedyRequest.{NeedyRequest}
 use Rattle.kern_request.specs.declared.request.NeedyRequest.TheVariants as needy
 use Rattle.kern_request.specs.declared.request.Request.{Request}
-use Rattle.kern_peers.specs.declared.peer.Peer.{Peer}
 use Rattle.kern_peers.specs.Connections.{Connections, is_on}
 use Rattle.kern_post.specs.declared.content.Cause.{Cause}
 use Rattle.kern_post.specs.declared.content.Cause.TheVariants as cause
@@ -40,11 +39,9 @@ use Rattle.kern_post.specs.declared.content.Ending.TheVariants.{Failed}
 use Rattle.kern_post.specs.declared.content.RefusedRequest.TheVariants as bad
 use Rattle.kern_post.specs.declared.post.Letter.{Letter}
 use Rattle.kern_exec.specs.declared.execution.Current.{Current}
-use Rattle.kern_exec.specs.declared.ends.EndKit.{EndKit}
-use Rattle.kern_exec.specs.Kits.{end_kit_of}
 use Rattle.kern_exec.specs.Letters.{published, replied, enclosed}
 use Rattle.kern_exec.specs.Executions.{Work, execution_of, queued, ended}
-use Rattle.kern_exec.specs.Ends.{error_letters, end_letters}
+use Rattle.kern_exec.specs.Ends.{error_letters, cut_letters as letters_of_cut}
 use Rattle.kern_exec.specs.Boards.{is_run, interrupted}
 use Rattle.kern_core.specs.declared.call.Reply.TheVariants.{Arrived}
 use Rattle.kern_core.specs.declared.fault.KernelFault.TheVariants.{NoConnection}
@@ -104,21 +101,13 @@ executing n identity r x unix_seconds s =
 
 -- ---- a run that is ended from outside
 
-abbrev pub end_of : Option Current → KernelState → Cause → List Letter
-end_of None s c = []
-end_of (Some current) s c = end_letters s.connections current (Failed c)
+-- the execution whose run is ended, if there is a run
+abbrev pub cut_of : KernelState → Option Current
+cut_of s = if is_run s.board.run then s.work.current else None
 
--- what the execution posts whose run is ended, if there is a run
+-- what it posts
 abbrev pub cut_letters : Cause → KernelState → List Letter
-cut_letters c s = if is_run s.board.run then end_of s.work.current s c else []
-
--- the envelopes for that
-abbrev pub kit_of : Option Current → KernelState → Option EndKit
-kit_of None s = None
-kit_of (Some current) s = Some (end_kit_of s.connections current)
-
-abbrev pub cut_kit_of : KernelState → Option EndKit
-cut_kit_of s = if is_run s.board.run then kit_of s.work.current s else None
+cut_letters c s = letters_of_cut s.connections (cut_of s) c
 
 abbrev pub cut_work : KernelState → Work
 cut_work s = if is_run s.board.run then ended s.work else s.work
@@ -171,11 +160,15 @@ abbrev pub refusing : ℕ → Request → DapRequest → List ℕ → ℕ → Ke
 refusing n r d message unix_seconds s = posting Arrived unix_seconds
     (enclosed s.connections r.header (debug_reply n r d (Refused message) ∷ [])) s
 
+-- what is told of a command that was performed so, and after it of what was done
+abbrev pub performed_letters : Result Body EventFault → Option Letter → ℕ → Request → DapRequest → List Letter
+performed_letters (Ok body) after n r d = debug_reply n r d (Success body) ∷ option_to_list after
+performed_letters (Err fault) after n r d = debug_reply n r d (Refused (refusal_name fault)) ∷ []
+
 abbrev pub answering : ℕ → Request → DapRequest → ℕ → KernelState → Result (Body × Board) EventFault → Turn
 answering n r d unix_seconds s (Ok (body, b)) = posting Arrived unix_seconds
     (enclosed s.connections r.header
-    (ended_by d.command s ++ debug_reply n r d (Success body)
-    ∷ option_to_list (after_letter (event_after d.command) r s)))
+    (ended_by d.command s ++ performed_letters (Ok body) (after_letter (event_after d.command) r s) n r d))
     (with_board b (work_by d.command s) s)
 answering n r d unix_seconds s (Err fault) = refusing n r d (refusal_name fault) unix_seconds s
 

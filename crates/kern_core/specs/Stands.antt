@@ -1,10 +1,8 @@
--- Which sessions the fields of a kernel stand for.
-use Rattle.std.specs.Prelude.{◌≡◌, ◌≢◌, ℕ, ◌+◌, ◌<◌, ◌≤◌, ◌^◌, Bool, List, Result, Ok, Err, OnErr}
+-- Which states of the kernel its fields stand for.
+use Rattle.std.specs.Prelude.{◌≡◌, ◌≢◌, ◌+◌, ◌<◌, ◌≤◌, ◌^◌, Bool, Result, Err, OnErr}
 use Rattle.lab_core.specs.Labs.{LabState, StandsFor as LabStandsFor}
-use Rattle.lab_core.specs.Board.{Board}
 use Rattle.lab_core.specs.declared.run_state.RunState.{RunState}
-use Rattle.kern_post.specs.declared.post.Letter.{Letter}
-use Rattle.kern_post.specs.Posts.{StoreState, Keeps, posted}
+use Rattle.kern_post.specs.Posts.{StoreState, Keeps}
 use Rattle.kern_peers.specs.Connections.{Connections}
 use Rattle.kern_exec.specs.Executions.{Work}
 use Rattle.kern_core.specs.declared.call.Reply.{Reply}
@@ -27,21 +25,18 @@ pub record StandsFor (v : KernelFields) (s : KernelState) : Type 0 where
   pub posts : Keeps s.posts v.store
   pub is_shut : v.is_shut ≡ s.is_shut
 
--- Whatever session the fields stood for, the answer is the turn's, and they stand for what it makes of the
--- session. Out of memory isn't in it.
-abbrev pub Makes : (KernelState → Turn) → KernelFields → Result Reply KernelFault → KernelFields → Type 0
-Makes f old answer new =
-    (s : KernelState) → StandsFor old s → answer ≢ Err OutOfMemory
-    → (answer ≡ (f s).answer) × StandsFor new (after (f s))
-
 -- so where the run is in this state
-abbrev pub MakesWhere : RunState → (KernelState → Turn) → KernelFields → Result Reply KernelFault → KernelFields
-    → Type 0
-MakesWhere run f old answer new =
-    (s : KernelState) → StandsFor old s → s.board.run ≡ run → answer ≢ Err OutOfMemory
+abbrev pub StandsIn : RunState → KernelFields → KernelState → Type 0
+StandsIn run v s = StandsFor v s × (s.board.run ≡ run)
+
+-- Whatever such state there was, the answer is the turn's, and the fields stand for what it makes of the state. Out of
+-- memory isn't in it.
+abbrev pub MakesFrom : (KernelState → Type 0) → (KernelState → Turn) → Result Reply KernelFault → KernelFields → Type 0
+MakesFrom holds f answer new =
+    (s : KernelState) → holds s → answer ≢ Err OutOfMemory
     → (answer ≡ (f s).answer) × StandsFor new (after (f s))
 
--- some session is stood for
+-- some state is stood for
 abbrev pub Stands : KernelFields → Type 0
 Stands v = (s : KernelState) × StandsFor v s
 
@@ -57,13 +52,18 @@ pub record Grows (old new : KernelFields) : Type 0 where
   pub peers : new.connections.joined ≤ old.connections.joined + 1
   pub count : new.work.count ≤ old.work.count + 1
 
--- The session takes this turn: it makes it, no number grows by more than one call lets it, and where it
--- answers an `Err` it is as it was.
+-- no number grows by more than one call lets it, and where an `Err` is answered all is as it was
+abbrev pub IsOneCall : KernelFields → Result Reply KernelFault → KernelFields → Type 0
+IsOneCall old answer new = Grows old new × OnErr answer (new ≡ old)
+
+-- from whatever state the fields stood for, the answer is the turn's
+abbrev pub Makes : (KernelState → Turn) → KernelFields → Result Reply KernelFault → KernelFields → Type 0
+Makes f old answer new = MakesFrom (StandsFor old) f answer new
+
+-- and it is the turn of one call
 abbrev pub Takes : (KernelState → Turn) → KernelFields → Result Reply KernelFault → KernelFields → Type 0
-Takes f old answer new = Makes f old answer new × (Grows old new × OnErr answer (new ≡ old))
+Takes f old answer new = Makes f old answer new × IsOneCall old answer new
 
 -- so where the run is in this state
-abbrev pub TakesWhere : RunState → (KernelState → Turn) → KernelFields → Result Reply KernelFault → KernelFields
-    → Type 0
-TakesWhere run f old answer new =
-    MakesWhere run f old answer new × (Grows old new × OnErr answer (new ≡ old))
+abbrev pub TakesIn : RunState → (KernelState → Turn) → KernelFields → Result Reply KernelFault → KernelFields → Type 0
+TakesIn run f old answer new = MakesFrom (StandsIn run old) f answer new × IsOneCall old answer new

@@ -3,8 +3,8 @@
 use crate::held::Held;
 use base_text::sequence::Bytes;
 use jup_wire::channel::Channel;
-use kern_request::request::Request;
 use kern_post::post::Posts;
+use kern_request::request::Request;
 
 /// What a connection wants or no longer wants: the posts whose topic begins with the prefix.
 #[derive(Drop)]

@@ -43,7 +43,10 @@ impl Model for Kernel {
 pub fn is_entry(answer: &Result<Reply, KernelFault>) -> bool
     ensures { result ≡ is_entry answer.now }
 {
-    !matches!(answer, Err(KernelFault::OutOfMemory | KernelFault::JournalFull))
+    !matches!(
+        answer,
+        Err(KernelFault::OutOfMemory | KernelFault::JournalFull)
+    )
 }
 
 impl Kernel {

@@ -6,8 +6,8 @@ ghost use Rattle.kern_core.specs.Requests.{completeness_by, completeness_of, pla
 use asm_syntax::fault::{AsmFault, FaultKind};
 use asm_text::statements::statements;
 use base_text::text::Text;
-use kern_request::request::{RequestBody, NeedyRequest};
 use kern_post::content::{Cause, Completeness, Content, Ending, RefusedRequest};
+use kern_request::request::{NeedyRequest, RequestBody};
 use std::alloc::{AllocError, Global};
 
 fn completeness_by(kind: FaultKind) -> Completeness
@@ -47,7 +47,11 @@ fn bad_content(request: NeedyRequest, count: u64) -> Option<Content>
 }
 
 /// The one reply to a request that is answered by one, after so many executions were counted.
-pub fn plain_reply(alloc: Global, body: &RequestBody, count: u64) -> Result<Option<Content>, AllocError>
+pub fn plain_reply(
+    alloc: Global,
+    body: &RequestBody,
+    count: u64,
+) -> Result<Option<Content>, AllocError>
     ensures { IfOk result (λ content. content ≡ plain_reply count body.now) }
 {
     match body {

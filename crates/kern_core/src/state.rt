@@ -7,9 +7,9 @@ ghost use Rattle.kern_core.specs.States.{opened};
 ghost use Rattle.kern_core.specs.Turns.{turn};
 ghost use Rattle.kern_core.specs.Stands.{StandsFor, Stands, Takes, HasRoom};
 
-mod requests;
 mod connections;
 mod debug;
+mod requests;
 mod slices;
 
 use crate::call::{Arrival, Call, Reply, Subscription};
@@ -97,7 +97,10 @@ impl KernelState {
                 connection,
                 arrival,
             } => {
-                let Arrival { request, unix_seconds } = arrival.get();
+                let Arrival {
+                    request,
+                    unix_seconds,
+                } = arrival.get();
                 self.arrive(*connection, request, *unix_seconds)
             }
             Call::Slice { unix_seconds } => self.slice(*unix_seconds),

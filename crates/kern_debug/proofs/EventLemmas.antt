@@ -4,8 +4,7 @@ use Rattle.lab_core.specs.declared.answer.Answer.{Answer}
 use Rattle.lab_core.specs.declared.event.Event.{Event}
 use Rattle.lab_core.specs.declared.fault.EventFault.{EventFault}
 use Rattle.lab_core.specs.Board.{Board}
-use Rattle.lab_core.specs.Events.{Given}
-use Rattle.lab_core.specs.Given.{given}
+use Rattle.lab_core.specs.Events.{Given, given}
 use Rattle.lab_core.specs.Labs.{LabState, Did, Does}
 use Rattle.dap_answers.specs.declared.answer.Body.{Body}
 use Rattle.kern_debug.specs.Commands.{with_body}

@@ -17,9 +17,8 @@ use Rattle.lab_core.specs.declared.event.Granularity.TheVariants as board_granul
 use Rattle.lab_core.specs.declared.event.StepRequest.{StepRequest}
 use Rattle.lab_core.specs.declared.fault.EventFault.{EventFault}
 use Rattle.lab_core.specs.Board.{Board}
-use Rattle.lab_core.specs.Events.{Given}
+use Rattle.lab_core.specs.Events.{Given, given}
 use Rattle.lab_core.specs.Labs.{LabState, Does}
-use Rattle.lab_core.specs.Given.{given}
 use Rattle.dap_answers.specs.declared.answer.Body.{Body}
 use Rattle.dap_answers.specs.declared.answer.Body.TheVariants as body
 use Rattle.dap_answers.specs.Murmur.{cell_path}

@@ -1,5 +1,5 @@
 -- What the board's answers to the events of executions say.
-use Rattle.std.proofs.Common.{◌≡◌, ◌≢◌, ℕ, ◌≤◌, List, length, Option, Some, None, Result, Ok, Err, refl, sym}
+use Rattle.std.proofs.Common.{◌≡◌, ◌≢◌, ℕ, List, Result, Ok, Err, sym}
 use Rattle.std.proofs.Common.{ap, if◌then◌else◌}
 use Rattle.i80_exec.specs.declared.ports.PortOperation.{PortOperation}
 use Rattle.lab_core.specs.declared.run_state.RunState.{RunState}
@@ -10,11 +10,11 @@ use Rattle.lab_core.specs.declared.answer.Answer.{Answer}
 use Rattle.lab_core.specs.declared.answer.Answer.TheVariants as answer
 use Rattle.lab_core.specs.declared.answer.SliceOutcome.{SliceOutcome}
 use Rattle.lab_core.specs.declared.fault.EventFault.{EventFault}
-use Rattle.lab_core.specs.declared.fault.EventFault.TheVariants.{OutOfMemory, Busy, NotRunning}
+use Rattle.lab_core.specs.declared.fault.EventFault.TheVariants.{OutOfMemory, NotRunning}
 use Rattle.lab_core.specs.Board.{Board}
 use Rattle.lab_core.specs.Slices.{traffic_of}
-use Rattle.lab_core.specs.Events.{Given, started, ended, without_run, with_run, while_running}
-use Rattle.lab_core.specs.Given.{given, sliced_at}
+use Rattle.lab_core.specs.Events.{Given, started, ended, without_run, with_run, while_running, given}
+use Rattle.lab_core.specs.SliceEnds.{sliced_at}
 use Rattle.lab_core.specs.Memory.{MayLackMemory}
 use Rattle.lab_core.specs.Labs.{LabState, StandsFor, Did, Does}
 use Rattle.kern_post.specs.declared.content.Ending.TheVariants.{Failed}

@@ -1,5 +1,5 @@
 -- What executions ask of the board.
-use Rattle.std.specs.Prelude.{◌≡◌, ℕ, List, Bool, true, false, Option, Some, None, Result, Ok, Err}
+use Rattle.std.specs.Prelude.{ℕ, List, Bool, true, false, Some, Ok, Err}
 use Rattle.std.specs.Prelude.{if◌then◌else◌}
 use Rattle.lab_core.specs.declared.run_state.RunState.{RunState}
 use Rattle.lab_core.specs.declared.run_state.RunState.TheVariants.{NoRun, Running, Stopped}
@@ -11,8 +11,8 @@ use Rattle.lab_core.specs.declared.fault.EventFault.{EventFault}
 use Rattle.lab_core.specs.declared.fault.EventFault.TheVariants as fault
 use Rattle.lab_core.specs.Board.{Board}
 use Rattle.lab_core.specs.Slices.{after_steps, left_by}
-use Rattle.lab_core.specs.Events.{Given, ended as run_ended}
-use Rattle.lab_core.specs.Given.{given, slice_from}
+use Rattle.lab_core.specs.Events.{Given, given, ended as run_ended}
+use Rattle.lab_core.specs.SliceEnds.{slice_from}
 use Rattle.dap_answers.specs.Murmur.{cell_path}
 use Rattle.kern_post.specs.declared.content.Cause.{Cause}
 use Rattle.kern_post.specs.declared.content.Cause.TheVariants as cause

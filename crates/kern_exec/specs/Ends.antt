@@ -1,5 +1,5 @@
 -- What an execution posts: when it is loaded, for each slice of its run, and when it ends.
-use Rattle.std.specs.Prelude.{ℕ, ◌==◌, List, [], ◌∷◌, ◌++◌, Bool, true, false, ◌&&◌, Option, Some, None}
+use Rattle.std.specs.Prelude.{ℕ, ◌==◌, List, [], ◌∷◌, ◌++◌, Bool, true, false, Option, Some, None}
 use Rattle.std.specs.Prelude.{if◌then◌else◌}
 use Rattle.std.specs.List.{filter_map, list_any}
 use Rattle.i80_exec.specs.declared.ports.PortOperation.{PortOperation}
@@ -17,14 +17,15 @@ use Rattle.kern_post.specs.declared.content.Content.TheVariants as content
 use Rattle.kern_post.specs.declared.content.ExecutionState.TheVariants.{Busy, Idle}
 use Rattle.kern_post.specs.declared.content.Ending.{Ending}
 use Rattle.kern_post.specs.declared.content.Ending.TheVariants.{Done, Failed}
+use Rattle.kern_post.specs.declared.content.Cause.{Cause}
 use Rattle.kern_post.specs.declared.content.Cause.TheVariants.{UndefinedOpcode}
+use Rattle.kern_post.specs.declared.post.Envelope.{Envelope}
 use Rattle.kern_post.specs.declared.post.Letter.{Letter}
 use Rattle.kern_peers.specs.Connections.{Connections, stdin_of}
-use Rattle.kern_exec.specs.declared.execution.Execution.{Execution}
 use Rattle.kern_exec.specs.declared.execution.Current.{Current}
 use Rattle.kern_exec.specs.declared.loading.Loading.{Loading}
 use Rattle.kern_exec.specs.declared.loading.Loading.TheVariants.{Starts, Ends}
-use Rattle.kern_exec.specs.Letters.{published, replied}
+use Rattle.kern_exec.specs.Letters.{published, addressed, replied}
 
 -- ---- the end
 
@@ -40,6 +41,11 @@ end_letters connections c ending =
     replied c.execution.connection c.execution.identities c.execution.header
     (content.ExecuteReply c.count ending) ∷
     published connections c.execution.header (content.Status Idle) ∷ []
+
+-- a run that is ended from outside, if there is one
+abbrev pub cut_letters : Connections → Option Current → Cause → List Letter
+cut_letters connections None cause = []
+cut_letters connections (Some c) cause = end_letters connections c (Failed cause)
 
 -- ---- the beginning
 
@@ -75,15 +81,19 @@ abbrev pub requests_line : PortOperation → Bool
 requests_line (In port byte) = false
 requests_line (Out port byte) = port == 3
 
-abbrev pub input_request_to : Option ℕ → Current → List Letter
-input_request_to None c = []
-input_request_to (Some n) c = replied n c.execution.identities c.execution.header content.InputRequest ∷ []
+abbrev pub to_stdin : Option ℕ → Current → Option Envelope
+to_stdin None c = None
+to_stdin (Some n) c = Some (addressed n c.execution.identities c.execution.header)
 
--- of the stdin connection that has the identity with which the requester joined, where the request allows it
-abbrev pub input_request_letters : Connections → Current → Bool → List Letter
-input_request_letters connections c wants_line =
-    if wants_line && c.execution.request.allows_stdin
-    then input_request_to (stdin_of c.execution.identity connections.peers) c else []
+-- a request for it goes to the stdin connection that has the identity with which the requester joined, where the
+-- request allows it
+abbrev pub line_envelope : Connections → Current → Option Envelope
+line_envelope connections c =
+    if c.execution.request.allows_stdin then to_stdin (stdin_of c.execution.identity connections.peers) c else None
+
+abbrev pub input_requests : Option Envelope → Bool → List Letter
+input_requests None wants_line = []
+input_requests (Some e) wants_line = if wants_line then record { envelope = e; content = content.InputRequest } ∷ [] else []
 
 abbrev pub reason_of : Stop → StopReason
 reason_of stop.Breakpoint = reason.Breakpoint
@@ -104,5 +114,5 @@ outcome_letters connections c (outcome.End e) = end_letters connections c (endin
 abbrev pub slice_letters : Connections → Current → List PortOperation → SliceOutcome → List Letter
 slice_letters connections c traffic ending =
     stream_letters connections c (filter_map printed traffic) ++
-    (input_request_letters connections c (list_any requests_line traffic) ++
+    (input_requests (line_envelope connections c) (list_any requests_line traffic) ++
     outcome_letters connections c ending)

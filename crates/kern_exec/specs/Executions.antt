@@ -1,5 +1,5 @@
 -- Executions: those that wait, and the one that is under way.
-use Rattle.std.specs.Prelude.{ℕ, ◌+◌, List, [], ◌∷◌, ◌++◌, Bool, not, ◌&&◌, Option, Some, None, if◌then◌else◌}
+use Rattle.std.specs.Prelude.{ℕ, ◌+◌, List, [], ◌∷◌, ◌++◌, not, ◌&&◌, Option, Some, None, if◌then◌else◌}
 use Rattle.kern_request.specs.declared.request.Request.{Request}
 use Rattle.kern_request.specs.declared.request.ExecuteRequest.{ExecuteRequest}
 use Rattle.kern_exec.specs.declared.execution.Execution.{Execution}

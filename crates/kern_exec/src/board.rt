@@ -1,8 +1,8 @@
 //! Events of the board.
 ghost use Rattle.std.specs.Prelude.{◌≡◌, ◌≤◌, ℕ, length, IfOk, OnErr, Err};
 ghost use Rattle.lab_core.specs.Board.{Board};
-ghost use Rattle.lab_core.specs.Events.{Fits};
-ghost use Rattle.lab_core.specs.Given.{given, traffic_in};
+ghost use Rattle.lab_core.specs.Events.{Fits, given};
+ghost use Rattle.lab_core.specs.SliceEnds.{traffic_in};
 ghost use Rattle.lab_core.specs.Memory.{MayLackMemory};
 ghost use Rattle.lab_core.specs.Labs.{StandsFor, Does};
 

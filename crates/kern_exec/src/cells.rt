@@ -8,7 +8,7 @@ ghost use Rattle.kern_exec.specs.declared.execution.Current.{Current};
 ghost use Rattle.kern_post.specs.declared.content.Ending.TheVariants.{Failed};
 ghost use Rattle.kern_exec.specs.Boards.{cell_given, cause_of, loading_by, loading_of, board_after};
 ghost use Rattle.kern_exec.specs.Ends.{input_letters, loading_letters};
-ghost use Rattle.kern_exec.specs.Kits.{IsLoadingKit, told_loading};
+ghost use Rattle.kern_exec.specs.Kits.{IsLoadingKit};
 
 use crate::board::apply_event;
 use crate::ends::{EndKit, end_kit, push_end};
@@ -76,8 +76,7 @@ pub fn loading_kit(
 /// What loading posts that came to this.
 pub fn letters_of(kit: LoadingKit, loading: Loading) -> Letters
     requires { length kit.letters ≤ 2 }
-    ensures told { result ≡ kit.letters ++ told_loading kit.end loading }
-    ensures letters { (connections : Connections) (c : Current) → IsLoadingKit connections c kit
+    ensures { (connections : Connections) (c : Current) → IsLoadingKit connections c kit
         → result ≡ loading_letters connections c loading }
 {
     let LoadingKit { mut letters, end } = kit;

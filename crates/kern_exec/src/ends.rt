@@ -1,9 +1,12 @@
 //! How an execution ends.
-ghost use Rattle.std.specs.Prelude.{◌≡◌, ◌<◌, ◌≤◌, ◌+◌, ◌++◌, length, ◌∷◌, [], IfOk};
+ghost use Rattle.std.specs.Prelude.{◌≡◌, ◌<◌, ◌≤◌, ◌+◌, ◌++◌, ℕ, List, length, ◌∷◌, [], Option, option_map};
+ghost use Rattle.std.specs.Prelude.{IfOk, codes};
 ghost use Rattle.kern_post.specs.declared.content.Ending.{Ending};
 ghost use Rattle.kern_exec.specs.declared.execution.Current.{Current};
 ghost use Rattle.kern_peers.specs.Connections.{Connections};
-ghost use Rattle.kern_exec.specs.Kits.{end_kit_of, told_error, told_end, told_cut};
+ghost use Rattle.kern_exec.specs.Letters.{published_under};
+ghost use Rattle.kern_exec.specs.Ends.{error_letters, end_letters, cut_letters};
+ghost use Rattle.kern_exec.specs.Kits.{end_kit_of};
 
 use crate::execution::{Current, Execution};
 use crate::letters::{BusyIdle, address, published_under};
@@ -57,7 +60,9 @@ pub fn end_kit(
 
 fn push_error(letters: &mut Letters, envelope: Envelope, is_silent: bool, ending: Ending)
     requires { length letters.old < 8 }
-    ensures said { letters.new ≡ letters.old ++ told_error is_silent envelope ending }
+    ensures said { (connections : Connections) (parent : List ℕ)
+        → envelope ≡ published_under connections parent (codes "error")
+        → letters.new ≡ letters.old ++ error_letters is_silent connections parent ending }
     ensures few { length letters.new ≤ length letters.old + 1 }
 {
     if is_silent {
@@ -76,7 +81,8 @@ fn push_error(letters: &mut Letters, envelope: Envelope, is_silent: bool, ending
 /// What an end posts: the error where it failed and isn't silent, the reply, and idle.
 pub fn push_end(letters: &mut Letters, kit: EndKit, ending: Ending)
     requires { length letters.old + 3 ≤ 8 }
-    ensures said { letters.new ≡ letters.old ++ told_end kit ending }
+    ensures said { (connections : Connections) (c : Current) → kit ≡ end_kit_of connections c
+        → letters.new ≡ letters.old ++ end_letters connections c ending }
     ensures few { length letters.new ≤ length letters.old + 3 }
 {
     let EndKit {
@@ -99,7 +105,9 @@ pub fn push_end(letters: &mut Letters, kit: EndKit, ending: Ending)
 
 fn push_cut(letters: &mut Letters, kit: Option<EndKit>, cause: Cause)
     requires { length letters.old + 3 ≤ 8 }
-    ensures said { letters.new ≡ letters.old ++ told_cut kit cause }
+    ensures said { (connections : Connections) (cut : Option Current)
+        → kit ≡ option_map (end_kit_of connections) cut
+        → letters.new ≡ letters.old ++ cut_letters connections cut cause }
     ensures few { length letters.new ≤ length letters.old + 3 }
 {
     match kit {
@@ -113,7 +121,8 @@ fn push_cut(letters: &mut Letters, kit: Option<EndKit>, cause: Cause)
 #[tactic(auto, using(crate::proofs::KitLemmas::grouped))]
 pub fn cut_letters(enclosed: BusyIdle, kit: Option<EndKit>, cause: Cause, reply: Letter) -> Letters
     requires { length enclosed.letters ≤ 1 }
-    ensures { result ≡ enclosed.letters ++ ((told_cut kit cause ++ reply ∷ []) ++ enclosed.idle ∷ []) }
+    ensures { (connections : Connections) (cut : Option Current) → kit ≡ option_map (end_kit_of connections) cut
+        → result ≡ enclosed.letters ++ ((cut_letters connections cut cause ++ reply ∷ []) ++ enclosed.idle ∷ []) }
 {
     let BusyIdle { mut letters, idle } = enclosed;
     push_cut(&mut letters, kit, cause);

@@ -4,8 +4,8 @@ ghost use Rattle.kern_exec.specs.Executions.{execution_of};
 
 use base_text::sequence::{Bytes, Frames};
 use base_text::text::Text;
-use kern_request::request::{ExecuteRequest, Request};
 use kern_post::post::copy_bytes;
+use kern_request::request::{ExecuteRequest, Request};
 use std::alloc::{AllocError, Global};
 
 /// An execution that was asked for, and what its posts repeat of the request.

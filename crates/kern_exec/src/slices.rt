@@ -9,10 +9,10 @@ ghost use Rattle.lab_core.specs.Labs.{StandsFor};
 ghost use Rattle.kern_peers.specs.Connections.{Connections, stdin_of};
 ghost use Rattle.kern_exec.specs.declared.execution.Current.{Current};
 ghost use Rattle.kern_exec.specs.Boards.{slice_end, after_slice};
-ghost use Rattle.kern_exec.specs.Ends.{printed, requests_line, reason_of, ending_of, slice_letters};
+ghost use Rattle.kern_exec.specs.Ends.{printed, requests_line, reason_of, ending_of, line_envelope, input_requests};
+ghost use Rattle.kern_exec.specs.Ends.{stream_letters, outcome_letters, slice_letters};
 ghost use Rattle.kern_exec.specs.Letters.{published_under};
-ghost use Rattle.kern_exec.specs.Kits.{IsSliceKit, end_kit_of, line_request_of, streamed, line_request, told_outcome};
-ghost use Rattle.kern_exec.specs.Kits.{told_slice};
+ghost use Rattle.kern_exec.specs.Kits.{IsSliceKit, end_kit_of};
 
 use crate::board::apply_event;
 use crate::ends::{EndKit, end_kit, push_end};
@@ -52,7 +52,7 @@ fn line_envelope(
     peers: &Peers,
     current: &Current,
 ) -> Result<Option<Envelope>, AllocError>
-    ensures { IfOk result (λ e. e ≡ line_request_of peers.now current.now) }
+    ensures { IfOk result (λ e. e ≡ line_envelope peers.now current.now) }
 {
     let execution = &current.execution;
     if !execution.request.allows_stdin {
@@ -150,7 +150,9 @@ fn is_line_requested(traffic: &[PortOperation]) -> bool
 
 fn push_stream(letters: &mut Letters, envelope: Envelope, is_silent: bool, text: Vec<u8>)
     requires { length letters.old < 8 }
-    ensures said { letters.new ≡ letters.old ++ streamed is_silent envelope text.items }
+    ensures said { (connections : Connections) (c : Current) → is_silent ≡ c.execution.request.is_silent
+        → envelope ≡ published_under connections c.execution.header (codes "stream")
+        → letters.new ≡ letters.old ++ stream_letters connections c text.items }
     ensures few { length letters.new ≤ length letters.old + 1 }
 {
     if is_silent || text.is_empty() {
@@ -165,7 +167,7 @@ fn push_stream(letters: &mut Letters, envelope: Envelope, is_silent: bool, text:
 
 fn push_line(letters: &mut Letters, envelope: Option<Envelope>, wants_line: bool)
     requires { length letters.old < 8 }
-    ensures said { letters.new ≡ letters.old ++ line_request envelope wants_line }
+    ensures said { letters.new ≡ letters.old ++ input_requests envelope wants_line }
     ensures few { length letters.new ≤ length letters.old + 1 }
 {
     let Some(envelope) = envelope else {
@@ -200,7 +202,9 @@ fn ending_of(end: End) -> Ending
 
 fn push_outcome(letters: &mut Letters, stopped: Envelope, end: EndKit, outcome: SliceOutcome)
     requires { length letters.old + 3 ≤ 8 }
-    ensures { letters.new ≡ letters.old ++ told_outcome stopped end outcome }
+    ensures { (connections : Connections) (c : Current) → end ≡ end_kit_of connections c
+        → stopped ≡ published_under connections c.execution.header (codes "debug_event")
+        → letters.new ≡ letters.old ++ outcome_letters connections c outcome }
 {
     match outcome {
         SliceOutcome::More | SliceOutcome::Waiting => {
@@ -225,8 +229,7 @@ fn push_outcome(letters: &mut Letters, stopped: Envelope, end: EndKit, outcome: 
 pub fn letters_of(kit: SliceKit, traffic: &[PortOperation], outcome: SliceOutcome) -> Letters
     requires room { length traffic.now ≤ vec_capacity kit.text }
     requires empty { (kit.text.items ≡ []) × (kit.letters ≡ []) }
-    ensures told { result ≡ told_slice kit traffic.now outcome }
-    ensures letters { (connections : Connections) (c : Current) → IsSliceKit connections c kit
+    ensures { (connections : Connections) (c : Current) → IsSliceKit connections c kit
         → result ≡ slice_letters connections c traffic.now outcome }
 {
     let SliceKit {

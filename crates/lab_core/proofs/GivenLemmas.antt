@@ -1,6 +1,6 @@
 -- What a lab answers to an event, in terms of the function that gives it.
 use Rattle.std.proofs.Common.{◌≡◌, ◌≢◌, ℕ, zero, suc, ◌≤◌, length, Result, Ok, Err, IfOk, subst, arith}
-use Rattle.std.proofs.Common.{length-append, Option, Some, None}
+use Rattle.std.proofs.Common.{length-append, Option, Some, None, refl}
 use Rattle.i80_exec.specs.declared.ports.PortOperation.{PortOperation}
 use Rattle.i80_exec.specs.Step.{operation_list}
 use Rattle.lab_core.specs.declared.run_state.RunState.{RunState}
@@ -12,10 +12,10 @@ use Rattle.lab_core.specs.declared.fault.EventFault.{EventFault}
 use Rattle.lab_core.specs.declared.fault.EventFault.TheVariants.{OutOfMemory}
 use Rattle.lab_core.specs.Board.{Board, next_change}
 use Rattle.lab_core.specs.Slices.{traffic_of, after_steps}
-use Rattle.lab_core.specs.Events.{Given, Gives, while_running}
-use Rattle.lab_core.specs.Given.{slice_from, sliced_at, given, traffic_in}
+use Rattle.lab_core.specs.Events.{Given, Gives, while_running, given}
+use Rattle.lab_core.specs.SliceEnds.{slice_from, sliced_at, traffic_in}
 use Rattle.lab_core.specs.Labs.{LabState, StandsFor, AppliesTo, Did, Does}
-use Rattle.lab_core.proofs.LawLemmas.{applies-given, slice_within}
+use Rattle.lab_core.proofs.LawLemmas.{applies-given, given-applies, slice_within}
 
 did : (b new : Board) (g : Given) (reply : Result Answer EventFault) (lab : LabState) → Gives b g reply new
     → StandsFor lab new → Did b g reply lab
@@ -27,6 +27,18 @@ pub does_given : (old new : LabState) (e : Event) (reply : Result Answer EventFa
 does_given old new e reply applies = λ b stands no_want.
     let a = applies b stands no_want in
     did b a.0 (given e b) reply new (applies-given b a.0 e reply a.1) a.2
+
+-- and back
+applied-by : (b : Board) (g : Given) (reply : Result Answer EventFault) (lab : LabState) → Did b g reply lab
+    → (new : Board) × Gives b g reply new × StandsFor lab new
+applied-by b (Ok (a, b')) reply lab h = (b', (h.0, refl), h.1)
+applied-by b (Err fault) reply lab h = (b, (h.0, refl), h.1)
+
+pub applied-given : (old new : LabState) (e : Event) (reply : Result Answer EventFault)
+    → Does (given e) old reply new → AppliesTo old e reply new
+applied-given old new e reply does = λ b stands no_want.
+    let a = applied-by b (given e b) reply new (does b stands no_want) in
+    (a.0, given-applies b a.0 e reply a.1, a.2)
 
 -- ---- a slice does one port operation a step at most
 

@@ -14,8 +14,18 @@ use Rattle.lab_core.specs.declared.answer.Answer.{Answer}
 use Rattle.lab_core.specs.declared.fault.EventFault.{EventFault}
 use Rattle.lab_core.specs.Board.{Board}
 use Rattle.lab_core.specs.Slices.{IsSlice, reason, early_reason, after_steps}
-use Rattle.lab_core.specs.Events.{Given, Gives, SlicesRun, Applies, Runs, while_running}
-use Rattle.lab_core.specs.Given.{or_goes_on, slice_from, sliced_at, given}
+use Rattle.asm_syntax.specs.declared.statement.Statement.{Statement}
+use Rattle.asm_syntax.specs.Outcome.{CellFault, ◌>>=◌}
+use Rattle.asm_text.specs.Statements.{statements_of}
+use Rattle.asm_text.proofs.FirstFaults.{text_says, text_faulted}
+use Rattle.asm_build.specs.Reading.{Entries}
+use Rattle.asm_build.specs.Meaning.{Meaning, built_of}
+use Rattle.asm_build.proofs.CellFaults.{judged}
+use Rattle.lab_sources.specs.declared.sources.Source.{Source}
+use Rattle.lab_core.specs.Cells.{TextGives}
+use Rattle.lab_core.specs.SliceEnds.{or_goes_on, slice_from, sliced_at}
+use Rattle.lab_core.specs.Events.{Given, Gives, SlicesRun, Loads, Applies, Runs, while_running, without_run}
+use Rattle.lab_core.specs.Events.{assembled, loaded_as, given}
 
 -- ---- a slice ends where the function says
 
@@ -76,7 +86,38 @@ ends n b (suc more) j is none =
 pub slice_within : (n : ℕ) (b : Board) → (slice_from n 0 b).0 ≤ n
 slice_within n b = (ends n b n 0 (omega arith) (λ i below. absurd (omega arith))).within
 
+-- ---- what a text gives by its statements and their readings is what the rounds give
+
+text-gives : (kept : Entries) (text : List ℕ) → TextGives kept text (assembled kept text)
+text-gives kept text = by (statements_of text) refl
+  where
+    by : (said : Result (List Statement) CellFault) → statements_of text ≡ said
+        → TextGives kept text (said >>= λ ss. built_of kept ss)
+    by (Ok ss) is = inl (ss, (text_says text ss).0 is, (judged kept ss (built_of kept ss)).0 refl)
+    by (Err fault) is = inr (fault, (text_faulted text fault).0 is, refl)
+
+so-assembled : (kept : Entries) (text : List ℕ) (cell : Result Meaning CellFault) → TextGives kept text cell
+    → assembled kept text ≡ cell
+so-assembled kept text cell (inl x) =
+    let said : statements_of text ≡ Ok x.0 = (text_says text x.0).1 x.1 in
+    rw said ((judged kept x.0 cell).1 x.2)
+so-assembled kept text cell (inr x) =
+    let said : statements_of text ≡ Err x.0 = (text_faulted text x.0).1 x.1 in
+    rw (said, x.2) refl
+
 -- ---- an event
+
+loads-given : (s : Source) (b new : Board) (reply : Result Answer EventFault) → Loads s b reply new
+    → Gives b (without_run b.run (loaded_as (assembled b.symbols s.text) s b)) reply new
+loads-given s b new reply h =
+    let P : Result Meaning CellFault → Type 0 =
+    λ cell. Gives b (without_run b.run (loaded_as cell s b)) reply new in
+    subst P (sym (so-assembled b.symbols s.text h.0 h.1)) h.2
+
+given-loads : (s : Source) (b new : Board) (reply : Result Answer EventFault)
+    → Gives b (without_run b.run (loaded_as (assembled b.symbols s.text) s b)) reply new
+    → Loads s b reply new
+given-loads s b new reply h = (assembled b.symbols s.text, text-gives b.symbols s.text, h)
 
 slices-given : (run : RunState) (n : ℕ) (b new : Board) (reply : Result Answer EventFault)
     → SlicesRun run n b reply new
@@ -105,6 +146,9 @@ alike : (b new : Board) (e : Event) (reply : Result Answer EventFault)
     → (Applies b e reply new → Gives b (given e b) reply new)
     × (Gives b (given e b) reply new → Applies b e reply new)
 alike b new (event.Slice n) reply = (slices-given b.run n b new reply, given-slices b.run n b new reply)
+alike b new (event.Load path text) reply =
+    let s : Source = record { path = path; text = text } in
+    (loads-given s b new reply, given-loads s b new reply)
 alike b new _ reply = (λ h. h, λ h. h)
 
 pub applies-given : (b new : Board) (e : Event) (reply : Result Answer EventFault) → Applies b e reply new

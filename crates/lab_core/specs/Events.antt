@@ -36,7 +36,9 @@ use Rattle.lab_core.specs.declared.answer.Answer.{Answer}
 use Rattle.lab_core.specs.declared.answer.Answer.TheVariants as answer
 use Rattle.lab_core.specs.Board.{Board}
 use Rattle.lab_core.specs.Refusals.{refused_source, refused_view, refused_poke}
+use Rattle.lab_core.specs.Cells.{TextGives}
 use Rattle.lab_core.specs.Slices.{IsSlice, after_steps, traffic_of, left_by}
+use Rattle.lab_core.specs.SliceEnds.{slice_from, sliced_at}
 
 -- what an event gives: its answer and the board after it, or why it is refused
 abbrev pub Given : Type 0
@@ -88,7 +90,7 @@ with_cell s place m b =
     let loaded = with_built (number_at place b.sources) m b in
     record loaded { sources = kept_at place s b.sources }
 
--- what a cell gives over the symbols that are kept
+-- what a text gives over the symbols that are kept, by the assembler's rounds
 abbrev pub assembled : Entries → List ℕ → Result Meaning CellFault
 assembled kept text = do
   statements ← statements_of text
@@ -98,11 +100,11 @@ abbrev pub or_source : {A : Type 0} → Result A SourceFault → Result A EventF
 or_source (Ok x) = Ok x
 or_source (Err fault) = Err (refused_source fault)
 
--- a cell whose text may be kept under its path, and that has no fault
-abbrev pub loaded : Source → Board → Given
-loaded s b = do
+-- a cell whose text may be kept under its path, where this is what the text gives or its first fault
+abbrev pub loaded_as : Result Meaning CellFault → Source → Board → Given
+loaded_as cell s b = do
   place ← or_source (place_of s b.sources)
-  meaning ← or_assembly (assembled b.symbols s.text)
+  meaning ← or_assembly cell
   Ok (answer.Loaded meaning.output.start, with_cell s place meaning b)
 
 -- a text that may be kept under its path; nothing of it is assembled
@@ -233,6 +235,29 @@ pressed n b =
     if is_some (panel_after b.past).latched then Err Latched else
     Ok (answer.Accepted, with_operation (Press n) b)
 
+-- ---- the one answer to each event, and the board after it
+
+abbrev pub given : Event → Board → Given
+given (event.Load path text) b =
+    without_run b.run (loaded_as (assembled b.symbols text) (record { path = path; text = text }) b)
+given (event.Dump path text) b = dumped (record { path = path; text = text }) b
+given (event.Start address) b = without_run b.run (Ok (answer.Started, started address b))
+given (event.Slice n) b = while_running b.run (Ok (sliced_at b (slice_from n 0 b)))
+given event.Pause b = while_attached b.is_attached (while_running b.run (Ok (answer.Accepted, stopped b)))
+given event.Resume b = while_stopped b.run (Ok (answer.Accepted, going_on None b))
+given (event.Step request) b = while_stopped b.run (Ok (answer.Accepted, going_on (Some request) b))
+given (event.Poke reference name value) b = while_stopped b.run (poked reference name value b)
+given event.Interrupt b = with_run b.run (Ok (answer.Interrupted, ended b))
+given event.Reset b = Ok (answer.Reset, reset b)
+given (event.SetBoard option) b = without_run b.run (Ok (answer.BoardSet, with_option option b))
+given (event.SetBreakpoints path lines) b = with_breakpoints path lines b
+given event.Attach b = Ok (answer.Accepted, attached b)
+given event.Detach b = Ok (answer.Accepted, detached b)
+given (event.Typed bytes) b = Ok (answer.Accepted, with_operation (Typed bytes) b)
+given (event.Switches byte) b = Ok (answer.Accepted, with_operation (Switches byte) b)
+given (event.Press n) b = pressed n b
+given (event.Show view) b = as_answer (shown view (parts_of b)) b
+
 -- ---- what is answered
 
 -- a refusal leaves the board as it was
@@ -253,36 +278,18 @@ SlicesRun NoRun n b reply new = Gives b (Err NotRunning) reply new
 SlicesRun Running n b reply new = GivesSlice n b reply new
 SlicesRun Stopped n b reply new = Gives b (Err NotRunning) reply new
 
--- On this board the event is answered so, and makes it that board.
+-- a load of what the text gives, by its statements and their readings
+abbrev pub Loads : Source → Board → Result Answer EventFault → Board → Type 0
+Loads s b reply new =
+    (cell : Result Meaning CellFault) × TextGives b.symbols s.text cell
+    × Gives b (without_run b.run (loaded_as cell s b)) reply new
+
+-- On this board the event is answered so, and makes it that board: of a load and of a slice by a condition, of
+-- all others by the function.
 abbrev pub Applies : Board → Event → Result Answer EventFault → Board → Type 0
-Applies b (event.Load path text) reply new =
-    Gives b (without_run b.run (loaded (record { path = path; text = text }) b)) reply new
-Applies b (event.Dump path text) reply new =
-    Gives b (dumped (record { path = path; text = text }) b) reply new
-Applies b (event.Start address) reply new =
-    Gives b (without_run b.run (Ok (answer.Started, started address b))) reply new
+Applies b (event.Load path text) reply new = Loads (record { path = path; text = text }) b reply new
 Applies b (event.Slice n) reply new = SlicesRun b.run n b reply new
-Applies b event.Pause reply new =
-    Gives b (while_attached b.is_attached (while_running b.run (Ok (answer.Accepted, stopped b)))) reply new
-Applies b event.Resume reply new =
-    Gives b (while_stopped b.run (Ok (answer.Accepted, going_on None b))) reply new
-Applies b (event.Step request) reply new =
-    Gives b (while_stopped b.run (Ok (answer.Accepted, going_on (Some request) b))) reply new
-Applies b (event.Poke reference name value) reply new =
-    Gives b (while_stopped b.run (poked reference name value b)) reply new
-Applies b event.Interrupt reply new = Gives b (with_run b.run (Ok (answer.Interrupted, ended b))) reply new
-Applies b event.Reset reply new = Gives b (Ok (answer.Reset, reset b)) reply new
-Applies b (event.SetBoard option) reply new =
-    Gives b (without_run b.run (Ok (answer.BoardSet, with_option option b))) reply new
-Applies b (event.SetBreakpoints path lines) reply new = Gives b (with_breakpoints path lines b) reply new
-Applies b event.Attach reply new = Gives b (Ok (answer.Accepted, attached b)) reply new
-Applies b event.Detach reply new = Gives b (Ok (answer.Accepted, detached b)) reply new
-Applies b (event.Typed bytes) reply new =
-    Gives b (Ok (answer.Accepted, with_operation (Typed bytes) b)) reply new
-Applies b (event.Switches byte) reply new =
-    Gives b (Ok (answer.Accepted, with_operation (Switches byte) b)) reply new
-Applies b (event.Press n) reply new = Gives b (pressed n b) reply new
-Applies b (event.Show view) reply new = Gives b (as_answer (shown view (parts_of b)) b) reply new
+Applies b event reply new = Gives b (given event b) reply new
 
 -- the events are answered so, in turn
 abbrev pub Runs : Board → List Event → List (Result Answer EventFault) → Board → Type 0

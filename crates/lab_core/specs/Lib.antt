@@ -3,7 +3,8 @@ pub mod Steps
 pub mod Stops
 pub mod Slices
 pub mod Refusals
+pub mod Cells
 pub mod Events
-pub mod Given
+pub mod SliceEnds
 pub mod Labs
 pub mod Memory

@@ -4,8 +4,7 @@ ghost use Rattle.lab_core.specs.declared.event.Event.{Event};
 ghost use Rattle.lab_core.specs.declared.answer.Answer.{Answer};
 ghost use Rattle.lab_core.specs.declared.fault.EventFault.{EventFault};
 ghost use Rattle.lab_core.specs.Board.{Board};
-ghost use Rattle.lab_core.specs.Events.{Applies, Gives, Runs};
-ghost use Rattle.lab_core.specs.Given.{given};
+ghost use Rattle.lab_core.specs.Events.{Applies, Gives, Runs, given};
 
 /// An event may be answered and may leave a board exactly as the function gives it: so there is an
 /// answer for each event on each board, and only one.

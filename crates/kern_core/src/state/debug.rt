@@ -1,12 +1,11 @@
 //! Requests of a debugger.
-ghost use Rattle.std.specs.Prelude.{◌≡◌, ◌<◌, ◌≤◌, ◌+◌, ◌++◌, length, true, false, option_to_list, None, Err};
+ghost use Rattle.std.specs.Prelude.{◌≡◌, ◌<◌, ◌≤◌, ◌+◌, ◌++◌, ◌∷◌, length, true, false, option_to_list, None, Err};
 ghost use Rattle.std.specs.Prelude.{IfOk, IsOk, IsErr, IsTrue, codes};
 ghost use Rattle.dap_talk.specs.Table.{IsBounded};
 ghost use Rattle.kern_debug.specs.Names.{event_after};
 ghost use Rattle.kern_core.specs.Requests.{is_reset, after_letter, is_bounded, refusing, performing, debugging};
-ghost use Rattle.kern_core.specs.Debugging.{IsDebugKit, told_debug, told_by};
-ghost use Rattle.dap_answers.specs.declared.answer.Outcome.TheVariants.{Refused};
-ghost use Rattle.kern_debug.specs.Names.{refusal_name};
+ghost use Rattle.kern_core.specs.Requests.{debug_reply, performed_letters};
+ghost use Rattle.kern_core.specs.Debugging.{IsDebugKit, Tells};
 ghost use Rattle.kern_core.specs.States.{KernelState as KernelStateOf};
 ghost use Rattle.kern_core.specs.Stands.{StandsFor, Takes, HasRoom};
 
@@ -16,13 +15,13 @@ use crate::state::KernelState;
 use base_text::text::Text;
 use dap_answers::answer::{Body, Outcome, Response};
 use dap_talk::command::{DapCommand, DapRequest};
-use kern_request::request::Request;
 use kern_debug::names::{event_after, outcome_of};
 use kern_debug::perform::perform;
 use kern_exec::letters::{BusyIdle, address, enclose, publish};
 use kern_post::content::{Cause, Content};
 use kern_post::letters::Letters;
 use kern_post::post::{Envelope, Letter};
+use kern_request::request::Request;
 use lab_core::fault::EventFault;
 use std::alloc::{AllocError, Global};
 
@@ -72,7 +71,7 @@ fn push_some(letters: &mut Letters, letter: Option<Letter>)
 // Between busy and idle the reply with this outcome, and what all are told after it.
 fn debug_letters(kit: DebugKit, outcome: Outcome, after: Option<Letter>) -> Letters
     requires { length kit.enclosed.letters ≤ 1 }
-    ensures { result ≡ told_debug kit outcome after }
+    ensures { Tells kit (λ n r d. debug_reply n r d outcome ∷ option_to_list after) result }
 {
     let DebugKit {
         enclosed,
@@ -97,7 +96,7 @@ fn debug_letters(kit: DebugKit, outcome: Outcome, after: Option<Letter>) -> Lett
 // The same of a refusal; that memory was wanting is none.
 fn refusal_letters(alloc: Global, kit: DebugKit, fault: EventFault) -> Result<Letters, AllocError>
     requires few { length kit.enclosed.letters ≤ 1 }
-    ensures told { IfOk result (λ letters. letters ≡ told_debug kit (Refused (refusal_name fault)) None) }
+    ensures told { IfOk result (Tells kit (performed_letters (Err fault) None)) }
     ensures want { fault ≡ EventFault.OutOfMemory → IsErr result }
 {
     if matches!(fault, EventFault::OutOfMemory) {
@@ -121,7 +120,7 @@ fn letters_by(
     after: Option<Letter>,
 ) -> Result<Letters, AllocError>
     requires few { length kit.enclosed.letters ≤ 1 }
-    ensures told { IfOk result (λ letters. letters ≡ told_by kit performed after) }
+    ensures told { IfOk result (Tells kit (performed_letters performed after)) }
     ensures done { IsOk performed → IsOk result }
     ensures want { performed ≡ Err EventFault.OutOfMemory → IsErr result }
 {

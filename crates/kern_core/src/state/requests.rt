@@ -1,12 +1,13 @@
 //! Requests, but for those of a debugger.
 ghost use Rattle.std.specs.Prelude.{◌≡◌, ◌<◌, ◌≤◌, ◌+◌, ◌∷◌, ◌++◌, [], length, IfOk, OnOk, OnErr, if◌then◌else◌};
+ghost use Rattle.std.specs.Prelude.{option_map};
 ghost use Rattle.kern_post.specs.declared.content.Ending.TheVariants.{Failed};
 ghost use Rattle.kern_exec.specs.Letters.{enclosed as enclosed_of};
 ghost use Rattle.kern_exec.specs.Executions.{ended};
 ghost use Rattle.kern_exec.specs.Ends.{error_letters};
-ghost use Rattle.kern_exec.specs.Kits.{IsEnclosed};
+ghost use Rattle.kern_exec.specs.Kits.{IsEnclosed, end_kit_of};
 ghost use Rattle.kern_exec.specs.Boards.{is_run};
-ghost use Rattle.kern_core.specs.Requests.{reply_to, replying, full_letters, executing, cut_kit_of, cut_letters};
+ghost use Rattle.kern_core.specs.Requests.{reply_to, replying, full_letters, executing, cut_of, cut_letters};
 ghost use Rattle.kern_core.specs.Requests.{interrupting, shutting, typing, closing, passing, unanswered, other};
 ghost use Rattle.kern_core.specs.Requests.{arriving, with_board, cut_work};
 ghost use Rattle.lab_core.specs.Events.{reset as reset_of};
@@ -20,7 +21,6 @@ use crate::state::KernelState;
 use crate::state::connections::is_iopub;
 use base_text::sequence::Bytes;
 use base_text::text::Text;
-use kern_request::request::{RequestBody, ExecuteRequest, NeedyRequest, Request};
 use kern_exec::ends::{EndKit, cut_letters, end_kit};
 use kern_exec::execution::Execution;
 use kern_exec::letters::{BusyIdle, enclose, publish, reply};
@@ -28,6 +28,7 @@ use kern_exec::runs::{interrupt, reset, type_bytes};
 use kern_post::content::{Cause, Content, Ending};
 use kern_post::letters::Letters;
 use kern_post::post::{Letter, copy_bytes};
+use kern_request::request::{ExecuteRequest, NeedyRequest, Request, RequestBody};
 use lab_core::run_state::RunState;
 use std::alloc::AllocError;
 
@@ -127,9 +128,20 @@ impl KernelState {
         ensures { Takes (other connection identity request.now request.now.body unix_seconds) self.old result self.new }
     {
         match &request.body {
-            RequestBody::Execute(execute) => self.execute(connection, identity, request, execute, unix_seconds),
+            RequestBody::Execute(execute) => self.execute(
+                connection,
+                identity,
+                request,
+                execute,
+                unix_seconds,
+            ),
             RequestBody::CommOpen { comm_id } => self.close_comm(request, comm_id, unix_seconds),
-            RequestBody::Shutdown { restarts } => self.shut_down(connection, request, *restarts, unix_seconds),
+            RequestBody::Shutdown { restarts } => self.shut_down(
+                connection,
+                request,
+                *restarts,
+                unix_seconds,
+            ),
             RequestBody::Interrupt => self.interrupt(connection, request, unix_seconds),
             RequestBody::Debug(debug) => self.debug(connection, request, debug, unix_seconds),
             RequestBody::InputReply { typed } => self.type_line(typed),
@@ -290,7 +302,8 @@ impl KernelState {
 
     // The envelopes for the end of the execution under way, where there is a run.
     fn cut_kit(&self) -> Result<Option<EndKit>, AllocError>
-        ensures { (s : KernelStateOf) → StandsFor self.now s → IfOk result (λ kit. kit ≡ cut_kit_of s) }
+        ensures { (s : KernelStateOf) → StandsFor self.now s → IfOk result (λ kit.
+            kit ≡ option_map (end_kit_of s.connections) (cut_of s)) }
     {
         if !self.has_run() {
             return Ok(None);
@@ -329,7 +342,8 @@ impl KernelState {
     // Busy and idle, and the envelopes for the end between them.
     fn cut_frame(&self, header: &Bytes) -> Result<(BusyIdle, Option<EndKit>), AllocError>
         ensures enclosed { IfOk result (λ made. IsEnclosed self.now.connections header.now made.0) }
-        ensures kit { (s : KernelStateOf) → StandsFor self.now s → IfOk result (λ made. made.1 ≡ cut_kit_of s) }
+        ensures kit { (s : KernelStateOf) → StandsFor self.now s → IfOk result (λ made.
+            made.1 ≡ option_map (end_kit_of s.connections) (cut_of s)) }
     {
         let kit = self.cut_kit()?;
         match enclose(self.alloc, &self.peers, header) {
@@ -373,7 +387,11 @@ impl KernelState {
     }
 
     // The board is reset, and these letters, which tell the end of a run, are posted.
-    pub(super) fn reset_board(&mut self, letters: Letters, unix_seconds: u64) -> Result<(), AllocError>
+    pub(super) fn reset_board(
+        &mut self,
+        letters: Letters,
+        unix_seconds: u64,
+    ) -> Result<(), AllocError>
         requires { HasRoom self.old }
         ensures ok { (s : KernelStateOf) → StandsFor self.old s → OnOk result (StandsFor self.new
             (after (posting Reply.Arrived unix_seconds letters (with_board (reset_of s.board) (cut_work s) s)))) }

@@ -12,7 +12,7 @@ ghost use Rattle.kern_core.specs.Slices.{letters_of as slice_letters_of, work_af
 ghost use Rattle.kern_core.specs.Slices.{beginning, by_start, loading, slicing};
 ghost use Rattle.kern_core.specs.Running.{IsKitOf};
 ghost use Rattle.kern_core.specs.States.{KernelState as KernelStateOf};
-ghost use Rattle.kern_core.specs.Stands.{StandsFor, Stands, Takes, TakesWhere, HasRoom};
+ghost use Rattle.kern_core.specs.Stands.{StandsFor, Stands, Takes, TakesIn, HasRoom};
 
 use crate::call::Reply;
 use crate::fault::KernelFault;
@@ -45,7 +45,7 @@ impl KernelState {
 
     fn go_on(&mut self, unix_seconds: u64) -> Result<Reply, KernelFault>
         requires { HasRoom self.old }
-        ensures { TakesWhere NoRun (λ s. by_start s.work.pending unix_seconds s) self.old result self.new }
+        ensures { TakesIn NoRun (λ s. by_start s.work.pending unix_seconds s) self.old result self.new }
     {
         match self.executions.pending() {
             None => self.load(unix_seconds),
@@ -54,7 +54,7 @@ impl KernelState {
     }
 
     fn begin(&mut self, address: u16) -> Reply
-        ensures { TakesWhere NoRun (beginning address) self.old (Ok result) self.new }
+        ensures { TakesIn NoRun (beginning address) self.old (Ok result) self.new }
     {
         start(&mut self.lab, address);
         self.executions.begin();
@@ -63,7 +63,7 @@ impl KernelState {
 
     fn load(&mut self, unix_seconds: u64) -> Result<Reply, KernelFault>
         requires { HasRoom self.old }
-        ensures { TakesWhere NoRun (λ s. loading unix_seconds s.work.queue s) self.old result self.new }
+        ensures { TakesIn NoRun (λ s. loading unix_seconds s.work.queue s) self.old result self.new }
     {
         let Some(execution) = self.executions.first() else {
             return Ok(Reply::Idle);
@@ -96,7 +96,8 @@ impl KernelState {
         ensures made { self.new.store.made ≤ self.old.store.made + 8 }
     {
         self.executions.take(loading);
-        self.store.push_all(unix_seconds, loading_letters(kit, loading));
+        self.store
+            .push_all(unix_seconds, loading_letters(kit, loading));
     }
 
     // All that a slice of the execution under way may post.
@@ -115,7 +116,7 @@ impl KernelState {
     fn run(&mut self, unix_seconds: u64) -> Result<Reply, KernelFault>
         requires room { HasRoom self.old }
         requires stands { Stands self.old }
-        ensures { TakesWhere Running (running unix_seconds) self.old result self.new }
+        ensures { TakesIn Running (running unix_seconds) self.old result self.new }
     {
         let kit = self.kit()?;
         match slice(&mut self.lab) {

@@ -2,9 +2,9 @@
 ghost use Rattle.std.specs.Prelude.{◌≡◌, ◌<◌, ◌≤◌, ℕ, [], List, All, length, take, slice_get, false, None};
 ghost use Rattle.std.specs.Prelude.{OnErr, IfOk, IfErr, IfSome, IsTrue, ◌↔◌, Err};
 ghost use Rattle.lab_core.specs.Board.{Board};
-ghost use Rattle.lab_core.specs.Events.{Runs, Fits, ended, machine_reset};
+ghost use Rattle.lab_core.specs.Events.{Runs, Fits, ended, machine_reset, given};
 ghost use Rattle.lab_core.specs.Memory.{MayLackMemory};
-ghost use Rattle.lab_core.specs.Given.{given, traffic_in};
+ghost use Rattle.lab_core.specs.SliceEnds.{traffic_in};
 ghost use Rattle.lab_core.specs.Labs.{StandsFor, AppliesTo, Does, RunsOn};
 
 use crate::answer::{Answer, Answers, EventsFault, Wanted};

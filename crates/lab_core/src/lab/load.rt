@@ -4,8 +4,8 @@ ghost use Rattle.asm_syntax.specs.Outcome.{Gives};
 ghost use Rattle.asm_build.specs.Meaning.{meaning_in};
 ghost use Rattle.lab_core.specs.Board.{Board};
 ghost use Rattle.lab_sources.specs.Sources.{number_at};
-ghost use Rattle.lab_core.specs.Events.{assembled, with_built, with_cell};
-ghost use Rattle.lab_core.specs.Labs.{StandsFor, AppliesTo};
+ghost use Rattle.lab_core.specs.Events.{assembled, with_built, with_cell, given};
+ghost use Rattle.lab_core.specs.Labs.{StandsFor, AppliesTo, Does};
 ghost use Rattle.lab_core.specs.Memory.{MayLackMemory};
 
 use crate::answer::Answer;
@@ -22,7 +22,7 @@ use std::alloc::AllocError;
 
 impl Lab {
     pub(super) fn load(&mut self, path: &str, text: &str) -> Result<Answer, EventFault>
-        ensures applied { AppliesTo self.old (Event.Load path.now text.now) result self.new }
+        ensures given { Does (given (Event.Load path.now text.now)) self.old result self.new }
         ensures err { OnErr result (self.new ≡ self.old) }
         ensures memory { result ≡ Err EventFault.OutOfMemory → MayLackMemory (Event.Load path.now text.now) self.old }
     {

@@ -1,8 +1,8 @@
-use Rattle.std.proofs.Common.{◌≡◌, ◌∙◌, Ok, subst}
+use Rattle.std.proofs.Common.{◌∙◌, subst}
 use Rattle.dap_answers.specs.Murmur.{cell_path}
 use Rattle.lab_core.specs.declared.event.Event.{Event}
 use Rattle.lab_core.specs.declared.event.Event.TheVariants as event
-use Rattle.lab_core.specs.Given.{given}
+use Rattle.lab_core.specs.Events.{given}
 use Rattle.lab_core.specs.Labs.{Does}
 use Rattle.kern_exec.proofs.BoardLemmas.{ok, err, loaded_so, refused_so}
 use Rattle.kern_exec.proofs.cells.load.Goals as goal

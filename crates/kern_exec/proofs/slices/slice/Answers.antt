@@ -1,6 +1,6 @@
 use Rattle.std.proofs.Common.{◌≤◌, length, refl, subst}
 use Rattle.lab_core.specs.declared.answer.Answer.{Answer}
-use Rattle.lab_core.specs.Given.{traffic_in}
+use Rattle.lab_core.specs.SliceEnds.{traffic_in}
 use Rattle.kern_exec.proofs.slices.slice.Goals as goal
 
 pub returns-in-Ok-Sliced-clause-few : goal.returns-in-Ok-Sliced-clause-few

@@ -1,4 +1,4 @@
-use Rattle.std.proofs.Common.{◌≡◌, ◌∙◌, ℕ, refl, sym, ap, subst, drop}
+use Rattle.std.proofs.Common.{◌∙◌, ℕ, sym, ap, subst, drop}
 use Rattle.kern_exec.specs.declared.execution.Current.{Current}
 use Rattle.kern_exec.specs.Executions.{count_with}
 use Rattle.kern_core.specs.Stands.{KernelFields, StandsFor, Grows}
@@ -17,8 +17,8 @@ returns-in-Ok c =
     let numbered : ℕ → Current = λ k. record { execution = x; count = k } in
     let is_current = ap numbered (c.count_with-count.ensures ∙ ap (count_with x) c.count.ensures) in
     let P : KernelFields → Type 0 = λ v. Grows v new in (
-      λ s stands run ne.
-          let viewed : StandsFor _ s = subst (λ v. StandsFor v s) (sym c.self.view_is) stands in
+      λ s stands ne.
+          let viewed : StandsFor _ s = subst (λ v. StandsFor v s) (sym c.self.view_is) stands.0 in
           let cell = c.in-Ok.ensures.loaded s.board viewed.board in
           let posts = c.post_loading.ensures.posts current c.in_ok-kit.ensures.kit s.posts viewed.posts in
           load_stands c.args.unix_seconds s _ new lab x rest current c.in-Ok.loading viewed c.in-Some.ensures

@@ -1,7 +1,10 @@
-use Rattle.std.proofs.Common.{◌∙◌, sym, ap, subst, rules}
+use Rattle.std.proofs.Common.{◌∙◌, List, Option, sym, ap, subst, rules}
 use Rattle.std.proofs.lemmas.Bool.{false≢true}
 use Rattle.kern_peers.specs.Connections.{Connections}
-use Rattle.kern_core.specs.Debugging.{IsDebugKit, told_by}
+use Rattle.kern_post.specs.declared.post.Letter.{Letter}
+use Rattle.kern_exec.specs.Letters.{enclosed}
+use Rattle.kern_core.specs.Requests.{performed_letters}
+use Rattle.kern_core.specs.Debugging.{IsDebugKit}
 use Rattle.kern_core.specs.Stands.{StandsFor}
 use Rattle.kern_core.proofs.DebugLemmas.{performed_stands}
 use Rattle.kern_core.proofs.state.KernelState.perform.Goals as goal
@@ -16,11 +19,13 @@ returns c = (
       let K : Connections → Type 0 = λ w. IsDebugKit w n r d c.in_ok-kit.kit in
       let kit = subst K stands.connections c.in_ok-kit.ensures.kit in
       let letter = c.in_ok-kit.ensures.after s stands in
-      let told = c.in_ok-letters.ensures.told ∙ ap (told_by c.in_ok-kit.kit c.perform-result.result) letter in
+      let L : Option Letter → List Letter =
+      λ after. enclosed s.connections r.header (performed_letters c.perform-result.result after n r d) in
+      let told = c.in_ok-letters.ensures.told s.connections n r d kit ∙ ap L letter in
       performed_stands n r d c.args.unix_seconds s _ c.perform-result.new.lab c.push_all.new.self
-      c.perform-result.result c.in_ok-kit.kit c.in_ok-letters.letters
+      c.perform-result.result c.in_ok-letters.letters
       viewed c.requires.other c.perform-result.ensures.0
-      (λ e. absurd (false≢true (c.in_ok-letters.ensures.want e))) kit told
+      (λ e. absurd (false≢true (c.in_ok-letters.ensures.want e))) told
       (c.push_all.ensures.keeps s.posts viewed.posts),
   search rules,
 )

@@ -1,9 +1,11 @@
+use Rattle.lab_core.specs.declared.event.Event.TheVariants as event
+use Rattle.lab_core.proofs.GivenLemmas.{applied-given}
 use Rattle.lab_core.proofs.lab.Lab.apply_one.Goals as goal
 
 pub returns-in-Load-clause-applied : goal.returns-in-Load-clause-applied
 returns-in-Load-clause-applied c =
     rw (c.in-Load.is, ← c.as_str.ensures, ← c.as_str-in-Load.ensures)
-    c.load.ensures.applied
+    (applied-given _ _ (event.Load c.as_str.result.now c.as_str-in-Load.result.now) _ c.load.ensures.given)
 
 pub returns-in-Load-clause-memory : goal.returns-in-Load-clause-memory
 returns-in-Load-clause-memory c =
