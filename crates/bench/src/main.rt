@@ -25,7 +25,8 @@ use std::sync::Wait;
 use std::thread::Threads;
 
 /// What is done with no word, of each work a little.
-const FEW: [(&str, u64, u64); 16] = [
+const FEW: [(&str, u64, u64); 17] = [
+    ("opcodes", 1, 2),
     ("assembler", 1000, 1),
     ("listing", 1000, 1),
     ("reassembly", 1000, 1),
@@ -67,6 +68,7 @@ fn amount<R: Threads + Wait + Sync>(
     count: u64,
 ) -> Result<u64> {
     match word {
+        "opcodes" => Ok(workloads::repeat_all(alloc, size, count)?),
         "assembler" => assembler::work(alloc, size, count),
         "listing" => listing::work(alloc, size, count),
         "reassembly" => listing::work_back(alloc, size, count),

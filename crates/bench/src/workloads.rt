@@ -65,3 +65,27 @@ pub fn work(alloc: Global, name: &str, count: u64) -> Result<Registers> {
     };
     Ok(run(loaded(alloc, code)?, &mut Slot::new(), count).regs())
 }
+
+/// HLT, which can't be repeated.
+const HLT: u8 = 0x76;
+
+// A machine whose memory has this opcode everywhere.
+fn filled(alloc: Global, opcode: u8) -> Result<Machine, AllocError> {
+    let mut machine = Machine::new(alloc)?;
+    for address in 0..=u16::MAX {
+        machine.poke(address, opcode);
+    }
+    Ok(machine)
+}
+
+/// Repeats each opcode but HLT so often on a machine of its own, and then so often on another: `bench/opcodes` counts the
+/// instructions of each run.
+pub fn repeat_all(alloc: Global, few: u64, many: u64) -> Result<u64, AllocError> {
+    for opcode in 0..=u8::MAX {
+        if opcode != HLT {
+            let _ = run(filled(alloc, opcode)?, &mut Slot::new(), few);
+            let _ = run(filled(alloc, opcode)?, &mut Slot::new(), many);
+        }
+    }
+    Ok(few.saturating_add(many))
+}

@@ -291,9 +291,10 @@ impl Machine {
         ensures was { result ≡ is_arming self.old.regs.interrupts }
     {
         let was_arming = self.is_arming();
-        if was_arming {
-            self.regs.interrupts = Interrupts::On;
-        }
+        self.regs.interrupts = match self.regs.interrupts {
+            Interrupts::Off => Interrupts::Off,
+            _ => Interrupts::On,
+        };
         was_arming
     }
 
@@ -501,12 +502,16 @@ impl Machine {
     fn exchange_with_de(&mut self)
         ensures { self.new ≡ exchanged self.old }
     {
+        // The compiler doesn't know that these are 0, so it sees no exchange. For one among the values of a loop it moves
+        // two or more of them at each step, whichever arm that is.
+        let nothing = (self.memory.len() % 256) as u8;
+        let none = (self.memory.len() / 131_072 % 256) as u8;
         let h = self.regs.h;
         let l = self.regs.l;
         self.regs.h = self.regs.d;
         self.regs.l = self.regs.e;
-        self.regs.d = h;
-        self.regs.e = l;
+        self.regs.d = h.wrapping_add(nothing);
+        self.regs.e = l.wrapping_add(none);
     }
 }
 

@@ -1,7 +1,9 @@
 -- Quiet steps, and what can come beside them.
 use Rattle.std.proofs.Common.{◌≡◌, ℕ, List, [], ◌∷◌, ◌++◌, Bool, true, false, Option, Some, None, length}
 use Rattle.std.proofs.Common.{refl, sym, ap, ◌∙◌, subst, drop, ◌==◌, ◌⊎◌, inl, inr}
+use Rattle.std.proofs.Common.{◌+◌, ◌<◌, ◌≤◌, reverse, slice_get, arith}
 use Rattle.std.proofs.lemmas.Bool.{cond_both}
+use Rattle.std.proofs.lemmas.List.{reverse-append}
 use Rattle.std.specs.Option.{option_or, IsSome}
 use Rattle.i80_exec.specs.declared.registers.Stepped.{Stepped}
 use Rattle.i80_exec.specs.declared.registers.Stepped.TheVariants.{Done}
@@ -13,7 +15,8 @@ use Rattle.i80_exec.specs.declared.registers.Kind.TheVariants as kind
 use Rattle.i80_exec.specs.Step.{operation_list, state_after, is_halt, answer_of, is_arming, Settles}
 use Rattle.i80_devs.specs.Past.{Operation, Port, Typed, Switches, Press, PanelState, DeviceState, after, panel_after}
 use Rattle.i80_devs.specs.Past.{StandsFor as DevicesStandFor}
-use Rattle.lab_frames.specs.Frames.{Advances, AtLeast, LeavesOldest, TellsSp}
+use Rattle.lab_frames.specs.declared.frame.Frame.{Frame}
+use Rattle.lab_frames.specs.Frames.{Advances, AtLeast, LeavesOldest, TellsSp, reach_of}
 use Rattle.lab_frames.proofs.FrameLemmas.{quiet-advances, quiet-oldest}
 use Rattle.lab_core.specs.declared.event.StepRequest.{StepRequest}
 use Rattle.lab_core.specs.Board.{Board, accepted, acceptance_of, next_change, stepped}
@@ -116,7 +119,31 @@ stands_quiet old b traffic machine devices answer s did tells goes_on has_moved 
       gone = λ asked. (let no : IsSome {T = StepRequest} None = rw unasked at asked in cc);
     })
 
--- ---- the kinds of quiet steps
+-- ---- another step of a burst
+
+pub stands_followed : (old : LabState) (b : Board) (traffic : List PortOperation) (machine : MachineState)
+    (devices : DeviceState) (frames : List Frame) (answer : Stepped) (left : ℕ)
+    → StandsAmid old b traffic → IsBoardStep b.past old.machine old.devices machine devices answer
+    → TellsSp answer old.machine.regs.sp machine.regs.sp → old.has_moved ≡ true → old.request ≡ None
+    → Advances answer old.machine.regs.pc machine.regs.sp old.frames frames
+    → LeavesOldest answer machine.regs.sp old.frames left
+    → StandsAmid (record old { machine = machine; devices = devices; frames = frames; is_halted = is_halt answer })
+    (stepped b) (traffic ++ operation_list (next_change b).operation)
+stands_followed old b traffic machine devices frames answer left s did tells has_moved unasked advances oldest =
+    let M : Bool → LabState = λ moved.
+    record old { machine = machine; devices = devices; frames = frames; is_halted = is_halt answer; has_moved = moved }
+    in
+    let rest : M old.has_moved ≡ M true = ap M has_moved in
+    stands_step old (M old.has_moved) b traffic answer left s did (record {
+      rest = rest;
+      frames = advances;
+      oldest = oldest;
+      tells = tells;
+      older = λ asked. (let no : IsSome {T = StepRequest} None = rw unasked at asked in cc);
+      gone = λ asked. (let no : IsSome {T = StepRequest} None = rw unasked at asked in cc);
+    })
+
+-- ---- the kinds of steps in a burst
 
 pub quiet_done : (k : Kind) (m : MachineState) → (k ≡ kind.Quiet) ⊎ (k ≡ kind.Moved) → answer_of k m ≡ Done
 quiet_done k m (inl quiet) = rw quiet refl
@@ -129,3 +156,47 @@ quiet_settled k m m' (inr moved) settles = rw moved at settles
 
 pub quiet_keeps_sp : (k : Kind) (m m' : MachineState) → k ≡ kind.Quiet → Settles k m m' → m'.regs.sp ≡ m.regs.sp
 quiet_keeps_sp k m m' quiet settles = let s = rw quiet at settles in s.0
+
+-- a step that is neither EI nor HLT
+abbrev pub GoesOn : Kind → Type 0
+GoesOn k = (k ≡ kind.Armed) ⊎ (k ≡ kind.Halted) → ⊥
+
+pub no_halt : (k : Kind) (m : MachineState) → GoesOn k → is_halt (answer_of k m) ≡ false
+no_halt kind.Quiet m on = refl
+no_halt kind.Moved m on = refl
+no_halt kind.Armed m on = absurd (on (inl refl))
+no_halt kind.Called m on = refl
+no_halt kind.Returned m on = refl
+no_halt kind.Halted m on = absurd (on (inr refl))
+no_halt kind.Undefined m on = refl
+
+pub no_arming : (k : Kind) (m m' : MachineState) → GoesOn k → Settles k m m'
+    → is_arming m'.regs.interrupts ≡ false
+no_arming kind.Quiet m m' on settles = settles.1
+no_arming kind.Moved m m' on settles = settles
+no_arming kind.Armed m m' on settles = absurd (on (inl refl))
+no_arming kind.Called m m' on settles = settles
+no_arming kind.Returned m m' on settles = settles
+no_arming kind.Halted m m' on settles = settles
+no_arming kind.Undefined m m' on settles = settles
+
+-- ---- an SP that no slot is below is within the reach of the newest
+
+at_least-append : (low : ℕ) (fs gs : List Frame) → AtLeast low fs → AtLeast low gs → AtLeast low (fs ++ gs)
+at_least-append low [] gs above rest = rest
+at_least-append low (f ∷ fs) gs above rest = (above.0, at_least-append low fs gs above.1 rest)
+
+at_least-reverse : (low : ℕ) (fs : List Frame) → AtLeast low fs → AtLeast low (reverse fs)
+at_least-reverse low [] above = tt
+at_least-reverse low (f ∷ fs) above =
+    let A : List Frame → Type 0 = λ xs. AtLeast low xs in
+    subst A (sym (reverse-append (f ∷ []) fs))
+    (at_least-append low (reverse fs) (f ∷ []) (at_least-reverse low fs above.1) (above.0, tt))
+
+within-first : (sp : ℕ) (fs : List Frame) → sp < 65536 → AtLeast sp fs → sp < reach_of (slice_get fs 0)
+within-first sp [] small above = small
+within-first sp (f ∷ fs) small above = let low : sp ≤ f.slot = above.0 in omega arith
+
+pub within_reach : (sp reach : ℕ) (fs : List Frame) → sp < 65536 → AtLeast sp fs
+    → reach ≡ reach_of (slice_get (reverse fs) 0) → sp < reach
+within_reach sp reach fs small above is = rw is (within-first sp (reverse fs) small (at_least-reverse sp fs above))

@@ -29,7 +29,7 @@ use Rattle.lab_core.specs.Stops.{since, earlier, has_step, innermost, is_gone}
 use Rattle.lab_core.specs.Slices.{ends_in_halt, reason, after_steps, traffic_of}
 use Rattle.lab_core.specs.declared.answer.SliceOutcome.{SliceOutcome}
 use Rattle.lab_core.specs.declared.lab.burst.BurstStep.{BurstStep}
-use Rattle.lab_core.specs.declared.lab.burst.BurstStep.TheVariants.{Quiet, Followed, Ended}
+use Rattle.lab_core.specs.declared.lab.burst.BurstStep.TheVariants.{Within, Last, Ended}
 use Rattle.lab_core.specs.Events.{Applies, Runs}
 
 -- what a contract sees of a lab
@@ -135,7 +135,7 @@ KeepsIn machine context machine' context' =
 abbrev pub FindsIn : {A : Type 0} → (Board → A) → A → MachineState → Context → Type 0
 FindsIn f found machine context = (lab : LabState) → Finds f found (amid lab machine context)
 
--- ---- bursts of quiet steps
+-- ---- bursts
 
 -- Nothing can come but a breakpoint or an undefined opcode: the last step wasn't HLT, one was made since the last
 -- Resume or Step, no Step is wanting, and no request is latched.
@@ -155,8 +155,8 @@ pub record IsInBurst (reach : ℕ) (machine : MachineState) (context : Context) 
 
 -- what a step of a burst ended the run with, if it did
 abbrev pub ending_of : BurstStep → Option SliceOutcome
-ending_of Quiet = None
-ending_of Followed = None
+ending_of (Within reach) = None
+ending_of Last = None
 ending_of (Ended outcome) = Some outcome
 
 -- The lab stands for the board after so many steps. No reason stood before any of them, and if one was found after

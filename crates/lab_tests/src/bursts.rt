@@ -8,74 +8,93 @@ use lab_core::answer::{Answer, End, SliceOutcome, Stop};
 use lab_core::event::Event;
 use lab_core::lab::Lab;
 use lab_frames::frames::Frames;
-use lab_test_kit::script::{is_done, load_text, set_breakpoints};
+use lab_test_kit::script::{is_done, load_text, poke, set_breakpoints};
 use std::alloc::{AllocError, Global};
 use std::rt::HostRuntime;
 
-/// A program that starts at 0, the lines with a breakpoint (a debugger is attached where there are any), and how many
-/// steps lie between presses of the request button.
+/// A program that starts at 0, the lines with a breakpoint, the values that SP is given by hand (a debugger is attached
+/// where there are any of either), and how many steps lie between changes of SP and between presses of the request button.
 #[derive(Clone, Copy)]
 struct Program {
     about: &'static str,
     text: &'static str,
     lines: &'static [u32],
+    tops: &'static [&'static str],
     stretch: u32,
 }
 
-const PROGRAMS: [Program; 9] = [
+const PROGRAMS: [Program; 10] = [
     Program {
         about: "IN and OUT in a loop",
         text: "X: IN 0\nOUT 2\nINR A\nOUT 7\nIN 1\nJMP X\n",
         lines: &[],
+        tops: &[],
         stretch: 126,
     },
     Program {
         about: "EI and DI in a loop, with requests",
         text: "ORG 38H\nINR C\nEI\nRET\nORG 0\nJMP 100H\nORG 100H\nX: LXI SP,4000H\nEI\nNOP\nDI\nINR B\nEI\nEI\nNOP\nJMP X\n",
         lines: &[],
+        tops: &[],
         stretch: 42,
     },
     Program {
         about: "HLT with interrupts on at a slice's end",
         text: "ORG 38H\nINR C\nEI\nRET\nORG 0\nJMP 100H\nORG 100H\nX: LXI SP,4000H\nEI\nNOP\nNOP\nHLT\nINR B\nJMP X\n",
         lines: &[],
+        tops: &[],
         stretch: 42,
     },
     Program {
         about: "HLT with interrupts off",
         text: "MVI B,5\nX: DCR B\nJNZ X\nHLT\nNOP\n",
         lines: &[],
+        tops: &[],
         stretch: 42,
     },
     Program {
         about: "code that changes itself into an undefined opcode",
         text: "LXI H,Y\nMVI B,9\nX: DCR B\nJNZ Y\nMVI M,8\nY: NOP\nINR M\nDCR M\nJMP X\n",
         lines: &[],
+        tops: &[],
         stretch: 42,
     },
     Program {
         about: "SP that wraps",
         text: "X: LXI SP,2\nCALL Y\nPUSH H\nPUSH D\nINX SP\nINX SP\nPOP B\nPOP B\nLXI SP,0FFFEH\nCALL Y\nPOP D\nDCX SP\nJMP X\nORG 100H\nY: PUSH B\nINX SP\nINX SP\nPUSH PSW\nPOP PSW\nRET\n",
         lines: &[],
+        tops: &[],
         stretch: 126,
     },
     Program {
         about: "calls that are left by LXI SP and by POP",
         text: "LXI SP,4000H\nX: CALL Y\nCALL Z\nJMP X\nY: CALL Z\nPUSH B\nPOP B\nRET\nZ: POP H\nPUSH H\nPOP H\nINR A\nJPO W\nLXI SP,4000H\nW: PCHL\n",
         lines: &[],
+        tops: &[],
         stretch: 126,
     },
     Program {
         about: "a breakpoint on each instruction",
         text: "LXI SP,4000H\nX: CALL Y\nINR B\nOUT 2\nJMP X\nY: DCR C\nRNZ\nRET\n",
         lines: &[1, 2, 3, 4, 5, 6, 7, 8],
+        tops: &[],
         stretch: 126,
     },
     Program {
         about: "a breakpoint that is met seldom",
         text: "LXI SP,4000H\nX: CALL Y\nINR B\nJNZ X\nOUT 2\nJMP X\nY: EI\nDCR C\nRET\n",
         lines: &[5],
+        tops: &[],
         stretch: 126,
+    },
+    Program {
+        about: "calls and returns after changes of SP by hand",
+        text: "LXI SP,0FFFEH\nX: CALL Y\nJMP X\nY: PUSH B\nCALL Z\nPOP B\nRET\nZ: INR A\nRPE\nCNZ Z\nRET\n",
+        lines: &[],
+        tops: &[
+            "65535", "16384", "2", "16382", "65534", "0", "16386", "16380",
+        ],
+        stretch: 29,
     },
 ];
 
@@ -195,8 +214,26 @@ fn resume(lab: &mut Lab) {
     let _ = is_done(lab, &Event::Resume);
 }
 
-// After a stretch the button is pressed, and a stopped run goes on.
+// Gives SP the next of the program's values, while the run is stopped.
+fn change_sp(
+    alloc: Global,
+    lab: &mut Lab,
+    program: &Program,
+    place: u32,
+) -> Result<(), AllocError> {
+    if program.tops.is_empty() {
+        return Ok(());
+    }
+    let top = program.tops[place as usize % program.tops.len()];
+    let change = poke(alloc, 1, "SP", top)?;
+    let _ = is_done(lab, &Event::Pause);
+    let _ = is_done(lab, &change);
+    Ok(())
+}
+
+// After a stretch SP is changed and the button is pressed, and a stopped run goes on.
 fn make_stretches(
+    alloc: Global,
     lab: &mut Lab,
     program: &Program,
     n: u16,
@@ -209,6 +246,7 @@ fn make_stretches(
         if !stretch(lab, n, program.stretch, kept)? {
             return Ok(());
         }
+        change_sp(alloc, lab, program, place)?;
         resume(lab);
         if place % 2 == 1 {
             let _ = is_done(lab, &Event::Press(7));
@@ -221,6 +259,9 @@ fn make_stretches(
 
 fn begin(alloc: Global, lab: &mut Lab, program: &Program) -> Result<bool, AllocError> {
     if !load_text(alloc, lab, "a", program.text)? {
+        return Ok(false);
+    }
+    if !program.tops.is_empty() && !is_done(lab, &Event::Attach) {
         return Ok(false);
     }
     if !program.lines.is_empty() {
@@ -244,7 +285,7 @@ fn seen(alloc: Global, program: &Program, n: u16) -> Result<Option<Vec<u32>>, Al
     if !begin(alloc, &mut lab, program)? {
         return Ok(None);
     }
-    make_stretches(&mut lab, program, n, &mut kept)?;
+    make_stretches(alloc, &mut lab, program, n, &mut kept)?;
     put_registers(&mut kept, lab.regs())?;
     put_frames(&mut kept, lab.frames())?;
     for address in 0..=u16::MAX {

@@ -145,7 +145,7 @@ macro_rules! arm {
         $m.exchange_with_stack();
         Kind::Quiet
     }};
-    (xchg $m:ident $opcode:ident) => {{ $m.advance(1); $m.exchange_with_de(); Kind::Quiet }};
+    (xchg $m:ident $opcode:ident) => {{ $m.exchange_with_de(); $m.advance(1); Kind::Quiet }};
     (pchl $m:ident $opcode:ident) => {{
         $m.advance(1);
         $m.jump($m.get_pair(Pair::H));
@@ -524,9 +524,9 @@ impl Machine {
         requires settled { is_arming self.old.regs.interrupts ≡ false }
         ensures { self.new ≡ (by_row (Alone (Pop pair)) (λ _. 0) self.old).after }
     {
-        self.advance(1);
         let word = self.pop_word();
         self.put_stack_pair(pair, word);
+        self.advance(1);
     }
 
     #[inline(always)]

@@ -1,13 +1,12 @@
-//! Bursts of quiet steps, of which a slice makes most of its own. A quiet step owes nothing but its count: it answers Done and
-//! leaves SP below the slot of each live frame, while no request is latched, no Step is wanting and HLT wasn't the last
-//! step. So the loop looks at its kind alone, and where a debugger is attached at the address of the next one.
-ghost use Rattle.std.specs.Prelude.{◌≡◌, ◌+◌, ◌<◌, ◌≤◌, ◌⊎◌, ℕ, true, false, None, IsSome};
-ghost use Rattle.i80_exec.specs.declared.registers.Kind.TheVariants.{Quiet, Moved};
-ghost use Rattle.i80_exec.specs.declared.registers.Stepped.TheVariants.{Done};
-ghost use Rattle.i80_exec.specs.Step.{answer_of, is_arming, is_halt, Settles};
+//! Bursts, in which a slice makes most of its steps: while no request is latched, no Step is wanting and HLT wasn't the last
+//! step. A quiet step, which answers Done and leaves SP below the slot of each live frame, owes nothing there but its count,
+//! so the loop looks at its kind alone; attached, at the address of the next one too. After another step that isn't HLT or EI
+//! the burst goes on with the frames that it left.
+ghost use Rattle.std.specs.Prelude.{◌≡◌, ◌+◌, ◌<◌, ◌≤◌, ◌⊎◌, ℕ, true, None, IsSome};
+ghost use Rattle.i80_exec.specs.declared.registers.Kind.TheVariants.{Quiet, Moved, Armed, Halted};
 ghost use Rattle.lab_frames.specs.Frames.{AtLeast};
 ghost use Rattle.lab_core.specs.Slices.{undefined, reason_apart};
-ghost use Rattle.lab_core.specs.Labs.{FindsIn, AdvancesIn, KeepsIn, Watches, IsInBurst, MakesIn, ending_of};
+ghost use Rattle.lab_core.specs.Labs.{FindsIn, AdvancesIn, KeepsIn, IsInBurst, MakesIn, ending_of};
 
 use crate::answer::{End, SliceOutcome};
 use crate::board_step::settled_step;
@@ -16,13 +15,14 @@ use crate::lab::steps::is_halt;
 use crate::seldom::seldom;
 use i80_exec::machine::Machine;
 use i80_exec::registers::{Kind, Stepped};
+use std::mem;
 
 /// What a step of a burst did.
 pub(super) enum BurstStep {
-    /// It was quiet.
-    Quiet,
-    /// It was another, which is the burst's last one.
-    Followed,
+    /// The burst goes on, where the reach of the live frames is this.
+    Within(u32),
+    /// It was HLT or EI, the burst's last one.
+    Last,
     /// An undefined opcode stands at PC; no step was made.
     Ended(SliceOutcome),
 }
@@ -33,6 +33,7 @@ fn is_quiet(kind: Kind, sp: u16, reach: u32) -> bool
     requires within { kind ≡ Quiet → sp < reach }
     ensures quiet { result ≡ true → (kind ≡ Quiet) ⊎ (kind ≡ Moved) }
     ensures within { result ≡ true → sp < reach }
+    ensures sure { (kind ≡ Quiet) ⊎ (kind ≡ Moved) → sp < reach → result ≡ true }
 {
     match kind {
         Kind::Quiet => true,
@@ -41,48 +42,116 @@ fn is_quiet(kind: Kind, sp: u16, reach: u32) -> bool
     }
 }
 
+// Whether no burst goes on after a step of this kind.
+#[inline(always)]
+fn is_last(kind: Kind) -> bool
+    ensures last { result ≡ true → (kind ≡ Armed) ⊎ (kind ≡ Halted) }
+    ensures sure { (kind ≡ Armed) ⊎ (kind ≡ Halted) → result ≡ true }
+{
+    matches!(kind, Kind::Armed | Kind::Halted)
+}
+
 impl Context {
     /// Whether a burst can begin.
     #[inline(always)]
     pub(super) fn is_ready(&self, machine: &Machine, reach: u32) -> bool
         requires above { (sp : ℕ) → sp < reach → AtLeast sp self.now.frames }
-        ensures { result ≡ true → IsInBurst reach machine.now self.now }
+        ensures ready { result ≡ true → IsInBurst reach machine.now self.now }
+        ensures sure { IsInBurst reach machine.now self.now → result ≡ true }
     {
         self.is_calm() && !machine.is_arming() && (machine.sp() as u32) < reach
     }
 
-    /// Quiet steps, at most so many, and the first that isn't. Watched, they end where a breakpoint is met.
-    #[inline(always)]
-    pub(super) fn burst(
+    /// A burst of at most so many steps. There the machine is a local value, to which nothing else refers, so that its fields
+    /// needn't go through a reference at each step. A value can't be moved out of a reference without another in its place:
+    /// that is the spare one.
+    #[inline(never)]
+    pub(super) fn burst_apart(
         &mut self,
         machine: &mut Machine,
+        spare: &mut Option<Machine>,
         most: u16,
-        is_watched: bool,
         reach: u32,
     ) -> (u16, Option<SliceOutcome>)
+        requires spare { IsSome spare.old }
         requires room { most ≤ self.old.devices.spare }
-        requires watched { Watches is_watched self.old.is_attached self.old.request }
         requires ready { IsInBurst reach machine.old self.old }
         requires free { FindsIn reason_apart None machine.old self.old }
         ensures makes { MakesIn result.0 result.1 machine.old self.old machine.new self.new }
         ensures few { result.0 ≤ most }
         ensures some { IsSome result.1 → result.0 < most }
         ensures progress { 1 ≤ most → result.1 ≡ None → 1 ≤ result.0 }
-        ensures spare { result.1 ≡ None → self.old.devices.spare ≤ self.new.devices.spare + result.0 }
-        ensures watches { Watches is_watched self.new.is_attached self.new.request }
+        ensures room { result.1 ≡ None → self.old.devices.spare ≤ self.new.devices.spare + result.0 }
+        ensures attached { self.new.is_attached ≡ self.old.is_attached }
+        ensures request { self.new.request ≡ self.old.request }
+        ensures spare { IsSome spare.new }
+    {
+        let given = spare.take().unwrap();
+        let mut local = mem::replace(machine, given);
+        let made = self.either_burst(&mut local, most, reach);
+        *spare = Some(mem::replace(machine, local));
+        made
+    }
+
+    // Attached or not: each has a loop of its own.
+    #[inline(always)]
+    fn either_burst(
+        &mut self,
+        machine: &mut Machine,
+        most: u16,
+        reach: u32,
+    ) -> (u16, Option<SliceOutcome>)
+        requires room { most ≤ self.old.devices.spare }
+        requires ready { IsInBurst reach machine.old self.old }
+        requires free { FindsIn reason_apart None machine.old self.old }
+        ensures makes { MakesIn result.0 result.1 machine.old self.old machine.new self.new }
+        ensures few { result.0 ≤ most }
+        ensures some { IsSome result.1 → result.0 < most }
+        ensures progress { 1 ≤ most → result.1 ≡ None → 1 ≤ result.0 }
+        ensures room { result.1 ≡ None → self.old.devices.spare ≤ self.new.devices.spare + result.0 }
+        ensures attached { self.new.is_attached ≡ self.old.is_attached }
+        ensures request { self.new.request ≡ self.old.request }
+    {
+        if self.is_attached {
+            return self.burst(machine, most, true, reach);
+        }
+        self.burst(machine, most, false, reach)
+    }
+
+    // Steps until the first after which no burst goes on. Attached, they end where a breakpoint is met.
+    #[inline(always)]
+    fn burst(
+        &mut self,
+        machine: &mut Machine,
+        most: u16,
+        is_attached: bool,
+        reach: u32,
+    ) -> (u16, Option<SliceOutcome>)
+        requires room { most ≤ self.old.devices.spare }
+        requires attached { self.old.is_attached ≡ is_attached }
+        requires ready { IsInBurst reach machine.old self.old }
+        requires free { FindsIn reason_apart None machine.old self.old }
+        ensures makes { MakesIn result.0 result.1 machine.old self.old machine.new self.new }
+        ensures few { result.0 ≤ most }
+        ensures some { IsSome result.1 → result.0 < most }
+        ensures progress { 1 ≤ most → result.1 ≡ None → 1 ≤ result.0 }
+        ensures room { result.1 ≡ None → self.old.devices.spare ≤ self.new.devices.spare + result.0 }
+        ensures attached { self.new.is_attached ≡ self.old.is_attached }
+        ensures request { self.new.request ≡ self.old.request }
     {
         let mut left = most;
+        let mut reach = reach;
         while left > 0 {
             match self.burst_step(machine, reach) {
-                BurstStep::Quiet => {}
-                BurstStep::Followed => return (most - left + 1, None),
+                BurstStep::Within(now) => reach = now,
+                BurstStep::Last => return (most - left + 1, None),
                 BurstStep::Ended(outcome) => {
                     seldom();
                     return (most - left, Some(outcome));
                 }
             }
             left -= 1;
-            if let Some(_) = self.met(machine, is_watched) {
+            if let Some(_) = self.met(machine, is_attached) {
                 seldom();
                 return (most - left, None);
             }
@@ -97,7 +166,7 @@ impl Context {
         ensures undefined { FindsIn undefined (ending_of result) machine.old self.old }
         ensures ended { IsSome (ending_of result) → KeepsIn machine.old self.old machine.new self.new }
         ensures made { ending_of result ≡ None → AdvancesIn machine.old self.old machine.new self.new }
-        ensures on { result ≡ BurstStep.Quiet → IsInBurst reach machine.new self.new }
+        ensures on { (now : ℕ) → result ≡ BurstStep.Within now → IsInBurst now machine.new self.new }
         ensures spare { self.old.devices.spare ≤ self.new.devices.spare + 1 }
         ensures attached { self.new.is_attached ≡ self.old.is_attached }
         ensures request { self.new.request ≡ self.old.request }
@@ -106,16 +175,17 @@ impl Context {
         let kind = settled_step(machine, &mut self.devices);
         let sp = machine.sp();
         if is_quiet(kind, sp, reach) {
-            return BurstStep::Quiet;
+            return BurstStep::Within(reach);
         }
         let answer = machine.report(kind);
         if let Stepped::Undefined { opcode } = answer {
             return BurstStep::Ended(SliceOutcome::End(End::Undefined { opcode, pc }));
         }
-        let left = self.frames.advance(answer, pc, sp);
+        let _ = self.frames.advance(answer, pc, sp);
         self.is_halted = is_halt(answer);
-        self.has_moved = true;
-        self.follow(answer, sp, left);
-        BurstStep::Followed
+        if is_last(kind) {
+            return BurstStep::Last;
+        }
+        BurstStep::Within(self.frames.reach())
     }
 }

@@ -11,7 +11,6 @@ use crate::event::Event;
 use crate::fault::EventFault;
 use crate::lab::Lab;
 use crate::run_state::RunState;
-use std::mem;
 
 impl Lab {
     /// Makes at most this many steps of the run, with room for their port operations made before.
@@ -55,10 +54,6 @@ impl Lab {
         self.context.is_attached || self.context.request.is_some()
     }
 
-    // The one place that makes steps, so that most of a step is part of its loop. There the machine is a local value,
-    // to which nothing else refers, so that its fields needn't go through a reference at each step. A value can't be
-    // moved out of a reference without another in its place: that is the spare one.
-    #[inline(never)]
     fn steps(&mut self, n: u16, is_watched: bool) -> (u16, SliceOutcome)
         requires room { n ≤ self.old.devices.spare }
         requires watched { Watches is_watched self.old.is_attached self.old.request }
@@ -66,11 +61,8 @@ impl Lab {
         ensures stands { (b : Board) → StandsFor self.old b
             → StandsAmid self.new (after_steps result.0 b) (traffic_of result.0 b) }
     {
-        let spare = self.spare.take().unwrap();
-        let mut machine = mem::replace(&mut self.machine, spare);
-        let (executed, outcome) = self.context.steps(&mut machine, n, is_watched);
-        self.spare = Some(mem::replace(&mut self.machine, machine));
-        (executed, outcome)
+        self.context
+            .steps(&mut self.machine, &mut self.spare, n, is_watched)
     }
 
     /// Stops or ends the run where the slice did.

@@ -1,4 +1,4 @@
-//! Steps of a run, whose machine is a value of the loop's own.
+//! Steps of a run, in bursts and single ones.
 ghost use Rattle.std.specs.Prelude.{◌≡◌, ◌+◌, ◌<◌, ◌≤◌, min, true, None, IfNone, IsSome};
 ghost use Rattle.i80_exec.specs.Step.{is_halt};
 ghost use Rattle.lab_core.specs.Board.{Board};
@@ -40,19 +40,22 @@ impl Context {
     pub(super) fn steps(
         &mut self,
         machine: &mut Machine,
+        spare: &mut Option<Machine>,
         n: u16,
         is_watched: bool,
     ) -> (u16, SliceOutcome)
+        requires spare { IsSome spare.old }
         requires room { n ≤ self.old.devices.spare }
         requires watched { Watches is_watched self.old.is_attached self.old.request }
         ensures slice { (lab : LabState) (b : Board) → StandsFor (amid lab machine.old self.old) b
             → IsSlice n b result.0 result.1 }
         ensures stands { (lab : LabState) (b : Board) → StandsFor (amid lab machine.old self.old) b
             → StandsAmid (amid lab machine.new self.new) (after_steps result.0 b) (traffic_of result.0 b) }
+        ensures spare { IsSome spare.new }
     {
         let mut k = 0u16;
         while k < n {
-            let (made, found) = self.round(machine, n - k, is_watched);
+            let (made, found) = self.round(machine, spare, n - k, is_watched);
             k += made;
             if let Some(outcome) = found {
                 seldom();
@@ -68,9 +71,11 @@ impl Context {
     fn round(
         &mut self,
         machine: &mut Machine,
+        spare: &mut Option<Machine>,
         most: u16,
         is_watched: bool,
     ) -> (u16, Option<SliceOutcome>)
+        requires spare { IsSome spare.old }
         requires room { most ≤ self.old.devices.spare }
         requires some { 1 ≤ most }
         requires watched { Watches is_watched self.old.is_attached self.old.request }
@@ -78,8 +83,9 @@ impl Context {
         ensures few { result.0 ≤ most }
         ensures some { IsSome result.1 → result.0 < most }
         ensures progress { result.1 ≡ None → 1 ≤ result.0 }
-        ensures spare { result.1 ≡ None → self.old.devices.spare ≤ self.new.devices.spare + result.0 }
+        ensures room { result.1 ≡ None → self.old.devices.spare ≤ self.new.devices.spare + result.0 }
         ensures watches { Watches is_watched self.new.is_attached self.new.request }
+        ensures spare { IsSome spare.new }
     {
         if let Some(outcome) = self.look(machine, is_watched) {
             seldom();
@@ -89,11 +95,11 @@ impl Context {
         if !self.is_ready(machine, reach) {
             return self.single(machine);
         }
-        self.burst(machine, most, is_watched, reach)
+        self.burst_apart(machine, spare, most, reach)
     }
 
-    // One step, or none.
-    #[inline(always)]
+    // One step, or none, which stands apart: of the functions that make steps each has the arms of all opcodes in it.
+    #[inline(never)]
     fn single(&mut self, machine: &mut Machine) -> (u16, Option<SliceOutcome>)
         requires room { 1 ≤ self.old.devices.spare }
         requires free { FindsIn reason_apart None machine.old self.old }
@@ -101,7 +107,7 @@ impl Context {
         ensures few { result.0 ≤ 1 }
         ensures some { IsSome result.1 → result.0 < 1 }
         ensures progress { result.1 ≡ None → 1 ≤ result.0 }
-        ensures spare { result.1 ≡ None → self.old.devices.spare ≤ self.new.devices.spare + result.0 }
+        ensures room { result.1 ≡ None → self.old.devices.spare ≤ self.new.devices.spare + result.0 }
         ensures attached { self.new.is_attached ≡ self.old.is_attached }
         ensures request { self.new.request ≡ self.old.request }
     {
@@ -138,7 +144,8 @@ impl Context {
     /// No step but a breakpoint's or an undefined opcode's can end the run, and no request can be accepted.
     #[inline(always)]
     pub(super) fn is_calm(&self) -> bool
-        ensures { result ≡ true → IsCalm self.now }
+        ensures calm { result ≡ true → IsCalm self.now }
+        ensures sure { IsCalm self.now → result ≡ true }
     {
         if self.is_halted || !self.has_moved || self.request.is_some() {
             return false;
@@ -146,9 +153,9 @@ impl Context {
         self.devices.request().is_none()
     }
 
-    /// What a Step looks at, after a step that answered so, left SP there and so many frames of those before it.
+    // What a Step looks at, after a step that answered so, left SP there and so many frames of those before it.
     #[inline(always)]
-    pub(super) fn follow(&mut self, answer: Stepped, sp: u16, left: usize)
+    fn follow(&mut self, answer: Stepped, sp: u16, left: usize)
         ensures rest { self.new ≡ record self.old { older = self.new.older; is_gone = self.new.is_gone } }
         ensures older { IsSome self.old.request → self.new.older ≡ min self.old.older left }
         ensures gone { IsSome self.old.request

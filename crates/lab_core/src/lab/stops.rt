@@ -67,16 +67,25 @@ fn is_first(origin: Option<Origin>) -> bool
 impl Context {
     /// The reason to end a burst, which only a breakpoint can be.
     #[inline(always)]
-    pub(super) fn met(&self, machine: &Machine, is_watched: bool) -> Option<SliceOutcome>
-        requires watched { Watches is_watched self.now.is_attached self.now.request }
+    pub(super) fn met(&self, machine: &Machine, is_attached: bool) -> Option<SliceOutcome>
+        requires attached { self.now.is_attached ≡ is_attached }
         requires calm { IsCalm self.now }
         ensures { FindsIn reason_apart result machine.now self.now }
     {
-        if is_watched {
-            self.breakpoint(machine)
+        if self.is_met(machine, is_attached) {
+            Some(SliceOutcome::Stop(Stop::Breakpoint))
         } else {
             None
         }
+    }
+
+    #[inline(always)]
+    fn is_met(&self, machine: &Machine, is_attached: bool) -> bool
+        requires attached { self.now.is_attached ≡ is_attached }
+        requires moved { self.now.has_moved ≡ true }
+        ensures { FindsIn meets_breakpoint result machine.now self.now }
+    {
+        is_attached && self.breakpoints.is_at(machine.pc())
     }
 
     /// The first of the reasons that the opcode at PC has no part in.
@@ -89,27 +98,6 @@ impl Context {
             Some(outcome) => Some(outcome),
             None => self.waiting(machine),
         }
-    }
-
-    // After a step, a breakpoint alone stops a calm run.
-    #[inline(always)]
-    fn breakpoint(&self, machine: &Machine) -> Option<SliceOutcome>
-        requires { IsCalm self.now }
-        ensures { FindsIn reason_apart result machine.now self.now }
-    {
-        if self.is_met(machine) {
-            Some(SliceOutcome::Stop(Stop::Breakpoint))
-        } else {
-            None
-        }
-    }
-
-    #[inline(always)]
-    fn is_met(&self, machine: &Machine) -> bool
-        requires { self.now.has_moved ≡ true }
-        ensures { FindsIn meets_breakpoint result machine.now self.now }
-    {
-        self.is_attached && self.breakpoints.is_at(machine.pc())
     }
 
     /// The first of the reasons that are tried after the last step too.

@@ -1,12 +1,12 @@
-use Rattle.std.proofs.Common.{◌≡◌, ◌+◌, ◌-◌, refl, arith}
+use Rattle.std.proofs.Common.{◌≡◌, ◌+◌, ◌-◌, ◌∙◌, refl, arith}
 use Rattle.lab_core.proofs.BurstLemmas.{makes_more, makes_end}
 use Rattle.lab_core.proofs.lab.Context.burst.Goals as goal
 
-pub returns-in-Followed-clause-makes : goal.returns-in-Followed-clause-makes
-returns-in-Followed-clause-makes c = λ lab b traffic s.
+pub returns-in-Last-clause-makes : goal.returns-in-Last-clause-makes
+returns-in-Last-clause-makes c = λ lab b traffic s.
     let inv = c.loop-left.invariant in
     makes_more (c.args.most - c.loop-left.left) b traffic lab _ _ _ _ (inv.makes lab b traffic s) inv.free
-    c.in-Followed.ensures.undefined (c.in-Followed.ensures.made refl)
+    c.in-Last.ensures.undefined (c.in-Last.ensures.made refl)
 
 pub returns-in-Ended-clause-makes : goal.returns-in-Ended-clause-makes
 returns-in-Ended-clause-makes c = λ lab b traffic s.
@@ -21,7 +21,7 @@ returns-in-Some-clause-makes c = λ lab b traffic s.
     let some = c.loop-left-test.true in
     let one : c.args.most - (c.loop-left.left - 1) ≡ c.args.most - c.loop-left.left + 1 = omega arith in
     rw one (makes_more (c.args.most - c.loop-left.left) b traffic lab _ _ _ _ (inv.makes lab b traffic s) inv.free
-    c.in-Quiet.ensures.undefined (c.in-Quiet.ensures.made refl))
+    c.in-Within.ensures.undefined (c.in-Within.ensures.made refl))
 
 pub loop-left-preserved : goal.loop-left-preserved
 loop-left-preserved c =
@@ -30,18 +30,19 @@ loop-left-preserved c =
     let some = c.loop-left-test.true in
     let room = inv.room in
     let was = inv.was in
-    let spare = c.in-Quiet.ensures.spare in
+    let spare = c.in-Within.ensures.spare in
     let one : c.args.most - (c.loop-left.left - 1) ≡ c.args.most - c.loop-left.left + 1 = omega arith in
     record {
       within = omega arith;
       makes = λ lab b traffic s.
           rw one (makes_more (c.args.most - c.loop-left.left) b traffic lab _ _ _ _ (inv.makes lab b traffic s)
-          inv.free c.in-Quiet.ensures.undefined (c.in-Quiet.ensures.made refl));
+          inv.free c.in-Within.ensures.undefined (c.in-Within.ensures.made refl));
       free = c.in_default.ensures;
-      ready = c.in-Quiet.ensures.on refl;
+      ready = c.in-Within.ensures.on c.in-Within.now refl;
       room = omega arith;
       was = omega arith;
-      watches = rw (c.in-Quiet.ensures.attached, c.in-Quiet.ensures.request) inv.watches;
+      attached = c.in-Within.ensures.attached ∙ inv.attached;
+      request = c.in-Within.ensures.request ∙ inv.request;
     }
 
 pub returns-clause-makes : goal.returns-clause-makes

@@ -12,7 +12,7 @@ loop-k-preserved c =
     let made = c.round-made in
     let few = made.ensures.few in
     let room = inv.room in
-    let spare = made.ensures.spare c.in_default.is in
+    let left = made.ensures.room c.in_default.is in
     let progress = made.ensures.progress c.in_default.is in
     record {
       within = omega arith;
@@ -23,6 +23,7 @@ loop-k-preserved c =
           (let m = makes_on k made.result.0 made.result.1 b _ (inv.none_before lab b s)
           (made.ensures.makes lab (after_steps k b) (traffic_of k b) (inv.stands lab b s)) in m.none_before);
       room = omega arith;
+      spare = made.ensures.spare;
       watches = made.ensures.watches;
     }
 

@@ -1,4 +1,5 @@
 use Rattle.std.proofs.Common.{◌≡◌, ◌<◌, ◌≤◌, ◌+◌, ◌-◌, ℕ, None}
+use Rattle.std.specs.Option.{IsSome}
 use Rattle.lab_core.specs.Board.{Board}
 use Rattle.lab_core.specs.Slices.{after_steps, traffic_of, reason}
 use Rattle.lab_core.specs.Labs.{LabState, StandsFor, StandsAmid, Watches, amid}
@@ -12,6 +13,7 @@ invariant-loop-k l = record {
   none_before : (lab : LabState) (b : Board) → StandsFor (amid lab l.fn.machine l.fn.self) b
       → (j : ℕ) → j < l.k → reason (after_steps j b) ≡ None;
   room : l.n ≤ l.self.devices.spare + l.k;
+  spare : IsSome l.spare;
   watches : Watches l.is_watched l.self.is_attached l.self.request;
 }
 
