@@ -1,7 +1,7 @@
 -- What each debug command makes of a board (Debug Adapter Protocol, "Requests"; Jupyter messaging,
 -- "Debug request").
 use Rattle.std.specs.Prelude.{ℕ, ◌+◌, List, Result, Ok, Err, OnErr, ◌≡◌, Bool, true, false}
-use Rattle.base_latin.specs.Latin.{latin_bytes}
+use Rattle.base_text.specs.Latin.{latin_bytes}
 use Rattle.i80_rows.specs.declared.board.Board.{Board as BoardOption}
 use Rattle.i80_rows.specs.declared.board.Board.TheVariants.{Strict, Aliases}
 use Rattle.i80_exec.specs.State.{MachineState, wrapped}

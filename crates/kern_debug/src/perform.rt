@@ -1,14 +1,14 @@
 //! Debug commands, each carried out on a board.
 ghost use Rattle.std.specs.Prelude.{◌≡◌, ◌≤◌, length};
 ghost use Rattle.dap_talk.specs.Table.{IsBounded};
-ghost use Rattle.base_latin.specs.Latin.{latin_bytes};
+ghost use Rattle.base_text.specs.Latin.{latin_bytes};
 ghost use Rattle.kern_debug.specs.Commands.{performed, answered, done, dumped, step_request, board_with};
 ghost use Rattle.kern_debug.specs.Commands.{Performs};
 
 use crate::event::{answered, done};
 use crate::look::look;
 use crate::step::step_request;
-use base_latin::latin::to_bytes;
+use base_text::latin::to_bytes;
 use base_text::sequence::Sequence;
 use base_text::text::Text;
 use dap_answers::answer::Body;

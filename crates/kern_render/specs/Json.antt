@@ -3,7 +3,7 @@
 -- members of an object stand in the order of their keys' bytes.
 use Rattle.std.specs.Prelude.{ℕ, Bool, true, false, List, [], ◌∷◌, codes}
 use Rattle.serde_json.specs.Data.{Data, boolean, string}
-use Rattle.base_latin.specs.Latin.{latin_text}
+use Rattle.base_text.specs.Latin.{latin_text}
 use Rattle.dap_answers.specs.Json.{object_of, whole_number, list_of, response_json, event_json}
 use Rattle.kern_post.specs.declared.content.ExecutionState.{ExecutionState}
 use Rattle.kern_post.specs.declared.content.ExecutionState.TheVariants as state

@@ -10,7 +10,7 @@ ghost use Rattle.kern_render.specs.Json.{
   comm_close_json,
 };
 
-use base_latin::latin::to_text;
+use base_text::latin::to_text;
 use dap_answers::object::Object;
 use kern_post::content::ExecutionState;
 use serde_json::Value;

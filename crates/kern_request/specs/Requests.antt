@@ -18,7 +18,7 @@ use Rattle.std.specs.Prelude.{
 use Rattle.serde_json.specs.Data.{Data}
 use Rattle.serde_json.specs.Find.{get, as_bool}
 use Rattle.serde_json.specs.View.{view}
-use Rattle.base_latin.specs.Latin.{latin_bytes}
+use Rattle.base_text.specs.Latin.{latin_bytes}
 use Rattle.jup_wire.specs.declared.channel.Channel.{Channel}
 use Rattle.jup_wire.specs.declared.message.Message.{Message}
 use Rattle.dap_talk.specs.Argument.{whole, text_at, member_at}

@@ -20,7 +20,7 @@ ghost use Rattle.kern_request.specs.Requests.{
 use crate::request::{RequestBody, ExecuteRequest, NeedyRequest, Request};
 use crate::content::{truth_or, whole_at};
 use crate::message_type::MessageType;
-use base_latin::latin::to_bytes;
+use base_text::latin::to_bytes;
 use base_text::text::Text;
 use dap_talk::fault::DapFault;
 use dap_talk::members::text_at;

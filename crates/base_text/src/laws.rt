@@ -1,7 +1,7 @@
 //! Laws of the definitions.
 ghost use Rattle.std.specs.Prelude.{◌≡◌, ◌<◌, ℕ, List};
 ghost use Rattle.std.specs.List.{All};
-ghost use Rattle.base_latin.specs.Latin.{latin_bytes, latin_text};
+ghost use Rattle.base_text.specs.Latin.{latin_bytes, latin_text};
 
 /// Bytes come back from their text as they were.
 #[tactic(auto, using(crate::proofs::LatinLemmas::read_back))]

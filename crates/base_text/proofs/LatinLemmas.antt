@@ -8,7 +8,7 @@ use Rattle.std.specs.Char.{encode_utf8}
 use Rattle.std.specs.List.{All}
 use Rattle.std.specs.Str.{encode_utf8_all, all_scalars}
 use Rattle.std.proofs.Math.Utf8.{scalar}
-use Rattle.base_latin.specs.Latin.{latin_byte, latin_bytes, latin_text}
+use Rattle.base_text.specs.Latin.{latin_byte, latin_bytes, latin_text}
 
 pub one_more : (bs : List ℕ) (i : ℕ) → i < length bs → encode_utf8_all (take (i + 1) bs)
     ≡ encode_utf8_all (take i bs) ++ encode_utf8 (slice_index_or bs i 0)

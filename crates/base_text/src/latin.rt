@@ -1,8 +1,8 @@
 //! The two ways between a text and its bytes in ISO 8859-1.
 ghost use Rattle.std.specs.Prelude.{◌≡◌, IfOk, string_bytes};
-ghost use Rattle.base_latin.specs.Latin.{latin_byte, latin_bytes, latin_text};
+ghost use Rattle.base_text.specs.Latin.{latin_byte, latin_bytes, latin_text};
 
-use base_text::sequence::Bytes;
+use crate::sequence::Bytes;
 use std::alloc::{AllocError, Global};
 
 /// The byte of a character.

@@ -3,8 +3,8 @@ use Rattle.std.proofs.Common.{map, ap, sym, ◌∙◌}
 use Rattle.std.proofs.lemmas.Iterator.{YieldsList-from_chars}
 use Rattle.std.proofs.lemmas.Iterator.Consumers.{YieldsList-end}
 use Rattle.std.proofs.lemmas.List.{map-id}
-use Rattle.base_latin.specs.Latin.{latin_byte, latin_bytes}
-use Rattle.base_latin.proofs.latin.to_bytes.Goals as goal
+use Rattle.base_text.specs.Latin.{latin_byte, latin_bytes}
+use Rattle.base_text.proofs.latin.to_bytes.Goals as goal
 
 pub returns : goal.returns
 unfolding latin_bytes
