@@ -383,7 +383,7 @@ impl<'a> Layout<'a> {
     }
 
     // How the next statement is laid out where it is assembled.
-    fn assembled(
+    fn lay_out_assembled(
         &self,
         alloc: Global,
         kept: &Symbols,
@@ -410,7 +410,7 @@ impl<'a> Layout<'a> {
     }
 
     // How the next statement is laid out.
-    fn laid_out(
+    fn lay_out(
         &self,
         alloc: Global,
         kept: &Symbols,
@@ -423,7 +423,7 @@ impl<'a> Layout<'a> {
             (is_selected self.now.has_ended self.now.parts statement.now) statement.now) }
     {
         if self.is_selected(statement) {
-            return self.assembled(alloc, kept, statement);
+            return self.lay_out_assembled(alloc, kept, statement);
         }
         Ok(Laid {
             place: self.place,
@@ -466,7 +466,7 @@ impl<'a> Layout<'a> {
         ensures advances { IfOk result (λ r. Advances self.old self.new statement.now r) }
         ensures small { OnOk result (self.new.place ≤ 65536) }
     {
-        match self.laid_out(alloc, kept, statement) {
+        match self.lay_out(alloc, kept, statement) {
             Ok(row) => {
                 self.advance(alloc, statement, row)?;
                 Ok(row)

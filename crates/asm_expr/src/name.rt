@@ -22,7 +22,7 @@ impl Model for Name {
 
 impl Name {
     /// The name of these ASCII bytes, in upper case.
-    pub fn folded(alloc: Global, bytes: &[u8]) -> Result<Name, AllocError>
+    pub fn fold_case(alloc: Global, bytes: &[u8]) -> Result<Name, AllocError>
         requires { EachIndex bytes.now (λ k. slice_index bytes.now k < 128) }
         ensures { IfOk result (λ name. name ≡ map to_ascii_uppercase bytes.now) }
     {

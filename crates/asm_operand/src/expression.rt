@@ -73,7 +73,7 @@ fn parens(alloc: Global, first: usize, a: Expr) -> Result<Expr, LineFault>
     }
 }
 
-fn misshapen(first: usize) -> LineFault
+fn shape_fault(first: usize) -> LineFault
     ensures { result ≡ line.At first kind.Operands }
 {
     LineFault::At {
@@ -106,7 +106,7 @@ fn infix_at<'a>(level: u8, tokens: &'a [Placed<'a>]) -> Option<(Binary, &'a [Pla
 
 // What stands in parentheses, where the closing one is at the front.
 #[tactic(auto, unfolding(crate::specs::Climb::closed))]
-fn closed<'a>(
+fn close<'a>(
     alloc: Global,
     first: usize,
     a: Expr,
@@ -115,10 +115,10 @@ fn closed<'a>(
     ensures { LineGives found result (closed first a (symbols (pieces_of tokens.now))) }
 {
     let Some((piece, rest)) = tokens.split_first() else {
-        return Err(misshapen(first));
+        return Err(shape_fault(first));
     };
     if !is_sign(b')', plain(piece.token)) {
-        return Err(misshapen(first));
+        return Err(shape_fault(first));
     }
     Ok((parens(alloc, first, a)?, rest))
 }
@@ -136,7 +136,7 @@ fn operand_at<'a>(
         (operand_at first (expr_at first n) (symbols (pieces_of tokens.now))) }
 {
     let Some((piece, rest)) = tokens.split_first() else {
-        return Err(misshapen(first));
+        return Err(shape_fault(first));
     };
     let token = plain(piece.token);
     if let Some(operator) = prefix_of(token) {
@@ -145,11 +145,11 @@ fn operand_at<'a>(
     }
     if is_sign(b'(', token) {
         let (a, after) = expr_at(alloc, first, n, 0, rest)?;
-        return closed(alloc, first, a, after);
+        return close(alloc, first, a, after);
     }
     match atom(alloc, token)? {
         Some(atom) => Ok((Expr::atom(atom), rest)),
-        None => Err(misshapen(first)),
+        None => Err(shape_fault(first)),
     }
 }
 
@@ -199,12 +199,12 @@ pub fn expression(
     ensures { LineGives (λ o. o) result (expression column (pieces_of operand.now)) }
 {
     if !is_expression(operand) {
-        return Err(misshapen(column));
+        return Err(shape_fault(column));
     }
     let first = first_column(operand);
     let (expr, rest) = expr_at(alloc, first, MOST_DEPTH, 0, operand)?;
     if !rest.is_empty() {
-        return Err(misshapen(column));
+        return Err(shape_fault(column));
     }
     Ok(Operand {
         column: first,

@@ -106,7 +106,7 @@ pub(crate) fn atom(alloc: Global, token: Token<'_>) -> Result<Option<Atom>, Allo
 {
     match token {
         Token::Number(n) => Ok(Some(Atom::Number(n))),
-        Token::Name(word) => Ok(Some(Atom::Named(Name::folded(alloc, word.letters)?))),
+        Token::Name(word) => Ok(Some(Atom::Named(Name::fold_case(alloc, word.letters)?))),
         Token::Sign(b'$') => Ok(Some(Atom::Here)),
         _ => Ok(None),
     }

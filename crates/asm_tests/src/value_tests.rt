@@ -30,7 +30,7 @@ fn number(n: u16) -> Expr {
 fn named(alloc: Global, letter: u8) -> Result<Expr, TreeFault>
     requires { letter < 128 }
 {
-    match Name::folded(alloc, &[letter]) {
+    match Name::fold_case(alloc, &[letter]) {
         Ok(name) => Ok(Expr::atom(Atom::Named(name))),
         Err(_) => Err(TreeFault::OutOfMemory),
     }

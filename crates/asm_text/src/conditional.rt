@@ -50,7 +50,7 @@ impl OpenIfs {
         ensures { LineGives (λ _. self.new) result (at_if line column self.old) }
     {
         if self.len == MOST_OPEN {
-            return Err(unmatched(column));
+            return Err(unmatched_fault(column));
         }
         self.items[self.len] = OpenIf {
             line,
@@ -67,11 +67,11 @@ impl OpenIfs {
         ensures { LineGives (λ _. self.new) result (at_else column self.old) }
     {
         if self.len == 0 {
-            return Err(unmatched(column));
+            return Err(unmatched_fault(column));
         }
         let innermost = self.items[self.len - 1];
         if innermost.has_else {
-            return Err(unmatched(column));
+            return Err(unmatched_fault(column));
         }
         self.items[self.len - 1] = OpenIf {
             line: innermost.line,
@@ -86,7 +86,7 @@ impl OpenIfs {
         ensures { LineGives (λ _. self.new) result (at_endif column self.old) }
     {
         if self.len == 0 {
-            return Err(unmatched(column));
+            return Err(unmatched_fault(column));
         }
         self.len -= 1;
         Ok(())
@@ -125,7 +125,7 @@ impl OpenIfs {
     }
 }
 
-fn unmatched(column: usize) -> LineFault
+fn unmatched_fault(column: usize) -> LineFault
     ensures { result ≡ LineFault.At column (FaultKind.Conditional false) }
 {
     LineFault::At {

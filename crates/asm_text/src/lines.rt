@@ -34,7 +34,7 @@ fn name_at(alloc: Global, placed: &Placed) -> Result<Option<Label>, LineFault>
     let column = placed.column;
     match placed.token {
         Token::Name(word) => {
-            let name = Name::folded(alloc, word.letters)?;
+            let name = Name::fold_case(alloc, word.letters)?;
             Ok(Some(Label { column, name }))
         }
         Token::Keyword(_) | Token::Overlong => Err(LineFault::At {

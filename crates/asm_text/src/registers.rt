@@ -17,7 +17,7 @@ pub trait Named: Copy {
     ghost meaning: { RegisterWord → Option Self };
 
     /// What the word stands for, if anything here.
-    fn named(word: RegisterWord) -> Option<Self>
+    fn from_word(word: RegisterWord) -> Option<Self>
         ensures { result ≡ meaning word };
 }
 
@@ -25,7 +25,7 @@ pub trait Named: Copy {
 impl Named for Reg {
     ghost meaning = { reg_of };
 
-    fn named(word: RegisterWord) -> Option<Reg> {
+    fn from_word(word: RegisterWord) -> Option<Reg> {
         match word {
             RegisterWord::A => Some(Reg::A),
             RegisterWord::B => Some(Reg::B),
@@ -44,7 +44,7 @@ impl Named for Reg {
 impl Named for Pair {
     ghost meaning = { pair_of };
 
-    fn named(word: RegisterWord) -> Option<Pair> {
+    fn from_word(word: RegisterWord) -> Option<Pair> {
         match word {
             RegisterWord::B => Some(Pair::B),
             RegisterWord::D => Some(Pair::D),
@@ -59,7 +59,7 @@ impl Named for Pair {
 impl Named for IndexPair {
     ghost meaning = { index_of };
 
-    fn named(word: RegisterWord) -> Option<IndexPair> {
+    fn from_word(word: RegisterWord) -> Option<IndexPair> {
         match word {
             RegisterWord::B => Some(IndexPair::B),
             RegisterWord::D => Some(IndexPair::D),
@@ -72,7 +72,7 @@ impl Named for IndexPair {
 impl Named for StackPair {
     ghost meaning = { stack_of };
 
-    fn named(word: RegisterWord) -> Option<StackPair> {
+    fn from_word(word: RegisterWord) -> Option<StackPair> {
         match word {
             RegisterWord::B => Some(StackPair::B),
             RegisterWord::D => Some(StackPair::D),
@@ -117,7 +117,7 @@ pub fn named_operand<T: Named>(column: usize, operand: &[Placed]) -> Result<T, L
     ensures { LineGives (λ x. x) result (named_by column T.meaning (pieces_of operand.now)) }
 {
     let named = match register(operand) {
-        Some(word) => T::named(word),
+        Some(word) => T::from_word(word),
         None => None,
     };
     fitting(column, named)

@@ -2,12 +2,12 @@
 use base_text::sequence::{Bytes, Frames};
 use base_text::text::Text;
 use jup_wire::channel::Channel;
-use kern_request::request::{RequestBody, ExecuteRequest, Request};
 use kern_core::call::{Arrival, Call, Reply};
 use kern_core::fault::KernelFault;
 use kern_core::held::Held;
 use kern_core::kernel::Kernel;
 use kern_post::post::Post;
+use kern_request::request::{ExecuteRequest, Request, RequestBody};
 use std::alloc::{AllocError, Global};
 
 /// 2026-01-01T00:00:00Z.
@@ -84,7 +84,12 @@ pub fn arrive(alloc: Global, kernel: &mut Kernel, question: Question) -> Result<
 
 /// The kernel goes on. Whether the call was accepted.
 pub fn slice(kernel: &mut Kernel) -> bool {
-    is_accepted(kernel, Call::Slice { unix_seconds: MOMENT })
+    is_accepted(
+        kernel,
+        Call::Slice {
+            unix_seconds: MOMENT,
+        },
+    )
 }
 
 /// What a fetch for connection 1 answers.

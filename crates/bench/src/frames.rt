@@ -2,8 +2,8 @@
 use anyhow::{Result, bail};
 use base_text::sequence::Bytes;
 use std::alloc::{AllocError, Global};
-use zmtp_wire::role::Role;
 use zmtp_wire::decoder::Decoder;
+use zmtp_wire::role::Role;
 use zmtp_wire::writing::{greeting, put_message, ready};
 
 // A message of one frame of so many bytes.

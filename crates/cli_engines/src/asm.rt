@@ -28,11 +28,11 @@ use asm_syntax::fault::{AsmFault, FaultKind};
 use asm_text::statements::{MOST_BYTES, statements};
 use base_streams::ports::{Inlet, Outlet};
 use base_text::hexadecimal::push_word;
-use i80_exec::machine::Machine;
 use cli_io::reading::read_text;
 use cli_io::report::{Report, deliver, text_refusal};
 use cli_io::status::Status;
 use cli_run::runner::Runner;
+use i80_exec::machine::Machine;
 use std::alloc::{AllocError, Global};
 
 /// How many steps a run may have.
@@ -92,7 +92,7 @@ fn cell_report(alloc: Global, text: &str) -> Result<Report, AllocError>
     ensures { IfOk result (λ report.
         IsReport report (cell_status (cell_of text.now)) (cell_text (cell_of text.now))) }
 {
-    match assembled(alloc, text) {
+    match assemble(alloc, text) {
         Ok(built) => built_report(alloc, &built.image, built.start),
         Err(AsmFault::At { line, column, kind }) => {
             fault_report(alloc, line, column, kind.name())
@@ -102,7 +102,7 @@ fn cell_report(alloc: Global, text: &str) -> Result<Report, AllocError>
 }
 
 /// What a cell gives over no symbols.
-fn assembled(alloc: Global, text: &str) -> Result<Built, AsmFault>
+fn assemble(alloc: Global, text: &str) -> Result<Built, AsmFault>
     ensures { Gives meaning_in result (cell_of text.now) }
 {
     let statements = statements(alloc, text)?;

@@ -6,11 +6,11 @@ ghost use Rattle.cli_io.specs.Streams.{BlamesReader};
 ghost use Rattle.cli_engines.specs.DisText.{listed_text, listed_status, dis_text, dis_status};
 
 use base_streams::ports::{Inlet, Outlet};
-use i80_dis::listing::listing;
-use i80_rows::memory::MEMORY_SIZE;
 use cli_io::reading::read_hex;
 use cli_io::report::{Report, deliver, hex_refusal, refusal};
 use cli_io::status::Status;
+use i80_dis::listing::listing;
+use i80_rows::memory::MEMORY_SIZE;
 use std::alloc::{AllocError, Global};
 
 /// Reads bytes as hexadecimal text and writes their listing, of which the first stands at this

@@ -13,9 +13,9 @@ ghost use Rattle.cli_engines.specs.Image.{
 };
 
 use base_text::hexadecimal::push_word;
+use cli_run::printing::push_field;
 use i80_exec::machine::Machine;
 use i80_rows::memory::MEMORY_SIZE;
-use cli_run::printing::push_field;
 use std::alloc::{AllocError, Global};
 
 /// The most bytes that stand on one line.

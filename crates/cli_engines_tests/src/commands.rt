@@ -1,6 +1,6 @@
 //! The exit numbers, and a writer that can't be flushed.
 use crate::words::Word;
-use cli_io::report::flushed;
+use cli_io::report::flush_report;
 use cli_io::status::Status;
 use std::io;
 use std::io::{ErrorKind, Write};
@@ -38,13 +38,13 @@ impl Write for Unflushed {
 fn a_writer_that_cannot_be_flushed_has_failed(rt: HostRuntime) {
     let (status, mut writer) = Word::Step.run(rt.alloc(), b"76".as_slice(), Unflushed);
     assert!(rt; status == Status::Success);
-    assert!(rt; flushed(status, &mut writer) == Status::Failed);
+    assert!(rt; flush_report(status, &mut writer) == Status::Failed);
 }
 
 #[test]
 fn a_writer_that_is_flushed_leaves_the_status(rt: HostRuntime) {
     for status in [Status::Success, Status::Refused, Status::OutOfMemory] {
         let mut written = Vec::<u8>::new(rt.alloc());
-        assert!(rt; flushed(status, &mut written) == status);
+        assert!(rt; flush_report(status, &mut written) == status);
     }
 }

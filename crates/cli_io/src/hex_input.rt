@@ -166,7 +166,7 @@ impl HexInput {
 
 /// The bytes whose digits have these values, the high digit of each first. A digit that is left over
 /// makes no byte.
-pub fn paired(alloc: Global, digits: &[u8]) -> Result<Vec<u8>, AllocError>
+pub fn pair_digits(alloc: Global, digits: &[u8]) -> Result<Vec<u8>, AllocError>
     requires { All (λ d. d < 16) digits.now }
     ensures { IfOk result (λ bytes. bytes.items ≡ paired digits.now) }
 {

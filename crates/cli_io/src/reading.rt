@@ -5,7 +5,7 @@ ghost use Rattle.cli_io.specs.Streams.{IsReading, IsHex, IfReadFailed, IfTextFai
 ghost use Rattle.cli_io.specs.TextState.{StandsFor, IsText, IsTextReading};
 
 pub use crate::hex_input::HexFault;
-use crate::hex_input::{HexInput, paired};
+use crate::hex_input::{HexInput, pair_digits};
 use crate::intake::{PourFault, pour};
 use crate::status::Status;
 pub use crate::text_input::TextFault;
@@ -31,7 +31,7 @@ pub fn read_hex<R: Inlet>(alloc: Global, reader: &mut R) -> Result<Vec<u8>, HexF
     let mut buffer = new_buffer(alloc)?;
     let input = read_digits(alloc, reader, &mut buffer)?;
     match input.digits() {
-        Ok(digits) => Ok(paired(alloc, digits)?),
+        Ok(digits) => Ok(pair_digits(alloc, digits)?),
         Err(fault) => Err(fault),
     }
 }

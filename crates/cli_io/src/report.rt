@@ -73,7 +73,7 @@ pub fn deliver<W: Outlet>(writer: &mut W, report: &Report) -> Status
 }
 
 /// The status after a writer has written out what it kept back: where it can't, the write has failed.
-pub fn flushed<W: Write>(status: Status, writer: &mut W) -> Status
+pub fn flush_report<W: Write>(status: Status, writer: &mut W) -> Status
     ensures status { (result ≡ status) ⊎ (result ≡ Status.Failed) }
     ensures kept { Keeps (W.contents writer.old) (W.contents writer.new) }
 {

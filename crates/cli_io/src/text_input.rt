@@ -128,7 +128,7 @@ impl TextInput {
     {
         let TextInput { kept, is_long, .. } = self;
         if !is_long {
-            return decoded(kept);
+            return decode(kept);
         }
         if is_empty(kept.as_slice()) {
             Ok(None)
@@ -145,7 +145,7 @@ fn is_empty(bytes: &[u8]) -> bool
     bytes.is_empty()
 }
 
-fn decoded(bytes: Vec<u8>) -> Result<Option<String>, TextFault>
+fn decode(bytes: Vec<u8>) -> Result<Option<String>, TextFault>
     ensures { IsDecoded result bytes.items }
 {
     match String::from_utf8(bytes) {

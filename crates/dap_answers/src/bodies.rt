@@ -157,7 +157,7 @@ fn one_text(alloc: Global, key: &str, text: &str) -> Result<Value, AllocError>
     Object::new(alloc).text(key, text).finish()
 }
 
-fn continued(alloc: Global) -> Result<Value, AllocError>
+fn continue_body(alloc: Global) -> Result<Value, AllocError>
     ensures { IfOk result (λ v. view v ≡ object_of ((codes "allThreadsContinued", boolean true) ∷ [])) }
 {
     Object::new(alloc)
@@ -178,7 +178,7 @@ pub fn body_json(alloc: Global, body: &Body) -> Result<Value, AllocError>
         Body::Scopes => one_list(alloc, "scopes", &EVERY_SCOPE),
         Body::Variables(list) => one_list(alloc, "variables", list.as_slice()),
         Body::Value(text) => one_text(alloc, "value", text.as_str()),
-        Body::Continued => continued(alloc),
+        Body::Continued => continue_body(alloc),
         Body::Instructions(list) => one_list(alloc, "instructions", list.as_slice()),
         Body::Content(text) => one_text(alloc, "content", text.as_str()),
         Body::SourcePath(path) => one_text(alloc, "sourcePath", path.as_str()),

@@ -21,7 +21,7 @@ fn times_m(n: u32) -> u32
 }
 
 #[tactic(auto, unfolding(crate::specs::Murmur::mixed))]
-fn mixed(k: u32) -> u32
+fn mix(k: u32) -> u32
     ensures { result ≡ mixed k }
 {
     let k = times_m(k);
@@ -29,7 +29,7 @@ fn mixed(k: u32) -> u32
 }
 
 #[tactic(auto, unfolding(crate::specs::Murmur::finished))]
-fn finished(h: u32) -> u32
+fn finalize(h: u32) -> u32
     ensures { result ≡ finished h }
 {
     let h = times_m(h ^ (h >> 13));
@@ -70,10 +70,10 @@ fn murmur2(bytes: &[u8]) -> u32
     let mut left = bytes;
     while left.len() >= 4 {
         let (word, others) = left.split_at(4);
-        h = times_m(h) ^ mixed(low_first(word));
+        h = times_m(h) ^ mix(low_first(word));
         left = others;
     }
-    finished(with_tail(h, left))
+    finalize(with_tail(h, left))
 }
 
 /// The path of a cell's text, as Jupyter's `debugInfo` lets a frontend compute it: the prefix, the

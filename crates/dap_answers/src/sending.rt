@@ -76,7 +76,7 @@ pub fn response(alloc: Global, seq: u64, response: &Response) -> Result<Value, A
     }
 }
 
-fn stopped(alloc: Global, reason: StopReason) -> Result<Value, AllocError>
+fn stopped_body(alloc: Global, reason: StopReason) -> Result<Value, AllocError>
     ensures { IfOk result (λ v. view v ≡ stopped_json reason) }
 {
     Object::new(alloc)
@@ -86,7 +86,7 @@ fn stopped(alloc: Global, reason: StopReason) -> Result<Value, AllocError>
         .finish()
 }
 
-fn continued(alloc: Global) -> Result<Value, AllocError>
+fn continued_body(alloc: Global) -> Result<Value, AllocError>
     ensures { IfOk result (λ v. view v ≡ continued_json) }
 {
     Object::new(alloc)
@@ -117,7 +117,12 @@ pub fn event(alloc: Global, seq: u64, event: Event) -> Result<Value, AllocError>
 {
     match event {
         Event::Initialized => bare_event(alloc, seq, "initialized").finish(),
-        Event::Stopped(reason) => event_with_body(alloc, seq, "stopped", stopped(alloc, reason)?),
-        Event::Continued => event_with_body(alloc, seq, "continued", continued(alloc)?),
+        Event::Stopped(reason) => event_with_body(
+            alloc,
+            seq,
+            "stopped",
+            stopped_body(alloc, reason)?,
+        ),
+        Event::Continued => event_with_body(alloc, seq, "continued", continued_body(alloc)?),
     }
 }

@@ -246,7 +246,7 @@ impl CommandName {
     }
 
     /// The command of this text, if it is one.
-    pub fn named(text: &str) -> Option<CommandName>
+    pub fn from_name(text: &str) -> Option<CommandName>
         ensures first { result ≡ named text.now }
         ensures spelled { IfSome result (λ name. spelled name ≡ text.now) }
     {

@@ -213,7 +213,7 @@ pub fn read_request<'a>(alloc: Global, value: &'a Value) -> Result<DapRequest, D
     let Some((seq, text)) = envelope_of(value) else {
         return Err(DapFault::NotRequest);
     };
-    let Some(name) = CommandName::named(text) else {
+    let Some(name) = CommandName::from_name(text) else {
         return Err(DapFault::Command { seq, command: text });
     };
     match read_command(alloc, name, value) {

@@ -115,7 +115,7 @@ fn put_arguments(told: &mut String, command: &DapCommand) -> Result<(), AllocErr
 // Adds the number of a request, its command and its arguments.
 fn put_request(told: &mut String, request: &DapRequest) -> Result<(), AllocError> {
     let name = request.command.name();
-    if CommandName::named(name.as_str()) != Some(name) {
+    if CommandName::from_name(name.as_str()) != Some(name) {
         return told.push_str("another command");
     }
     write!(told, "{} {}", request.seq, name.as_str())?;

@@ -170,7 +170,7 @@ impl Devices {
         if n > 7 {
             return Err(PressFault::Vector);
         }
-        if self.panel.latched().is_some() {
+        if self.panel.latched_request().is_some() {
             return Err(PressFault::Latched);
         }
         self.panel.set_latched(Some(n));
@@ -184,7 +184,7 @@ impl Devices {
             → result ≡ (panel_after past).latched }
         ensures vector { IfSome result (λ n. n ≤ 7) }
     {
-        self.panel.latched()
+        self.panel.latched_request()
     }
 
     /// Takes the latched request away, as its acceptance does. Where there is none, nothing changes.

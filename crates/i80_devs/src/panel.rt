@@ -106,7 +106,7 @@ impl Panel {
     }
 
     #[inline]
-    pub fn latched(&self) -> Option<u8>
+    pub fn latched_request(&self) -> Option<u8>
         ensures value { result ≡ self.now.latched }
         ensures vector { IfSome result (λ n. n ≤ 7) }
     {

@@ -99,7 +99,7 @@ impl Machine {
     pub fn new(alloc: Global) -> Result<Machine, AllocError>
         ensures { IfOk result (λ m. m ≡ power_on) }
     {
-        let memory = zeroed(alloc, MEMORY_SIZE)?;
+        let memory = zero_bytes(alloc, MEMORY_SIZE)?;
         let regs = Registers {
             a: 0,
             b: 0,
@@ -515,7 +515,7 @@ impl Machine {
     }
 }
 
-fn zeroed(alloc: Global, count: usize) -> Result<Vec<u8>, AllocError>
+fn zero_bytes(alloc: Global, count: usize) -> Result<Vec<u8>, AllocError>
     ensures { IfOk result (λ v. v.items ≡ replicate count 0) }
 {
     vec![in alloc; 0; count]

@@ -87,8 +87,8 @@ impl Hmac {
     {
         let block = block_of(key);
         Hmac {
-            inner: Sha256::new_with_prefix(padded(block, INNER_PAD)),
-            outer: Sha256::new_with_prefix(padded(block, OUTER_PAD)),
+            inner: Sha256::new_with_prefix(xor_pad(block, INNER_PAD)),
+            outer: Sha256::new_with_prefix(xor_pad(block, OUTER_PAD)),
         }
     }
 
@@ -112,13 +112,13 @@ fn block_of(key: &[u8]) -> [u8; BLOCK]
     ensures { result ≡ block_of key.now }
 {
     if key.len() > BLOCK {
-        zero_filled(&Sha256::digest(key))
+        zero_fill(&Sha256::digest(key))
     } else {
-        zero_filled(key)
+        zero_fill(key)
     }
 }
 
-fn zero_filled(key: &[u8]) -> [u8; BLOCK]
+fn zero_fill(key: &[u8]) -> [u8; BLOCK]
     requires { length key.now ≤ 64 }
     ensures { result ≡ zero_filled key.now }
 {
@@ -129,7 +129,7 @@ fn zero_filled(key: &[u8]) -> [u8; BLOCK]
     block
 }
 
-fn padded(mut block: [u8; BLOCK], pad: u8) -> [u8; BLOCK]
+fn xor_pad(mut block: [u8; BLOCK], pad: u8) -> [u8; BLOCK]
     ensures { result ≡ padded pad block }
 {
     for byte in block.iter_mut() {

@@ -9,7 +9,7 @@ use lab_core::fault::EventFault;
 use lab_core::lab::Lab;
 
 /// Does an event, and gives the body that carries its answer.
-pub fn answered(lab: &mut Lab, event: &Event) -> Result<Body, EventFault>
+pub fn answer_to(lab: &mut Lab, event: &Event) -> Result<Body, EventFault>
     requires { Fits event.now }
     ensures { Performs (answered event.now) lab.old result lab.new }
 {
@@ -18,7 +18,7 @@ pub fn answered(lab: &mut Lab, event: &Event) -> Result<Body, EventFault>
 }
 
 /// Does an event, and gives this body.
-pub fn done(lab: &mut Lab, event: &Event, body: Body) -> Result<Body, EventFault>
+pub fn apply_for(lab: &mut Lab, event: &Event, body: Body) -> Result<Body, EventFault>
     requires { Fits event.now }
     ensures { Performs (done event.now body) lab.old result lab.new }
 {

@@ -3,7 +3,7 @@ ghost use Rattle.std.specs.Prelude.{◌≡◌, ◌+◌};
 ghost use Rattle.i80_exec.specs.State.{wrapped};
 ghost use Rattle.kern_debug.specs.Commands.{performed, answered, disassembled, Performs, IsLook};
 
-use crate::event::answered;
+use crate::event::answer_to;
 use crate::far::after_instructions;
 use base_text::text::Text;
 use dap_answers::answer::Body;
@@ -20,7 +20,7 @@ const REGISTERS: u32 = 1;
 fn show(lab: &mut Lab, view: View) -> Result<Body, EventFault>
     ensures { Performs (answered (Event.Show view)) lab.old result lab.new }
 {
-    answered(lab, &Event::Show(view))
+    answer_to(lab, &Event::Show(view))
 }
 
 fn source(lab: &mut Lab, path: &Text) -> Result<Body, EventFault>

@@ -5,7 +5,7 @@ ghost use Rattle.base_text.specs.Latin.{latin_bytes};
 ghost use Rattle.kern_debug.specs.Commands.{performed, answered, done, dumped, step_request, board_with};
 ghost use Rattle.kern_debug.specs.Commands.{Performs};
 
-use crate::event::{answered, done};
+use crate::event::{answer_to, apply_for};
 use crate::look::look;
 use crate::step::step_request;
 use base_text::latin::to_bytes;
@@ -26,14 +26,14 @@ fn set_breakpoints(lab: &mut Lab, path: &Text, lines: &Sequence<u32>) -> Result<
 {
     let path = path.clone()?;
     let lines = lines.clone()?;
-    answered(lab, &Event::SetBreakpoints { path, lines })
+    answer_to(lab, &Event::SetBreakpoints { path, lines })
 }
 
 fn step(lab: &mut Lab, kind: StepKind, granularity: Granularity) -> Result<Body, EventFault>
     ensures { Performs (done (Event.Step (step_request kind granularity)) Body.Empty) lab.old result lab.new }
 {
     let request = step_request(kind, granularity);
-    done(lab, &Event::Step(request), Body::Empty)
+    apply_for(lab, &Event::Step(request), Body::Empty)
 }
 
 /// Keeps a cell's text under the path by which a frontend knows it, and answers the path. The copies
@@ -44,7 +44,7 @@ fn dump_cell(alloc: Global, lab: &mut Lab, code: &Text) -> Result<Body, EventFau
     let path = cell_path(alloc, code.as_str())?;
     let text = code.clone()?;
     let answer = path.clone()?;
-    done(lab, &Event::Dump { path, text }, Body::SourcePath(answer))
+    apply_for(lab, &Event::Dump { path, text }, Body::SourcePath(answer))
 }
 
 /// Writes a register or a byte of memory. The answer's text is made before it is written.
@@ -63,7 +63,7 @@ fn set_variable(
         name,
         value,
     };
-    answered(lab, &event)
+    answer_to(lab, &event)
 }
 
 fn board_with_aliases(aliases: bool) -> Board
@@ -81,7 +81,7 @@ fn type_text(alloc: Global, lab: &mut Lab, text: &Text) -> Result<Body, EventFau
     ensures { Performs (done (Event.Typed (latin_bytes text.now)) Body.Empty) lab.old result lab.new }
 {
     let bytes = to_bytes(alloc, text.as_str())?;
-    done(lab, &Event::Typed(bytes), Body::Empty)
+    apply_for(lab, &Event::Typed(bytes), Body::Empty)
 }
 
 /// Carries out a command on a board (Debug Adapter Protocol, "Requests"; Jupyter messaging, "Debug
@@ -94,26 +94,30 @@ pub fn perform(alloc: Global, lab: &mut Lab, command: &DapCommand) -> Result<Bod
 {
     match command {
         DapCommand::Initialize => Ok(Body::Capabilities),
-        DapCommand::Attach => done(lab, &Event::Attach, Body::Empty),
-        DapCommand::Disconnect => done(lab, &Event::Detach, Body::Empty),
+        DapCommand::Attach => apply_for(lab, &Event::Attach, Body::Empty),
+        DapCommand::Disconnect => apply_for(lab, &Event::Detach, Body::Empty),
         DapCommand::ConfigurationDone => Ok(Body::Empty),
         DapCommand::SetBreakpoints { path, lines } => set_breakpoints(lab, path, lines),
         DapCommand::Threads => Ok(Body::Threads),
-        DapCommand::Continue => done(lab, &Event::Resume, Body::Continued),
+        DapCommand::Continue => apply_for(lab, &Event::Resume, Body::Continued),
         DapCommand::Step { kind, granularity } => step(lab, *kind, *granularity),
-        DapCommand::Pause => done(lab, &Event::Pause, Body::Empty),
+        DapCommand::Pause => apply_for(lab, &Event::Pause, Body::Empty),
         DapCommand::DumpCell { code } => dump_cell(alloc, lab, code),
         DapCommand::SetVariable {
             reference,
             name,
             value,
         } => set_variable(lab, *reference, name, value),
-        DapCommand::BoardSwitches { value } => done(lab, &Event::Switches(*value), Body::Empty),
-        DapCommand::BoardPress { vector } => done(lab, &Event::Press(*vector), Body::Empty),
+        DapCommand::BoardSwitches { value } => apply_for(
+            lab,
+            &Event::Switches(*value),
+            Body::Empty,
+        ),
+        DapCommand::BoardPress { vector } => apply_for(lab, &Event::Press(*vector), Body::Empty),
         DapCommand::BoardType { text } => type_text(alloc, lab, text),
-        DapCommand::BoardReset => done(lab, &Event::Reset, Body::Empty),
+        DapCommand::BoardReset => apply_for(lab, &Event::Reset, Body::Empty),
         DapCommand::BoardAliases { aliases } => {
-            done(
+            apply_for(
                 lab,
                 &Event::SetBoard(board_with_aliases(*aliases)),
                 Body::Empty,

@@ -4,9 +4,9 @@ use base_text::sequence::{Bytes, Frames};
 use base_text::text::Text;
 use dap_talk::command::{DapCommand, DapRequest};
 use jup_wire::channel::Channel;
-use kern_request::request::{RequestBody, ExecuteRequest, Request};
 use kern_core::call::{Arrival, Call, Subscription};
 use kern_core::held::Held;
+use kern_request::request::{ExecuteRequest, Request, RequestBody};
 use std::alloc::{AllocError, Global};
 
 /// A call, but for its moment.
@@ -40,7 +40,12 @@ pub fn call_of(alloc: Global, action: Action, unix_seconds: u64) -> Result<Call,
         Action::Join(channel) => join_call(alloc, channel),
         Action::Leave(connection) => Ok(Call::Leave { connection }),
         Action::Subscribe(connection) => subscribe_call(alloc, connection, unix_seconds),
-        Action::RequestBody(connection, question) => arrive_call(alloc, connection, question, unix_seconds),
+        Action::RequestBody(connection, question) => arrive_call(
+            alloc,
+            connection,
+            question,
+            unix_seconds,
+        ),
         Action::Slice => Ok(Call::Slice { unix_seconds }),
         Action::Fetch(connection, from) => Ok(Call::Fetch { connection, from }),
     }
@@ -76,7 +81,13 @@ fn arrive_call(
         identities: Frames::new(alloc),
         header,
     };
-    let arrival = Held::new(alloc, Arrival { request, unix_seconds })?;
+    let arrival = Held::new(
+        alloc,
+        Arrival {
+            request,
+            unix_seconds,
+        },
+    )?;
     Ok(Call::Arrive {
         connection,
         arrival,
@@ -121,7 +132,11 @@ pub fn is_call(call: &Call, action: Action, unix_seconds: u64) -> bool {
     match (call, action) {
         (Call::Join { channel, .. }, Action::Join(wanted)) => *channel == wanted,
         (Call::Leave { connection }, Action::Leave(wanted)) => *connection == wanted,
-        (Call::Subscribe { .. }, Action::Subscribe(wanted)) => is_subscribe(call, wanted, unix_seconds),
+        (Call::Subscribe { .. }, Action::Subscribe(wanted)) => is_subscribe(
+            call,
+            wanted,
+            unix_seconds,
+        ),
         (Call::Arrive { .. }, Action::RequestBody(wanted, question)) => {
             is_arrive(call, wanted, question, unix_seconds)
         }

@@ -82,7 +82,13 @@ pub fn replay<R: Abort>(rt: &R, alloc: Global, entries: &[Entry]) {
 
 fn make_again<R: Abort>(rt: &R, alloc: Global, kernel: &mut Kernel, entries: &[Entry]) {
     for (place, entry) in entries.iter().enumerate() {
-        let again = act(rt, alloc, kernel, entry.turn.action, entry.turn.unix_seconds);
+        let again = act(
+            rt,
+            alloc,
+            kernel,
+            entry.turn.action,
+            entry.turn.unix_seconds,
+        );
         expect_at(rt, again == entry.turn.outcome, "entry", place as u64);
     }
 }

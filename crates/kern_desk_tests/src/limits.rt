@@ -158,7 +158,11 @@ const FULL_JOURNAL: [Row; 12] = [
         Outcome::Refused(KernelFault::Lagged { first: 1 }),
     ),
     (0, Action::Subscribe(1), NO_CONNECTION),
-    (1, Action::RequestBody(1, Question::KernelInfo), Outcome::Arrived),
+    (
+        1,
+        Action::RequestBody(1, Question::KernelInfo),
+        Outcome::Arrived,
+    ),
     (
         2,
         Action::Fetch(1, 1),

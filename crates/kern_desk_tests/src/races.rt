@@ -231,7 +231,10 @@ const THREE: Game = Game {
         (1, Action::Join(Channel::Shell)),
         (2, Action::Join(Channel::Iopub)),
         (2, Action::Subscribe(2)),
-        (1, Action::RequestBody(1, Question::Execute("X: JMP X\nEND X"))),
+        (
+            1,
+            Action::RequestBody(1, Question::Execute("X: JMP X\nEND X")),
+        ),
         (0, Action::Slice),
         (0, Action::Slice),
     ],

@@ -78,7 +78,11 @@ const SIX_TURNS: [Row; 6] = [
     (1, Action::Join(Channel::Iopub), Outcome::Joined(2, 1)),
     (2, Action::Slice, Outcome::Idle),
     (1, Action::Subscribe(2), Outcome::Subscribed),
-    (0, Action::RequestBody(1, Question::KernelInfo), Outcome::Arrived),
+    (
+        0,
+        Action::RequestBody(1, Question::KernelInfo),
+        Outcome::Arrived,
+    ),
     (
         1,
         Action::Fetch(2, 1),
@@ -96,7 +100,11 @@ const SESSION: [Row; 20] = [
     (0, Action::Join(Channel::Shell), Outcome::Joined(1, 1)),
     (1, Action::Join(Channel::Iopub), Outcome::Joined(2, 1)),
     (1, Action::Subscribe(2), Outcome::Subscribed),
-    (0, Action::RequestBody(1, Question::KernelInfo), Outcome::Arrived),
+    (
+        0,
+        Action::RequestBody(1, Question::KernelInfo),
+        Outcome::Arrived,
+    ),
     (
         1,
         Action::Fetch(2, 1),
@@ -141,7 +149,11 @@ const SESSION: [Row; 20] = [
         Outcome::Fetched(1, [7, 0, 0, 0, 0, 0], 0, 9, false),
     ),
     (2, Action::Slice, Outcome::Idle),
-    (0, Action::RequestBody(1, Question::Shutdown), Outcome::Arrived),
+    (
+        0,
+        Action::RequestBody(1, Question::Shutdown),
+        Outcome::Arrived,
+    ),
     (2, Action::Slice, Outcome::Ended),
     (
         1,
@@ -252,7 +264,11 @@ const SWITCHES: [Row; 4] = [
         Action::RequestBody(1, Question::Switches(0x5A)),
         Outcome::Arrived,
     ),
-    (1, Action::RequestBody(1, Question::Variables(3)), Outcome::Arrived),
+    (
+        1,
+        Action::RequestBody(1, Question::Variables(3)),
+        Outcome::Arrived,
+    ),
     (
         1,
         Action::Fetch(1, 1),

@@ -98,7 +98,7 @@ fn cause_of(fault: EventFault) -> Cause
 }
 
 // A cell that is refused ends its execution; that memory was wanting is no end.
-fn refused(fault: EventFault) -> Result<Loading, AllocError>
+fn refusal_end(fault: EventFault) -> Result<Loading, AllocError>
     ensures ended { IfOk result (λ loading. loading ≡ Loading.Ends (Failed (cause_of fault))) }
     ensures other { IfOk result (λ _. fault ≢ EventFault.OutOfMemory) }
 {
@@ -137,7 +137,7 @@ pub fn load(alloc: Global, lab: &mut Lab, code: &Text) -> Result<Loading, AllocE
     match apply_event(lab, event) {
         Ok(answer) => Ok(loading_by(answer)),
         Err(fault) => {
-            let loading = refused(fault)?;
+            let loading = refusal_end(fault)?;
             Ok(loading)
         }
     }

@@ -20,11 +20,11 @@ use base_text::sequence::{Bytes, Frames};
 use jup_wire::channel::Channel;
 use jup_wire::message::{Message, WireFault};
 use jup_wire::opening::open_message;
-use kern_request::reading::request_of;
 use kern_core::call::{Arrival, Call, Reply, Subscription};
 use kern_core::fault::KernelFault;
 use kern_core::held::Held;
 use kern_desk::seated::{Desk, Pass};
+use kern_request::reading::request_of;
 use std::alloc::{AllocError, Global};
 use std::sync::Wait;
 
@@ -137,7 +137,13 @@ fn arrive_call(
         (record { request = request_in place.now.channel message; unix_seconds = unix_seconds })) }
 {
     let request = request_of(alloc, place.channel, message)?;
-    let arrival = Held::new(alloc, Arrival { request, unix_seconds })?;
+    let arrival = Held::new(
+        alloc,
+        Arrival {
+            request,
+            unix_seconds,
+        },
+    )?;
     Ok(Call::Arrive {
         connection: place.connection,
         arrival,

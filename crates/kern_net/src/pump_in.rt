@@ -16,8 +16,8 @@ use std::alloc::Global;
 use std::sync::Wait;
 use zmtp_peer::feeding::{Fed, feed};
 use zmtp_peer::handshake::Peer;
-use zmtp_wire::messages::Messages;
 use zmtp_wire::decoder::Decoder;
+use zmtp_wire::messages::Messages;
 
 /// Where messages come from, how they are signed, and at which desk they are asked for.
 #[derive(Clone, Copy)]
@@ -108,7 +108,10 @@ pub fn pump_in<R: Wait, I: Inlet, G: Gate>(
     ensures read { ReadOut place.now peer (record { inlet = I.state from.old; pass = pass.old })
         (record { inlet = I.state from.new; pass = pass.new }) result }
 {
-    let Peer { mut decoder, messages } = peer;
+    let Peer {
+        mut decoder,
+        messages,
+    } = peer;
     match ask_for_all(rt, alloc, pass, gate, place, messages) {
         Ok(()) => {}
         Err(end) => return end,

@@ -251,7 +251,11 @@ fn is_subscribed(peer: &Peer, topic: &str) -> bool
     is_on(peer, Channel::Iopub) && has_matching_prefix(peer.prefixes.as_slice(), topic.as_bytes())
 }
 
-fn push_if_subscribed(numbers: &mut Sequence<u32>, peer: &Peer, topic: &str) -> Result<(), AllocError>
+fn push_if_subscribed(
+    numbers: &mut Sequence<u32>,
+    peer: &Peer,
+    topic: &str,
+) -> Result<(), AllocError>
     ensures { OnOk result (numbers.new ≡ numbers.old ++ subscribers topic.now (peer.now ∷ [])) }
 {
     if is_subscribed(peer, topic) {

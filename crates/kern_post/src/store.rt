@@ -87,7 +87,7 @@ impl Store {
     }
 
     /// How many posts were made.
-    pub fn made(&self) -> u64
+    pub fn post_count(&self) -> u64
         ensures made { result ≡ self.now.made }
         ensures fits { result < 2 ^ 63 }
     {
@@ -139,7 +139,7 @@ impl Store {
     }
 
     // How many of the kept posts stand before this number.
-    fn skipped(&self, from: u64) -> usize
+    fn skip_count(&self, from: u64) -> usize
         requires { self.now.made < from + length self.now.kept }
         ensures { result + (self.now.made - length self.now.kept) + 1 ≡ from }
     {
@@ -154,7 +154,7 @@ impl Store {
         ensures { (posts : List Post) → Keeps posts self.now
             → IfOk result (λ found. found ≡ fetched connection from posts) }
     {
-        let start = self.skipped(from).min(self.len());
+        let start = self.skip_count(from).min(self.len());
         let count = (self.len() - start).min(FETCHED_AT_ONCE);
         let mut found = Vec::new(alloc);
         for k in 0..count {

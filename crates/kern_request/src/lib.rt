@@ -5,7 +5,7 @@
 // `request_of` adds what the reply repeats: the identities and the header, moved out of the message.
 #![tactic(auto)]
 
-pub mod request;
-pub mod reading;
 mod content;
 pub mod message_type;
+pub mod reading;
+pub mod request;

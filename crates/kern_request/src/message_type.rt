@@ -68,7 +68,7 @@ impl MessageType {
     }
 
     /// The type of this text, if it is answered on the channel.
-    pub fn named(channel: Channel, text: &str) -> Option<MessageType>
+    pub fn from_name(channel: Channel, text: &str) -> Option<MessageType>
         ensures { result ≡ named channel text.now }
     {
         match channel {

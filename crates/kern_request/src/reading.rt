@@ -17,9 +17,9 @@ ghost use Rattle.kern_request.specs.Requests.{
   request_of,
 };
 
-use crate::request::{RequestBody, ExecuteRequest, NeedyRequest, Request};
 use crate::content::{truth_or, whole_at};
 use crate::message_type::MessageType;
+use crate::request::{ExecuteRequest, NeedyRequest, Request, RequestBody};
 use base_text::latin::to_bytes;
 use base_text::text::Text;
 use dap_talk::fault::DapFault;
@@ -120,7 +120,11 @@ fn debug(alloc: Global, content: &Value) -> Result<RequestBody, AllocError>
     }
 }
 
-fn body_by_type(alloc: Global, message_type: MessageType, content: &Value) -> Result<RequestBody, AllocError>
+fn body_by_type(
+    alloc: Global,
+    message_type: MessageType,
+    content: &Value,
+) -> Result<RequestBody, AllocError>
     ensures { IfOk result (λ body. body ≡ body_by_type message_type (view content.now)) }
 {
     match message_type {
@@ -143,11 +147,15 @@ fn body_by_type(alloc: Global, message_type: MessageType, content: &Value) -> Re
 /// the sections that follow it). The content is looked at only as far as the request needs it; then
 /// it must be an object.
 #[tactic(auto, unfolding(crate::specs::Requests::body_of))]
-pub fn body_of(alloc: Global, channel: Channel, message: &Message) -> Result<RequestBody, AllocError>
+pub fn body_of(
+    alloc: Global,
+    channel: Channel,
+    message: &Message,
+) -> Result<RequestBody, AllocError>
     ensures { IfOk result
         (λ body. body ≡ body_of channel message.now.header.msg_type (view message.now.content)) }
 {
-    match MessageType::named(channel, message.header.msg_type.as_str()) {
+    match MessageType::from_name(channel, message.header.msg_type.as_str()) {
         Some(message_type) => body_by_type(alloc, message_type, &message.content),
         None => Ok(RequestBody::Unknown),
     }

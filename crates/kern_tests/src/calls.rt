@@ -6,9 +6,9 @@ use base_text::sequence::{Bytes, Frames};
 use jup_wire::channel::Channel;
 use jup_wire::message::{DELIMITER, Message};
 use jup_wire::opening::open_message;
-use kern_request::reading::request_of;
 use kern_core::call::{Arrival, Call, Subscription};
 use kern_core::held::Held;
+use kern_request::reading::request_of;
 use serde_json::Value;
 use std::alloc::{AllocError, Global};
 
@@ -80,7 +80,13 @@ fn arrive(alloc: Global, call: &Value) -> Result<Call, SessionFault> {
     let channel = channel_of(call)?;
     let message = message_of(alloc, call)?;
     let request = request_of(alloc, channel, message)?;
-    let arrival = Held::new(alloc, Arrival { request, unix_seconds })?;
+    let arrival = Held::new(
+        alloc,
+        Arrival {
+            request,
+            unix_seconds,
+        },
+    )?;
     Ok(Call::Arrive {
         connection,
         arrival,

@@ -2,8 +2,8 @@
 
 use crate::fault::SessionFault;
 use crate::members::{are_frames, has_bytes, has_number, has_text, list};
-use kern_render::content::content_json;
 use kern_post::post::{Head, Post};
+use kern_render::content::content_json;
 use kern_render::rendering::render;
 use serde_json::Value;
 use std::alloc::{AllocError, Global};

@@ -8,7 +8,10 @@ use kern_post::post::{Post, Posts};
 use serde_json::Value;
 
 /// Compares an answer with the reply that a line tells.
-pub fn compare_reply(told: &Value, answer: &Result<Reply, KernelFault>) -> Result<(), SessionFault> {
+pub fn compare_reply(
+    told: &Value,
+    answer: &Result<Reply, KernelFault>,
+) -> Result<(), SessionFault> {
     let is_told = match answer {
         Ok(reply) => is_reply(told, reply),
         Err(KernelFault::OutOfMemory) => return Err(SessionFault::OutOfMemory),

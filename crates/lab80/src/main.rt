@@ -7,7 +7,7 @@ use base_streams::std_io::{StdInlet, StdOutlet};
 use cli_engines::asm::run_asm;
 use cli_engines::dis::run_dis;
 use cli_io::command::{Command, read_command};
-use cli_io::report::flushed;
+use cli_io::report::flush_report;
 use cli_io::words::{read_words, show_usage};
 use std::io;
 use std::process::ExitCode;
@@ -24,5 +24,5 @@ fn main(rt: HostRuntime) -> ExitCode {
         Some(Command::Dis(origin)) => run_dis(rt.alloc(), origin, &mut input, &mut output),
         Some(Command::Step | Command::Kernel(_) | Command::Term(_)) | None => show_usage(&rt),
     };
-    ExitCode::from(flushed(status, &mut output.into_inner()).number())
+    ExitCode::from(flush_report(status, &mut output.into_inner()).number())
 }

@@ -1,7 +1,7 @@
 //! Connection files on disk.
 use crate::line::say;
-use jup_connection::connection_file::{ConnectionFile, FileFault};
 use cli_io::status::Status;
+use jup_connection::connection_file::{ConnectionFile, FileFault};
 use std::rt::Files;
 use std::{fs, io};
 

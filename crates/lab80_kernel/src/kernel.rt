@@ -1,11 +1,11 @@
 //! The word `kernel`.
 use crate::file::read_file;
 use crate::line::say;
+use cli_io::status::Status;
 use jup_connection::connection_file::ConnectionFile;
 use kern_serve::fault::ServerFault;
 use kern_serve::listeners::Listeners;
 use kern_serve::server::{ServerEnd, serve};
-use cli_io::status::Status;
 use std::io;
 use std::net::{Net, TcpListener, TcpStream};
 use std::random::RandomSource;

@@ -5,7 +5,7 @@
 
 use base_streams::std_io::{StdInlet, StdOutlet};
 use cli_io::command::{Command, read_command};
-use cli_io::report::flushed;
+use cli_io::report::flush_report;
 use cli_io::words::{read_words, show_usage};
 use cli_run::step::run_step;
 use std::io;
@@ -22,5 +22,5 @@ fn main(rt: HostRuntime) -> ExitCode {
     let mut input = StdInlet::new(rt.reader());
     let mut output = StdOutlet::new(io::writer(&rt));
     let status = run_step(rt.alloc(), &mut input, &mut output);
-    ExitCode::from(flushed(status, &mut output.into_inner()).number())
+    ExitCode::from(flush_report(status, &mut output.into_inner()).number())
 }

@@ -102,7 +102,7 @@ fn mark(addresses: &mut AddressSet, lists: &[BreakpointList], origins: &Origins)
         → (a : ℕ) → a < 65536 → has addresses.new a ≡ is_met lists.now loads a }
 {
     addresses.clear();
-    mark_among(addresses, lists, origins.mapped());
+    mark_among(addresses, lists, origins.mapped_addresses());
 }
 
 // Adds those of the mapped addresses at which a breakpoint of these lists is met.

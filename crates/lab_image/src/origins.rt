@@ -75,7 +75,7 @@ impl Origins {
     }
 
     /// The mapped addresses: those whose byte is the first of its statement.
-    pub fn mapped(&self) -> MappedAddresses<'_>
+    pub fn mapped_addresses(&self) -> MappedAddresses<'_>
         ensures { (loads : List Load) → StandsFor self.now loads → AreMapped loads result }
     {
         MappedAddresses::new(&self.spans)

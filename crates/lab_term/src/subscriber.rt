@@ -15,8 +15,8 @@ use std::alloc::Global;
 use std::collections::VecDeque;
 use zmtp_peer::feeding::{Fed, feed};
 use zmtp_peer::handshake::Peer;
-use zmtp_wire::fault::StreamFault;
 use zmtp_wire::decoder::Decoder;
+use zmtp_wire::fault::StreamFault;
 
 /// How much is read at once, in bytes.
 const PIECE_SIZE: usize = 8192;
@@ -36,7 +36,10 @@ pub(crate) fn subscriber_of(alloc: Global, peer: Peer) -> Result<Subscriber, Ter
         → Heard before from peer.decoder peer.messages least → Holds before from subscriber [] least) }
     ensures err { IfErr result (λ fault. fault ≡ TermFault.OutOfMemory) }
 {
-    let Peer { mut decoder, messages } = peer;
+    let Peer {
+        mut decoder,
+        messages,
+    } = peer;
     // What came with READY may have broken the stream.
     let Ok(
         Fed {

@@ -3,9 +3,9 @@ ghost use Rattle.std.specs.Prelude.{◌≡◌, IfOk, OnErr};
 ghost use Rattle.zmtp_wire.specs.Stream.{Completes};
 
 use std::alloc::{AllocError, Global};
+use zmtp_wire::decoder::Decoder;
 use zmtp_wire::fault::{FeedFault, StreamFault};
 use zmtp_wire::messages::Messages;
-use zmtp_wire::decoder::Decoder;
 
 /// What a piece completes, and what is wrong with the stream after it, if something is.
 #[derive(Drop)]

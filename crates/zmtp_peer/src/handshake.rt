@@ -12,9 +12,9 @@ use crate::hearing::{PIECE_SIZE, read_piece};
 use crate::sending::send;
 use base_streams::ports::{Inlet, Outlet};
 use std::alloc::Global;
+use zmtp_wire::decoder::Decoder;
 use zmtp_wire::messages::Messages;
 use zmtp_wire::role::Role;
-use zmtp_wire::decoder::Decoder;
 use zmtp_wire::writing::{greeting, ready};
 
 // The size of a greeting, in bytes.

@@ -16,9 +16,9 @@ use crate::sending::send;
 use base_streams::ports::{Inlet, Outlet};
 use base_text::sequence::Frames;
 use std::alloc::Global;
+use zmtp_wire::decoder::Decoder;
 use zmtp_wire::messages::Messages;
 use zmtp_wire::role::Role;
-use zmtp_wire::decoder::Decoder;
 use zmtp_wire::writing::put_message;
 
 // Writes a message; one of no frames has no bytes.

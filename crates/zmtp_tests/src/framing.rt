@@ -6,10 +6,10 @@ use base_text::sequence::{Bytes, Frames};
 use std::alloc::{AllocError, Global};
 use std::process::Abort;
 use std::test::Fail;
+use zmtp_wire::decoder::Decoder;
 use zmtp_wire::fault::{FeedFault, StreamFault};
 use zmtp_wire::messages::Messages;
 use zmtp_wire::role::Role;
-use zmtp_wire::decoder::Decoder;
 use zmtp_wire::writing::{greeting, put_message, ready};
 
 // A greeting with all that is free filled in, and a DEALER's READY.
@@ -624,7 +624,11 @@ fn conversed(
 ) -> Result<(Option<(usize, StreamFault)>, bool, bool), Fail> {
     let text = "a,hi,.,.,hello,!,.";
     let broken = feed_all(alloc, decoder, CONVERSATION, size, text)?;
-    Ok((broken, decoder.is_ready(), has_identity(decoder, Some(b"me"))))
+    Ok((
+        broken,
+        decoder.is_ready(),
+        has_identity(decoder, Some(b"me")),
+    ))
 }
 
 // Nothing here but the feeds takes memory, and with an allocation refused the answer is the same.

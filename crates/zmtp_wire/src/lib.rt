@@ -6,11 +6,11 @@
 #![tactic(auto)]
 
 mod command;
+pub mod decoder;
 pub mod fault;
 mod head;
-pub mod messages;
 pub mod laws;
+pub mod messages;
 mod progress;
 pub mod role;
-pub mod decoder;
 pub mod writing;

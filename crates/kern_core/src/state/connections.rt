@@ -41,7 +41,7 @@ impl KernelState {
         let connection = self.peers.join(channel, identity)?;
         Ok(Reply::Joined {
             connection,
-            from: self.store.made() + 1,
+            from: self.store.post_count() + 1,
         })
     }
 

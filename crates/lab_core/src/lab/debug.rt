@@ -20,7 +20,7 @@ use lab_views::views::show;
 use std::alloc::{AllocError, Global};
 
 // Each line as a breakpoint of a text, which is verified where the text has the line.
-fn verified(alloc: Global, text: &str, lines: &[u32]) -> Result<Sequence<Breakpoint>, AllocError>
+fn verify(alloc: Global, text: &str, lines: &[u32]) -> Result<Sequence<Breakpoint>, AllocError>
     ensures { IfOk result (λ breakpoints. breakpoints ≡ map (verified text.now) lines.now) }
 {
     let count = line_count(text);
@@ -116,7 +116,7 @@ impl Lab {
         match self.sources.find(path) {
             None => Err(EventFault::NoSource),
             Some((number, text)) => {
-                let answer = verified(self.alloc, text, lines)?;
+                let answer = verify(self.alloc, text, lines)?;
                 self.context
                     .breakpoints
                     .set(number as u32, lines, &self.context.origins)?;

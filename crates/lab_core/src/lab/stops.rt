@@ -106,7 +106,7 @@ impl Context {
         requires { Watches is_watched self.now.is_attached self.now.request }
         ensures { FindsIn early_reason result machine.now self.now }
     {
-        match self.halted(machine) {
+        match self.halt_end(machine) {
             Some(outcome) => Some(outcome),
             None => {
                 if is_watched {
@@ -119,7 +119,7 @@ impl Context {
     }
 
     #[inline(always)]
-    fn halted(&self, machine: &Machine) -> Option<SliceOutcome>
+    fn halt_end(&self, machine: &Machine) -> Option<SliceOutcome>
         ensures { FindsIn halted result machine.now self.now }
     {
         if self.is_halted {

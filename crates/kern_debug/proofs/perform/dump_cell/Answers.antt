@@ -9,4 +9,4 @@ returns c =
     c.in_ok-path.ensures ∙ ap cell_path c.as_str.ensures in
     let text : c.in_ok-text.text ≡ c.args.code.now = search rules in
     let answer : c.in_ok-answer.answer ≡ c.in_ok-path.path = search rules in
-    (does_dump _ _ _ _ _ c.args.code.now _ path text answer c.done.ensures.0, search rules)
+    (does_dump _ _ _ _ _ c.args.code.now _ path text answer c.apply_for.ensures.0, search rules)

@@ -36,9 +36,9 @@ returns c = λ posts keeps.
     let made = keeps.made in
     let lens : c.len-2.result ≡ length kept = c.len-2.ensures in
     let lens' : c.len.result ≡ length kept = c.len.ensures in
-    let skipped = c.skipped.ensures in
+    let skipped = c.skip_count.ensures in
     c.from.ensures ∙ (c.loop-k.invariant ∙ ap (filter (is_to c.args.connection))
     (ap (λ n. take n (drop c.min-start.result kept)) all ∙
-    looked_at posts kept c.args.from c.skipped.result c.min-start.result c.min-count.result
+    looked_at posts kept c.args.from c.skip_count.result c.min-start.result c.min-count.result
     keeps.kept (omega arith) (omega arith)
     (c.min-start.ensures ∙ omega arith) (c.min-count.ensures ∙ omega arith)))

@@ -1,7 +1,7 @@
 use Rattle.std.proofs.Common.{◌≡◌, Ok, Err, rules}
 use Rattle.kern_debug.specs.Bodies.{body_of}
 use Rattle.kern_debug.proofs.EventLemmas.{does_with}
-use Rattle.kern_debug.proofs.event.answered.Goals as goal
+use Rattle.kern_debug.proofs.event.answer_to.Goals as goal
 
 pub returns-in_err-answer : goal.returns-in_err-answer
 returns-in_err-answer c =

@@ -1,6 +1,6 @@
 use Rattle.std.proofs.Common.{◌<◌, length, arith}
 use Rattle.jup_wire.proofs.SignatureLemmas.{padded_more}
-use Rattle.jup_wire.proofs.signature.padded.Goals as goal
+use Rattle.jup_wire.proofs.signature.xor_pad.Goals as goal
 
 pub loop-byte-preserved : goal.loop-byte-preserved
 loop-byte-preserved c =

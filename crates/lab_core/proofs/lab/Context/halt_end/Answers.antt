@@ -5,7 +5,7 @@ use Rattle.i80_exec.specs.declared.registers.Interrupts.{Interrupts}
 use Rattle.lab_core.specs.declared.answer.SliceOutcome.TheVariants as outcome
 use Rattle.lab_core.specs.declared.answer.End.TheVariants as end
 use Rattle.lab_core.specs.Slices.{ends_in_halt, is_off}
-use Rattle.lab_core.proofs.lab.Context.halted.Goals as goal
+use Rattle.lab_core.proofs.lab.Context.halt_end.Goals as goal
 
 pub returns-then-self : goal.returns-then-self
 returns-then-self c = λ lab b traffic s.

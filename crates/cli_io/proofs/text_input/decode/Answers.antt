@@ -1,5 +1,5 @@
 use Rattle.cli_io.proofs.TextLemmas.{decoded_right, decoded_wrong}
-use Rattle.cli_io.proofs.text_input.decoded.Goals as goal
+use Rattle.cli_io.proofs.text_input.decode.Goals as goal
 
 pub returns-in-Ok : goal.returns-in-Ok
 returns-in-Ok c = decoded_right c.in-Ok.text c.args.bytes c.in-Ok.ensures.ok

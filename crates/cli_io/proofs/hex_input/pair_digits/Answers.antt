@@ -1,5 +1,5 @@
 use Rattle.cli_io.proofs.HexLemmas.{paired_more, paired_all}
-use Rattle.cli_io.proofs.hex_input.paired.Goals as goal
+use Rattle.cli_io.proofs.hex_input.pair_digits.Goals as goal
 
 pub loop-rest-preserved : goal.loop-rest-preserved
 loop-rest-preserved c =

@@ -1,7 +1,7 @@
 use Rattle.std.proofs.Common.{◌≡◌, ◌∙◌, ap}
 use Rattle.lab_image.specs.Mapped.{mapped_by}
 use Rattle.lab_image.proofs.MappedLemmas.{mapped_of_spans}
-use Rattle.lab_image.proofs.origins.Origins.mapped.Goals as goal
+use Rattle.lab_image.proofs.origins.Origins.mapped_addresses.Goals as goal
 
 pub returns : goal.returns
 returns c loads stands address within =
