@@ -1,9 +1,9 @@
 use Rattle.std.proofs.Common.{◌≡◌, ℕ, ◌+◌, ◌≤◌, List, [], ◌∷◌, ◌++◌, length, take, drop, Option, Some, None}
-use Rattle.std.proofs.Common.{arith, sym, ◌∙◌, ap, append_assoc, subst, zero, suc, zero-add}
+use Rattle.std.proofs.Common.{arith, sym, ◌∙◌, ap, append_assoc, subst, zero, suc, zero-add, refl}
 use Rattle.std.proofs.lemmas.Grind.{common_steps}
 use Rattle.std.proofs.lemmas.List.{take-append-drop, append-nil, length-take-le, drop-drop}
 use Rattle.std.proofs.Math.Seq.{take-append_seam}
-use Rattle.base_streams.specs.Told.{Told, ToldFront}
+use Rattle.base_streams.specs.Told.{Told, ToldFront, CountsOn}
 
 pub told_on : (a b c : Option (List ℕ)) (x y : List ℕ) → Told a b x → Told b c y → Told a c (x ++ y)
 told_on None b c x y p q = tt
@@ -55,3 +55,14 @@ left_less place n held before copied others b fits e =
     let front = copied_front n (drop place held) copied others fits e in
     b ∙ sym (take-append-drop n (drop place held)) ∙ ap (λ l. l ++ drop n (drop place held)) (sym front)
     ∙ ap (λ l. take n (copied ++ others) ++ l) (drop-drop n place held)
+
+-- reads, and then more of them
+pub counts_on : (a b c : Option ℕ) (n k : ℕ) → CountsOn a b n → CountsOn b c k → CountsOn a c (n + k)
+counts_on a b None n k p q = tt
+counts_on a None (Some z) n k p (y, is, e) = absurd cc
+counts_on a (Some b) (Some z) n k (x, was, d) (y, is, e) =
+    let same : b ≡ y = cc in (x, was, omega (arith, d, e, same))
+
+pub counts_none : (a : Option ℕ) → CountsOn a a 0
+counts_none None = tt
+counts_none (Some x) = (x, refl, omega arith)

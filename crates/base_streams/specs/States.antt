@@ -1,11 +1,12 @@
 -- What is known of a reader and of a writer.
 use Rattle.std.specs.Prelude.{◌≡◌, ℕ, Bool, false, List, Option}
 
--- A reader: the bytes that it has given and those that it has still to give, where they are known; whether a
--- read has come to the end, and whether one has failed.
+-- A reader: the bytes that it has given and those that it has still to give, where they are known; how often it
+-- was read, where that is counted; whether a read has come to the end, and whether one has failed.
 pub record InletState : Type 0 where
   pub given : Option (List ℕ)
   pub left : Option (List ℕ)
+  pub reads : Option ℕ
   pub ended : Bool
   pub failed : Bool
 
@@ -25,6 +26,7 @@ IsWritable outlet = outlet.failed ≡ false
 -- a reader of std, and what its reads came to
 pub record StdInletState (R : Type 0) : Type 0 where
   pub reader : R
+  pub reads : Option ℕ
   pub ended : Bool
   pub failed : Bool
 

@@ -1,5 +1,5 @@
--- Bytes that were given or taken, where they are known.
-use Rattle.std.specs.Prelude.{◌≡◌, ℕ, List, ◌++◌, Option, Some, None}
+-- Bytes that were given or taken, where they are known, and reads, where they are counted.
+use Rattle.std.specs.Prelude.{◌≡◌, ℕ, ◌+◌, List, ◌++◌, Option, Some, None}
 use Rattle.base_streams.specs.States.{InletState, OutletState}
 
 -- the bytes after are those before, and these
@@ -25,3 +25,12 @@ Took old new bytes = Told old.taken new.taken bytes
 -- the writer took a front of these bytes
 abbrev pub TookFront : OutletState → OutletState → List ℕ → Type 0
 TookFront old new bytes = ToldFront old.taken new.taken bytes
+
+-- so many more, where they are counted still
+abbrev pub CountsOn : Option ℕ → Option ℕ → ℕ → Type 0
+CountsOn before None n = Unit {0}
+CountsOn before (Some after) n = (first : ℕ) × (before ≡ Some first) × (after ≡ first + n)
+
+-- the reader was read so often
+abbrev pub WasRead : InletState → InletState → ℕ → Type 0
+WasRead old new reads = CountsOn old.reads new.reads reads

@@ -5,6 +5,7 @@
 // std's readers and writers are wrapped; what was interrupted is tried again, in one place.
 #![tactic(auto)]
 
+mod counting;
 pub mod fakes;
 pub mod memory;
 pub mod ports;

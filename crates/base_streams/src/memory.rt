@@ -2,6 +2,7 @@
 //! chosen call.
 ghost use Rattle.std.specs.Prelude.{◌≡◌, Some, true, false, ◌++◌, take, drop, [], IfOk};
 
+use crate::counting::one_more;
 use crate::ports::{Inlet, IoFault, Outlet};
 use std::alloc::Global;
 use std::marker::Model;
@@ -67,6 +68,7 @@ pub struct Source {
     place: usize,
     most: usize,
     calls: u64,
+    reads: Option<u64>,
     failed: bool,
     ended: bool,
 }
@@ -82,6 +84,7 @@ impl Model for Source {
       left = drop s.place s.held.items;
       most = s.most;
       calls = s.calls;
+      reads = s.reads;
       failed = s.failed;
       ended = s.ended;
     } };
@@ -98,6 +101,7 @@ impl Source {
           left = bytes.items;
           most = most;
           calls = calls;
+          reads = Some 0;
           failed = false;
           ended = false;
         } }
@@ -107,6 +111,7 @@ impl Source {
             place: 0,
             most,
             calls,
+            reads: Some(0),
             failed: false,
             ended: false,
         }
@@ -117,11 +122,13 @@ impl Inlet for Source {
     ghost state = { λ s. record {
       given = Some s.given;
       left = Some s.left;
+      reads = s.reads;
       ended = s.ended;
       failed = s.failed;
     } };
 
     fn read(&mut self, buffer: &mut [u8]) -> Result<usize, IoFault> {
+        self.reads = one_more(self.reads);
         if self.calls == 0 || self.most == 0 {
             self.failed = true;
             return Err(IoFault);

@@ -2,7 +2,7 @@
 ghost use Rattle.std.specs.Prelude.{◌≡◌, ◌<◌, ◌≤◌, [], true, length, take, IfOk, MatchResult};
 ghost use Rattle.std.specs.Io.KnownBytes.{ReadConsumes};
 ghost use Rattle.base_streams.specs.States.{InletState, OutletState};
-ghost use Rattle.base_streams.specs.Told.{Gave, Took};
+ghost use Rattle.base_streams.specs.Told.{Gave, Took, WasRead};
 
 use thiserror::Error;
 
@@ -13,7 +13,8 @@ pub struct IoFault;
 
 /// What gives bytes.
 pub trait Inlet {
-    /// What it has given and has still to give, whether it has ended, and whether it has failed.
+    /// What it has given and has still to give, how often it was read, whether it has ended, and whether it has
+    /// failed.
     ghost state: { Self → InletState };
 
     /// Reads at most as many bytes as there is room for, to the front of the buffer, and reports how
@@ -24,6 +25,7 @@ pub trait Inlet {
         ensures given { MatchResult result
             (λ n. Gave (state self.old) (state self.new) (take n buffer.new))
             (λ _. Gave (state self.old) (state self.new) []) }
+        ensures reads { WasRead (state self.old) (state self.new) 1 }
 
         // What is read is the front of what was left, and at the end nothing is left.
         ensures left { ReadConsumes (state self.old).left (state self.new).left result buffer.new }

@@ -1,8 +1,9 @@
 //! std's readers and writers. A read or a write that was interrupted is tried again, here and
 //! nowhere else.
-ghost use Rattle.std.specs.Prelude.{◌≡◌, ◌≤◌, ◌<◌, None, true, false, length, IfOk};
+ghost use Rattle.std.specs.Prelude.{◌≡◌, ◌≤◌, ◌<◌, Some, None, true, false, length, IfOk};
 ghost use Rattle.std.specs.Io.KnownBytes.{ReadConsumes, WriteAppends};
 
+use crate::counting::one_more;
 use crate::ports::{Inlet, IoFault, Outlet};
 use std::io::{ErrorKind, Read, Write};
 use std::marker::Model;
@@ -52,6 +53,7 @@ pub fn write_some<W: Write>(writer: &mut W, bytes: &[u8]) -> Result<usize, IoFau
 #[derive(Drop)]
 pub struct StdInlet<R: Read + Drop> {
     reader: R,
+    reads: Option<u64>,
     failed: bool,
     ended: bool,
 }
@@ -61,16 +63,22 @@ impl<R: Read + Drop> Model for StdInlet<R> {
 
     ghost Value = { StdInletState R };
 
-    ghost view = { λ s. record { reader = s.reader; ended = s.ended; failed = s.failed } };
+    ghost view = { λ s. record {
+      reader = s.reader;
+      reads = s.reads;
+      ended = s.ended;
+      failed = s.failed;
+    } };
 }
 
 impl<R: Read + Drop> StdInlet<R> {
     /// Wraps a reader.
     pub fn new(reader: R) -> StdInlet<R>
-        ensures { result ≡ record { reader = reader; ended = false; failed = false } }
+        ensures { result ≡ record { reader = reader; reads = Some 0; ended = false; failed = false } }
     {
         StdInlet {
             reader,
+            reads: Some(0),
             failed: false,
             ended: false,
         }
@@ -81,11 +89,13 @@ impl<R: Read + Drop> Inlet for StdInlet<R> {
     ghost state = { λ s. record {
       given = None;
       left = R.remaining s.reader;
+      reads = s.reads;
       ended = s.ended;
       failed = s.failed;
     } };
 
     fn read(&mut self, buffer: &mut [u8]) -> Result<usize, IoFault> {
+        self.reads = one_more(self.reads);
         match read_some(&mut self.reader, buffer) {
             Ok(0) => {
                 self.ended = true;

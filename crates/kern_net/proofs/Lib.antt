@@ -1,5 +1,4 @@
 pub mod AnswerLemmas
-pub mod AskLemmas
 pub mod CallLemmas
 pub mod ChoiceLemmas
 pub mod FetchLemmas
@@ -9,5 +8,6 @@ pub mod OutLemmas
 pub mod ReadLemmas
 pub mod ReadTurnLemmas
 pub mod StreamLemmas
+pub mod SubmitLemmas
 pub mod TurnLemmas
 pub mod WorkLemmas

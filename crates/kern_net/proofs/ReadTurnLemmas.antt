@@ -13,7 +13,7 @@ use Rattle.kern_desk.specs.Seats.{seated_answer}
 use Rattle.kern_net.specs.declared.end.PumpEnd.TheVariants as pump
 use Rattle.kern_net.specs.ReadEnds.{IsReaderCall, LastAnswer, StopsBy}
 use Rattle.kern_net.specs.Calls.{TurnedBy}
-use Rattle.kern_net.proofs.AskLemmas.{Grants, Refuses}
+use Rattle.kern_net.proofs.SubmitLemmas.{Grants, Refuses}
 use Rattle.kern_net.proofs.LagLemmas.{no_lag}
 
 last_answer : (old new : PassState Call) (call : Call) (answer : Result Reply KernelFault)

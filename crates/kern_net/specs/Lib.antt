@@ -1,4 +1,3 @@
-pub mod Asking
 pub mod Calls
 pub mod Ends
 pub mod Gates
@@ -7,4 +6,5 @@ pub mod ReadEnds
 pub mod Reading
 pub mod Rounds
 pub mod Streams
+pub mod Submitting
 pub mod Work

@@ -1,9 +1,10 @@
 -- Why reading from a connection ends.
-use Rattle.std.specs.Prelude.{◌≡◌, ◌≤◌, ◌⊎◌, ℕ, Bool, true, false, List, [], ◌∷◌, ◌++◌, length, Some, Result}
+use Rattle.std.specs.Prelude.{◌≡◌, ◌⊎◌, ℕ, Bool, true, false, List, [], ◌∷◌, ◌++◌, length, Some, Result}
 use Rattle.std.specs.Prelude.{Err}
 use Rattle.base_streams.specs.States.{InletState, IsReadable}
 use Rattle.lab_turn.specs.History.{PassState}
 use Rattle.zmtp_wire.specs.Stream.{DecoderState}
+use Rattle.zmtp_peer.specs.Receiving.{most_reads}
 use Rattle.kern_core.specs.declared.call.Call.{Call}
 use Rattle.kern_core.specs.declared.call.Call.TheVariants.{Subscribe, Arrive}
 use Rattle.kern_core.specs.declared.call.Reply.{Reply}
@@ -52,26 +53,18 @@ abbrev pub StopsPiece : PumpEnd → List Call → PassState Call → DecoderStat
 StopsPiece (pump.Wire cause) old pass decoder = decoder.fault ≡ Some cause
 StopsPiece e old pass decoder = StopsBy e old pass
 
--- no reader is asked more often
-unfoldable pub most_reads : ℕ
-most_reads = 4294967295
-
--- each read but the last gave a byte at least
-abbrev pub IsWornOut : List ℕ → Type 0
-IsWornOut bytes = most_reads ≤ length bytes
-
--- why it ended, as the pass, the reader, the bytes that were read and the side after them show it; a reader
--- ends or fails only where reading ends so
-abbrev pub EndsBy : PumpEnd → Reader → Reader → List ℕ → DecoderState → Type 0
-EndsBy pump.PeerEnded old new bytes decoder = (new.inlet.ended ≡ true) × (new.inlet.failed ≡ false)
-EndsBy pump.ReadFailed old new bytes decoder =
+-- why it ended, as the pass, the reader, the decoder after it and the number of reads show it; a reader ends or
+-- fails only where reading ends so
+abbrev pub EndsBy : PumpEnd → Reader → Reader → DecoderState → ℕ → Type 0
+EndsBy pump.PeerEnded old new decoder reads = (new.inlet.ended ≡ true) × (new.inlet.failed ≡ false)
+EndsBy pump.ReadFailed old new decoder reads =
     (new.inlet.ended ≡ false)
-    × ((new.inlet.failed ≡ true) ⊎ ((new.inlet.failed ≡ false) × IsWornOut bytes))
-EndsBy e old new bytes decoder = IsReadable new.inlet × StopsPiece e old.pass.calls new.pass decoder
+    × ((new.inlet.failed ≡ true) ⊎ ((new.inlet.failed ≡ false) × (reads ≡ most_reads)))
+EndsBy e old new decoder reads = IsReadable new.inlet × StopsPiece e old.pass.calls new.pass decoder
 
--- at these ends all was asked for
-abbrev pub asks_all : PumpEnd → Bool
-asks_all pump.PeerEnded = true
-asks_all pump.ReadFailed = true
-asks_all (pump.Wire cause) = true
-asks_all _ = false
+-- at these ends all was submitted
+abbrev pub submits_all : PumpEnd → Bool
+submits_all pump.PeerEnded = true
+submits_all pump.ReadFailed = true
+submits_all (pump.Wire cause) = true
+submits_all _ = false

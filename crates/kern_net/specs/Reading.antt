@@ -1,17 +1,19 @@
 -- What was read from a connection, and the calls that were made for it.
-use Rattle.std.specs.Prelude.{◌≡◌, ◌⊎◌, ℕ, true, List, [], ◌∷◌, ◌++◌, Result, Ok, MatchResult}
+use Rattle.std.specs.Prelude.{◌≡◌, ◌≤◌, ◌⊎◌, ℕ, true, List, [], ◌∷◌, ◌++◌, Result, Ok, MatchResult}
+use Rattle.zmtp_wire.specs.Wire.{Bytes, Messages}
 use mathlib.Core.List.{IsPrefix}
-use Rattle.base_streams.specs.Told.{Gave}
+use Rattle.base_streams.specs.Told.{Gave, WasRead}
 use Rattle.lab_turn.specs.History.{PassState}
 use Rattle.zmtp_wire.specs.Stream.{DecoderState, Completes}
 use Rattle.zmtp_peer.specs.declared.handshake.Peer.{Peer}
+use Rattle.zmtp_peer.specs.Receiving.{most_reads}
 use Rattle.kern_core.specs.declared.call.Call.{Call}
 use Rattle.kern_core.specs.declared.call.Reply.{Reply}
 use Rattle.kern_net.specs.declared.end.PumpEnd.{PumpEnd}
-use Rattle.kern_net.specs.declared.pump_in.Place.{Place}
-use Rattle.kern_net.specs.Asking.{Asks}
+use Rattle.kern_net.specs.declared.pump_in.IncomingRoute.{IncomingRoute}
+use Rattle.kern_net.specs.Submitting.{Submits}
 use Rattle.kern_net.specs.Calls.{TurnedBy}
-use Rattle.kern_net.specs.ReadEnds.{Reader, IsRefusal, StopsBy, StopsPiece, EndsBy, asks_all}
+use Rattle.kern_net.specs.ReadEnds.{Reader, IsRefusal, StopsBy, StopsPiece, EndsBy, submits_all}
 
 -- these calls were made, one turn after the other, and none was refused
 pub data Granted (old : PassState Call) : PassState Call → List Call → Type 0 where
@@ -27,68 +29,71 @@ pub record Made (old new : PassState Call) (added : List Call) (e : PumpEnd) : T
   pub onward : IsPrefix mid.seen new.seen
   pub last : (added ≡ granted) ⊎ (IsRefusal e × ((call : Call) × (added ≡ granted ++ call ∷ [])))
 
--- all that these messages ask for was asked for, and granted
-pub record AskedAll (place : Place) (messages : List (List (List ℕ))) (old new : PassState Call)
+-- all that these messages ask for was submitted, and granted
+pub record SubmittedAll (route : IncomingRoute) (messages : Messages) (old new : PassState Call)
     : Type 0 where
   pub added : List Call
-  pub asks : Asks place messages added
+  pub submits : Submits route messages added
   pub calls : new.calls ≡ old.calls ++ added
   pub turns : Granted old new added
 
--- what a front of these messages asks for was asked for, until this end
-pub record AskedFront (place : Place) (messages : List (List (List ℕ))) (old new : PassState Call)
+-- what a front of these messages asks for was submitted, until this end
+pub record SubmittedFront (route : IncomingRoute) (messages : Messages) (old new : PassState Call)
     (e : PumpEnd) : Type 0 where
-  pub front : List (List (List ℕ))
-  pub others : List (List (List ℕ))
+  pub front : Messages
+  pub others : Messages
   pub messages_are : messages ≡ front ++ others
   pub added : List Call
-  pub asks : Asks place front added
+  pub submits : Submits route front added
   pub calls : new.calls ≡ old.calls ++ added
   pub made : Made old new added e
-  pub all : asks_all e ≡ true → others ≡ []
+  pub all : submits_all e ≡ true → others ≡ []
 
--- these messages were asked for: all of them where it goes on; else a front of them, and why it stops there
-abbrev pub AskedFor : Place → List (List (List ℕ)) → PassState Call → PassState Call
+-- what these messages ask for was submitted: all of it where it goes on; else a front, and why it stops there
+abbrev pub SubmittedFor : IncomingRoute → Messages → PassState Call → PassState Call
     → Result (Unit {0}) PumpEnd → Type 0
-AskedFor place messages old new result = MatchResult result
-    (λ _. AskedAll place messages old new)
-    (λ e. AskedFront place messages old new e × StopsBy e old.calls new)
+SubmittedFor route messages old new result = MatchResult result
+    (λ _. SubmittedAll route messages old new)
+    (λ e. SubmittedFront route messages old new e × StopsBy e old.calls new)
 
--- the side that a peer's bytes are read by, and the pass of the calls that are made for them
-pub record Listener : Type 0 where
+-- the decoder that a peer's bytes are read by, and the pass of the calls that are made for them
+pub record Receiver : Type 0 where
   pub decoder : DecoderState
   pub pass : PassState Call
 
--- the side read these bytes, and what the messages that were held and those in the bytes ask for was granted
-pub record HeardAll (place : Place) (held : List (List (List ℕ))) (bytes : List ℕ) (old new : Listener)
+-- the decoder read these bytes, and what the messages that were held and those in the bytes ask for was granted
+pub record ReceivedAll (route : IncomingRoute) (held : Messages) (bytes : Bytes) (old new : Receiver)
     : Type 0 where
-  pub messages : List (List (List ℕ))
+  pub messages : Messages
   pub reads : Completes old.decoder bytes messages new.decoder
-  pub asked : AskedAll place (held ++ messages) old.pass new.pass
+  pub submitted : SubmittedAll route (held ++ messages) old.pass new.pass
 
--- the side read a front of the bytes, and a front of what the messages ask for was asked for, until this end
-pub record HeardFront (place : Place) (held : List (List (List ℕ))) (bytes : List ℕ) (old new : Listener)
+-- the decoder read a front of the bytes, and a front of what the messages ask for was submitted, until this end
+pub record ReceivedFront (route : IncomingRoute) (held : Messages) (bytes : Bytes) (old new : Receiver)
     (e : PumpEnd) : Type 0 where
-  pub taken : List ℕ
-  pub unread : List ℕ
-  pub messages : List (List (List ℕ))
+  pub taken : Bytes
+  pub unread : Bytes
+  pub messages : Messages
   pub bytes_are : bytes ≡ taken ++ unread
   pub reads : Completes old.decoder taken messages new.decoder
-  pub asked : AskedFront place (held ++ messages) old.pass new.pass e
-  pub all : asks_all e ≡ true → unread ≡ []
+  pub submitted : SubmittedFront route (held ++ messages) old.pass new.pass e
+  pub all : submits_all e ≡ true → unread ≡ []
 
--- the side took this piece, and what was in it was asked for: all of it where it goes on; else as far as the
--- end says, and why it stops there
-abbrev pub PieceAskedFor : Place → List ℕ → Listener → Listener → Result (Unit {0}) PumpEnd → Type 0
-PieceAskedFor place piece old new result = MatchResult result
-    (λ _. HeardAll place [] piece old new)
-    (λ e. HeardFront place [] piece old new e × StopsPiece e old.pass.calls new.pass new.decoder)
+-- the decoder took this piece, and what its messages ask for was submitted: all of it where it goes on; else as far
+-- as the end says, and why it stops there
+abbrev pub PieceSubmitted : IncomingRoute → Bytes → Receiver → Receiver → Result (Unit {0}) PumpEnd → Type 0
+PieceSubmitted route piece old new result = MatchResult result
+    (λ _. ReceivedAll route [] piece old new)
+    (λ e. ReceivedFront route [] piece old new e × StopsPiece e old.pass.calls new.pass new.decoder)
 
 -- a peer was read from to this end, beginning with the messages that it held
-pub record ReadOut (place : Place) (peer : Peer) (old new : Reader) (e : PumpEnd) : Type 0 where
-  pub bytes : List ℕ
+pub record ReadOut (route : IncomingRoute) (peer : Peer) (old new : Reader) (e : PumpEnd) : Type 0 where
+  pub bytes : Bytes
   pub after : DecoderState
   pub gave : Gave old.inlet new.inlet bytes
-  pub heard : HeardFront place peer.messages bytes (record { decoder = peer.decoder; pass = old.pass })
+  pub received : ReceivedFront route peer.messages bytes (record { decoder = peer.decoder; pass = old.pass })
       (record { decoder = after; pass = new.pass }) e
-  pub cause : EndsBy e old new bytes after
+  pub reads : ℕ
+  pub was_read : WasRead old.inlet new.inlet reads
+  pub within : reads ≤ most_reads
+  pub cause : EndsBy e old new after reads

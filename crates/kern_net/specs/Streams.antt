@@ -1,6 +1,7 @@
 -- Posts in the order of their numbers, and the bytes that they are written as.
 use Rattle.std.specs.Prelude.{◌≡◌, ℕ, ◌-◌, List, [], ◌∷◌, ◌++◌, take, drop}
 use Rattle.std.specs.List.{filter}
+use Rattle.zmtp_wire.specs.Wire.{Bytes, Frames}
 use Rattle.zmtp_wire.specs.Writing.{message_bytes}
 use Rattle.kern_post.specs.declared.post.Post.{Post}
 use Rattle.kern_post.specs.Posts.{is_to}
@@ -18,13 +19,13 @@ unfoldable pub window : ℕ → ℕ → ℕ → List Post → List Post
 window connection from next posts = filter (is_to connection) (take (next - from) (drop (from - 1) posts))
 
 -- the bytes are a message of the post's frames
-unfoldable pub IsMessageOf : List ℕ → List ℕ → Post → List ℕ → Type 0
+unfoldable pub IsMessageOf : Bytes → Bytes → Post → Bytes → Type 0
 IsMessageOf key session post bytes =
-    (frames : List (List ℕ)) × IsRendered key session post frames × (bytes ≡ message_bytes frames)
+    (frames : Frames) × IsRendered key session post frames × (bytes ≡ message_bytes frames)
 
 -- the bytes are the posts' messages, one behind the other
-unfoldable pub IsStreamOf : List ℕ → List ℕ → List Post → List ℕ → Type 0
+unfoldable pub IsStreamOf : Bytes → Bytes → List Post → Bytes → Type 0
 IsStreamOf key session [] bytes = bytes ≡ []
 IsStreamOf key session (post ∷ posts) bytes =
-    (message : List ℕ) × (others : List ℕ) × IsMessageOf key session post message
+    (message : Bytes) × (others : Bytes) × IsMessageOf key session post message
     × IsStreamOf key session posts others × (bytes ≡ message ++ others)

@@ -1,31 +1,57 @@
-//! What holds the worker and the pumps back.
-ghost use Rattle.std.specs.Prelude.{◌≡◌, ◌≤◌};
-ghost use Rattle.kern_net.specs.Gates.{Asked, before_said, idle_said};
+//! What holds the worker and the pumps back, and what they wake others by. After a false answer a gate isn't
+//! polled again.
+ghost use Rattle.std.specs.Prelude.{◌≡◌, ◌≤◌, ◌+◌};
+ghost use Rattle.kern_net.specs.Gates.{WorkerPolls, ReaderPolls, WriterPolls, with_answer};
+ghost use Rattle.kern_net.specs.Gates.{before_polled, idle_polled, with_wake};
 
 use std::sync::Wait;
 
-/// What the worker or a pump asks whether it may go on, where it waits, and what it wakes others by.
-/// After a false answer it isn't asked again.
-pub trait Gate {
-    /// How often `before` and `idle` have each answered yes and no.
-    ghost asked: { Self → Asked };
+/// What the worker polls before each Slice and after one that found nothing to do.
+pub trait WorkerGate {
+    /// How often `before` and `idle` have answered yes and no, and how often `wake` was called.
+    ghost polls: { Self → WorkerPolls };
 
-    /// Whether another Slice may be made after so many, which are no more than it let through. It may
-    /// wait before it answers.
+    /// Whether another Slice may be made after so many, which are those that it let through. It may wait
+    /// before it answers.
     fn before<R: Wait>(&mut self, rt: &R, slices: u64) -> bool
-        requires { slices ≤ (asked self.old).before_yes }
-        ensures { asked self.new ≡ before_said result (asked self.old) };
+        requires { slices ≡ (polls self.old).before.yes }
+        ensures { polls self.new ≡ before_polled result (polls self.old) };
 
     /// Waits until there may be something to do, and tells whether to go on.
     fn idle<R: Wait>(&mut self, rt: &R) -> bool
-        ensures { asked self.new ≡ idle_said result (asked self.old) };
+        ensures { polls self.new ≡ idle_polled result (polls self.old) };
 
-    /// Wakes those that wait for what a call may have changed.
+    /// Wakes those that wait for what a Slice may have changed.
     fn wake<R: Wait>(&mut self, rt: &R)
-        ensures { asked self.new ≡ asked self.old };
+        ensures { polls self.new ≡ with_wake (polls self.old) };
 
     /// Whole seconds since 1970, at most those of 2100-01-01T00:00:00Z: a later clock counts as that.
     fn unix_seconds<R: Wait>(&mut self, rt: &R) -> u64
-        ensures asked { asked self.new ≡ asked self.old }
+        ensures polls { polls self.new ≡ polls self.old }
         ensures bound { result ≤ 4102444800 };
+}
+
+/// What a reader wakes others by.
+pub trait ReaderGate {
+    /// How often `wake` was called.
+    ghost polls: { Self → ReaderPolls };
+
+    /// Wakes those that wait for what a call may have changed.
+    fn wake<R: Wait>(&mut self, rt: &R)
+        ensures { (polls self.new).wakes ≡ (polls self.old).wakes + 1 };
+
+    /// Whole seconds since 1970, at most those of 2100-01-01T00:00:00Z: a later clock counts as that.
+    fn unix_seconds<R: Wait>(&mut self, rt: &R) -> u64
+        ensures polls { polls self.new ≡ polls self.old }
+        ensures bound { result ≤ 4102444800 };
+}
+
+/// Where a writer waits.
+pub trait WriterGate {
+    /// How often `idle` has answered yes and no.
+    ghost polls: { Self → WriterPolls };
+
+    /// Waits until something may have been posted, and tells whether to go on.
+    fn idle<R: Wait>(&mut self, rt: &R) -> bool
+        ensures { (polls self.new).idle ≡ with_answer result (polls self.old).idle };
 }

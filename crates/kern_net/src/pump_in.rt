@@ -3,12 +3,12 @@ ghost use Rattle.std.specs.Prelude.{◌≡◌};
 ghost use Rattle.base_streams.specs.States.{IsReadable};
 ghost use Rattle.zmtp_wire.specs.declared.fault.StreamFault.{StreamFault};
 ghost use Rattle.kern_net.specs.declared.end.PumpEnd.TheVariants as pump;
-ghost use Rattle.kern_net.specs.Gates.{IsOpen};
-ghost use Rattle.kern_net.specs.Reading.{AskedFor, PieceAskedFor, ReadOut};
+ghost use Rattle.kern_net.specs.Gates.{WokeForEach};
+ghost use Rattle.kern_net.specs.Reading.{SubmittedFor, PieceSubmitted, ReadOut};
 
-use crate::asking::ask_for;
 use crate::end::PumpEnd;
-use crate::gate::Gate;
+use crate::gate::ReaderGate;
+use crate::submitting::submit;
 use base_streams::ports::Inlet;
 use jup_wire::channel::Channel;
 use kern_desk::seated::{Desk, Pass};
@@ -19,9 +19,9 @@ use zmtp_peer::handshake::Peer;
 use zmtp_wire::decoder::Decoder;
 use zmtp_wire::messages::Messages;
 
-/// Where messages come from, how they are signed, and at which desk they are asked for.
+/// Where messages come from, how they are signed, and at which desk their calls are made.
 #[derive(Clone, Copy)]
-pub struct Place<'a> {
+pub struct IncomingRoute<'a> {
     pub desk: &'a Desk,
     /// The connection's number, as its Join was answered.
     pub connection: u32,
@@ -32,21 +32,21 @@ pub struct Place<'a> {
 }
 
 #[tactic(auto, using(crate::proofs::ReadLemmas::coming_first, crate::proofs::ReadLemmas::coming_on, crate::proofs::ReadLemmas::coming_refused, crate::proofs::ReadLemmas::coming_end))]
-fn ask_for_all<R: Wait, G: Gate>(
+fn submit_all<R: Wait, G: ReaderGate>(
     rt: &R,
     alloc: Global,
     pass: &mut Pass,
     gate: &mut G,
-    place: &Place<'_>,
+    route: &IncomingRoute<'_>,
     messages: Messages,
 ) -> Result<(), PumpEnd>
-    requires { pass.old.turnstile ≡ place.now.desk.now }
-    ensures same { (pass.new.turnstile ≡ place.now.desk.now) × (pass.new.seat ≡ pass.old.seat) }
-    ensures gate { G.asked gate.new ≡ G.asked gate.old }
-    ensures asked { AskedFor place.now messages pass.old pass.new result }
+    requires { pass.old.turnstile ≡ route.now.desk.now }
+    ensures same { (pass.new.turnstile ≡ route.now.desk.now) × (pass.new.seat ≡ pass.old.seat) }
+    ensures woke { WokeForEach pass.old pass.new (G.polls gate.old) (G.polls gate.new) }
+    ensures submitted { SubmittedFor route.now messages pass.old pass.new result }
 {
     for frames in messages.into_vec() {
-        match ask_for(rt, alloc, pass, gate, place, frames) {
+        match submit(rt, alloc, pass, gate, route, frames) {
             Ok(()) => {}
             Err(end) => return Err(end),
         }
@@ -54,25 +54,25 @@ fn ask_for_all<R: Wait, G: Gate>(
     Ok(())
 }
 
-#[tactic(auto, using(crate::proofs::ReadLemmas::hears_piece, crate::proofs::ReadLemmas::hears_broken, crate::proofs::ReadLemmas::hears_refused, crate::proofs::ReadLemmas::hears_not, crate::proofs::ReadLemmas::stops_piece))]
-fn take_piece<R: Wait, G: Gate>(
+#[tactic(auto, using(crate::proofs::ReadLemmas::receives_piece, crate::proofs::ReadLemmas::receives_broken, crate::proofs::ReadLemmas::receives_refused, crate::proofs::ReadLemmas::receives_not, crate::proofs::ReadLemmas::stops_piece))]
+fn take_piece<R: Wait, G: ReaderGate>(
     rt: &R,
     alloc: Global,
     pass: &mut Pass,
     gate: &mut G,
-    place: &Place<'_>,
+    route: &IncomingRoute<'_>,
     decoder: &mut Decoder,
     piece: &[u8],
 ) -> Result<(), PumpEnd>
-    requires { pass.old.turnstile ≡ place.now.desk.now }
-    ensures same { (pass.new.turnstile ≡ place.now.desk.now) × (pass.new.seat ≡ pass.old.seat) }
-    ensures gate { G.asked gate.new ≡ G.asked gate.old }
-    ensures asked { PieceAskedFor place.now piece.now (record { decoder = decoder.old; pass = pass.old })
+    requires { pass.old.turnstile ≡ route.now.desk.now }
+    ensures same { (pass.new.turnstile ≡ route.now.desk.now) × (pass.new.seat ≡ pass.old.seat) }
+    ensures woke { WokeForEach pass.old pass.new (G.polls gate.old) (G.polls gate.new) }
+    ensures submitted { PieceSubmitted route.now piece.now (record { decoder = decoder.old; pass = pass.old })
         (record { decoder = decoder.new; pass = pass.new }) result }
 {
     match feed(alloc, decoder, piece) {
         Ok(Fed { messages, broken }) => {
-            match ask_for_all(rt, alloc, pass, gate, place, messages) {
+            match submit_all(rt, alloc, pass, gate, route, messages) {
                 Ok(()) => match broken {
                     None => Ok(()),
                     Some(cause) => Err(PumpEnd::Wire(cause)),
@@ -91,33 +91,33 @@ fn take_piece<R: Wait, G: Gate>(
 /// It reads until the stream ends, fails or breaks, 4,294,967,295 times at most, or until a call is
 /// refused: then it makes no other.
 #[tactic(auto, using(crate::proofs::ReadLemmas::held_refused, crate::proofs::ReadLemmas::stopped_first, crate::proofs::ReadLemmas::stopped, crate::proofs::ReadLemmas::under_way, crate::proofs::ReadLemmas::under_way_on, crate::proofs::ReadLemmas::ended_there, crate::proofs::ReadLemmas::failed_there, crate::proofs::ReadLemmas::read_enough))]
-pub fn pump_in<R: Wait, I: Inlet, G: Gate>(
+pub fn pump_in<R: Wait, I: Inlet, G: ReaderGate>(
     rt: &R,
     alloc: Global,
     pass: &mut Pass,
     gate: &mut G,
     from: &mut I,
     peer: Peer,
-    place: &Place<'_>,
+    route: &IncomingRoute<'_>,
 ) -> PumpEnd
-    requires own { pass.old.turnstile ≡ place.now.desk.now }
-    requires open { IsOpen (G.asked gate.old) }
+    requires own { pass.old.turnstile ≡ route.now.desk.now }
     requires readable { IsReadable (I.state from.old) }
-    ensures same { (pass.new.turnstile ≡ place.now.desk.now) × (pass.new.seat ≡ pass.old.seat) }
-    ensures gate { G.asked gate.new ≡ G.asked gate.old }
-    ensures read { ReadOut place.now peer (record { inlet = I.state from.old; pass = pass.old })
+    ensures same { (pass.new.turnstile ≡ route.now.desk.now) × (pass.new.seat ≡ pass.old.seat) }
+    ensures woke { WokeForEach pass.old pass.new (G.polls gate.old) (G.polls gate.new) }
+    ensures read { ReadOut route.now peer (record { inlet = I.state from.old; pass = pass.old })
         (record { inlet = I.state from.new; pass = pass.new }) result }
 {
     let Peer {
         mut decoder,
         messages,
+        reads: _,
     } = peer;
-    match ask_for_all(rt, alloc, pass, gate, place, messages) {
+    match submit_all(rt, alloc, pass, gate, route, messages) {
         Ok(()) => {}
         Err(end) => return end,
     }
     // The side may have met a fault behind READY.
-    match take_piece(rt, alloc, pass, gate, place, &mut decoder, &[]) {
+    match take_piece(rt, alloc, pass, gate, route, &mut decoder, &[]) {
         Ok(()) => {}
         Err(end) => return end,
     }
@@ -129,7 +129,7 @@ pub fn pump_in<R: Wait, I: Inlet, G: Gate>(
             Err(_) => return PumpEnd::ReadFailed,
         };
         let piece = &buffer[..count];
-        match take_piece(rt, alloc, pass, gate, place, &mut decoder, piece) {
+        match take_piece(rt, alloc, pass, gate, route, &mut decoder, piece) {
             Ok(()) => {}
             Err(end) => return end,
         }

@@ -1,15 +1,15 @@
 //! Writing the posts that go to a connection.
-ghost use Rattle.std.specs.Prelude.{◌≡◌, ◌≤◌, ◌+◌, length, IfOk, IfErr, OnOk, Ok};
+ghost use Rattle.std.specs.Prelude.{◌≡◌, IfOk, IfErr, OnOk, Ok};
 ghost use Rattle.base_streams.specs.States.{IsWritable};
 ghost use Rattle.kern_core.specs.declared.call.Call.TheVariants.{Fetch};
 ghost use Rattle.kern_core.specs.declared.call.Reply.TheVariants.{Fetched};
 ghost use Rattle.kern_net.specs.Calls.{TurnedBy};
-ghost use Rattle.kern_net.specs.Gates.{idles, SameBefore, IsOpen};
+ghost use Rattle.kern_net.specs.Gates.{PolledForEach};
 ghost use Rattle.kern_net.specs.Out.{WroteAll, WroteOut, OutEnds};
 ghost use Rattle.kern_net.specs.Rounds.{IsFetchAnswer, Answers, Denied, Cut, Went, Halted};
 
 use crate::end::PumpEnd;
-use crate::gate::Gate;
+use crate::gate::WriterGate;
 use crate::stream::stream_of;
 use base_streams::ports::Outlet;
 use base_streams::writing::write_all;
@@ -22,7 +22,7 @@ use std::sync::Wait;
 
 /// At which desk posts are fetched, which of them go out, and how they are sealed.
 #[derive(Clone, Copy)]
-pub struct Line<'a> {
+pub struct OutgoingRoute<'a> {
     pub desk: &'a Desk,
     /// The connection's number, as its Join answered it.
     pub connection: u32,
@@ -60,15 +60,20 @@ fn batch_of(answer: Result<Reply, KernelFault>) -> Result<Batch, PumpEnd>
 }
 
 // Fetches the posts from a number on.
-fn fetch<R: Wait>(rt: &R, pass: &mut Pass, line: &Line<'_>, from: u64) -> Result<Batch, PumpEnd>
-    requires { pass.old.turnstile ≡ line.now.desk.now }
-    ensures same { (pass.new.turnstile ≡ line.now.desk.now) × (pass.new.seat ≡ pass.old.seat) }
-    ensures ok { IfOk result (λ batch. TurnedBy pass.old (Fetch line.now.connection from)
+fn fetch<R: Wait>(
+    rt: &R,
+    pass: &mut Pass,
+    route: &OutgoingRoute<'_>,
+    from: u64,
+) -> Result<Batch, PumpEnd>
+    requires { pass.old.turnstile ≡ route.now.desk.now }
+    ensures same { (pass.new.turnstile ≡ route.now.desk.now) × (pass.new.seat ≡ pass.old.seat) }
+    ensures ok { IfOk result (λ batch. TurnedBy pass.old (Fetch route.now.connection from)
         (Ok (Fetched batch.posts batch.next batch.ended)) pass.new) }
-    ensures err { IfErr result (Denied line.now.connection pass.old pass.new from) }
+    ensures err { IfErr result (Denied route.now.connection pass.old pass.new from) }
 {
-    let connection = line.connection;
-    match line.desk.turn(rt, pass, Call::Fetch { connection, from }) {
+    let connection = route.connection;
+    match route.desk.turn(rt, pass, Call::Fetch { connection, from }) {
         Ok(answer) => batch_of(answer),
         Err(_) => Err(PumpEnd::Worn),
     }
@@ -78,15 +83,15 @@ fn fetch<R: Wait>(rt: &R, pass: &mut Pass, line: &Line<'_>, from: u64) -> Result
 fn write_posts<W: Outlet>(
     alloc: Global,
     to: &mut W,
-    line: &Line<'_>,
+    route: &OutgoingRoute<'_>,
     posts: &[Post],
 ) -> Result<(), PumpEnd>
     requires { IsWritable (W.state to.old) }
-    ensures ok { OnOk result (WroteAll line.now (W.state to.old) (W.state to.new) posts.now) }
+    ensures ok { OnOk result (WroteAll route.now (W.state to.old) (W.state to.new) posts.now) }
     ensures good { OnOk result (IsWritable (W.state to.new)) }
-    ensures err { IfErr result (Cut line.now (W.state to.old) (W.state to.new) posts.now) }
+    ensures err { IfErr result (Cut route.now (W.state to.old) (W.state to.new) posts.now) }
 {
-    let Ok(bytes) = stream_of(alloc, posts, line.key, line.session) else {
+    let Ok(bytes) = stream_of(alloc, posts, route.key, route.session) else {
         return Err(PumpEnd::OutOfMemory);
     };
     match write_all(to, bytes.as_slice()) {
@@ -102,21 +107,21 @@ fn fetch_on<R: Wait, W: Outlet>(
     alloc: Global,
     pass: &mut Pass,
     to: &mut W,
-    line: &Line<'_>,
+    route: &OutgoingRoute<'_>,
     from: u64,
 ) -> Result<(u64, bool), PumpEnd>
-    requires pass { pass.old.turnstile ≡ line.now.desk.now }
+    requires pass { pass.old.turnstile ≡ route.now.desk.now }
     requires good { IsWritable (W.state to.old) }
-    ensures same { (pass.new.turnstile ≡ line.now.desk.now) × (pass.new.seat ≡ pass.old.seat) }
-    ensures ok { IfOk result (Went line.now from (record { outlet = W.state to.old; pass = pass.old })
+    ensures same { (pass.new.turnstile ≡ route.now.desk.now) × (pass.new.seat ≡ pass.old.seat) }
+    ensures ok { IfOk result (Went route.now from (record { outlet = W.state to.old; pass = pass.old })
         (record { outlet = W.state to.new; pass = pass.new })) }
     ensures good { OnOk result (IsWritable (W.state to.new)) }
-    ensures err { IfErr result (Halted line.now from (record { outlet = W.state to.old; pass = pass.old })
+    ensures err { IfErr result (Halted route.now from (record { outlet = W.state to.old; pass = pass.old })
         (record { outlet = W.state to.new; pass = pass.new })) }
 {
-    match fetch(rt, pass, line, from) {
+    match fetch(rt, pass, route, from) {
         Ok(Batch { posts, next, ended }) => {
-            match write_posts(alloc, to, line, posts.as_slice()) {
+            match write_posts(alloc, to, route, posts.as_slice()) {
                 Ok(()) => Ok((next, ended)),
                 Err(end) => Err(end),
             }
@@ -127,33 +132,31 @@ fn fetch_on<R: Wait, W: Outlet>(
 
 /// Writes the posts that go to a connection, from a number on, each once and in order, until the gate
 /// says no, a shutdown was seen and all is written, a turn is refused, the writer fails or memory is
-/// wanting. Where a Fetch moved nothing it asks `idle`; it never asks `before`.
+/// wanting. Where a Fetch moved nothing it polls `idle`.
 ///
 /// It may wait, or never end, as its gate does.
-pub fn pump_out<R: Wait, W: Outlet, G: Gate>(
+pub fn pump_out<R: Wait, W: Outlet, G: WriterGate>(
     rt: &R,
     alloc: Global,
     pass: &mut Pass,
     gate: &mut G,
     to: &mut W,
-    line: &Line<'_>,
+    route: &OutgoingRoute<'_>,
     from: u64,
 ) -> PumpEnd
-    requires pass { pass.old.turnstile ≡ line.now.desk.now }
+    requires pass { pass.old.turnstile ≡ route.now.desk.now }
     requires good { IsWritable (W.state to.old) }
-    requires gate { IsOpen (G.asked gate.old) }
-    ensures same { (pass.new.turnstile ≡ line.now.desk.now) × (pass.new.seat ≡ pass.old.seat) }
-    ensures wrote { WroteOut line.now from (record { outlet = W.state to.old; pass = pass.old })
+    requires gate { (G.polls gate.old).idle.no ≡ 0 }
+    ensures same { (pass.new.turnstile ≡ route.now.desk.now) × (pass.new.seat ≡ pass.old.seat) }
+    ensures wrote { WroteOut route.now from (record { outlet = W.state to.old; pass = pass.old })
         (record { outlet = W.state to.new; pass = pass.new }) result }
-    ensures idle { idles (G.asked gate.new) + length pass.old.calls
-        ≤ idles (G.asked gate.old) + length pass.new.calls }
-    ensures before { SameBefore (G.asked gate.old) (G.asked gate.new) }
-    ensures ends { OutEnds line.now.connection (record { outlet = W.state to.new; pass = pass.new })
-        (G.asked gate.new) result }
+    ensures idle { PolledForEach pass.old pass.new (G.polls gate.old) (G.polls gate.new) }
+    ensures ends { OutEnds route.now.connection (record { outlet = W.state to.new; pass = pass.new })
+        (G.polls gate.new) result }
 {
     let mut next = from;
     for _ in rt.forever() {
-        match fetch_on(rt, alloc, pass, to, line, next) {
+        match fetch_on(rt, alloc, pass, to, route, next) {
             Err(end) => return end,
             Ok((after, ended)) => {
                 if after == next {

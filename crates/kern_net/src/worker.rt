@@ -1,24 +1,36 @@
 //! The worker, which makes the kernel go on.
-ghost use Rattle.std.specs.Prelude.{◌≡◌, ◌≤◌, ◌+◌, Some, IsSome, IfErr, OnOk};
-ghost use Rattle.kern_net.specs.Gates.{IsOpen};
-ghost use Rattle.kern_net.specs.Work.{outcome_of, OneSlice, SliceEnds, Sliced, SlicedShort, WorkEnds};
+ghost use Rattle.std.specs.Prelude.{◌≡◌, ◌+◌, length, Some, IsSome, IfOk, IfErr, OnOk};
+ghost use Rattle.kern_net.specs.declared.worker.Progress.TheVariants as progress;
+ghost use Rattle.kern_net.specs.Gates.{unpolled, IsOpen};
+ghost use Rattle.kern_net.specs.Work.{progress_of, untaken, OneSlice, SawShutdown, SliceEnds, Sliced, WorkEnds};
 
 use crate::end::PumpEnd;
-use crate::gate::Gate;
+use crate::gate::WorkerGate;
 use kern_core::call::{Call, Reply};
 use kern_core::fault::KernelFault;
 use kern_desk::seated::{Desk, Pass};
 use std::sync::Wait;
 
-// What the answer to a Slice says: whether there may be more to do at once, or how the work ends.
-fn outcome_of(answer: Result<Reply, KernelFault>) -> Result<bool, PumpEnd>
-    requires { IsSome (outcome_of answer) }
-    ensures { outcome_of answer ≡ Some result }
+/// What a Slice came to.
+#[derive(Clone, Copy, PartialEq, Eq)]
+pub(crate) enum Progress {
+    /// There may be more to do at once.
+    More,
+    /// There was nothing to do, or no more.
+    Idle,
+    /// A shutdown has come.
+    ShutDown,
+}
+
+// What the answer to a Slice says.
+fn progress_of(answer: Result<Reply, KernelFault>) -> Result<Progress, PumpEnd>
+    requires { IsSome (progress_of answer) }
+    ensures { progress_of answer ≡ Some result }
 {
     match answer {
-        Ok(Reply::More) => Ok(true),
-        Ok(Reply::Idle) => Ok(false),
-        Ok(Reply::Ended) => Err(PumpEnd::Ended),
+        Ok(Reply::More) => Ok(Progress::More),
+        Ok(Reply::Idle) => Ok(Progress::Idle),
+        Ok(Reply::Ended) => Ok(Progress::ShutDown),
         Err(KernelFault::OutOfMemory) => Err(PumpEnd::OutOfMemory),
         Err(KernelFault::JournalFull) => Err(PumpEnd::JournalFull),
         Ok(
@@ -34,31 +46,38 @@ fn outcome_of(answer: Result<Reply, KernelFault>) -> Result<bool, PumpEnd>
     }
 }
 
-// One Slice, and whether there may be more to do at once.
-fn slice<R: Wait, G: Gate>(
+// Makes one Slice, and wakes others once the kernel has taken it.
+fn slice<R: Wait, G: WorkerGate>(
     rt: &R,
     desk: &Desk,
     pass: &mut Pass,
     gate: &mut G,
-) -> Result<bool, PumpEnd>
+) -> Result<Progress, PumpEnd>
     requires { pass.old.turnstile ≡ desk.now }
     ensures same { (pass.new.turnstile ≡ desk.now) × (pass.new.seat ≡ pass.old.seat) }
-    ensures asked { G.asked gate.new ≡ G.asked gate.old }
+    ensures before { (G.polls gate.new).before ≡ (G.polls gate.old).before }
+    ensures idle { (G.polls gate.new).idle ≡ (G.polls gate.old).idle }
+    ensures woke { (G.polls gate.new).wakes + length pass.old.calls
+        ≡ (G.polls gate.old).wakes + length pass.new.calls }
     ensures ok { OnOk result (OneSlice pass.old.calls pass.new.calls) }
+    ensures shut_down { IfOk result (λ p. p ≡ progress.ShutDown → SawShutdown pass.new) }
     ensures err { IfErr result (SliceEnds pass.old pass.new) }
 {
     let unix_seconds = gate.unix_seconds(rt);
-    match desk.turn(rt, pass, Call::Slice { unix_seconds }) {
-        Ok(answer) => {
+    let Ok(answer) = desk.turn(rt, pass, Call::Slice { unix_seconds }) else {
+        return Err(PumpEnd::Worn);
+    };
+    match progress_of(answer) {
+        Ok(progress) => {
             gate.wake(rt);
-            outcome_of(answer)
+            Ok(progress)
         }
-        Err(_) => Err(PumpEnd::Worn),
+        Err(end) => Err(end),
     }
 }
 
 // One round: `before`, a Slice, and where that found nothing to do, `idle`.
-fn round<R: Wait, G: Gate>(
+fn round<R: Wait, G: WorkerGate>(
     rt: &R,
     desk: &Desk,
     pass: &mut Pass,
@@ -66,46 +85,45 @@ fn round<R: Wait, G: Gate>(
     slices: u64,
 ) -> Result<(), PumpEnd>
     requires pass { pass.old.turnstile ≡ desk.now }
-    requires gate { IsOpen (G.asked gate.old) }
-    requires slices { slices ≤ (G.asked gate.old).before_yes }
+    requires gate { IsOpen (G.polls gate.old) }
+    requires slices { slices ≡ (G.polls gate.old).before.yes }
     ensures same { (pass.new.turnstile ≡ desk.now) × (pass.new.seat ≡ pass.old.seat) }
     ensures ok { OnOk result
-        (Sliced pass.old.calls pass.new.calls (G.asked gate.old) (G.asked gate.new)) }
-    ensures once { OnOk result
-        ((G.asked gate.new).before_yes ≡ (G.asked gate.old).before_yes + 1) }
-    ensures err { IfErr result
-        (SlicedShort pass.old.calls pass.new.calls (G.asked gate.old) (G.asked gate.new)) }
-    ensures ends { IfErr result (WorkEnds pass.new (G.asked gate.new)) }
+        (Sliced pass.old.calls pass.new.calls (G.polls gate.old) (G.polls gate.new) 0) }
+    ensures once { OnOk result ((G.polls gate.new).before.yes ≡ slices + 1) }
+    ensures gate { OnOk result (IsOpen (G.polls gate.new)) }
+    ensures err { IfErr result (λ end. Sliced pass.old.calls pass.new.calls
+        (G.polls gate.old) (G.polls gate.new) (untaken end)) }
+    ensures ends { IfErr result (WorkEnds pass.new (G.polls gate.new)) }
 {
     if !gate.before(rt, slices) {
         return Err(PumpEnd::Ended);
     }
     match slice(rt, desk, pass, gate) {
-        Ok(more) => {
-            if more {
-                return Ok(());
-            }
+        Ok(Progress::More) => Ok(()),
+        Ok(Progress::Idle) => {
             if gate.idle(rt) {
                 return Ok(());
             }
             Err(PumpEnd::Ended)
         }
+        Ok(Progress::ShutDown) => Err(PumpEnd::Ended),
         Err(end) => Err(end),
     }
 }
 
-/// Makes Slices, each at the gate's moment, until the gate says no, a shutdown is seen or a turn is
-/// refused. Before each it asks `before` with the number of those that it made; after each turn it
-/// wakes others; and where there was nothing to do it asks `idle`.
+/// Makes Slices, each at the gate's time, until the gate says no, a shutdown is seen or a turn is refused.
+/// Before each it polls `before` with the number of those that it made; after each it wakes others; and
+/// where there was nothing to do it polls `idle`.
 ///
 /// It may wait, or never end, as its gate does.
-pub fn worker<R: Wait, G: Gate>(rt: &R, desk: &Desk, pass: &mut Pass, gate: &mut G) -> PumpEnd
+pub fn worker<R: Wait, G: WorkerGate>(rt: &R, desk: &Desk, pass: &mut Pass, gate: &mut G) -> PumpEnd
     requires pass { pass.old.turnstile ≡ desk.now }
-    requires gate { IsOpen (G.asked gate.old) }
+    requires gate { G.polls gate.old ≡ unpolled }
     ensures same { (pass.new.turnstile ≡ desk.now) × (pass.new.seat ≡ pass.old.seat) }
-    ensures sliced { SlicedShort pass.old.calls pass.new.calls
-        (G.asked gate.old) (G.asked gate.new) result }
-    ensures ends { WorkEnds pass.new (G.asked gate.new) result }
+    ensures sliced { Sliced pass.old.calls pass.new.calls
+        (G.polls gate.old) (G.polls gate.new) (untaken result) }
+    ensures ends { WorkEnds pass.new (G.polls gate.new) result }
 {
     for slices in 0..u64::MAX {
         match round(rt, desk, pass, gate, slices) {

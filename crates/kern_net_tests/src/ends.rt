@@ -2,7 +2,7 @@
 //! that isn't there, by a shutdown.
 
 use crate::conversations::expect_told;
-use crate::gates::Measured;
+use crate::gates::{InGate, OutGate, WorkGate};
 use crate::messages::{Part, TWO};
 use crate::rows::expect_at;
 use crate::table::{Table, open_table};
@@ -30,17 +30,17 @@ const WORK: [Work; 4] = [
     (3, 99, 99, PumpEnd::JournalFull, [4, 0, 3, 0], "SSS"),
 ];
 
-// Without a request the worker makes a slice for each yes, wakes the others and asks `idle` after each.
+// Without a request the worker makes a slice for each yes, wakes the others and polls `idle` after each.
 fn check_work<R: Wait + Abort>(rt: &R, alloc: Global, row: Work, place: usize) {
     let (limit, befores, idles, wanted, said, calls) = row;
     let mut table = open_table(rt, alloc, limit);
-    let mut gate = Measured::new(befores, idles);
+    let mut gate = WorkGate::new(befores, idles);
     let end = table.work(rt, &mut gate);
     let is_called = table.is_told(rt, alloc, calls);
     expect_at(rt, end == wanted, "another end", place, 0);
-    expect_at(rt, gate.told() == said, "asked otherwise", place, 0);
-    expect_at(rt, gate.is_in_step, "out of step", place, 0);
-    expect_at(rt, gate.wakes == said[0], "wakes", place, gate.wakes);
+    expect_at(rt, gate.told() == said, "polled otherwise", place, 0);
+    let wakes = gate.polls.wakes();
+    expect_at(rt, wakes == calls.len() as u64, "wakes", place, wakes);
     expect_at(rt, is_called, "other calls", place, 0);
 }
 
@@ -62,7 +62,7 @@ fn has_ended(read: Result<PumpEnd, PeerFault>, wanted: PumpEnd) -> bool {
 
 // Connection 1 makes a request.
 fn ask<R: Wait + Abort>(rt: &R, alloc: Global, table: &mut Table, given: &[Part]) {
-    let mut gate = Measured::new(0, 0);
+    let mut gate = InGate { wakes: 0 };
     let end = read_as(rt, alloc, table, &mut gate, 1, given);
     let has_ended = has_ended(end, PumpEnd::PeerEnded);
     expect_at(rt, has_ended, "another end of a request", 0, 0);
@@ -82,7 +82,7 @@ fn ask_often<R: Wait + Abort>(rt: &R, alloc: Global, table: &mut Table, count: u
 #[derive(Clone, Copy)]
 struct Wrote {
     end: PumpEnd,
-    said: [u64; 4],
+    said: [u64; 2],
     bytes: usize,
     replies: usize,
     first: usize,
@@ -98,7 +98,7 @@ fn write_from<R: Wait>(
     from: u64,
 ) -> Wrote {
     let mut to = Sink::new(alloc, 1 << 20, 9999);
-    let mut gate = Measured::new(0, 2);
+    let mut gate = OutGate::new(2);
     let end = table.write(rt, alloc, &mut gate, &mut to, connection, from);
     let wrote = Wrote {
         end,
@@ -121,7 +121,7 @@ fn a_journal_full_of_requests(rt: HostRuntime) {
     let is_called = table.is_told(&rt, rt.alloc(), "JAAAAAAAAAAAAAAAAAAAAAAAAAAAAAAF");
     expect_at(&rt, is_called, "other calls", 0, 0);
     expect_at(&rt, wrote.end == PumpEnd::JournalFull, "another end", 0, 0);
-    expect_at(&rt, wrote.said == [0, 0, 0, 0], "asked", 0, 0);
+    expect_at(&rt, wrote.said == [0, 0], "polled", 0, 0);
     expect_at(&rt, wrote.replies == 21, "replies", 0, wrote.replies as u64);
 }
 
@@ -171,34 +171,33 @@ const REFUSED: PumpEnd = PumpEnd::Refused(KernelFault::NoConnection);
 fn no_connection(rt: HostRuntime) {
     let mut table = open_table(&rt, rt.alloc(), MOST_ENTRIES);
     let wrote = write_from(&rt, rt.alloc(), &mut table, 9, 1);
-    let mut gate = Measured::new(0, 0);
+    let mut gate = InGate { wakes: 0 };
     let end = read_as(&rt, rt.alloc(), &mut table, &mut gate, 9, TWO);
     let is_called = table.is_told(&rt, rt.alloc(), "FA");
     expect_at(&rt, wrote.end == REFUSED, "another end of writing", 0, 0);
-    expect_at(&rt, wrote.said == [0, 0, 0, 0], "asked", 0, 0);
+    expect_at(&rt, wrote.said == [0, 0], "polled", 0, 0);
     expect_at(&rt, wrote.bytes == 0, "bytes", 0, wrote.bytes as u64);
     expect_at(&rt, has_ended(end, REFUSED), "another end of reading", 0, 0);
     expect_at(&rt, gate.wakes == 1, "wakes", 0, gate.wakes);
     expect_at(&rt, is_called, "other calls", 0, 0);
 }
 
-// Reading wakes the others after each turn.
+// Reading wakes the others after each call.
 #[test]
 fn wakes(rt: HostRuntime) {
     let mut table = open_table(&rt, rt.alloc(), MOST_ENTRIES);
     let connection = table.join(&rt, rt.alloc(), Channel::Shell);
-    let mut gate = Measured::new(0, 0);
+    let mut gate = InGate { wakes: 0 };
     let end = read_as(&rt, rt.alloc(), &mut table, &mut gate, connection, TWO);
     let is_called = table.is_told(&rt, rt.alloc(), "JAA");
     expect_at(&rt, is_called, "other calls", 0, 0);
     let has_ended = has_ended(end, PumpEnd::PeerEnded);
     expect_at(&rt, has_ended, "another end", 0, 0);
     expect_at(&rt, gate.wakes == 2, "wakes", 0, gate.wakes);
-    expect_at(&rt, gate.told() == [0, 0, 0, 0], "asked", 0, 0);
 }
 
 // After a shutdown the writer writes what is left and ends, and the worker ends after one slice. Neither
-// gate is asked by `idle`. The replies have 478 and 238 bytes, behind the 94 of the handshake.
+// gate is polled by `idle`. The replies have 478 and 238 bytes, behind the 94 of the handshake.
 #[test]
 fn shut_down(rt: HostRuntime) {
     let mut table = open_table(&rt, rt.alloc(), MOST_ENTRIES);
@@ -210,11 +209,11 @@ fn shut_down(rt: HostRuntime) {
         Part::Shutdown,
     ];
     let told = talk_at(&rt, rt.alloc(), &mut table, Client::Closing, &given, AMPLE);
-    let mut gate = Measured::new(99, 99);
+    let mut gate = WorkGate::new(99, 99);
     let end = table.work(&rt, &mut gate);
     let is_called = table.is_told(&rt, rt.alloc(), "JAAFFS");
     expect_told(&rt, told, BOTH_END, 810, 0);
     expect_at(&rt, is_called, "other calls", 0, 0);
     expect_at(&rt, end == PumpEnd::Ended, "another end", 0, 0);
-    expect_at(&rt, gate.told() == [1, 0, 0, 0], "asked", 0, 0);
+    expect_at(&rt, gate.told() == [1, 0, 0, 0], "polled", 0, 0);
 }

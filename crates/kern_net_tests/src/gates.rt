@@ -1,67 +1,114 @@
-//! A gate that says yes so often and then no, and counts what it said.
-ghost use Rattle.kern_net.specs.Gates.{IsOpen};
+//! Gates that say yes so often and then no, and count what they said. They wait for nothing.
+ghost use Rattle.std.specs.Prelude.{◌≡◌};
+ghost use Rattle.kern_net.specs.Gates.{unpolled};
 
-use kern_net::counts::Counts;
-use kern_net::gate::Gate;
+use kern_net::gate::{ReaderGate, WorkerGate, WriterGate};
+use kern_net::tally::{Tally, WorkerTally, one_more};
 use std::sync::Wait;
 
-/// The moment of all gates, 2000-02-29T00:00:00Z.
+/// The time at all gates, 2000-02-29T00:00:00Z.
 pub const MOMENT: u64 = 951_782_400;
 
-/// A gate whose `before` and `idle` say yes so often. It waits for nothing.
+/// A worker's gate whose `before` and `idle` say yes so often.
 #[derive(Drop)]
-pub struct Measured {
+pub struct WorkGate {
     befores: u64,
     idles: u64,
-    pub counts: Counts,
-    /// How often it was told to wake others.
-    pub wakes: u64,
-    /// Whether `before` was always asked with the number of slices that it let through.
-    pub is_in_step: bool,
+    pub polls: WorkerTally,
 }
 
-impl Measured {
-    /// A gate that wasn't asked yet.
-    pub fn new(befores: u64, idles: u64) -> Measured
-        ensures { IsOpen result.counts }
+impl WorkGate {
+    /// A gate that wasn't polled yet.
+    pub fn new(befores: u64, idles: u64) -> WorkGate
+        ensures { result.polls ≡ unpolled }
     {
-        Measured {
+        WorkGate {
             befores,
             idles,
-            counts: Counts::new(),
-            wakes: 0,
-            is_in_step: true,
+            polls: WorkerTally::new(),
         }
     }
 
     /// How often `before` said yes and no, and `idle` yes and no.
     pub fn told(&self) -> [u64; 4] {
-        let (before, idle) = self.counts.noes();
-        [self.counts.befores(), before, self.counts.idles(), idle]
+        let (before, idle) = (self.polls.before(), self.polls.idle());
+        [before.yes(), before.no(), idle.yes(), idle.no()]
     }
 }
 
-impl Gate for Measured {
-    ghost asked = { λ g. g.counts };
+impl WorkerGate for WorkGate {
+    ghost polls = { λ g. g.polls };
 
     fn before<R: Wait>(&mut self, rt: &R, slices: u64) -> bool {
-        self.is_in_step = self.is_in_step && slices == self.counts.befores();
-        let said = self.counts.befores() < self.befores;
-        self.counts.before(rt, said);
+        let said = slices < self.befores;
+        self.polls.add_before(rt, said);
         said
     }
 
     fn idle<R: Wait>(&mut self, rt: &R) -> bool {
-        let said = self.counts.idles() < self.idles;
-        self.counts.idle(rt, said);
+        let said = self.polls.idle().yes() < self.idles;
+        self.polls.add_idle(rt, said);
         said
     }
 
-    fn wake<R: Wait>(&mut self, _rt: &R) {
-        self.wakes = self.wakes.saturating_add(1);
+    fn wake<R: Wait>(&mut self, rt: &R) {
+        self.polls.add_wake(rt);
     }
 
     fn unix_seconds<R: Wait>(&mut self, _rt: &R) -> u64 {
         MOMENT
+    }
+}
+
+/// A reader's gate.
+#[derive(Drop)]
+pub struct InGate {
+    /// How often it woke others.
+    pub wakes: u64,
+}
+
+impl ReaderGate for InGate {
+    ghost polls = { λ g. record { wakes = g.wakes } };
+
+    fn wake<R: Wait>(&mut self, rt: &R) {
+        self.wakes = one_more(rt, self.wakes);
+    }
+
+    fn unix_seconds<R: Wait>(&mut self, _rt: &R) -> u64 {
+        MOMENT
+    }
+}
+
+/// A writer's gate whose `idle` says yes so often.
+#[derive(Drop)]
+pub struct OutGate {
+    idles: u64,
+    pub idle: Tally,
+}
+
+impl OutGate {
+    /// A gate that wasn't polled yet.
+    pub fn new(idles: u64) -> OutGate
+        ensures { result.idle ≡ record { yes = 0; no = 0 } }
+    {
+        OutGate {
+            idles,
+            idle: Tally::new(),
+        }
+    }
+
+    /// How often `idle` said yes and no.
+    pub fn told(&self) -> [u64; 2] {
+        [self.idle.yes(), self.idle.no()]
+    }
+}
+
+impl WriterGate for OutGate {
+    ghost polls = { λ g. record { idle = g.idle } };
+
+    fn idle<R: Wait>(&mut self, rt: &R) -> bool {
+        let said = self.idle.yes() < self.idles;
+        self.idle.add(rt, said);
+        said
     }
 }

@@ -173,7 +173,7 @@ pub const TWO: &[Part] = &[
 ];
 
 /// The bytes of some parts.
-pub fn joined<R: Abort>(rt: &R, alloc: Global, parts: &[Part]) -> Vec<u8> {
+pub fn bytes_of<R: Abort>(rt: &R, alloc: Global, parts: &[Part]) -> Vec<u8> {
     let mut bytes = Vec::new(alloc);
     for part in parts {
         bytes

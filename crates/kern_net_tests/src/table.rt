@@ -1,8 +1,8 @@
 //! A kernel's desk with a pass for what is read and one for what is written.
 ghost use Rattle.std.specs.Prelude.{◌≡◌, All, false};
-ghost use Rattle.kern_net.specs.Gates.{IsOpen};
+ghost use Rattle.kern_net.specs.Gates.{unpolled};
 
-use crate::gates::Measured;
+use crate::gates::{InGate, OutGate, WorkGate};
 use base_streams::memory::{Sink, Source};
 use base_text::sequence::Bytes;
 use jup_wire::channel::Channel;
@@ -11,8 +11,8 @@ use kern_core::held::Held;
 use kern_desk::desks::{MOST_ENTRIES, close_desk, join, open_desk};
 use kern_desk::seated::{Desk, Pass, Seated};
 use kern_net::end::PumpEnd;
-use kern_net::pump_in::{Place, pump_in};
-use kern_net::pump_out::{Line, pump_out};
+use kern_net::pump_in::{IncomingRoute, pump_in};
+use kern_net::pump_out::{OutgoingRoute, pump_out};
 use kern_net::worker::worker;
 use std::alloc::Global;
 use std::process::Abort;
@@ -93,22 +93,21 @@ impl Table {
         &mut self,
         rt: &R,
         alloc: Global,
-        gate: &mut Measured,
+        gate: &mut InGate,
         from: &mut Source,
         peer: Peer,
         origin: Origin<'_>,
     ) -> PumpEnd
-        requires open { IsOpen gate.old.counts }
         requires ended { from.old.ended ≡ false }
         requires failed { from.old.failed ≡ false }
     {
-        let place = Place {
+        let route = IncomingRoute {
             desk: &self.desk,
             connection: origin.connection,
             channel: origin.channel,
             key: origin.key,
         };
-        pump_in(rt, alloc, &mut self.reading, gate, from, peer, &place)
+        pump_in(rt, alloc, &mut self.reading, gate, from, peer, &route)
     }
 
     /// Writes the posts of a connection from a number on, at a gate and without a key.
@@ -116,26 +115,26 @@ impl Table {
         &mut self,
         rt: &R,
         alloc: Global,
-        gate: &mut Measured,
+        gate: &mut OutGate,
         to: &mut Sink,
         connection: u32,
         from: u64,
     ) -> PumpEnd
         requires good { to.old.failed ≡ false }
-        requires open { IsOpen gate.old.counts }
+        requires open { gate.old.idle.no ≡ 0 }
     {
-        let line = Line {
+        let route = OutgoingRoute {
             desk: &self.desk,
             connection,
             key: b"",
             session: "S",
         };
-        pump_out(rt, alloc, &mut self.writing, gate, to, &line, from)
+        pump_out(rt, alloc, &mut self.writing, gate, to, &route, from)
     }
 
     /// Makes slices at a gate.
-    pub fn work<R: Wait>(&mut self, rt: &R, gate: &mut Measured) -> PumpEnd
-        requires { IsOpen gate.old.counts }
+    pub fn work<R: Wait>(&mut self, rt: &R, gate: &mut WorkGate) -> PumpEnd
+        requires { gate.old.polls ≡ unpolled }
     {
         worker(rt, &self.desk, &mut self.reading, gate)
     }

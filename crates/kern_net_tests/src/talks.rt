@@ -1,9 +1,8 @@
 //! Conversations over memory: all that a client sends is read, then all that it is sent is written.
 ghost use Rattle.std.specs.Prelude.{◌≡◌, false};
-ghost use Rattle.kern_net.specs.Gates.{IsOpen};
 
-use crate::gates::Measured;
-use crate::messages::{KEY, Part, is_front, joined};
+use crate::gates::{InGate, OutGate};
+use crate::messages::{KEY, Part, bytes_of, is_front};
 use crate::table::{Origin, Table};
 use base_streams::memory::{Sink, Source};
 use jup_wire::channel::Channel;
@@ -140,9 +139,9 @@ fn course_of<R: Wait + Abort>(
         channel: client.channel(),
         key: client.key(),
     };
-    let mut gate = Measured::new(0, 0);
+    let mut gate = InGate { wakes: 0 };
     let read = table.read(rt, alloc, &mut gate, from, peer, origin);
-    let mut gate = Measured::new(0, 2);
+    let mut gate = OutGate::new(2);
     let wrote = table.write(rt, alloc, &mut gate, to, connection, 1);
     Course::Met(read, wrote)
 }
@@ -156,7 +155,7 @@ pub fn talk_at<R: Wait + Abort>(
     given: &[Part],
     pace: Pace,
 ) -> Told {
-    let mut from = Source::new(joined(rt, alloc, given), pace.read.0, pace.read.1);
+    let mut from = Source::new(bytes_of(rt, alloc, given), pace.read.0, pace.read.1);
     let mut to = Sink::new(alloc, pace.written.0, pace.written.1);
     let course = course_of(rt, alloc, table, client, &mut from, &mut to);
     let told = Told {
@@ -173,12 +172,11 @@ fn read_met<R: Wait + Abort>(
     rt: &R,
     alloc: Global,
     table: &mut Table,
-    gate: &mut Measured,
+    gate: &mut InGate,
     connection: u32,
     from: &mut Source,
     to: &mut Sink,
 ) -> Result<PumpEnd, PeerFault>
-    requires open { IsOpen gate.old.counts }
     requires ended { from.old.ended ≡ false }
     requires failed { from.old.failed ≡ false }
     requires good { to.old.failed ≡ false }
@@ -200,13 +198,11 @@ pub fn read_as<R: Wait + Abort>(
     rt: &R,
     alloc: Global,
     table: &mut Table,
-    gate: &mut Measured,
+    gate: &mut InGate,
     connection: u32,
     given: &[Part],
-) -> Result<PumpEnd, PeerFault>
-    requires { IsOpen gate.old.counts }
-{
-    let mut from = Source::new(joined(rt, alloc, given), 4096, 9999);
+) -> Result<PumpEnd, PeerFault> {
+    let mut from = Source::new(bytes_of(rt, alloc, given), 4096, 9999);
     let mut to = Sink::new(alloc, 4096, 9999);
     let end = read_met(rt, alloc, table, gate, connection, &mut from, &mut to);
     drop(from);

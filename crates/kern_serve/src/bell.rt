@@ -4,25 +4,25 @@ use std::sync::atomic::{AtomicU64, Ordering};
 use std::sync::{Condvar, CondvarTimeouts, Mutex, Wait};
 use std::time::Duration;
 
-// How often something was asked and something may have been posted, how many writers there are, and
+// How often there may have come work, and something may have been posted, how many writers there are, and
 // whether nothing more comes.
 #[derive(Drop)]
 struct Rings {
-    asked: u64,
-    told: u64,
+    work: u64,
+    news: u64,
     writers: u64,
     is_closing: bool,
 }
 
-/// What a writer has heard.
+/// What a writer was told.
 #[derive(Clone, Copy, PartialEq, Eq)]
 pub struct News {
-    pub told: u64,
+    pub seen: u64,
     /// The worker has ended: what was posted by now is all that it posts.
     pub is_closing: bool,
 }
 
-/// A lock over two counters: who waits for one of them to be another number than it heard last misses no
+/// A lock over two counters: who waits for one of them to be another number than it saw last misses no
 /// ring. Beside it, counts of what was done, which nobody waits for.
 #[derive(Drop)]
 pub struct Bell {
@@ -39,8 +39,8 @@ impl Bell {
     pub fn new() -> Bell {
         Bell {
             rings: Mutex::new(Rings {
-                asked: 0,
-                told: 0,
+                work: 0,
+                news: 0,
                 writers: 0,
                 is_closing: false,
             }),
@@ -52,50 +52,47 @@ impl Bell {
         }
     }
 
-    /// Wakes the worker and the writers, after a call that asked for something.
-    pub fn ask<R: Wait>(&self, rt: &R) {
+    /// Wakes the worker and the writers, after a call that may have given both something to do.
+    pub fn wake_worker<R: Wait>(&self, rt: &R) {
         let mut rings = self.rings.lock(rt);
-        rings.asked = rings.asked.wrapping_add(1);
-        rings.told = rings.told.wrapping_add(1);
+        rings.work = rings.work.wrapping_add(1);
+        rings.news = rings.news.wrapping_add(1);
         drop(rings);
         self.work.notify_all();
         self.news.notify_all();
     }
 
     /// Wakes the writers, after a call that may have posted something.
-    pub fn tell<R: Wait>(&self, rt: &R) {
+    pub fn wake_writers<R: Wait>(&self, rt: &R) {
         let mut rings = self.rings.lock(rt);
-        rings.told = rings.told.wrapping_add(1);
+        rings.news = rings.news.wrapping_add(1);
         drop(rings);
         self.news.notify_all();
     }
 
-    /// Waits until more was asked than was heard.
-    pub fn next_asked<R: Wait>(&self, rt: &R, heard: u64) -> u64 {
+    /// Waits until more work may have come than was seen.
+    pub fn next_work<R: Wait>(&self, rt: &R, seen: u64) -> u64 {
         let rings = self
             .work
-            .wait_while(rt, self.rings.lock(rt), |rings| rings.asked == heard);
-        rings.asked
+            .wait_while(rt, self.rings.lock(rt), |rings| rings.work == seen);
+        rings.work
     }
 
     /// Waits for that too, but no longer than so long.
-    pub fn next_asked_within<R: Wait + Clock>(&self, rt: &R, heard: u64, most: Duration) -> u64 {
-        let (rings, _) = self.work.wait_timeout_while(
-            rt,
-            self.rings.lock(rt),
-            most,
-            |rings| rings.asked == heard,
-        );
-        rings.asked
+    pub fn next_work_within<R: Wait + Clock>(&self, rt: &R, seen: u64, most: Duration) -> u64 {
+        let (rings, _) = self
+            .work
+            .wait_timeout_while(rt, self.rings.lock(rt), most, |rings| rings.work == seen);
+        rings.work
     }
 
-    /// Waits until more may have been posted than was heard of.
-    pub fn next_told<R: Wait>(&self, rt: &R, heard: u64) -> News {
+    /// Waits until more may have been posted than was seen.
+    pub fn next_news<R: Wait>(&self, rt: &R, seen: u64) -> News {
         let rings = self
             .news
-            .wait_while(rt, self.rings.lock(rt), |rings| rings.told == heard);
+            .wait_while(rt, self.rings.lock(rt), |rings| rings.news == seen);
         News {
-            told: rings.told,
+            seen: rings.news,
             is_closing: rings.is_closing,
         }
     }
@@ -118,7 +115,7 @@ impl Bell {
     /// long.
     pub fn finish<R: Wait + Clock>(&self, rt: &R, most: Duration) {
         let mut rings = self.rings.lock(rt);
-        rings.told = rings.told.wrapping_add(1);
+        rings.news = rings.news.wrapping_add(1);
         rings.is_closing = true;
         drop(rings);
         self.news.notify_all();

@@ -4,6 +4,7 @@ ghost use Rattle.kern_serve.specs.Lanes.{AreOf};
 
 use crate::bell::Bell;
 use crate::gates::{InGate, OutGate};
+use crate::host::Host;
 use crate::listeners::Listeners;
 use crate::outlet::CountedOutlet;
 use crate::socket::{Met, close, meet};
@@ -16,17 +17,16 @@ use kern_core::fault::KernelFault;
 use kern_core::held::Held;
 use kern_desk::desks::{Joined, join};
 use kern_desk::seated::{Desk, Pass};
-use kern_net::counts::Counts;
 use kern_net::end::PumpEnd;
-use kern_net::pump_in::{Place, pump_in};
-use kern_net::pump_out::{Line, pump_out};
+use kern_net::pump_in::{IncomingRoute, pump_in};
+use kern_net::pump_out::{OutgoingRoute, pump_out};
+use kern_net::tally::Tally;
 use std::alloc::{AllocError, Global};
 use std::net::TcpStream;
 use std::rt::Clock;
 use std::sync::Wait;
 use std::sync::atomic::{AtomicBool, Ordering};
 use std::thread;
-use std::thread::Threads;
 use zmtp_peer::handshake::Peer;
 
 /// What the threads of a server share.
@@ -76,23 +76,23 @@ fn read_on<R: Wait + Clock>(
     let mut gate = InGate {
         bell,
         clock: rt,
-        counts: Counts::new(),
+        wakes: 0,
     };
     let mut from = StdInlet::new(&ends.stream);
-    let place = Place {
+    let route = IncomingRoute {
         desk: &shared.desk,
         connection: ends.connection,
         channel: ends.channel,
         key: shared.key.as_str().as_bytes(),
     };
-    let end = pump_in(rt, alloc, &mut pass, &mut gate, &mut from, peer, &place);
+    let end = pump_in(rt, alloc, &mut pass, &mut gate, &mut from, peer, &route);
     if end == PumpEnd::JournalFull {
-        bell.ask(rt);
+        bell.wake_worker(rt);
         return pass;
     }
     ends.is_closed.store(true, Ordering::SeqCst);
     close(&ends.stream);
-    bell.tell(rt);
+    bell.wake_writers(rt);
     pass
 }
 
@@ -111,31 +111,38 @@ fn write_on<R: Wait + Clock>(
     let bell = &shared.bell;
     let mut gate = OutGate {
         bell,
-        clock: rt,
         is_closed: &ends.is_closed,
-        heard: 0,
+        seen: 0,
         is_closing: false,
-        counts: Counts::new(),
+        idle: Tally::new(),
     };
     let mut to = CountedOutlet {
         outlet: StdOutlet::new(&ends.stream),
         bell,
     };
-    let line = Line {
+    let route = OutgoingRoute {
         desk: &shared.desk,
         connection: joined.connection,
         key: shared.key.as_str().as_bytes(),
         session: shared.session.as_str(),
     };
     bell.begin_writer(rt);
-    let _ = pump_out(rt, alloc, &mut pass, &mut gate, &mut to, &line, joined.from);
+    let _ = pump_out(
+        rt,
+        alloc,
+        &mut pass,
+        &mut gate,
+        &mut to,
+        &route,
+        joined.from,
+    );
     close(&ends.stream);
     bell.end_writer(rt);
     pass
 }
 
 // Reads and writes, each in a thread of its own, until both have ended.
-fn pump<R: Wait + Clock + Threads + Sync>(
+fn pump<R: Host>(
     rt: &R,
     alloc: Global,
     shared: &Shared,
@@ -194,7 +201,7 @@ fn join_as<R: Wait>(
     match join(rt, &shared.desk, pass, channel, identity) {
         Ok(joined) => Some(joined),
         Err(KernelFault::JournalFull) => {
-            shared.bell.ask(rt);
+            shared.bell.wake_worker(rt);
             None
         }
         Err(_) => None,
@@ -230,7 +237,7 @@ fn leave<R: Wait>(rt: &R, shared: &Shared, pass: &mut Pass, connection: u32)
 
 /// Serves a connection of a channel until it ends, and gives its passes back. One that makes no handshake
 /// or for which the kernel has no place is closed.
-pub fn serve_connection<R: Wait + Clock + Threads + Sync>(
+pub fn serve_connection<R: Host>(
     rt: &R,
     alloc: Global,
     shared: &Shared,

@@ -4,37 +4,28 @@ ghost use Rattle.std.specs.Prelude.{◌≡◌, ◌≤◌, ◌+◌, ◌<◌, ◌�
 use crate::bell::Bell;
 use crate::pace::{JOURNAL_LIMIT, RESERVE, SHORTEST_GAP, SLICES_AT_FULL_SPEED, next_gap, pause};
 use crate::system::unix_seconds;
-use kern_net::counts::Counts;
-use kern_net::gate::Gate;
+use kern_net::gate::{ReaderGate, WorkerGate, WriterGate};
+use kern_net::tally::{Tally, WorkerTally, one_more};
 use std::rt::Clock;
 use std::sync::Wait;
 use std::sync::atomic::{AtomicBool, Ordering};
 use std::time::{Duration, Instant};
 
-/// A reader's gate, which is never waited at.
+/// A reader's gate.
 #[derive(Drop)]
 pub struct InGate<'a, C: Clock> {
     pub bell: &'a Bell,
     pub clock: &'a C,
-    pub counts: Counts,
+    pub wakes: u64,
 }
 
-impl<'a, C: Clock> Gate for InGate<'a, C> {
-    ghost asked = { λ g. g.counts };
-
-    fn before<R: Wait>(&mut self, rt: &R, _slices: u64) -> bool {
-        self.counts.before(rt, true);
-        true
-    }
-
-    fn idle<R: Wait>(&mut self, rt: &R) -> bool {
-        self.counts.idle(rt, true);
-        true
-    }
+impl<'a, C: Clock> ReaderGate for InGate<'a, C> {
+    ghost polls = { λ g. record { wakes = g.wakes } };
 
     fn wake<R: Wait>(&mut self, rt: &R) {
         self.bell.count_entries(1);
-        self.bell.ask(rt);
+        self.bell.wake_worker(rt);
+        self.wakes = one_more(rt, self.wakes);
     }
 
     fn unix_seconds<R: Wait>(&mut self, _rt: &R) -> u64 {
@@ -45,61 +36,49 @@ impl<'a, C: Clock> Gate for InGate<'a, C> {
 /// A writer's gate. It waits until something may have been posted; it says no once its connection is closed,
 /// or once all is written that was posted before the worker ended.
 #[derive(Drop)]
-pub struct OutGate<'a, C: Clock> {
+pub struct OutGate<'a> {
     pub bell: &'a Bell,
-    pub clock: &'a C,
     pub is_closed: &'a AtomicBool,
-    pub heard: u64,
+    pub seen: u64,
     pub is_closing: bool,
-    pub counts: Counts,
+    pub idle: Tally,
 }
 
-impl<'a, C: Clock> OutGate<'a, C> {
+impl<'a> OutGate<'a> {
     // Waits for the next ring, and tells whether to go on.
     fn next<R: Wait>(&mut self, rt: &R) -> bool
-        ensures { self.new.counts ≡ self.old.counts }
+        ensures { self.new.idle ≡ self.old.idle }
     {
         if self.is_closing {
             return false;
         }
-        let news = self.bell.next_told(rt, self.heard);
-        self.heard = news.told;
+        let news = self.bell.next_news(rt, self.seen);
+        self.seen = news.seen;
         self.is_closing = news.is_closing;
         !self.is_closed.load(Ordering::SeqCst)
     }
 }
 
-impl<'a, C: Clock> Gate for OutGate<'a, C> {
-    ghost asked = { λ g. g.counts };
+impl<'a> WriterGate for OutGate<'a> {
+    ghost polls = { λ g. record { idle = g.idle } };
 
-    fn before<R: Wait>(&mut self, rt: &R, _slices: u64) -> bool {
-        self.counts.before(rt, true);
-        true
-    }
-
-    // It is asked after a Fetch that moved nothing, before which one may have moved something.
+    // It is polled after a Fetch that moved nothing, before which one may have moved something.
     fn idle<R: Wait>(&mut self, rt: &R) -> bool {
         self.bell.count_entries(2);
         let goes_on = self.next(rt);
-        self.counts.idle(rt, goes_on);
+        self.idle.add(rt, goes_on);
         goes_on
-    }
-
-    fn wake<R: Wait>(&mut self, _rt: &R) {}
-
-    fn unix_seconds<R: Wait>(&mut self, _rt: &R) -> u64 {
-        unix_seconds(self.clock)
     }
 }
 
-/// The worker's gate. It waits until something was asked; it says no once the journal is full but for a
+/// The worker's gate. It waits until there may be work; it says no once the journal is full but for a
 /// reserve. It holds a long run back so that the journal lasts, and rings for its posts.
 #[derive(Drop)]
 pub struct WorkGate<'a, C: Wait + Clock> {
     bell: &'a Bell,
     clock: &'a C,
     begun: Option<Instant>,
-    heard: u64,
+    seen: u64,
     // How many slices may be made at full speed yet.
     free: u64,
     // How many entries there were before the last slice.
@@ -110,37 +89,37 @@ pub struct WorkGate<'a, C: Wait + Clock> {
     rung: u128,
     gap: u64,
     writes: u64,
-    counts: Counts,
+    polls: WorkerTally,
     ghost gap_bound: { gap ≤ 100000 },
 }
 
 impl<'a, C: Wait + Clock> WorkGate<'a, C> {
-    ghost use Rattle.kern_net.specs.Gates.{IsOpen};
+    ghost use Rattle.kern_net.specs.Gates.{unpolled, noes};
 
-    /// A gate that wasn't asked yet.
+    /// A gate that wasn't polled yet.
     pub fn new(bell: &'a Bell, clock: &'a C) -> WorkGate<'a, C>
-        ensures { IsOpen result.counts }
+        ensures { result.polls ≡ unpolled }
     {
         WorkGate {
             bell,
             clock,
             begun: Instant::now(clock).ok(),
-            heard: 0,
+            seen: 0,
             free: SLICES_AT_FULL_SPEED,
             entries: 0,
             slices: 0,
             rung: 0,
             gap: SHORTEST_GAP,
             writes: 0,
-            counts: Counts::new(),
+            polls: WorkerTally::new(),
         }
     }
 
     /// Whether it has said no, which it does only where the journal is full.
     pub fn is_closed(&self) -> bool
-        ensures { IsTrue result ↔ (0 < self.now.counts.before_no + self.now.counts.idle_no) }
+        ensures { IsTrue result ↔ (0 < noes self.now.polls) }
     {
-        self.counts.is_closed()
+        self.polls.is_closed()
     }
 
     // How many entries there may be by now.
@@ -153,9 +132,9 @@ impl<'a, C: Wait + Clock> WorkGate<'a, C> {
         self.count() >= u64::from(JOURNAL_LIMIT) - RESERVE
     }
 
-    // Waits so that the journal lasts, unless something is asked meanwhile.
+    // Waits so that the journal lasts, unless work comes meanwhile.
     fn hold(&mut self)
-        ensures { self.new.counts ≡ self.old.counts }
+        ensures { self.new.polls ≡ self.old.polls }
     {
         let entries = self.count();
         let spent = entries
@@ -164,12 +143,12 @@ impl<'a, C: Wait + Clock> WorkGate<'a, C> {
         self.entries = entries;
         let rest = u64::from(JOURNAL_LIMIT).saturating_sub(entries).max(1);
         let most = Duration::from_micros(pause(spent, rest));
-        self.heard = self.bell.next_asked_within(self.clock, self.heard, most);
+        self.seen = self.bell.next_work_within(self.clock, self.seen, most);
     }
 
     // Lets the next slice through.
     fn pass(&mut self)
-        ensures { self.new.counts ≡ self.old.counts }
+        ensures { self.new.polls ≡ self.old.polls }
     {
         if self.free > 0 {
             self.free -= 1;
@@ -181,14 +160,14 @@ impl<'a, C: Wait + Clock> WorkGate<'a, C> {
 
     // Rings, if the time for it has come.
     fn ring<R: Wait>(&mut self, rt: &R)
-        ensures { self.new.counts ≡ self.old.counts }
+        ensures { self.new.polls ≡ self.old.polls }
     {
         let Some(begun) = &self.begun else {
-            self.bell.tell(rt);
+            self.bell.wake_writers(rt);
             return;
         };
         let Ok(since) = begun.elapsed(self.clock) else {
-            self.bell.tell(rt);
+            self.bell.wake_writers(rt);
             return;
         };
         let now = since.as_micros();
@@ -199,12 +178,12 @@ impl<'a, C: Wait + Clock> WorkGate<'a, C> {
         self.gap = next_gap(self.gap, writes != self.writes);
         self.writes = writes;
         self.rung = now;
-        self.bell.tell(rt);
+        self.bell.wake_writers(rt);
     }
 }
 
-impl<'a, C: Wait + Clock> Gate for WorkGate<'a, C> {
-    ghost asked = { λ g. g.counts };
+impl<'a, C: Wait + Clock> WorkerGate for WorkGate<'a, C> {
+    ghost polls = { λ g. g.polls };
 
     fn before<R: Wait>(&mut self, rt: &R, slices: u64) -> bool {
         self.slices = slices;
@@ -212,22 +191,23 @@ impl<'a, C: Wait + Clock> Gate for WorkGate<'a, C> {
         if goes_on {
             self.pass();
         }
-        self.counts.before(rt, goes_on);
+        self.polls.add_before(rt, goes_on);
         goes_on
     }
 
     fn idle<R: Wait>(&mut self, rt: &R) -> bool {
-        self.bell.tell(rt);
-        self.heard = self.bell.next_asked(rt, self.heard);
+        self.bell.wake_writers(rt);
+        self.seen = self.bell.next_work(rt, self.seen);
         self.free = SLICES_AT_FULL_SPEED;
         self.gap = SHORTEST_GAP;
         let goes_on = !self.is_full();
-        self.counts.idle(rt, goes_on);
+        self.polls.add_idle(rt, goes_on);
         goes_on
     }
 
     fn wake<R: Wait>(&mut self, rt: &R) {
         self.ring(rt);
+        self.polls.add_wake(rt);
     }
 
     fn unix_seconds<R: Wait>(&mut self, _rt: &R) -> u64 {

@@ -10,6 +10,7 @@ mod bell;
 mod connection;
 pub mod fault;
 mod gates;
+pub mod host;
 pub mod listeners;
 mod outlet;
 mod pace;

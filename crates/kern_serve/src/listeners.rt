@@ -1,27 +1,19 @@
 //! The ports of a server.
+use crate::host::TcpNet;
 use jup_connection::connection_file::ConnectionFile;
 use jup_wire::channel::Channel;
 use std::io;
-use std::net::{Ipv4Addr, Net, TcpListener, TcpStream};
+use std::net::{Ipv4Addr, TcpListener};
 
 // Two ports, each bound.
 #[derive(Drop)]
 struct Pair(TcpListener, TcpListener);
 
-fn bind_port<R: Net<Listener = TcpListener, Stream = TcpStream>>(
-    rt: &R,
-    ip: Ipv4Addr,
-    port: u16,
-) -> io::Result<TcpListener> {
+fn bind_port<R: TcpNet>(rt: &R, ip: Ipv4Addr, port: u16) -> io::Result<TcpListener> {
     TcpListener::bind(rt, (ip, port))
 }
 
-fn bind_pair<R: Net<Listener = TcpListener, Stream = TcpStream>>(
-    rt: &R,
-    ip: Ipv4Addr,
-    first: u16,
-    second: u16,
-) -> io::Result<Pair> {
+fn bind_pair<R: TcpNet>(rt: &R, ip: Ipv4Addr, first: u16, second: u16) -> io::Result<Pair> {
     let first = bind_port(rt, ip, first)?;
     match bind_port(rt, ip, second) {
         Ok(second) => Ok(Pair(first, second)),
@@ -43,10 +35,7 @@ pub struct Listeners {
 }
 
 // The ports of the channels, in the order of their fields.
-fn bind_channels<R: Net<Listener = TcpListener, Stream = TcpStream>>(
-    rt: &R,
-    file: &ConnectionFile,
-) -> io::Result<(Pair, Pair)> {
+fn bind_channels<R: TcpNet>(rt: &R, file: &ConnectionFile) -> io::Result<(Pair, Pair)> {
     let first = bind_pair(rt, file.ip, file.shell_port, file.iopub_port)?;
     match bind_pair(rt, file.ip, file.stdin_port, file.control_port) {
         Ok(second) => Ok((first, second)),
@@ -60,10 +49,7 @@ fn bind_channels<R: Net<Listener = TcpListener, Stream = TcpStream>>(
 impl Listeners {
     /// Binds the ports of a connection file at its address. From then on clients can connect, though they are
     /// answered only once the listeners are served. A port is free again as soon as its server has ended.
-    pub fn bind<R: Net<Listener = TcpListener, Stream = TcpStream>>(
-        rt: &R,
-        file: &ConnectionFile,
-    ) -> io::Result<Listeners> {
+    pub fn bind<R: TcpNet>(rt: &R, file: &ConnectionFile) -> io::Result<Listeners> {
         let heartbeat = bind_port(rt, file.ip, file.hb_port)?;
         match bind_channels(rt, file) {
             Ok((Pair(shell, iopub), Pair(stdin, control))) => Ok(Listeners {

@@ -8,6 +8,7 @@ use crate::bell::Bell;
 use crate::connection::{Seats, Shared, serve_connection};
 use crate::fault::ServerFault;
 use crate::gates::WorkGate;
+use crate::host::Host;
 use crate::listeners::Listeners;
 use crate::pace::JOURNAL_LIMIT;
 use crate::socket::beat;
@@ -25,7 +26,6 @@ use std::random::RandomSource;
 use std::rt::Clock;
 use std::sync::{Arc, Wait};
 use std::thread;
-use std::thread::Threads;
 use std::time::Duration;
 
 /// How a server ends.
@@ -50,13 +50,7 @@ const FAREWELL_MILLIS: u64 = 400;
 const RETRY_MILLIS: u64 = 50;
 
 // Serves one connection of a channel after another.
-fn lane<R: Wait + Clock + Threads + Sync>(
-    rt: &R,
-    alloc: Global,
-    shared: &Shared,
-    channel: Channel,
-    mut seats: Seats,
-)
+fn lane<R: Host>(rt: &R, alloc: Global, shared: &Shared, channel: Channel, mut seats: Seats)
     requires { AreOf shared.now.desk seats }
 {
     let listener = shared.listeners.of(channel);
@@ -91,7 +85,7 @@ enum Task {
     Beats,
 }
 
-fn perform<R: Wait + Clock + Threads + Sync>(rt: &R, alloc: Global, shared: &Shared, task: Task)
+fn perform<R: Host>(rt: &R, alloc: Global, shared: &Shared, task: Task)
     requires { IsOf shared.now.desk task }
 {
     match task {
@@ -100,7 +94,7 @@ fn perform<R: Wait + Clock + Threads + Sync>(rt: &R, alloc: Global, shared: &Sha
     }
 }
 
-fn start_task<R: Wait + Clock + Threads + Clone + Send + Sync + Drop + 'static>(
+fn start_task<R: Host>(
     rt: &R,
     alloc: Global,
     shared: &Arc<Shared>,
@@ -129,7 +123,7 @@ fn start_task<R: Wait + Clock + Threads + Clone + Send + Sync + Drop + 'static>(
 }
 
 // Starts the lanes of a channel, each with two of the passes.
-fn start_lanes<R: Wait + Clock + Threads + Clone + Send + Sync + Drop + 'static>(
+fn start_lanes<R: Host>(
     rt: &R,
     alloc: Global,
     shared: &Arc<Shared>,
@@ -154,11 +148,7 @@ fn start_lanes<R: Wait + Clock + Threads + Clone + Send + Sync + Drop + 'static>
 }
 
 // Starts the threads that serve the heartbeat.
-fn start_beats<R: Wait + Clock + Threads + Clone + Send + Sync + Drop + 'static>(
-    rt: &R,
-    alloc: Global,
-    shared: &Arc<Shared>,
-) -> Result<(), ServerFault> {
+fn start_beats<R: Host>(rt: &R, alloc: Global, shared: &Arc<Shared>) -> Result<(), ServerFault> {
     for _ in 0..PLACES {
         start_task(rt, alloc, shared, Task::Beats)?;
     }
@@ -224,7 +214,7 @@ fn open(
 }
 
 // Starts all threads, and gives a pass that is left, the worker's.
-fn start<R: Wait + Clock + Threads + Clone + Send + Sync + Drop + 'static>(
+fn start<R: Host>(
     rt: &R,
     alloc: Global,
     shared: &Arc<Shared>,
@@ -242,7 +232,7 @@ fn start<R: Wait + Clock + Threads + Clone + Send + Sync + Drop + 'static>(
 }
 
 // Starts all threads, and works.
-fn run<R: Wait + Clock + Threads + Clone + Send + Sync + Drop + 'static>(
+fn run<R: Host>(
     rt: &R,
     alloc: Global,
     shared: &Arc<Shared>,
@@ -259,7 +249,7 @@ fn run<R: Wait + Clock + Threads + Clone + Send + Sync + Drop + 'static>(
 }
 
 // Serves under a session's name.
-fn serve_as<R: Wait + Clock + Threads + Clone + Send + Sync + Drop + 'static>(
+fn serve_as<R: Host>(
     rt: &R,
     alloc: Global,
     listeners: Listeners,
@@ -287,7 +277,7 @@ fn serve_as<R: Wait + Clock + Threads + Clone + Send + Sync + Drop + 'static>(
 ///
 /// A connection that breaks the protocol, is silent for ten seconds before its handshake is made, or doesn't
 /// read for ten seconds, ends alone.
-pub fn serve<R: Wait + Clock + Threads + RandomSource + Clone + Send + Sync + Drop + 'static>(
+pub fn serve<R: Host + RandomSource>(
     rt: &R,
     alloc: Global,
     listeners: Listeners,

@@ -1,11 +1,11 @@
 -- How a cell goes, message by message.
 use Rattle.std.proofs.Common.{◌≡◌, ℕ, Bool, true, false, ◌&&◌, ◌||◌, if◌then◌else◌, List, [], ◌∷◌, ◌++◌}
-use Rattle.std.proofs.Common.{refl, sym, ap, ◌∙◌, subst, append-nil, append_assoc, length-append}
-use Rattle.std.proofs.Common.{length, not, arith, ◌≤◌, ◌+◌}
+use Rattle.std.proofs.Common.{refl, sym, ap, ◌∙◌, subst, append-nil, append_assoc}
+use Rattle.std.proofs.Common.{not, ◌+◌, ◌<◌}
 use Rattle.base_streams.specs.States.{InletState, OutletState, IsWritable}
-use Rattle.base_streams.specs.Told.{Gave, Took, TookFront}
-use Rattle.base_streams.proofs.TellLemmas.{told_on}
-use Rattle.zmtp_peer.proofs.HearingLemmas.{told_none}
+use Rattle.base_streams.specs.Told.{Gave, Took, TookFront, WasRead}
+use Rattle.base_streams.proofs.TellLemmas.{told_on, counts_on}
+use Rattle.zmtp_peer.proofs.ReceivingLemmas.{told_none, most_below}
 use Rattle.zmtp_peer.proofs.SendingLemmas.{front_all, front_on}
 use Rattle.lab_term.specs.declared.fault.TermFault.{TermFault}
 use Rattle.lab_term.specs.declared.fault.TermFault.TheVariants.{OutOfMemory, WriteFailed, Wire}
@@ -19,9 +19,10 @@ use Rattle.zmtp_wire.specs.declared.role.Role.TheVariants.{Dealer, Sub}
 use Rattle.zmtp_peer.specs.Sending.{WroteWhole}
 use Rattle.lab_term.specs.declared.cell.Cell.{Cell}
 use Rattle.lab_term.specs.Connections.{Ports, Client}
-use Rattle.lab_term.specs.Running.{Followed, Asked, Began, Ran, parent_of, printing, subscription, went_well}
-use Rattle.zmtp_peer.specs.Hearing.{Heard}
-use Rattle.zmtp_peer.proofs.HearingLemmas.{heard_less}
+use Rattle.lab_term.specs.Running.{Followed, Requested, Began, Ran, parent_of, printing, subscription}
+use Rattle.lab_term.specs.Running.{went_well}
+use Rattle.zmtp_peer.specs.declared.handshake.Peer.{Peer}
+use Rattle.zmtp_peer.specs.Receiving.{Received}
 use Rattle.lab_term.specs.declared.subscriber.Subscriber.{Subscriber}
 use Rattle.lab_term.specs.Reading.{Holds, Waited}
 use Rattle.lab_term.specs.Courses.{Parent, HasNo, EndsIn, EndsInStatus, StopsAt, StopsIn, Passes, Takes}
@@ -352,31 +353,29 @@ passing_cut key q q1 q2 frames out fault e g u w = let p = g.passes in record {
 -- ---- piece by piece
 
 -- the messages up to the subscriber's queue were looked at, and none of them told a status
-pub record Waiting (key : List ℕ) (given given' : InletState) (s : Subscriber) (least : ℕ) : Type 0 where
+pub record Waiting (key : List ℕ) (given given' : InletState) (s : Subscriber) : Type 0 where
   pub passed : List (List (List ℕ))
-  pub holds : Holds given given' s passed least
+  pub holds : Holds given given' s passed
   pub notices : List Notice
   pub are : AreNotices key passed notices
   pub none : HasNo is_status notices
 
-pub holds_less : (given given' : InletState) (s : Subscriber) (passed : List (List (List ℕ))) (n : ℕ)
-    → Holds given given' s passed n → Holds given given' s passed 0
-holds_less given given' s passed n h = record {
-  messages = h.messages;
-  heard = heard_less given given' s.decoder h.messages n 0 (omega arith) h.heard;
-  messages_are = h.messages_are;
-  broken_is = h.broken_is;
-}
+-- all but the queue is as it was
+abbrev pub SameReading : Subscriber → Subscriber → Type 0
+SameReading s t = (t.decoder ≡ s.decoder) × (t.broken ≡ s.broken) × (t.reads ≡ s.reads)
 
 -- part of the queue was looked at
 pub holds_passed : (given given' : InletState) (s t : Subscriber) (passed taken : List (List (List ℕ)))
-    (n : ℕ) → t.decoder ≡ s.decoder → t.broken ≡ s.broken → s.queue.items ≡ taken ++ t.queue.items
-    → Holds given given' s passed n → Holds given given' t (passed ++ taken) n
-holds_passed given given' s t passed taken n e b q h =
-    let P : DecoderState → Type 0 = λ (x : DecoderState). Heard given given' x h.messages n in
+    → SameReading s t → s.queue.items ≡ taken ++ t.queue.items
+    → Holds given given' s passed → Holds given given' t (passed ++ taken)
+holds_passed given given' s t passed taken (e, b, r) q h =
+    let P : DecoderState → Type 0 = λ (x : DecoderState).
+    Received given given' (record { decoder = x; messages = h.messages; reads = s.reads }) in
+    let R : ℕ → Type 0 = λ (n : ℕ).
+    Received given given' (record { decoder = t.decoder; messages = h.messages; reads = n }) in
     record {
       messages = h.messages;
-      heard = subst P (sym e) h.heard;
+      received = subst R (sym r) (subst P (sym e) h.received);
       messages_are =
           h.messages_are ∙ ap (λ (l : List (List (List ℕ))). passed ++ l) q
           ∙ sym (append_assoc passed taken t.queue.items);
@@ -384,44 +383,48 @@ holds_passed given given' s t passed taken n e b q h =
     }
 
 -- the messages that came with READY, and those after them
-pub holds_first : (before given : InletState) (s : DecoderState) (m out : List (List (List ℕ)))
-    (t : Subscriber) (n : ℕ) → Completes s [] out t.decoder → t.queue.items ≡ m ++ out → t.broken ≡ t.decoder.fault
-    → Heard before given s m n → Holds before given t [] n
-holds_first before given s m out t n r q b h =
-    let P : List ℕ → Type 0 = λ l. StandsFor t.decoder l (m ++ out) in
+pub holds_first : (before given : InletState) (p : Peer) (out : List (List (List ℕ))) (t : Subscriber)
+    → Completes p.decoder [] out t.decoder → t.queue.items ≡ p.messages ++ out → t.broken ≡ t.decoder.fault
+    → t.reads ≡ p.reads → Received before given p → Holds before given t []
+holds_first before given p out t r q b n h =
+    let P : List ℕ → Type 0 = λ l. StandsFor t.decoder l (p.messages ++ out) in
+    let R : ℕ → Type 0 = λ (k : ℕ).
+    Received before given (record { decoder = t.decoder; messages = p.messages ++ out; reads = k }) in
     record {
-      messages = m ++ out;
-      heard =
-          record {
+      messages = p.messages ++ out;
+      received =
+          subst R (sym n) (record {
             stream = h.stream;
             gave = h.gave;
-            stands = subst P (append-nil h.stream) (r.stands h.stream m h.stands);
-            long = h.long;
-          };
+            stands = subst P (append-nil h.stream) (r.stands h.stream p.messages h.stands);
+            was_read = h.was_read;
+            within = h.within;
+          });
       messages_are = sym q;
       broken_is = b;
     }
 
 -- a piece more
 pub holds_on : (before g1 g2 : InletState) (s t : Subscriber) (passed out : List (List (List ℕ)))
-    (piece : List ℕ) (n : ℕ) → s.queue.items ≡ [] → Completes s.decoder piece out t.decoder → Gave g1 g2 piece
-    → 1 ≤ length piece → t.queue.items ≡ out → t.broken ≡ t.decoder.fault → Holds before g1 s passed n
-    → Holds before g2 t passed (n + 1)
-holds_on before g1 g2 s t passed out piece n empty r o fits q b h =
-    let size = length-append h.heard.stream piece in
-    let least = h.heard.long in
-    let was : h.messages ≡ passed =
+    (piece : List ℕ) → s.queue.items ≡ [] → Completes s.decoder piece out t.decoder → Gave g1 g2 piece
+    → WasRead g1 g2 1 → s.reads < 4294967295 → t.queue.items ≡ out → t.broken ≡ t.decoder.fault
+    → t.reads ≡ s.reads + 1 → Holds before g1 s passed → Holds before g2 t passed
+holds_on before g1 g2 s t passed out piece empty r o was left q b n h =
+    let all : h.messages ≡ passed =
     h.messages_are ∙ ap (λ (l : List (List (List ℕ))). passed ++ l) empty ∙ append-nil passed in
+    let R : ℕ → Type 0 = λ (k : ℕ).
+    Received before g2 (record { decoder = t.decoder; messages = h.messages ++ out; reads = k }) in
     record {
       messages = h.messages ++ out;
-      heard = record {
-        stream = h.heard.stream ++ piece;
-        gave = told_on before.given g1.given g2.given h.heard.stream piece h.heard.gave o;
-        stands = r.stands h.heard.stream h.messages h.heard.stands;
-        long = omega arith;
-      };
+      received = subst R (sym n) (record {
+        stream = h.received.stream ++ piece;
+        gave = told_on before.given g1.given g2.given h.received.stream piece h.received.gave o;
+        stands = r.stands h.received.stream h.messages h.received.stands;
+        was_read = counts_on before.reads g1.reads g2.reads s.reads 1 h.received.was_read was;
+        within = most_below s.reads left;
+      });
       messages_are =
-          ap (λ (l : List (List (List ℕ))). l ++ out) was
+          ap (λ (l : List (List (List ℕ))). l ++ out) all
           ∙ ap (λ (l : List (List (List ℕ))). passed ++ l) (sym q);
       broken_is = b;
     }
@@ -437,33 +440,30 @@ ends_behind holds before notices none e = record {
   is = e.is;
 }
 
-pub waiting_first : (key : List ℕ) (before given : InletState) (s : Subscriber) (n : ℕ)
-    → Holds before given s [] n → Waiting key before given s n
-waiting_first key before given s n h =
+pub waiting_first : (key : List ℕ) (before given : InletState) (s : Subscriber)
+    → Holds before given s [] → Waiting key before given s
+waiting_first key before given s h =
     record { passed = []; holds = h; notices = []; are = NoNotice; none = refl }
 
-pub waiting_on : (key : List ℕ) (before g1 g2 : InletState) (s t u : Subscriber) (n : ℕ) (found : Bool)
-    → found ≡ false → Found key s.queue.items t.queue.items found → t.decoder ≡ s.decoder → t.broken ≡ s.broken
-    → ((x : InletState) (passed : List (List (List ℕ))) (least : ℕ) → Holds x g1 t passed least
-    → Holds x g2 u passed (least + 1)) → Waiting key before g1 s n → Waiting key before g2 u (n + 1)
-waiting_on key before g1 g2 s t u n found lacks (p, status, none) e b f w = record {
+pub waiting_on : (key : List ℕ) (before g1 g2 : InletState) (s t u : Subscriber) (found : Bool)
+    → found ≡ false → Found key s.queue.items t.queue.items found → SameReading s t
+    → ((x : InletState) (passed : List (List (List ℕ))) → Holds x g1 t passed → Holds x g2 u passed)
+    → Waiting key before g1 s → Waiting key before g2 u
+waiting_on key before g1 g2 s t u found lacks (p, status, none) e f w = record {
   passed = w.passed ++ p.taken;
-  holds =
-      f before (w.passed ++ p.taken) n (holds_passed before g1 s t w.passed p.taken n e b p.queue_is w.holds);
+  holds = f before (w.passed ++ p.taken) (holds_passed before g1 s t w.passed p.taken e p.queue_is w.holds);
   notices = w.notices ++ p.notices;
   are = notices_more key w.passed p.taken w.notices p.notices w.are p.are;
   none = none_more is_status w.notices p.notices w.none (none lacks);
 }
 
-pub waited : (key : List ℕ) (before g1 : InletState) (s t : Subscriber) (n : ℕ) (found : Bool)
-    → found ≡ true → Found key s.queue.items t.queue.items found → t.decoder ≡ s.decoder → t.broken ≡ s.broken
-    → Waiting key before g1 s n → Waited key before g1 t
-waited key before g1 s t n found some (p, status, none) e b w =
+pub waited : (key : List ℕ) (before g1 : InletState) (s t : Subscriber) (found : Bool)
+    → found ≡ true → Found key s.queue.items t.queue.items found → SameReading s t
+    → Waiting key before g1 s → Waited key before g1 t
+waited key before g1 s t found some (p, status, none) e w =
     record {
       passed = w.passed ++ p.taken;
-      holds =
-          holds_less before g1 t (w.passed ++ p.taken) n
-          (holds_passed before g1 s t w.passed p.taken n e b p.queue_is w.holds);
+      holds = holds_passed before g1 s t w.passed p.taken e p.queue_is w.holds;
       notices = w.notices ++ p.notices;
       are = notices_more key w.passed p.taken w.notices p.notices w.are p.are;
       status = ends_behind is_status w.notices p.notices w.none (status some);
@@ -471,9 +471,9 @@ waited key before g1 s t n found some (p, status, none) e b w =
 
 -- the request's messages were printed up to the subscriber's queue, and its idle wasn't among them
 pub record Follows (parent : Parent) (before given : InletState) (s : Subscriber)
-    (passed : List (List (List ℕ))) (least : ℕ) (out out' : OutletState) (failed : Bool) : Type 0 where
+    (passed : List (List (List ℕ))) (out out' : OutletState) (failed : Bool) : Type 0 where
   pub taken : List (List (List ℕ))
-  pub holds : Holds before given s (passed ++ taken) least
+  pub holds : Holds before given s (passed ++ taken)
   pub notices : List Notice
   pub are : AreNotices parent.key taken notices
   pub busy : HasNo (ends parent.header) notices
@@ -482,9 +482,9 @@ pub record Follows (parent : Parent) (before given : InletState) (s : Subscriber
 
 pub follows_first : (parent : Parent) (before given : InletState) (s : Subscriber)
     (passed : List (List (List ℕ))) (out : OutletState) (failed : Bool) → failed ≡ false
-    → Holds before given s passed 0 → Follows parent before given s passed 0 out out failed
+    → Holds before given s passed → Follows parent before given s passed out out failed
 follows_first parent before given s passed out failed e h =
-    let P : List (List (List ℕ)) → Type 0 = λ l. Holds before given s l 0 in
+    let P : List (List (List ℕ)) → Type 0 = λ l. Holds before given s l in
     record {
       taken = [];
       holds = subst P (sym (append-nil passed)) h;
@@ -509,18 +509,17 @@ failed_more header x y a b p q =
 
 -- messages were taken
 pub follows_taken : (parent : Parent) (before g1 : InletState) (s t : Subscriber)
-    (passed : List (List (List ℕ))) (n : ℕ) (out o1 o2 : OutletState) (failed : Bool) (course : Course)
-    → course.is_idle ≡ false → Takes parent s.queue.items t.queue.items o1 o2 course → t.decoder ≡ s.decoder
-    → t.broken ≡ s.broken
-    → Follows parent before g1 s passed n out o1 failed
-    → Follows parent before g1 t passed n out o2 (failed || course.has_failed)
-follows_taken parent before g1 s t passed n out o1 o2 failed course i p e b w =
-    let P : List (List (List ℕ)) → Type 0 = λ l. Holds before g1 t l n in
+    (passed : List (List (List ℕ))) (out o1 o2 : OutletState) (failed : Bool) (course : Course)
+    → course.is_idle ≡ false → Takes parent s.queue.items t.queue.items o1 o2 course → SameReading s t
+    → Follows parent before g1 s passed out o1 failed
+    → Follows parent before g1 t passed out o2 (failed || course.has_failed)
+follows_taken parent before g1 s t passed out o1 o2 failed course i p e w =
+    let P : List (List (List ℕ)) → Type 0 = λ l. Holds before g1 t l in
     record {
       taken = w.taken ++ p.taken;
       holds =
           subst P (append_assoc passed w.taken p.taken)
-          (holds_passed before g1 s t (passed ++ w.taken) p.taken n e b p.queue_is w.holds);
+          (holds_passed before g1 s t (passed ++ w.taken) p.taken e p.queue_is w.holds);
       notices = w.notices ++ p.notices;
       are = notices_more parent.key w.taken p.taken w.notices p.notices w.are p.are;
       busy = none_more (ends parent.header) w.notices p.notices w.busy (p.busy i);
@@ -530,13 +529,13 @@ follows_taken parent before g1 s t passed n out o1 o2 failed course i p e b w =
 
 -- and then a piece was read
 follows_read : (parent : Parent) (before g1 g2 : InletState) (t u : Subscriber)
-    (passed : List (List (List ℕ))) (n : ℕ) (out o1 : OutletState) (failed : Bool)
-    → ((x : InletState) (passed : List (List (List ℕ))) (least : ℕ) → Holds x g1 t passed least
-    → Holds x g2 u passed (least + 1)) → Follows parent before g1 t passed n out o1 failed
-    → Follows parent before g2 u passed (n + 1) out o1 failed
-follows_read parent before g1 g2 t u passed n out o1 failed f w = record {
+    (passed : List (List (List ℕ))) (out o1 : OutletState) (failed : Bool)
+    → ((x : InletState) (passed : List (List (List ℕ))) → Holds x g1 t passed → Holds x g2 u passed)
+    → Follows parent before g1 t passed out o1 failed
+    → Follows parent before g2 u passed out o1 failed
+follows_read parent before g1 g2 t u passed out o1 failed f w = record {
   taken = w.taken;
-  holds = f before (passed ++ w.taken) n w.holds;
+  holds = f before (passed ++ w.taken) w.holds;
   notices = w.notices;
   are = w.are;
   busy = w.busy;
@@ -550,18 +549,17 @@ FollowedTo parent passed old new good =
     (f : Followed parent passed old new) × (good ≡ not (has_error parent.header f.notices))
 
 followed : (parent : Parent) (before g1 : InletState) (s t : Subscriber)
-    (passed : List (List (List ℕ))) (n : ℕ) (out o1 o2 : OutletState) (failed : Bool) (course : Course)
-    → Takes parent s.queue.items t.queue.items o1 o2 course → t.decoder ≡ s.decoder → t.broken ≡ s.broken
-    → course.is_idle ≡ true → Follows parent before g1 s passed n out o1 failed
+    (passed : List (List (List ℕ))) (out o1 o2 : OutletState) (failed : Bool) (course : Course)
+    → Takes parent s.queue.items t.queue.items o1 o2 course → SameReading s t
+    → course.is_idle ≡ true → Follows parent before g1 s passed out o1 failed
     → FollowedTo parent passed (record { from = before; to = out }) (record { from = g1; to = o2 })
     (not (failed || course.has_failed))
-followed parent before g1 s t passed n out o1 o2 failed course p e b i w =
-    let h = holds_passed before g1 s t (passed ++ w.taken) p.taken n e b p.queue_is w.holds in
+followed parent before g1 s t passed out o1 o2 failed course p e i w =
+    let h = holds_passed before g1 s t (passed ++ w.taken) p.taken e p.queue_is w.holds in
     let Q : List (List (List ℕ)) → Type 0 = λ l. h.messages ≡ l ++ t.queue.items in (
       record {
-        decoder = t.decoder;
-        messages = h.messages;
-        heard = heard_less before g1 t.decoder h.messages n 0 (omega arith) h.heard;
+        peer = record { decoder = t.decoder; messages = h.messages; reads = t.reads };
+        received = h.received;
         taken = w.taken ++ p.taken;
         others = t.queue.items;
         messages_are = subst Q (append_assoc passed w.taken p.taken) h.messages_are;
@@ -578,13 +576,13 @@ followed parent before g1 s t passed n out o1 o2 failed course p e b i w =
 
 pub began : (cell : Cell) (old new : Client) (header : List ℕ) (a b : OutletState)
     (before given : InletState) (s : Subscriber) → WroteWhole old.shell.to a Dealer
-    → Asked cell header a new.shell.to → WroteWhole old.iopub.to b Sub
+    → Requested cell header a new.shell.to → WroteWhole old.iopub.to b Sub
     → Took b new.iopub.to (message_bytes subscription) → (w : Waited cell.key.now before given s)
     → Began cell old new header w.passed
-began cell old new header a b before given s x asked y told w = record {
-  frames = asked.frames;
-  request = asked.request;
-  asks = record { between = a; handshake = x; took = asked.took };
+began cell old new header a b before given s x requested y told w = record {
+  frames = requested.frames;
+  request = requested.request;
+  requests = record { between = a; handshake = x; took = requested.took };
   subscribes = record { between = b; handshake = y; took = told };
   earlier = w.notices;
   passed_are = w.are;
@@ -592,30 +590,30 @@ began cell old new header a b before given s x asked y told w = record {
 }
 
 pub follows_by : (parent : Parent) (before g1 g2 : InletState) (s t u : Subscriber)
-    (passed : List (List (List ℕ))) (n : ℕ) (out o1 o2 : OutletState) (failed total : Bool)
+    (passed : List (List (List ℕ))) (out o1 o2 : OutletState) (failed total : Bool)
     (course : Course) → total ≡ failed || course.has_failed → course.is_idle ≡ false
-    → Takes parent s.queue.items t.queue.items o1 o2 course → t.decoder ≡ s.decoder → t.broken ≡ s.broken
-    → ((x : InletState) (passed : List (List (List ℕ))) (least : ℕ) → Holds x g1 t passed least
-    → Holds x g2 u passed (least + 1)) → Follows parent before g1 s passed n out o1 failed
-    → Follows parent before g2 u passed (n + 1) out o2 total
-follows_by parent before g1 g2 s t u passed n out o1 o2 failed total course is i p e b f w =
-    let P : Bool → Type 0 = λ k. Follows parent before g2 u passed (n + 1) out o2 k in
-    subst P (sym is) (follows_read parent before g1 g2 t u passed n out o2 (failed || course.has_failed) f
-    (follows_taken parent before g1 s t passed n out o1 o2 failed course i p e b w))
+    → Takes parent s.queue.items t.queue.items o1 o2 course → SameReading s t
+    → ((x : InletState) (passed : List (List (List ℕ))) → Holds x g1 t passed → Holds x g2 u passed)
+    → Follows parent before g1 s passed out o1 failed
+    → Follows parent before g2 u passed out o2 total
+follows_by parent before g1 g2 s t u passed out o1 o2 failed total course is i p e f w =
+    let P : Bool → Type 0 = λ k. Follows parent before g2 u passed out o2 k in
+    subst P (sym is) (follows_read parent before g1 g2 t u passed out o2 (failed || course.has_failed) f
+    (follows_taken parent before g1 s t passed out o1 o2 failed course i p e w))
 
 pub followed_by : (parent : Parent) (before g1 : InletState) (s t : Subscriber)
-    (passed : List (List (List ℕ))) (n : ℕ) (out o1 o2 : OutletState) (failed total : Bool)
+    (passed : List (List (List ℕ))) (out o1 o2 : OutletState) (failed total : Bool)
     (course : Course) → total ≡ failed || course.has_failed
-    → Takes parent s.queue.items t.queue.items o1 o2 course → t.decoder ≡ s.decoder → t.broken ≡ s.broken
-    → course.is_idle ≡ true → Follows parent before g1 s passed n out o1 failed
+    → Takes parent s.queue.items t.queue.items o1 o2 course → SameReading s t
+    → course.is_idle ≡ true → Follows parent before g1 s passed out o1 failed
     → FollowedTo parent passed (record { from = before; to = out }) (record { from = g1; to = o2 })
     (not total)
-followed_by parent before g1 s t passed n out o1 o2 failed total course is p e b i w =
+followed_by parent before g1 s t passed out o1 o2 failed total course is p e i w =
     let P : Bool
     → Type 0 = λ k. FollowedTo parent passed (record { from = before; to = out })
     (record { from = g1; to = o2 })
     (not k) in
-    subst P (sym is) (followed parent before g1 s t passed n out o1 o2 failed course p e b i w)
+    subst P (sym is) (followed parent before g1 s t passed out o1 o2 failed course p e i w)
 
 -- what running a cell comes to
 abbrev pub RanTo : Cell → Client → Client → Bool → Type 0
@@ -623,17 +621,17 @@ RanTo cell old new good = (ran : Ran cell old new) × (good ≡ went_well ran)
 
 pub ran_by : (cell : Cell) (old new : Client) (header shown : List ℕ) (a b : OutletState)
     (given : InletState) (s : Subscriber) (good : Bool) → shown ≡ header → WroteWhole old.shell.to a Dealer
-    → Asked cell header a new.shell.to → WroteWhole old.iopub.to b Sub
+    → Requested cell header a new.shell.to → WroteWhole old.iopub.to b Sub
     → Took b new.iopub.to (message_bytes subscription) → (w : Waited cell.key.now old.iopub.from given s)
     → FollowedTo (parent_of cell shown) w.passed (printing old) (printing new) good → RanTo cell old new good
-ran_by cell old new header shown a b given s good is x asked y told w f =
+ran_by cell old new header shown a b given s good is x requested y told w f =
     let P : List ℕ
     → Type 0 = λ l. FollowedTo (parent_of cell l) w.passed (printing old) (printing new) good in
     let g = subst P is f in (
       record {
         header = header;
         passed = w.passed;
-        began = began cell old new header a b old.iopub.from given s x asked y told w;
+        began = began cell old new header a b old.iopub.from given s x requested y told w;
         followed = g.0;
       },
       g.1,

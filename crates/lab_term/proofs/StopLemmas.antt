@@ -1,19 +1,20 @@
 -- How far a cell came, and why it went no further.
 use Rattle.std.proofs.Common.{◌≡◌, ℕ, Bool, true, List, [], ◌∷◌, ◌++◌, Result, Ok, Err, IfErr}
 use Rattle.std.proofs.Common.{◌⊎◌, inl, inr, ⊎_elim, refl, sym, ap, ◌∙◌, subst, append-nil, append_assoc}
-use Rattle.std.proofs.Common.{length, arith, ◌≤◌}
+use Rattle.std.proofs.Common.{arith, ◌≤◌}
 use Rattle.base_streams.specs.States.{InletState, OutletState, IsReadable}
-use Rattle.base_streams.specs.Told.{Gave, Took, TookFront}
+use Rattle.base_streams.specs.Told.{Took, TookFront, WasRead}
 use Rattle.base_streams.proofs.TellLemmas.{told_on}
 use Rattle.zmtp_wire.specs.declared.role.Role.{Role}
 use Rattle.zmtp_wire.specs.declared.role.Role.TheVariants.{Dealer, Sub}
 use Rattle.zmtp_wire.specs.Writing.{message_bytes}
 use Rattle.zmtp_peer.specs.declared.fault.PeerFault.{PeerFault}
 use Rattle.zmtp_peer.specs.declared.fault.PeerFault.TheVariants as peer
-use Rattle.zmtp_peer.specs.Ends.{most_bytes, Blames, NoPeer}
-use Rattle.zmtp_peer.specs.Hearing.{Heard}
+use Rattle.zmtp_peer.specs.declared.handshake.Peer.{Peer}
+use Rattle.zmtp_peer.specs.Ends.{Blames, NoPeer}
+use Rattle.zmtp_peer.specs.Receiving.{Received, most_reads}
 use Rattle.zmtp_peer.specs.Sending.{WroteWhole}
-use Rattle.zmtp_peer.proofs.HearingLemmas.{heard_less, told_none}
+use Rattle.zmtp_peer.proofs.ReceivingLemmas.{most_at, most_is, told_none}
 use Rattle.zmtp_peer.proofs.SendingLemmas.{front_all, front_on}
 use Rattle.lab_term.specs.declared.fault.TermFault.{TermFault}
 use Rattle.lab_term.specs.declared.fault.TermFault.TheVariants.{OutOfMemory, Ended, ReadFailed, WriteFailed}
@@ -26,30 +27,25 @@ use Rattle.lab_term.specs.Causes.{FailsReading, Ungreeted, Unsent, IsBroken, Sta
 use Rattle.lab_term.specs.Courses.{Parent, StopsAt, StopsIn, Cut}
 use Rattle.lab_term.specs.Events.{ends, printed}
 use Rattle.lab_term.specs.Faults.{term_fault_of}
-use Rattle.lab_term.specs.Reading.{Holds, Starves, Unheard, Waited}
-use Rattle.lab_term.specs.Running.{Asked, parent_of, printing, subscription}
-use Rattle.lab_term.specs.Stopping.{EndsStream, AskedFront, Awaited, FollowedFront, Stopped, AtRequest}
+use Rattle.lab_term.specs.Reading.{Holds, Starves, Unreceived, Waited}
+use Rattle.lab_term.specs.Running.{Requested, parent_of, printing, subscription}
+use Rattle.lab_term.specs.Stopping.{EndsStream, RequestedFront, Awaited, FollowedFront, Stopped, AtRequest}
 use Rattle.lab_term.specs.Stopping.{AtCourse}
 use Rattle.lab_term.proofs.CourseLemmas.{Follows, began}
 use Rattle.lab_term.proofs.EventLemmas.{notices_more, none_more, printed_more}
 
 -- ---- why
 
-heard_some : (before given : InletState) (s : Subscriber) (passed : List (List (List ℕ))) (n : ℕ)
-    → (h : Holds before given s passed n) → Heard before given s.decoder h.messages 0
-heard_some before given s passed n h = heard_less before given s.decoder h.messages n 0 (omega arith) h.heard
-
 pub stalls_cut : (key : List ℕ) (before given : InletState) (s : Subscriber)
-    (passed : List (List (List ℕ))) (n : ℕ) (out : OutletState) (fault : TermFault) → IsReadable given
-    → StopsIn key s.queue.items out fault → Holds before given s passed n
+    (passed : List (List (List ℕ))) (out : OutletState) (fault : TermFault) → IsReadable given
+    → StopsIn key s.queue.items out fault → Holds before given s passed
     → Stalls key before given out fault
-stalls_cut key before given s passed n out OutOfMemory good c h = good
-stalls_cut key before given s passed n out WriteFailed good c h = c.stops
-stalls_cut key before given s passed n out (Wire (Message cause)) good c h =
+stalls_cut key before given s passed out OutOfMemory good c h = good
+stalls_cut key before given s passed out WriteFailed good c h = c.stops
+stalls_cut key before given s passed out (Wire (Message cause)) good c h =
     record {
-      decoder = s.decoder;
-      messages = h.messages;
-      heard = heard_some before given s passed n h;
+      peer = record { decoder = s.decoder; messages = h.messages; reads = s.reads };
+      received = h.received;
       earlier = passed ++ c.taken;
       frames = c.stops.1;
       others = c.stops.2;
@@ -59,46 +55,40 @@ stalls_cut key before given s passed n out (Wire (Message cause)) good c h =
           ∙ sym (append_assoc passed c.taken (c.stops.1 ∷ c.stops.2));
       unopened = c.stops.4;
     }
-stalls_cut key before given s passed n out _ good c h = absurd c.stops
+stalls_cut key before given s passed out _ good c h = absurd c.stops
 
 pub stalls_starved : (key : List ℕ) (before g1 g2 : InletState) (out : OutletState) (s t u : Subscriber)
-    (passed : List (List (List ℕ))) (n : ℕ) (fault : TermFault) → t.broken ≡ s.broken
-    → Starves fault g2 u → (IsBroken fault → (u ≡ t) × (g2 ≡ g1)) → Holds before g1 s passed n
+    (passed : List (List (List ℕ))) (fault : TermFault) → t.broken ≡ s.broken
+    → Starves fault g2 u → (IsBroken fault → (u ≡ t) × (g2 ≡ g1)) → Holds before g1 s passed
     → Stalls key before g2 out fault
-stalls_starved key before g1 g2 out s t u passed n OutOfMemory b v k h = v
-stalls_starved key before g1 g2 out s t u passed n Ended b v k h = v.0
-stalls_starved key before g1 g2 out s t u passed n ReadFailed b v k h = inl v.1
-stalls_starved key before g1 g2 out s t u passed n WriteFailed b v k h = absurd v
-stalls_starved key before g1 g2 out s t u passed n (Wire (Stream cause)) b v k h =
-    let P : InletState → Type 0 = λ g. Heard before g s.decoder h.messages 0 in
+stalls_starved key before g1 g2 out s t u passed OutOfMemory b v k h = v
+stalls_starved key before g1 g2 out s t u passed Ended b v k h = v.0
+stalls_starved key before g1 g2 out s t u passed ReadFailed b v k h = inl v.1
+stalls_starved key before g1 g2 out s t u passed WriteFailed b v k h = absurd v
+stalls_starved key before g1 g2 out s t u passed (Wire (Stream cause)) b v k h =
+    let peer : Peer = record { decoder = s.decoder; messages = h.messages; reads = s.reads } in
+    let P : InletState → Type 0 = λ g. Received before g peer in
     record {
-      decoder = s.decoder;
-      messages = h.messages;
-      heard = subst P (sym (k tt).1) (heard_some before g1 s passed n h);
+      peer = peer;
+      received = subst P (sym (k tt).1) h.received;
       broken = sym h.broken_is ∙ sym b ∙ ap (λ (x : Subscriber). x.broken) (sym (k tt).0) ∙ v.1;
     }
-stalls_starved key before g1 g2 out s t u passed n (Wire (Message cause)) b v k h = absurd v
+stalls_starved key before g1 g2 out s t u passed (Wire (Message cause)) b v k h = absurd v
 
-pub worn : (before given : InletState) (s : Subscriber) (passed : List (List (List ℕ))) (n : ℕ)
-    → 4294967295 ≤ n → Holds before given s passed n → FailsReading before given
-unfolding most_bytes
-worn before given s passed n m h =
-    let least = h.heard.long in
-    inr (record { stream = h.heard.stream; gave = h.heard.gave; most = omega arith })
+pub worn : (before given : InletState) (s : Subscriber) (passed : List (List (List ℕ)))
+    → 4294967295 ≤ s.reads → Holds before given s passed → FailsReading before given
+worn before given s passed m h =
+    let within = rw most_is at h.received.within in
+    let R : ℕ → Type 0 = λ n. WasRead before given n in
+    inr (subst R (most_at s.reads (omega (arith, m, within))) h.received.was_read)
 
 fails_reading : (role : Role) (from from' : InletState) → NoPeer role from from' peer.ReadFailed
     → FailsReading from from'
 fails_reading role from from' p =
-    let e = p.ends in
-    let x = e.explains in
-    let P : List ℕ → Type 0 = λ l. Gave from from' l in
+    let R : ℕ → Type 0 = λ n. WasRead from from' n in
     ⊎_elim (λ (f : from'.failed ≡ true). inl f)
-    (λ (m : most_bytes ≤ length e.heard). inr (record {
-      stream = e.heard;
-      gave = subst P (ap (λ (l : List ℕ). e.heard ++ l) x.0 ∙ append-nil e.heard) e.gave;
-      most = m;
-    }))
-    x.1
+    (λ (m : p.ends.reads ≡ most_reads). inr (subst R m p.ends.was_read))
+    p.ends.fails_by
 
 shell_caused : (key : List ℕ) (old new : Client) (cause : PeerFault)
     → Blames cause new.shell.from new.shell.to → NoPeer Dealer old.shell.from new.shell.from cause
@@ -153,7 +143,7 @@ cause_stalls key old new to (Wire (Message cause)) w g s = s
 pub causes_followed : (result : Result Bool TermFault) (key : List ℕ) (old new : Client) (given : InletState)
     (s : Subscriber) → Waited key old.iopub.from given s → IsReadable new.shell.from
     → IfErr result (λ fault. (before : InletState) (passed : List (List (List ℕ)))
-    → Holds before given s passed 0 → Stalls key before new.iopub.from new.output fault)
+    → Holds before given s passed → Stalls key before new.iopub.from new.output fault)
     → IfErr result (Causes key old new)
 causes_followed (Ok good) key old new given s w g i = tt
 causes_followed (Err fault) key old new given s w g i =
@@ -162,23 +152,23 @@ causes_followed (Err fault) key old new given s w g i =
 -- ---- how far
 
 -- no read failed
-pub unheard_none : (given : InletState) (fault : TermFault) → Unheard given given fault
-unheard_none given fault = record { bytes = []; gave = told_none given.given; all = inl refl }
+pub unreceived_none : (given : InletState) (fault : TermFault) → Unreceived given given fault
+unreceived_none given fault = record { bytes = []; gave = told_none given.given; all = inl refl }
 
 -- nothing was taken after the last read
 pub front_here : (parent : Parent) (before g1 g2 : InletState) (s : Subscriber)
-    (passed : List (List (List ℕ))) (n : ℕ) (out o1 : OutletState) (failed : Bool) (fault : TermFault)
-    → Unheard g1 g2 fault → (EndsStream fault → s.queue.items ≡ [])
-    → Follows parent before g1 s passed n out o1 failed
+    (passed : List (List (List ℕ))) (out o1 : OutletState) (failed : Bool) (fault : TermFault)
+    → Unreceived g1 g2 fault → (EndsStream fault → s.queue.items ≡ [])
+    → Follows parent before g1 s passed out o1 failed
     → FollowedFront parent passed (record { from = before; to = out }) (record { from = g2; to = o1 }) fault
-front_here parent before g1 g2 s passed n out o1 failed fault u none w = record {
+front_here parent before g1 g2 s passed out o1 failed fault u none w = record {
   decoder = s.decoder;
   messages = w.holds.messages;
-  heard = w.holds.heard.stream;
-  unheard = u.bytes;
-  gave = told_on before.given g1.given g2.given w.holds.heard.stream u.bytes w.holds.heard.gave u.gave;
+  received = w.holds.received.stream;
+  unreceived = u.bytes;
+  gave = told_on before.given g1.given g2.given w.holds.received.stream u.bytes w.holds.received.gave u.gave;
   all = u.all;
-  stands = w.holds.heard.stands;
+  stands = w.holds.received.stands;
   taken = w.taken;
   others = s.queue.items;
   messages_are = w.holds.messages_are;
@@ -198,23 +188,23 @@ stops_within key others to _ s e = e
 
 -- some messages were taken
 pub front_cut : (parent : Parent) (before given : InletState) (s : Subscriber)
-    (passed : List (List (List ℕ))) (n : ℕ) (out o1 o2 : OutletState) (failed : Bool)
+    (passed : List (List (List ℕ))) (out o1 o2 : OutletState) (failed : Bool)
     (fault : TermFault) → Cut parent s.queue.items o1 o2 fault
-    → Follows parent before given s passed n out o1 failed
+    → Follows parent before given s passed out o1 failed
     → FollowedFront parent passed (record { from = before; to = out })
     (record { from = given; to = o2 }) fault
-front_cut parent before given s passed n out o1 o2 failed fault c w =
+front_cut parent before given s passed out o1 o2 failed fault c w =
     let P : List ℕ → Type 0 = λ l. TookFront out o2 l in
     record {
       decoder = s.decoder;
       messages = w.holds.messages;
-      heard = w.holds.heard.stream;
-      unheard = [];
+      received = w.holds.received.stream;
+      unreceived = [];
       gave =
-          told_on before.given given.given given.given w.holds.heard.stream [] w.holds.heard.gave
+          told_on before.given given.given given.given w.holds.received.stream [] w.holds.received.gave
           (told_none given.given);
       all = inl refl;
-      stands = w.holds.heard.stands;
+      stands = w.holds.received.stands;
       taken = w.taken ++ c.taken;
       others = c.others;
       messages_are =
@@ -234,9 +224,8 @@ front_cut parent before given s passed n out o1 o2 failed fault c w =
 awaited : (key : List ℕ) (before given : InletState) (s : Subscriber) → Waited key before given s
     → Awaited key before given
 awaited key before given s w = record {
-  decoder = s.decoder;
-  messages = w.holds.messages;
-  heard = w.holds.heard;
+  peer = record { decoder = s.decoder; messages = w.holds.messages; reads = s.reads };
+  received = w.holds.received;
   passed = w.passed;
   others = s.queue.items;
   messages_are = w.holds.messages_are;
@@ -246,28 +235,30 @@ awaited key before given s w = record {
 }
 
 -- it stopped while it sent its request
-pub stopped_asking : (cell : Cell) (old new : Client) (a b : OutletState) (s : Subscriber) (fault : TermFault)
-    → WroteWhole old.shell.to a Dealer → AskedFront cell a new.shell.to fault → WroteWhole old.iopub.to b Sub
+pub stopped_requesting : (cell : Cell) (old new : Client) (a b : OutletState) (s : Subscriber)
+    (fault : TermFault)
+    → WroteWhole old.shell.to a Dealer → RequestedFront cell a new.shell.to fault
+    → WroteWhole old.iopub.to b Sub
     → Took b new.iopub.to (message_bytes subscription)
     → Waited cell.key.now old.iopub.from new.iopub.from s → new.output ≡ old.output
     → Stopped cell old new fault
-stopped_asking cell old new a b s fault x asks y told w e =
+stopped_requesting cell old new a b s fault x asks y told w e =
     AtRequest a x asks (record { between = b; handshake = y; took = told })
     (awaited cell.key.now old.iopub.from new.iopub.from s w) e
 
 -- it stopped after its request
 pub stopped_after : (cell : Cell) (old new : Client) (header shown : List ℕ) (a b : OutletState)
     (given : InletState) (s : Subscriber) (fault : TermFault) → shown ≡ header
-    → WroteWhole old.shell.to a Dealer → Asked cell header a new.shell.to → WroteWhole old.iopub.to b Sub
+    → WroteWhole old.shell.to a Dealer → Requested cell header a new.shell.to → WroteWhole old.iopub.to b Sub
     → Took b new.iopub.to (message_bytes subscription) → (w : Waited cell.key.now old.iopub.from given s)
     → FollowedFront (parent_of cell shown) w.passed (printing old) (printing new) fault
     → Stopped cell old new fault
-stopped_after cell old new header shown a b given s fault is x asked y told w f =
+stopped_after cell old new header shown a b given s fault is x requested y told w f =
     let P : List ℕ
     → Type 0 = λ l. FollowedFront (parent_of cell l) w.passed (printing old) (printing new) fault in
     AtCourse (record {
       header = header;
       passed = w.passed;
-      began = began cell old new header a b old.iopub.from given s x asked y told w;
+      began = began cell old new header a b old.iopub.from given s x requested y told w;
       followed = subst P is f;
     })

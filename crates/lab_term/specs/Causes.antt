@@ -1,16 +1,17 @@
 -- Why a cell wasn't run to its end.
-use Rattle.std.specs.Prelude.{◌≡◌, ℕ, ◌≤◌, ◌⊎◌, true, List, ◌∷◌, ◌++◌, length, Some}
+use Rattle.std.specs.Prelude.{◌≡◌, ◌⊎◌, true, ◌∷◌, ◌++◌, Some}
 use Rattle.base_streams.specs.States.{InletState, OutletState, IsReadable}
-use Rattle.base_streams.specs.Told.{Gave}
+use Rattle.base_streams.specs.Told.{WasRead}
 use Rattle.zmtp_wire.specs.declared.fault.StreamFault.{StreamFault}
 use Rattle.zmtp_wire.specs.declared.role.Role.{Role}
 use Rattle.zmtp_wire.specs.declared.role.Role.TheVariants.{Dealer, Sub}
-use Rattle.zmtp_wire.specs.Stream.{DecoderState}
+use Rattle.zmtp_wire.specs.Wire.{Bytes, Frames, Messages}
 use Rattle.jup_wire.specs.declared.message.WireFault.{WireFault}
 use Rattle.zmtp_peer.specs.declared.fault.PeerFault.{PeerFault}
 use Rattle.zmtp_peer.specs.declared.fault.PeerFault.TheVariants as peer
-use Rattle.zmtp_peer.specs.Ends.{Blames, NoPeer, most_bytes}
-use Rattle.zmtp_peer.specs.Hearing.{Heard}
+use Rattle.zmtp_peer.specs.Ends.{Blames, NoPeer}
+use Rattle.zmtp_peer.specs.Receiving.{Received, most_reads}
+use Rattle.zmtp_peer.specs.declared.handshake.Peer.{Peer}
 use Rattle.lab_term.specs.declared.fault.TermFault.{TermFault}
 use Rattle.lab_term.specs.declared.fault.TermFault.TheVariants.{OutOfMemory, Ended, ReadFailed, WriteFailed}
 use Rattle.lab_term.specs.declared.fault.TermFault.TheVariants.{Wire}
@@ -19,15 +20,9 @@ use Rattle.lab_term.specs.Connections.{Ports, Client}
 use Rattle.lab_term.specs.Events.{IsUnopened}
 use Rattle.lab_term.specs.Faults.{term_fault_of}
 
--- so many bytes were read as are read at most
-pub record ReadsMost (from from' : InletState) : Type 0 where
-  pub stream : List ℕ
-  pub gave : Gave from from' stream
-  pub most : most_bytes ≤ length stream
-
--- the reader failed, or gave as many bytes as are read at most
+-- the reader failed, or was read as often as it is at most
 abbrev pub FailsReading : InletState → InletState → Type 0
-FailsReading from from' = (from'.failed ≡ true) ⊎ ReadsMost from from'
+FailsReading from from' = (from'.failed ≡ true) ⊎ WasRead from from' most_reads
 
 -- the handshake of this role refused its peer for this cause
 abbrev pub RefusesPeer : Role → InletState → InletState → StreamFault → Type 0
@@ -35,20 +30,18 @@ RefusesPeer role from from' cause = NoPeer role from from' (peer.Wire cause)
 
 -- what the reader gave breaks the stream with this fault
 pub record Breaks (from from' : InletState) (cause : StreamFault) : Type 0 where
-  pub decoder : DecoderState
-  pub messages : List (List (List ℕ))
-  pub heard : Heard from from' decoder messages 0
-  pub broken : decoder.fault ≡ Some cause
+  pub peer : Peer
+  pub received : Received from from' peer
+  pub broken : peer.decoder.fault ≡ Some cause
 
--- a message that was heard doesn't open under the key
-pub record HearsUnopened (key : List ℕ) (from from' : InletState) (cause : WireFault) : Type 0 where
-  pub decoder : DecoderState
-  pub messages : List (List (List ℕ))
-  pub heard : Heard from from' decoder messages 0
-  pub earlier : List (List (List ℕ))
-  pub frames : List (List ℕ)
-  pub others : List (List (List ℕ))
-  pub messages_are : messages ≡ earlier ++ frames ∷ others
+-- a message that was received doesn't open under the key
+pub record ReceivesUnopened (key : Bytes) (from from' : InletState) (cause : WireFault) : Type 0 where
+  pub peer : Peer
+  pub received : Received from from' peer
+  pub earlier : Messages
+  pub frames : Frames
+  pub others : Messages
+  pub messages_are : peer.messages ≡ earlier ++ frames ∷ others
   pub unopened : IsUnopened key frames (Wire (Message cause))
 
 -- the handshake of this role failed: why, and what was read of the peer
@@ -70,16 +63,16 @@ IsBroken (Wire (Stream cause)) = Unit {0}
 IsBroken _ = ⊥
 
 -- why no more messages were taken, by what was read and by what was printed to
-abbrev pub Stalls : List ℕ → InletState → InletState → OutletState → TermFault → Type 0
+abbrev pub Stalls : Bytes → InletState → InletState → OutletState → TermFault → Type 0
 Stalls key from from' to OutOfMemory = IsReadable from'
 Stalls key from from' to Ended = from'.ended ≡ true
 Stalls key from from' to ReadFailed = FailsReading from from'
 Stalls key from from' to WriteFailed = to.failed ≡ true
 Stalls key from from' to (Wire (Stream cause)) = Breaks from from' cause
-Stalls key from from' to (Wire (Message cause)) = HearsUnopened key from from' cause
+Stalls key from from' to (Wire (Message cause)) = ReceivesUnopened key from from' cause
 
 -- what each fault says of the readers, of the writers, and of what is printed to
-abbrev pub Causes : List ℕ → Client → Client → TermFault → Type 0
+abbrev pub Causes : Bytes → Client → Client → TermFault → Type 0
 Causes key old new OutOfMemory = IsReadable new.shell.from × IsReadable new.iopub.from
 Causes key old new Ended = (new.shell.from.ended ≡ true) ⊎ (new.iopub.from.ended ≡ true)
 Causes key old new ReadFailed =
@@ -89,4 +82,4 @@ Causes key old new WriteFailed =
 Causes key old new (Wire (Stream cause)) =
     RefusesPeer Dealer old.shell.from new.shell.from cause
     ⊎ (RefusesPeer Sub old.iopub.from new.iopub.from cause ⊎ Breaks old.iopub.from new.iopub.from cause)
-Causes key old new (Wire (Message cause)) = HearsUnopened key old.iopub.from new.iopub.from cause
+Causes key old new (Wire (Message cause)) = ReceivesUnopened key old.iopub.from new.iopub.from cause

@@ -1,6 +1,7 @@
 -- How a cell goes: what was taken of the messages that came, and what was printed of them.
 use Rattle.std.specs.Prelude.{◌≡◌, ℕ, Bool, false, true, ◌&&◌, List, [], ◌∷◌, ◌++◌}
 use Rattle.std.specs.List.{list_any}
+use Rattle.zmtp_wire.specs.Wire.{Bytes, Frames, Messages}
 use Rattle.base_streams.specs.States.{OutletState, IsWritable}
 use Rattle.base_streams.specs.Told.{Took, TookFront}
 use Rattle.lab_term.specs.declared.fault.TermFault.{TermFault}
@@ -13,8 +14,8 @@ use Rattle.lab_term.specs.Events.{printed, has_error, ends}
 
 -- the request that messages belong to: the key that they are signed with, and its header
 pub record Parent : Type 0 where
-  pub key : List ℕ
-  pub header : List ℕ
+  pub key : Bytes
+  pub header : Bytes
 
 -- this is true for none of these messages
 abbrev pub HasNo : (Notice → Bool) → List Notice → Type 0
@@ -33,39 +34,39 @@ abbrev pub EndsInStatus : List Notice → Type 0
 EndsInStatus notices = EndsIn is_status notices
 
 -- the last of these messages is the first that says that the kernel is done with the request
-abbrev pub EndsInIdle : List ℕ → List Notice → Type 0
+abbrev pub EndsInIdle : Bytes → List Notice → Type 0
 EndsInIdle header notices = EndsIn (ends header) notices
 
 -- why messages were taken no further: memory was wanting, the writer failed, or the next one doesn't open
-abbrev pub StopsAt : List ℕ → List (List (List ℕ)) → OutletState → TermFault → Type 0
+abbrev pub StopsAt : Bytes → Messages → OutletState → TermFault → Type 0
 StopsAt key others to OutOfMemory = IsWritable to
 StopsAt key others to WriteFailed = to.failed ≡ true
 StopsAt key others to (Wire (Message cause)) =
-    IsWritable to × (frames : List (List ℕ)) × (rest : List (List (List ℕ)))
+    IsWritable to × (frames : Frames) × (rest : Messages)
     × (others ≡ frames ∷ rest) × IsUnopened key frames (Wire (Message cause))
 StopsAt key others to _ = ⊥
 
 -- messages were looked at
-pub record Passes (key : List ℕ) (queue queue' : List (List (List ℕ))) : Type 0 where
-  pub taken : List (List (List ℕ))
+pub record Passes (key : Bytes) (queue queue' : Messages) : Type 0 where
+  pub taken : Messages
   pub queue_is : queue ≡ taken ++ queue'
   pub notices : List Notice
   pub are : AreNotices key taken notices
 
 -- messages were looked at, and then it stopped
-pub record StopsIn (key : List ℕ) (queue : List (List (List ℕ))) (to : OutletState) (fault : TermFault)
+pub record StopsIn (key : Bytes) (queue : Messages) (to : OutletState) (fault : TermFault)
     : Type 0 where
-  pub taken : List (List (List ℕ))
-  pub others : List (List (List ℕ))
+  pub taken : Messages
+  pub others : Messages
   pub queue_is : queue ≡ taken ++ others
   pub notices : List Notice
   pub are : AreNotices key taken notices
   pub stops : StopsAt key others to fault
 
 -- messages were taken, and the request's among them printed, up to its idle, or all of them
-pub record Takes (parent : Parent) (queue queue' : List (List (List ℕ))) (to to' : OutletState)
+pub record Takes (parent : Parent) (queue queue' : Messages) (to to' : OutletState)
     (course : Course) : Type 0 where
-  pub taken : List (List (List ℕ))
+  pub taken : Messages
   pub queue_is : queue ≡ taken ++ queue'
   pub notices : List Notice
   pub are : AreNotices parent.key taken notices
@@ -77,10 +78,10 @@ pub record Takes (parent : Parent) (queue queue' : List (List (List ℕ))) (to t
 
 -- messages were taken, none of them the request's idle, a front of what is printed of them was printed, and
 -- then it stopped
-pub record Cut (parent : Parent) (queue : List (List (List ℕ))) (to to' : OutletState) (fault : TermFault)
+pub record Cut (parent : Parent) (queue : Messages) (to to' : OutletState) (fault : TermFault)
     : Type 0 where
-  pub taken : List (List (List ℕ))
-  pub others : List (List (List ℕ))
+  pub taken : Messages
+  pub others : Messages
   pub queue_is : queue ≡ taken ++ others
   pub notices : List Notice
   pub are : AreNotices parent.key taken notices
@@ -89,7 +90,7 @@ pub record Cut (parent : Parent) (queue : List (List (List ℕ))) (to to' : Outl
   pub stops : StopsAt parent.key others to' fault
 
 -- a message was taken, and printed if it is the request's
-pub record TakesOne (parent : Parent) (frames : List (List ℕ)) (to to' : OutletState) (course : Course)
+pub record TakesOne (parent : Parent) (frames : Frames) (to to' : OutletState) (course : Course)
     : Type 0 where
   pub notice : Notice
   pub is : IsNotice parent.key frames notice

@@ -4,6 +4,7 @@ use Rattle.std.specs.Prelude.{◌≡◌, ℕ, Bool, ◌&&◌, List, [], ◌∷�
 use Rattle.std.specs.Prelude.{unwrap_or}
 use Rattle.std.specs.List.{list_any}
 use Rattle.std.specs.Str.{bytes_eq}
+use Rattle.zmtp_wire.specs.Wire.{Bytes, Frames, Messages}
 use Rattle.serde_json.specs.Data.{Data}
 use Rattle.serde_json.specs.View.{view}
 use Rattle.jup_wire.specs.declared.message.Parts.{Parts}
@@ -19,15 +20,15 @@ use Rattle.lab_term.specs.declared.fault.WireCause.TheVariants.{Message}
 
 -- a message on iopub: its type, the header of the request that it belongs to, its content
 pub record Notice : Type 0 where
-  pub msg_type : List ℕ
-  pub parent : List ℕ
+  pub msg_type : Bytes
+  pub parent : Bytes
   pub content : Data
 
 abbrev pub notice_of : Event → Notice
 notice_of e = record { msg_type = e.msg_type; parent = e.parent; content = view e.content }
 
 -- under this key the frames are this message
-pub record IsNotice (key : List ℕ) (frames : List (List ℕ)) (notice : Notice) : Type 0 where
+pub record IsNotice (key : Bytes) (frames : Frames) (notice : Notice) : Type 0 where
   pub parts : Parts
   pub header : Header
   pub message : IsMessage key frames parts header notice.content
@@ -35,13 +36,13 @@ pub record IsNotice (key : List ℕ) (frames : List (List ℕ)) (notice : Notice
   pub type_is : header.msg_type ≡ notice.msg_type
 
 -- the faults of opening: want of memory, or frames that are refused under this key
-abbrev pub IsUnopened : List ℕ → List (List ℕ) → TermFault → Type 0
+abbrev pub IsUnopened : Bytes → Frames → TermFault → Type 0
 IsUnopened key frames OutOfMemory = Unit {0}
 IsUnopened key frames (Wire (Message cause)) = (cause ≡ wire.OutOfMemory → ⊥) × IsRefused key frames cause
 IsUnopened key frames _ = ⊥
 
 -- the text that a content has at a key, or none
-abbrev pub text_in : List ℕ → Data → List ℕ
+abbrev pub text_in : Bytes → Data → Bytes
 text_in key content = unwrap_or (text_at key content) []
 
 abbrev pub is_status : Notice → Bool
@@ -55,40 +56,40 @@ abbrev pub is_error : Notice → Bool
 is_error notice = bytes_eq notice.msg_type (codes "error")
 
 -- the message belongs to the request of this header
-abbrev pub is_of : List ℕ → Notice → Bool
+abbrev pub is_of : Bytes → Notice → Bool
 is_of header notice = bytes_eq notice.parent header
 
 -- an error in one line: its name and its value
-abbrev pub error_line : Data → List ℕ
+abbrev pub error_line : Data → Bytes
 error_line content =
     text_in (codes "ename") content ++ codes ": " ++ text_in (codes "evalue") content ++ codes "\n"
 
 -- what is printed of a message: the text of a stream as it stands, or the line of an error
-unfoldable pub text_of : Notice → List ℕ
+unfoldable pub text_of : Notice → Bytes
 text_of notice =
     if bytes_eq notice.msg_type (codes "stream") then text_in (codes "text") notice.content else
     (if is_error notice then error_line notice.content else [])
 
 -- what is printed for the request of this header
-abbrev pub shown : List ℕ → Notice → List ℕ
+abbrev pub shown : Bytes → Notice → Bytes
 shown header notice = if is_of header notice then text_of notice else []
 
 -- one after the other
-abbrev pub printed : List ℕ → List Notice → List ℕ
+abbrev pub printed : Bytes → List Notice → Bytes
 printed header messages = flat_map (shown header) messages
 
 -- an error was among the request's messages
-abbrev pub has_error : List ℕ → List Notice → Bool
+abbrev pub has_error : Bytes → List Notice → Bool
 has_error header messages = list_any (λ notice. is_of header notice && is_error notice) messages
 
 -- the kernel is done with the request
-abbrev pub ends : List ℕ → Notice → Bool
+abbrev pub ends : Bytes → Notice → Bool
 ends header notice = is_of header notice && is_idle notice
 
 -- each of these frames is the message beside it
-pub data AreNotices (key : List ℕ) : List (List (List ℕ)) → List Notice → Type 0 where
+pub data AreNotices (key : Bytes) : Messages → List Notice → Type 0 where
   NoNotice : AreNotices key [] []
-  NextNotice : (frames : List (List ℕ)) (others : List (List (List ℕ))) (notice : Notice)
+  NextNotice : (frames : Frames) (others : Messages) (notice : Notice)
       (messages : List Notice)
       → IsNotice key frames notice → AreNotices key others messages
       → AreNotices key (frames ∷ others) (notice ∷ messages)

@@ -1,8 +1,9 @@
 -- What was read of iopub.
-use Rattle.std.specs.Prelude.{◌≡◌, ◌⊎◌, ℕ, true, false, List, [], ◌++◌, Some}
+use Rattle.std.specs.Prelude.{◌≡◌, ◌⊎◌, true, false, List, [], ◌++◌, Some}
 use Rattle.base_streams.specs.States.{InletState, IsReadable}
 use Rattle.base_streams.specs.Told.{Gave}
-use Rattle.zmtp_peer.specs.Hearing.{Heard}
+use Rattle.zmtp_peer.specs.Receiving.{Received}
+use Rattle.zmtp_wire.specs.Wire.{Bytes, Messages}
 use Rattle.lab_term.specs.Courses.{EndsInStatus}
 use Rattle.lab_term.specs.Events.{Notice, AreNotices}
 use Rattle.lab_term.specs.declared.subscriber.Subscriber.{Subscriber}
@@ -11,12 +12,10 @@ use Rattle.lab_term.specs.declared.fault.TermFault.TheVariants.{OutOfMemory, End
 use Rattle.lab_term.specs.declared.fault.TermFault.TheVariants.{Wire}
 use Rattle.lab_term.specs.declared.fault.WireCause.TheVariants.{Stream, Message}
 
--- the subscriber has read what the reader gave, so many bytes at least; of its messages these were looked at,
--- and it holds the others
-pub record Holds (from from' : InletState) (s : Subscriber) (passed : List (List (List ℕ))) (least : ℕ)
-    : Type 0 where
-  pub messages : List (List (List ℕ))
-  pub heard : Heard from from' s.decoder messages least
+-- the subscriber has read what the reader gave; of its messages these were looked at, and it holds the others
+pub record Holds (from from' : InletState) (s : Subscriber) (passed : Messages) : Type 0 where
+  pub messages : Messages
+  pub received : Received from from' (record { decoder = s.decoder; messages = messages; reads = s.reads })
   pub messages_are : messages ≡ passed ++ s.queue.items
   pub broken_is : s.broken ≡ s.decoder.fault
 
@@ -30,15 +29,15 @@ Starves (Wire (Stream cause)) from s = IsReadable from × (s.broken ≡ Some cau
 Starves (Wire (Message cause)) from s = ⊥
 
 -- the bytes that a read gave in vain: none, but where memory was wanting
-pub record Unheard (from from' : InletState) (fault : TermFault) : Type 0 where
-  pub bytes : List ℕ
+pub record Unreceived (from from' : InletState) (fault : TermFault) : Type 0 where
+  pub bytes : Bytes
   pub gave : Gave from from' bytes
   pub all : (bytes ≡ []) ⊎ (fault ≡ OutOfMemory)
 
 -- the messages up to a status were looked at
-pub record Waited (key : List ℕ) (from from' : InletState) (s : Subscriber) : Type 0 where
-  pub passed : List (List (List ℕ))
-  pub holds : Holds from from' s passed 0
+pub record Waited (key : Bytes) (from from' : InletState) (s : Subscriber) : Type 0 where
+  pub passed : Messages
+  pub holds : Holds from from' s passed
   pub notices : List Notice
   pub are : AreNotices key passed notices
   pub status : EndsInStatus notices

@@ -1,12 +1,13 @@
 -- What running a cell comes to.
 use Rattle.std.specs.Prelude.{◌≡◌, ℕ, Bool, not, List, [], ◌∷◌, ◌++◌}
+use Rattle.zmtp_wire.specs.Wire.{Bytes, Frames, Messages}
 use Rattle.base_streams.specs.States.{OutletState}
 use Rattle.base_streams.specs.Told.{Took}
 use Rattle.zmtp_wire.specs.declared.role.Role.{Role}
 use Rattle.zmtp_wire.specs.declared.role.Role.TheVariants.{Dealer, Sub}
-use Rattle.zmtp_wire.specs.Stream.{DecoderState}
 use Rattle.zmtp_wire.specs.Writing.{message_bytes}
-use Rattle.zmtp_peer.specs.Hearing.{Heard}
+use Rattle.zmtp_peer.specs.Receiving.{Received}
+use Rattle.zmtp_peer.specs.declared.handshake.Peer.{Peer}
 use Rattle.zmtp_peer.specs.Sending.{WroteWhole}
 use Rattle.lab_term.specs.declared.cell.Cell.{Cell}
 use Rattle.lab_term.specs.Connections.{Ports, Client}
@@ -16,48 +17,47 @@ use Rattle.lab_term.specs.Requests.{IsRequest}
 
 -- After the messages that had passed, those of the request were printed up to its first idle, in their order.
 -- The ports are the reader of iopub and what is printed to.
-pub record Followed (parent : Parent) (passed : List (List (List ℕ))) (old new : Ports) : Type 0 where
-  pub decoder : DecoderState
-  pub messages : List (List (List ℕ))
-  pub heard : Heard old.from new.from decoder messages 0
-  pub taken : List (List (List ℕ))
-  pub others : List (List (List ℕ))
-  pub messages_are : messages ≡ (passed ++ taken) ++ others
+pub record Followed (parent : Parent) (passed : Messages) (old new : Ports) : Type 0 where
+  pub peer : Peer
+  pub received : Received old.from new.from peer
+  pub taken : Messages
+  pub others : Messages
+  pub messages_are : peer.messages ≡ (passed ++ taken) ++ others
   pub notices : List Notice
   pub are : AreNotices parent.key taken notices
   pub idle : EndsInIdle parent.header notices
   pub wrote : Took old.to new.to (printed parent.header notices)
 
 -- the handshake of this role was written, and then this message
-pub record Said (to to' : OutletState) (role : Role) (message : List (List ℕ)) : Type 0 where
+pub record Said (to to' : OutletState) (role : Role) (message : Frames) : Type 0 where
   pub between : OutletState
   pub handshake : WroteWhole to between role
   pub took : Took between to' (message_bytes message)
 
 -- subscribes to everything (RFC 23, "The Publish-Subscribe Pattern")
-abbrev pub subscription : List (List ℕ)
+abbrev pub subscription : Frames
 subscription = (1 ∷ []) ∷ []
 
 -- the request was sent, with this header in it
-pub record Asked (cell : Cell) (header : List ℕ) (to to' : OutletState) : Type 0 where
-  pub frames : List (List ℕ)
+pub record Requested (cell : Cell) (header : Bytes) (to to' : OutletState) : Type 0 where
+  pub frames : Frames
   pub request : IsRequest cell header frames
   pub took : Took to to' (message_bytes frames)
 
 -- The subscription and a request with this header were sent, and nothing else; these messages had come before
 -- the request was, the last of them a status.
-pub record Began (cell : Cell) (old new : Client) (header : List ℕ) (passed : List (List (List ℕ)))
+pub record Began (cell : Cell) (old new : Client) (header : Bytes) (passed : Messages)
     : Type 0 where
-  pub frames : List (List ℕ)
+  pub frames : Frames
   pub request : IsRequest cell header frames
-  pub asks : Said old.shell.to new.shell.to Dealer frames
+  pub requests : Said old.shell.to new.shell.to Dealer frames
   pub subscribes : Said old.iopub.to new.iopub.to Sub subscription
   pub earlier : List Notice
   pub passed_are : AreNotices cell.key.now passed earlier
   pub status : EndsInStatus earlier
 
 -- the parent of the messages that a cell's request with this header brings about
-abbrev pub parent_of : Cell → List ℕ → Parent
+abbrev pub parent_of : Cell → Bytes → Parent
 parent_of cell header = record { key = cell.key.now; header = header }
 
 -- the reader of iopub, and what is printed to
@@ -66,8 +66,8 @@ printing client = record { from = client.iopub.from; to = client.output }
 
 -- The cell was run: all that the kernel told of it was printed, up to its first idle.
 pub record Ran (cell : Cell) (old new : Client) : Type 0 where
-  pub header : List ℕ
-  pub passed : List (List (List ℕ))
+  pub header : Bytes
+  pub passed : Messages
   pub began : Began cell old new header passed
   pub followed : Followed (parent_of cell header) passed (printing old) (printing new)
 

@@ -1,12 +1,14 @@
 -- How far a cell came that wasn't run to its end.
 use Rattle.std.specs.Prelude.{◌≡◌, ℕ, ◌⊎◌, List, [], ◌++◌}
+use Rattle.zmtp_wire.specs.Wire.{Bytes, Frames, Messages}
 use Rattle.base_streams.specs.States.{InletState, OutletState}
 use Rattle.base_streams.specs.Told.{Gave, Took, TookFront}
 use Rattle.zmtp_wire.specs.declared.role.Role.{Role}
 use Rattle.zmtp_wire.specs.declared.role.Role.TheVariants.{Dealer, Sub}
 use Rattle.zmtp_wire.specs.Stream.{DecoderState, StandsFor}
 use Rattle.zmtp_wire.specs.Writing.{message_bytes}
-use Rattle.zmtp_peer.specs.Hearing.{Heard}
+use Rattle.zmtp_peer.specs.Receiving.{Received}
+use Rattle.zmtp_peer.specs.declared.handshake.Peer.{Peer}
 use Rattle.zmtp_peer.specs.Sending.{WroteFront, WroteWhole}
 use Rattle.lab_term.specs.declared.fault.TermFault.{TermFault}
 use Rattle.lab_term.specs.declared.fault.TermFault.TheVariants.{OutOfMemory, Ended}
@@ -20,25 +22,24 @@ use Rattle.lab_term.specs.Requests.{IsRequest}
 use Rattle.lab_term.specs.Running.{Said, Began, parent_of, printing, subscription}
 
 -- the handshake of this role was written, and then a front of this message
-pub record SaidFront (to to' : OutletState) (role : Role) (message : List (List ℕ)) : Type 0 where
+pub record SaidFront (to to' : OutletState) (role : Role) (message : Frames) : Type 0 where
   pub between : OutletState
   pub handshake : WroteWhole to between role
   pub front : TookFront between to' (message_bytes message)
 
 -- a front of the cell's request was sent, or nothing where memory was wanting before there was one
-pub data AskedFront (cell : Cell) (to to' : OutletState) (fault : TermFault) : Type 0 where
-  NoRequest : fault ≡ OutOfMemory → to' ≡ to → AskedFront cell to to' fault
-  RequestFront : (header : List ℕ) (frames : List (List ℕ)) → IsRequest cell header frames
-      → TookFront to to' (message_bytes frames) → AskedFront cell to to' fault
+pub data RequestedFront (cell : Cell) (to to' : OutletState) (fault : TermFault) : Type 0 where
+  NoRequest : fault ≡ OutOfMemory → to' ≡ to → RequestedFront cell to to' fault
+  RequestFront : (header : Bytes) (frames : Frames) → IsRequest cell header frames
+      → TookFront to to' (message_bytes frames) → RequestedFront cell to to' fault
 
--- these messages were heard first, and the last of them tells a status
-pub record Awaited (key : List ℕ) (from from' : InletState) : Type 0 where
-  pub decoder : DecoderState
-  pub messages : List (List (List ℕ))
-  pub heard : Heard from from' decoder messages 0
-  pub passed : List (List (List ℕ))
-  pub others : List (List (List ℕ))
-  pub messages_are : messages ≡ passed ++ others
+-- these messages were received first, and the last of them tells a status
+pub record Awaited (key : Bytes) (from from' : InletState) : Type 0 where
+  pub peer : Peer
+  pub received : Received from from' peer
+  pub passed : Messages
+  pub others : Messages
+  pub messages_are : peer.messages ≡ passed ++ others
   pub notices : List Notice
   pub are : AreNotices key passed notices
   pub status : EndsInStatus notices
@@ -51,18 +52,18 @@ EndsStream _ = ⊥
 
 -- After the messages that had passed others were taken, none of them the request's idle, and a front of what
 -- is printed of them was printed: of all of them, and whole, where the stream was at its end. All that the
--- reader gave was heard, but where memory was wanting.
-pub record FollowedFront (parent : Parent) (passed : List (List (List ℕ))) (old new : Ports) (fault : TermFault)
+-- reader gave was received, but where memory was wanting.
+pub record FollowedFront (parent : Parent) (passed : Messages) (old new : Ports) (fault : TermFault)
     : Type 0 where
   pub decoder : DecoderState
-  pub messages : List (List (List ℕ))
-  pub heard : List ℕ
-  pub unheard : List ℕ
-  pub gave : Gave old.from new.from (heard ++ unheard)
-  pub all : (unheard ≡ []) ⊎ (fault ≡ OutOfMemory)
-  pub stands : StandsFor decoder heard messages
-  pub taken : List (List (List ℕ))
-  pub others : List (List (List ℕ))
+  pub messages : Messages
+  pub received : Bytes
+  pub unreceived : Bytes
+  pub gave : Gave old.from new.from (received ++ unreceived)
+  pub all : (unreceived ≡ []) ⊎ (fault ≡ OutOfMemory)
+  pub stands : StandsFor decoder received messages
+  pub taken : Messages
+  pub others : Messages
   pub messages_are : messages ≡ (passed ++ taken) ++ others
   pub notices : List Notice
   pub are : AreNotices parent.key taken notices
@@ -72,26 +73,27 @@ pub record FollowedFront (parent : Parent) (passed : List (List (List ℕ))) (ol
 
 -- the cell had begun; a front was printed of what the kernel told of it
 pub record RanFront (cell : Cell) (old new : Client) (fault : TermFault) : Type 0 where
-  pub header : List ℕ
-  pub passed : List (List (List ℕ))
+  pub header : Bytes
+  pub passed : Messages
   pub began : Began cell old new header passed
   pub followed : FollowedFront (parent_of cell header) passed (printing old) (printing new) fault
 
--- It stopped in the handshake of shell, in that of iopub, while it subscribed, while it waited for a status,
--- while it sent its request, or while it followed that.
+-- what was written to iopub before the request: a front of its handshake; that whole, and a front of the
+-- subscription; or both whole
+pub data WroteIopub (to to' : OutletState) : Type 0 where
+  HandshakeFront : WroteFront to to' Sub → WroteIopub to to'
+  SubscriptionFront : SaidFront to to' Sub subscription → WroteIopub to to'
+  Subscribed : Said to to' Sub subscription → WroteIopub to to'
+
+-- It stopped in the handshake of shell; in that of iopub, while it subscribed, or while it waited for a
+-- status; while it sent its request; or while it followed that.
 pub data Stopped (cell : Cell) (old new : Client) (fault : TermFault) : Type 0 where
-  AtShell : WroteFront old.shell.to new.shell.to Dealer → new.iopub ≡ old.iopub → new.output ≡ old.output
+  AtShell : WroteFront old.shell.to new.shell.to Dealer → new ≡ record old { shell = new.shell }
       → Stopped cell old new fault
-  AtIopub : WroteWhole old.shell.to new.shell.to Dealer → WroteFront old.iopub.to new.iopub.to Sub
+  AtIopub : WroteWhole old.shell.to new.shell.to Dealer → WroteIopub old.iopub.to new.iopub.to
       → new.output ≡ old.output → Stopped cell old new fault
-  AtSubscription : WroteWhole old.shell.to new.shell.to Dealer
-      → SaidFront old.iopub.to new.iopub.to Sub subscription → new.output ≡ old.output
-      → Stopped cell old new fault
-  AtStatus : WroteWhole old.shell.to new.shell.to Dealer
-      → Said old.iopub.to new.iopub.to Sub subscription → new.output ≡ old.output
-      → Stopped cell old new fault
   AtRequest : (between : OutletState) → WroteWhole old.shell.to between Dealer
-      → AskedFront cell between new.shell.to fault → Said old.iopub.to new.iopub.to Sub subscription
+      → RequestedFront cell between new.shell.to fault → Said old.iopub.to new.iopub.to Sub subscription
       → Awaited cell.key.now old.iopub.from new.iopub.from → new.output ≡ old.output
       → Stopped cell old new fault
   AtCourse : RanFront cell old new fault → Stopped cell old new fault

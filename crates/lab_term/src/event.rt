@@ -1,7 +1,8 @@
 //! What the kernel tells on iopub (Jupyter messaging 5.4, "Messages on the IOPub (PUB/SUB) channel").
-ghost use Rattle.std.specs.Prelude.{◌≡◌, List, ℕ, IfOk, IfErr};
+ghost use Rattle.std.specs.Prelude.{◌≡◌, IfOk, IfErr};
 ghost use Rattle.serde_json.specs.View.{view};
 ghost use Rattle.jup_wire.specs.Wire.{IsRefused};
+ghost use Rattle.zmtp_wire.specs.Wire.{Bytes, Frames};
 ghost use Rattle.lab_term.specs.Events.{notice_of, IsNotice, IsUnopened, text_in, is_status, is_idle};
 ghost use Rattle.lab_term.specs.Events.{is_error, is_of, error_line, text_of};
 
@@ -24,7 +25,7 @@ pub(crate) struct Event {
 
 /// The faults of opening.
 fn fault_of(fault: WireFault) -> TermFault
-    ensures { (key : List ℕ) (frames : List (List ℕ)) → IsRefused key frames fault → IsUnopened key frames result }
+    ensures { (key : Bytes) (frames : Frames) → IsRefused key frames fault → IsUnopened key frames result }
 {
     match fault {
         WireFault::OutOfMemory => TermFault::OutOfMemory,

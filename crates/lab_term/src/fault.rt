@@ -39,7 +39,7 @@ pub enum TermFault {
     OutOfMemory,
     /// A reader came to its end.
     Ended,
-    /// A reader failed, or gave more than a connection may have.
+    /// A reader failed, or was read as often as it may be.
     ReadFailed,
     /// A writer failed.
     WriteFailed,

@@ -3,6 +3,7 @@ ghost use Rattle.std.specs.Prelude.{◌≡◌, ◌||◌, ℕ, ◌+◌, List, [],
 ghost use Rattle.std.specs.Prelude.{IfOk, IfErr, OnOk};
 ghost use Rattle.base_streams.specs.States.{InletState, OutletState, IsReadable, IsWritable};
 ghost use Rattle.base_streams.specs.Told.{Took, TookFront};
+ghost use Rattle.zmtp_wire.specs.Wire.{Messages};
 ghost use Rattle.lab_term.specs.Causes.{Stalls};
 ghost use Rattle.lab_term.specs.Courses.{EndsInStatus, HasNo, Passes, StopsAt, StopsIn, TakesOne, Takes, Cut};
 ghost use Rattle.lab_term.specs.Events.{notice_of, text_of, has_error, is_status};
@@ -33,7 +34,7 @@ fn either(a: bool, b: bool) -> bool
 }
 
 // How a cell goes after one message more.
-fn joined(before: Course, next: Course) -> Course
+fn course_after(before: Course, next: Course) -> Course
     ensures idle { result.is_idle ≡ next.is_idle }
     ensures failed { result.has_failed ≡ before.has_failed || next.has_failed }
 {
@@ -74,7 +75,7 @@ fn pass_status(alloc: Global, queue: &mut VecDeque<Frames>, key: &[u8]) -> Resul
     Ok(false)
 }
 
-/// Reads until the kernel has told a status: then the subscription is heard.
+/// Reads until the kernel has told a status: then the subscription has come.
 pub(crate) fn await_status<I: Inlet>(
     alloc: Global,
     from: &mut I,
@@ -83,14 +84,14 @@ pub(crate) fn await_status<I: Inlet>(
 ) -> Result<(), TermFault>
     requires { IsReadable (I.state from.old) }
     ensures good { OnOk result (IsReadable (I.state from.new)) }
-    ensures waited { OnOk result ((before : InletState) → Holds before (I.state from.old) subscriber.old [] 0
+    ensures waited { OnOk result ((before : InletState) → Holds before (I.state from.old) subscriber.old []
         → Waited key.now before (I.state from.new) subscriber.new) }
     // Whatever is printed to, it isn't the cause.
     ensures stalls { IfErr result (λ fault. (before : InletState) (to : OutletState)
-        → Holds before (I.state from.old) subscriber.old [] 0 → IsWritable to
+        → Holds before (I.state from.old) subscriber.old [] → IsWritable to
         → Stalls key.now before (I.state from.new) to fault) }
 {
-    for _ in 0..u32::MAX {
+    for _ in subscriber.reads..u32::MAX {
         match pass_status(alloc, &mut subscriber.queue, key) {
             Ok(found) => {
                 if found {
@@ -190,7 +191,7 @@ fn take_messages<O: Outlet>(
     };
     while let Some(frames) = queue.pop_front() {
         match take_message(alloc, output, frames, key, header) {
-            Ok(next) => course = joined(course, next),
+            Ok(next) => course = course_after(course, next),
             Err(fault) => return Err(fault),
         }
         if course.is_idle {
@@ -212,23 +213,23 @@ pub(crate) fn follow<I: Inlet, O: Outlet>(
 ) -> Result<bool, TermFault>
     requires readable { IsReadable (I.state from.old) }
     requires writable { IsWritable (O.state output.old) }
-    ensures followed { IfOk result (λ good. (before : InletState) (passed : List (List (List ℕ)))
-        → Holds before (I.state from.old) subscriber.old passed 0
+    ensures followed { IfOk result (λ good. (before : InletState) (passed : Messages)
+        → Holds before (I.state from.old) subscriber.old passed
         → (f : Followed (record { key = key.now; header = header.now }) passed
         (record { from = before; to = O.state output.old })
         (record { from = I.state from.new; to = O.state output.new }))
         × (good ≡ not (has_error header.now f.notices))) }
-    ensures front { IfErr result (λ fault. (before : InletState) (passed : List (List (List ℕ)))
-        → Holds before (I.state from.old) subscriber.old passed 0
+    ensures front { IfErr result (λ fault. (before : InletState) (passed : Messages)
+        → Holds before (I.state from.old) subscriber.old passed
         → FollowedFront (record { key = key.now; header = header.now }) passed
         (record { from = before; to = O.state output.old })
         (record { from = I.state from.new; to = O.state output.new }) fault) }
-    ensures stalls { IfErr result (λ fault. (before : InletState) (passed : List (List (List ℕ)))
-        → Holds before (I.state from.old) subscriber.old passed 0
+    ensures stalls { IfErr result (λ fault. (before : InletState) (passed : Messages)
+        → Holds before (I.state from.old) subscriber.old passed
         → Stalls key.now before (I.state from.new) (O.state output.new) fault) }
 {
     let mut has_failed = false;
-    for _ in 0..u32::MAX {
+    for _ in subscriber.reads..u32::MAX {
         match take_messages(alloc, output, &mut subscriber.queue, key, header) {
             Ok(course) => {
                 has_failed = either(has_failed, course.has_failed);

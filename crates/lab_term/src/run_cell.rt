@@ -4,12 +4,12 @@ ghost use Rattle.zmtp_wire.specs.Writing.{message_bytes};
 ghost use Rattle.base_streams.specs.States.{IsReadable, IsWritable};
 ghost use Rattle.base_streams.specs.Told.{Took, TookFront};
 ghost use Rattle.jup_date.specs.Dates.{last_moment};
-ghost use Rattle.zmtp_peer.specs.Hearing.{Heard};
+ghost use Rattle.zmtp_peer.specs.Receiving.{Received};
 ghost use Rattle.zmtp_peer.specs.Sending.{WroteFront, WroteWhole};
 ghost use Rattle.lab_term.specs.Causes.{Ungreeted, Unsent, Causes};
 ghost use Rattle.lab_term.specs.Connections.{IsGood, IsGoodClient, client_of, ports_of};
-ghost use Rattle.lab_term.specs.Running.{subscription, went_well, Asked, Ran};
-ghost use Rattle.lab_term.specs.Stopping.{AskedFront, Stopped};
+ghost use Rattle.lab_term.specs.Running.{subscription, went_well, Requested, Ran};
+ghost use Rattle.lab_term.specs.Stopping.{RequestedFront, Stopped};
 
 use crate::cell::{Cell, Request, request_of};
 use crate::fault::{TermFault, term_fault_of};
@@ -37,8 +37,8 @@ fn greet<I: Inlet + Drop, W: Outlet + Drop>(
     role: Role,
 ) -> Result<Peer, TermFault>
     requires { IsGood (ports_of I.state W.state connection.old) }
-    ensures heard { IfOk result (λ peer.
-        Heard (I.state connection.old.from) (I.state connection.new.from) peer.decoder peer.messages 0) }
+    ensures received { IfOk result
+        (Received (I.state connection.old.from) (I.state connection.new.from)) }
     ensures good { OnOk result (IsGood (ports_of I.state W.state connection.new)) }
     ensures whole { OnOk result (WroteWhole (W.state connection.old.to) (W.state connection.new.to) role) }
     ensures front { WroteFront (W.state connection.old.to) (W.state connection.new.to) role }
@@ -94,8 +94,8 @@ fn subscribe<W: Outlet>(alloc: Global, to: &mut W) -> Result<(), TermFault>
 // Sends the request of a cell, and gives its header.
 fn request<W: Outlet>(alloc: Global, to: &mut W, cell: &Cell<'_>) -> Result<Bytes, TermFault>
     requires { cell.now.unix_seconds ≤ last_moment }
-    ensures whole { IfOk result (λ header. Asked cell.now header (W.state to.old) (W.state to.new)) }
-    ensures front { IfErr result (AskedFront cell.now (W.state to.old) (W.state to.new)) }
+    ensures whole { IfOk result (λ header. Requested cell.now header (W.state to.old) (W.state to.new)) }
+    ensures front { IfErr result (RequestedFront cell.now (W.state to.old) (W.state to.new)) }
     ensures unsent { IfErr result (Unsent (W.state to.new)) }
 {
     let Ok(Request { header, frames }) = request_of(alloc, cell) else {

@@ -1,11 +1,12 @@
 //! The messages of iopub, as they come.
-ghost use Rattle.std.specs.Prelude.{◌≡◌, ◌<◌, ◌≤◌, ◌+◌, ℕ, List, [], take, length, IfOk, IfErr, OnOk, OnErr};
+ghost use Rattle.std.specs.Prelude.{◌≡◌, ◌<◌, ◌≤◌, ◌+◌, [], take, length, IfOk, IfErr, OnOk, OnErr};
 ghost use Rattle.base_streams.specs.States.{InletState, IsReadable};
-ghost use Rattle.base_streams.specs.Told.{Gave};
+ghost use Rattle.base_streams.specs.Told.{Gave, WasRead};
+ghost use Rattle.zmtp_wire.specs.Wire.{Messages};
 ghost use Rattle.lab_term.specs.declared.subscriber.Subscriber.{Subscriber};
-ghost use Rattle.zmtp_peer.specs.Hearing.{Heard};
+ghost use Rattle.zmtp_peer.specs.Receiving.{Received};
 ghost use Rattle.lab_term.specs.Causes.{IsBroken};
-ghost use Rattle.lab_term.specs.Reading.{Holds, Starves, Unheard};
+ghost use Rattle.lab_term.specs.Reading.{Holds, Starves, Unreceived};
 ghost use Rattle.lab_term.specs.declared.fault.TermFault.{TermFault};
 
 use crate::fault::{TermFault, WireCause};
@@ -28,17 +29,20 @@ pub(crate) struct Subscriber {
     pub queue: VecDeque<Frames>,
     /// What is wrong with the stream after these messages.
     pub broken: Option<StreamFault>,
+    /// How often the reader was read, in the handshake too.
+    pub reads: u32,
 }
 
 /// Begins with the messages that came with READY.
 pub(crate) fn subscriber_of(alloc: Global, peer: Peer) -> Result<Subscriber, TermFault>
-    ensures holds { IfOk result (λ subscriber. (before from : InletState) (least : ℕ)
-        → Heard before from peer.decoder peer.messages least → Holds before from subscriber [] least) }
+    ensures holds { IfOk result (λ subscriber. (before from : InletState)
+        → Received before from peer → Holds before from subscriber []) }
     ensures err { IfErr result (λ fault. fault ≡ TermFault.OutOfMemory) }
 {
     let Peer {
         mut decoder,
         messages,
+        reads,
     } = peer;
     // What came with READY may have broken the stream.
     let Ok(
@@ -58,6 +62,7 @@ pub(crate) fn subscriber_of(alloc: Global, peer: Peer) -> Result<Subscriber, Ter
         decoder,
         queue: VecDeque::from(queue),
         broken,
+        reads,
     })
 }
 
@@ -68,6 +73,7 @@ fn read_piece<I: Inlet>(from: &mut I, buffer: &mut [u8; PIECE_SIZE]) -> Result<u
     ensures given { IfOk result (λ n. Gave (I.state from.old) (I.state from.new) (take n buffer.new)) }
     ensures good { OnOk result (IsReadable (I.state from.new)) }
     ensures starves { IfErr result (λ fault. (s : Subscriber) → Starves fault (I.state from.new) s) }
+    ensures reads { WasRead (I.state from.old) (I.state from.new) 1 }
     ensures unread { OnErr result (Gave (I.state from.old) (I.state from.new) []) }
     ensures unbroken { IfErr result (λ fault. IsBroken fault → ⊥) }
 {
@@ -86,14 +92,16 @@ pub(crate) fn refill<I: Inlet>(
 ) -> Result<(), TermFault>
     requires readable { IsReadable (I.state from.old) }
     requires empty { subscriber.old.queue.items ≡ [] }
+    requires left { subscriber.old.reads < 4294967295 }
+    ensures reads { OnOk result (subscriber.new.reads ≡ subscriber.old.reads + 1) }
     ensures good { OnOk result (IsReadable (I.state from.new)) }
-    ensures holds { OnOk result ((before : InletState) (passed : List (List (List ℕ))) (least : ℕ)
-        → Holds before (I.state from.old) subscriber.old passed least
-        → Holds before (I.state from.new) subscriber.new passed (least + 1)) }
+    ensures holds { OnOk result ((before : InletState) (passed : Messages)
+        → Holds before (I.state from.old) subscriber.old passed
+        → Holds before (I.state from.new) subscriber.new passed) }
     ensures starves { IfErr result (λ fault. Starves fault (I.state from.new) subscriber.new) }
     ensures stays { IfErr result (λ fault. IsBroken fault
         → (subscriber.new ≡ subscriber.old) × (I.state from.new ≡ I.state from.old)) }
-    ensures unheard { IfErr result (Unheard (I.state from.old) (I.state from.new)) }
+    ensures unreceived { IfErr result (Unreceived (I.state from.old) (I.state from.new)) }
 {
     if let Some(cause) = subscriber.broken {
         return Err(TermFault::Wire(WireCause::Stream(cause)));
@@ -103,6 +111,7 @@ pub(crate) fn refill<I: Inlet>(
         Ok(count) => count,
         Err(fault) => return Err(fault),
     };
+    subscriber.reads += 1;
     let Ok(Fed { messages, broken }) = feed(alloc, &mut subscriber.decoder, &buffer[..count]) else {
         return Err(TermFault::OutOfMemory);
     };

@@ -1,4 +1,4 @@
 pub mod EchoLemmas
-pub mod HearingLemmas
 pub mod QuietLemmas
+pub mod ReceivingLemmas
 pub mod SendingLemmas

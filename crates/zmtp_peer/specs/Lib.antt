@@ -1,4 +1,4 @@
 pub mod Beating
 pub mod Ends
-pub mod Hearing
+pub mod Receiving
 pub mod Sending

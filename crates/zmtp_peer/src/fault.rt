@@ -11,7 +11,7 @@ pub enum PeerFault {
     /// The reader came to its end.
     #[error("the peer ended the stream")]
     PeerEnded,
-    /// The reader failed, or gave more than a conversation may have.
+    /// The reader failed, or was read as often as a conversation may.
     #[error("a read failed")]
     ReadFailed,
     /// The writer failed.

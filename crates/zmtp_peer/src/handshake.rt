@@ -1,14 +1,14 @@
 //! The handshake of a connection (RFC 23, "The NULL Security Mechanism").
-ghost use Rattle.std.specs.Prelude.{◌≡◌, ◌+◌, ◌<◌, ℕ, IfOk, IfErr, OnOk};
-ghost use Rattle.base_streams.specs.States.{InletState, OutletState, IsReadable, IsWritable};
+ghost use Rattle.std.specs.Prelude.{◌≡◌, ◌+◌, ◌<◌, ◌≤◌, IfOk, IfErr, OnOk};
+ghost use Rattle.base_streams.specs.States.{IsReadable, IsWritable};
 ghost use Rattle.zmtp_wire.specs.declared.head.Stage.TheVariants.{Traffic};
-ghost use Rattle.zmtp_peer.specs.Ends.{Blames, NoPeer};
-ghost use Rattle.zmtp_peer.specs.Hearing.{Heard};
+ghost use Rattle.zmtp_peer.specs.Ends.{Blames, BlamesReader, LostPeer, NoPeer, ReceivedOn};
+ghost use Rattle.zmtp_peer.specs.Receiving.{Received};
 ghost use Rattle.zmtp_peer.specs.Sending.{WroteFront, WroteWhole};
 
 use crate::fault::PeerFault;
 use crate::feeding::{Fed, feed};
-use crate::hearing::{PIECE_SIZE, read_piece};
+use crate::receiving::{PIECE_SIZE, read_piece};
 use crate::sending::send;
 use base_streams::ports::{Inlet, Outlet};
 use std::alloc::Global;
@@ -20,39 +20,35 @@ use zmtp_wire::writing::{greeting, ready};
 // The size of a greeting, in bytes.
 const GREETING_SIZE: usize = 64;
 
-// The bytes, and so the reads, after which a handshake is given up.
-const MOST_BYTES: usize = 4_294_967_295;
-
 /// A peer whose READY was accepted, and the messages that came with it. The stream may be broken after
 /// them: then the next feed, of no bytes too, says so.
 #[derive(Drop)]
 pub struct Peer {
     pub decoder: Decoder,
     pub messages: Messages,
+    /// How often its reader was read by then; a conversation reads 4,294,967,295 times at most.
+    pub reads: u32,
 }
 
 // Reads a piece before READY, and reports its length.
 fn listen_once<I: Inlet>(alloc: Global, from: &mut I, peer: &mut Peer) -> Result<usize, PeerFault>
     requires readable { IsReadable (I.state from.old) }
     requires unready { peer.old.decoder.stage ≡ Traffic → ⊥ }
+    requires left { peer.old.reads < 4294967295 }
     ensures some { IfOk result (λ count. 0 < count) }
     ensures role { peer.new.decoder.role ≡ peer.old.decoder.role }
+    ensures reads { OnOk result (peer.new.reads ≡ peer.old.reads + 1) }
     ensures good { OnOk result (IsReadable (I.state from.new)) }
-    ensures heard { IfOk result (λ count. (before : InletState) (least : ℕ)
-        → Heard before (I.state from.old) peer.old.decoder peer.old.messages least
-        → Heard before (I.state from.new) peer.new.decoder peer.new.messages (least + count)) }
-    // No writer has failed by it.
-    ensures blames { IfErr result (λ fault. (to : OutletState) → IsWritable to
-        → Blames fault (I.state from.new) to) }
-    ensures lost { IfErr result (λ fault. (before : InletState) (least : ℕ)
-        → Heard before (I.state from.old) peer.old.decoder peer.old.messages least
-        → NoPeer peer.old.decoder.role before (I.state from.new) fault) }
+    ensures received { OnOk result (ReceivedOn (I.state from.old) (I.state from.new) peer.old peer.new) }
+    ensures blames { IfErr result (BlamesReader (I.state from.new)) }
+    ensures lost { IfErr result (LostPeer (I.state from.old) (I.state from.new) peer.old) }
 {
     let mut buffer = [0u8; PIECE_SIZE];
     let count = match read_piece(from, &mut buffer) {
         Ok(count) => count,
         Err(fault) => return Err(fault),
     };
+    peer.reads += 1;
     let Ok(Fed { messages, broken }) = feed(alloc, &mut peer.decoder, &buffer[..count]) else {
         return Err(PeerFault::OutOfMemory);
     };
@@ -63,33 +59,41 @@ fn listen_once<I: Inlet>(alloc: Global, from: &mut I, peer: &mut Peer) -> Result
     }
 }
 
-// Reads until READY was accepted, or so many bytes have come. Each read gives one at least.
-fn listen<I: Inlet>(
-    alloc: Global,
-    from: &mut I,
-    peer: &mut Peer,
-    bytes: usize,
-) -> Result<(), PeerFault>
+// Reads until a greeting came, or READY, or as often as a conversation may read.
+fn await_greeting<I: Inlet>(alloc: Global, from: &mut I, peer: &mut Peer) -> Result<(), PeerFault>
     requires { IsReadable (I.state from.old) }
     ensures role { peer.new.decoder.role ≡ peer.old.decoder.role }
-    ensures stays { peer.old.decoder.stage ≡ Traffic → peer.new.decoder.stage ≡ Traffic }
     ensures good { OnOk result (IsReadable (I.state from.new)) }
-    ensures heard { OnOk result ((before : InletState) (least : ℕ)
-        → Heard before (I.state from.old) peer.old.decoder peer.old.messages least
-        → Heard before (I.state from.new) peer.new.decoder peer.new.messages least
-        × ((peer.new.decoder.stage ≡ Traffic → ⊥)
-        → Heard before (I.state from.new) peer.new.decoder peer.new.messages (least + bytes))) }
-    // No writer has failed by it.
-    ensures blames { IfErr result (λ fault. (to : OutletState) → IsWritable to
-        → Blames fault (I.state from.new) to) }
-    ensures lost { IfErr result (λ fault. (before : InletState) (least : ℕ)
-        → Heard before (I.state from.old) peer.old.decoder peer.old.messages least
-        → NoPeer peer.old.decoder.role before (I.state from.new) fault) }
+    ensures received { OnOk result (ReceivedOn (I.state from.old) (I.state from.new) peer.old peer.new) }
+    ensures blames { IfErr result (BlamesReader (I.state from.new)) }
+    ensures lost { IfErr result (LostPeer (I.state from.old) (I.state from.new) peer.old) }
 {
     let mut count = 0usize;
-    while count < bytes && !peer.decoder.is_ready() {
+    while count < GREETING_SIZE && peer.reads < u32::MAX && !peer.decoder.is_ready() {
         match listen_once(alloc, from, peer) {
             Ok(more) => count = count.saturating_add(more),
+            Err(fault) => return Err(fault),
+        }
+    }
+    Ok(())
+}
+
+// Reads until READY was accepted.
+fn await_ready<I: Inlet>(alloc: Global, from: &mut I, peer: &mut Peer) -> Result<(), PeerFault>
+    requires { IsReadable (I.state from.old) }
+    ensures role { peer.new.decoder.role ≡ peer.old.decoder.role }
+    ensures ready { OnOk result (peer.new.decoder.stage ≡ Traffic) }
+    ensures good { OnOk result (IsReadable (I.state from.new)) }
+    ensures received { OnOk result (ReceivedOn (I.state from.old) (I.state from.new) peer.old peer.new) }
+    ensures blames { IfErr result (BlamesReader (I.state from.new)) }
+    ensures lost { IfErr result (LostPeer (I.state from.old) (I.state from.new) peer.old) }
+{
+    while !peer.decoder.is_ready() {
+        if peer.reads == u32::MAX {
+            return Err(PeerFault::ReadFailed);
+        }
+        match listen_once(alloc, from, peer) {
+            Ok(_) => {}
             Err(fault) => return Err(fault),
         }
     }
@@ -107,8 +111,7 @@ pub fn handshake<I: Inlet, W: Outlet>(
     requires readable { IsReadable (I.state from.old) }
     requires writable { IsWritable (W.state to.old) }
     // The peer has read what the reader gave, and holds the messages in it.
-    ensures heard { IfOk result (λ peer.
-        Heard (I.state from.old) (I.state from.new) peer.decoder peer.messages 0) }
+    ensures received { IfOk result (Received (I.state from.old) (I.state from.new)) }
     ensures ready { IfOk result (λ peer. peer.decoder.stage ≡ Traffic) }
     ensures role { IfOk result (λ peer. peer.decoder.role ≡ role) }
     ensures front { WroteFront (W.state to.old) (W.state to.new) role }
@@ -121,12 +124,13 @@ pub fn handshake<I: Inlet, W: Outlet>(
     let mut peer = Peer {
         decoder: Decoder::new(alloc, role),
         messages: Messages::new(alloc),
+        reads: 0,
     };
     match send(to, greeting) {
         Ok(()) => {}
         Err(fault) => return Err(fault),
     }
-    match listen(alloc, from, &mut peer, GREETING_SIZE) {
+    match await_greeting(alloc, from, &mut peer) {
         Ok(()) => {}
         Err(fault) => return Err(fault),
     }
@@ -134,12 +138,9 @@ pub fn handshake<I: Inlet, W: Outlet>(
         Ok(()) => {}
         Err(fault) => return Err(fault),
     }
-    match listen(alloc, from, &mut peer, MOST_BYTES - GREETING_SIZE) {
+    match await_ready(alloc, from, &mut peer) {
         Ok(()) => {}
         Err(fault) => return Err(fault),
-    }
-    if !peer.decoder.is_ready() {
-        return Err(PeerFault::ReadFailed);
     }
     Ok(peer)
 }

@@ -1,8 +1,9 @@
 //! The heartbeat (Jupyter messaging 5.4, "Heartbeat for kernels"), which sends back what it reads.
-ghost use Rattle.std.specs.Prelude.{ℕ, List, length, IfErr, OnOk};
+ghost use Rattle.std.specs.Prelude.{IfErr, OnOk};
 ghost use Rattle.base_streams.specs.States.{InletState, IsReadable, IsWritable};
 ghost use Rattle.zmtp_wire.specs.declared.role.Role.TheVariants.{Rep};
 ghost use Rattle.zmtp_wire.specs.Stream.{DecoderState, Completes};
+ghost use Rattle.zmtp_wire.specs.Wire.{Messages};
 ghost use Rattle.zmtp_wire.specs.Writing.{message_bytes};
 ghost use Rattle.zmtp_peer.specs.Ends.{Blames, Ends};
 ghost use Rattle.zmtp_peer.specs.Sending.{Echoes, Writes, messages_bytes};
@@ -11,7 +12,7 @@ ghost use Rattle.zmtp_peer.specs.Beating.{EchoedPiece, EchoedRound, LostPiece, L
 use crate::fault::PeerFault;
 use crate::feeding::{Fed, feed};
 use crate::handshake::handshake;
-use crate::hearing::{PIECE_SIZE, read_piece};
+use crate::receiving::{PIECE_SIZE, read_piece};
 use crate::sending::send;
 use base_streams::ports::{Inlet, Outlet};
 use base_text::sequence::Frames;
@@ -111,7 +112,7 @@ pub fn heartbeat<I: Inlet, W: Outlet>(alloc: Global, from: &mut I, to: &mut W) -
     requires writable { IsWritable (W.state to.old) }
     ensures blames { Blames result (I.state from.new) (W.state to.new) }
     // What was read of the stream, the messages in it, and what was written of them.
-    ensures echoes { (decoder : DecoderState) × (messages : List (List (List ℕ)))
+    ensures echoes { (decoder : DecoderState) × (messages : Messages)
         × Ends Rep (I.state from.old) (I.state from.new) result decoder messages
         × Echoes (W.state to.old) (W.state to.new) decoder messages result }
 {
@@ -128,7 +129,7 @@ pub fn heartbeat<I: Inlet, W: Outlet>(alloc: Global, from: &mut I, to: &mut W) -
         Ok(()) => {}
         Err(fault) => return fault,
     }
-    for _ in 0..u32::MAX {
+    for _ in peer.reads..u32::MAX {
         match beat(alloc, from, to, &mut peer.decoder) {
             Ok(()) => {}
             Err(fault) => return fault,

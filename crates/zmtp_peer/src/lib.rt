@@ -8,6 +8,6 @@
 pub mod fault;
 pub mod feeding;
 pub mod handshake;
-mod hearing;
 pub mod heartbeat;
+mod receiving;
 mod sending;

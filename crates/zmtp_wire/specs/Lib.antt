@@ -7,3 +7,4 @@ pub mod Progress
 pub mod Roles
 pub mod Stream
 pub mod Writing
+pub mod Wire

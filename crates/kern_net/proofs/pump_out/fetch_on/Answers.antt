@@ -8,7 +8,7 @@ returns-in-Ok-clause-err g c =
     let batch = c.in-Ok.field-0 in
     let end = c.in-Err-write_posts.end in
     let C : List Post → Type 0 =
-    λ posts. Cut c.args.line.now (g.W.Outlet.state c.args.to.now)
+    λ posts. Cut c.args.route.now (g.W.Outlet.state c.args.to.now)
     (g.W.Outlet.state c.write_posts.new.to) posts end in
     let k : c.as_slice.result.now ≡ batch.posts = cc in
     IsCut end batch.posts batch.next batch.ended c.in-Ok.ensures.ok

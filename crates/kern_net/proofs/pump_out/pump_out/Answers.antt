@@ -1,7 +1,7 @@
-use Rattle.std.proofs.Common.{refl, ◌∙◌, inl, arith}
-use Rattle.kern_net.proofs.OutLemmas.{written_first, fetching_none, halted, halted_ends, halted_calls}
-use Rattle.kern_net.proofs.OutLemmas.{went_on, went_reaches, went_round, went_longer, went_done, went_over}
-use Rattle.kern_net.proofs.OutLemmas.{said_yes}
+use Rattle.std.proofs.Common.{refl, ◌∙◌, arith}
+use Rattle.kern_net.specs.Out.{NoFetch}
+use Rattle.kern_net.proofs.OutLemmas.{written_first, halted, halted_ends, halted_calls}
+use Rattle.kern_net.proofs.OutLemmas.{went_on, went_fetched, went_longer, went_done, went_over, said_yes}
 use Rattle.kern_net.proofs.pump_out.pump_out.Goals as goal
 
 pub loop-init : goal.loop-init
@@ -11,39 +11,37 @@ loop-init g c = record {
   good = c.requires.good;
   gate = c.requires.gate;
   written = written_first _ _ _ _;
-  reaches = inl (refl, refl);
-  fetching = fetching_none _ _;
-  asked = omega arith;
-  before = (refl, refl);
+  fetched = NoFetch;
+  polled = omega arith;
 }
 
 pub returns-in-Err-clause-wrote : goal.returns-in-Err-clause-wrote
 returns-in-Err-clause-wrote g c =
     let i = c.loop.invariant in
-    halted _ _ _ _ _ _ _ _ _ i.written i.reaches i.fetching _ c.in-Err.ensures.err
+    halted _ _ _ _ _ _ _ _ _ i.written i.fetched _ c.in-Err.ensures.err
 
 pub returns-in-Err-clause-idle : goal.returns-in-Err-clause-idle
 returns-in-Err-clause-idle g c =
-    let a = c.loop.invariant.asked in
+    let a = c.loop.invariant.polled in
     let h = halted_calls _ _ _ _ _ _ _ c.in-Err.ensures.err in
     omega (arith, a, h)
 
 pub returns-in-Err-clause-ends : goal.returns-in-Err-clause-ends
 returns-in-Err-clause-ends g c =
-    halted_ends _ _ _ _ _ _ (g.G.Gate.asked c.loop.gate) _ c.loop.invariant.gate c.in-Err.ensures.err
+    halted_ends _ _ _ _ _ _ (g.G.WriterGate.polls c.loop.gate) _ c.loop.invariant.gate c.in-Err.ensures.err
 
 pub returns-then-ended-clause-wrote : goal.returns-then-ended-clause-wrote
 returns-then-ended-clause-wrote g c =
-    let i = c.loop.invariant in went_done _ _ _ _ _ _ _ _ _ _ _ _ i.written i.fetching c.in-Ok.ensures.ok
+    let i = c.loop.invariant in went_done _ _ _ _ _ _ _ _ _ _ _ i.written i.fetched c.in-Ok.ensures.ok
 
 pub returns-then-ended-clause-ends : goal.returns-then-ended-clause-ends
 returns-then-ended-clause-ends g c =
-    went_over _ _ _ _ _ _ _ _ (g.G.Gate.asked c.loop.gate) c.loop.invariant.gate c.in-Ok.ensures.good
+    went_over _ _ _ _ _ _ _ _ (g.G.WriterGate.polls c.loop.gate) c.loop.invariant.gate c.in-Ok.ensures.good
     c.if-ended.true c.if-after-next.true c.in-Ok.ensures.ok
 
 pub returns-then-not-idle-clause-wrote : goal.returns-then-not-idle-clause-wrote
 returns-then-not-idle-clause-wrote g c =
-    let i = c.loop.invariant in went_done _ _ _ _ _ _ _ _ _ _ _ _ i.written i.fetching c.in-Ok.ensures.ok
+    let i = c.loop.invariant in went_done _ _ _ _ _ _ _ _ _ _ _ i.written i.fetched c.in-Ok.ensures.ok
 
 pub loop-preserved-else-not-idle : goal.loop-preserved-else-not-idle
 loop-preserved-else-not-idle g c =
@@ -54,27 +52,23 @@ loop-preserved-else-not-idle g c =
       own = c.fetch_on.ensures.same.0;
       seat = c.fetch_on.ensures.same.1 ∙ i.seat;
       good = c.in-Ok.ensures.good;
-      gate = (y.before.1 ∙ i.gate.0, y.no_same ∙ i.gate.1);
+      gate = y.1 ∙ i.gate;
       written = went_on _ _ _ _ _ _ _ _ _ _ i.written s;
-      reaches = went_reaches _ _ _ _ _ _ _ c.args.pass.now _ _ i.fetching s;
-      fetching = went_round _ _ _ _ _ _ _ _ _ i.fetching s;
-      asked = (let a = i.asked in let m = y.more in omega (arith, n, a, m));
-      before = (y.before.0 ∙ i.before.0, y.before.1 ∙ i.before.1);
+      fetched = went_fetched _ _ _ _ _ _ _ _ _ _ i.fetched s;
+      polled = (let a = i.polled in let m = y.0 in omega (arith, n, a, m));
     }
 
 pub loop-preserved : goal.loop-preserved
 loop-preserved g c =
     let i = c.loop.invariant in let s = c.in-Ok.ensures.ok in
     let n = went_longer _ _ _ _ _ _ _ _ s in
-    let a = i.asked in
+    let a = i.polled in
     record {
       own = c.fetch_on.ensures.same.0;
       seat = c.fetch_on.ensures.same.1 ∙ i.seat;
       good = c.in-Ok.ensures.good;
       gate = i.gate;
       written = went_on _ _ _ _ _ _ _ _ _ _ i.written s;
-      reaches = went_reaches _ _ _ _ _ _ _ c.args.pass.now _ _ i.fetching s;
-      fetching = went_round _ _ _ _ _ _ _ _ _ i.fetching s;
-      asked = omega (arith, n, a);
-      before = i.before;
+      fetched = went_fetched _ _ _ _ _ _ _ _ _ _ i.fetched s;
+      polled = omega (arith, n, a);
     }

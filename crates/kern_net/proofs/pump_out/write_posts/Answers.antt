@@ -10,7 +10,7 @@ returns-in_default-clause-err g c = IsUnfit OutOfMemory refl refl c.requires
 pub returns-clause-err : goal.returns-clause-err
 returns-clause-err g c =
     IsFailed WriteFailed refl
-    (front_of c.args.line.now (g.W.Outlet.state c.args.to.now)
+    (front_of c.args.route.now (g.W.Outlet.state c.args.to.now)
     (g.W.Outlet.state c.write_all.new.to) c.args.posts.now
     c.in-Ok.bytes.items c.as_slice.result.now c.in-Ok.ensures c.as_slice.ensures.value
     c.write_all.ensures.front)

@@ -1,12 +1,13 @@
-use Rattle.kern_net.proofs.AnswerLemmas.{heard}
-use Rattle.kern_net.proofs.WorkLemmas.{slice_err}
+use Rattle.std.proofs.Common.{◌∙◌, ap, Some}
+use Rattle.kern_net.proofs.AnswerLemmas.{answered}
+use Rattle.kern_net.proofs.WorkLemmas.{saw_shutdown}
 use Rattle.kern_net.proofs.worker.slice.Goals as goal
 
-pub outcome_of-requires : goal.outcome_of-requires
-outcome_of-requires g c =
-    heard c.args.pass.now c.turn.new.pass c.unix_seconds-unix_seconds.result c.in-Ok.answer c.in-Ok.ensures.ok
+pub progress_of-requires : goal.progress_of-requires
+progress_of-requires g c =
+    answered c.args.pass.now c.turn.new.pass c.unix_seconds-unix_seconds.result c.in-Ok.answer c.in-Ok.ensures.ok
 
-pub returns-in-Ok-clause-err : goal.returns-in-Ok-clause-err
-returns-in-Ok-clause-err g c =
-    slice_err c.args.pass.now c.turn.new.pass c.unix_seconds-unix_seconds.result c.in-Ok.answer c.outcome_of.result
-    c.in-Ok.ensures.ok c.outcome_of.ensures
+pub returns-in-Ok-progress_of-clause-shut_down : goal.returns-in-Ok-progress_of-clause-shut_down
+returns-in-Ok-progress_of-clause-shut_down g c = λ is.
+    saw_shutdown c.args.pass.now c.turn.new.pass c.unix_seconds-unix_seconds.result c.in-Ok.answer _
+    c.in-Ok.ensures.ok (c.progress_of.ensures ∙ ap Some c.in-Ok-progress_of.is) is

@@ -1,4 +1,4 @@
-use Rattle.std.proofs.Common.{[]}
+use Rattle.std.proofs.Common.{◌≡◌, []}
 use Rattle.base_streams.specs.States.{InletState, IsReadable}
 use Rattle.lab_term.specs.Reading.{Holds}
 use Rattle.lab_term.proofs.CourseLemmas.{Waiting}
@@ -7,6 +7,7 @@ use Rattle.lab_term.proofs.follow.await_status.Given as goal
 abbrev pub invariant-loop : goal.invariant-loop
 invariant-loop g l = record {
   readable : IsReadable (g.I.Inlet.state l.from);
-  waiting : (before : InletState) → Holds before (g.I.Inlet.state l.fn.from) l.fn.subscriber [] 0
-      → Waiting l.key before (g.I.Inlet.state l.from) l.subscriber l.counter;
+  reads : l.subscriber.reads ≡ l.counter;
+  waiting : (before : InletState) → Holds before (g.I.Inlet.state l.fn.from) l.fn.subscriber []
+      → Waiting l.key before (g.I.Inlet.state l.from) l.subscriber;
 }

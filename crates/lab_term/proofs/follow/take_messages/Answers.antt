@@ -11,9 +11,10 @@ returns-in-Err-clause-cut g c =
 pub returns-then-course-clause-takes : goal.returns-then-course-clause-takes
 returns-then-course-clause-takes g c =
     takes_idle _ _ c.loop-frames.queue.items c.pop_front.new.self.items c.in-Some.frames _ _ _
-    c.loop-frames.course.has_failed c.in-Ok.next c.joined-course.result
+    c.loop-frames.course.has_failed c.in-Ok.next c.course_after-course.result
     c.in-Some.ensures.items c.loop-frames.invariant.going c.in-Ok.ensures.takes
-    (sym c.joined-course.ensures.idle ∙ c.if-course.true) c.if-course.true c.joined-course.ensures.failed
+    (sym c.course_after-course.ensures.idle ∙ c.if-course.true) c.if-course.true
+    c.course_after-course.ensures.failed
 
 pub loop-frames-preserved : goal.loop-frames-preserved
 loop-frames-preserved g c = record {
@@ -22,7 +23,7 @@ loop-frames-preserved g c = record {
   going =
       busy_by _ _ c.loop-frames.queue.items c.pop_front.new.self.items c.in-Some.frames _ _ _
       c.loop-frames.course.has_failed _ c.in-Ok.next
-      c.joined-course.ensures.failed (sym c.joined-course.ensures.idle ∙ c.if-course.false)
+      c.course_after-course.ensures.failed (sym c.course_after-course.ensures.idle ∙ c.if-course.false)
       c.in-Some.ensures.items c.loop-frames.invariant.going
       c.in-Ok.ensures.takes;
 }

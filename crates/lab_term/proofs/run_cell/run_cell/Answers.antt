@@ -1,10 +1,42 @@
 use Rattle.std.proofs.Common.{refl}
 use Rattle.std.proofs.lemmas.Result.{IfOk-weaker, IfErr-weaker}
 use Rattle.lab_term.specs.Connections.{client_of}
+use Rattle.lab_term.specs.Stopping.{HandshakeFront, SubscriptionFront, Subscribed, AtShell, AtIopub}
 use Rattle.lab_term.proofs.CourseLemmas.{ran_by}
-use Rattle.lab_term.proofs.StopLemmas.{cause_iopub, cause_stalls, causes_followed, stopped_asking}
+use Rattle.lab_term.proofs.StopLemmas.{cause_iopub, cause_stalls, causes_followed, stopped_requesting}
 use Rattle.lab_term.proofs.StopLemmas.{stopped_after}
 use Rattle.lab_term.proofs.run_cell.run_cell.Goals as goal
+
+pub returns-in-Err-clause-stopped : goal.returns-in-Err-clause-stopped
+returns-in-Err-clause-stopped g c = AtShell c.in-Err.ensures.front refl
+
+pub returns-in-Err-greet-clause-stopped : goal.returns-in-Err-greet-clause-stopped
+returns-in-Err-greet-clause-stopped g c =
+    AtIopub c.in-Ok.ensures.whole (HandshakeFront c.in-Err-greet.ensures.front) refl
+
+pub returns-in-Err-subscribe-clause-stopped : goal.returns-in-Err-subscribe-clause-stopped
+returns-in-Err-subscribe-clause-stopped g c =
+    AtIopub c.in-Ok.ensures.whole (SubscriptionFront (record {
+      between = g.W.Outlet.state c.greet-2.new.connection.to;
+      handshake = c.in-Ok-greet.ensures.whole;
+      front = c.in-Err-subscribe.ensures.front;
+    })) refl
+
+pub returns-in-Err-subscriber_of-clause-stopped : goal.returns-in-Err-subscriber_of-clause-stopped
+returns-in-Err-subscriber_of-clause-stopped g c =
+    AtIopub c.in-Ok.ensures.whole (Subscribed (record {
+      between = g.W.Outlet.state c.greet-2.new.connection.to;
+      handshake = c.in-Ok-greet.ensures.whole;
+      took = c.in-Ok-subscribe.ensures.whole;
+    })) refl
+
+pub returns-in-Err-await_status-clause-stopped : goal.returns-in-Err-await_status-clause-stopped
+returns-in-Err-await_status-clause-stopped g c =
+    AtIopub c.in-Ok.ensures.whole (Subscribed (record {
+      between = g.W.Outlet.state c.greet-2.new.connection.to;
+      handshake = c.in-Ok-greet.ensures.whole;
+      took = c.in-Ok-subscribe.ensures.whole;
+    })) refl
 
 pub returns-in-Err-greet-clause-cause : goal.returns-in-Err-greet-clause-cause
 returns-in-Err-greet-clause-cause g c =
@@ -16,7 +48,7 @@ returns-in-Err-greet-clause-cause g c =
 pub returns-in-Err-await_status-clause-cause : goal.returns-in-Err-await_status-clause-cause
 returns-in-Err-await_status-clause-cause g c =
     let client = client_of g.I.Inlet.state g.W.Outlet.state g.O.Outlet.state in
-    let holds = c.in-Ok-subscriber_of.ensures.holds _ _ 0 c.in-Ok-greet.ensures.heard in
+    let holds = c.in-Ok-subscriber_of.ensures.holds _ _ c.in-Ok-greet.ensures.received in
     let to = g.O.Outlet.state c.args.output.now in
     cause_stalls _ (client c.args.shell.now c.args.iopub.now c.args.output.now)
     (client c.greet.new.connection
@@ -26,16 +58,16 @@ returns-in-Err-await_status-clause-cause g c =
 
 pub returns-in-Err-request-clause-stopped : goal.returns-in-Err-request-clause-stopped
 returns-in-Err-request-clause-stopped g c =
-    let holds = c.in-Ok-subscriber_of.ensures.holds _ _ 0 c.in-Ok-greet.ensures.heard in
+    let holds = c.in-Ok-subscriber_of.ensures.holds _ _ c.in-Ok-greet.ensures.received in
     let w = c.in-Ok-await_status.ensures.waited _ holds in
-    stopped_asking _ _ _ (g.W.Outlet.state c.greet.new.connection.to)
+    stopped_requesting _ _ _ (g.W.Outlet.state c.greet.new.connection.to)
     (g.W.Outlet.state c.greet-2.new.connection.to) c.await_status.new.subscriber c.in-Err-request.fault
     c.in-Ok.ensures.whole c.in-Err-request.ensures.front c.in-Ok-greet.ensures.whole
     c.in-Ok-subscribe.ensures.whole w refl
 
 pub returns-clause-ran : goal.returns-clause-ran
 returns-clause-ran g c =
-    let holds = c.in-Ok-subscriber_of.ensures.holds _ _ 0 c.in-Ok-greet.ensures.heard in
+    let holds = c.in-Ok-subscriber_of.ensures.holds _ _ c.in-Ok-greet.ensures.received in
     let w = c.in-Ok-await_status.ensures.waited _ holds in
     let cell = c.args.cell.now in
     IfOk-weaker c.follow.result _ _
@@ -49,7 +81,7 @@ returns-clause-ran g c =
 
 pub returns-clause-stopped : goal.returns-clause-stopped
 returns-clause-stopped g c =
-    let holds = c.in-Ok-subscriber_of.ensures.holds _ _ 0 c.in-Ok-greet.ensures.heard in
+    let holds = c.in-Ok-subscriber_of.ensures.holds _ _ c.in-Ok-greet.ensures.received in
     let w = c.in-Ok-await_status.ensures.waited _ holds in
     let cell = c.args.cell.now in
     IfErr-weaker c.follow.result _ _
@@ -64,7 +96,7 @@ returns-clause-stopped g c =
 pub returns-clause-cause : goal.returns-clause-cause
 returns-clause-cause g c =
     let client = client_of g.I.Inlet.state g.W.Outlet.state g.O.Outlet.state in
-    let holds = c.in-Ok-subscriber_of.ensures.holds _ _ 0 c.in-Ok-greet.ensures.heard in
+    let holds = c.in-Ok-subscriber_of.ensures.holds _ _ c.in-Ok-greet.ensures.received in
     let w = c.in-Ok-await_status.ensures.waited _ holds in
     causes_followed c.follow.result _ (client c.args.shell.now c.args.iopub.now c.args.output.now)
     (client (record { from = c.greet.new.connection.from; to = c.request.new.to })

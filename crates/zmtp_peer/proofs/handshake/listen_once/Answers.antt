@@ -1,29 +1,30 @@
 use Rattle.std.proofs.Common.{◌∙◌, sym}
-use Rattle.zmtp_peer.proofs.HearingLemmas.{heard_on, lost_memory, lost_wire, taken_size, unready_by}
+use Rattle.zmtp_peer.proofs.ReceivingLemmas.{received_on, lost_memory, lost_stop, lost_wire, unready_by}
 use Rattle.zmtp_peer.proofs.handshake.listen_once.Goals as goal
 
+pub returns-in-Err-clause-lost : goal.returns-in-Err-clause-lost
+returns-in-Err-clause-lost g c = λ before received.
+    lost_stop before _ _ _ c.in-Err.fault c.requires.unready c.requires.left c.in-Err.ensures.stops
+    c.in-Err.ensures.given c.read_piece.ensures.reads received
+
 pub returns-in_default-clause-lost : goal.returns-in_default-clause-lost
-returns-in_default-clause-lost g c =
-    λ before least heard. lost_memory before _ _ _ _ _ least c.in-Ok.ensures.given heard
+returns-in_default-clause-lost g c = λ before received.
+    lost_memory before _ _ _ _ c.requires.left c.in-Ok.ensures.given c.read_piece.ensures.reads received
 
 pub returns-in-Some-clause-lost : goal.returns-in-Some-clause-lost
-returns-in-Some-clause-lost g c = λ before least heard.
-    let fits = taken_size c.in-Ok.count c.read_piece.new.buffer c.in-Ok.ensures.count.1 in
-    let on =
-    heard_on before _ _ _ c.feed.new.decoder _ _ _ least c.in-Ok.count c.requires.unready
-    c.in-Ok-feed.ensures.completes c.in-Ok.ensures.given fits heard in
-    lost_wire before _ _ c.feed.new.decoder _ _ c.in-Some.cause c.in-Ok-feed.ensures.completes.role
+returns-in-Some-clause-lost g c = λ before received.
+    lost_wire before _ _ _ c.in-Some.cause c.in-Ok-feed.ensures.completes.role
     (unready_by _ c.feed.new.decoder c.is_ready.ensures c.if-not-is_ready.true)
-    (sym c.in-Ok-feed.ensures.broken ∙ c.in-Some.is) on
+    (sym c.in-Ok-feed.ensures.broken ∙ c.in-Some.is)
+    (received_on before _ _ _ c.feed.new.decoder _ _ c.requires.unready c.requires.left
+    c.in-Ok-feed.ensures.completes c.in-Ok.ensures.given c.read_piece.ensures.reads received)
 
-pub returns-in-Some-2-clause-heard : goal.returns-in-Some-2-clause-heard
-returns-in-Some-2-clause-heard g c = λ before least heard.
-    let fits = taken_size c.in-Ok.count c.read_piece.new.buffer c.in-Ok.ensures.count.1 in
-    heard_on before _ _ _ c.feed.new.decoder _ _ _ least c.in-Ok.count c.requires.unready
-    c.in-Ok-feed.ensures.completes c.in-Ok.ensures.given fits heard
+pub returns-in-Some-2-clause-received : goal.returns-in-Some-2-clause-received
+returns-in-Some-2-clause-received g c = λ before received.
+    received_on before _ _ _ c.feed.new.decoder _ _ c.requires.unready c.requires.left
+    c.in-Ok-feed.ensures.completes c.in-Ok.ensures.given c.read_piece.ensures.reads received
 
-pub returns-in-Some-2-2-clause-heard : goal.returns-in-Some-2-2-clause-heard
-returns-in-Some-2-2-clause-heard g c = λ before least heard.
-    let fits = taken_size c.in-Ok.count c.read_piece.new.buffer c.in-Ok.ensures.count.1 in
-    heard_on before _ _ _ c.feed.new.decoder _ _ _ least c.in-Ok.count c.requires.unready
-    c.in-Ok-feed.ensures.completes c.in-Ok.ensures.given fits heard
+pub returns-in-Some-2-2-clause-received : goal.returns-in-Some-2-2-clause-received
+returns-in-Some-2-2-clause-received g c = λ before received.
+    received_on before _ _ _ c.feed.new.decoder _ _ c.requires.unready c.requires.left
+    c.in-Ok-feed.ensures.completes c.in-Ok.ensures.given c.read_piece.ensures.reads received

@@ -1,7 +1,6 @@
 use Rattle.std.proofs.Common.{[], arith}
-use Rattle.zmtp_peer.proofs.HearingLemmas.{told_none}
-use Rattle.zmtp_peer.proofs.EchoLemmas.{beats_first, beats_piece, beats_round, ended_early, ended_first}
-use Rattle.zmtp_peer.proofs.EchoLemmas.{ended_most, ended_round, round_lost}
+use Rattle.zmtp_peer.proofs.EchoLemmas.{beats_first, beats_none, beats_round, ended_beat, ended_early, ended_first}
+use Rattle.zmtp_peer.proofs.EchoLemmas.{ended_most, ended_none}
 use Rattle.zmtp_peer.proofs.heartbeat.heartbeat.Goals as goal
 
 pub returns-in-Err-clause-echoes : goal.returns-in-Err-clause-echoes
@@ -10,43 +9,39 @@ returns-in-Err-clause-echoes g c =
 
 pub returns-in-Err-echo-clause-echoes : goal.returns-in-Err-echo-clause-echoes
 returns-in-Err-echo-clause-echoes g c =
-    ended_first _ _ _ _ _ c.in-Ok.peer.decoder c.in-Ok.peer.messages c.in-Err-echo.fault c.in-Ok.ensures.role
-    c.in-Ok.ensures.heard c.in-Ok.ensures.whole c.in-Err-echo.ensures.1 c.in-Err-echo.ensures.0
+    ended_first _ _ _ _ _ c.in-Ok.peer c.in-Err-echo.fault c.in-Ok.ensures.role
+    c.in-Ok.ensures.received c.in-Ok.ensures.whole c.in-Err-echo.ensures.1 c.in-Err-echo.ensures.0
 
 pub returns-in-Err-echo_piece-clause-echoes : goal.returns-in-Err-echo_piece-clause-echoes
 returns-in-Err-echo_piece-clause-echoes g c =
-    let first =
-    beats_first _ _ _ _ _ c.in-Ok.peer.decoder c.in-Ok.peer.messages c.in-Ok.ensures.role
-    c.in-Ok.ensures.heard c.in-Ok.ensures.whole c.in-Ok-echo.ensures.0 in
-    ended_round _ _ _ _ _ _ c.in-Ok.peer.decoder c.echo_piece.new.decoder 0 c.in-Err-echo_piece.fault
-    (round_lost _ _ [] c.in-Ok.peer.decoder c.echo_piece.new.decoder _ _ c.in-Err-echo_piece.fault (told_none _)
-    c.in-Err-echo_piece.ensures.err) first
+    ended_none _ _ _ _ _ c.in-Ok.peer.decoder c.echo_piece.new.decoder c.in-Ok.peer.reads c.in-Err-echo_piece.fault
+    c.in-Err-echo_piece.ensures.err
+    (beats_first _ _ _ _ _ c.in-Ok.peer c.in-Ok.ensures.role c.in-Ok.ensures.received c.in-Ok.ensures.whole
+    c.in-Ok-echo.ensures.0)
 
 pub loop-init : goal.loop-init
-loop-init g c =
-    let first =
-    beats_first _ _ _ _ _ c.in-Ok.peer.decoder c.in-Ok.peer.messages c.in-Ok.ensures.role
-    c.in-Ok.ensures.heard c.in-Ok.ensures.whole c.in-Ok-echo.ensures.0 in
-    record {
-      readable = c.in-Ok.ensures.good.0;
-      writable = c.in-Ok-echo_piece.ensures.good;
-      beats =
-          beats_piece _ _ _ _ _ _ [] c.in-Ok.peer.decoder c.echo_piece.new.decoder 0 0 (omega arith) (told_none _)
-          c.in-Ok-echo_piece.ensures.ok first;
-    }
+loop-init g c = record {
+  readable = c.in-Ok.ensures.good.0;
+  writable = c.in-Ok-echo_piece.ensures.good;
+  beats =
+      beats_none _ _ _ _ _ c.in-Ok.peer.decoder c.echo_piece.new.decoder c.in-Ok.peer.reads
+      c.in-Ok-echo_piece.ensures.ok
+      (beats_first _ _ _ _ _ c.in-Ok.peer c.in-Ok.ensures.role c.in-Ok.ensures.received c.in-Ok.ensures.whole
+      c.in-Ok-echo.ensures.0);
+}
 
 pub returns-in-Err-beat-clause-echoes : goal.returns-in-Err-beat-clause-echoes
 returns-in-Err-beat-clause-echoes g c =
-    ended_round _ _ _ _ _ _ c.loop.peer.decoder c.beat.new.decoder c.loop.counter c.in-Err-beat.fault
-    c.in-Err-beat.ensures.lost c.loop.invariant.beats
+    ended_beat _ _ _ _ _ _ c.loop.peer.decoder c.beat.new.decoder c.loop.counter c.in-Err-beat.fault
+    (omega (arith, c.loop-test.true)) c.in-Err-beat.ensures.lost c.loop.invariant.beats
 
 pub loop-preserved : goal.loop-preserved
 loop-preserved g c = record {
   readable = c.in-Ok-beat.ensures.good.0;
   writable = c.in-Ok-beat.ensures.good.1;
   beats =
-      beats_round _ _ _ _ _ _ c.loop.peer.decoder c.beat.new.decoder c.loop.counter c.in-Ok-beat.ensures.ok
-      c.loop.invariant.beats;
+      beats_round _ _ _ _ _ _ c.loop.peer.decoder c.beat.new.decoder c.loop.counter
+      (omega (arith, c.loop-test.true)) c.in-Ok-beat.ensures.ok c.loop.invariant.beats;
 }
 
 pub returns-clause-echoes : goal.returns-clause-echoes

@@ -1,7 +1,7 @@
 use Rattle.std.proofs.Common.{◌∙◌, sym}
 use Rattle.std.proofs.lemmas.Bool.{false≢true}
-use Rattle.kern_net.proofs.AskLemmas.{refused_message}
-use Rattle.kern_net.proofs.asking.opened.Goals as goal
+use Rattle.kern_net.proofs.SubmitLemmas.{refused_message}
+use Rattle.kern_net.proofs.submitting.message_in.Goals as goal
 
 pub returns-else-eq-clause-none : goal.returns-else-eq-clause-none
 returns-else-eq-clause-none c =

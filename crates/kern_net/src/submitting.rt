@@ -1,4 +1,4 @@
-//! Asking for one message.
+//! Submitting what one message asks for.
 ghost use Rattle.std.specs.Prelude.{◌≡◌, ◌≤◌, ◌⊎◌, ◌++◌, ◌∷◌, [], true, false, OnOk, OnErr, Ok, Err, IfOk, IfErr};
 ghost use mathlib.Core.List.{IsPrefix};
 ghost use Rattle.std.specs.Prelude.{IfSome, IfNone};
@@ -9,13 +9,14 @@ ghost use Rattle.kern_request.specs.Requests.{request_of as request_in};
 ghost use Rattle.kern_core.specs.declared.call.Call.TheVariants.{Arrive, Subscribe};
 ghost use Rattle.kern_core.specs.declared.call.Reply.{Reply};
 ghost use Rattle.kern_net.specs.Calls.{TurnedBy};
-ghost use Rattle.kern_net.specs.Asking.{subscription_frames, IsUnopened, IsNoSubscription};
+ghost use Rattle.kern_net.specs.Gates.{WokeForEach};
+ghost use Rattle.kern_net.specs.Submitting.{subscription_frames, IsUnopened, IsNoSubscription};
 ghost use Rattle.kern_net.specs.ReadEnds.{IsReaderCall, IsRefusal, StopsBy};
-ghost use Rattle.kern_net.specs.Reading.{AskedFor};
+ghost use Rattle.kern_net.specs.Reading.{SubmittedFor};
 
 use crate::end::PumpEnd;
-use crate::gate::Gate;
-use crate::pump_in::Place;
+use crate::gate::ReaderGate;
+use crate::pump_in::IncomingRoute;
 use base_text::sequence::{Bytes, Frames};
 use jup_wire::channel::Channel;
 use jup_wire::message::{Message, WireFault};
@@ -39,9 +40,9 @@ fn refusal(answer: Result<Reply, KernelFault>) -> Result<(), KernelFault>
     }
 }
 
-// Makes one turn, and wakes those that wait for what it may have changed.
+// Makes one turn, and wakes others where its call stands in the journal.
 #[tactic(auto, using(crate::proofs::ReadTurnLemmas::stops_full, crate::proofs::ReadTurnLemmas::stops_unknown, crate::proofs::ReadTurnLemmas::stops_journal_full, crate::proofs::ReadTurnLemmas::never_lagged, crate::proofs::ReadTurnLemmas::call_granted, crate::proofs::ReadTurnLemmas::worn_onward, crate::proofs::ReadTurnLemmas::refuses_worn, crate::proofs::ReadTurnLemmas::refuses_memory, crate::proofs::ReadTurnLemmas::refuses_journal_full, crate::proofs::ReadTurnLemmas::refuses_full, crate::proofs::ReadTurnLemmas::refuses_unknown, crate::proofs::CallLemmas::turned_prefix))]
-fn make_call<R: Wait, G: Gate>(
+fn make_call<R: Wait, G: ReaderGate>(
     rt: &R,
     desk: &Desk,
     pass: &mut Pass,
@@ -51,7 +52,7 @@ fn make_call<R: Wait, G: Gate>(
     requires own { pass.old.turnstile ≡ desk.now }
     requires read { IsReaderCall call }
     ensures same { (pass.new.turnstile ≡ desk.now) × (pass.new.seat ≡ pass.old.seat) }
-    ensures gate { G.asked gate.new ≡ G.asked gate.old }
+    ensures woke { WokeForEach pass.old pass.new (G.polls gate.old) (G.polls gate.new) }
     ensures ok { OnOk result ((reply : Reply) × TurnedBy pass.old call (Ok reply) pass.new) }
     ensures err { IfErr result (λ e. StopsBy e pass.old.calls pass.new) }
     ensures onward { OnErr result (IsPrefix pass.old.seen pass.new.seen) }
@@ -61,13 +62,21 @@ fn make_call<R: Wait, G: Gate>(
     let Ok(answer) = desk.turn(rt, pass, call) else {
         return Err(PumpEnd::Worn);
     };
-    gate.wake(rt);
     match refusal(answer) {
-        Ok(()) => Ok(()),
+        Ok(()) => {
+            gate.wake(rt);
+            Ok(())
+        }
         Err(KernelFault::OutOfMemory) => Err(PumpEnd::OutOfMemory),
         Err(KernelFault::JournalFull) => Err(PumpEnd::JournalFull),
-        Err(KernelFault::Full) => Err(PumpEnd::Refused(KernelFault::Full)),
-        Err(KernelFault::NoConnection) => Err(PumpEnd::Refused(KernelFault::NoConnection)),
+        Err(KernelFault::Full) => {
+            gate.wake(rt);
+            Err(PumpEnd::Refused(KernelFault::Full))
+        }
+        Err(KernelFault::NoConnection) => {
+            gate.wake(rt);
+            Err(PumpEnd::Refused(KernelFault::NoConnection))
+        }
         Err(KernelFault::Lagged { .. }) => Err(PumpEnd::Lagged),
     }
 }
@@ -129,14 +138,14 @@ fn subscribe_call(
 
 fn arrive_call(
     alloc: Global,
-    place: &Place<'_>,
+    route: &IncomingRoute<'_>,
     message: Message,
     unix_seconds: u64,
 ) -> Result<Call, AllocError>
-    ensures { IfOk result (λ call. call ≡ Arrive place.now.connection
-        (record { request = request_in place.now.channel message; unix_seconds = unix_seconds })) }
+    ensures { IfOk result (λ call. call ≡ Arrive route.now.connection
+        (record { request = request_in route.now.channel message; unix_seconds = unix_seconds })) }
 {
-    let request = request_of(alloc, place.channel, message)?;
+    let request = request_of(alloc, route.channel, message)?;
     let arrival = Held::new(
         alloc,
         Arrival {
@@ -145,14 +154,14 @@ fn arrive_call(
         },
     )?;
     Ok(Call::Arrive {
-        connection: place.connection,
+        connection: route.connection,
         arrival,
     })
 }
 
 // The message that these frames are, if they are one.
-#[tactic(auto, using(crate::proofs::AskLemmas::refused_message))]
-fn opened(alloc: Global, frames: Frames, key: &[u8]) -> Result<Option<Message>, AllocError>
+#[tactic(auto, using(crate::proofs::SubmitLemmas::refused_message))]
+fn message_in(alloc: Global, frames: Frames, key: &[u8]) -> Result<Option<Message>, AllocError>
     ensures some { IfOk result (λ found.
         IfSome found (λ m. IsMessage key.now frames m.parts m.header (view m.content))) }
     ensures none { IfOk result (λ found. IfNone found (IsUnopened key.now frames)) }
@@ -168,27 +177,27 @@ fn opened(alloc: Global, frames: Frames, key: &[u8]) -> Result<Option<Message>, 
     }
 }
 
-#[tactic(auto, using(crate::proofs::AskLemmas::no_subscription, crate::proofs::AskLemmas::asked_none))]
-fn subscribe<R: Wait, G: Gate>(
+#[tactic(auto, using(crate::proofs::SubmitLemmas::no_subscription, crate::proofs::SubmitLemmas::submitted_none))]
+fn subscribe<R: Wait, G: ReaderGate>(
     rt: &R,
     alloc: Global,
     pass: &mut Pass,
     gate: &mut G,
-    place: &Place<'_>,
+    route: &IncomingRoute<'_>,
     frames: &Frames,
 ) -> Result<(), PumpEnd>
-    requires own { pass.old.turnstile ≡ place.now.desk.now }
-    requires iopub { place.now.channel ≡ Iopub }
-    ensures same { (pass.new.turnstile ≡ place.now.desk.now) × (pass.new.seat ≡ pass.old.seat) }
-    ensures gate { G.asked gate.new ≡ G.asked gate.old }
-    ensures asked { AskedFor place.now (frames.now ∷ []) pass.old pass.new result }
+    requires own { pass.old.turnstile ≡ route.now.desk.now }
+    requires iopub { route.now.channel ≡ Iopub }
+    ensures same { (pass.new.turnstile ≡ route.now.desk.now) × (pass.new.seat ≡ pass.old.seat) }
+    ensures woke { WokeForEach pass.old pass.new (G.polls gate.old) (G.polls gate.new) }
+    ensures submitted { SubmittedFor route.now (frames.now ∷ []) pass.old pass.new result }
 {
     let Some(Wanted { wants, prefix }) = wanted_in(frames) else {
         return Ok(());
     };
     let unix_seconds = gate.unix_seconds(rt);
-    match subscribe_call(alloc, place.connection, wants, prefix, unix_seconds) {
-        Ok(call) => match make_call(rt, place.desk, pass, gate, call) {
+    match subscribe_call(alloc, route.connection, wants, prefix, unix_seconds) {
+        Ok(call) => match make_call(rt, route.desk, pass, gate, call) {
             Ok(()) => Ok(()),
             Err(end) => Err(end),
         },
@@ -196,26 +205,26 @@ fn subscribe<R: Wait, G: Gate>(
     }
 }
 
-#[tactic(auto, using(crate::proofs::AskLemmas::unopened, crate::proofs::AskLemmas::asked_none))]
-fn arrive<R: Wait, G: Gate>(
+#[tactic(auto, using(crate::proofs::SubmitLemmas::unopened, crate::proofs::SubmitLemmas::submitted_none))]
+fn arrive<R: Wait, G: ReaderGate>(
     rt: &R,
     alloc: Global,
     pass: &mut Pass,
     gate: &mut G,
-    place: &Place<'_>,
+    route: &IncomingRoute<'_>,
     frames: Frames,
 ) -> Result<(), PumpEnd>
-    requires own { pass.old.turnstile ≡ place.now.desk.now }
-    requires other { place.now.channel ≡ Iopub → ⊥ }
-    ensures same { (pass.new.turnstile ≡ place.now.desk.now) × (pass.new.seat ≡ pass.old.seat) }
-    ensures gate { G.asked gate.new ≡ G.asked gate.old }
-    ensures asked { AskedFor place.now (frames ∷ []) pass.old pass.new result }
+    requires own { pass.old.turnstile ≡ route.now.desk.now }
+    requires other { route.now.channel ≡ Iopub → ⊥ }
+    ensures same { (pass.new.turnstile ≡ route.now.desk.now) × (pass.new.seat ≡ pass.old.seat) }
+    ensures woke { WokeForEach pass.old pass.new (G.polls gate.old) (G.polls gate.new) }
+    ensures submitted { SubmittedFor route.now (frames ∷ []) pass.old pass.new result }
 {
-    match opened(alloc, frames, place.key) {
+    match message_in(alloc, frames, route.key) {
         Ok(Some(message)) => {
             let unix_seconds = gate.unix_seconds(rt);
-            match arrive_call(alloc, place, message, unix_seconds) {
-                Ok(call) => match make_call(rt, place.desk, pass, gate, call) {
+            match arrive_call(alloc, route, message, unix_seconds) {
+                Ok(call) => match make_call(rt, route.desk, pass, gate, call) {
                     Ok(()) => Ok(()),
                     Err(end) => Err(end),
                 },
@@ -227,22 +236,22 @@ fn arrive<R: Wait, G: Gate>(
     }
 }
 
-/// Asks for one message, if it asks for anything.
-pub(crate) fn ask_for<R: Wait, G: Gate>(
+/// Submits what one message asks for, if that is anything.
+pub(crate) fn submit<R: Wait, G: ReaderGate>(
     rt: &R,
     alloc: Global,
     pass: &mut Pass,
     gate: &mut G,
-    place: &Place<'_>,
+    route: &IncomingRoute<'_>,
     frames: Frames,
 ) -> Result<(), PumpEnd>
-    requires { pass.old.turnstile ≡ place.now.desk.now }
-    ensures same { (pass.new.turnstile ≡ place.now.desk.now) × (pass.new.seat ≡ pass.old.seat) }
-    ensures gate { G.asked gate.new ≡ G.asked gate.old }
-    ensures asked { AskedFor place.now (frames ∷ []) pass.old pass.new result }
+    requires { pass.old.turnstile ≡ route.now.desk.now }
+    ensures same { (pass.new.turnstile ≡ route.now.desk.now) × (pass.new.seat ≡ pass.old.seat) }
+    ensures woke { WokeForEach pass.old pass.new (G.polls gate.old) (G.polls gate.new) }
+    ensures submitted { SubmittedFor route.now (frames ∷ []) pass.old pass.new result }
 {
-    if place.channel == Channel::Iopub {
-        return subscribe(rt, alloc, pass, gate, place, &frames);
+    if route.channel == Channel::Iopub {
+        return subscribe(rt, alloc, pass, gate, route, &frames);
     }
-    arrive(rt, alloc, pass, gate, place, frames)
+    arrive(rt, alloc, pass, gate, route, frames)
 }

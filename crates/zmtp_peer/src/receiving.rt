@@ -1,7 +1,7 @@
 //! Reading from a peer.
 ghost use Rattle.std.specs.Prelude.{◌<◌, ◌≤◌, [], take, length, IfOk, IfErr, OnOk, MatchResult};
 ghost use Rattle.base_streams.specs.States.{IsReadable};
-ghost use Rattle.base_streams.specs.Told.{Gave};
+ghost use Rattle.base_streams.specs.Told.{Gave, WasRead};
 ghost use Rattle.zmtp_peer.specs.Ends.{Stops};
 
 use crate::fault::PeerFault;
@@ -20,6 +20,7 @@ pub(crate) fn read_piece<I: Inlet>(
     ensures given { MatchResult result
         (λ n. Gave (I.state from.old) (I.state from.new) (take n buffer.new))
         (λ _. Gave (I.state from.old) (I.state from.new) []) }
+    ensures reads { WasRead (I.state from.old) (I.state from.new) 1 }
     ensures good { OnOk result (IsReadable (I.state from.new)) }
     ensures stops { IfErr result (λ fault. Stops fault (I.state from.new)) }
 {

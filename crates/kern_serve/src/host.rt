@@ -1,0 +1,15 @@
+//! What a server needs of its host.
+use std::net::{Net, TcpListener, TcpStream};
+use std::rt::Clock;
+use std::sync::Wait;
+use std::thread::Threads;
+
+/// Waiting, time and threads, to which it may be handed.
+pub trait Host: Wait + Clock + Threads + Clone + Send + Sync + Drop + 'static {}
+
+impl<R: Wait + Clock + Threads + Clone + Send + Sync + Drop + 'static> Host for R {}
+
+/// TCP sockets of the system.
+pub trait TcpNet: Net<Listener = TcpListener, Stream = TcpStream> {}
+
+impl<R: Net<Listener = TcpListener, Stream = TcpStream>> TcpNet for R {}
