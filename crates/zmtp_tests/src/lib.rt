@@ -8,4 +8,6 @@
 #[cfg(test)]
 mod framing;
 #[cfg(test)]
+mod interruptions;
+#[cfg(test)]
 mod peers;

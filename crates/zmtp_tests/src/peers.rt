@@ -12,12 +12,12 @@ use zmtp_peer::heartbeat::heartbeat;
 use zmtp_wire::fault::StreamFault;
 use zmtp_wire::role::Role;
 
-const REQ: &str = "04190552454144590B536F636B65742D5479706500000003524551";
+pub(crate) const REQ: &str = "04190552454144590B536F636B65742D5479706500000003524551";
 
 // What each side writes behind its greeting: the READY of its role.
-const ROUTER: &str = "041C0552454144590B536F636B65742D5479706500000006524F55544552";
+pub(crate) const ROUTER: &str = "041C0552454144590B536F636B65742D5479706500000006524F55544552";
 
-const REP: &str = "04190552454144590B536F636B65742D5479706500000003524550";
+pub(crate) const REP: &str = "04190552454144590B536F636B65742D5479706500000003524550";
 
 // How much a reader and a writer move a call, and after how many calls they fail.
 #[derive(Clone, Copy)]
@@ -158,7 +158,7 @@ fn whole_length(alloc: Global, echoed: &str) -> Result<usize, Fail> {
 }
 
 // An empty frame and `ping`, as REQ sends them.
-const PING: &str = "0100 000470696E67";
+pub(crate) const PING: &str = "0100 000470696E67";
 
 // What comes after READY, what of it is sent back, and why it ends.
 const BEATS: [(&str, &str, PeerFault); 5] = [

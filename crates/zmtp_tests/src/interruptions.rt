@@ -1,0 +1,132 @@
+//! Handshakes and heartbeats whose reads and writes move a byte each and are all interrupted once: they go as if none
+//! were, and a failure behind an interruption is one.
+
+use crate::framing::{DEALER, GREETING, OUR_GREETING, bytes_of};
+use crate::peers::{PING, REP, REQ, ROUTER};
+use base_streams::fakes::Slow;
+use base_streams::std_io::{StdInlet, StdOutlet};
+use std::alloc::Global;
+use std::io;
+use std::io::{ErrorKind, Write};
+use std::process::Abort;
+use std::test::Fail;
+use zmtp_peer::fault::PeerFault;
+use zmtp_peer::handshake::handshake;
+use zmtp_peer::heartbeat::heartbeat;
+use zmtp_wire::role::Role;
+
+// A writer that takes one byte at a time, is interrupted before each, and fails once it has so many.
+#[derive(Drop)]
+struct Interrupted {
+    bytes: Vec<u8>,
+    room: usize,
+    is_interrupted: bool,
+}
+
+impl Write for Interrupted {
+    fn write(&mut self, buf: &[u8]) -> io::Result<usize> {
+        self.is_interrupted = !self.is_interrupted;
+        if self.is_interrupted {
+            return Err(io::Error::from(ErrorKind::Interrupted));
+        }
+        if self.bytes.len() >= self.room {
+            return Err(io::Error::from(ErrorKind::BrokenPipe));
+        }
+        match buf.first() {
+            Some(byte) => {
+                self.bytes.push(*byte)?;
+                Ok(1)
+            }
+            None => Ok(0),
+        }
+    }
+
+    fn flush(&mut self) -> io::Result<()> {
+        Ok(())
+    }
+}
+
+// What is talked: a side's handshake alone, or a heartbeat.
+#[derive(Clone, Copy)]
+enum Talk {
+    Handshake,
+    Heartbeat,
+}
+
+// Whether reading fails where the bytes end, how many bytes may be written, and why it ends, if it does.
+type Row = (Talk, bool, usize, Option<PeerFault>, usize);
+
+// A handshake writes 94 bytes, a heartbeat 91 and 8 for its ping.
+const ROWS: [Row; 8] = [
+    (Talk::Handshake, false, 999, None, 94),
+    (Talk::Handshake, false, 63, Some(PeerFault::WriteFailed), 63),
+    (Talk::Handshake, false, 93, Some(PeerFault::WriteFailed), 93),
+    (Talk::Heartbeat, false, 999, Some(PeerFault::PeerEnded), 99),
+    (Talk::Heartbeat, true, 999, Some(PeerFault::ReadFailed), 99),
+    (Talk::Heartbeat, false, 0, Some(PeerFault::WriteFailed), 0),
+    (Talk::Heartbeat, true, 95, Some(PeerFault::WriteFailed), 95),
+    (Talk::Heartbeat, true, 98, Some(PeerFault::WriteFailed), 98),
+];
+
+fn given(alloc: Global, talk: Talk) -> Result<Vec<u8>, Fail> {
+    match talk {
+        Talk::Handshake => bytes_of(alloc, GREETING, DEALER, ""),
+        Talk::Heartbeat => bytes_of(alloc, GREETING, REQ, PING),
+    }
+}
+
+fn wanted(alloc: Global, talk: Talk) -> Result<Vec<u8>, Fail> {
+    match talk {
+        Talk::Handshake => bytes_of(alloc, OUR_GREETING, ROUTER, ""),
+        Talk::Heartbeat => bytes_of(alloc, OUR_GREETING, REP, PING),
+    }
+}
+
+// How a talk ends over these bytes, and what it has written.
+fn talked(
+    alloc: Global,
+    talk: Talk,
+    given: &[u8],
+    fails: bool,
+    room: usize,
+) -> (Option<PeerFault>, Vec<u8>) {
+    let mut from = StdInlet::new(Slow {
+        rest: given,
+        piece: 1,
+        is_interrupted: false,
+        fails,
+    });
+    let mut to = StdOutlet::new(Interrupted {
+        bytes: Vec::new(alloc),
+        room,
+        is_interrupted: false,
+    });
+    let end = match talk {
+        Talk::Handshake => handshake(alloc, &mut from, &mut to, Role::Router).err(),
+        Talk::Heartbeat => Some(heartbeat(alloc, &mut from, &mut to)),
+    };
+    let Interrupted { bytes, .. } = to.into_inner();
+    (end, bytes)
+}
+
+fn check_row(rt: &impl Abort, alloc: Global, row: Row, place: usize) -> Result<(), Fail> {
+    let (talk, fails, room, end, count) = row;
+    let given = given(alloc, talk)?;
+    let wanted = wanted(alloc, talk)?;
+    let (found, written) = talked(alloc, talk, given.as_slice(), fails, room);
+    let is_front = wanted.as_slice().starts_with(written.as_slice());
+    assert!(rt; found == end, "row {place}: another end");
+    assert!(rt;
+        is_front && written.len() == count,
+        "row {place}: other bytes"
+    );
+    Ok(())
+}
+
+#[test]
+fn interrupted_talks(rt: HostRuntime) -> Result<(), Fail> {
+    for (place, row) in ROWS.iter().enumerate() {
+        check_row(&rt, rt.alloc(), *row, place)?;
+    }
+    Ok(())
+}
