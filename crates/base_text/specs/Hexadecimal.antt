@@ -1,6 +1,7 @@
 -- Numbers in base 16: a byte has two digits and a word four, the highest first.
-use Rattle.std.specs.Prelude.{ℕ, ◌+◌, ◌-◌, ◌*◌, ◌/◌, ◌%◌, List, [], ◌∷◌, ◌++◌, ◌&&◌, nat_lt, nat_le, Option}
+use Rattle.std.specs.Prelude.{ℕ, ◌+◌, ◌-◌, ◌*◌, ◌/◌, ◌%◌, [], ◌∷◌, ◌++◌, ◌&&◌, nat_lt, nat_le, Option}
 use Rattle.std.specs.Prelude.{Some, None, option_and_then, if◌then◌else◌}
+use Rattle.base_text.specs.Bytes.{Text}
 
 -- ---- read, in either case
 
@@ -12,12 +13,12 @@ digit_value c =
     (if (nat_le 97 c && nat_le c 102) then (Some (c - 87)) else None))
 
 -- the number that digits spell after those of a number
-abbrev pub number_from : ℕ → List ℕ → Option ℕ
+abbrev pub number_from : ℕ → Text → Option ℕ
 number_from n [] = Some n
 number_from n (c ∷ cs) = option_and_then (λ digit. number_from (n * 16 + digit) cs) (digit_value c)
 
 -- the word that exactly four digits spell
-abbrev pub word_spelled : List ℕ → Option ℕ
+abbrev pub word_spelled : Text → Option ℕ
 word_spelled (a ∷ b ∷ c ∷ d ∷ []) = number_from 0 (a ∷ b ∷ c ∷ d ∷ [])
 word_spelled other = None
 
@@ -27,10 +28,10 @@ word_spelled other = None
 abbrev pub upper_digit : ℕ → ℕ
 upper_digit n = if nat_lt n 10 then 48 + n else 55 + n
 
-abbrev pub upper_byte : ℕ → List ℕ
+abbrev pub upper_byte : ℕ → Text
 upper_byte n = upper_digit (n / 16) ∷ (upper_digit (n % 16) ∷ [])
 
-abbrev pub upper_word : ℕ → List ℕ
+abbrev pub upper_word : ℕ → Text
 upper_word n = upper_byte (n / 256) ++ upper_byte (n % 256)
 
 -- ---- written in lower case
@@ -39,8 +40,8 @@ upper_word n = upper_byte (n / 256) ++ upper_byte (n % 256)
 abbrev pub lower_digit : ℕ → ℕ
 lower_digit n = if nat_lt n 10 then 48 + n else 87 + n
 
-abbrev pub lower_byte : ℕ → List ℕ
+abbrev pub lower_byte : ℕ → Text
 lower_byte n = lower_digit (n / 16) ∷ (lower_digit (n % 16) ∷ [])
 
-abbrev pub lower_word : ℕ → List ℕ
+abbrev pub lower_word : ℕ → Text
 lower_word n = lower_byte (n / 256) ++ lower_byte (n % 256)

@@ -24,9 +24,10 @@ pub takes_within : (kept piece : List ℕ) (limit : ℕ) (is_long : Bool)
     → Takes piece (state kept limit is_long) (state (kept ++ piece) limit is_long)
 takes_within kept piece limit true within text s = let odd : true ≡ false = within in cc
 takes_within kept piece limit false within text s =
-    let same : kept ++ piece ≡ text ++ piece = ap (λ xs. xs ++ piece) s.keeps in record {
+    let same : kept ++ piece ≡ text ++ piece = ap (λ xs. xs ++ piece) (s.keeps refl) in record {
       long = sym within ∙ ap (λ xs. nat_lt limit (length xs)) same;
-      keeps = same;
+      keeps = λ short. same;
+      cuts = λ long. let odd : false ≡ true = long in cc;
     }
 
 longer : (limit : ℕ) (text piece : List ℕ) → true ≡ nat_lt limit (length text)
@@ -56,42 +57,37 @@ pub takes_past : (kept piece : List ℕ) (limit : ℕ) (is_long : Bool) (n : ℕ
     → (is_long || nat_lt limit (length (kept ++ piece))) ≡ true → Splits (kept ++ piece) n
     → Takes piece (state kept limit is_long) (state (drop n (kept ++ piece)) limit true)
 takes_past kept piece limit true n past splits text s =
-    let cut : IsCut kept text = s.keeps in record {
+    let cut : IsCut kept text = s.cuts refl in record {
       long = longer limit text piece s.long;
-      keeps = cut_on cut.front (text ++ piece) (kept ++ piece) n cut.whole
+      keeps = λ short. let odd : true ≡ false = short in cc;
+      cuts = λ long. cut_on cut.front (text ++ piece) (kept ++ piece) n cut.whole
           (ap (λ xs. xs ++ piece) cut.text_is ∙ append_assoc cut.front kept piece) splits;
     }
 takes_past kept piece limit false n past splits text s =
-    let same : text ++ piece ≡ kept ++ piece = ap (λ xs. xs ++ piece) (sym s.keeps) in record {
+    let same : text ++ piece ≡ kept ++ piece = ap (λ xs. xs ++ piece) (sym (s.keeps refl)) in record {
       long = sym past ∙ ap (λ xs. nat_lt limit (length xs)) (sym same);
-      keeps = cut_on [] (text ++ piece) (kept ++ piece) n IsUtf8-nil same splits;
+      keeps = λ short. let odd : true ≡ false = short in cc;
+      cuts = λ long. cut_on [] (text ++ piece) (kept ++ piece) n IsUtf8-nil same splits;
     }
 
 -- what is never UTF-8 behind what is kept never is behind the text
 pub bad_piece : (kept piece : List ℕ) (limit : ℕ) (is_long : Bool) → NeverText (kept ++ piece)
     → IsBad piece (state kept limit is_long)
-bad_piece kept piece limit false never text s = subst (λ xs. NeverText (xs ++ piece)) s.keeps never
+bad_piece kept piece limit false never text s = subst (λ xs. NeverText (xs ++ piece)) (s.keeps refl) never
 bad_piece kept piece limit true never text s =
-    let cut : IsCut kept text = s.keeps in
+    let cut : IsCut kept text = s.cuts refl in
     subst NeverText (sym (ap (λ xs. xs ++ piece) cut.text_is ∙ append_assoc cut.front kept piece))
     (never_behind cut.front (kept ++ piece) cut.whole never)
 
 -- what the end of the text shows
 
-within_limit : (kept : List ℕ) (limit : ℕ) (is_long : Bool) (text : List ℕ)
-    → StandsFor (state kept limit is_long) text
-    → is_long ≡ false → kept ≡ text
-within_limit kept limit false text s short = s.keeps
-within_limit kept limit true text s short = let odd : true ≡ false = short in cc
-
 pub found_text : (limit : ℕ) (r : Result (Option (String Global)) TextFault) (kept : List ℕ)
     (is_long : Bool) (text : List ℕ)
     → StandsFor (state kept limit is_long) text → is_long ≡ false → IsDecoded r kept → IsText limit r text
 found_text limit (Ok (Some t)) kept is_long text s short d =
-    let same = within_limit kept limit is_long text s short in
-    (subst (λ xs. is_utf8 xs ≡ true) same d.0, d.1 ∙ same)
+    (subst (λ xs. is_utf8 xs ≡ true) (s.keeps short) d.0, d.1 ∙ s.keeps short)
 found_text limit (Err fault.BadText) kept is_long text s short d =
-    subst (λ xs. is_utf8 xs ≡ false) (within_limit kept limit is_long text s short) d
+    subst (λ xs. is_utf8 xs ≡ false) (s.keeps short) d
 found_text limit _ kept is_long text s short d = absurd d
 
 pub found_long : (kept : List ℕ) (limit : ℕ) (is_long : Bool) (text : List ℕ)
@@ -99,7 +95,7 @@ pub found_long : (kept : List ℕ) (limit : ℕ) (is_long : Bool) (text : List �
     → is_long ≡ true → kept ≡ [] → (is_utf8 text ≡ true) × (limit < length text)
 found_long kept limit false text s long none = let odd : false ≡ true = long in cc
 found_long kept limit true text s long none =
-    let cut : IsCut kept text = s.keeps in
+    let cut : IsCut kept text = s.cuts refl in
     let whole : cut.front ≡ text = sym (cut.text_is ∙ ap (λ xs. cut.front ++ xs) none
     ∙ append-nil cut.front) in
     (is_utf8-from_IsUtf8 text (subst IsUtf8 whole cut.whole), past (length text) (sym s.long))
@@ -116,7 +112,7 @@ found_cut kept limit true text s long some = by (is_utf8 text) refl
     by : (b : Bool) → is_utf8 text ≡ b → is_utf8 text ≡ false
     by false is = is
     by true is =
-        let cut : IsCut kept text = s.keeps in
+        let cut : IsCut kept text = s.cuts long in
         absurd (some (cut.alone (after_whole cut.front kept cut.whole (subst IsUtf8 cut.text_is
         (IsUtf8-from_is_utf8 text is)))))
 

@@ -19,14 +19,11 @@ pub record IsCut (kept text : List ℕ) : Type 0 where
   pub text_is : text ≡ front ++ kept
   pub alone : IsUtf8 kept → kept ≡ []
 
-abbrev pub Keeps : Bool → List ℕ → List ℕ → Type 0
-Keeps false kept text = kept ≡ text
-Keeps true kept text = IsCut kept text
-
 -- the text so far has more bytes than the limit or hasn't, and this is kept of it
 pub record StandsFor (t : TextState) (text : List ℕ) : Type 0 where
   pub long : t.is_long ≡ nat_lt t.limit (length text)
-  pub keeps : Keeps t.is_long t.kept text
+  pub keeps : t.is_long ≡ false → t.kept ≡ text
+  pub cuts : t.is_long ≡ true → IsCut t.kept text
 
 -- whatever text the old one stands for, the new one stands for it and this piece
 abbrev pub Takes : List ℕ → TextState → TextState → Type 0

@@ -3,6 +3,7 @@
 -- bytes.
 use Rattle.std.specs.Prelude.{ℕ, Bool, true, false, Option, Some, None, List, [], ◌∷◌, ◌++◌, map, codes}
 use Rattle.std.specs.List.{join_with_byte}
+use Rattle.base_text.specs.Bytes.{Bytes, Text}
 use Rattle.base_text.specs.Hexadecimal.{upper_byte, lower_word}
 use Rattle.serde_json.specs.Data.{
   Data,
@@ -35,11 +36,11 @@ use Rattle.dap_answers.specs.declared.answer.StopReason.TheVariants as stop
 use Rattle.dap_answers.specs.declared.answer.Event.{Event}
 use Rattle.dap_answers.specs.declared.answer.Event.TheVariants as event
 
-abbrev pub members_from : List (List ℕ × Data) → Members
+abbrev pub members_from : List (Text × Data) → Members
 members_from [] = no_members
 members_from (m ∷ ms) = member m.0 m.1 (members_from ms)
 
-abbrev pub object_of : List (List ℕ × Data) → Data
+abbrev pub object_of : List (Text × Data) → Data
 object_of ms = object (members_from ms)
 
 abbrev pub whole_number : ℕ → Data
@@ -54,16 +55,16 @@ abbrev pub space : ℕ
 space = 32
 
 -- `0x` and four digits in lower case
-abbrev pub reference : ℕ → List ℕ
+abbrev pub reference : ℕ → Text
 reference address = codes "0x" ++ lower_word address
 
 -- two digits in upper case for each byte, with a space between
-abbrev pub spaced_bytes : List ℕ → List ℕ
+abbrev pub spaced_bytes : Bytes → Text
 spaced_bytes bytes = join_with_byte space (map upper_byte bytes)
 
 -- ---- parts of bodies
 
-abbrev pub source_json : List ℕ → Data
+abbrev pub source_json : Text → Data
 source_json path = object_of ((codes "path", string path) ∷ [])
 
 abbrev pub breakpoint_json : Breakpoint → Data
@@ -72,7 +73,7 @@ breakpoint_json b = object_of (
     (codes "verified", boolean b.is_verified) ∷ [])
 
 -- what a frame has, with a source or without one
-abbrev pub bare_frame : StackFrame → List (List ℕ × Data)
+abbrev pub bare_frame : StackFrame → List (Text × Data)
 bare_frame f =
     (codes "column", whole_number 1) ∷
     (codes "id", whole_number f.id) ∷
@@ -81,7 +82,7 @@ bare_frame f =
     (codes "name", string f.name) ∷ []
 
 -- a frame without a source has no `source`
-abbrev pub source_members : Option (List ℕ) → List (List ℕ × Data)
+abbrev pub source_members : Option Text → List (Text × Data)
 source_members None = []
 source_members (Some path) = (codes "source", source_json path) ∷ []
 
@@ -113,7 +114,7 @@ thread_json = object_of (
     (codes "id", whole_number 1) ∷
     (codes "name", string (codes "8080")) ∷ [])
 
-abbrev pub scope_json : List ℕ → ℕ → Bool → Data
+abbrev pub scope_json : Text → ℕ → Bool → Data
 scope_json name reference expensive = object_of (
     (codes "expensive", boolean expensive) ∷
     (codes "name", string name) ∷
@@ -164,7 +165,7 @@ stack_trace_json frames total = object_of (
     (codes "totalFrames", whole_number total) ∷ [])
 
 -- an object with one array
-abbrev pub one_list : {T : Type 0} → List ℕ → (T → Data) → List T → Data
+abbrev pub one_list : {T : Type 0} → Text → (T → Data) → List T → Data
 one_list key f xs = object_of ((key, list_of f xs) ∷ [])
 
 abbrev pub body_json : Body → Data
@@ -185,25 +186,25 @@ body_json (body.DebugState d) = debug_state_json d
 -- ---- messages
 
 -- what a response has besides its command
-abbrev pub bare_response : ℕ → ℕ → Bool → List (List ℕ × Data)
+abbrev pub bare_response : ℕ → ℕ → Bool → List (Text × Data)
 bare_response seq request_seq success =
     (codes "request_seq", whole_number request_seq) ∷
     (codes "seq", whole_number seq) ∷
     (codes "success", boolean success) ∷
     (codes "type", string (codes "response")) ∷ []
 
-abbrev pub success_json : ℕ → ℕ → List ℕ → Body → Data
+abbrev pub success_json : ℕ → ℕ → Text → Body → Data
 success_json seq request_seq command b = object_of (
     (codes "body", body_json b) ∷
     (codes "command", string command) ∷ bare_response seq request_seq true)
 
-abbrev pub refusal_json : ℕ → ℕ → List ℕ → List ℕ → Data
+abbrev pub refusal_json : ℕ → ℕ → Text → Text → Data
 refusal_json seq request_seq command message = object_of (
     (codes "command", string command) ∷
     (codes "message", string message) ∷ bare_response seq request_seq false)
 
 -- a success has a body and no message, a refusal a message and no body
-abbrev pub outcome_json : ℕ → ℕ → List ℕ → Outcome → Data
+abbrev pub outcome_json : ℕ → ℕ → Text → Outcome → Data
 outcome_json seq request_seq command (Success b) = success_json seq request_seq command b
 outcome_json seq request_seq command (Refused message) =
     refusal_json seq request_seq command message
@@ -211,7 +212,7 @@ outcome_json seq request_seq command (Refused message) =
 abbrev pub response_json : ℕ → Response → Data
 response_json seq r = outcome_json seq r.request_seq r.command r.outcome
 
-abbrev pub reason_text : StopReason → List ℕ
+abbrev pub reason_text : StopReason → Text
 reason_text stop.Breakpoint = codes "breakpoint"
 reason_text stop.Step = codes "step"
 reason_text stop.Pause = codes "pause"
@@ -228,13 +229,13 @@ continued_json = object_of (
     (codes "threadId", whole_number 1) ∷ [])
 
 -- what an event has, with a body or without one
-abbrev pub bare_event : ℕ → List ℕ → List (List ℕ × Data)
+abbrev pub bare_event : ℕ → Text → List (Text × Data)
 bare_event seq name =
     (codes "event", string name) ∷
     (codes "seq", whole_number seq) ∷
     (codes "type", string (codes "event")) ∷ []
 
-abbrev pub event_with_body : ℕ → List ℕ → Data → Data
+abbrev pub event_with_body : ℕ → Text → Data → Data
 event_with_body seq name b = object_of ((codes "body", b) ∷ bare_event seq name)
 
 -- `initialized` has no body

@@ -6,7 +6,6 @@ use Rattle.std.specs.Prelude.{
   ◌/◌,
   ◌%◌,
   ◌^◌,
-  List,
   [],
   ◌∷◌,
   ◌++◌,
@@ -15,13 +14,14 @@ use Rattle.std.specs.Prelude.{
   codes,
   decimal,
 }
+use Rattle.base_text.specs.Bytes.{Bytes, Text}
 
 -- multiplied by the algorithm's m
 unfoldable pub times_m : ℕ → ℕ
 times_m n = (n * 0x5bd1e995) % (2 ^ 32)
 
 -- the number of bytes that stand with the low one first
-abbrev pub low_first : List ℕ → ℕ
+abbrev pub low_first : Bytes → ℕ
 low_first [] = 0
 low_first (byte ∷ bytes) = byte + 256 * low_first bytes
 
@@ -32,7 +32,7 @@ unfoldable pub mixed : ℕ → ℕ
 mixed k = times_m (xor_shifted 24 (times_m k))
 
 -- after the hash so far: four bytes at a time, and then the one, two or three that are left
-abbrev pub hash_from : ℕ → List ℕ → ℕ
+abbrev pub hash_from : ℕ → Bytes → ℕ
 hash_from h [] = h
 hash_from h (a ∷ []) = times_m (bit_xor h (low_first (a ∷ [])))
 hash_from h (a ∷ b ∷ []) = times_m (bit_xor h (low_first (a ∷ b ∷ [])))
@@ -44,8 +44,8 @@ unfoldable pub finished : ℕ → ℕ
 finished h = xor_shifted 15 (times_m (xor_shifted 13 h))
 
 -- it begins with the length, under the seed 0
-abbrev pub murmur2 : List ℕ → ℕ
+abbrev pub murmur2 : Bytes → ℕ
 murmur2 bytes = finished (hash_from (length bytes % (2 ^ 32)) bytes)
 
-abbrev pub cell_path : List ℕ → List ℕ
+abbrev pub cell_path : Text → Text
 cell_path code = codes "/tmp/i8080_lab/" ++ (decimal (murmur2 code) ++ codes ".asm")

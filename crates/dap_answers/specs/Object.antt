@@ -1,5 +1,6 @@
 -- An object that is being written, by its members. It is whole if there was memory for each of them.
-use Rattle.std.specs.Prelude.{ℕ, ◌≡◌, IsTrue, List}
+use Rattle.std.specs.Prelude.{◌≡◌, IsTrue}
+use Rattle.base_text.specs.Bytes.{Text}
 use Rattle.serde_json.specs.Data.{Data, Members, object, put}
 use Rattle.serde_json.specs.View.{members_view}
 use Rattle.dap_answers.specs.declared.object.Object.{Object}
@@ -13,7 +14,7 @@ abbrev pub HasMembers : Object → Members → Type 0
 HasMembers o members = IsTrue o.is_whole → members_of o ≡ members
 
 -- if the new one is whole, so was the old one, and the new one has its members and a value at a key
-abbrev pub IsWith : Object → List ℕ → Data → Object → Type 0
+abbrev pub IsWith : Object → Text → Data → Object → Type 0
 IsWith old key value new =
     IsTrue new.is_whole → IsTrue old.is_whole × (members_of new ≡ put key value (members_of old))
 

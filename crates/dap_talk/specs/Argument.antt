@@ -17,6 +17,7 @@ use Rattle.std.specs.Prelude.{
   codes,
 }
 use Rattle.std.specs.Str.{bytes_eq}
+use Rattle.base_text.specs.Bytes.{Text}
 use Rattle.base_text.specs.Hexadecimal.{word_spelled}
 use Rattle.serde_json.specs.Data.{Data, Items, no_items, item}
 use Rattle.serde_json.specs.Events.{items_len}
@@ -43,7 +44,7 @@ pub data Kind : Type 0 where
 -- what was found for one
 pub data Found : Type 0 where
   found_number : ℕ → Found
-  found_text : List ℕ → Found
+  found_text : Text → Found
   found_truth : Bool → Found
   found_lines : List ℕ → Found
   found_granularity : Granularity → Found
@@ -60,11 +61,11 @@ when_between low high n = if nat_le low n && nat_le n high then Some n else None
 abbrev pub whole_between : ℕ → ℕ → Data → Option ℕ
 whole_between low high d = option_and_then (when_between low high) (whole d)
 
-abbrev pub text_at : List ℕ → Data → Option (List ℕ)
+abbrev pub text_at : Text → Data → Option Text
 text_at key d = option_and_then as_str (get key d)
 
 -- what stands at a key of an object, if anything does
-abbrev pub member_at : List ℕ → Data → Option (Option Data)
+abbrev pub member_at : Text → Data → Option (Option Data)
 member_at key d = option_map (get_member key) (as_object d)
 
 -- conditions, hit counts and log messages aren't supported, whatever their values are
@@ -85,11 +86,11 @@ lines_of (item d ds) =
 abbrev pub at_most_256 : Items → Option Items
 at_most_256 ds = if nat_le (items_len ds) 256 then Some ds else None
 
-abbrev pub granularity_of : List ℕ → Granularity
+abbrev pub granularity_of : Text → Granularity
 granularity_of name = if bytes_eq name (codes "instruction") then Instruction else Line
 
 -- the word after `0x`
-abbrev pub address_of : List ℕ → Option ℕ
+abbrev pub address_of : Text → Option ℕ
 address_of (first ∷ second ∷ digits) =
     if bytes_eq (first ∷ second ∷ []) (codes "0x") then word_spelled digits else None
 address_of other = None
@@ -109,22 +110,22 @@ found_in address d = option_map found_number (option_and_then address_of (as_str
 
 -- an argument, and what stands for it where it is absent, if it may be
 pub record Argument : Type 0 where
-  pub key : List ℕ
+  pub key : Text
   pub kind : Kind
   pub absent : Option Found
 
-abbrev pub required : List ℕ → Kind → Argument
+abbrev pub required : Text → Kind → Argument
 required key kind = record { key = key; kind = kind; absent = None }
 
-abbrev pub optional : List ℕ → Kind → Found → Argument
+abbrev pub optional : Text → Kind → Found → Argument
 optional key kind absent = record { key = key; kind = kind; absent = Some absent }
 
 -- what stands at a key of the arguments, where these are an object; absent ones are an empty one
-abbrev pub member_of : List ℕ → Option Data → Option (Option Data)
+abbrev pub member_of : Text → Option Data → Option (Option Data)
 member_of key None = Some None
 member_of key (Some arguments) = member_at key arguments
 
-abbrev pub argument_at : List ℕ → Data → Option (Option Data)
+abbrev pub argument_at : Text → Data → Option (Option Data)
 argument_at key request = member_of key (get (codes "arguments") request)
 
 abbrev pub found_or : Argument → Option Data → Option Found

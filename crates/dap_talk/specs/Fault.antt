@@ -1,17 +1,18 @@
 -- The responses to requests that are refused.
-use Rattle.std.specs.Prelude.{ℕ, List, [], codes}
+use Rattle.std.specs.Prelude.{ℕ, [], codes}
+use Rattle.base_text.specs.Bytes.{Text}
 use Rattle.dap_talk.specs.declared.fault.DapFault.{DapFault}
 use Rattle.dap_talk.specs.declared.fault.DapFault.TheVariants.{OutOfMemory, NotRequest, Command, Arguments}
 use Rattle.dap_answers.specs.declared.answer.Response.{Response}
 use Rattle.dap_answers.specs.declared.answer.Outcome.TheVariants.{Refused}
 
-abbrev pub message_of : DapFault → List ℕ
+abbrev pub message_of : DapFault → Text
 message_of OutOfMemory = codes "OutOfMemory"
 message_of NotRequest = codes "NotRequest"
 message_of (Command seq command) = codes "Command"
 message_of (Arguments seq command) = codes "Arguments"
 
-abbrev pub refusal : ℕ → List ℕ → List ℕ → Response
+abbrev pub refusal : ℕ → Text → Text → Response
 refusal seq command message =
     record { request_seq = seq; command = command; outcome = Refused message }
 

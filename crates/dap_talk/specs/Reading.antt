@@ -3,7 +3,6 @@
 use Rattle.std.specs.Prelude.{
   ◌≡◌,
   ℕ,
-  List,
   Option,
   Some,
   None,
@@ -16,6 +15,7 @@ use Rattle.std.specs.Prelude.{
   codes,
 }
 use Rattle.std.specs.Str.{bytes_eq}
+use Rattle.base_text.specs.Bytes.{Text}
 use Rattle.serde_json.specs.Data.{Data}
 use Rattle.serde_json.specs.Find.{get}
 use Rattle.dap_talk.specs.declared.command.CommandName.{CommandName}
@@ -29,13 +29,13 @@ use Rattle.dap_talk.specs.Table.{named, asked}
 -- the number and the text of the command of a request
 pub record Envelope : Type 0 where
   pub seq : ℕ
-  pub command : List ℕ
+  pub command : Text
 
-abbrev pub envelope_with : ℕ → List ℕ → Envelope
+abbrev pub envelope_with : ℕ → Text → Envelope
 envelope_with seq command = record { seq = seq; command = command }
 
 -- the type `request`
-abbrev pub marked : Data → Option (List ℕ)
+abbrev pub marked : Data → Option Text
 marked d =
     option_and_then
     (λ t. if bytes_eq t (codes "request") then Some t else None)
@@ -44,7 +44,7 @@ marked d =
 abbrev pub seq_of : Data → Option ℕ
 seq_of d = option_and_then (whole_between 0 4294967295) (get (codes "seq") d)
 
-abbrev pub command_text : Data → Option (List ℕ)
+abbrev pub command_text : Data → Option Text
 command_text d = text_at (codes "command") d
 
 -- an object with the type `request`, a whole number of 32 bits as `seq`, and a text as `command`
@@ -56,8 +56,8 @@ envelope_of d =
 
 pub data Reading : Type 0 where
   not_request : Reading
-  unknown_command : ℕ → List ℕ → Reading
-  bad_arguments : ℕ → List ℕ → Reading
+  unknown_command : ℕ → Text → Reading
+  bad_arguments : ℕ → Text → Reading
   request : ℕ → DapCommand → Reading
 
 abbrev pub reading_of_command : Envelope → Option DapCommand → Reading

@@ -17,6 +17,7 @@ use Rattle.std.specs.Prelude.{
   codes,
 }
 use Rattle.std.specs.Str.{bytes_eq}
+use Rattle.base_text.specs.Bytes.{Text}
 use Rattle.serde_json.specs.Data.{Data}
 use Rattle.dap_talk.specs.declared.command.Granularity.{Granularity}
 use Rattle.dap_talk.specs.declared.command.Granularity.TheVariants.{Line}
@@ -47,7 +48,7 @@ use Rattle.dap_talk.specs.Argument.{
   all_found,
 }
 
-abbrev pub spelled : CommandName → List ℕ
+abbrev pub spelled : CommandName → Text
 spelled name.Initialize = codes "initialize"
 spelled name.Attach = codes "attach"
 spelled name.Disconnect = codes "disconnect"
@@ -84,13 +85,13 @@ byte = number 0 255
 abbrev pub count_to_256 : Kind
 count_to_256 = number 1 256
 
-abbrev pub number_or_0 : List ℕ → Argument
+abbrev pub number_or_0 : Text → Argument
 number_or_0 key = optional key any_number (found_number 0)
 
-abbrev pub breakpoints_or_none : List ℕ → Argument
+abbrev pub breakpoints_or_none : Text → Argument
 breakpoints_or_none key = optional key breakpoints (found_lines [])
 
-abbrev pub granularity_or_line : List ℕ → Argument
+abbrev pub granularity_or_line : Text → Argument
 granularity_or_line key = optional key granularity (found_granularity Line)
 
 -- the arguments of a command; of those that have none, nothing is read
@@ -144,7 +145,7 @@ abbrev pub number_in : Found → ℕ
 number_in (found_number n) = n
 number_in _ = 0
 
-abbrev pub text_in : Found → List ℕ
+abbrev pub text_in : Found → Text
 text_in (found_text t) = t
 text_in _ = []
 
@@ -245,9 +246,9 @@ every_name =
     name.BoardAliases ∷ []
 
 -- the first of these that is spelled so
-abbrev pub first_named : List CommandName → List ℕ → Option CommandName
+abbrev pub first_named : List CommandName → Text → Option CommandName
 first_named names t = find (λ name. bytes_eq (spelled name) t) names
 
 -- the command that is spelled so, if there is one
-abbrev pub named : List ℕ → Option CommandName
+abbrev pub named : Text → Option CommandName
 named t = first_named every_name t

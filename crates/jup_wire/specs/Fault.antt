@@ -1,5 +1,6 @@
 -- What the steps of opening may refuse.
-use Rattle.std.specs.Prelude.{◌≡◌, List, ℕ, Some, take, slice_get}
+use Rattle.std.specs.Prelude.{◌≡◌, ℕ, Some, take, slice_get}
+use Rattle.base_text.specs.Bytes.{Frames}
 use Rattle.jup_wire.specs.declared.message.WireFault.{WireFault}
 use Rattle.jup_wire.specs.declared.message.WireFault.TheVariants.{OutOfMemory, Json, Header}
 use Rattle.serde_json.specs.Data.{Data}
@@ -29,6 +30,6 @@ pub record IsRead (p : Parts) (h : declared.Header) (content : Data) : Type 0 wh
   pub content_json : json_of p.content ≡ Some content
 
 -- the first delimiter stands here
-pub record FirstDelimiter (frames : List (List ℕ)) (at : ℕ) : Type 0 where
+pub record FirstDelimiter (frames : Frames) (at : ℕ) : Type 0 where
   pub here : slice_get frames at ≡ Some delimiter
   pub before : NoDelimiter (take at frames)

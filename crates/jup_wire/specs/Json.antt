@@ -2,9 +2,7 @@
 use Rattle.std.specs.Prelude.{
   ◌≡◌,
   ◌≤◌,
-  ℕ,
   false,
-  List,
   Option,
   Some,
   None,
@@ -13,6 +11,7 @@ use Rattle.std.specs.Prelude.{
   option_and_then,
 }
 use Rattle.std.specs.Str.{is_utf8}
+use Rattle.base_text.specs.Bytes.{Bytes, Text}
 use Rattle.serde_json.specs.Data.{Data, depth}
 use Rattle.serde_json.specs.Written.{has_float, compact_text}
 use Rattle.serde_json.specs.Read.{read}
@@ -21,11 +20,11 @@ use Rattle.jup_wire.specs.declared.message.Header.{Header}
 
 -- The value of a frame, where it is one JSON text (RFC 8259): in UTF-8, with arrays and objects nested
 -- at most 127 deep; of a key that comes twice the last value counts.
-unfoldable pub json_of : List ℕ → Option Data
+unfoldable pub json_of : Bytes → Option Data
 json_of frame = if is_utf8 frame then read frame else None
 
 -- the text that an object has at a key
-abbrev pub text_at : List ℕ → Data → Option (List ℕ)
+abbrev pub text_at : Text → Data → Option Text
 text_at key d = option_and_then as_str (get key d)
 
 -- an object with these texts
@@ -36,6 +35,6 @@ pub record IsHeader (d : Data) (h : Header) : Type 0 where
 
 -- what is written for a value: where it nests at most 127 deep, it reads as this value, and where it has
 -- no float, it is the one compact text
-pub record IsTextOf (frame : List ℕ) (d : Data) : Type 0 where
+pub record IsTextOf (frame : Bytes) (d : Data) : Type 0 where
   pub reads : depth d ≤ 127 → json_of frame ≡ Some d
   pub compact : has_float d ≡ false → frame ≡ compact_text d

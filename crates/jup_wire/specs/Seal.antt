@@ -1,5 +1,6 @@
 -- What a message is sealed from, and the frames that are sent for it.
-use Rattle.std.specs.Prelude.{◌≡◌, ◌≤◌, ℕ, List, [], ◌∷◌, ◌++◌, IsSome}
+use Rattle.std.specs.Prelude.{◌≡◌, ◌≤◌, [], ◌∷◌, ◌++◌, IsSome}
+use Rattle.base_text.specs.Bytes.{Bytes, Text, Frames}
 use Rattle.serde_json.specs.Data.{depth}
 use Rattle.serde_json.specs.View.{view}
 use Rattle.jup_wire.specs.declared.message.Parts.{Parts}
@@ -10,16 +11,16 @@ use Rattle.jup_wire.specs.Json.{json_of, IsHeader, IsTextOf}
 use Rattle.jup_wire.specs.Wire.{delimiter, json_frames, NoDelimiter}
 
 -- with an empty key an empty signature is sent
-abbrev pub signature_frame : List ℕ → Parts → List ℕ
+abbrev pub signature_frame : Bytes → Parts → Bytes
 signature_frame [] p = []
 signature_frame (byte ∷ bytes) p = signature (byte ∷ bytes) (json_frames p)
 
 -- no buffers are sent
-abbrev pub frames_of : Parts → List ℕ → List (List ℕ)
+abbrev pub frames_of : Parts → Bytes → Frames
 frames_of p digits = p.identities ++ delimiter ∷ digits ∷ json_frames p
 
 -- these are texts of the values of the draft
-pub record AreTexts (d : Draft) (header metadata content : List ℕ) : Type 0 where
+pub record AreTexts (d : Draft) (header metadata content : Text) : Type 0 where
   pub header_text : IsTextOf header (view d.header)
   pub metadata_text : IsTextOf metadata (view d.metadata)
   pub content_text : IsTextOf content (view d.content)
@@ -31,7 +32,7 @@ pub record IsWrittenFrom (d : Draft) (p : Parts) : Type 0 where
   pub texts : AreTexts d p.header p.metadata p.content
 
 -- these frames are sent for the draft
-pub record IsSealed (key : List ℕ) (d : Draft) (frames : List (List ℕ)) : Type 0 where
+pub record IsSealed (key : Bytes) (d : Draft) (frames : Frames) : Type 0 where
   pub parts : Parts
   pub whole : frames ≡ frames_of parts (signature_frame key parts)
   pub identities : parts.identities ≡ d.identities

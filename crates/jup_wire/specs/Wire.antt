@@ -1,6 +1,7 @@
 -- The frames of a message (Jupyter messaging 5.4, "The wire protocol"), and which frames are refused.
-use Rattle.std.specs.Prelude.{◌≡◌, ◌≢◌, ◌⊎◌, ℕ, ◌<◌, List, [], ◌∷◌, ◌++◌, length, Some, codes, IsSome}
+use Rattle.std.specs.Prelude.{◌≡◌, ◌≢◌, ◌⊎◌, ◌<◌, [], ◌∷◌, ◌++◌, length, Some, codes, IsSome}
 use Rattle.std.specs.List.{AllByRecursion}
+use Rattle.base_text.specs.Bytes.{Bytes, Frames}
 use Rattle.serde_json.specs.Data.{Data}
 use Rattle.jup_wire.specs.declared.message.Parts.{Parts}
 use Rattle.jup_wire.specs.declared.message.Header.{Header}
@@ -9,33 +10,33 @@ use Rattle.jup_wire.specs.declared.message.WireFault.TheVariants as fault
 use Rattle.jup_wire.specs.Signature.{signature}
 use Rattle.jup_wire.specs.Json.{json_of, IsHeader}
 
-abbrev pub delimiter : List ℕ
+abbrev pub delimiter : Bytes
 delimiter = codes "<IDS|MSG>"
 
-abbrev pub NoDelimiter : List (List ℕ) → Type 0
+abbrev pub NoDelimiter : Frames → Type 0
 NoDelimiter frames = AllByRecursion (λ frame. frame ≢ delimiter) frames
 
 -- the four frames that are signed
-abbrev pub json_frames : Parts → List (List ℕ)
+abbrev pub json_frames : Parts → Frames
 json_frames p = p.header ∷ p.parent_header ∷ p.metadata ∷ p.content ∷ []
 
 -- the identities up to the first delimiter, the delimiter, the signature, the JSON frames, any buffers
-pub record HasParts (frames : List (List ℕ)) (digits : List ℕ) (p : Parts) : Type 0 where
-  pub buffers : List (List ℕ)
+pub record HasParts (frames : Frames) (digits : Bytes) (p : Parts) : Type 0 where
+  pub buffers : Frames
   pub whole : frames ≡ p.identities ++ delimiter ∷ digits ∷ (json_frames p ++ buffers)
   pub first : NoDelimiter p.identities
 
 -- with an empty key no signature is checked
-abbrev pub IsSigned : List ℕ → List ℕ → Parts → Type 0
+abbrev pub IsSigned : Bytes → Bytes → Parts → Type 0
 IsSigned key digits p = (key ≡ []) ⊎ (digits ≡ signature key (json_frames p))
 
 abbrev pub AreJson : Parts → Type 0
 AreJson p = AllByRecursion (λ frame. IsSome (json_of frame)) (json_frames p)
 
 -- under this key the frames are a message with these parts, this header and this content
-pub record IsMessage (key : List ℕ) (frames : List (List ℕ)) (p : Parts) (h : Header) (content : Data)
+pub record IsMessage (key : Bytes) (frames : Frames) (p : Parts) (h : Header) (content : Data)
     : Type 0 where
-  pub digits : List ℕ
+  pub digits : Bytes
   pub parts : HasParts frames digits p
   pub signed : IsSigned key digits p
   pub json : AreJson p
@@ -45,26 +46,26 @@ pub record IsMessage (key : List ℕ) (frames : List (List ℕ)) (p : Parts) (h 
   pub content_json : json_of p.content ≡ Some content
 
 -- there is a delimiter, and fewer than five frames follow the first one
-pub record LacksFrames (frames : List (List ℕ)) : Type 0 where
-  pub before : List (List ℕ)
-  pub after : List (List ℕ)
+pub record LacksFrames (frames : Frames) : Type 0 where
+  pub before : Frames
+  pub after : Frames
   pub whole : frames ≡ before ++ delimiter ∷ after
   pub first : NoDelimiter before
   pub few : length after < 5
 
 -- the frames have parts, and these are signed
-abbrev pub OpensUpTo : List ℕ → List (List ℕ) → (Parts → Type 0) → Type 0
+abbrev pub OpensUpTo : Bytes → Frames → (Parts → Type 0) → Type 0
 OpensUpTo key frames P =
-    (digits : List ℕ) × (p : Parts) × HasParts frames digits p × IsSigned key digits p × P p
+    (digits : Bytes) × (p : Parts) × HasParts frames digits p × IsSigned key digits p × P p
 
 -- Why frames are refused under a key; a reason stands only where none before it does. Only what is
 -- signed can be out of memory.
-abbrev pub IsRefused : List ℕ → List (List ℕ) → WireFault → Type 0
+abbrev pub IsRefused : Bytes → Frames → WireFault → Type 0
 IsRefused key frames fault.OutOfMemory = OpensUpTo key frames (λ p. Unit {0})
 IsRefused key frames fault.Delimiter = NoDelimiter frames
 IsRefused key frames fault.Count = LacksFrames frames
 IsRefused key frames fault.Signature =
-    (digits : List ℕ) × (p : Parts) × HasParts frames digits p × (¬ IsSigned key digits p)
+    (digits : Bytes) × (p : Parts) × HasParts frames digits p × (¬ IsSigned key digits p)
 IsRefused key frames fault.Json = OpensUpTo key frames (λ p. ¬ AreJson p)
 IsRefused key frames fault.Header =
     OpensUpTo key frames

@@ -10,8 +10,6 @@ ghost use Rattle.std.specs.Prelude.{
   ◌∷◌,
   ◌⊎◌,
   [],
-  List,
-  ℕ,
   Some,
   None,
   length,
@@ -26,6 +24,7 @@ ghost use Rattle.std.specs.Prelude.{
   IsErrAnd,
   MatchResult,
 };
+ghost use Rattle.base_text.specs.Bytes.{Bytes, Frames};
 ghost use Rattle.serde_json.specs.Data.{Data};
 ghost use Rattle.serde_json.specs.View.{view};
 ghost use Rattle.jup_wire.specs.Json.{json_of, text_at, IsHeader};
@@ -97,7 +96,7 @@ fn take_apart(mut frames: Vec<Bytes>, at: usize) -> (Bytes, Parts)
 
 fn split(frames: Frames) -> Result<(Bytes, Parts), WireFault>
     ensures parts { IfOk result (λ split. HasParts frames split.0 split.1) }
-    ensures refused { IfErr result (λ e. (key : List ℕ) → IsRefused key frames e) }
+    ensures refused { IfErr result (λ e. (key : Bytes) → IsRefused key frames e) }
 {
     let frames = frames.into_vec();
     let Some(at) = delimiter_at(frames.as_slice()) else {
@@ -197,7 +196,7 @@ fn read_signed(
 ) -> Result<(Header, Value), WireFault>
     ensures signed { OnOk result (IsSigned key.now digits.now parts.now) }
     ensures read { IfOk result (λ read. IsRead parts.now read.0 (view read.1)) }
-    ensures refused { IfErr result (λ e. (frames : List (List ℕ))
+    ensures refused { IfErr result (λ e. (frames : Frames)
         → HasParts frames digits.now parts.now → IsRefused key.now frames e) }
 {
     if !is_accepted(key, digits, parts) {

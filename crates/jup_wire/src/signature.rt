@@ -1,6 +1,7 @@
 //! The signature of frames: HMAC with SHA-256 (RFC 2104), in lower-case hexadecimal.
-ghost use Rattle.std.specs.Prelude.{◌≡◌, ◌≤◌, ◌↔◌, ◌++◌, [], List, ℕ, length, IsTrue, IfOk};
+ghost use Rattle.std.specs.Prelude.{◌≡◌, ◌≤◌, ◌↔◌, ◌++◌, [], length, IsTrue, IfOk};
 ghost use Rattle.std.specs.List.{concat};
+ghost use Rattle.base_text.specs.Bytes.{Bytes};
 ghost use Rattle.hex.specs.Hex.{encode_lower};
 ghost use Rattle.jup_wire.specs.Wire.{json_frames};
 ghost use Rattle.jup_wire.specs.Signature.{zero_filled, block_of, padded, hmac, signature};
@@ -93,14 +94,14 @@ impl Hmac {
     }
 
     fn update(&mut self, bytes: &[u8])
-        ensures { (key text : List ℕ) → HasTaken self.old key text
+        ensures { (key text : Bytes) → HasTaken self.old key text
             → HasTaken self.new key (text ++ bytes.now) }
     {
         self.inner.update(bytes);
     }
 
     fn finalize(self) -> [u8; 32]
-        ensures { (key text : List ℕ) → HasTaken self key text → result ≡ hmac key text }
+        ensures { (key text : Bytes) → HasTaken self key text → result ≡ hmac key text }
     {
         let Hmac { inner, mut outer } = self;
         outer.update(inner.finalize());

@@ -34,14 +34,15 @@ resetting n r d unix_seconds s = posting Arrived unix_seconds
     (enclosed s.connections r.header (cut_letters cause.Reset s ++ debug_reply n r d (Success Empty) ∷ []))
     (with_board (reset s.board) (cut_work s) s)
 
-by_command : (n : ℕ) (r : Request) (seq : ℕ) (c : DapCommand) (unix_seconds : ℕ) (s : KernelState) → is_reset c ≡ true
+by_command : (n : ℕ) (r : Request) (seq : ℕ) (c : DapCommand) (unix_seconds : ℕ) (s : KernelState)
+    → is_reset c ≡ true
     → performing n r (request_with seq c) unix_seconds s ≡ resetting n r (request_with seq c) unix_seconds s
 unfolding performed
 by_command n r seq command.BoardReset unix_seconds s is = refl
 by_command n r seq _ unix_seconds s is = absurd (false≢true is)
 
-pub by_reset : (n : ℕ) (r : Request) (d : DapRequest) (unix_seconds : ℕ) (s : KernelState) → is_reset d.command ≡ true
-    → performing n r d unix_seconds s ≡ resetting n r d unix_seconds s
+pub by_reset : (n : ℕ) (r : Request) (d : DapRequest) (unix_seconds : ℕ) (s : KernelState)
+    → is_reset d.command ≡ true → performing n r d unix_seconds s ≡ resetting n r d unix_seconds s
 by_reset n r d unix_seconds s is = by_command n r d.seq d.command unix_seconds s is
 
 -- ---- the other commands
@@ -68,19 +69,19 @@ told_stands n r d unix_seconds s old lab store b told letters stands board are k
       },
     )
 
-pub refused_stands : (n : ℕ) (r : Request) (d : DapRequest) (unix_seconds : ℕ) (s : KernelState) (old : KernelFields)
-    (store : StoreState) (message : List ℕ) (letters : List Letter)
+pub refused_stands : (n : ℕ) (r : Request) (d : DapRequest) (unix_seconds : ℕ) (s : KernelState)
+    (old : KernelFields) (store : StoreState) (message : List ℕ) (letters : List Letter)
     → StandsFor old s
     → letters ≡ enclosed s.connections r.header (debug_reply n r d (Refused message) ∷ [])
     → Keeps (posted unix_seconds letters s.posts) store
     → Stood (refusing n r d message unix_seconds s) (record old { store = store })
 refused_stands n r d unix_seconds s old store message letters stands are kept =
-    told_stands n r d unix_seconds s old old.lab store s.board (debug_reply n r d (Refused message) ∷ []) letters stands
-    stands.board are kept
+    told_stands n r d unix_seconds s old old.lab store s.board (debug_reply n r d (Refused message) ∷ [])
+    letters stands stands.board are kept
 
-by_performed : (g : Result (Body × Board) EventFault) (n : ℕ) (r : Request) (d : DapRequest) (unix_seconds : ℕ)
-    (s : KernelState) (old : KernelFields) (lab : LabState) (store : StoreState) (res : Result Body EventFault)
-    (letters : List Letter)
+by_performed : (g : Result (Body × Board) EventFault) (n : ℕ) (r : Request) (d : DapRequest)
+    (unix_seconds : ℕ) (s : KernelState) (old : KernelFields) (lab : LabState) (store : StoreState)
+    (res : Result Body EventFault) (letters : List Letter)
     → StandsFor old s → is_reset d.command ≡ false → Did s.board g res lab
     → letters ≡ enclosed s.connections r.header
     (performed_letters res (after_letter (event_after d.command) r s) n r d)
@@ -90,17 +91,18 @@ by_performed (Ok (body, b)) n r d unix_seconds s old lab store res letters stand
     let after = after_letter (event_after d.command) r s in
     let L : Result Body EventFault → List Letter =
     λ x. enclosed s.connections r.header (performed_letters x after n r d) in
-    rw other (told_stands n r d unix_seconds s old lab store b (performed_letters (Ok body) after n r d) letters stands
-    did.1 (are ∙ ap L did.0) kept)
+    rw other (told_stands n r d unix_seconds s old lab store b (performed_letters (Ok body) after n r d)
+    letters stands did.1 (are ∙ ap L did.0) kept)
 by_performed (Err fault) n r d unix_seconds s old lab store res letters stands other did are kept =
     let after = after_letter (event_after d.command) r s in
     let L : Result Body EventFault → List Letter =
     λ x. enclosed s.connections r.header (performed_letters x after n r d) in
-    told_stands n r d unix_seconds s old lab store s.board (performed_letters (Err fault) after n r d) letters stands
-    did.1 (are ∙ ap L did.0) kept
+    told_stands n r d unix_seconds s old lab store s.board (performed_letters (Err fault) after n r d) letters
+    stands did.1 (are ∙ ap L did.0) kept
 
-pub performed_stands : (n : ℕ) (r : Request) (d : DapRequest) (unix_seconds : ℕ) (s : KernelState) (old : KernelFields)
-    (lab : LabState) (store : StoreState) (res : Result Body EventFault) (letters : List Letter)
+pub performed_stands : (n : ℕ) (r : Request) (d : DapRequest) (unix_seconds : ℕ) (s : KernelState)
+    (old : KernelFields) (lab : LabState) (store : StoreState) (res : Result Body EventFault)
+    (letters : List Letter)
     → StandsFor old s → is_reset d.command ≡ false → Does (performed d.command) old.lab res lab
     → res ≢ Err OutOfMemory
     → letters ≡ enclosed s.connections r.header

@@ -41,8 +41,8 @@ load_grows old new lab x rest l loaded work made =
       count = omega arith;
     }
 
-pub load_stands : (unix_seconds : ℕ) (s : KernelState) (old new : KernelFields) (lab : LabState) (x : Execution)
-    (rest : List Execution) (c : Current) (l : Loading)
+pub load_stands : (unix_seconds : ℕ) (s : KernelState) (old new : KernelFields) (lab : LabState)
+    (x : Execution) (rest : List Execution) (c : Current) (l : Loading)
     → StandsFor old s → old.work.queue ≡ x ∷ rest → c ≡ current_of x old.work.count
     → l ≡ loading_of (cell_given x.request.code s.board)
     → LabStandsFor lab (board_after s.board (cell_given x.request.code s.board))
@@ -55,8 +55,10 @@ load_stands unix_seconds s old new lab x rest c l stands queue current is_loadin
     let waits : s.work.queue ≡ x ∷ rest = ap (λ (w : Work). w.queue) (sym stands.work) ∙ queue in
     let it : c ≡ current_of x s.work.count = current ∙ ap (λ (w : Work). current_of x w.count) stands.work in
     let B : LabState → Type 0 = λ v. LabStandsFor v (board_after s.board g) in
-    let P : Connections → Type 0 = λ w. Keeps (posted unix_seconds (loading_letters w c l) s.posts) new.store in
-    let Q : Current → Type 0 = λ k. Keeps (posted unix_seconds (loading_letters s.connections k l) s.posts) new.store in
+    let P : Connections → Type 0 =
+    λ w. Keeps (posted unix_seconds (loading_letters w c l) s.posts) new.store in
+    let Q : Current → Type 0 =
+    λ k. Keeps (posted unix_seconds (loading_letters s.connections k l) s.posts) new.store in
     let R : Loading → Type 0 =
     λ k. Keeps (posted unix_seconds (loading_letters s.connections (current_of x s.work.count) k) s.posts)
     new.store in

@@ -2,6 +2,7 @@
 use Rattle.std.specs.Prelude.{ℕ, ◌+◌, ◌==◌, nat_lt, List, [], ◌∷◌, length, Bool, true, false, ◌||◌, not}
 use Rattle.std.specs.Prelude.{Option, Some, None, codes, if◌then◌else◌}
 use Rattle.std.specs.List.{starts_with}
+use Rattle.base_text.specs.Bytes.{Bytes}
 use Rattle.jup_wire.specs.declared.channel.Channel.{Channel}
 use Rattle.jup_wire.specs.declared.channel.Channel.TheVariants.{Iopub}
 use Rattle.kern_post.specs.declared.content.Content.TheVariants.{Status}
@@ -21,7 +22,7 @@ use Rattle.kern_core.specs.States.{KernelState, Turn, refused, quiet, posting}
 
 -- ---- joining and leaving
 
-abbrev pub joined : Channel → List ℕ → KernelState → Turn
+abbrev pub joined : Channel → Bytes → KernelState → Turn
 joined channel identity s =
     if has_no_place channel identity s.connections.peers then refused Full s else
     quiet (reply.Joined (s.connections.joined + 1) (length s.posts + 1))
@@ -62,19 +63,19 @@ status_to n s = record {
 }
 
 -- who subscribes to statuses is told how the kernel is
-abbrev pub first_status : ℕ → List ℕ → KernelState → List Letter
+abbrev pub first_status : ℕ → Bytes → KernelState → List Letter
 first_status n prefix s =
     if starts_with (λ x y. x == y) (codes "status") prefix then status_to n s ∷ [] else []
 
-abbrev pub new_subscription : ℕ → List ℕ → ℕ → KernelState → Turn
+abbrev pub new_subscription : ℕ → Bytes → ℕ → KernelState → Turn
 new_subscription n prefix unix_seconds s =
     posting reply.Subscribed unix_seconds (first_status n prefix s)
     (record s { connections = subscribed_by n prefix s.connections })
 
-abbrev pub unsubscribed : ℕ → List ℕ → KernelState → Turn
+abbrev pub unsubscribed : ℕ → Bytes → KernelState → Turn
 unsubscribed n prefix s = quiet reply.Subscribed (record s { connections = cancelled n prefix s.connections })
 
-abbrev pub subscribing : ℕ → Bool → List ℕ → ℕ → KernelState → Turn
+abbrev pub subscribing : ℕ → Bool → Bytes → ℕ → KernelState → Turn
 subscribing n wants prefix unix_seconds s = with_peer n s (λ p.
     if not (is_on Iopub p) then refused NoConnection s else
     if not wants then unsubscribed n prefix s else

@@ -9,7 +9,8 @@ use Rattle.kern_exec.specs.Letters.{addressed, enclosed}
 use Rattle.kern_exec.specs.Kits.{IsEnclosed}
 use Rattle.kern_core.specs.declared.state.debug.DebugKit.{DebugKit}
 
-pub record IsDebugKit (connections : Connections) (n : ℕ) (r : Request) (d : DapRequest) (k : DebugKit) : Type 0 where
+pub record IsDebugKit (connections : Connections) (n : ℕ) (r : Request) (d : DapRequest) (k : DebugKit)
+    : Type 0 where
   pub enclosed : IsEnclosed connections r.header k.enclosed
   pub envelope : k.envelope ≡ addressed n r.identities r.header
   pub request_seq : k.request_seq ≡ d.seq

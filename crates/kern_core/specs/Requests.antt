@@ -2,6 +2,7 @@
 -- shell channel" and the sections that follow it).
 use Rattle.std.specs.Prelude.{ℕ, nat_lt, nat_le, List, [], ◌∷◌, ◌++◌, length, Bool, true, false, ◌&&◌, Option}
 use Rattle.std.specs.Prelude.{Some, None, option_to_list, Result, Ok, Err, codes, if◌then◌else◌}
+use Rattle.base_text.specs.Bytes.{Bytes, Text}
 use Rattle.jup_wire.specs.declared.channel.Channel.TheVariants.{Iopub}
 use Rattle.asm_syntax.specs.declared.fault.FaultKind.{FaultKind}
 use Rattle.asm_syntax.specs.declared.fault.FaultKind.TheVariants.{Conditional}
@@ -69,7 +70,8 @@ plain_reply count body.Inspect = Some content.InspectReply
 plain_reply count body.History = Some content.HistoryReply
 plain_reply count body.CommInfo = Some content.CommInfoReply
 plain_reply count (body.BadDebug response) = Some (content.DebugReply response)
-plain_reply count (body.BadContent needy.Execute) = Some (content.ExecuteReply count (Failed cause.BadContent))
+plain_reply count (body.BadContent needy.Execute) =
+    Some (content.ExecuteReply count (Failed cause.BadContent))
 plain_reply count (body.BadContent needy.IsComplete) = Some (content.BadContentReply bad.IsComplete)
 plain_reply count (body.BadContent needy.Complete) = Some (content.BadContentReply bad.Complete)
 plain_reply count (body.BadContent needy.Shutdown) = Some (content.BadContentReply bad.Shutdown)
@@ -79,7 +81,8 @@ abbrev pub reply_to : ℕ → Request → Content → Letter
 reply_to n r c = replied n r.identities r.header c
 
 abbrev pub replying : ℕ → Request → Content → ℕ → KernelState → Turn
-replying n r c unix_seconds s = posting Arrived unix_seconds (enclosed s.connections r.header (reply_to n r c ∷ [])) s
+replying n r c unix_seconds s =
+    posting Arrived unix_seconds (enclosed s.connections r.header (reply_to n r c ∷ [])) s
 
 -- ---- executions
 
@@ -93,7 +96,7 @@ abbrev pub queue_full : ℕ → Request → ExecuteRequest → ℕ → KernelSta
 queue_full n r x unix_seconds s = posting Arrived unix_seconds
     (enclosed s.connections r.header (full_letters n r x.is_silent s.connections s.work.count)) s
 
-abbrev pub executing : ℕ → List ℕ → Request → ExecuteRequest → ℕ → KernelState → Turn
+abbrev pub executing : ℕ → Bytes → Request → ExecuteRequest → ℕ → KernelState → Turn
 executing n identity r x unix_seconds s =
     if nat_lt (length s.work.queue) 64
     then quiet Arrived (record s { work = queued (execution_of n identity r x) s.work })
@@ -117,7 +120,8 @@ with_board b w s = record s { board = b; work = w }
 
 abbrev pub interrupting : ℕ → Request → ℕ → KernelState → Turn
 interrupting n r unix_seconds s = posting Arrived unix_seconds
-    (enclosed s.connections r.header (cut_letters cause.Interrupted s ++ reply_to n r content.InterruptReply ∷ []))
+    (enclosed s.connections r.header
+    (cut_letters cause.Interrupted s ++ reply_to n r content.InterruptReply ∷ []))
     (with_board (interrupted s.board) (cut_work s) s)
 
 abbrev pub shut : KernelState → KernelState
@@ -128,7 +132,8 @@ abbrev pub shutting : ℕ → Request → Bool → ℕ → KernelState → Turn
 shutting n r false unix_seconds s = posting Arrived unix_seconds
     (enclosed s.connections r.header (reply_to n r (content.ShutdownReply false) ∷ [])) (shut s)
 shutting n r true unix_seconds s = posting Arrived unix_seconds
-    (enclosed s.connections r.header (cut_letters cause.Reset s ++ reply_to n r (content.ShutdownReply true) ∷ []))
+    (enclosed s.connections r.header
+    (cut_letters cause.Reset s ++ reply_to n r (content.ShutdownReply true) ∷ []))
     (shut (with_board (reset s.board) (cut_work s) s))
 
 -- ---- debug requests
@@ -156,7 +161,7 @@ abbrev pub after_letter : Option Event → Request → KernelState → Option Le
 after_letter None r s = None
 after_letter (Some e) r s = Some (published s.connections r.header (content.DebugEvent e))
 
-abbrev pub refusing : ℕ → Request → DapRequest → List ℕ → ℕ → KernelState → Turn
+abbrev pub refusing : ℕ → Request → DapRequest → Text → ℕ → KernelState → Turn
 refusing n r d message unix_seconds s = posting Arrived unix_seconds
     (enclosed s.connections r.header (debug_reply n r d (Refused message) ∷ [])) s
 
@@ -183,14 +188,15 @@ is_bounded _ = true
 
 abbrev pub debugging : ℕ → Request → DapRequest → ℕ → KernelState → Turn
 debugging n r d unix_seconds s =
-    if is_bounded d.command then performing n r d unix_seconds s else refusing n r d (codes "Arguments") unix_seconds s
+    if is_bounded d.command then performing n r d unix_seconds s
+    else refusing n r d (codes "Arguments") unix_seconds s
 
 -- ---- the others
 
-abbrev pub typing : List ℕ → KernelState → Turn
+abbrev pub typing : Bytes → KernelState → Turn
 typing bytes s = quiet Arrived (record s { board = with_operation (Typed bytes) s.board })
 
-abbrev pub closing : Request → List ℕ → ℕ → KernelState → Turn
+abbrev pub closing : Request → Text → ℕ → KernelState → Turn
 closing r comm_id unix_seconds s = posting Arrived unix_seconds
     (enclosed s.connections r.header (published s.connections r.header (content.CommClose comm_id) ∷ [])) s
 
@@ -203,7 +209,7 @@ abbrev pub unanswered : Request → NeedyRequest → ℕ → KernelState → Tur
 unanswered r needy.InputReply unix_seconds s = quiet Arrived s
 unanswered r _ unix_seconds s = passing r unix_seconds s
 
-abbrev pub other : ℕ → List ℕ → Request → RequestBody → ℕ → KernelState → Turn
+abbrev pub other : ℕ → Bytes → Request → RequestBody → ℕ → KernelState → Turn
 other n identity r (body.Execute x) unix_seconds s = executing n identity r x unix_seconds s
 other n identity r (body.CommOpen comm_id) unix_seconds s = closing r comm_id unix_seconds s
 other n identity r (body.Shutdown restarts) unix_seconds s = shutting n r restarts unix_seconds s
@@ -213,7 +219,7 @@ other n identity r (body.InputReply typed) unix_seconds s = typing typed s
 other n identity r (body.BadContent lacking) unix_seconds s = unanswered r lacking unix_seconds s
 other n identity r _ unix_seconds s = passing r unix_seconds s
 
-abbrev pub by_reply : Option Content → ℕ → List ℕ → Request → ℕ → KernelState → Turn
+abbrev pub by_reply : Option Content → ℕ → Bytes → Request → ℕ → KernelState → Turn
 by_reply (Some c) n identity r unix_seconds s = replying n r c unix_seconds s
 by_reply None n identity r unix_seconds s = other n identity r r.body unix_seconds s
 

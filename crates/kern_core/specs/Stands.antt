@@ -29,9 +29,10 @@ pub record StandsFor (v : KernelFields) (s : KernelState) : Type 0 where
 abbrev pub StandsIn : RunState → KernelFields → KernelState → Type 0
 StandsIn run v s = StandsFor v s × (s.board.run ≡ run)
 
--- Whatever such state there was, the answer is the turn's, and the fields stand for what it makes of the state. Out of
--- memory isn't in it.
-abbrev pub MakesFrom : (KernelState → Type 0) → (KernelState → Turn) → Result Reply KernelFault → KernelFields → Type 0
+-- Whatever such state there was, the answer is the turn's, and the fields stand for what it makes of the
+-- state. Out of memory isn't in it.
+abbrev pub MakesFrom : (KernelState → Type 0) → (KernelState → Turn) → Result Reply KernelFault → KernelFields
+    → Type 0
 MakesFrom holds f answer new =
     (s : KernelState) → holds s → answer ≢ Err OutOfMemory
     → (answer ≡ (f s).answer) × StandsFor new (after (f s))
@@ -65,5 +66,6 @@ abbrev pub Takes : (KernelState → Turn) → KernelFields → Result Reply Kern
 Takes f old answer new = Makes f old answer new × IsOneCall old answer new
 
 -- so where the run is in this state
-abbrev pub TakesIn : RunState → (KernelState → Turn) → KernelFields → Result Reply KernelFault → KernelFields → Type 0
+abbrev pub TakesIn : RunState → (KernelState → Turn) → KernelFields → Result Reply KernelFault → KernelFields
+    → Type 0
 TakesIn run f old answer new = MakesFrom (StandsIn run old) f answer new × IsOneCall old answer new

@@ -39,4 +39,5 @@ abbrev pub quiet : Reply → KernelState → Turn
 quiet reply s = record { answer = Ok reply; state = s; unix_seconds = 0; letters = [] }
 
 abbrev pub posting : Reply → ℕ → List Letter → KernelState → Turn
-posting reply unix_seconds letters s = record { answer = Ok reply; state = s; unix_seconds = unix_seconds; letters = letters }
+posting reply unix_seconds letters s =
+    record { answer = Ok reply; state = s; unix_seconds = unix_seconds; letters = letters }

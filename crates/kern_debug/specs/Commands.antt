@@ -1,6 +1,7 @@
 -- What each debug command makes of a board (Debug Adapter Protocol, "Requests"; Jupyter messaging,
 -- "Debug request").
-use Rattle.std.specs.Prelude.{ℕ, ◌+◌, List, Result, Ok, Err, OnErr, ◌≡◌, Bool, true, false}
+use Rattle.std.specs.Prelude.{ℕ, ◌+◌, Result, Ok, Err, OnErr, ◌≡◌, Bool, true, false}
+use Rattle.base_text.specs.Bytes.{Text}
 use Rattle.base_text.specs.Latin.{latin_bytes}
 use Rattle.i80_rows.specs.declared.board.Board.{Board as BoardOption}
 use Rattle.i80_rows.specs.declared.board.Board.TheVariants.{Strict, Aliases}
@@ -81,7 +82,7 @@ board_with true = Aliases
 board_with false = Strict
 
 -- a cell's text is kept under the path by which a frontend knows it
-abbrev pub dumped : List ℕ → Board → Performed
+abbrev pub dumped : Text → Board → Performed
 dumped code b = done (event.Dump (cell_path code) code) (body.SourcePath (cell_path code)) b
 
 -- what a command makes of a board: the body of its response and the board after it, or why it is refused

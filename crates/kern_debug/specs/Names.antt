@@ -1,5 +1,6 @@
 -- The names of refusals, and the events that follow commands.
-use Rattle.std.specs.Prelude.{ℕ, List, Option, Some, None, codes}
+use Rattle.std.specs.Prelude.{Option, Some, None, codes}
+use Rattle.base_text.specs.Bytes.{Text}
 use Rattle.lab_core.specs.declared.fault.EventFault.{EventFault}
 use Rattle.lab_core.specs.declared.fault.EventFault.TheVariants as fault
 use Rattle.dap_answers.specs.declared.answer.Event.{Event}
@@ -9,7 +10,7 @@ use Rattle.dap_talk.specs.declared.command.DapCommand.{DapCommand}
 use Rattle.dap_talk.specs.declared.command.DapCommand.TheVariants as command
 
 -- the message of a response that refuses (Debug Adapter Protocol, "Base Protocol": Response)
-abbrev pub refusal_name : EventFault → List ℕ
+abbrev pub refusal_name : EventFault → Text
 refusal_name fault.OutOfMemory = codes "OutOfMemory"
 refusal_name fault.NotRunning = codes "NotRunning"
 refusal_name fault.NotStopped = codes "NotStopped"

@@ -26,7 +26,8 @@ join_fits : (channel : Channel) (identity : List ℕ) (s : KernelState)
 unfolding turn
 join_fits channel identity s = join_at _ s _ _ _
 
-entry_fits : (v w : PassState Call) (channel : Channel) (identity : List ℕ) (answer : Result Reply KernelFault)
+entry_fits : (v w : PassState Call) (channel : Channel) (identity : List ℕ)
+    (answer : Result Reply KernelFault)
     → Turned seated_answer is_entry is_full v (Join channel identity) answer w → is_entry answer ≡ true
     → IsJoinAnswer answer
 entry_fits v w channel identity answer t h =

@@ -1,6 +1,7 @@
 -- What executions ask of the board.
-use Rattle.std.specs.Prelude.{ℕ, List, Bool, true, false, Some, Ok, Err}
+use Rattle.std.specs.Prelude.{ℕ, Bool, true, false, Some, Ok, Err}
 use Rattle.std.specs.Prelude.{if◌then◌else◌}
+use Rattle.base_text.specs.Bytes.{Text}
 use Rattle.lab_core.specs.declared.run_state.RunState.{RunState}
 use Rattle.lab_core.specs.declared.run_state.RunState.TheVariants.{NoRun, Running, Stopped}
 use Rattle.lab_core.specs.declared.event.Event.TheVariants.{Load}
@@ -32,7 +33,7 @@ board_after b (Err f) = b
 -- ---- a cell
 
 -- a cell is kept and loaded under the path by which frontends know it
-abbrev pub cell_given : List ℕ → Board → Given
+abbrev pub cell_given : Text → Board → Given
 cell_given text b = given (Load (cell_path text) text) b
 
 -- the other refusals don't come where there is no run

@@ -2,6 +2,7 @@
 use Rattle.std.specs.Prelude.{ℕ, ◌==◌, List, [], ◌∷◌, ◌++◌, Bool, true, false, Option, Some, None}
 use Rattle.std.specs.Prelude.{if◌then◌else◌}
 use Rattle.std.specs.List.{filter_map, list_any}
+use Rattle.base_text.specs.Bytes.{Bytes}
 use Rattle.i80_exec.specs.declared.ports.PortOperation.{PortOperation}
 use Rattle.i80_exec.specs.declared.ports.PortOperation.TheVariants.{In, Out}
 use Rattle.lab_core.specs.declared.answer.SliceOutcome.{SliceOutcome}
@@ -30,10 +31,11 @@ use Rattle.kern_exec.specs.Letters.{published, addressed, replied}
 -- ---- the end
 
 -- where the execution isn't silent and failed
-abbrev pub error_letters : Bool → Connections → List ℕ → Ending → List Letter
+abbrev pub error_letters : Bool → Connections → Bytes → Ending → List Letter
 error_letters true connections parent ending = []
 error_letters false connections parent Done = []
-error_letters false connections parent (Failed cause) = published connections parent (content.Error cause) ∷ []
+error_letters false connections parent (Failed cause) =
+    published connections parent (content.Error cause) ∷ []
 
 abbrev pub end_letters : Connections → Current → Ending → List Letter
 end_letters connections c ending =
@@ -61,7 +63,8 @@ end_of_loading connections c (Ends ending) = end_letters connections c ending
 
 abbrev pub loading_letters : Connections → Current → Loading → List Letter
 loading_letters connections c loading =
-    published connections c.execution.header (content.Status Busy) ∷ (input_letters connections c ++ end_of_loading connections c loading)
+    published connections c.execution.header (content.Status Busy) ∷
+    (input_letters connections c ++ end_of_loading connections c loading)
 
 -- ---- a slice of the run
 
@@ -70,7 +73,7 @@ abbrev pub printed : PortOperation → Option ℕ
 printed (In port byte) = None
 printed (Out port byte) = if port == 1 then Some byte else None
 
-abbrev pub stream_letters : Connections → Current → List ℕ → List Letter
+abbrev pub stream_letters : Connections → Current → Bytes → List Letter
 stream_letters connections c [] = []
 stream_letters connections c (byte ∷ bytes) =
     if c.execution.request.is_silent then [] else
@@ -85,15 +88,17 @@ abbrev pub to_stdin : Option ℕ → Current → Option Envelope
 to_stdin None c = None
 to_stdin (Some n) c = Some (addressed n c.execution.identities c.execution.header)
 
--- a request for it goes to the stdin connection that has the identity with which the requester joined, where the
--- request allows it
+-- a request for it goes to the stdin connection that has the identity with which the requester joined, where
+-- the request allows it
 abbrev pub line_envelope : Connections → Current → Option Envelope
 line_envelope connections c =
-    if c.execution.request.allows_stdin then to_stdin (stdin_of c.execution.identity connections.peers) c else None
+    if c.execution.request.allows_stdin then to_stdin (stdin_of c.execution.identity connections.peers) c
+    else None
 
 abbrev pub input_requests : Option Envelope → Bool → List Letter
 input_requests None wants_line = []
-input_requests (Some e) wants_line = if wants_line then record { envelope = e; content = content.InputRequest } ∷ [] else []
+input_requests (Some e) wants_line =
+    if wants_line then record { envelope = e; content = content.InputRequest } ∷ [] else []
 
 abbrev pub reason_of : Stop → StopReason
 reason_of stop.Breakpoint = reason.Breakpoint

@@ -1,5 +1,6 @@
 -- Executions: those that wait, and the one that is under way.
 use Rattle.std.specs.Prelude.{ℕ, ◌+◌, List, [], ◌∷◌, ◌++◌, not, ◌&&◌, Option, Some, None, if◌then◌else◌}
+use Rattle.base_text.specs.Bytes.{Bytes}
 use Rattle.kern_request.specs.declared.request.Request.{Request}
 use Rattle.kern_request.specs.declared.request.ExecuteRequest.{ExecuteRequest}
 use Rattle.kern_exec.specs.declared.execution.Execution.{Execution}
@@ -19,7 +20,7 @@ abbrev pub nothing : Work
 nothing = record { queue = []; current = None; pending = None; count = 0 }
 
 -- what a connection asked for that joined with this identity
-abbrev pub execution_of : ℕ → List ℕ → Request → ExecuteRequest → Execution
+abbrev pub execution_of : ℕ → Bytes → Request → ExecuteRequest → Execution
 execution_of n identity r x = record {
   connection = n;
   identity = identity;

@@ -1,5 +1,6 @@
 -- Envelopes that are made before the board goes on: the letters of `Ends.antt` are put into them.
-use Rattle.std.specs.Prelude.{◌≡◌, ◌≤◌, ℕ, List, [], ◌∷◌, codes, vec_capacity}
+use Rattle.std.specs.Prelude.{◌≡◌, ◌≤◌, [], ◌∷◌, codes, vec_capacity}
+use Rattle.base_text.specs.Bytes.{Bytes}
 use Rattle.kern_post.specs.declared.content.Content.TheVariants as content
 use Rattle.kern_post.specs.declared.content.ExecutionState.TheVariants.{Busy, Idle}
 use Rattle.kern_peers.specs.Connections.{Connections}
@@ -12,7 +13,7 @@ use Rattle.kern_exec.specs.Letters.{published_under, published, addressed}
 use Rattle.kern_exec.specs.Ends.{input_letters, line_envelope}
 
 -- of a request
-pub record IsEnclosed (connections : Connections) (parent : List ℕ) (a : BusyIdle) : Type 0 where
+pub record IsEnclosed (connections : Connections) (parent : Bytes) (a : BusyIdle) : Type 0 where
   pub letters : a.letters ≡ published connections parent (content.Status Busy) ∷ []
   pub idle : a.idle ≡ published connections parent (content.Status Idle)
 
@@ -38,5 +39,6 @@ pub record IsSliceKit (connections : Connections) (c : Current) (k : SliceKit) :
 
 -- of a cell that is loaded
 pub record IsLoadingKit (connections : Connections) (c : Current) (k : LoadingKit) : Type 0 where
-  pub letters : k.letters ≡ published connections c.execution.header (content.Status Busy) ∷ input_letters connections c
+  pub letters : k.letters
+      ≡ published connections c.execution.header (content.Status Busy) ∷ input_letters connections c
   pub end : k.end ≡ end_kit_of connections c

@@ -1,6 +1,7 @@
 //! How an execution ends.
-ghost use Rattle.std.specs.Prelude.{◌≡◌, ◌<◌, ◌≤◌, ◌+◌, ◌++◌, ℕ, List, length, ◌∷◌, [], Option, option_map};
+ghost use Rattle.std.specs.Prelude.{◌≡◌, ◌<◌, ◌≤◌, ◌+◌, ◌++◌, length, ◌∷◌, [], Option, option_map};
 ghost use Rattle.std.specs.Prelude.{IfOk, codes};
+ghost use Rattle.base_text.specs.Bytes.{Bytes};
 ghost use Rattle.kern_post.specs.declared.content.Ending.{Ending};
 ghost use Rattle.kern_exec.specs.declared.execution.Current.{Current};
 ghost use Rattle.kern_peers.specs.Connections.{Connections};
@@ -60,7 +61,7 @@ pub fn end_kit(
 
 fn push_error(letters: &mut Letters, envelope: Envelope, is_silent: bool, ending: Ending)
     requires { length letters.old < 8 }
-    ensures said { (connections : Connections) (parent : List ℕ)
+    ensures said { (connections : Connections) (parent : Bytes)
         → envelope ≡ published_under connections parent (codes "error")
         → letters.new ≡ letters.old ++ error_letters is_silent connections parent ending }
     ensures few { length letters.new ≤ length letters.old + 1 }

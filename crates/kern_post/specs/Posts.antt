@@ -8,7 +8,8 @@ use Rattle.kern_post.specs.declared.post.Post.{Post}
 abbrev pub numbered : ℕ → ℕ → List Letter → List Post
 numbered last unix_seconds [] = []
 numbered last unix_seconds (l ∷ ls) =
-    record { number = last + 1; unix_seconds = unix_seconds; letter = l } ∷ numbered (last + 1) unix_seconds ls
+    record { number = last + 1; unix_seconds = unix_seconds; letter = l } ∷
+    numbered (last + 1) unix_seconds ls
 
 -- all posts, with these letters posted
 abbrev pub posted : ℕ → List Letter → List Post → List Post

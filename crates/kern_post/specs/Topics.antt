@@ -1,18 +1,19 @@
 -- The types of messages (Jupyter messaging, "Messages on the shell (ROUTER/DEALER) channel" and
 -- "Messages on the IOPub (PUB/SUB) channel").
-use Rattle.std.specs.Prelude.{ℕ, List, codes}
+use Rattle.std.specs.Prelude.{codes}
+use Rattle.base_text.specs.Bytes.{Text}
 use Rattle.kern_post.specs.declared.content.Content.{Content}
 use Rattle.kern_post.specs.declared.content.Content.TheVariants as content
 use Rattle.kern_post.specs.declared.content.RefusedRequest.{RefusedRequest}
 use Rattle.kern_post.specs.declared.content.RefusedRequest.TheVariants as request
 
 -- the reply to a request whose content isn't as needed
-abbrev pub refused_topic : RefusedRequest → List ℕ
+abbrev pub refused_topic : RefusedRequest → Text
 refused_topic request.IsComplete = codes "is_complete_reply"
 refused_topic request.Complete = codes "complete_reply"
 refused_topic request.Shutdown = codes "shutdown_reply"
 
-abbrev pub topic_of : Content → List ℕ
+abbrev pub topic_of : Content → Text
 topic_of (content.Status state) = codes "status"
 topic_of (content.ExecuteInput code count) = codes "execute_input"
 topic_of (content.Stream bytes) = codes "stream"

@@ -1,6 +1,7 @@
 -- What is said of a cause (Jupyter messaging, "Request-reply", "Execution errors"): its name, its
 -- value, and a traceback of one line.
-use Rattle.std.specs.Prelude.{ℕ, List, [], ◌∷◌, ◌++◌, codes, decimal}
+use Rattle.std.specs.Prelude.{[], ◌∷◌, ◌++◌, codes, decimal}
+use Rattle.base_text.specs.Bytes.{Text}
 use Rattle.serde_json.specs.Data.{Data, string}
 use Rattle.base_text.specs.Hexadecimal.{upper_byte, upper_word}
 use Rattle.asm_syntax.specs.Faults.{fault_name}
@@ -10,7 +11,7 @@ use Rattle.kern_post.specs.declared.content.Cause.{Cause}
 use Rattle.kern_post.specs.declared.content.Cause.TheVariants as cause
 use Rattle.dap_answers.specs.Json.{list_of}
 
-abbrev pub ename_of : Cause → List ℕ
+abbrev pub ename_of : Cause → Text
 ename_of (cause.Assembly f) = codes "AssemblyError"
 ename_of (cause.UndefinedOpcode opcode pc) = codes "UndefinedOpcode"
 ename_of cause.Interrupted = codes "Interrupted"
@@ -21,19 +22,19 @@ ename_of cause.SourceNameTaken = codes "SourceNameTaken"
 ename_of cause.SourcesFull = codes "SourcesFull"
 
 -- the line and the column, from 1, and what is wrong there
-abbrev pub fault_text : AsmFault → List ℕ
+abbrev pub fault_text : AsmFault → Text
 fault_text asm.OutOfMemory = codes "OutOfMemory"
 fault_text (asm.At line column kind) =
     decimal line ++ codes ":" ++ decimal column ++ codes " " ++ fault_name kind
 
 -- empty where the name says all
-abbrev pub evalue_of : Cause → List ℕ
+abbrev pub evalue_of : Cause → Text
 evalue_of (cause.Assembly f) = fault_text f
 evalue_of (cause.UndefinedOpcode opcode pc) = upper_byte opcode ++ codes " at " ++ upper_word pc
 evalue_of _ = []
 
 -- the blank stands also before an empty value
-abbrev pub error_line : Cause → List ℕ
+abbrev pub error_line : Cause → Text
 error_line c = ename_of c ++ codes ": " ++ evalue_of c
 
 abbrev pub traceback_of : Cause → Data

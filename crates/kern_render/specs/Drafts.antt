@@ -1,5 +1,6 @@
 -- What is handed over to be sealed.
-use Rattle.std.specs.Prelude.{◌≡◌, ℕ, List}
+use Rattle.std.specs.Prelude.{◌≡◌}
+use Rattle.base_text.specs.Bytes.{Text}
 use Rattle.serde_json.specs.View.{view}
 use Rattle.jup_wire.specs.declared.sealing.Draft.{Draft}
 use Rattle.jup_wire.specs.Header.{empty_object}
@@ -8,7 +9,7 @@ use Rattle.kern_render.specs.Json.{content_json}
 use Rattle.kern_render.specs.Rendering.{post_header, head_frames}
 
 -- the draft of the post's message, with this date in the header
-pub record IsDraftOf (date : List ℕ) (session : List ℕ) (post : Post) (d : Draft) : Type 0 where
+pub record IsDraftOf (date session : Text) (post : Post) (d : Draft) : Type 0 where
   pub identities : d.identities ≡ head_frames post.letter.envelope.head post.letter.content
   pub header : view d.header ≡ post_header date session post.number post.letter.content
   pub parent_header : d.parent_header ≡ post.letter.envelope.parent

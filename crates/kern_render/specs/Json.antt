@@ -2,6 +2,7 @@
 -- "Messages on the IOPub (PUB/SUB) channel", "Messages on the stdin (ROUTER/DEALER) channel"). The
 -- members of an object stand in the order of their keys' bytes.
 use Rattle.std.specs.Prelude.{ℕ, Bool, true, false, List, [], ◌∷◌, codes}
+use Rattle.base_text.specs.Bytes.{Bytes, Text}
 use Rattle.serde_json.specs.Data.{Data, boolean, string}
 use Rattle.base_text.specs.Latin.{latin_text}
 use Rattle.dap_answers.specs.Json.{object_of, whole_number, list_of, response_json, event_json}
@@ -25,20 +26,20 @@ empty_list = list_of string []
 
 -- ---- what all frontends are told, and what one is asked
 
-abbrev pub state_text : ExecutionState → List ℕ
+abbrev pub state_text : ExecutionState → Text
 state_text state.Busy = codes "busy"
 state_text state.Idle = codes "idle"
 
 abbrev pub status_json : ExecutionState → Data
 status_json s = object_of ((codes "execution_state", string (state_text s)) ∷ [])
 
-abbrev pub execute_input_json : List ℕ → ℕ → Data
+abbrev pub execute_input_json : Text → ℕ → Data
 execute_input_json code count = object_of (
     (codes "code", string code) ∷
     (codes "execution_count", whole_number count) ∷ [])
 
 -- each byte is the character of that number
-abbrev pub stream_json : List ℕ → Data
+abbrev pub stream_json : Bytes → Data
 stream_json bytes = object_of (
     (codes "name", string (codes "stdout")) ∷
     (codes "text", string (latin_text bytes)) ∷ [])
@@ -49,7 +50,7 @@ input_request_json = object_of (
     (codes "prompt", string []) ∷ [])
 
 -- what an error and each reply that tells of one say of the cause
-abbrev pub cause_members : Cause → List (List ℕ × Data)
+abbrev pub cause_members : Cause → List (Text × Data)
 cause_members c =
     (codes "ename", string (ename_of c)) ∷
     (codes "evalue", string (evalue_of c)) ∷
@@ -58,7 +59,7 @@ cause_members c =
 abbrev pub error_json : Cause → Data
 error_json c = object_of (cause_members c)
 
-abbrev pub comm_close_json : List ℕ → Data
+abbrev pub comm_close_json : Text → Data
 comm_close_json comm_id = object_of (
     (codes "comm_id", string comm_id) ∷
     (codes "data", empty_object) ∷ [])

@@ -1,5 +1,6 @@
 -- The frames of a post (Jupyter messaging, "The Wire Protocol", "Message header").
-use Rattle.std.specs.Prelude.{◌≡◌, ℕ, List, [], ◌∷◌, min}
+use Rattle.std.specs.Prelude.{◌≡◌, ℕ, [], ◌∷◌, min}
+use Rattle.base_text.specs.Bytes.{Bytes, Text, Frames}
 use Rattle.serde_json.specs.Data.{Data}
 use Rattle.serde_json.specs.Written.{compact_text}
 use Rattle.jup_wire.specs.declared.message.Parts.{Parts}
@@ -14,16 +15,16 @@ use Rattle.kern_render.specs.Json.{content_json}
 use Rattle.jup_date.specs.Dates.{IsDate, last_moment}
 
 -- the header of the post's message
-abbrev pub post_header : List ℕ → List ℕ → ℕ → Content → Data
+abbrev pub post_header : Text → Text → ℕ → Content → Data
 post_header date session number content = header_json date session number (topic_of content)
 
 -- what stands before the delimiter
-abbrev pub head_frames : Head → Content → List (List ℕ)
+abbrev pub head_frames : Head → Content → Frames
 head_frames Topic content = topic_of content ∷ []
 head_frames (Identities frames) content = frames
 
 -- the JSON parts are the compact texts of their values
-abbrev pub parts_of : List ℕ → List ℕ → Post → Parts
+abbrev pub parts_of : Text → Text → Post → Parts
 parts_of date session post = record {
   identities = head_frames post.letter.envelope.head post.letter.content;
   header = compact_text (post_header date session post.number post.letter.content);
@@ -33,11 +34,12 @@ parts_of date session post = record {
 }
 
 -- the frames under a key, with this date in the header
-abbrev pub rendered : List ℕ → List ℕ → List ℕ → Post → List (List ℕ)
+abbrev pub rendered : Text → Bytes → Text → Post → Frames
 rendered date key session post =
     frames_of (parts_of date session post) (signature_frame key (parts_of date session post))
 
 -- these are the frames; a later moment counts as the last one that is written
-abbrev pub IsRendered : List ℕ → List ℕ → Post → List (List ℕ) → Type 0
+abbrev pub IsRendered : Bytes → Text → Post → Frames → Type 0
 IsRendered key session post frames =
-    (date : List ℕ) × IsDate (min post.unix_seconds last_moment) date × (frames ≡ rendered date key session post)
+    (date : Text) × IsDate (min post.unix_seconds last_moment) date
+    × (frames ≡ rendered date key session post)

@@ -1,5 +1,6 @@
 //! Laws of the definitions.
-ghost use Rattle.std.specs.Prelude.{◌≡◌, ◌≤◌, ℕ, List, false};
+ghost use Rattle.std.specs.Prelude.{◌≡◌, ◌≤◌, ℕ, false};
+ghost use Rattle.base_text.specs.Bytes.{Bytes, Text, Frames};
 ghost use Rattle.kern_post.specs.declared.post.Post.{Post};
 ghost use Rattle.kern_render.specs.Rendering.{IsRendered};
 ghost use Rattle.serde_json.specs.Data.{depth};
@@ -21,6 +22,6 @@ pub fn is_shallow()
 
 /// The frames of a post under a key are determined.
 pub fn has_one_rendering()
-    ensures { (key : List ℕ) (session : List ℕ) (post : Post) (a : List (List ℕ)) (b : List (List ℕ))
+    ensures { (key : Bytes) (session : Text) (post : Post) (a b : Frames)
         → IsRendered key session post a → IsRendered key session post b → a ≡ b }
 {}

@@ -1,12 +1,13 @@
 -- The types of requests, and the channels on which each is answered.
-use Rattle.std.specs.Prelude.{ℕ, List, [], ◌∷◌, Option, find, codes}
+use Rattle.std.specs.Prelude.{List, [], ◌∷◌, Option, find, codes}
 use Rattle.std.specs.Str.{bytes_eq}
+use Rattle.base_text.specs.Bytes.{Text}
 use Rattle.jup_wire.specs.declared.channel.Channel.{Channel}
 use Rattle.jup_wire.specs.declared.channel.Channel.TheVariants.{Shell, Control, Stdin, Iopub}
 use Rattle.kern_request.specs.declared.message_type.MessageType.{MessageType}
 use Rattle.kern_request.specs.declared.message_type.MessageType.TheVariants as message
 
-abbrev pub spelled : MessageType → List ℕ
+abbrev pub spelled : MessageType → Text
 spelled message.KernelInfo = codes "kernel_info_request"
 spelled message.Execute = codes "execute_request"
 spelled message.IsComplete = codes "is_complete_request"
@@ -30,9 +31,9 @@ types_on Stdin = message.InputReply ∷ []
 types_on Iopub = []
 
 -- the first of these that is spelled so
-abbrev pub first_named : List MessageType → List ℕ → Option MessageType
+abbrev pub first_named : List MessageType → Text → Option MessageType
 first_named types t = find (λ message_type. bytes_eq (spelled message_type) t) types
 
 -- the type that is spelled so, if the channel has it
-abbrev pub named : Channel → List ℕ → Option MessageType
+abbrev pub named : Channel → Text → Option MessageType
 named channel t = first_named (types_on channel) t

@@ -1,7 +1,6 @@
 -- What a message asks for, by its channel, its type and its content (Jupyter messaging 5.4).
 use Rattle.std.specs.Prelude.{
   ℕ,
-  List,
   [],
   ◌∷◌,
   ◌++◌,
@@ -15,6 +14,7 @@ use Rattle.std.specs.Prelude.{
   option_and_then,
   codes,
 }
+use Rattle.base_text.specs.Bytes.{Text}
 use Rattle.serde_json.specs.Data.{Data}
 use Rattle.serde_json.specs.Find.{get, as_bool}
 use Rattle.serde_json.specs.View.{view}
@@ -40,15 +40,15 @@ truth_in absent None = Some absent
 truth_in absent (Some d) = as_bool d
 
 -- a truth value, and what it is where the object has none
-abbrev pub truth_or : Bool → List ℕ → Data → Option Bool
+abbrev pub truth_or : Bool → Text → Data → Option Bool
 truth_or absent key content = option_and_then (truth_in absent) (member_at key content)
 
-abbrev pub whole_at : List ℕ → Data → Option ℕ
+abbrev pub whole_at : Text → Data → Option ℕ
 whole_at key content = option_and_then whole (get key content)
 
 -- ---- what is asked for, if the content is as needed
 
-abbrev pub execution : List ℕ → Bool → Bool → Bool → RequestBody
+abbrev pub execution : Text → Bool → Bool → Bool → RequestBody
 execution code silent stores_history allows_stdin =
     body.Execute (record {
       code = code;
@@ -81,7 +81,7 @@ abbrev pub shutdown_body : Data → Option RequestBody
 shutdown_body content = option_map body.Shutdown (truth_or false (codes "restart") content)
 
 -- the line that was typed, with its LF
-abbrev pub typed_line : List ℕ → RequestBody
+abbrev pub typed_line : Text → RequestBody
 typed_line value = body.InputReply (latin_bytes value ++ 10 ∷ [])
 
 abbrev pub input_reply_body : Data → Option RequestBody
@@ -119,7 +119,7 @@ body_or_unknown None content = body.Unknown
 body_or_unknown (Some message_type) content = body_by_type message_type content
 
 -- what a message of this type asks for on this channel
-unfoldable pub body_of : Channel → List ℕ → Data → RequestBody
+unfoldable pub body_of : Channel → Text → Data → RequestBody
 body_of channel msg_type content = body_or_unknown (named channel msg_type) content
 
 -- with what its reply repeats of it

@@ -18,8 +18,8 @@ use Rattle.zmtp_peer.specs.Receiving.{Received, most_reads}
 use Rattle.zmtp_peer.specs.declared.handshake.Peer.{Peer}
 use Rattle.zmtp_peer.specs.Sending.{IsHandshakeOf, WroteFront, WroteWhole, messages_bytes, Echoes}
 use Rattle.zmtp_peer.specs.Beating.{Conversation, EchoedPiece, EchoedRound, LostPiece, LostRound}
-use Rattle.zmtp_peer.proofs.ReceivingLemmas.{explains_stop, failed_stop, gave_whole, most_at, most_below, most_is}
-use Rattle.zmtp_peer.proofs.ReceivingLemmas.{peer_of, told_none}
+use Rattle.zmtp_peer.proofs.ReceivingLemmas.{explains_stop, failed_stop, gave_whole, most_at, most_below}
+use Rattle.zmtp_peer.proofs.ReceivingLemmas.{most_is, peer_of, told_none}
 use Rattle.zmtp_peer.proofs.SendingLemmas.{front_all, front_before, front_on}
 
 pub bytes_on : (m n : List (List (List ℕ))) → messages_bytes (m ++ n) ≡ messages_bytes m ++ messages_bytes n
@@ -324,8 +324,8 @@ fails_round ReadFailed from n f = inl (f refl)
 fails_round _ from n f = tt
 
 -- a piece ended it
-ended_piece : (from g1 g2 : InletState) (to t1 t2 : OutletState) (s t : DecoderState) (piece : List ℕ) (n c : ℕ)
-    (fault : PeerFault) → n + c ≤ most_reads → Gave g1 g2 piece → WasRead g1 g2 c
+ended_piece : (from g1 g2 : InletState) (to t1 t2 : OutletState) (s t : DecoderState) (piece : List ℕ)
+    (n c : ℕ) (fault : PeerFault) → n + c ≤ most_reads → Gave g1 g2 piece → WasRead g1 g2 c
     → LostPiece piece (conversation g1 s t1) (conversation g2 t t2) fault
     → Beats from g1 to t1 s n → Ended from g2 to t2 fault
 ended_piece from g1 g2 to t1 t2 s t piece n c fault fits o w l b =

@@ -51,6 +51,7 @@ reads_quiet role g i bytes rest (Goes g1 h i1 b1 raw others r1 s e reads) n m =
     (λ t. n (reads_stays role h i others rest reads t)) m)
 
 -- a side that has accepted no READY has read no messages
-pub decoder_quiet : (s : DecoderState) (stream : List ℕ) (messages : List (List (List ℕ))) → (s.stage ≡ Traffic → ⊥)
-    → StandsFor s stream messages → messages ≡ []
-decoder_quiet s stream messages n k = reads_quiet s.role opening (got_by s messages) stream k.rest k.reads n refl
+pub decoder_quiet : (s : DecoderState) (stream : List ℕ) (messages : List (List (List ℕ)))
+    → (s.stage ≡ Traffic → ⊥) → StandsFor s stream messages → messages ≡ []
+decoder_quiet s stream messages n k =
+    reads_quiet s.role opening (got_by s messages) stream k.rest k.reads n refl

@@ -193,8 +193,8 @@ lost_most g k role t most e unready p = record {
 }
 
 -- a decoder that isn't ready
-pub unready_by : (b : Bool) (s : DecoderState) → IsTrue b ↔ (s.stage ≡ Traffic) → b ≡ false → s.stage ≡ Traffic
-    → ⊥
+pub unready_by : (b : Bool) (s : DecoderState) → IsTrue b ↔ (s.stage ≡ Traffic) → b ≡ false
+    → s.stage ≡ Traffic → ⊥
 unready_by b s same e t = absurd (let i = same.1 t in cc)
 
 pub most_is : most_reads ≡ 4294967295

@@ -29,8 +29,8 @@ pub record EchoedRound (old new : Conversation) : Type 0 where
   pub was_read : WasRead old.inlet new.inlet 1
   pub echoed : EchoedPiece piece old.decoder new.decoder old.outlet new.outlet
 
--- the fault ended a round: so far the side received the piece, and a front of what that completes was written,
--- all of it where the fault came from reading
+-- the fault ended a round: so far the side received the piece, and a front of what that completes was
+-- written, all of it where the fault came from reading
 pub record LostPiece (piece : Bytes) (old new : Conversation) (fault : PeerFault) : Type 0 where
   pub received : Bytes
   pub unreceived : Bytes

@@ -32,7 +32,8 @@ abbrev pub FailsBy : PeerFault → InletState → ℕ → Type 0
 FailsBy ReadFailed inlet reads = (inlet.failed ≡ true) ⊎ (reads ≡ most_reads)
 FailsBy _ inlet reads = Unit {0}
 
--- what the reader gave in so many reads, as far as a decoder of this role received it, with these messages in it
+-- what the reader gave in so many reads, as far as a decoder of this role received it, with these messages
+-- in it
 pub record Ends (role : Role) (old new : InletState) (fault : PeerFault) (decoder : DecoderState)
     (messages : Messages) : Type 0 where
   pub received : Bytes

@@ -46,4 +46,5 @@ pub record Echoes (old new : OutletState) (decoder : DecoderState) (messages : M
   pub handshake : Bytes
   pub is : IsHandshakeOf handshake Rep
   pub front : TookFront old new (handshake ++ messages_bytes messages)
-  pub whole : EndsReading fault → decoder.stage ≡ Traffic → Took old new (handshake ++ messages_bytes messages)
+  pub whole : EndsReading fault → decoder.stage ≡ Traffic
+      → Took old new (handshake ++ messages_bytes messages)

@@ -1,6 +1,7 @@
 -- Frames (RFC 23, "Framing"): a flag byte, a size of one byte or of eight, and the body.
 use Rattle.std.specs.Prelude.{◌≡◌, ℕ, zero, suc, ◌+◌, ◌*◌, ◌≤◌, ◌==◌, ◌||◌, nat_le, if◌then◌else◌, Bool, true}
-use Rattle.std.specs.Prelude.{false, Option, Some, None, List, [], ◌∷◌, ◌++◌, length}
+use Rattle.std.specs.Prelude.{false, Option, Some, None, [], ◌∷◌, ◌++◌, length}
+use Rattle.zmtp_wire.specs.Wire.{Bytes}
 use Rattle.zmtp_wire.specs.declared.fault.StreamFault.{StreamFault}
 use Rattle.zmtp_wire.specs.declared.fault.StreamFault.TheVariants as fault
 use Rattle.zmtp_wire.specs.declared.head.Stage.{Stage}
@@ -10,12 +11,12 @@ use Rattle.zmtp_wire.specs.declared.head.Kind.TheVariants.{Command, Message}
 use Rattle.zmtp_wire.specs.declared.head.Position.TheVariants.{More, Last}
 
 -- the number whose bytes these are, most significant first, after the number so far
-abbrev pub number_from : ℕ → List ℕ → ℕ
+abbrev pub number_from : ℕ → Bytes → ℕ
 number_from n [] = n
 number_from n (byte ∷ bytes) = number_from (n * 256 + byte) bytes
 
 -- the number of this many more bytes, after the number so far; those that haven't come yet count as 0
-abbrev pub least_number : ℕ → ℕ → List ℕ → ℕ
+abbrev pub least_number : ℕ → ℕ → Bytes → ℕ
 least_number zero n bytes = n
 least_number (suc left) n [] = least_number left (n * 256) []
 least_number (suc left) n (byte ∷ bytes) = least_number left (n * 256 + byte) bytes
@@ -61,19 +62,19 @@ abbrev pub broken_by_flag : Stage → ℕ → ℕ → Option StreamFault
 broken_by_flag stage count flag = broken_by_kind stage count (kind_of flag)
 
 -- the digits of a size: eight where it is long, else one
-abbrev pub IsSize : Bool → List ℕ → ℕ → Type 0
+abbrev pub IsSize : Bool → Bytes → ℕ → Type 0
 IsSize true digits size = (length digits ≡ 8) × (number_from 0 digits ≡ size)
 IsSize false digits size = digits ≡ size ∷ []
 
 -- the bytes of a frame
-pub record IsFrame (raw : List ℕ) (kind : Kind) (body : List ℕ) : Type 0 where
+pub record IsFrame (raw : Bytes) (kind : Kind) (body : Bytes) : Type 0 where
   pub long : Bool
-  pub digits : List ℕ
+  pub digits : Bytes
   pub size : IsSize long digits (length body)
   pub spelled : raw ≡ flag_of kind long ∷ (digits ++ body)
 
 -- a frame within the limits that may come here
-pub record IsAllowed (stage : Stage) (count : ℕ) (raw : List ℕ) (kind : Kind) (body : List ℕ) : Type 0 where
+pub record IsAllowed (stage : Stage) (count : ℕ) (raw : Bytes) (kind : Kind) (body : Bytes) : Type 0 where
   pub frame : IsFrame raw kind body
   pub size : length body ≤ 1048576
   pub here : refusal stage count kind ≡ None

@@ -1,7 +1,8 @@
 -- The greeting (RFC 23): signature FF, 8 padding bytes, 7F; version, major and minor; mechanism, 20 bytes;
 -- as-server, one byte; filler, 31 bytes.
 use Rattle.std.specs.Prelude.{◌≡◌, ℕ, ◌+◌, ◌==◌, ◌&&◌, nat_le, nat_lt, if◌then◌else◌, Option, Some, None}
-use Rattle.std.specs.Prelude.{List, [], ◌∷◌, length}
+use Rattle.std.specs.Prelude.{[], ◌∷◌, length}
+use Rattle.zmtp_wire.specs.Wire.{Bytes}
 use Rattle.zmtp_wire.specs.declared.fault.StreamFault.{StreamFault}
 use Rattle.zmtp_wire.specs.declared.fault.StreamFault.TheVariants.{Signature, Version, Mechanism}
 
@@ -43,11 +44,11 @@ or_else (Some cause) other = Some cause
 or_else None other = other
 
 -- what the first wrong byte breaks, if there is one; the bytes begin at this place of the greeting
-abbrev pub first_broken : ℕ → List ℕ → Option StreamFault
+abbrev pub first_broken : ℕ → Bytes → Option StreamFault
 first_broken place [] = None
 first_broken place (byte ∷ bytes) = or_else (broken_by place byte) (first_broken (place + 1) bytes)
 
 -- a whole greeting that is accepted
-pub record IsGreeting (raw : List ℕ) : Type 0 where
+pub record IsGreeting (raw : Bytes) : Type 0 where
   pub whole : length raw ≡ 64
   pub good : first_broken 0 raw ≡ None

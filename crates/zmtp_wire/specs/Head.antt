@@ -1,6 +1,7 @@
 -- What the first bytes of an item say, as a function of them.
 use Rattle.std.specs.Prelude.{ℕ, zero, suc, ◌+◌, ◌*◌, nat_lt, nat_le, if◌then◌else◌, Bool, true, false}
-use Rattle.std.specs.Prelude.{Option, Some, None, List, [], ◌∷◌, length}
+use Rattle.std.specs.Prelude.{Option, Some, None, [], ◌∷◌, length}
+use Rattle.zmtp_wire.specs.Wire.{Bytes}
 use Rattle.zmtp_wire.specs.declared.fault.StreamFault.{StreamFault}
 use Rattle.zmtp_wire.specs.declared.fault.StreamFault.TheVariants as fault
 use Rattle.zmtp_wire.specs.declared.head.Stage.{Stage}
@@ -19,7 +20,7 @@ room_at (suc (suc zero)) = 16
 room_at (suc (suc (suc n))) = 0
 
 -- what the bytes of a long size say, with this many to come, after the number so far
-abbrev pub long_size : Kind → ℕ → ℕ → List ℕ → Head
+abbrev pub long_size : Kind → ℕ → ℕ → Bytes → Head
 long_size kind zero size bytes = Sized kind 9 size
 long_size kind (suc left) size [] = Wants
 long_size kind (suc left) size (byte ∷ bytes) =
@@ -27,37 +28,37 @@ long_size kind (suc left) size (byte ∷ bytes) =
     else (long_size kind left (size * 256 + byte) bytes)
 
 -- what the byte of a short size says
-abbrev pub short_size : Kind → List ℕ → Head
+abbrev pub short_size : Kind → Bytes → Head
 short_size kind [] = Wants
 short_size kind (size ∷ bytes) = Sized kind 2 size
 
 -- what the bytes after a good flag say
-abbrev pub sized : Kind → Bool → List ℕ → Head
+abbrev pub sized : Kind → Bool → Bytes → Head
 sized kind true bytes = long_size kind 8 0 bytes
 sized kind false bytes = short_size kind bytes
 
 -- a refusal comes first
-abbrev pub unless_refused : Option StreamFault → Kind → Bool → List ℕ → Head
+abbrev pub unless_refused : Option StreamFault → Kind → Bool → Bytes → Head
 unless_refused (Some c) kind long bytes = Bad c
 unless_refused None kind long bytes = sized kind long bytes
 
 -- what the bytes after a flag say
-abbrev pub flagged : Stage → ℕ → Option Kind → Bool → List ℕ → Head
+abbrev pub flagged : Stage → ℕ → Option Kind → Bool → Bytes → Head
 flagged stage count None long bytes = Bad fault.Flags
 flagged stage count (Some kind) long bytes = unless_refused (refusal stage count kind) kind long bytes
 
 -- what the bytes of a frame say
-abbrev pub frame_head : Stage → ℕ → List ℕ → Head
+abbrev pub frame_head : Stage → ℕ → Bytes → Head
 frame_head stage count [] = Wants
 frame_head stage count (flag ∷ bytes) = flagged stage count (kind_of flag) (is_long flag) bytes
 
 -- what the bytes of a greeting say, by what is wrong with them
-abbrev pub greeting_head : Option StreamFault → List ℕ → Head
+abbrev pub greeting_head : Option StreamFault → Bytes → Head
 greeting_head (Some c) bytes = Bad c
 greeting_head None bytes = if nat_le 64 (length bytes) then Greets else Wants
 
 -- what the bytes of an item say, after this many frames of its message
-abbrev pub head_of : Stage → ℕ → List ℕ → Head
+abbrev pub head_of : Stage → ℕ → Bytes → Head
 head_of Greeting count bytes = greeting_head (first_broken 0 bytes) bytes
 head_of Handshake count bytes = frame_head Handshake count bytes
 head_of Traffic count bytes = frame_head Traffic count bytes

@@ -1,12 +1,6 @@
 -- What goes over a connection.
-use Rattle.std.specs.Prelude.{ℕ, List}
-
-abbrev pub Bytes : Type 0
-Bytes = List ℕ
-
--- the frames of a message
-abbrev pub Frames : Type 0
-Frames = List Bytes
+use Rattle.std.specs.Prelude.{List}
+pub use Rattle.base_text.specs.Bytes.{Bytes, Frames}
 
 abbrev pub Messages : Type 0
 Messages = List Frames

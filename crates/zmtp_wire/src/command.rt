@@ -1,7 +1,8 @@
 //! The contents of commands: names, properties, READY.
-ghost use Rattle.std.specs.Prelude.{◌≡◌, ℕ, List, [], ◌∷◌, length, option_copied};
+ghost use Rattle.std.specs.Prelude.{◌≡◌, List, [], ◌∷◌, length, option_copied};
 ghost use Rattle.std.specs.Prelude.{IfSome, IfNone, IfOk, IfErr};
 ghost use Rattle.std.specs.Bool.{OnTrue, OnFalse};
+ghost use Rattle.zmtp_wire.specs.Wire.{Bytes};
 ghost use Rattle.zmtp_wire.specs.Framing.{number_from};
 ghost use Rattle.zmtp_wire.specs.Commands.{IsNamed, IsProperty, IsProperties, Property, property};
 ghost use Rattle.zmtp_wire.specs.Commands.{value_of, first_value, Finds, IsAccepted, IsSkipped, IsRefused};
@@ -20,7 +21,7 @@ pub struct Named<'a> {
 /// Splits off a name that isn't empty, after its length.
 pub fn split_name(bytes: &[u8]) -> Option<Named<'_>>
     ensures found { IfSome result (λ n. IsNamed bytes.now n.name.now n.others.now) }
-    ensures none { IfNone result ((name others : List ℕ) → IsNamed bytes.now name others → ⊥) }
+    ensures none { IfNone result ((name others : Bytes) → IsNamed bytes.now name others → ⊥) }
 {
     let (length, others) = bytes.split_first()?;
     let length = usize::from(*length);
@@ -57,7 +58,7 @@ struct SplitProperty<'a> {
 fn split_property(bytes: &[u8]) -> Option<SplitProperty<'_>>
     ensures found { IfSome result (λ p. IsProperty bytes.now p.name.now p.value.now p.others.now) }
     ensures none { IfNone result
-        ((name value others : List ℕ) → IsProperty bytes.now name value others → ⊥) }
+        ((name value others : Bytes) → IsProperty bytes.now name value others → ⊥) }
 {
     let Named { name, others } = split_name(bytes)?;
     if others.len() < 4 {

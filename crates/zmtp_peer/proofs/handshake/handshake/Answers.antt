@@ -12,8 +12,8 @@ returns-in-Err-clause-front g c =
 pub returns-in-Err-clause-lost : goal.returns-in-Err-clause-lost
 returns-in-Err-clause-lost g c =
     lost_writer _ _ c.args.role _ c.in-Err.fault c.in-Err.ensures.err.0 c.new.ensures.role
-    (received_first _ (record { decoder = c.new.result; messages = c.new-2.result; reads = 0 }) c.new.ensures.stands
-    c.new-2.ensures refl)
+    (received_first _ (record { decoder = c.new.result; messages = c.new-2.result; reads = 0 })
+    c.new.ensures.stands c.new-2.ensures refl)
 
 pub returns-in-Err-await_greeting-clause-front : goal.returns-in-Err-await_greeting-clause-front
 returns-in-Err-await_greeting-clause-front g c =
@@ -44,8 +44,8 @@ returns-in-Err-await_ready-clause-front g c =
 pub returns-in-Err-await_ready-clause-lost : goal.returns-in-Err-await_ready-clause-lost
 returns-in-Err-await_ready-clause-lost g c =
     lost_as _ _ c.args.role _ _ (c.in-Ok-await_greeting.ensures.role ∙ c.new.ensures.role)
-    (c.in-Err-await_ready.ensures.lost _
-    (c.in-Ok-await_greeting.ensures.received _ (received_first _ _ c.new.ensures.stands c.new-2.ensures refl)))
+    (c.in-Err-await_ready.ensures.lost _ (c.in-Ok-await_greeting.ensures.received _
+    (received_first _ _ c.new.ensures.stands c.new-2.ensures refl)))
 
 pub returns-clause-received : goal.returns-clause-received
 returns-clause-received g c =

@@ -1,6 +1,6 @@
 use Rattle.std.proofs.Common.{[], arith}
-use Rattle.zmtp_peer.proofs.EchoLemmas.{beats_first, beats_none, beats_round, ended_beat, ended_early, ended_first}
-use Rattle.zmtp_peer.proofs.EchoLemmas.{ended_most, ended_none}
+use Rattle.zmtp_peer.proofs.EchoLemmas.{beats_first, beats_none, beats_round, ended_beat, ended_early}
+use Rattle.zmtp_peer.proofs.EchoLemmas.{ended_first, ended_most, ended_none}
 use Rattle.zmtp_peer.proofs.heartbeat.heartbeat.Goals as goal
 
 pub returns-in-Err-clause-echoes : goal.returns-in-Err-clause-echoes
@@ -14,8 +14,8 @@ returns-in-Err-echo-clause-echoes g c =
 
 pub returns-in-Err-echo_piece-clause-echoes : goal.returns-in-Err-echo_piece-clause-echoes
 returns-in-Err-echo_piece-clause-echoes g c =
-    ended_none _ _ _ _ _ c.in-Ok.peer.decoder c.echo_piece.new.decoder c.in-Ok.peer.reads c.in-Err-echo_piece.fault
-    c.in-Err-echo_piece.ensures.err
+    ended_none _ _ _ _ _ c.in-Ok.peer.decoder c.echo_piece.new.decoder c.in-Ok.peer.reads
+    c.in-Err-echo_piece.fault c.in-Err-echo_piece.ensures.err
     (beats_first _ _ _ _ _ c.in-Ok.peer c.in-Ok.ensures.role c.in-Ok.ensures.received c.in-Ok.ensures.whole
     c.in-Ok-echo.ensures.0)
 
