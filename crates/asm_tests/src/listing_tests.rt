@@ -19,7 +19,7 @@ fn laws_stand() {
 }
 
 // The listing where the bytes have room, and no text where they don't.
-fn listed(alloc: Global, address: u16, bytes: &[u8]) -> Result<String, AllocError> {
+fn listing_of(alloc: Global, address: u16, bytes: &[u8]) -> Result<String, AllocError> {
     if bytes.len() > 65_536 - usize::from(address) {
         return Ok(String::new(alloc));
     }
@@ -68,7 +68,7 @@ fn assembles_to(
 // Whether the listing is assembled to the bytes, over symbols with two names that it doesn't keep from
 // it.
 fn comes_back(alloc: Global, address: u16, bytes: &[u8]) -> Result<bool, AsmFault> {
-    let text = listed(alloc, address, bytes)?;
+    let text = listing_of(alloc, address, bytes)?;
     let before = assemble(alloc, "X1 EQU 5\nX2 SET 7", &Symbols::new(alloc))?;
     let comes_back = assembles_to(alloc, &text, &before.symbols, address, bytes);
     drop(before);
@@ -107,7 +107,7 @@ const LISTINGS: [(u16, &[u8], &str); 10] = [
 ];
 
 fn is_listed(alloc: Global, address: u16, bytes: &[u8], text: &str) -> Result<bool, AllocError> {
-    Ok(listed(alloc, address, bytes)?.as_str() == text)
+    Ok(listing_of(alloc, address, bytes)?.as_str() == text)
 }
 
 #[test]

@@ -54,7 +54,7 @@ fn show(text: &mut String, built: &Built) -> Result<(), AllocError> {
 }
 
 // Assembles a cell over the symbols that were kept.
-fn built(alloc: Global, cell: &str, kept: &Symbols) -> Result<Built, AsmFault> {
+fn build_cell(alloc: Global, cell: &str, kept: &Symbols) -> Result<Built, AsmFault> {
     let all = statements(alloc, cell)?;
     build(alloc, &all, kept)
 }
@@ -66,7 +66,7 @@ fn tell(
     kept: &mut Symbols,
     cell: &str,
 ) -> Result<(), AllocError> {
-    match built(alloc, cell, kept) {
+    match build_cell(alloc, cell, kept) {
         Ok(built) => {
             let outcome = show(text, &built);
             *kept = built.symbols;

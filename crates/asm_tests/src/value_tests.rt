@@ -27,7 +27,7 @@ fn number(n: u16) -> Expr {
     Expr::atom(Atom::Number(n))
 }
 
-fn named(alloc: Global, letter: u8) -> Result<Expr, TreeFault>
+fn expr_named(alloc: Global, letter: u8) -> Result<Expr, TreeFault>
     requires { letter < 128 }
 {
     match Name::fold_case(alloc, &[letter]) {
@@ -113,13 +113,13 @@ fn operators_before_one(rt: HostRuntime) {
 fn name_value(alloc: Global, letter: u8) -> Result<Value, TreeFault>
     requires { letter < 128 }
 {
-    Ok(value(&named(alloc, letter)?, &OneName, 0))
+    Ok(value(&expr_named(alloc, letter)?, &OneName, 0))
 }
 
 fn parens_value(alloc: Global, letter: u8) -> Result<Value, TreeFault>
     requires { letter < 128 }
 {
-    Ok(value(&Expr::parens(alloc, named(alloc, letter)?)?, &OneName, 0))
+    Ok(value(&Expr::parens(alloc, expr_named(alloc, letter)?)?, &OneName, 0))
 }
 
 #[test]
@@ -131,7 +131,7 @@ fn atoms_and_names(rt: HostRuntime) {
 
 // The tree of an operator between another tree and X, which has no value.
 fn with_name(alloc: Global, operator: Binary, left: Expr) -> Result<Expr, TreeFault> {
-    match named(alloc, b'X') {
+    match expr_named(alloc, b'X') {
         Ok(name) => Expr::infix(alloc, operator, left, name),
         Err(fault) => Err(fault),
     }
@@ -147,7 +147,7 @@ fn has_names(alloc: Global, tree: &Expr, first: &str, second: &str) -> Result<bo
 
 // Whether the names of the tree of `I+X` are these two.
 fn sum_has_names(alloc: Global, first: &str, second: &str) -> Result<bool, TreeFault> {
-    let sum = with_name(alloc, Binary::Add, named(alloc, b'I')?)?;
+    let sum = with_name(alloc, Binary::Add, expr_named(alloc, b'I')?)?;
     let outcome = has_names(alloc, &sum, first, second);
     drop(sum);
     outcome
@@ -189,7 +189,7 @@ fn sum_of(alloc: Global, count: usize) -> Result<Expr, TreeFault> {
 }
 
 // 1 with so many times a minus sign and parentheses round it.
-fn negated(alloc: Global, count: usize) -> Result<Expr, TreeFault> {
+fn negate_often(alloc: Global, count: usize) -> Result<Expr, TreeFault> {
     let mut tree = number(1);
     for _ in 0..count {
         tree = Expr::parens(alloc, Expr::prefix(alloc, Unary::Minus, tree)?)?;
@@ -223,7 +223,7 @@ fn is_full_with_sign(alloc: Global, tree: Expr) -> Result<bool, TreeFault> {
 
 // The depth of that many signs and parentheses, and whether it is full with one sign more.
 fn limits_of_negated(alloc: Global, count: usize) -> Result<(u8, bool), TreeFault> {
-    let tree = negated(alloc, count)?;
+    let tree = negate_often(alloc, count)?;
     let depth = tree.depth();
     Ok((depth, is_full_with_sign(alloc, tree)?))
 }

@@ -81,7 +81,7 @@ fn digits_are_read_in_either_case(rt: HostRuntime) {
 }
 
 // A word with upper-case and with lower-case digits, and a byte.
-fn written(alloc: Global, word: u16, byte: u8) -> Result<String, AllocError> {
+fn digits_of(alloc: Global, word: u16, byte: u8) -> Result<String, AllocError> {
     let mut text = String::from_str(alloc, "=")?;
     push_word(&mut text, word)?;
     text.push_str(",")?;
@@ -92,7 +92,7 @@ fn written(alloc: Global, word: u16, byte: u8) -> Result<String, AllocError> {
 }
 
 fn is_written(alloc: Global, word: u16, byte: u8, wanted: &str) -> Result<bool, AllocError> {
-    Ok(written(alloc, word, byte)?.as_str() == wanted)
+    Ok(digits_of(alloc, word, byte)?.as_str() == wanted)
 }
 
 #[test]

@@ -30,7 +30,7 @@ fn program(alloc: Global, lines: u64) -> Result<String, AllocError> {
 }
 
 // What a text is assembled to, if it isn't refused.
-fn built(alloc: Global, text: &str) -> Option<Built> {
+fn build_text(alloc: Global, text: &str) -> Option<Built> {
     let all = statements(alloc, text).ok()?;
     let built = build(alloc, &all, &Symbols::new(alloc)).ok();
     drop(all);
@@ -38,8 +38,8 @@ fn built(alloc: Global, text: &str) -> Option<Built> {
 }
 
 // How many bytes a text gives.
-fn assembled(alloc: Global, text: &str) -> Result<u64> {
-    match built(alloc, text) {
+fn assemble(alloc: Global, text: &str) -> Result<u64> {
+    match build_text(alloc, text) {
         Some(built) => {
             let count = built.image.len() as u64;
             drop(built);
@@ -50,10 +50,10 @@ fn assembled(alloc: Global, text: &str) -> Result<u64> {
 }
 
 /// How many bytes a text gives that is assembled so often.
-pub fn assembled_often(alloc: Global, text: &str, rounds: u64) -> Result<u64> {
+pub fn assemble_often(alloc: Global, text: &str, rounds: u64) -> Result<u64> {
     let mut bytes = 0;
     for _ in 0..rounds {
-        bytes = assembled(alloc, text)?;
+        bytes = assemble(alloc, text)?;
     }
     Ok(bytes)
 }
@@ -61,5 +61,5 @@ pub fn assembled_often(alloc: Global, text: &str, rounds: u64) -> Result<u64> {
 /// Assembles a program of so many lines, so often. How many bytes it gives.
 pub fn work(alloc: Global, lines: u64, rounds: u64) -> Result<u64> {
     let text = program(alloc, lines)?;
-    assembled_often(alloc, text.as_str(), rounds)
+    assemble_often(alloc, text.as_str(), rounds)
 }

@@ -58,7 +58,7 @@ fn watch(alloc: Global, lab: &mut Lab, line: u32) -> Result<bool, AllocError> {
     set_breakpoint(alloc, lab, line)
 }
 
-fn executed_by(answer: &Result<Answer, EventFault>) -> Option<u16> {
+fn steps_of(answer: &Result<Answer, EventFault>) -> Option<u16> {
     match answer {
         Ok(Answer::Sliced { executed, .. }) => Some(*executed),
         _ => None,
@@ -70,7 +70,7 @@ fn slice(lab: &mut Lab, n: u16) -> Option<u16>
     requires some { 1 ≤ n }
     requires few { n ≤ 4096 }
 {
-    executed_by(&lab.apply(&Event::Slice(n)))
+    steps_of(&lab.apply(&Event::Slice(n)))
 }
 
 // Whether a slice of so many steps makes them all.

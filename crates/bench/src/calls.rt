@@ -50,7 +50,7 @@ fn arrival(body: RequestBody, header: Bytes, alloc: Global) -> Arrival {
     }
 }
 
-fn held(alloc: Global, question: Question) -> Result<Held<Arrival>, AllocError> {
+fn hold_arrival(alloc: Global, question: Question) -> Result<Held<Arrival>, AllocError> {
     let header = Bytes::copy_of(alloc, HEADER)?;
     Held::new(alloc, arrival(body(alloc, question)?, header, alloc))
 }
@@ -71,7 +71,7 @@ pub fn join(alloc: Global, kernel: &mut Kernel) -> Result<bool, AllocError> {
 
 /// A request arrives on connection 1. Whether the call was accepted.
 pub fn arrive(alloc: Global, kernel: &mut Kernel, question: Question) -> Result<bool, AllocError> {
-    let arrival = held(alloc, question)?;
+    let arrival = hold_arrival(alloc, question)?;
     let connection = 1;
     Ok(is_accepted(
         kernel,
@@ -99,7 +99,7 @@ pub fn fetch(kernel: &mut Kernel, from: u64) -> Result<Reply, KernelFault> {
 }
 
 /// The posts of an answer, and the number to go on from.
-pub fn fetched(reply: &Result<Reply, KernelFault>) -> Option<(&[Post], u64)> {
+pub fn posts_in(reply: &Result<Reply, KernelFault>) -> Option<(&[Post], u64)> {
     match reply {
         Ok(Reply::Fetched { posts, next, .. }) => Some((posts.as_slice(), *next)),
         _ => None,

@@ -27,7 +27,7 @@ fn stream_of(alloc: Global, frame_size: u64, messages: u64) -> Result<Vec<u8>, A
 }
 
 // How many messages come with a piece, if the stream goes on.
-fn fed(alloc: Global, decoder: &mut Decoder, piece: &[u8]) -> Option<u64> {
+fn feed(alloc: Global, decoder: &mut Decoder, piece: &[u8]) -> Option<u64> {
     let answer = decoder.feed(alloc, piece);
     let count = match &answer {
         Ok(messages) => Some(messages.as_slice().len() as u64),
@@ -42,7 +42,7 @@ fn count(alloc: Global, stream: &[u8], piece_size: usize) -> Option<u64> {
     let mut decoder = Decoder::new(alloc, Role::Router);
     let mut count = 0u64;
     for piece in stream.chunks(piece_size.max(1)) {
-        count = count.saturating_add(fed(alloc, &mut decoder, piece)?);
+        count = count.saturating_add(feed(alloc, &mut decoder, piece)?);
     }
     Some(count)
 }

@@ -4,7 +4,7 @@ use anyhow::{Result, bail};
 use std::alloc::{AllocError, Global};
 
 // Does units of a work after others. How much the last ones gave.
-fn made_by(
+fn make_after(
     alloc: Global,
     shell: &mut Shell,
     work: Work,
@@ -16,9 +16,9 @@ fn made_by(
     shell.units(alloc, work, count)
 }
 
-fn made(alloc: Global, work: Work, before: u64, count: u64) -> Result<u64, AllocError> {
+fn make(alloc: Global, work: Work, before: u64, count: u64) -> Result<u64, AllocError> {
     let mut shell = Shell::new(alloc)?;
-    let made = made_by(alloc, &mut shell, work, before, count);
+    let made = make_after(alloc, &mut shell, work, before, count);
     drop(shell);
     made
 }
@@ -48,7 +48,7 @@ fn rounds_by<P: Print>(
 /// Does so many rounds of so many units of the work of this name on one kernel, and prints after each how much it
 /// gave: who times the lines sees how the rate changes as the journal grows.
 pub fn rounds<P: Print>(rt: &P, alloc: Global, word: &str, units: u64, count: u64) -> Result<()> {
-    let Some(work) = Work::named(word) else {
+    let Some(work) = Work::from_name(word) else {
         bail!("there is no such work");
     };
     let mut shell = Shell::new(alloc)?;
@@ -59,8 +59,8 @@ pub fn rounds<P: Print>(rt: &P, alloc: Global, word: &str, units: u64, count: u6
 
 /// Does so many units of the work of this name, after so many others. How many frames, posts or slices they gave.
 pub fn work(alloc: Global, word: &str, before: u64, count: u64) -> Result<u64> {
-    match Work::named(word) {
-        Some(work) => Ok(made(alloc, work, before, count)?),
+    match Work::from_name(word) {
+        Some(work) => Ok(make(alloc, work, before, count)?),
         None => bail!("there is no such work"),
     }
 }

@@ -1,12 +1,12 @@
 //! The disassembler on mixed bytes, and the assembler on what it lists.
-use crate::assembler::assembled_often;
+use crate::assembler::assemble_often;
 use anyhow::{Result, bail};
 use i80_dis::listing::listing;
 use i80_rows::memory::MEMORY_SIZE;
 use std::alloc::{AllocError, Global};
 
 // Bytes of all values, mixed by a linear congruence.
-fn mixed(alloc: Global, count: u64) -> Result<Vec<u8>, AllocError> {
+fn mixed_bytes(alloc: Global, count: u64) -> Result<Vec<u8>, AllocError> {
     let mut bytes = Vec::new(alloc);
     let mut state = 1u32;
     for _ in 0..count {
@@ -16,7 +16,7 @@ fn mixed(alloc: Global, count: u64) -> Result<Vec<u8>, AllocError> {
     Ok(bytes)
 }
 
-fn listed(alloc: Global, bytes: &[u8]) -> Result<String> {
+fn listing_of(alloc: Global, bytes: &[u8]) -> Result<String> {
     if bytes.len() > MEMORY_SIZE {
         bail!("there are more bytes than memory has");
     }
@@ -25,16 +25,16 @@ fn listed(alloc: Global, bytes: &[u8]) -> Result<String> {
 
 /// Lists so many mixed bytes, so often. How many bytes of text that gives.
 pub fn work(alloc: Global, count: u64, rounds: u64) -> Result<u64> {
-    let bytes = mixed(alloc, count)?;
+    let bytes = mixed_bytes(alloc, count)?;
     let mut size = 0;
     for _ in 0..rounds {
-        size = listed(alloc, &bytes)?.len() as u64;
+        size = listing_of(alloc, &bytes)?.len() as u64;
     }
     Ok(size)
 }
 
 /// Assembles the listing of so many mixed bytes, so often. How many bytes come back.
 pub fn work_back(alloc: Global, count: u64, rounds: u64) -> Result<u64> {
-    let text = listed(alloc, &mixed(alloc, count)?)?;
-    assembled_often(alloc, text.as_str(), rounds)
+    let text = listing_of(alloc, &mixed_bytes(alloc, count)?)?;
+    assemble_often(alloc, text.as_str(), rounds)
 }

@@ -22,7 +22,7 @@ fn rows(alloc: Global, count: u64, is_falling: bool) -> Result<String, AllocErro
 }
 
 // Makes a load so often, each after a reset. How many were accepted.
-fn loaded(lab: &mut Lab, load: &Event, rounds: u64) -> u64
+fn repeat_load(lab: &mut Lab, load: &Event, rounds: u64) -> u64
     requires { Fits load.now }
 {
     let mut count = 0u64;
@@ -35,11 +35,11 @@ fn loaded(lab: &mut Lab, load: &Event, rounds: u64) -> u64
     count
 }
 
-fn loaded_often(alloc: Global, load: &Event, rounds: u64) -> Result<u64, AllocError>
+fn load_often(alloc: Global, load: &Event, rounds: u64) -> Result<u64, AllocError>
     requires { Fits load.now }
 {
     let mut lab = Lab::new(alloc)?;
-    let count = loaded(&mut lab, load, rounds);
+    let count = repeat_load(&mut lab, load, rounds);
     drop(lab);
     Ok(count)
 }
@@ -48,7 +48,7 @@ fn loaded_often(alloc: Global, load: &Event, rounds: u64) -> Result<u64, AllocEr
 pub fn work(alloc: Global, is_falling: bool, count: u64, rounds: u64) -> Result<u64> {
     let text = rows(alloc, count, is_falling)?;
     let load = load_event(alloc, text.as_str())?;
-    let accepted = loaded_often(alloc, &load, rounds);
+    let accepted = load_often(alloc, &load, rounds);
     drop(load);
     Ok(accepted?)
 }

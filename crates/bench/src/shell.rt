@@ -1,5 +1,5 @@
 //! A kernel with one frontend, and the work that is timed on it.
-use crate::calls::{Question, arrive, fetch, fetched, join, slice};
+use crate::calls::{Question, arrive, fetch, join, posts_in, slice};
 use kern_core::call::Reply;
 use kern_core::fault::KernelFault;
 use kern_core::kernel::Kernel;
@@ -51,7 +51,7 @@ pub enum Work {
 
 impl Work {
     /// The work of this name.
-    pub fn named(word: &str) -> Option<Work> {
+    pub fn from_name(word: &str) -> Option<Work> {
         match word {
             "requests" => Some(Work::Info),
             "executions" => Some(Work::Execution),
@@ -78,20 +78,20 @@ fn frame_counts(alloc: Global, posts: &[Post]) -> Result<u64, AllocError> {
 }
 
 // How many posts were fetched, and the number to go on from.
-fn counted(reply: &Result<Reply, KernelFault>, from: u64) -> (u64, u64) {
-    match fetched(reply) {
+fn count_posts(reply: &Result<Reply, KernelFault>, from: u64) -> (u64, u64) {
+    match posts_in(reply) {
         Some((posts, next)) => (posts.len() as u64, next),
         None => (0, from),
     }
 }
 
 // How many frames the posts have that were fetched, and the number to go on from.
-fn rendered(
+fn render_posts(
     alloc: Global,
     reply: &Result<Reply, KernelFault>,
     from: u64,
 ) -> Result<(u64, u64), AllocError> {
-    match fetched(reply) {
+    match posts_in(reply) {
         Some((posts, next)) => Ok((frame_counts(alloc, posts)?, next)),
         None => Ok((0, from)),
     }
@@ -149,7 +149,7 @@ impl Shell {
     // Fetches from a number on. How many posts there were, and the number to go on from.
     fn fetch_from(&mut self, from: u64) -> (u64, u64) {
         let reply = fetch(&mut self.kernel, from);
-        let counted = counted(&reply, from);
+        let counted = count_posts(&reply, from);
         drop(reply);
         counted
     }
@@ -164,7 +164,7 @@ impl Shell {
     // Fetches from the frontend's place on, and renders the posts. How many frames they have.
     fn render_next(&mut self, alloc: Global) -> Result<u64, AllocError> {
         let reply = fetch(&mut self.kernel, self.from);
-        let rendered = rendered(alloc, &reply, self.from);
+        let rendered = render_posts(alloc, &reply, self.from);
         drop(reply);
         let (frames, next) = rendered?;
         self.from = next;

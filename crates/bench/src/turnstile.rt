@@ -27,7 +27,7 @@ fn turns<R: Wait>(
 }
 
 // Each thread makes so many turns on one counter. How many calls it has counted then.
-fn counted<R: Threads + Wait + Sync>(rt: &R, alloc: Global, threads: u32, count: u32) -> Result<u64>
+fn count_turns<R: Threads + Wait + Sync>(rt: &R, alloc: Global, threads: u32, count: u32) -> Result<u64>
     requires some { 0 < threads }
     requires few { threads ≤ 1024 }
 {
@@ -54,5 +54,5 @@ pub fn work<R: Threads + Wait + Sync>(
     if threads == 0 || threads > 1024 || count > 1_000_000_000 {
         bail!("there are too many threads or turns, or none");
     }
-    counted(rt, alloc, threads as u32, count as u32)
+    count_turns(rt, alloc, threads as u32, count as u32)
 }

@@ -30,7 +30,7 @@ static CALLS: [u8; 41] = [
 /// A jump to itself.
 static JUMP: [u8; 3] = [0xc3, 0, 0];
 
-fn loaded(alloc: Global, code: &[u8]) -> Result<Machine, AllocError> {
+fn machine_with(alloc: Global, code: &[u8]) -> Result<Machine, AllocError> {
     let mut machine = Machine::new(alloc)?;
     let mut address = 0u16;
     for byte in code {
@@ -63,14 +63,14 @@ pub fn work(alloc: Global, name: &str, count: u64) -> Result<Registers> {
         "jump" => JUMP.as_slice(),
         _ => bail!("the workloads are loop, sort, calls and jump"),
     };
-    Ok(run(loaded(alloc, code)?, &mut Slot::new(), count).regs())
+    Ok(run(machine_with(alloc, code)?, &mut Slot::new(), count).regs())
 }
 
 /// HLT, which can't be repeated.
 const HLT: u8 = 0x76;
 
 // A machine whose memory has this opcode everywhere.
-fn filled(alloc: Global, opcode: u8) -> Result<Machine, AllocError> {
+fn machine_full_of(alloc: Global, opcode: u8) -> Result<Machine, AllocError> {
     let mut machine = Machine::new(alloc)?;
     for address in 0..=u16::MAX {
         machine.poke(address, opcode);
@@ -83,8 +83,8 @@ fn filled(alloc: Global, opcode: u8) -> Result<Machine, AllocError> {
 pub fn repeat_all(alloc: Global, few: u64, many: u64) -> Result<u64, AllocError> {
     for opcode in 0..=u8::MAX {
         if opcode != HLT {
-            let _ = run(filled(alloc, opcode)?, &mut Slot::new(), few);
-            let _ = run(filled(alloc, opcode)?, &mut Slot::new(), many);
+            let _ = run(machine_full_of(alloc, opcode)?, &mut Slot::new(), few);
+            let _ = run(machine_full_of(alloc, opcode)?, &mut Slot::new(), many);
         }
     }
     Ok(few.saturating_add(many))

@@ -118,7 +118,7 @@ fn a_report_is_written_byte_by_byte(rt: HostRuntime) -> Result<(), AllocError> {
 }
 
 // The status of a report that is written, or the one that stands in its place.
-fn answered(written: &mut Sink, report: Result<Report, Status>) -> Status {
+fn status_of(written: &mut Sink, report: Result<Report, Status>) -> Status {
     let status = match &report {
         Ok(report) => deliver(written, report),
         Err(status) => *status,
@@ -129,7 +129,7 @@ fn answered(written: &mut Sink, report: Result<Report, Status>) -> Status {
 
 fn is_refused(alloc: Global, report: Result<Report, Status>, line: &str, wanted: Status) -> bool {
     let mut written = sink(alloc);
-    let status = answered(&mut written, report);
+    let status = status_of(&mut written, report);
     status == wanted && written.as_slice() == line.as_bytes()
 }
 

@@ -252,7 +252,7 @@ fn text_of(alloc: Global, value: Value) -> Result<String, AllocError> {
     text
 }
 
-fn sent(alloc: Global, shape: &Shape) -> Result<String, AllocError> {
+fn response_text(alloc: Global, shape: &Shape) -> Result<String, AllocError> {
     let answer = success(alloc, shape)?;
     let value = response(alloc, 12, &answer);
     drop(answer);
@@ -267,7 +267,7 @@ fn whole(alloc: Global, body: &str) -> Result<String, AllocError> {
 }
 
 fn is_body(alloc: Global, shape: &Shape, json: &str) -> Result<bool, AllocError> {
-    let found = sent(alloc, shape)?;
+    let found = response_text(alloc, shape)?;
     let wanted = whole(alloc, json)?;
     Ok(found.as_str() == wanted.as_str())
 }

@@ -140,7 +140,7 @@ fn is_encoded_again(opcode: u8) -> Option<bool> {
 }
 
 // How many of 64 opcodes are defined, each of which is encoded again.
-fn defined_from(rt: &impl Abort, first: u8) -> u32 {
+fn count_defined(rt: &impl Abort, first: u8) -> u32 {
     let mut defined = 0u32;
     for more in 0..64u8 {
         let opcode = first | more;
@@ -155,7 +155,7 @@ fn defined_from(rt: &impl Abort, first: u8) -> u32 {
 #[test]
 fn each_defined_opcode_is_encoded_again(rt: HostRuntime) {
     for (first, want) in [(0u8, 57), (64, 64), (128, 64), (192, 59)] {
-        let defined = defined_from(&rt, first);
+        let defined = count_defined(&rt, first);
         assert!(rt; defined == want, "{defined} from {first:x} on");
     }
 }

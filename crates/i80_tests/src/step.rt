@@ -33,7 +33,7 @@ impl Recorder {
     }
 
     /// How many operations there were, and the first of them.
-    fn done(&self) -> (usize, Option<PortOperation>) {
+    fn report(&self) -> (usize, Option<PortOperation>) {
         let operations = self.operations.as_slice();
         match operations {
             [first, ..] => (operations.len(), Some(*first)),
@@ -87,14 +87,14 @@ type Outcome = (Stepped, (usize, Option<PortOperation>));
 fn step(alloc: Global, machine: &mut Machine) -> Result<Outcome, AllocError> {
     let mut ports = Recorder::new(alloc)?;
     let stepped = machine.step(&mut ports);
-    Ok((stepped, ports.done()))
+    Ok((stepped, ports.report()))
 }
 
 /// Does the instruction at PC of the plain machine.
 fn step_plain(alloc: Global, plain: &mut Plain) -> Result<Outcome, AllocError> {
     let mut ports = Recorder::new(alloc)?;
     let stepped = plain.step(&mut ports);
-    Ok((stepped, ports.done()))
+    Ok((stepped, ports.report()))
 }
 
 /// The registers after power-on, but for these.

@@ -131,7 +131,7 @@ fn fault_under(alloc: Global, seal: &str) -> Result<Option<WireFault>, Fail> {
 }
 
 // The signature with another digit in a place.
-fn altered(alloc: Global, place: usize) -> Result<String, AllocError> {
+fn alter_digit(alloc: Global, place: usize) -> Result<String, AllocError> {
     let mut seal = String::new(alloc);
     for (at, digit) in DIGITS.chars().enumerate() {
         let other = if digit == '4' { '3' } else { '4' };
@@ -141,7 +141,7 @@ fn altered(alloc: Global, place: usize) -> Result<String, AllocError> {
 }
 
 fn fault_of_altered(alloc: Global, place: usize) -> Result<Option<WireFault>, Fail> {
-    let seal = altered(alloc, place)?;
+    let seal = alter_digit(alloc, place)?;
     fault_under(alloc, seal.as_str())
 }
 
@@ -258,7 +258,7 @@ fn header_with_id_of(alloc: Global, length: usize) -> Result<String, AllocError>
     Ok(text)
 }
 
-fn nested(alloc: Global, depth: usize) -> Result<String, AllocError> {
+fn nested_lists(alloc: Global, depth: usize) -> Result<String, AllocError> {
     let mut text = String::new(alloc);
     for _ in 0..depth {
         text.push('[')?;
@@ -280,7 +280,7 @@ const SIZES: [(usize, usize, Option<WireFault>); 5] = [
 
 fn fault_of_size(alloc: Global, length: usize, depth: usize) -> Result<Option<WireFault>, Fail> {
     let header = header_with_id_of(alloc, length)?;
-    let content = nested(alloc, depth)?;
+    let content = nested_lists(alloc, depth)?;
     fault_unsigned(alloc, header.as_str(), content.as_str())
 }
 
@@ -361,14 +361,14 @@ fn draft(rt: &impl Abort, alloc: Global, identity: &str) -> Draft {
     }
 }
 
-fn sealed(rt: &impl Abort, alloc: Global, identity: &str, key: &str) -> Frames {
+fn seal_draft(rt: &impl Abort, alloc: Global, identity: &str, key: &str) -> Frames {
     let draft = draft(rt, alloc, identity);
     let frames = seal_message(alloc, draft, key.as_bytes());
     frames.expect(rt, "memory")
 }
 
 fn expect_sealed(rt: &(impl Abort + AllocGlobal), key: &str, signature: &str) -> Result<(), Fail> {
-    let sealed = sealed(rt, rt.alloc(), "status", key);
+    let sealed = seal_draft(rt, rt.alloc(), "status", key);
     let texts = ["status", "<IDS|MSG>", signature, STATUS, "{}", "{}", IDLE];
     assert!(rt; are_frames(sealed.as_slice(), &texts), "{key}");
     let found = opening_fault(rt.alloc(), sealed, key)?;
@@ -380,7 +380,7 @@ fn expect_sealed(rt: &(impl Abort + AllocGlobal), key: &str, signature: &str) ->
 fn seals_what_opens_again(rt: HostRuntime) -> Result<(), Fail> {
     expect_sealed(&rt, "", "")?;
     expect_sealed(&rt, "secret", STATUS_SEAL)?;
-    let sealed = sealed(&rt, rt.alloc(), "<IDS|MSG>", "secret");
+    let sealed = seal_draft(&rt, rt.alloc(), "<IDS|MSG>", "secret");
     let found = opening_fault(rt.alloc(), sealed, "secret")?;
     assert!(rt; found == Some(WireFault::Signature));
     Ok(())

@@ -17,7 +17,7 @@ pub struct Entry {
 
 /// The entries of a desk at which these calls were made, by seat. They must be exactly these calls, and
 /// those of each seat stand in their order.
-pub fn merged<R: Abort>(rt: &R, alloc: Global, seated: &Seated, made: &[Vec<Turn>]) -> Vec<Entry> {
+pub fn merge<R: Abort>(rt: &R, alloc: Global, seated: &Seated, made: &[Vec<Turn>]) -> Vec<Entry> {
     let count = count_of(made);
     expect_at(
         rt,

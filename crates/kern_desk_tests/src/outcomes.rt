@@ -28,12 +28,12 @@ pub enum Outcome {
 /// What an answer tells.
 pub fn outcome_of(answer: &Result<Reply, KernelFault>) -> Outcome {
     match answer {
-        Ok(reply) => told(reply),
+        Ok(reply) => outcome_of_reply(reply),
         Err(fault) => Outcome::Refused(*fault),
     }
 }
 
-fn told(reply: &Reply) -> Outcome {
+fn outcome_of_reply(reply: &Reply) -> Outcome {
     match reply {
         Reply::Joined { connection, from } => Outcome::Joined(*connection, *from),
         Reply::Left => Outcome::Left,

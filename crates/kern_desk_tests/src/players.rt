@@ -41,16 +41,16 @@ pub type Part = (Script, u32);
 impl Script {
     fn action(self, turn: u32, connection: u32, from: u64) -> Action {
         match self {
-            Script::Asks => asking(turn, connection, from),
-            Script::Listens => listening(turn, connection, from),
+            Script::Asks => ask(turn, connection, from),
+            Script::Listens => listen(turn, connection, from),
             Script::Fetches => Action::Fetch(connection, from),
             Script::Runs => Action::Slice,
-            Script::Interrupts => interrupting(turn, connection, from),
+            Script::Interrupts => interrupt(turn, connection, from),
         }
     }
 }
 
-fn asking(turn: u32, connection: u32, from: u64) -> Action {
+fn ask(turn: u32, connection: u32, from: u64) -> Action {
     if turn == 0 {
         return Action::Join(Channel::Shell);
     }
@@ -60,7 +60,7 @@ fn asking(turn: u32, connection: u32, from: u64) -> Action {
     Action::Fetch(connection, from)
 }
 
-fn listening(turn: u32, connection: u32, from: u64) -> Action {
+fn listen(turn: u32, connection: u32, from: u64) -> Action {
     match turn {
         0 => Action::Join(Channel::Iopub),
         1 => Action::Subscribe(connection),
@@ -68,7 +68,7 @@ fn listening(turn: u32, connection: u32, from: u64) -> Action {
     }
 }
 
-fn interrupting(turn: u32, connection: u32, from: u64) -> Action {
+fn interrupt(turn: u32, connection: u32, from: u64) -> Action {
     match turn {
         0..40 => Action::RequestBody(connection, Question::KernelInfo),
         40 => Action::RequestBody(connection, Question::Interrupt),

@@ -2,7 +2,7 @@
 ghost use Rattle.std.specs.Prelude.{◌≡◌, ◌<◌, All, IfSome};
 
 use crate::actions::{Action, Question};
-use crate::journals::{Entry, merged, replay};
+use crate::journals::{Entry, merge, replay};
 use crate::outcomes::Outcome;
 use crate::players::{Part, Player, Script};
 use crate::turns::{Turn, expect_at};
@@ -150,24 +150,24 @@ fn entries_of<R: Threads + Wait + Abort + Sync>(rt: &R, alloc: Global, game: &Ga
     let mut made = Vec::new(alloc);
     let passes = passes_of(rt, alloc, &desk, players, &mut made);
     let seated = close_desk(desk, passes).expect(rt, "all passes");
-    let entries = merged(rt, alloc, &seated, made.as_slice());
+    let entries = merge(rt, alloc, &seated, made.as_slice());
     drop(seated);
     entries
 }
 
 // What the fetches of a seat gave: how many posts, how many that tell that a cell was interrupted, and from
 // which number to go on.
-fn fetched(entries: &[Entry], seat: u32) -> (usize, usize, u64) {
+fn fetches_of(entries: &[Entry], seat: u32) -> (usize, usize, u64) {
     let mut told = (0usize, 0usize, 0);
     for entry in entries {
         if entry.seat == seat {
-            told = told_with(told, entry.turn.outcome);
+            told = add_outcome(told, entry.turn.outcome);
         }
     }
     told
 }
 
-fn told_with(told: (usize, usize, u64), outcome: Outcome) -> (usize, usize, u64) {
+fn add_outcome(told: (usize, usize, u64), outcome: Outcome) -> (usize, usize, u64) {
     match outcome {
         Outcome::Fetched(count, _, interrupted, next, _) => (
             told.0.saturating_add(count),
@@ -179,7 +179,7 @@ fn told_with(told: (usize, usize, u64), outcome: Outcome) -> (usize, usize, u64)
 }
 
 // How many posts a listener gets: the status at its Subscribe, then busy and idle for each request.
-fn told_to_listener(entries: &[Entry]) -> usize {
+fn posts_to_listener(entries: &[Entry]) -> usize {
     let mut posts = 0usize;
     for entry in entries {
         match entry.turn.action {
@@ -209,9 +209,9 @@ const TWO: Game = Game {
 };
 
 fn check_two<R: Abort>(rt: &R, entries: &[Entry]) {
-    expect_at(rt, fetched(entries, 0) == (300, 0, 902), "seat", 0);
-    let listened = (told_to_listener(entries), 0, 902);
-    expect_at(rt, fetched(entries, 1) == listened, "seat", 1);
+    expect_at(rt, fetches_of(entries, 0) == (300, 0, 902), "seat", 0);
+    let listened = (posts_to_listener(entries), 0, 902);
+    expect_at(rt, fetches_of(entries, 1) == listened, "seat", 1);
     expect_at(rt, entries.len() == 1235, "entries", entries.len() as u64);
 }
 
@@ -265,8 +265,8 @@ fn check_slices<R: Abort>(rt: &R, entries: &[Entry]) {
 }
 
 fn check_three<R: Abort>(rt: &R, entries: &[Entry]) {
-    expect_at(rt, fetched(entries, 1) == (42, 1, 130), "seat", 1);
-    expect_at(rt, fetched(entries, 2) == (87, 1, 130), "seat", 2);
+    expect_at(rt, fetches_of(entries, 1) == (42, 1, 130), "seat", 1);
+    expect_at(rt, fetches_of(entries, 2) == (87, 1, 130), "seat", 2);
     expect_at(rt, entries.len() == 275, "entries", entries.len() as u64);
     check_slices(rt, entries);
 }

@@ -173,7 +173,7 @@ fn a_session(rt: HostRuntime) {
 }
 
 // What a fetch tells, and whether its post 5 shows the switches as 05AH.
-fn seen(answer: Result<Reply, KernelFault>) -> (Outcome, bool) {
+fn outcome_with_switches(answer: Result<Reply, KernelFault>) -> (Outcome, bool) {
     (outcome_of(&answer), shows_switches(&answer))
 }
 
@@ -213,7 +213,7 @@ fn fetch_seen<R: Wait + Abort>(
 {
     let call = call_of(alloc, Action::Fetch(1, 1), 3).expect(rt, "memory for a call");
     let answer = desk.turn(rt, pass, call).expect(rt, "a turn");
-    seen(answer)
+    outcome_with_switches(answer)
 }
 
 // The switches that one seat sets are what another sees.
@@ -235,7 +235,7 @@ fn expect_switches<R: Wait + Abort>(
 }
 
 // What a desk gives back that doesn't close: itself, and the passes that it was given.
-fn refused<R: Abort>(rt: &R, desk: Desk, passes: Vec<Pass>) -> (Desk, Vec<Pass>)
+fn fail_to_close<R: Abort>(rt: &R, desk: Desk, passes: Vec<Pass>) -> (Desk, Vec<Pass>)
     requires { All (λ p. p.turnstile ≡ desk) passes.items }
     ensures desk { result.0 ≡ desk }
     ensures passes { result.1 ≡ passes }
@@ -251,7 +251,7 @@ fn close_late<R: Abort>(rt: &R, desk: Desk, mut passes: Vec<Pass>) -> Seated
     requires { All (λ p. p.turnstile ≡ desk) passes.items }
 {
     let last = passes.pop().expect(rt, "a pass");
-    let (desk, mut passes) = refused(rt, desk, passes);
+    let (desk, mut passes) = fail_to_close(rt, desk, passes);
     assert!(rt; passes.len() == 1);
     passes.push(last).expect(rt, "memory for a pass");
     close_desk(desk, passes).expect(rt, "all passes")

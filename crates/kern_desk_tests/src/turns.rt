@@ -42,7 +42,7 @@ pub fn make<R: Wait + Abort>(
     ensures { pass.new.turnstile ≡ desk.now }
 {
     let call = call_of(alloc, action, unix_seconds).expect(rt, "memory for a call");
-    told_by(desk.turn(rt, pass, call).expect(rt, "a turn"))
+    take_outcome(desk.turn(rt, pass, call).expect(rt, "a turn"))
 }
 
 /// Makes one call on a kernel.
@@ -54,9 +54,9 @@ pub fn act<R: Abort>(
     unix_seconds: u64,
 ) -> Outcome {
     let call = call_of(alloc, action, unix_seconds).expect(rt, "memory for a call");
-    told_by(kernel.act(call))
+    take_outcome(kernel.act(call))
 }
 
-fn told_by(answer: Result<Reply, KernelFault>) -> Outcome {
+fn take_outcome(answer: Result<Reply, KernelFault>) -> Outcome {
     outcome_of(&answer)
 }

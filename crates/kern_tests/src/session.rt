@@ -85,7 +85,7 @@ fn read_line(alloc: Global, text: &str) -> Result<Value, SessionFault> {
 }
 
 // A line of repeated calls, for one of them.
-fn numbered(alloc: Global, text: &str, number: u64) -> Result<String, AllocError> {
+fn with_number(alloc: Global, text: &str, number: u64) -> Result<String, AllocError> {
     let digits = format!(in alloc; "{number}")?;
     text.replace(alloc, '#', digits.as_str())
 }
@@ -142,7 +142,7 @@ impl Session {
     }
 
     fn call_again(&mut self, alloc: Global, text: &str, number: u64) -> Result<(), SessionFault> {
-        let text = numbered(alloc, text, number)?;
+        let text = with_number(alloc, text, number)?;
         let line = read_line(alloc, text.as_str())?;
         let made = self.call(alloc, &line);
         drop(line);

@@ -154,7 +154,7 @@ fn are_of(frames: &Frames, slots: &[u16]) -> bool {
 }
 
 // The frames of the two calls.
-fn called_twice(alloc: Global, [outer, inner]: [u16; 2]) -> Result<Frames, AllocError> {
+fn frames_of_two_calls(alloc: Global, [outer, inner]: [u16; 2]) -> Result<Frames, AllocError> {
     let mut frames = Frames::new(alloc)?;
     for slot in [outer, inner] {
         let target = OUTER.target;
@@ -167,7 +167,7 @@ fn is_right(
     alloc: Global,
     (slots, (from, sp), (left, wanted)): Changed,
 ) -> Result<bool, AllocError> {
-    let mut frames = called_twice(alloc, slots)?;
+    let mut frames = frames_of_two_calls(alloc, slots)?;
     let stays = match from {
         None => frames.advance(Stepped::Done, OUTER.site, sp),
         Some(slot) => frames.advance(Stepped::Returned { slot }, OUTER.site, sp),

@@ -34,7 +34,7 @@ fn rows_of(alloc: Global, parts: &[RowParts]) -> Result<Vec<Row>, AllocError> {
     Ok(rows)
 }
 
-fn built(alloc: Global, image: &[(u16, u8)], rows: &[RowParts]) -> Result<Built, AllocError> {
+fn build_of(alloc: Global, image: &[(u16, u8)], rows: &[RowParts]) -> Result<Built, AllocError> {
     let rows = rows_of(alloc, rows)?;
     Ok(Built {
         image: Vec::from_slice(alloc, image)?,
@@ -51,7 +51,7 @@ pub(crate) fn load_all(
     loads: &[LoadParts],
 ) -> Result<(), AllocError> {
     for (source, image, rows) in loads {
-        let built = built(alloc, image, rows)?;
+        let built = build_of(alloc, image, rows)?;
         let outcome = origins.load(machine, *source, &built);
         drop(built);
         outcome?;

@@ -37,7 +37,7 @@ struct Board {
     is_stopped: bool,
 }
 
-fn assembled(alloc: Global, text: &str) -> Result<Built, AsmFault> {
+fn assemble(alloc: Global, text: &str) -> Result<Built, AsmFault> {
     let all = statements(alloc, text)?;
     let none = Symbols::new(alloc);
     let built = build(alloc, &all, &none);
@@ -47,7 +47,7 @@ fn assembled(alloc: Global, text: &str) -> Result<Built, AsmFault> {
 }
 
 /// A text under the path `a`.
-fn kept(rt: &impl Abort, alloc: Global, text: &str) -> Sources {
+fn sources_with(rt: &impl Abort, alloc: Global, text: &str) -> Sources {
     let mut sources = Sources::new(alloc).expect(rt, "memory");
     let source = Source::copy_of(alloc, "a", text);
     sources.add(source.expect(rt, "memory"));
@@ -64,8 +64,8 @@ fn breakpoints(alloc: Global) -> Result<Vec<BreakpointList>, AllocError> {
 }
 
 /// A stopped board on which this text was loaded.
-fn loaded(rt: &impl Abort, alloc: Global, text: &str) -> Board {
-    let built = assembled(alloc, text).expect(rt, "it assembles");
+fn board_with(rt: &impl Abort, alloc: Global, text: &str) -> Board {
+    let built = assemble(alloc, text).expect(rt, "it assembles");
     let mut machine = Machine::new(alloc).expect(rt, "memory");
     let mut origins = Origins::new(alloc);
     let told = origins.load(&mut machine, 0, &built);
@@ -76,13 +76,13 @@ fn loaded(rt: &impl Abort, alloc: Global, text: &str) -> Board {
         frames: Frames::new(alloc).expect(rt, "memory"),
         origins,
         built,
-        sources: kept(rt, alloc, text),
+        sources: sources_with(rt, alloc, text),
         lists: breakpoints(alloc).expect(rt, "memory"),
         is_stopped: true,
     }
 }
 
-fn shown(alloc: Global, board: &Board, ask: Ask) -> Result<Shown, ViewFault> {
+fn show_on(alloc: Global, board: &Board, ask: Ask) -> Result<Shown, ViewFault> {
     let parts = Parts {
         machine: &board.machine,
         devices: &board.devices,
@@ -106,7 +106,7 @@ fn put_answer(told: &mut String, answer: &Result<Shown, ViewFault>) -> Result<()
 
 /// Adds what is shown, or why not.
 fn tell(told: &mut String, alloc: Global, board: &Board, ask: Ask) -> Result<(), AllocError> {
-    let answer = shown(alloc, board, ask);
+    let answer = show_on(alloc, board, ask);
     let put = put_answer(told, &answer);
     drop(answer);
     put
@@ -131,7 +131,7 @@ fn length(answer: &Result<Shown, ViewFault>) -> Option<usize> {
 }
 
 fn count(alloc: Global, board: &Board, ask: Ask) -> Option<usize> {
-    let answer = shown(alloc, board, ask);
+    let answer = show_on(alloc, board, ask);
     let found = length(&answer);
     drop(answer);
     found
@@ -169,7 +169,7 @@ S=1 Z=0 AC=1 P=0 CY=1 INTE={word} \n"
 
 #[test]
 fn registers_and_flags(rt: HostRuntime) {
-    let mut board = loaded(&rt, rt.alloc(), "");
+    let mut board = board_with(&rt, rt.alloc(), "");
     let asks = [Ask::Variables(1, 7, 1), Ask::Variables(2, 7, 1)];
     for (interrupts, word) in INTERRUPTS {
         board.machine.set_regs(registers(interrupts));
@@ -197,7 +197,7 @@ refused: there are the references 1 to 5
 
 #[test]
 fn devices_and_references(rt: HostRuntime) {
-    let mut board = loaded(&rt, rt.alloc(), "X SET 5\nLOOP: NOP");
+    let mut board = board_with(&rt, rt.alloc(), "X SET 5\nLOOP: NOP");
     compare(&rt, rt.alloc(), &board, &REFERENCES, REFERENCES_TOLD);
     board.devices.set_switches(0x5a);
     let typed = board.devices.type_bytes(b"0123456789ab");
@@ -234,7 +234,7 @@ const COUNTS: [(Ask, usize); 19] = [
 #[test]
 fn counts_are_cut(rt: HostRuntime) -> Result<(), AllocError> {
     let text = symbols(rt.alloc(), "L")?;
-    let board = loaded(&rt, rt.alloc(), text.as_str());
+    let board = board_with(&rt, rt.alloc(), text.as_str());
     for (place, (ask, wanted)) in COUNTS.iter().enumerate() {
         assert!(rt;
             count(rt.alloc(), &board, *ask) == Some(*wanted),
@@ -253,7 +253,7 @@ const AFTER: [(u16, u16); 4] = [(0, 0xffff), (1, 2), (2, 3), (0xffff, 2)];
 
 #[test]
 fn code_goes_on_at_the_first_address(rt: HostRuntime) {
-    let board = loaded(&rt, rt.alloc(), "ORG 0\nDB 34H,12H,8\nORG 0FFFFH\nDB 0C3H");
+    let board = board_with(&rt, rt.alloc(), "ORG 0\nDB 34H,12H,8\nORG 0FFFFH\nDB 0C3H");
     let wanted = "FFFF C3 34 12 JMP 01234H\n0002 08 DB 008H\n0003 00 NOP\n";
     compare(&rt, rt.alloc(), &board, &[Ask::Code(0xffff, 3)], wanted);
     for (lines, wanted) in AFTER {
@@ -315,7 +315,7 @@ fn call_twice(board: &mut Board) {
 
 #[test]
 fn frames_sources_and_breakpoints(rt: HostRuntime) {
-    let mut board = loaded(&rt, rt.alloc(), CELL);
+    let mut board = board_with(&rt, rt.alloc(), CELL);
     board.machine.set_pc(7);
     call_twice(&mut board);
     compare(&rt, rt.alloc(), &board, &ALL_ASKS, ALL_TOLD);

@@ -252,7 +252,7 @@ fn writes_all(alloc: Global) -> Result<(bool, bool), AllocError> {
 
 // The handshakes, the subscription and the request, byte for byte.
 #[test]
-fn sent(rt: HostRuntime) {
+fn sent_bytes(rt: HostRuntime) {
     let writes = writes_all(rt.alloc());
     assert!(rt; matches!(writes, Ok((true, _))), "shell");
     assert!(rt; matches!(writes, Ok((_, true))), "iopub");

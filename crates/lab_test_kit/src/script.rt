@@ -291,7 +291,7 @@ fn tell_all(
 }
 
 // What steps show on a new board.
-fn shown(alloc: Global, steps: &[Step]) -> Result<String, AllocError> {
+fn show_steps(alloc: Global, steps: &[Step]) -> Result<String, AllocError> {
     let mut lab = Lab::new(alloc)?;
     let mut told = String::new(alloc);
     let outcome = tell_all(alloc, &mut lab, steps, &mut told);
@@ -307,7 +307,7 @@ pub type Play = (&'static str, &'static [Step], &'static str);
 pub fn wrong_plays(alloc: Global, plays: &[Play]) -> Result<String, AllocError> {
     let mut wrong = String::new(alloc);
     for (about, steps, wanted) in plays {
-        let told = shown(alloc, steps)?;
+        let told = show_steps(alloc, steps)?;
         if told.as_str() != *wanted {
             write!(wrong, "{about}: {}\n", told.as_str())?;
         }

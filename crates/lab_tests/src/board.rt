@@ -242,7 +242,7 @@ fn put_answers(
     Ok(())
 }
 
-fn run_told(told: &mut String, lab: &mut Lab, events: &[Event]) -> Result<(), AllocError>
+fn tell_run(told: &mut String, lab: &mut Lab, events: &[Event]) -> Result<(), AllocError>
     requires { All Fits events.now }
 {
     let answers = lab.run(events);
@@ -256,7 +256,7 @@ fn events_are_run_in_turn(rt: HostRuntime) -> Result<(), AllocError> {
     let events = [Event::Start(0xffff), Event::Slice(2), Event::Press(8)];
     let mut lab = Lab::new(rt.alloc()).expect(&rt, "memory");
     let mut told = String::new(rt.alloc());
-    let put = run_told(&mut told, &mut lab, &events);
+    let put = tell_run(&mut told, &mut lab, &events);
     drop(lab);
     drop(events);
     put?;

@@ -276,7 +276,7 @@ fn begin(alloc: Global, lab: &mut Lab, program: &Program) -> Result<bool, AllocE
 }
 
 // All that is seen of a run in slices of n. None where it can't be begun.
-fn seen(alloc: Global, program: &Program, n: u16) -> Result<Option<Vec<u32>>, AllocError>
+fn trace_of(alloc: Global, program: &Program, n: u16) -> Result<Option<Vec<u32>>, AllocError>
     requires some { 1 ≤ n }
     requires few { n ≤ 4096 }
 {
@@ -303,10 +303,10 @@ fn are_same(one: &Option<Vec<u32>>, other: &Option<Vec<u32>>) -> bool {
 
 // Whether slices of each length give what slices of one step give.
 fn is_same(alloc: Global, program: &Program) -> Result<bool, AllocError> {
-    let single = seen(alloc, program, 1)?;
+    let single = trace_of(alloc, program, 1)?;
     let mut is_so = true;
     for n in LENGTHS {
-        let seen = seen(alloc, program, n.max(1).min(4096))?;
+        let seen = trace_of(alloc, program, n.max(1).min(4096))?;
         is_so = is_so && are_same(&single, &seen);
     }
     Ok(is_so)

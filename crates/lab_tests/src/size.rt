@@ -28,7 +28,7 @@ fn count_of(answers: &Result<Answers, EventsFault>) -> Option<usize> {
 }
 
 // How many of these events were answered, where all were.
-fn answered(lab: &mut Lab, events: &[Event]) -> Option<usize>
+fn count_answers(lab: &mut Lab, events: &[Event]) -> Option<usize>
     requires { All Fits events.now }
 {
     let answers = lab.run(events);
@@ -41,7 +41,7 @@ fn answered(lab: &mut Lab, events: &[Event]) -> Option<usize>
 fn five_thousand_events_are_answered(rt: HostRuntime) -> Result<(), AllocError> {
     let events = switches(rt.alloc(), 5000)?;
     let mut lab = Lab::new(rt.alloc()).expect(&rt, "memory");
-    let count = answered(&mut lab, &events);
+    let count = count_answers(&mut lab, &events);
     drop(events);
     let switches = lab.devices().switches();
     drop(lab);

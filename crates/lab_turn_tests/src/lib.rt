@@ -61,7 +61,7 @@ impl Counter {
     }
 
     /// The same with another label.
-    pub fn labeled(self, label: u32) -> Counter
+    pub fn with_label(self, label: u32) -> Counter
         ensures { result ≡ record { entries = self.entries; limit = self.limit; label = label } }
     {
         Counter { label, ..self }

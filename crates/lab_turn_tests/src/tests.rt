@@ -12,10 +12,10 @@ use std::thread::Threads;
 use std::{fmt, thread};
 
 // A turnstile over a new counter, with its two passes, those of seat 0 and 1.
-fn opened(alloc: Global, limit: u64) -> Option<(Turnstile<Counter>, Pass<Counter>, Pass<Counter>)>
+fn open_two(alloc: Global, limit: u64) -> Option<(Turnstile<Counter>, Pass<Counter>, Pass<Counter>)>
     ensures { IfSome result (λ t. (t.1.turnstile ≡ t.0) × (t.2.turnstile ≡ t.0)) }
 {
-    let counter = Counter::new(alloc, limit).labeled(80);
+    let counter = Counter::new(alloc, limit).with_label(80);
     let Ok((desk, mut passes)) = Turnstile::open(alloc, counter, 2) else {
         return None;
     };
@@ -86,7 +86,7 @@ fn are_in_order(entries: &[(u32, u32)]) -> bool {
 
 #[test]
 fn two_threads(rt: HostRuntime) -> Result<(), Fail> {
-    let Some((desk, first, second)) = opened(rt.alloc(), 1 << 20) else {
+    let Some((desk, first, second)) = open_two(rt.alloc(), 1 << 20) else {
         return Err("memory".into());
     };
     let (first, second) = race(&rt, &desk, first, second);
@@ -153,7 +153,7 @@ fn close_twice(
 
 #[test]
 fn calls_of_two_seats(rt: HostRuntime) -> Result<(), Fail> {
-    let Some((desk, mut first, mut second)) = opened(rt.alloc(), 3) else {
+    let Some((desk, mut first, mut second)) = open_two(rt.alloc(), 3) else {
         return Err("memory".into());
     };
     let answers = four_turns(&rt, &desk, &mut first, &mut second);

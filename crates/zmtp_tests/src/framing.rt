@@ -74,7 +74,7 @@ fn text_after<'a>(text: &'a [u8], messages: &[Frames]) -> Option<&'a [u8]> {
 }
 
 // Whether a peer's READY was accepted, and whether it gave an identity.
-fn known(decoder: &Decoder) -> (bool, bool) {
+fn readiness_of(decoder: &Decoder) -> (bool, bool) {
     (decoder.is_ready(), decoder.identity().is_some())
 }
 
@@ -87,9 +87,9 @@ fn is_out_of_memory(answer: &Result<Messages, FeedFault>) -> bool {
 
 // What a feed gives. Where memory is refused the side has to be as before, and the same piece is fed again.
 fn answer_of(alloc: Global, decoder: &mut Decoder, piece: &[u8]) -> Result<Messages, FeedFault> {
-    let before = known(decoder);
+    let before = readiness_of(decoder);
     let answer = decoder.feed(alloc, piece);
-    if is_out_of_memory(&answer) && known(decoder) == before {
+    if is_out_of_memory(&answer) && readiness_of(decoder) == before {
         drop(answer);
         return decoder.feed(alloc, piece);
     }
@@ -100,7 +100,7 @@ fn text_left<'a>(text: &'a [u8], messages: &Messages) -> Result<&'a [u8], Fail> 
     Ok(text_after(text, messages.as_slice()).ok_or("other messages")?)
 }
 
-fn told<'a>(
+fn text_and_fault<'a>(
     text: &'a [u8],
     answer: &Result<Messages, FeedFault>,
 ) -> Result<(&'a [u8], Option<StreamFault>), Fail> {
@@ -119,7 +119,7 @@ fn feed<'a>(
     text: &'a [u8],
 ) -> Result<(&'a [u8], Option<StreamFault>), Fail> {
     let answer = answer_of(alloc, decoder, piece);
-    let told = told(text, &answer);
+    let told = text_and_fault(text, &answer);
     drop(answer);
     told
 }
@@ -386,7 +386,7 @@ fn has_identity(decoder: &Decoder, want: Option<&[u8]>) -> bool {
 }
 
 // Whether READY is accepted, and whether it gives this identity, or none.
-fn known_after(alloc: Global, ready: &str, want: Option<&[u8]>) -> Result<(bool, bool), Fail> {
+fn readiness_after(alloc: Global, ready: &str, want: Option<&[u8]>) -> Result<(bool, bool), Fail> {
     let decoder = router_after(alloc, GREETING, ready)?;
     let known = (decoder.is_ready(), has_identity(&decoder, want));
     drop(decoder);
@@ -396,7 +396,7 @@ fn known_after(alloc: Global, ready: &str, want: Option<&[u8]>) -> Result<(bool,
 #[test]
 fn identities(rt: HostRuntime) -> Result<(), Fail> {
     for (ready, is_ready, identity) in &IDENTITIES {
-        let known = known_after(rt.alloc(), ready, *identity)?;
+        let known = readiness_after(rt.alloc(), ready, *identity)?;
         assert!(rt; known == (*is_ready, true), "{ready}");
     }
     Ok(())
@@ -579,7 +579,7 @@ fn one_frame(alloc: Global) -> Result<Frames, AllocError> {
 }
 
 // That message, moved in and out.
-fn frames_moved(rt: &impl Abort, alloc: Global) -> Frames {
+fn move_frames(rt: &impl Abort, alloc: Global) -> Frames {
     let frames = one_frame(alloc).expect(rt, "memory");
     let mut messages = Messages::new(alloc);
     messages.push(frames).expect(rt, "memory");
@@ -590,7 +590,7 @@ fn frames_moved(rt: &impl Abort, alloc: Global) -> Frames {
 }
 
 // No frames, in the room of others.
-fn emptied(frames: Vec<Bytes>) -> usize {
+fn empty_out(frames: Vec<Bytes>) -> usize {
     let mut frames = Frames::from(frames);
     frames.truncate(0);
     let count = frames.len();
@@ -600,12 +600,12 @@ fn emptied(frames: Vec<Bytes>) -> usize {
 
 #[test]
 fn conversions(rt: HostRuntime) {
-    let frames = frames_moved(&rt, rt.alloc());
+    let frames = move_frames(&rt, rt.alloc());
     assert!(rt; frames.len() == 1);
     let mut frames = frames.into_vec();
     let frame = frames.pop().expect(&rt, "a frame");
     assert!(rt; frame.into_vec().as_slice() == b"ab".as_slice());
-    assert!(rt; emptied(frames) == 0);
+    assert!(rt; empty_out(frames) == 0);
 }
 
 // A greeting, a DEALER's READY with the identity `me`, three messages, and a flag byte of no frame.
@@ -617,7 +617,7 @@ const CONVERSATION: &[u8] =
 
 // Feeds the conversation in pieces of this size. Gives where and why the stream broke, whether the peer's
 // READY was accepted, and whether it gave its identity.
-fn conversed(
+fn feed_conversation(
     alloc: Global,
     decoder: &mut Decoder,
     size: usize,
@@ -634,7 +634,7 @@ fn conversed(
 // Nothing here but the feeds takes memory, and with an allocation refused the answer is the same.
 fn converse(rt: &impl Abort, alloc: Global, size: usize) -> Result<(), Fail> {
     let mut decoder = Decoder::new(alloc, Role::Router);
-    let found = conversed(alloc, &mut decoder, size);
+    let found = feed_conversation(alloc, &mut decoder, size);
     drop(decoder);
     let broken = Some((CONVERSATION.len(), StreamFault::Flags));
     assert!(rt; found? == (broken, true, true));
@@ -643,7 +643,7 @@ fn converse(rt: &impl Abort, alloc: Global, size: usize) -> Result<(), Fail> {
 
 // Whole, in two, in sixteens, and byte by byte.
 #[test]
-fn fed_again(rt: HostRuntime) -> Result<(), Fail> {
+fn conversations(rt: HostRuntime) -> Result<(), Fail> {
     for size in [1000, 113, 16, 1] {
         converse(&rt, rt.alloc(), size)?;
     }

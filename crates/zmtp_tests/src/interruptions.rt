@@ -68,14 +68,14 @@ const ROWS: [Row; 8] = [
     (Talk::Heartbeat, true, 98, Some(PeerFault::WriteFailed), 98),
 ];
 
-fn given(alloc: Global, talk: Talk) -> Result<Vec<u8>, Fail> {
+fn bytes_given(alloc: Global, talk: Talk) -> Result<Vec<u8>, Fail> {
     match talk {
         Talk::Handshake => bytes_of(alloc, GREETING, DEALER, ""),
         Talk::Heartbeat => bytes_of(alloc, GREETING, REQ, PING),
     }
 }
 
-fn wanted(alloc: Global, talk: Talk) -> Result<Vec<u8>, Fail> {
+fn bytes_wanted(alloc: Global, talk: Talk) -> Result<Vec<u8>, Fail> {
     match talk {
         Talk::Handshake => bytes_of(alloc, OUR_GREETING, ROUTER, ""),
         Talk::Heartbeat => bytes_of(alloc, OUR_GREETING, REP, PING),
@@ -83,7 +83,7 @@ fn wanted(alloc: Global, talk: Talk) -> Result<Vec<u8>, Fail> {
 }
 
 // How a talk ends over these bytes, and what it has written.
-fn talked(
+fn talk_over(
     alloc: Global,
     talk: Talk,
     given: &[u8],
@@ -111,9 +111,9 @@ fn talked(
 
 fn check_row(rt: &impl Abort, alloc: Global, row: Row, place: usize) -> Result<(), Fail> {
     let (talk, fails, room, end, count) = row;
-    let given = given(alloc, talk)?;
-    let wanted = wanted(alloc, talk)?;
-    let (found, written) = talked(alloc, talk, given.as_slice(), fails, room);
+    let given = bytes_given(alloc, talk)?;
+    let wanted = bytes_wanted(alloc, talk)?;
+    let (found, written) = talk_over(alloc, talk, given.as_slice(), fails, room);
     let is_front = wanted.as_slice().starts_with(written.as_slice());
     assert!(rt; found == end, "row {place}: another end");
     assert!(rt;

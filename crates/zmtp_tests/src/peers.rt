@@ -190,7 +190,7 @@ fn heartbeats(rt: HostRuntime) -> Result<(), Fail> {
 }
 
 // How much is written before the read after so many.
-fn written_before(calls: u64) -> usize {
+fn count_before(calls: u64) -> usize {
     match calls {
         0..=63 => 64,
         64..=98 => 91,
@@ -208,7 +208,7 @@ fn failing_reads(rt: HostRuntime) -> Result<(), Fail> {
         };
         let answer = beat(rt.alloc(), PING, PING, pace)?;
         assert!(rt;
-            answer == (PeerFault::ReadFailed, written_before(calls)),
+            answer == (PeerFault::ReadFailed, count_before(calls)),
             "{calls}"
         );
     }
