@@ -9,7 +9,8 @@ use Rattle.i80_exec.specs.Step.{operation_list}
 use Rattle.lab_core.specs.declared.answer.SliceOutcome.{SliceOutcome}
 use Rattle.lab_core.specs.declared.lab.Context.{Context}
 use Rattle.lab_core.specs.Board.{Board, next_change, stepped}
-use Rattle.lab_core.specs.Slices.{after_steps, traffic_of, reason, reason_apart, early_reason, waiting, undefined}
+use Rattle.lab_core.specs.Slices.{after_steps, traffic_of, reason, reason_apart, early_reason, waiting}
+use Rattle.lab_core.specs.Slices.{undefined}
 use Rattle.lab_core.specs.Labs.{LabState, StandsAmid, Makes, AdvancesIn, FindsIn, KeepsIn, amid}
 use Rattle.lab_core.proofs.QuietLemmas.{or_or}
 
@@ -71,7 +72,8 @@ pub makes_more : (made : ℕ) (b : Board) (traffic : List PortOperation) (lab : 
 makes_more made b traffic lab machine context machine' context' m free defined advances =
     let now = after_steps made b in
     let all = traffic ++ traffic_of made b in
-    let T : List PortOperation → Type 0 = λ all. StandsAmid (amid lab machine' context') (after_steps (suc made) b) all in
+    let T : List PortOperation → Type 0 =
+    λ all. StandsAmid (amid lab machine' context') (after_steps (suc made) b) all in
     let joined = append_assoc traffic (traffic_of made b) (operation_list (next_change now).operation) in
     let none = no_reason now (free lab now all m.stands) (defined lab now all m.stands) in
     let one : made + 1 ≡ suc made = omega arith in

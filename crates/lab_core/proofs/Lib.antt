@@ -1,4 +1,3 @@
-pub mod StepLemmas
 pub mod UndefinedLemmas
 pub mod StandsLemmas
 pub mod QuietLemmas

@@ -1,28 +1,26 @@
 -- Quiet steps, and what can come beside them.
 use Rattle.std.proofs.Common.{◌≡◌, ℕ, List, [], ◌∷◌, ◌++◌, Bool, true, false, Option, Some, None, length}
-use Rattle.std.proofs.Common.{refl, sym, ap, ◌∙◌, subst, drop, ◌==◌, ◌⊎◌, inl, inr}
+use Rattle.std.proofs.Common.{refl, sym, ap, ◌∙◌, subst, ◌⊎◌, inl, inr}
 use Rattle.std.proofs.Common.{◌+◌, ◌<◌, ◌≤◌, reverse, slice_get, arith}
-use Rattle.std.proofs.lemmas.Bool.{cond_both}
 use Rattle.std.proofs.lemmas.List.{reverse-append}
 use Rattle.std.specs.Option.{option_or, IsSome}
 use Rattle.i80_exec.specs.declared.registers.Stepped.{Stepped}
 use Rattle.i80_exec.specs.declared.registers.Stepped.TheVariants.{Done}
 use Rattle.i80_exec.specs.declared.ports.PortOperation.{PortOperation}
-use Rattle.i80_exec.specs.declared.ports.PortOperation.TheVariants.{In, Out}
+use Rattle.i80_exec.specs.declared.ports.PortOperation.TheVariants.{Out}
 use Rattle.i80_exec.specs.State.{MachineState}
 use Rattle.i80_exec.specs.declared.registers.Kind.{Kind}
 use Rattle.i80_exec.specs.declared.registers.Kind.TheVariants as kind
-use Rattle.i80_exec.specs.Step.{operation_list, state_after, is_halt, answer_of, is_arming, Settles}
-use Rattle.i80_devs.specs.Past.{Operation, Port, Typed, Switches, Press, PanelState, DeviceState, after, panel_after}
-use Rattle.i80_devs.specs.Past.{StandsFor as DevicesStandFor}
+use Rattle.i80_exec.specs.Step.{operation_list, is_halt, answer_of, is_arming, Settles}
+use Rattle.i80_devs.specs.Past.{Operation, Port, Typed, Switches, Press, PanelState, DeviceState, panel_after}
 use Rattle.lab_frames.specs.declared.frame.Frame.{Frame}
 use Rattle.lab_frames.specs.Frames.{Advances, AtLeast, LeavesOldest, TellsSp, reach_of}
+use Rattle.lab_frames.specs.Steps.{IsBoardStep}
 use Rattle.lab_frames.proofs.FrameLemmas.{quiet-advances, quiet-oldest}
 use Rattle.lab_core.specs.declared.event.StepRequest.{StepRequest}
-use Rattle.lab_core.specs.Board.{Board, accepted, acceptance_of, next_change, stepped}
+use Rattle.lab_core.specs.Board.{Board, next_change, stepped}
 use Rattle.lab_core.specs.Stops.{at_breakpoint, completes}
 use Rattle.lab_core.specs.Slices.{ends_in_halt, reason_apart}
-use Rattle.lab_core.specs.Steps.{IsBoardStep}
 use Rattle.lab_core.specs.Labs.{LabState, StandsAmid}
 use Rattle.lab_core.proofs.StandsLemmas.{stands_step}
 
@@ -49,26 +47,11 @@ has_past p = (past_of p, makes p.waiting p.switches p.lamps p.latched)
 
 -- what is found latched after each past is latched
 pub found_latched : (p : PanelState) (found : Option ℕ)
-    → ((past : List Operation) → p ≡ panel_after past → found ≡ (panel_after past).latched) → p.latched ≡ found
+    → ((past : List Operation) → p ≡ panel_after past → found ≡ (panel_after past).latched)
+    → p.latched ≡ found
 found_latched p found finds =
     let past = has_past p in
     ap (λ (q : PanelState). q.latched) past.1 ∙ sym (finds past.0 past.1)
-
--- no operation at a port latches a request
-pub stays_unlatched : (p : PanelState) (o : Option PortOperation) → (state_after after p o).latched ≡ p.latched
-stays_unlatched p None = refl
-stays_unlatched p (Some (In port byte)) =
-    cond_both (port == 1) (record p { waiting = drop 1 p.waiting }) p (λ q. q.latched ≡ p.latched) (λ _. refl)
-    (λ _. refl)
-stays_unlatched p (Some (Out port byte)) =
-    cond_both (port == 2) (record p { lamps = byte }) p (λ q. q.latched ≡ p.latched) (λ _. refl) (λ _. refl)
-
--- where none is latched none is accepted
-pub unlatched_accepts_none : (m : MachineState) (d : DeviceState) (past : List Operation) → DevicesStandFor d past
-    → d.panel.latched ≡ None → accepted m past ≡ None
-unlatched_accepts_none m d past stands unlatched =
-    let latched : (panel_after past).latched ≡ None = ap (λ (p : PanelState). p.latched) (sym stands) ∙ unlatched in
-    ap (λ l. acceptance_of l m) latched
 
 -- ---- reasons
 
@@ -127,12 +110,18 @@ pub stands_followed : (old : LabState) (b : Board) (traffic : List PortOperation
     → TellsSp answer old.machine.regs.sp machine.regs.sp → old.has_moved ≡ true → old.request ≡ None
     → Advances answer old.machine.regs.pc machine.regs.sp old.frames frames
     → LeavesOldest answer machine.regs.sp old.frames left
-    → StandsAmid (record old { machine = machine; devices = devices; frames = frames; is_halted = is_halt answer })
+    → StandsAmid
+    (record old { machine = machine; devices = devices; frames = frames; is_halted = is_halt answer })
     (stepped b) (traffic ++ operation_list (next_change b).operation)
-stands_followed old b traffic machine devices frames answer left s did tells has_moved unasked advances oldest =
-    let M : Bool → LabState = λ moved.
-    record old { machine = machine; devices = devices; frames = frames; is_halted = is_halt answer; has_moved = moved }
-    in
+stands_followed old b traffic machine devices frames answer left s did tells has_moved unasked advances
+    oldest =
+    let M : Bool → LabState = λ moved. record old {
+      machine = machine;
+      devices = devices;
+      frames = frames;
+      is_halted = is_halt answer;
+      has_moved = moved;
+    } in
     let rest : M old.has_moved ≡ M true = ap M has_moved in
     stands_step old (M old.has_moved) b traffic answer left s did (record {
       rest = rest;
@@ -154,7 +143,8 @@ pub quiet_settled : (k : Kind) (m m' : MachineState) → (k ≡ kind.Quiet) ⊎ 
 quiet_settled k m m' (inl quiet) settles = let s = rw quiet at settles in s.1
 quiet_settled k m m' (inr moved) settles = rw moved at settles
 
-pub quiet_keeps_sp : (k : Kind) (m m' : MachineState) → k ≡ kind.Quiet → Settles k m m' → m'.regs.sp ≡ m.regs.sp
+pub quiet_keeps_sp : (k : Kind) (m m' : MachineState) → k ≡ kind.Quiet → Settles k m m'
+    → m'.regs.sp ≡ m.regs.sp
 quiet_keeps_sp k m m' quiet settles = let s = rw quiet at settles in s.0
 
 -- a step that is neither EI nor HLT
@@ -199,4 +189,5 @@ within-first sp (f ∷ fs) small above = let low : sp ≤ f.slot = above.0 in om
 
 pub within_reach : (sp reach : ℕ) (fs : List Frame) → sp < 65536 → AtLeast sp fs
     → reach ≡ reach_of (slice_get (reverse fs) 0) → sp < reach
-within_reach sp reach fs small above is = rw is (within-first sp (reverse fs) small (at_least-reverse sp fs above))
+within_reach sp reach fs small above is =
+    rw is (within-first sp (reverse fs) small (at_least-reverse sp fs above))

@@ -19,17 +19,18 @@ use Rattle.lab_frames.specs.Live.{BoardStep, Change, Entry, Step, Poke, change_o
 use Rattle.lab_frames.specs.Frames.{Advances, AtLeast, LeavesOldest, IsStep, TellsSp, survivors}
 use Rattle.lab_frames.proofs.FrameLemmas.{live-above}
 use Rattle.lab_frames.proofs.StepLemmas.{returns_below}
-use Rattle.lab_frames.proofs.LiveLemmas.{live-append, live-poke, stays-step, filter-stays-step, filter-stays-none}
+use Rattle.lab_frames.proofs.LiveLemmas.{live-append, live-poke, stays-step, filter-stays-step}
+use Rattle.lab_frames.proofs.LiveLemmas.{filter-stays-none}
 use Rattle.lab_core.specs.declared.event.StepRequest.{StepRequest}
 use Rattle.lab_core.specs.declared.run_state.RunState.TheVariants.{Running, Stopped}
-use Rattle.lab_core.specs.Board.{Board, accepted, as_step, next_change, next_step, operations}
-use Rattle.lab_core.specs.Board.{outcome as outcome_of, stepped as stepped_board}
+use Rattle.lab_frames.specs.Steps.{accepted, operations, outcome as outcome_of}
+use Rattle.lab_core.specs.Board.{Board, as_step, next_change, next_step, stepped as stepped_board}
 use Rattle.lab_core.specs.Stops.{earlier, since, has_step, innermost, is_any, is_gone, is_gone_after}
 use Rattle.lab_core.specs.declared.answer.SliceOutcome.TheVariants as outcome
 use Rattle.lab_core.specs.declared.answer.End.TheVariants as end
 use Rattle.lab_core.specs.Slices.{ends_in_halt, halts, undefined}
 use Rattle.lab_core.specs.Events.{going_on, changed_to}
-use Rattle.lab_core.specs.Steps.{IsBoardStep}
+use Rattle.lab_frames.specs.Steps.{IsBoardStep}
 use Rattle.lab_core.specs.Labs.{LabState, StandsAmid, StandsFor, Follows}
 use Rattle.i80_exec.proofs.UndefinedLemmas.{IsDefined}
 use Rattle.lab_core.proofs.UndefinedLemmas.{defined, no_step, some_step}
@@ -282,7 +283,8 @@ over_done frames older frame gone b frames-are f =
 
 -- ---- a change by hand
 
-step-none : (entries : List Entry) (m m' : MachineState) → has_step (entries ++ Poke m m' ∷ []) ≡ has_step entries
+step-none : (entries : List Entry) (m m' : MachineState)
+    → has_step (entries ++ Poke m m' ∷ []) ≡ has_step entries
 step-none [] m m' = refl
 step-none (Step s ∷ entries) m m' = refl
 step-none (Poke n n' ∷ entries) m m' = step-none entries m m'

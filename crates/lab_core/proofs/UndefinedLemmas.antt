@@ -13,7 +13,8 @@ use Rattle.i80_exec.specs.Effect.{Outcome}
 use Rattle.i80_exec.specs.Step.{accepted_in}
 use Rattle.i80_exec.proofs.UndefinedLemmas.{IsDefined, Defines, not_defined, row-nothing, row-some}
 use Rattle.i80_devs.specs.Past.{Operation, answer, panel_after}
-use Rattle.lab_core.specs.Board.{accepted, acceptance_of, or_instruction, outcome, operations, taken_or_done}
+use Rattle.lab_frames.specs.Steps.{accepted, acceptance_of, or_instruction, outcome, operations}
+use Rattle.lab_frames.specs.Steps.{taken_or_done}
 
 pub defined : (answer : Stepped) → ((opcode : ℕ) → answer ≡ stepped.Undefined opcode → ⊥) → IsDefined answer
 defined (stepped.Undefined opcode) other = other opcode refl

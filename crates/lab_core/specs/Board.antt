@@ -1,11 +1,11 @@
 -- A board, and its steps: accepted requests and instructions.
-use Rattle.std.specs.Prelude.{ℕ, List, [], ◌∷◌, ◌++◌, map, Option, Some, None, Bool, false}
+use Rattle.std.specs.Prelude.{ℕ, List, [], ◌∷◌, ◌++◌, Option, Some, None, Bool, false}
 use Rattle.i80_exec.specs.State.{MachineState, power_on}
 use Rattle.i80_exec.specs.Effect.{Outcome}
-use Rattle.i80_exec.specs.Step.{instruction, acceptance, operation_list}
-use Rattle.i80_devs.specs.Past.{Operation, Port, Taken, answer, panel_after}
+use Rattle.i80_devs.specs.Past.{Operation}
 use Rattle.asm_build.specs.Reading.{Entries}
 use Rattle.lab_frames.specs.Live.{BoardStep, Instruction, Acceptance, Change, Entry, Step}
+use Rattle.lab_frames.specs.Steps.{accepted, outcome, operations}
 use Rattle.lab_image.specs.Loads.{Load}
 use Rattle.lab_breaks.specs.declared.lists.BreakpointList.{BreakpointList}
 use Rattle.lab_core.specs.declared.run_state.RunState.{RunState}
@@ -49,30 +49,6 @@ opening = record {
   resumed = None;
   request = None;
 }
-
-abbrev pub acceptance_of : Option ℕ → MachineState → Option Outcome
-acceptance_of None m = None
-acceptance_of (Some n) m = acceptance n m
-
--- the acceptance of the latched request, if there is one and interrupts are on
-abbrev pub accepted : MachineState → List Operation → Option Outcome
-accepted m past = acceptance_of (panel_after past).latched m
-
-abbrev pub or_instruction : Option Outcome → List Operation → MachineState → Outcome
-or_instruction (Some o) past m = o
-or_instruction None past m = instruction (answer (panel_after past)) m
-
--- one step: the acceptance, or else the instruction at PC, whose IN is answered by the devices
-abbrev pub outcome : MachineState → List Operation → Outcome
-outcome m past = or_instruction (accepted m past) past m
-
-abbrev pub taken_or_done : Option Outcome → Outcome → List Operation
-taken_or_done (Some _) o = Taken ∷ []
-taken_or_done None o = map Port (operation_list o.operation)
-
--- what the step does to the devices: an acceptance takes the request, an instruction may do an IN or OUT
-abbrev pub operations : MachineState → List Operation → List Operation
-operations m past = taken_or_done (accepted m past) (outcome m past)
 
 -- what the next step of a board does to the machine
 abbrev pub next_change : Board → Change

@@ -1,4 +1,5 @@
--- What the text of a cell gives: by what its lines say and how its statements read, whichever way that is found.
+-- What the text of a cell gives: by what its lines say and how its statements read, whichever way that is
+-- found.
 use Rattle.std.specs.Prelude.{◌≡◌, ◌⊎◌, List, ℕ, Result, Err}
 use Rattle.std.specs.Str.Lines.{lines}
 use Rattle.asm_syntax.specs.declared.statement.Statement.{Statement}

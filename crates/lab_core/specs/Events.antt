@@ -284,8 +284,8 @@ Loads s b reply new =
     (cell : Result Meaning CellFault) × TextGives b.symbols s.text cell
     × Gives b (without_run b.run (loaded_as cell s b)) reply new
 
--- On this board the event is answered so, and makes it that board: of a load and of a slice by a condition, of
--- all others by the function.
+-- On this board the event is answered so, and makes it that board: of a load and of a slice by a condition,
+-- of all others by the function.
 abbrev pub Applies : Board → Event → Result Answer EventFault → Board → Type 0
 Applies b (event.Load path text) reply new = Loads (record { path = path; text = text }) b reply new
 Applies b (event.Slice n) reply new = SlicesRun b.run n b reply new

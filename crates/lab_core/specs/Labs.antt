@@ -1,6 +1,6 @@
 -- Which boards a lab stands for.
-use Rattle.std.specs.Prelude.{◌≡◌, ◌≢◌, ◌<◌, ◌≤◌, ℕ, List, [], ◌++◌, length, Bool, true, false, Option, Some, None}
-use Rattle.std.specs.Prelude.{IsSome, is_some, unwrap_or, Result, Ok, Err}
+use Rattle.std.specs.Prelude.{◌≡◌, ◌≢◌, ◌<◌, ◌≤◌, ℕ, List, [], ◌++◌, length, Bool, true, false, Option, Some}
+use Rattle.std.specs.Prelude.{None, IsSome, is_some, unwrap_or, Result, Ok, Err}
 use Rattle.std.specs.List.{filter}
 use Rattle.std.specs.Option.{IfSome}
 use Rattle.i80_exec.specs.State.{MachineState}
@@ -51,9 +51,9 @@ pub record LabState : Type 0 where
   pub innermost : Option Frame
   pub is_gone : Bool
 
--- What the lab follows while a Step isn't complete, where these are the run's entries up to it and those since:
--- how many of the frames that were live at its beginning are left, which was innermost, and whether that is
--- gone.
+-- What the lab follows while a Step isn't complete, where these are the run's entries up to it and those
+-- since: how many of the frames that were live at its beginning are left, which was innermost, and whether
+-- that is gone.
 pub record Follows (older : ℕ) (frame : Option Frame) (gone : Bool)
     (before later : List Entry) : Type 0 where
   pub older_is : older ≡ length (filter (stays later) (live before))
@@ -137,16 +137,16 @@ FindsIn f found machine context = (lab : LabState) → Finds f found (amid lab m
 
 -- ---- bursts
 
--- Nothing can come but a breakpoint or an undefined opcode: the last step wasn't HLT, one was made since the last
--- Resume or Step, no Step is wanting, and no request is latched.
+-- Nothing can come but a breakpoint or an undefined opcode: the last step wasn't HLT, one was made since
+-- the last Resume or Step, no Step is wanting, and no request is latched.
 pub record IsCalm (context : Context) : Type 0 where
   pub goes_on : context.is_halted ≡ false
   pub has_moved : context.has_moved ≡ true
   pub unasked : context.request ≡ None
   pub unlatched : context.devices.panel.latched ≡ None
 
--- It is calm, EI wasn't the last instruction, and SP is within the reach of the live frames: a step that answers Done
--- and leaves SP there is quiet, and changes nothing but machine and devices.
+-- It is calm, EI wasn't the last instruction, and SP is within the reach of the live frames: a step that
+-- answers Done and leaves SP there is quiet, and changes nothing but machine and devices.
 pub record IsInBurst (reach : ℕ) (machine : MachineState) (context : Context) : Type 0 where
   pub calm : IsCalm context
   pub settled : is_arming machine.regs.interrupts ≡ false
@@ -159,8 +159,8 @@ ending_of (Within reach) = None
 ending_of Last = None
 ending_of (Ended outcome) = Some outcome
 
--- The lab stands for the board after so many steps. No reason stood before any of them, and if one was found after
--- them, it is the first that stands there.
+-- The lab stands for the board after so many steps. No reason stood before any of them, and if one was
+-- found after them, it is the first that stands there.
 pub record Makes (made : ℕ) (found : Option SliceOutcome) (b : Board) (traffic : List PortOperation)
     (lab : LabState) : Type 0 where
   pub stands : StandsAmid lab (after_steps made b) (traffic ++ traffic_of made b)
@@ -170,7 +170,8 @@ pub record Makes (made : ℕ) (found : Option SliceOutcome) (b : Board) (traffic
 -- so from whatever board it stood for
 abbrev pub MakesIn : ℕ → Option SliceOutcome → MachineState → Context → MachineState → Context → Type 0
 MakesIn made found machine context machine' context' =
-    (lab : LabState) (b : Board) (traffic : List PortOperation) → StandsAmid (amid lab machine context) b traffic
+    (lab : LabState) (b : Board) (traffic : List PortOperation)
+    → StandsAmid (amid lab machine context) b traffic
     → Makes made found b traffic (amid lab machine' context')
 
 -- ---- events

@@ -1,5 +1,4 @@
 pub mod Board
-pub mod Steps
 pub mod Stops
 pub mod Slices
 pub mod Refusals

@@ -16,7 +16,8 @@ use Rattle.lab_core.specs.declared.answer.SliceOutcome.{SliceOutcome}
 use Rattle.lab_core.specs.declared.answer.SliceOutcome.TheVariants as outcome
 use Rattle.lab_core.specs.declared.answer.End.TheVariants as end
 use Rattle.lab_core.specs.declared.run_state.RunState.TheVariants.{NoRun, Stopped}
-use Rattle.lab_core.specs.Board.{Board, accepted, next_change, stepped}
+use Rattle.lab_frames.specs.Steps.{accepted}
+use Rattle.lab_core.specs.Board.{Board, next_change, stepped}
 use Rattle.lab_core.specs.Stops.{at_breakpoint, complete}
 
 -- ---- the reasons, and whether each stands

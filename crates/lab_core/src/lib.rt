@@ -5,7 +5,6 @@
 #![tactic(auto)]
 
 pub mod answer;
-mod board_step;
 pub mod event;
 pub mod fault;
 pub mod lab;

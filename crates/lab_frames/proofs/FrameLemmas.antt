@@ -1,6 +1,6 @@
 -- Popping frames whose slots fall leaves those that the step doesn't end.
-use Rattle.std.proofs.Common.{◌≡◌, ℕ, ◌-◌, ◌<◌, ◌≤◌, List, [], ◌∷◌, ◌++◌, ◌+◌, true, false, not, Some, suc, length}
-use Rattle.std.proofs.Common.{take, min, refl, sym, ap, ◌∙◌, subst, arith, append-nil, length-append}
+use Rattle.std.proofs.Common.{◌≡◌, ℕ, ◌-◌, ◌<◌, ◌≤◌, List, [], ◌∷◌, ◌++◌, ◌+◌, true, false, not, Some, suc}
+use Rattle.std.proofs.Common.{length, take, min, refl, sym, ap, ◌∙◌, subst, arith, append-nil, length-append}
 use Rattle.std.proofs.Common.{inl, inr}
 use Rattle.std.proofs.lemmas.Bool.{cases_Bool, cond_both, both_ways}
 use Rattle.std.proofs.lemmas.Bool.Decides.{nat_tests}
@@ -300,13 +300,14 @@ advanced answer site sp old inside popped new view-is h calls falls popped-is ne
       few = falls-length 65536 new falls-new;
     }
 
--- of the frames that a stretch of a run makes, none lies below SP after a step that ends it, wherever SP was before
+-- of the frames that a stretch of a run makes, none lies below SP after a step that ends it, wherever SP
+-- was before
 pub live-above : (trace : List Entry) (step : BoardStep) (answer : Stepped) (site sp : ℕ)
     → IsStep step answer site sp → CallsAt answer sp → AtLeast sp (live (trace ++ Step step ∷ []))
 live-above trace step answer site sp is calls =
     let A : List Frame → Type 0 = λ xs. AtLeast sp xs in
-    subst A (advances answer site sp (live trace) (survivors answer sp (live trace) ++ made_by answer site) refl
-    trace step is refl) (advanced-above answer site sp (live trace) calls)
+    subst A (advances answer site sp (live trace) (survivors answer sp (live trace) ++ made_by answer site)
+    refl trace step is refl) (advanced-above answer site sp (live trace) calls)
 
 -- ---- a step that ends none
 
@@ -351,4 +352,5 @@ last-above bound sp inside fs top is view-is falls low =
     let split : inside ≡ rest ++ top ∷ [] = split-last inside top is in
     let A : List Frame → Type 0 = λ xs. AtLeast sp xs in
     let F : List Frame → Type 0 = λ xs. Falls bound xs in
-    subst A view-is (subst A (sym split) (at_least-newest sp bound rest top (subst F split falls) (omega arith)))
+    subst A view-is (subst A (sym split) (at_least-newest sp bound rest top (subst F split falls)
+    (omega arith)))

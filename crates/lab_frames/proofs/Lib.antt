@@ -1,3 +1,4 @@
 pub mod LiveLemmas
 pub mod FrameLemmas
 pub mod StepLemmas
+pub mod BoardLemmas

@@ -34,7 +34,8 @@ abbrev pub AtLeast : ℕ → List Frame → Type 0
 AtLeast low [] = Unit {0}
 AtLeast low (f ∷ fs) = (low ≤ f.slot) × AtLeast low fs
 
--- One above the slot of the newest frame, or 65536 where there is none: no slot is below an SP that is below this.
+-- One above the slot of the newest frame, or 65536 where there is none: no slot is below an SP that is
+-- below this.
 abbrev pub reach_of : Option Frame → ℕ
 reach_of None = 65536
 reach_of (Some newest) = newest.slot + 1
@@ -43,8 +44,8 @@ reach_of (Some newest) = newest.slot + 1
 abbrev pub ReturnsBelow : Stepped → List Frame → Type 0
 ReturnsBelow answer frames = (from : ℕ) → answer ≡ Returned from → AtLeast from frames
 
--- However the old frames are cut in two, a step that leaves this many of all leaves as many of the older ones, or
--- all of these where they are fewer. It isn't said of a return from above one of the newer.
+-- However the old frames are cut in two, a step that leaves this many of all leaves as many of the older
+-- ones, or all of these where they are fewer. It isn't said of a return from above one of the newer.
 abbrev pub LeavesOldest : Stepped → ℕ → List Frame → ℕ → Type 0
 LeavesOldest answer sp old left =
     (older newer : List Frame) → old ≡ older ++ newer → ReturnsBelow answer newer

@@ -9,12 +9,12 @@ ghost use Rattle.lab_core.specs.Slices.{undefined, reason_apart};
 ghost use Rattle.lab_core.specs.Labs.{FindsIn, AdvancesIn, KeepsIn, IsInBurst, MakesIn, ending_of};
 
 use crate::answer::{End, SliceOutcome};
-use crate::board_step::settled_step;
 use crate::lab::Context;
 use crate::lab::steps::is_halt;
 use crate::seldom::seldom;
 use i80_exec::machine::Machine;
 use i80_exec::registers::{Kind, Stepped};
+use lab_frames::board_step::settled_step;
 use std::mem;
 
 /// What a step of a burst did.

@@ -8,11 +8,11 @@ ghost use Rattle.lab_core.specs.Labs.{LabState, StandsFor, StandsAmid, amid, Fin
 ghost use Rattle.lab_core.specs.Labs.{IsCalm, MakesIn};
 
 use crate::answer::{End, SliceOutcome};
-use crate::board_step::board_step;
 use crate::lab::Context;
 use crate::seldom::seldom;
 use i80_exec::machine::Machine;
 use i80_exec::registers::Stepped;
+use lab_frames::board_step::board_step;
 use lab_frames::frame::Frame;
 use lab_frames::frames::is_ended;
 

@@ -15,13 +15,6 @@ use i80_exec::registers::Interrupts;
 use lab_image::origin::Origin;
 
 #[inline]
-fn is_off(interrupts: Interrupts) -> bool
-    ensures { result ≡ is_off interrupts }
-{
-    matches!(interrupts, Interrupts::Off)
-}
-
-#[inline]
 fn is_on(interrupts: Interrupts) -> bool
     ensures { result ≡ is_on interrupts }
 {
@@ -35,10 +28,10 @@ fn is_on(interrupts: Interrupts) -> bool
 fn end_after_halt(interrupts: Interrupts) -> Option<SliceOutcome>
     ensures { result ≡ (if is_off interrupts then Some (SliceOutcome.End End.Halted) else None) }
 {
-    if is_off(interrupts) {
-        Some(SliceOutcome::End(End::Halted))
-    } else {
-        None
+    match interrupts {
+        Interrupts::Off => Some(SliceOutcome::End(End::Halted)),
+        Interrupts::Arming => None,
+        Interrupts::On => None,
     }
 }
 

@@ -11,8 +11,8 @@ returns-in-Last-clause-makes c = λ lab b traffic s.
 pub returns-in-Ended-clause-makes : goal.returns-in-Ended-clause-makes
 returns-in-Ended-clause-makes c = λ lab b traffic s.
     let inv = c.loop-left.invariant in
-    makes_end (c.args.most - c.loop-left.left) c.in-Ended.outcome b traffic lab _ _ _ _ (inv.makes lab b traffic s)
-    inv.free c.in-Ended.ensures.undefined (c.in-Ended.ensures.ended refl)
+    makes_end (c.args.most - c.loop-left.left) c.in-Ended.outcome b traffic lab _ _ _ _
+    (inv.makes lab b traffic s) inv.free c.in-Ended.ensures.undefined (c.in-Ended.ensures.ended refl)
 
 pub returns-in-Some-clause-makes : goal.returns-in-Some-clause-makes
 returns-in-Some-clause-makes c = λ lab b traffic s.
@@ -20,8 +20,8 @@ returns-in-Some-clause-makes c = λ lab b traffic s.
     let below = inv.within in
     let some = c.loop-left-test.true in
     let one : c.args.most - (c.loop-left.left - 1) ≡ c.args.most - c.loop-left.left + 1 = omega arith in
-    rw one (makes_more (c.args.most - c.loop-left.left) b traffic lab _ _ _ _ (inv.makes lab b traffic s) inv.free
-    c.in-Within.ensures.undefined (c.in-Within.ensures.made refl))
+    rw one (makes_more (c.args.most - c.loop-left.left) b traffic lab _ _ _ _ (inv.makes lab b traffic s)
+    inv.free c.in-Within.ensures.undefined (c.in-Within.ensures.made refl))
 
 pub loop-left-preserved : goal.loop-left-preserved
 loop-left-preserved c =
@@ -35,8 +35,8 @@ loop-left-preserved c =
     record {
       within = omega arith;
       makes = λ lab b traffic s.
-          rw one (makes_more (c.args.most - c.loop-left.left) b traffic lab _ _ _ _ (inv.makes lab b traffic s)
-          inv.free c.in-Within.ensures.undefined (c.in-Within.ensures.made refl));
+          rw one (makes_more (c.args.most - c.loop-left.left) b traffic lab _ _ _ _
+          (inv.makes lab b traffic s) inv.free c.in-Within.ensures.undefined (c.in-Within.ensures.made refl));
       free = c.in_default.ensures;
       ready = c.in-Within.ensures.on c.in-Within.now refl;
       room = omega arith;

@@ -2,8 +2,8 @@ use Rattle.std.proofs.Common.{◌≡◌, ◌<◌, ◌∙◌, ap, sym, arith}
 use Rattle.std.proofs.lemmas.Bool.{both_ways}
 use Rattle.i80_exec.specs.Step.{is_halt}
 use Rattle.lab_core.proofs.StandsLemmas.{finds_undefined, finds_no_undefined, stands_undefined}
-use Rattle.lab_core.proofs.QuietLemmas.{stands_quiet, stands_followed, quiet_done, quiet_settled, quiet_keeps_sp}
-use Rattle.lab_core.proofs.QuietLemmas.{GoesOn, no_halt, no_arming, within_reach}
+use Rattle.lab_core.proofs.QuietLemmas.{stands_quiet, stands_followed, quiet_done, quiet_settled}
+use Rattle.lab_core.proofs.QuietLemmas.{quiet_keeps_sp, GoesOn, no_halt, no_arming, within_reach}
 use Rattle.lab_core.proofs.lab.Context.burst_step.Goals as goal
 
 pub is_quiet-requires : goal.is_quiet-requires
@@ -71,8 +71,8 @@ returns-then-is_last-clause-made c = λ none lab b traffic s.
     let tells = c.settled_step-kind.ensures.sp in
     let calm = c.requires.ready.calm in
     rw (c.is_halt-self.ensures) (stands_followed _ b traffic _ _ _ c.report-answer.result c.advance.result s
-    (rw (← c.report-answer.ensures) at did) (rw (← c.report-answer.ensures) at tells) calm.has_moved calm.unasked
-    (rw (← c.sp-sp.ensures, ← c.pc-pc.ensures) c.advance.ensures.live)
+    (rw (← c.report-answer.ensures) at did) (rw (← c.report-answer.ensures) at tells) calm.has_moved
+    calm.unasked (rw (← c.sp-sp.ensures, ← c.pc-pc.ensures) c.advance.ensures.live)
     (rw (← c.sp-sp.ensures) c.advance.ensures.oldest))
 
 pub returns-clause-undefined : goal.returns-clause-undefined
@@ -87,8 +87,8 @@ returns-clause-made c = λ none lab b traffic s.
     let tells = c.settled_step-kind.ensures.sp in
     let calm = c.requires.ready.calm in
     rw (c.is_halt-self.ensures) (stands_followed _ b traffic _ _ _ c.report-answer.result c.advance.result s
-    (rw (← c.report-answer.ensures) at did) (rw (← c.report-answer.ensures) at tells) calm.has_moved calm.unasked
-    (rw (← c.sp-sp.ensures, ← c.pc-pc.ensures) c.advance.ensures.live)
+    (rw (← c.report-answer.ensures) at did) (rw (← c.report-answer.ensures) at tells) calm.has_moved
+    calm.unasked (rw (← c.sp-sp.ensures, ← c.pc-pc.ensures) c.advance.ensures.live)
     (rw (← c.sp-sp.ensures) c.advance.ensures.oldest))
 
 pub returns-clause-on : goal.returns-clause-on

@@ -1,15 +1,16 @@
 -- A board step, told by the past of the devices.
 use Rattle.std.proofs.Common.{◌≡◌, List, ◌++◌, ◌∷◌, [], map, Option, Some, None, append-nil, sym, ap, ◌∙◌}
-use Rattle.std.proofs.Common.{subst, length, ◌≤◌, arith}
+use Rattle.std.proofs.Common.{refl, subst, drop, length, ◌==◌, ◌≤◌, arith}
+use Rattle.std.proofs.lemmas.Bool.{cond_both}
 use Rattle.i80_exec.specs.declared.registers.Stepped.{Stepped}
 use Rattle.i80_exec.specs.declared.ports.PortOperation.{PortOperation}
+use Rattle.i80_exec.specs.declared.ports.PortOperation.TheVariants.{In, Out}
 use Rattle.i80_exec.specs.State.{MachineState}
 use Rattle.i80_exec.specs.Effect.{Outcome}
 use Rattle.i80_exec.specs.Step.{instruction, operation_list, state_after, IsOutcome, Performs}
-use Rattle.i80_devs.specs.Past.{Operation, Port, DeviceState, StandsFor, answer, after, panel_after}
-use Rattle.i80_devs.specs.Past.{panel_next}
-use Rattle.lab_core.specs.Board.{accepted, or_instruction, taken_or_done}
-use Rattle.lab_core.specs.Steps.{IsBoardStep}
+use Rattle.i80_devs.specs.Past.{Operation, Port, PanelState, DeviceState, StandsFor, answer, after}
+use Rattle.i80_devs.specs.Past.{panel_after, panel_next}
+use Rattle.lab_frames.specs.Steps.{accepted, acceptance_of, or_instruction, taken_or_done, IsBoardStep}
 
 -- a step does one port operation at most
 pub few_operations : (o : Option PortOperation) → length (operation_list o) ≤ 1
@@ -46,3 +47,21 @@ by_instruction law past old new devices devices' did none stands o p =
           (instruction (answer (panel_after past)) old).operation);
       traffic_is = rw (none, ← stands) p.appended;
     }
+
+-- no operation at a port latches a request
+pub stays_unlatched : (p : PanelState) (o : Option PortOperation)
+    → (state_after after p o).latched ≡ p.latched
+stays_unlatched p None = refl
+stays_unlatched p (Some (In port byte)) =
+    cond_both (port == 1) (record p { waiting = drop 1 p.waiting }) p (λ q. q.latched ≡ p.latched) (λ _. refl)
+    (λ _. refl)
+stays_unlatched p (Some (Out port byte)) =
+    cond_both (port == 2) (record p { lamps = byte }) p (λ q. q.latched ≡ p.latched) (λ _. refl) (λ _. refl)
+
+-- where none is latched none is accepted
+pub unlatched_accepts_none : (m : MachineState) (d : DeviceState) (past : List Operation) → StandsFor d past
+    → d.panel.latched ≡ None → accepted m past ≡ None
+unlatched_accepts_none m d past stands unlatched =
+    let latched : (panel_after past).latched ≡ None =
+    ap (λ (p : PanelState). p.latched) (sym stands) ∙ unlatched in
+    ap (λ l. acceptance_of l m) latched

@@ -2,9 +2,9 @@ use Rattle.std.proofs.Common.{◌∙◌, ap, arith}
 use Rattle.i80_exec.specs.Step.{instruction, answer_of}
 use Rattle.i80_devs.specs.Past.{PanelState, answer}
 use Rattle.lab_frames.proofs.StepLemmas.{instruction-tells}
-use Rattle.lab_core.proofs.StepLemmas.{by_instruction, few_operations}
-use Rattle.lab_core.proofs.QuietLemmas.{stays_unlatched, unlatched_accepts_none}
-use Rattle.lab_core.proofs.board_step.settled_step.Goals as goal
+use Rattle.lab_frames.proofs.BoardLemmas.{by_instruction, few_operations, stays_unlatched}
+use Rattle.lab_frames.proofs.BoardLemmas.{unlatched_accepts_none}
+use Rattle.lab_frames.proofs.board_step.settled_step.Goals as goal
 
 pub returns-clause-step : goal.returns-clause-step
 returns-clause-step c = λ past stands.

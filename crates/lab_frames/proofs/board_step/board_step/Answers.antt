@@ -1,7 +1,7 @@
 use Rattle.std.proofs.Common.{◌∙◌, ap}
 use Rattle.i80_devs.specs.Past.{DeviceState, StandsFor}
-use Rattle.lab_core.proofs.StepLemmas.{by_instruction}
-use Rattle.lab_core.proofs.board_step.board_step.Goals as goal
+use Rattle.lab_frames.proofs.BoardLemmas.{by_instruction}
+use Rattle.lab_frames.proofs.board_step.board_step.Goals as goal
 
 pub returns-in-None-clause-step : goal.returns-in-None-clause-step
 returns-in-None-clause-step c = λ past stands.

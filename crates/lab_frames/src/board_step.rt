@@ -3,8 +3,7 @@ ghost use Rattle.std.specs.Prelude.{◌≡◌, ◌+◌, ◌≤◌, List, IfSome,
 ghost use Rattle.i80_exec.specs.Step.{answer_of, is_arming, Settles};
 ghost use Rattle.i80_devs.specs.Past.{Operation, StandsFor, Taken, Appends, SamePorts};
 ghost use Rattle.lab_frames.specs.Frames.{TellsSp};
-ghost use Rattle.lab_core.specs.Board.{accepted};
-ghost use Rattle.lab_core.specs.Steps.{IsBoardStep};
+ghost use Rattle.lab_frames.specs.Steps.{accepted, IsBoardStep};
 
 use i80_devs::devices::Devices;
 use i80_devs::laws::panel_after_one_more;
