@@ -1,7 +1,7 @@
 //! Hexadecimal text that comes in pieces.
-ghost use Rattle.std.specs.Prelude.{◌≡◌, ◌<◌, ◌++◌, ◌∷◌, [], List, ℕ, Option, Some, None, OnOk, IsErrOf};
-ghost use Rattle.std.specs.Prelude.{IfOk, IfSome, All, if◌then◌else◌};
-ghost use Rattle.cli_io.specs.HexInput.{is_blank, is_hex_digit, digit_value, input_of, paired};
+ghost use Rattle.std.specs.Prelude.{◌≡◌, ◌<◌, ◌∷◌, [], List, ℕ, Some, OnOk, IsErrOf};
+ghost use Rattle.std.specs.Prelude.{IfOk, All};
+ghost use Rattle.cli_io.specs.HexInput.{digit_value, input_of, paired};
 ghost use Rattle.cli_io.specs.HexState.{kept_more};
 
 use crate::intake::{Intake, IntakeFault};

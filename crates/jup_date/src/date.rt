@@ -1,5 +1,5 @@
 //! Dates.
-ghost use Rattle.std.specs.Prelude.{◌≡◌, ◌≤◌, IfOk};
+ghost use Rattle.std.specs.Prelude.{◌≤◌, IfOk};
 ghost use Rattle.jup_date.specs.Dates.{IsDate, last_moment};
 
 use base_text::text::Text;

@@ -1,5 +1,5 @@
 //! Replies that neither ask the board nor change anything.
-ghost use Rattle.std.specs.Prelude.{◌≡◌, IfOk, MatchResult, Ok, Err};
+ghost use Rattle.std.specs.Prelude.{◌≡◌, IfOk, Ok, Err};
 ghost use Rattle.asm_text.specs.Statements.{statements_of};
 ghost use Rattle.kern_core.specs.Requests.{completeness_by, completeness_of, plain_reply};
 

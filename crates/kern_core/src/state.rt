@@ -1,8 +1,5 @@
 //! A kernel without its journal.
-ghost use Rattle.std.specs.Prelude.{◌≡◌, ◌≤◌, ◌+◌, List, length, IfOk};
-ghost use Rattle.kern_post.specs.declared.post.Letter.{Letter};
-ghost use Rattle.kern_post.specs.declared.post.Post.{Post};
-ghost use Rattle.kern_post.specs.Posts.{Keeps, posted};
+ghost use Rattle.std.specs.Prelude.{◌≡◌, IfOk};
 ghost use Rattle.kern_core.specs.States.{opened};
 ghost use Rattle.kern_core.specs.Turns.{turn};
 ghost use Rattle.kern_core.specs.Stands.{StandsFor, Stands, Takes, HasRoom};

@@ -108,7 +108,7 @@ impl Executions {
     }
 
     /// Where a run is to start.
-    pub fn pending(&self) -> Option<u16>
+    pub fn pending_start(&self) -> Option<u16>
         ensures { result ≡ self.now.pending }
     {
         self.pending

@@ -6,7 +6,7 @@ ghost use Rattle.lab_core.specs.declared.run_state.RunState.TheVariants.{Running
 ghost use Rattle.lab_core.specs.Board.{Board};
 ghost use Rattle.lab_core.specs.Slices.{traffic_of};
 ghost use Rattle.lab_core.specs.Labs.{StandsFor};
-ghost use Rattle.kern_peers.specs.Connections.{Connections, stdin_of};
+ghost use Rattle.kern_peers.specs.Connections.{Connections};
 ghost use Rattle.kern_exec.specs.declared.execution.Current.{Current};
 ghost use Rattle.kern_exec.specs.Boards.{slice_end, after_slice};
 ghost use Rattle.kern_exec.specs.Ends.{printed, requests_line, reason_of, ending_of, line_envelope, input_requests};

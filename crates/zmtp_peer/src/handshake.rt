@@ -1,5 +1,5 @@
 //! The handshake of a connection (RFC 23, "The NULL Security Mechanism").
-ghost use Rattle.std.specs.Prelude.{◌≡◌, ◌+◌, ◌<◌, ◌≤◌, IfOk, IfErr, OnOk};
+ghost use Rattle.std.specs.Prelude.{◌≡◌, ◌+◌, ◌<◌, IfOk, IfErr, OnOk};
 ghost use Rattle.base_streams.specs.States.{IsReadable, IsWritable};
 ghost use Rattle.zmtp_wire.specs.declared.head.Stage.TheVariants.{Traffic};
 ghost use Rattle.zmtp_peer.specs.Ends.{Blames, BlamesReader, LostPeer, NoPeer, ReceivedOn};

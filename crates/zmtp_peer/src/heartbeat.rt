@@ -2,7 +2,7 @@
 ghost use Rattle.std.specs.Prelude.{IfErr, OnOk};
 ghost use Rattle.base_streams.specs.States.{InletState, IsReadable, IsWritable};
 ghost use Rattle.zmtp_wire.specs.declared.role.Role.TheVariants.{Rep};
-ghost use Rattle.zmtp_wire.specs.Stream.{DecoderState, Completes};
+ghost use Rattle.zmtp_wire.specs.Stream.{DecoderState};
 ghost use Rattle.zmtp_wire.specs.Wire.{Messages};
 ghost use Rattle.zmtp_wire.specs.Writing.{message_bytes};
 ghost use Rattle.zmtp_peer.specs.Ends.{Blames, Ends};

@@ -1,7 +1,7 @@
 //! What the first bytes of an item say.
-ghost use Rattle.std.specs.Prelude.{◌≡◌, ◌≤◌, length};
+ghost use Rattle.std.specs.Prelude.{◌≡◌, ◌≤◌};
 ghost use Rattle.zmtp_wire.specs.Greeting.{broken_by, first_broken};
-ghost use Rattle.zmtp_wire.specs.Framing.{kind_of, is_long, refusal};
+ghost use Rattle.zmtp_wire.specs.Framing.{kind_of, refusal};
 ghost use Rattle.zmtp_wire.specs.Head.{head_of, frame_head, long_size, room_at};
 
 use crate::fault::StreamFault;

@@ -12,7 +12,7 @@ ghost use Rattle.kern_core.specs.Slices.{letters_of as slice_letters_of, work_af
 ghost use Rattle.kern_core.specs.Slices.{beginning, by_start, loading, slicing};
 ghost use Rattle.kern_core.specs.Running.{IsKitOf};
 ghost use Rattle.kern_core.specs.States.{KernelState as KernelStateOf};
-ghost use Rattle.kern_core.specs.Stands.{StandsFor, Stands, Takes, TakesIn, HasRoom};
+ghost use Rattle.kern_core.specs.Stands.{Stands, Takes, TakesIn, HasRoom};
 
 use crate::call::Reply;
 use crate::fault::KernelFault;
@@ -47,7 +47,7 @@ impl KernelState {
         requires { HasRoom self.old }
         ensures { TakesIn NoRun (λ s. by_start s.work.pending unix_seconds s) self.old result self.new }
     {
-        match self.executions.pending() {
+        match self.executions.pending_start() {
             None => self.load(unix_seconds),
             Some(address) => Ok(self.begin(address)),
         }

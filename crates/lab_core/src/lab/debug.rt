@@ -1,7 +1,7 @@
 //! What a debugger asks for: a run that stops and goes on, breakpoints, views.
 ghost use Rattle.std.specs.Prelude.{◌≡◌, Err, map, IfOk, OnErr};
 ghost use Rattle.lab_core.specs.Board.{Board};
-ghost use Rattle.lab_core.specs.Events.{going_on, is_line, is_stopped, verified, parts_of};
+ghost use Rattle.lab_core.specs.Events.{going_on, is_stopped, verified, parts_of};
 ghost use Rattle.lab_core.specs.Labs.{StandsFor, AppliesTo};
 ghost use Rattle.lab_core.specs.Memory.{MayLackMemory};
 ghost use Rattle.lab_views.specs.Parts as views;

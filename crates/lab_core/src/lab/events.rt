@@ -1,8 +1,8 @@
 //! The events of a board, one by one and in turn.
-ghost use Rattle.std.specs.Prelude.{◌≡◌, ◌<◌, ◌≤◌, ℕ, [], List, All, length, take, slice_get, false, None};
+ghost use Rattle.std.specs.Prelude.{◌≡◌, ◌<◌, ◌≤◌, ℕ, [], All, length, take, slice_get, false, None};
 ghost use Rattle.std.specs.Prelude.{OnErr, IfOk, IfErr, IfSome, IsTrue, ◌↔◌, Err};
 ghost use Rattle.lab_core.specs.Board.{Board};
-ghost use Rattle.lab_core.specs.Events.{Runs, Fits, ended, machine_reset, given};
+ghost use Rattle.lab_core.specs.Events.{Fits, ended, machine_reset, given};
 ghost use Rattle.lab_core.specs.Memory.{MayLackMemory};
 ghost use Rattle.lab_core.specs.SliceEnds.{traffic_in};
 ghost use Rattle.lab_core.specs.Labs.{StandsFor, AppliesTo, Does, RunsOn};

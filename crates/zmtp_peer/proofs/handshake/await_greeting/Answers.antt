@@ -1,4 +1,3 @@
-use Rattle.std.proofs.Common.{◌∙◌}
 use Rattle.zmtp_peer.proofs.ReceivingLemmas.{lost_as}
 use Rattle.zmtp_peer.proofs.handshake.await_greeting.Goals as goal
 

@@ -1,4 +1,3 @@
-use Rattle.std.proofs.Common.{◌∙◌}
 use Rattle.zmtp_peer.proofs.ReceivingLemmas.{lost_as, lost_most, unready_by}
 use Rattle.zmtp_peer.proofs.handshake.await_ready.Goals as goal
 

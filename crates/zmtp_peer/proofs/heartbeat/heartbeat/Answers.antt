@@ -1,4 +1,4 @@
-use Rattle.std.proofs.Common.{[], arith}
+use Rattle.std.proofs.Common.{arith}
 use Rattle.zmtp_peer.proofs.EchoLemmas.{beats_first, beats_none, beats_round, ended_beat, ended_early}
 use Rattle.zmtp_peer.proofs.EchoLemmas.{ended_first, ended_most, ended_none}
 use Rattle.zmtp_peer.proofs.heartbeat.heartbeat.Goals as goal

@@ -1,4 +1,4 @@
-use Rattle.std.proofs.Common.{◌≡◌, ◌∙◌, ℕ, Option, None, refl, sym, rules, arith}
+use Rattle.std.proofs.Common.{◌≡◌, ◌∙◌, None, sym, rules, arith}
 use Rattle.lab_core.proofs.QuietLemmas.{found_latched}
 use Rattle.lab_core.proofs.lab.Context.is_calm.Goals as goal
 
