@@ -119,7 +119,11 @@ fn name_value(alloc: Global, letter: u8) -> Result<Value, TreeFault>
 fn parens_value(alloc: Global, letter: u8) -> Result<Value, TreeFault>
     requires { letter < 128 }
 {
-    Ok(value(&Expr::parens(alloc, expr_named(alloc, letter)?)?, &OneName, 0))
+    Ok(value(
+        &Expr::parens(alloc, expr_named(alloc, letter)?)?,
+        &OneName,
+        0,
+    ))
 }
 
 #[test]

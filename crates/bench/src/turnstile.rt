@@ -27,7 +27,12 @@ fn turns<R: Wait>(
 }
 
 // Each thread makes so many turns on one counter. How many calls it has counted then.
-fn count_turns<R: Threads + Wait + Sync>(rt: &R, alloc: Global, threads: u32, count: u32) -> Result<u64>
+fn count_turns<R: Threads + Wait + Sync>(
+    rt: &R,
+    alloc: Global,
+    threads: u32,
+    count: u32,
+) -> Result<u64>
     requires some { 0 < threads }
     requires few { threads ≤ 1024 }
 {

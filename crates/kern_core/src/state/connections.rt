@@ -84,7 +84,9 @@ impl KernelState {
     fn is_busy(&self) -> bool
         ensures { (s : KernelStateOf) → StandsFor self.now s → result ≡ is_busy s }
     {
-        self.has_run() || self.executions.pending_start().is_some() || self.executions.first().is_some()
+        self.has_run()
+            || self.executions.pending_start().is_some()
+            || self.executions.first().is_some()
     }
 
     fn state(&self) -> ExecutionState
