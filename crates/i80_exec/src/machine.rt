@@ -500,18 +500,21 @@ impl Machine {
 
     #[inline]
     fn exchange_with_de(&mut self)
+        requires settled { is_arming self.old.regs.interrupts ≡ false }
         ensures { self.new ≡ exchanged self.old }
     {
-        // The compiler doesn't know that these are 0, so it sees no exchange. For one among the values of a loop it moves
-        // two or more of them at each step, whichever arm that is.
-        let nothing = (self.memory.len() % 256) as u8;
-        let none = (self.memory.len() / 131_072 % 256) as u8;
+        // The compiler doesn't know that these are 0, so it sees no exchange. For one among the values of a loop it moves two or
+        // more of them at each step, whichever arm that is: D and E, or H and L, by the order in which it copies them. `step`
+        // tells it the third, and so adds only the others there.
+        let low = (self.memory.len() % 256) as u8;
+        let high = (self.memory.len() / 4_294_967_296 % 256) as u8;
+        let arming = self.is_arming() as u8;
         let h = self.regs.h;
         let l = self.regs.l;
-        self.regs.h = self.regs.d;
-        self.regs.l = self.regs.e;
-        self.regs.d = h.wrapping_add(nothing);
-        self.regs.e = l.wrapping_add(none);
+        self.regs.h = self.regs.d.wrapping_add(arming);
+        self.regs.l = self.regs.e.wrapping_add(arming);
+        self.regs.d = h.wrapping_add(low);
+        self.regs.e = l.wrapping_add(high);
     }
 }
 

@@ -6,8 +6,8 @@ use i80_rows::flags::Flags;
 #[derive(Clone, Copy, PartialEq, Eq)]
 pub enum Interrupts {
     Off,
-    Arming,
     On,
+    Arming,
 }
 
 /// The registers, the flags and the interrupt state.
