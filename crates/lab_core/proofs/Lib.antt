@@ -6,3 +6,4 @@ pub mod EventLemmas
 pub mod LawLemmas
 pub mod GivenLemmas
 pub mod BurstLemmas
+pub mod FollowLemmas

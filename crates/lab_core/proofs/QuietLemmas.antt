@@ -1,7 +1,7 @@
 -- Quiet steps, and what can come beside them.
 use Rattle.std.proofs.Common.{◌≡◌, ℕ, List, [], ◌∷◌, ◌++◌, Bool, true, false, Option, Some, None, length}
 use Rattle.std.proofs.Common.{refl, sym, ap, ◌∙◌, subst, ◌⊎◌, inl, inr}
-use Rattle.std.proofs.Common.{◌+◌, ◌<◌, ◌≤◌, reverse, slice_get, arith}
+use Rattle.std.proofs.Common.{◌<◌, ◌≤◌, reverse, slice_get, arith}
 use Rattle.std.proofs.lemmas.List.{reverse-append}
 use Rattle.std.specs.Option.{option_or, IsSome}
 use Rattle.i80_exec.specs.declared.registers.Stepped.{Stepped}
@@ -21,7 +21,7 @@ use Rattle.lab_core.specs.declared.event.StepRequest.{StepRequest}
 use Rattle.lab_core.specs.Board.{Board, next_change, stepped}
 use Rattle.lab_core.specs.Stops.{at_breakpoint, completes}
 use Rattle.lab_core.specs.Slices.{ends_in_halt, reason_apart}
-use Rattle.lab_core.specs.Labs.{LabState, StandsAmid}
+use Rattle.lab_core.specs.Labs.{LabState, StandsAmid, GoesOn}
 use Rattle.lab_core.proofs.StandsLemmas.{stands_step}
 
 -- ---- the panel
@@ -147,9 +147,9 @@ pub quiet_keeps_sp : (k : Kind) (m m' : MachineState) → k ≡ kind.Quiet → S
     → m'.regs.sp ≡ m.regs.sp
 quiet_keeps_sp k m m' quiet settles = let s = rw quiet at settles in s.0
 
--- a step that is neither EI nor HLT
-abbrev pub GoesOn : Kind → Type 0
-GoesOn k = (k ≡ kind.Armed) ⊎ (k ≡ kind.Halted) → ⊥
+pub goes_on : (k : Kind) → (k ≡ kind.Armed → ⊥) → (k ≡ kind.Halted → ⊥) → GoesOn k
+goes_on k no_arming no_halt (inl armed) = no_arming armed
+goes_on k no_arming no_halt (inr halted) = no_halt halted
 
 pub no_halt : (k : Kind) (m : MachineState) → GoesOn k → is_halt (answer_of k m) ≡ false
 no_halt kind.Quiet m on = refl

@@ -1,16 +1,21 @@
 -- Which boards a lab stands for.
 use Rattle.std.specs.Prelude.{◌≡◌, ◌≢◌, ◌<◌, ◌≤◌, ℕ, List, [], ◌++◌, length, Bool, true, false, Option, Some}
-use Rattle.std.specs.Prelude.{None, IsSome, is_some, unwrap_or, Result, Ok, Err}
+use Rattle.std.specs.Prelude.{None, IsSome, is_some, unwrap_or, Result, Ok, Err, ◌⊎◌}
 use Rattle.std.specs.List.{filter}
 use Rattle.std.specs.Option.{IfSome}
 use Rattle.i80_exec.specs.State.{MachineState}
 use Rattle.i80_exec.specs.declared.ports.PortOperation.{PortOperation}
-use Rattle.i80_exec.specs.Step.{operation_list, is_arming}
+use Rattle.i80_exec.specs.declared.registers.Stepped.{Stepped}
+use Rattle.i80_exec.specs.declared.registers.Stepped.TheVariants.{Undefined}
+use Rattle.i80_exec.specs.declared.registers.Kind.{Kind}
+use Rattle.i80_exec.specs.declared.registers.Kind.TheVariants.{Armed, Halted}
+use Rattle.i80_exec.specs.Step.{operation_list, is_arming, is_halt}
 use Rattle.i80_devs.specs.Past as devices
 use Rattle.asm_build.specs.Reading.{Entries}
 use Rattle.lab_frames.specs.declared.frame.Frame.{Frame}
 use Rattle.lab_frames.specs.Live.{Entry, live, stays}
-use Rattle.lab_frames.specs.Frames.{AtLeast}
+use Rattle.lab_frames.specs.Frames.{AtLeast, LeavesOldest}
+use Rattle.lab_frames.specs.Frames as frames
 use Rattle.lab_image.specs.Loads as origins
 use Rattle.lab_image.specs.declared.spans.Span.{Span}
 use Rattle.lab_breaks.specs.Breakpoints.{BreakpointState}
@@ -28,6 +33,8 @@ use Rattle.lab_core.specs.Board.{Board, next_change, stepped}
 use Rattle.lab_core.specs.Stops.{since, earlier, has_step, innermost, is_gone}
 use Rattle.lab_core.specs.Slices.{ends_in_halt, reason, after_steps, traffic_of}
 use Rattle.lab_core.specs.declared.answer.SliceOutcome.{SliceOutcome}
+use Rattle.lab_core.specs.declared.answer.SliceOutcome.TheVariants as outcomes
+use Rattle.lab_core.specs.declared.answer.End.TheVariants as ends
 use Rattle.lab_core.specs.declared.lab.burst.BurstStep.{BurstStep}
 use Rattle.lab_core.specs.declared.lab.burst.BurstStep.TheVariants.{Within, Last, Ended}
 use Rattle.lab_core.specs.Events.{Applies, Runs}
@@ -158,6 +165,31 @@ abbrev pub ending_of : BurstStep → Option SliceOutcome
 ending_of (Within reach) = None
 ending_of Last = None
 ending_of (Ended outcome) = Some outcome
+
+-- no burst ends with such a step: it was neither EI nor HLT
+abbrev pub GoesOn : Kind → Type 0
+GoesOn kind = (kind ≡ Armed) ⊎ (kind ≡ Halted) → ⊥
+
+-- A step that answered so, with PC at `site` before it and SP at `sp` after it, was made, and the context has its frames.
+pub record IsMade (answer : Stepped) (site sp : ℕ) (old new : Context) : Type 0 where
+  pub defined : (opcode : ℕ) → answer ≡ Undefined opcode → ⊥
+  pub frames : frames.Advances answer site sp old.frames new.frames
+  pub left : ℕ
+  pub oldest : LeavesOldest answer sp old.frames left
+  pub rest : new ≡ record old { frames = new.frames; is_halted = is_halt answer }
+
+-- None was made, for the opcode at `site` is undefined.
+pub record IsNotMade (answer : Stepped) (site : ℕ) (outcome : SliceOutcome) (old new : Context) : Type 0 where
+  pub opcode : ℕ
+  pub answer_is : answer ≡ Undefined opcode
+  pub outcome_is : outcome ≡ outcomes.End (ends.Undefined opcode site)
+  pub kept : new ≡ old
+
+-- what a context owes after the step of a burst that answered so
+abbrev pub Owed : Stepped → ℕ → ℕ → Context → Context → BurstStep → Type 0
+Owed answer site sp old new (Within reach) = IsMade answer site sp old new
+Owed answer site sp old new Last = IsMade answer site sp old new
+Owed answer site sp old new (Ended outcome) = IsNotMade answer site outcome old new
 
 -- The lab stands for the board after so many steps. No reason stood before any of them, and if one was
 -- found after them, it is the first that stands there.

@@ -4,9 +4,10 @@
 //! the burst goes on with the frames that it left.
 ghost use Rattle.std.specs.Prelude.{◌≡◌, ◌+◌, ◌<◌, ◌≤◌, ◌⊎◌, ℕ, true, None, IsSome};
 ghost use Rattle.i80_exec.specs.declared.registers.Kind.TheVariants.{Quiet, Moved, Armed, Halted};
-ghost use Rattle.lab_frames.specs.Frames.{AtLeast};
+ghost use Rattle.i80_exec.specs.Step.{answer_of};
+ghost use Rattle.lab_frames.specs.Frames.{AtLeast, CallsAt};
 ghost use Rattle.lab_core.specs.Slices.{undefined, reason_apart};
-ghost use Rattle.lab_core.specs.Labs.{FindsIn, AdvancesIn, KeepsIn, IsInBurst, MakesIn, ending_of};
+ghost use Rattle.lab_core.specs.Labs.{FindsIn, AdvancesIn, KeepsIn, IsInBurst, MakesIn, GoesOn, Owed, ending_of};
 
 use crate::answer::{End, SliceOutcome};
 use crate::lab::Context;
@@ -40,15 +41,6 @@ fn is_quiet(kind: Kind, sp: u16, reach: u32) -> bool
         Kind::Moved => (sp as u32) < reach,
         _ => false,
     }
-}
-
-// Whether no burst goes on after a step of this kind.
-#[inline(always)]
-fn is_last(kind: Kind) -> bool
-    ensures last { result ≡ true → (kind ≡ Armed) ⊎ (kind ≡ Halted) }
-    ensures sure { (kind ≡ Armed) ⊎ (kind ≡ Halted) → result ≡ true }
-{
-    matches!(kind, Kind::Armed | Kind::Halted)
 }
 
 impl Context {
@@ -177,15 +169,33 @@ impl Context {
         if is_quiet(kind, sp, reach) {
             return BurstStep::Within(reach);
         }
+        // Each of these kinds has code of its own: what its steps do to the frames is settled when it is compiled.
+        match kind {
+            Kind::Moved => self.advance(machine, Kind::Moved, pc),
+            Kind::Called => self.advance(machine, Kind::Called, pc),
+            Kind::Returned => self.advance(machine, Kind::Returned, pc),
+            _ => self.advance(machine, kind, pc),
+        }
+    }
+
+    // What is owed after a step of this kind that wasn't quiet, with PC at `site` before it.
+    #[inline(always)]
+    fn advance(&mut self, machine: &Machine, kind: Kind, site: u16) -> BurstStep
+        requires calls { CallsAt (answer_of kind machine.now) machine.now.regs.sp }
+        ensures owed { Owed (answer_of kind machine.now) site machine.now.regs.sp self.old self.new result }
+        ensures on { (reach : ℕ) → result ≡ BurstStep.Within reach
+            → GoesOn kind × (machine.now.regs.sp < reach) × ((sp : ℕ) → sp < reach → AtLeast sp self.new.frames) }
+        ensures last { result ≡ BurstStep.Last → (kind ≡ Armed) ⊎ (kind ≡ Halted) }
+    {
         let answer = machine.report(kind);
         if let Stepped::Undefined { opcode } = answer {
-            return BurstStep::Ended(SliceOutcome::End(End::Undefined { opcode, pc }));
+            return BurstStep::Ended(SliceOutcome::End(End::Undefined { opcode, pc: site }));
         }
-        let _ = self.frames.advance(answer, pc, sp);
+        let _ = self.frames.advance(answer, site, machine.sp());
         self.is_halted = is_halt(answer);
-        if is_last(kind) {
-            return BurstStep::Last;
+        match kind {
+            Kind::Armed | Kind::Halted => BurstStep::Last,
+            _ => BurstStep::Within(self.frames.reach()),
         }
-        BurstStep::Within(self.frames.reach())
     }
 }

@@ -1,9 +1,11 @@
 use Rattle.std.proofs.Common.{◌≡◌, ◌<◌, ◌∙◌, ap, sym, arith}
 use Rattle.std.proofs.lemmas.Bool.{both_ways}
 use Rattle.i80_exec.specs.Step.{is_halt}
-use Rattle.lab_core.proofs.StandsLemmas.{finds_undefined, finds_no_undefined, stands_undefined}
+use Rattle.lab_core.proofs.StandsLemmas.{finds_no_undefined}
 use Rattle.lab_core.proofs.QuietLemmas.{stands_quiet, stands_followed, quiet_done, quiet_settled}
-use Rattle.lab_core.proofs.QuietLemmas.{quiet_keeps_sp, GoesOn, no_halt, no_arming, within_reach}
+use Rattle.lab_core.proofs.QuietLemmas.{quiet_keeps_sp, no_halt, no_arming}
+use Rattle.lab_core.proofs.FollowLemmas.{finds_owed, keeps_owed, advances_owed, owed_in_burst}
+use Rattle.i80_exec.specs.declared.registers.Kind.TheVariants as kind
 use Rattle.lab_core.proofs.lab.Context.burst_step.Goals as goal
 
 pub is_quiet-requires : goal.is_quiet-requires
@@ -47,69 +49,86 @@ returns-then-is_quiet-clause-on c = λ now is.
       above = c.requires.ready.above;
     })
 
-pub returns-in-Undefined-clause-undefined : goal.returns-in-Undefined-clause-undefined
-returns-in-Undefined-clause-undefined c = λ lab b traffic s.
-    let did = c.settled_step-kind.ensures.step b.past s.devices in
-    finds_undefined _ b traffic _ _ c.in-Undefined.opcode c.pc-pc.result s
-    (rw (sym c.report-answer.ensures ∙ c.in-Undefined.is) at did) c.pc-pc.ensures
+pub returns-in-Moved-clause-undefined : goal.returns-in-Moved-clause-undefined
+returns-in-Moved-clause-undefined c = λ lab b traffic s.
+    finds_owed lab b traffic _ _ _ _ _ s (c.in-Moved.ensures.step b.past s.devices) _ _ c.advance.result c.pc-pc.ensures
+    c.advance.ensures.owed
 
-pub returns-in-Undefined-clause-ended : goal.returns-in-Undefined-clause-ended
-returns-in-Undefined-clause-ended c = λ some lab b traffic s.
-    let did = c.settled_step-kind.ensures.step b.past s.devices in
-    stands_undefined _ b traffic _ _ c.in-Undefined.opcode s
-    (rw (sym c.report-answer.ensures ∙ c.in-Undefined.is) at did)
+pub returns-in-Moved-clause-ended : goal.returns-in-Moved-clause-ended
+returns-in-Moved-clause-ended c = λ some lab b traffic s.
+    keeps_owed lab b traffic _ _ _ _ _ s (c.in-Moved.ensures.step b.past s.devices) _ _ c.advance.result
+    c.advance.ensures.owed some
 
-pub returns-then-is_last-clause-undefined : goal.returns-then-is_last-clause-undefined
-returns-then-is_last-clause-undefined c = λ lab b traffic s.
-    let did = c.settled_step-kind.ensures.step b.past s.devices in
-    finds_no_undefined _ b traffic _ _ c.report-answer.result s (rw (← c.report-answer.ensures) at did)
-    c.in_default.not-Undefined
-
-pub returns-then-is_last-clause-made : goal.returns-then-is_last-clause-made
-returns-then-is_last-clause-made c = λ none lab b traffic s.
-    let did = c.settled_step-kind.ensures.step b.past s.devices in
-    let tells = c.settled_step-kind.ensures.sp in
+pub returns-in-Moved-clause-made : goal.returns-in-Moved-clause-made
+returns-in-Moved-clause-made c = λ none lab b traffic s.
     let calm = c.requires.ready.calm in
-    rw (c.is_halt-self.ensures) (stands_followed _ b traffic _ _ _ c.report-answer.result c.advance.result s
-    (rw (← c.report-answer.ensures) at did) (rw (← c.report-answer.ensures) at tells) calm.has_moved
-    calm.unasked (rw (← c.sp-sp.ensures, ← c.pc-pc.ensures) c.advance.ensures.live)
-    (rw (← c.sp-sp.ensures) c.advance.ensures.oldest))
+    advances_owed lab b traffic _ _ _ _ _ s (c.in-Moved.ensures.step b.past s.devices) _ _ c.advance.result c.pc-pc.ensures
+    c.in-Moved.ensures.sp calm.has_moved calm.unasked c.advance.ensures.owed none
 
-pub returns-clause-undefined : goal.returns-clause-undefined
-returns-clause-undefined c = λ lab b traffic s.
-    let did = c.settled_step-kind.ensures.step b.past s.devices in
-    finds_no_undefined _ b traffic _ _ c.report-answer.result s (rw (← c.report-answer.ensures) at did)
-    c.in_default.not-Undefined
+pub returns-in-Moved-clause-on : goal.returns-in-Moved-clause-on
+returns-in-Moved-clause-on c = λ now is.
+    owed_in_burst kind.Moved _ _ _ _ _ _ _ now c.advance.result c.requires.ready c.in-Moved.ensures.unlatched
+    c.in-Moved.ensures.settles c.advance.ensures.owed c.advance.ensures.on is
 
-pub returns-clause-made : goal.returns-clause-made
-returns-clause-made c = λ none lab b traffic s.
-    let did = c.settled_step-kind.ensures.step b.past s.devices in
-    let tells = c.settled_step-kind.ensures.sp in
+pub returns-in-Called-clause-undefined : goal.returns-in-Called-clause-undefined
+returns-in-Called-clause-undefined c = λ lab b traffic s.
+    finds_owed lab b traffic _ _ _ _ _ s (c.in-Called.ensures.step b.past s.devices) _ _ c.advance-in-Called.result c.pc-pc.ensures
+    c.advance-in-Called.ensures.owed
+
+pub returns-in-Called-clause-ended : goal.returns-in-Called-clause-ended
+returns-in-Called-clause-ended c = λ some lab b traffic s.
+    keeps_owed lab b traffic _ _ _ _ _ s (c.in-Called.ensures.step b.past s.devices) _ _ c.advance-in-Called.result
+    c.advance-in-Called.ensures.owed some
+
+pub returns-in-Called-clause-made : goal.returns-in-Called-clause-made
+returns-in-Called-clause-made c = λ none lab b traffic s.
     let calm = c.requires.ready.calm in
-    rw (c.is_halt-self.ensures) (stands_followed _ b traffic _ _ _ c.report-answer.result c.advance.result s
-    (rw (← c.report-answer.ensures) at did) (rw (← c.report-answer.ensures) at tells) calm.has_moved
-    calm.unasked (rw (← c.sp-sp.ensures, ← c.pc-pc.ensures) c.advance.ensures.live)
-    (rw (← c.sp-sp.ensures) c.advance.ensures.oldest))
+    advances_owed lab b traffic _ _ _ _ _ s (c.in-Called.ensures.step b.past s.devices) _ _ c.advance-in-Called.result c.pc-pc.ensures
+    c.in-Called.ensures.sp calm.has_moved calm.unasked c.advance-in-Called.ensures.owed none
 
-pub returns-clause-on : goal.returns-clause-on
-returns-clause-on c = λ now is.
-    let same : now ≡ c.reach.result = cc in
+pub returns-in-Called-clause-on : goal.returns-in-Called-clause-on
+returns-in-Called-clause-on c = λ now is.
+    owed_in_burst kind.Called _ _ _ _ _ _ _ now c.advance-in-Called.result c.requires.ready c.in-Called.ensures.unlatched
+    c.in-Called.ensures.settles c.advance-in-Called.ensures.owed c.advance-in-Called.ensures.on is
+
+pub returns-in-Returned-clause-undefined : goal.returns-in-Returned-clause-undefined
+returns-in-Returned-clause-undefined c = λ lab b traffic s.
+    finds_owed lab b traffic _ _ _ _ _ s (c.in-Returned.ensures.step b.past s.devices) _ _ c.advance-in-Returned.result c.pc-pc.ensures
+    c.advance-in-Returned.ensures.owed
+
+pub returns-in-Returned-clause-ended : goal.returns-in-Returned-clause-ended
+returns-in-Returned-clause-ended c = λ some lab b traffic s.
+    keeps_owed lab b traffic _ _ _ _ _ s (c.in-Returned.ensures.step b.past s.devices) _ _ c.advance-in-Returned.result
+    c.advance-in-Returned.ensures.owed some
+
+pub returns-in-Returned-clause-made : goal.returns-in-Returned-clause-made
+returns-in-Returned-clause-made c = λ none lab b traffic s.
     let calm = c.requires.ready.calm in
-    let small : c.sp-sp.result < 65536 = omega arith in
-    let on : GoesOn c.settled_step-kind.result =
-    λ last. both_ways _ c.if-is_last.false (c.is_last.ensures.sure last) in
-    rw same (record {
-      calm = record {
-        goes_on =
-            c.is_halt-self.ensures ∙ ap is_halt c.report-answer.ensures
-            ∙ no_halt c.settled_step-kind.result c.settled_step-kind.new.machine on;
-        has_moved = calm.has_moved;
-        unasked = calm.unasked;
-        unlatched = c.settled_step-kind.ensures.unlatched;
-      };
-      settled = no_arming _ _ _ on c.settled_step-kind.ensures.settles;
-      within =
-          rw (← c.sp-sp.ensures)
-          (within_reach c.sp-sp.result c.reach.result _ small c.advance.ensures.above c.reach.ensures.reach);
-      above = c.reach.ensures.above;
-    })
+    advances_owed lab b traffic _ _ _ _ _ s (c.in-Returned.ensures.step b.past s.devices) _ _ c.advance-in-Returned.result c.pc-pc.ensures
+    c.in-Returned.ensures.sp calm.has_moved calm.unasked c.advance-in-Returned.ensures.owed none
+
+pub returns-in-Returned-clause-on : goal.returns-in-Returned-clause-on
+returns-in-Returned-clause-on c = λ now is.
+    owed_in_burst kind.Returned _ _ _ _ _ _ _ now c.advance-in-Returned.result c.requires.ready c.in-Returned.ensures.unlatched
+    c.in-Returned.ensures.settles c.advance-in-Returned.ensures.owed c.advance-in-Returned.ensures.on is
+
+pub returns-in_default-clause-undefined : goal.returns-in_default-clause-undefined
+returns-in_default-clause-undefined c = λ lab b traffic s.
+    finds_owed lab b traffic _ _ _ _ _ s (c.settled_step-kind.ensures.step b.past s.devices) _ _ c.advance-in_default.result c.pc-pc.ensures
+    c.advance-in_default.ensures.owed
+
+pub returns-in_default-clause-ended : goal.returns-in_default-clause-ended
+returns-in_default-clause-ended c = λ some lab b traffic s.
+    keeps_owed lab b traffic _ _ _ _ _ s (c.settled_step-kind.ensures.step b.past s.devices) _ _ c.advance-in_default.result
+    c.advance-in_default.ensures.owed some
+
+pub returns-in_default-clause-made : goal.returns-in_default-clause-made
+returns-in_default-clause-made c = λ none lab b traffic s.
+    let calm = c.requires.ready.calm in
+    advances_owed lab b traffic _ _ _ _ _ s (c.settled_step-kind.ensures.step b.past s.devices) _ _ c.advance-in_default.result c.pc-pc.ensures
+    c.settled_step-kind.ensures.sp calm.has_moved calm.unasked c.advance-in_default.ensures.owed none
+
+pub returns-in_default-clause-on : goal.returns-in_default-clause-on
+returns-in_default-clause-on c = λ now is.
+    owed_in_burst c.settled_step-kind.result _ _ _ _ _ _ _ now c.advance-in_default.result c.requires.ready c.settled_step-kind.ensures.unlatched
+    c.settled_step-kind.ensures.settles c.advance-in_default.ensures.owed c.advance-in_default.ensures.on is

@@ -1,0 +1,103 @@
+-- What a step of a burst that wasn't quiet makes of a lab, by what it owes.
+use Rattle.std.proofs.Common.{◌≡◌, ℕ, ◌<◌, List, ◌++◌, Bool, true, false, Option, Some, None, sym, ap, ◌∙◌, subst}
+use Rattle.std.specs.Option.{IsSome}
+use Rattle.i80_exec.specs.declared.registers.Stepped.{Stepped}
+use Rattle.i80_exec.specs.declared.ports.PortOperation.{PortOperation}
+use Rattle.i80_exec.specs.State.{MachineState}
+use Rattle.i80_exec.specs.declared.registers.Kind.{Kind}
+use Rattle.i80_exec.specs.Step.{operation_list, is_halt, answer_of, Settles}
+use Rattle.i80_devs.specs.Past.{DeviceState}
+use Rattle.lab_frames.specs.Frames.{TellsSp, AtLeast}
+use Rattle.lab_frames.specs.Steps.{IsBoardStep}
+use Rattle.lab_core.specs.declared.lab.Context.{Context}
+use Rattle.lab_core.specs.declared.lab.burst.BurstStep.{BurstStep}
+use Rattle.lab_core.specs.declared.lab.burst.BurstStep.TheVariants.{Within, Last, Ended}
+use Rattle.lab_core.specs.Board.{Board, next_change, stepped}
+use Rattle.lab_core.specs.Slices.{undefined}
+use Rattle.lab_core.specs.Labs.{LabState, StandsAmid, IsInBurst, GoesOn, IsMade, Owed, amid, ending_of}
+use Rattle.lab_core.proofs.StandsLemmas.{finds_undefined, finds_no_undefined, stands_undefined}
+use Rattle.lab_core.proofs.QuietLemmas.{stands_followed, no_halt, no_arming}
+
+module _ (lab : LabState) (b : Board) (traffic : List PortOperation) (machine machine' : MachineState)
+    (old : Context) (devices : DeviceState) (answer : Stepped)
+    (s : StandsAmid (amid lab machine old) b traffic)
+    (did : IsBoardStep b.past machine old.devices machine' devices answer) where
+  pub finds_owed : (site : ℕ) (new : Context) (result : BurstStep) → site ≡ machine.regs.pc
+      → Owed answer site machine'.regs.sp (record old { devices = devices }) new result
+      → ending_of result ≡ undefined b
+  finds_owed site new (Within reach) is made =
+      finds_no_undefined (amid lab machine old) b traffic machine' devices answer s did made.defined
+  finds_owed site new Last is made =
+      finds_no_undefined (amid lab machine old) b traffic machine' devices answer s did made.defined
+  finds_owed site new (Ended outcome) is none =
+      let step = subst (IsBoardStep b.past machine old.devices machine' devices) none.answer_is did in
+      ap Some none.outcome_is
+      ∙ finds_undefined (amid lab machine old) b traffic machine' devices none.opcode site s step is
+
+  pub keeps_owed : (site : ℕ) (new : Context) (result : BurstStep)
+      → Owed answer site machine'.regs.sp (record old { devices = devices }) new result
+      → IsSome (ending_of result) → StandsAmid (amid lab machine' new) b traffic
+  keeps_owed site new (Within reach) made some = cc
+  keeps_owed site new Last made some = cc
+  keeps_owed site new (Ended outcome) none some =
+      let step = subst (IsBoardStep b.past machine old.devices machine' devices) none.answer_is did in
+      let S : Context → Type 0 = λ c. StandsAmid (amid lab machine' c) b traffic in
+      subst S (sym none.kept)
+      (stands_undefined (amid lab machine old) b traffic machine' devices none.opcode s step)
+
+  made_advances : (site : ℕ) (new : Context) → site ≡ machine.regs.pc
+      → TellsSp answer machine.regs.sp machine'.regs.sp → old.has_moved ≡ true → old.request ≡ None
+      → IsMade answer site machine'.regs.sp (record old { devices = devices }) new
+      → StandsAmid (amid lab machine' new) (stepped b) (traffic ++ operation_list (next_change b).operation)
+  made_advances site new is tells has_moved unasked made =
+      let S : Context → Type 0 = λ c. StandsAmid (amid lab machine' c) (stepped b)
+      (traffic ++ operation_list (next_change b).operation) in
+      subst S (sym made.rest)
+      (stands_followed (amid lab machine old) b traffic machine' devices new.frames answer made.left s did tells
+      has_moved unasked (rw is at made.frames) made.oldest)
+
+  pub advances_owed : (site : ℕ) (new : Context) (result : BurstStep) → site ≡ machine.regs.pc
+      → TellsSp answer machine.regs.sp machine'.regs.sp → old.has_moved ≡ true → old.request ≡ None
+      → Owed answer site machine'.regs.sp (record old { devices = devices }) new result
+      → ending_of result ≡ None
+      → StandsAmid (amid lab machine' new) (stepped b) (traffic ++ operation_list (next_change b).operation)
+  advances_owed site new (Within reach) is tells has_moved unasked made none =
+      made_advances site new is tells has_moved unasked made
+  advances_owed site new Last is tells has_moved unasked made none =
+      made_advances site new is tells has_moved unasked made
+  advances_owed site new (Ended outcome) is tells has_moved unasked made none = cc
+
+made_in_burst : (kind : Kind) (machine machine' : MachineState) (old new : Context) (devices : DeviceState)
+    (site was reach : ℕ) → IsInBurst was machine old → devices.panel.latched ≡ None
+    → Settles kind machine machine'
+    → IsMade (answer_of kind machine') site machine'.regs.sp (record old { devices = devices }) new
+    → GoesOn kind × (machine'.regs.sp < reach) × ((sp : ℕ) → sp < reach → AtLeast sp new.frames)
+    → IsInBurst reach machine' new
+made_in_burst kind machine machine' old new devices site was reach ready unlatched settles made on =
+    let B : Context → Type 0 = λ c. IsInBurst reach machine' c in
+    subst B (sym made.rest) (record {
+      calm = record {
+        goes_on = no_halt kind machine' on.0;
+        has_moved = ready.calm.has_moved;
+        unasked = ready.calm.unasked;
+        unlatched = unlatched;
+      };
+      settled = no_arming kind machine machine' on.0 settles;
+      within = on.1;
+      above = on.2;
+    })
+
+-- the burst goes on where it answers so
+pub owed_in_burst : (kind : Kind) (machine machine' : MachineState) (old new : Context) (devices : DeviceState)
+    (site was reach : ℕ) (result : BurstStep) → IsInBurst was machine old → devices.panel.latched ≡ None
+    → Settles kind machine machine'
+    → Owed (answer_of kind machine') site machine'.regs.sp (record old { devices = devices }) new result
+    → ((now : ℕ) → result ≡ Within now
+    → GoesOn kind × (machine'.regs.sp < now) × ((sp : ℕ) → sp < now → AtLeast sp new.frames))
+    → result ≡ Within reach → IsInBurst reach machine' new
+owed_in_burst kind machine machine' old new devices site was reach (Within now) ready unlatched settles made on
+    is =
+    made_in_burst kind machine machine' old new devices site was reach ready unlatched settles made (on reach is)
+owed_in_burst kind machine machine' old new devices site was reach Last ready unlatched settles made on is = cc
+owed_in_burst kind machine machine' old new devices site was reach (Ended outcome) ready unlatched settles none
+    on is = cc
