@@ -28,21 +28,25 @@ use Rattle.kern_net.proofs.ChoiceLemmas.{either}
 abbrev IsAnswered : Turn → Type 0
 IsAnswered t = IsSome (progress_of t.answer)
 
-run_answered : (e : ℕ × SliceOutcome) (unix_seconds : ℕ) (s : KernelState) → IsAnswered (running_to e unix_seconds s)
+run_answered : (e : ℕ × SliceOutcome) (unix_seconds : ℕ) (s : KernelState)
+    → IsAnswered (running_to e unix_seconds s)
 run_answered (k, outcome.More) unix_seconds s = refl
 run_answered (k, outcome.Waiting) unix_seconds s = refl
 run_answered (k, outcome.Stop why) unix_seconds s = refl
 run_answered (k, outcome.End why) unix_seconds s = refl
 
-load_answered : (unix_seconds : ℕ) (queue : List Execution) (s : KernelState) → IsAnswered (loading unix_seconds queue s)
+load_answered : (unix_seconds : ℕ) (queue : List Execution) (s : KernelState)
+    → IsAnswered (loading unix_seconds queue s)
 load_answered unix_seconds [] s = refl
 load_answered unix_seconds (x ∷ rest) s = refl
 
-start_answered : (pending : Option ℕ) (unix_seconds : ℕ) (s : KernelState) → IsAnswered (by_start pending unix_seconds s)
+start_answered : (pending : Option ℕ) (unix_seconds : ℕ) (s : KernelState)
+    → IsAnswered (by_start pending unix_seconds s)
 start_answered None unix_seconds s = load_answered unix_seconds s.work.queue s
 start_answered (Some address) unix_seconds s = refl
 
-state_answered : (state : RunState) (unix_seconds : ℕ) (s : KernelState) → IsAnswered (by_run state unix_seconds s)
+state_answered : (state : RunState) (unix_seconds : ℕ) (s : KernelState)
+    → IsAnswered (by_run state unix_seconds s)
 state_answered run.Running unix_seconds s = run_answered (slice_end s.board) unix_seconds s
 state_answered run.Stopped unix_seconds s = refl
 state_answered run.NoRun unix_seconds s = start_answered s.work.pending unix_seconds s
@@ -66,5 +70,7 @@ answered v w unix_seconds (Ok r) t = entry_answered v w unix_seconds (Ok r) t re
 answered v w unix_seconds (Err fault.OutOfMemory) t = refl
 answered v w unix_seconds (Err fault.JournalFull) t = refl
 answered v w unix_seconds (Err fault.Full) t = entry_answered v w unix_seconds (Err fault.Full) t refl
-answered v w unix_seconds (Err (fault.Lagged first)) t = entry_answered v w unix_seconds (Err (fault.Lagged first)) t refl
-answered v w unix_seconds (Err fault.NoConnection) t = entry_answered v w unix_seconds (Err fault.NoConnection) t refl
+answered v w unix_seconds (Err (fault.Lagged first)) t =
+    entry_answered v w unix_seconds (Err (fault.Lagged first)) t refl
+answered v w unix_seconds (Err fault.NoConnection) t =
+    entry_answered v w unix_seconds (Err fault.NoConnection) t refl

@@ -59,7 +59,8 @@ subscribing_keeps n wants prefix unix_seconds s = at_peer (peer_at n s.connectio
     (either KeepsUp (is_full p) (refused Full s) (new_subscription n prefix unix_seconds s) (full s)
     (answered (new_subscription n prefix unix_seconds s) Subscribed refl))))
 
-executing_keeps : (n : ℕ) (identity : List ℕ) (r : Request) (x : ExecuteRequest) (unix_seconds : ℕ) (s : KernelState)
+executing_keeps : (n : ℕ) (identity : List ℕ) (r : Request) (x : ExecuteRequest) (unix_seconds : ℕ)
+    (s : KernelState)
     → KeepsUp (executing n identity r x unix_seconds s)
 executing_keeps n identity r x unix_seconds s =
     let more = quiet Arrived (record s { work = queued (execution_of n identity r x) s.work }) in
@@ -76,7 +77,8 @@ answering_keeps : (n : ℕ) (r : Request) (d : DapRequest) (unix_seconds : ℕ) 
     (result : Result (Body × Board) EventFault) → KeepsUp (answering n r d unix_seconds s result)
 answering_keeps n r d unix_seconds s (Ok (body, b)) =
     answered (answering n r d unix_seconds s (Ok (body, b))) Arrived refl
-answering_keeps n r d unix_seconds s (Err fault) = answered (answering n r d unix_seconds s (Err fault)) Arrived refl
+answering_keeps n r d unix_seconds s (Err fault) =
+    answered (answering n r d unix_seconds s (Err fault)) Arrived refl
 
 debugging_keeps : (n : ℕ) (r : Request) (d : DapRequest) (unix_seconds : ℕ) (s : KernelState)
     → KeepsUp (debugging n r d unix_seconds s)
@@ -93,20 +95,24 @@ unanswered_keeps r _ unix_seconds s = answered (passing r unix_seconds s) Arrive
 other_keeps : (n : ℕ) (identity : List ℕ) (r : Request) (a : RequestBody) (unix_seconds : ℕ) (s : KernelState)
     → KeepsUp (other n identity r a unix_seconds s)
 other_keeps n identity r (ask.Execute x) unix_seconds s = executing_keeps n identity r x unix_seconds s
-other_keeps n identity r (ask.CommOpen comm_id) unix_seconds s = answered (closing r comm_id unix_seconds s) Arrived refl
+other_keeps n identity r (ask.CommOpen comm_id) unix_seconds s =
+    answered (closing r comm_id unix_seconds s) Arrived refl
 other_keeps n identity r (ask.Shutdown restarts) unix_seconds s = shutting_keeps n r restarts unix_seconds s
-other_keeps n identity r ask.Interrupt unix_seconds s = answered (interrupting n r unix_seconds s) Arrived refl
+other_keeps n identity r ask.Interrupt unix_seconds s =
+    answered (interrupting n r unix_seconds s) Arrived refl
 other_keeps n identity r (ask.Debug d) unix_seconds s = debugging_keeps n r d unix_seconds s
 other_keeps n identity r (ask.InputReply typed) unix_seconds s = answered (typing typed s) Arrived refl
 other_keeps n identity r (ask.BadContent lacking) unix_seconds s = unanswered_keeps r lacking unix_seconds s
 other_keeps n identity r _ unix_seconds s = answered (passing r unix_seconds s) Arrived refl
 
-by_reply_keeps : (c : Option Content) (n : ℕ) (identity : List ℕ) (r : Request) (unix_seconds : ℕ) (s : KernelState)
+by_reply_keeps : (c : Option Content) (n : ℕ) (identity : List ℕ) (r : Request) (unix_seconds : ℕ)
+    (s : KernelState)
     → KeepsUp (by_reply c n identity r unix_seconds s)
 by_reply_keeps (Some c) n identity r unix_seconds s = answered (replying n r c unix_seconds s) Arrived refl
 by_reply_keeps None n identity r unix_seconds s = other_keeps n identity r r.body unix_seconds s
 
-arriving_keeps : (n : ℕ) (r : Request) (unix_seconds : ℕ) (s : KernelState) → KeepsUp (arriving n r unix_seconds s)
+arriving_keeps : (n : ℕ) (r : Request) (unix_seconds : ℕ) (s : KernelState)
+    → KeepsUp (arriving n r unix_seconds s)
 arriving_keeps n r unix_seconds s = at_peer (peer_at n s.connections.peers) s _ (λ p.
     either KeepsUp (is_on Iopub p) (refused NoConnection s) _ (unknown s)
     (by_reply_keeps (plain_reply s.work.count r.body) n p.identity r unix_seconds s))

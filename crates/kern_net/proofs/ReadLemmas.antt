@@ -1,6 +1,6 @@
 -- From messages to pieces, and from pieces to a whole stream.
 use Rattle.std.proofs.Common.{◌≡◌, ◌∙◌, ◌≤◌, ◌<◌, ◌+◌, ◌⊎◌, zero, suc, inl, inr, ℕ, true, false, List}
-use Rattle.std.proofs.Common.{[], ◌∷◌, ◌++◌, length, refl, sym, ap, subst, append_assoc, append-nil}
+use Rattle.std.proofs.Common.{[], ◌∷◌, ◌++◌, refl, sym, ap, subst, append_assoc, append-nil}
 use Rattle.std.proofs.Common.{arith}
 use Rattle.base_streams.specs.States.{InletState, IsReadable}
 use Rattle.base_streams.specs.Told.{Gave, WasRead}
@@ -18,7 +18,8 @@ use Rattle.kern_net.specs.Submitting.{Submits, NoMore, Submitted, Dropped}
 use Rattle.kern_net.specs.declared.pump_in.IncomingRoute.{IncomingRoute}
 use Rattle.kern_net.specs.ReadEnds.{Reader, IsRefusal, StopsBy, StopsPiece, EndsBy}
 use Rattle.kern_net.specs.ReadEnds.{submits_all}
-use Rattle.kern_net.specs.Reading.{Granted, NoCall, OneMore, Made, SubmittedAll, SubmittedFront, Receiver, ReceivedAll}
+use Rattle.kern_net.specs.Reading.{Granted, NoCall, OneMore, Made, SubmittedAll, SubmittedFront, Receiver}
+use Rattle.kern_net.specs.Reading.{ReceivedAll}
 use Rattle.kern_net.specs.Reading.{ReceivedFront, ReadOut}
 use Rattle.kern_net.proofs.SubmitLemmas.{submitted_none, not_all}
 use Rattle.kern_net.proofs.CallLemmas.{calls_on}
@@ -87,7 +88,8 @@ made_all old new added e p =
 
 last_on : (x added granted : List Call) (e : PumpEnd)
     → (added ≡ granted) ⊎ (IsRefusal e × ((call : Call) × (added ≡ granted ++ call ∷ [])))
-    → (x ++ added ≡ x ++ granted) ⊎ (IsRefusal e × ((call : Call) × (x ++ added ≡ (x ++ granted) ++ call ∷ [])))
+    → (x ++ added ≡ x ++ granted) ⊎
+    (IsRefusal e × ((call : Call) × (x ++ added ≡ (x ++ granted) ++ call ∷ [])))
 last_on x added granted e (inl same) = inl (ap (λ (l : List Call). x ++ l) same)
 last_on x added granted e (inr (refusal, (call, is))) =
     inr (refusal, (call, ap (λ (l : List Call). x ++ l) is ∙ sym (append_assoc x granted (call ∷ []))))
@@ -104,7 +106,8 @@ made_on old mid new x y e p m = record {
 
 -- ---- messages
 
-submits_on : (route : IncomingRoute) (a b : List (List (List ℕ))) (x y : List Call) → Submits route a x → Submits route b y
+submits_on : (route : IncomingRoute) (a b : List (List (List ℕ))) (x y : List Call) → Submits route a x
+    → Submits route b y
     → Submits route (a ++ b) (x ++ y)
 submits_on route a b x y NoMore q = q
 submits_on route a b x y (Submitted frames messages call calls submitted p) q =
@@ -128,7 +131,8 @@ all_on route m n old mid new p q = record {
 
 -- or a front of those
 front_on : (route : IncomingRoute) (m n : List (List (List ℕ))) (old mid new : PassState Call) (e : PumpEnd)
-    → SubmittedAll route m old mid → SubmittedFront route n mid new e → SubmittedFront route (m ++ n) old new e
+    → SubmittedAll route m old mid → SubmittedFront route n mid new e
+    → SubmittedFront route (m ++ n) old new e
 front_on route m n old mid new e p q = record {
   front = m ++ q.front;
   others = q.others;
@@ -190,9 +194,11 @@ coming_on route messages rest rest' frames old mid new p e q = record {
   submitted = all_on route p.done (frames ∷ []) old mid new p.submitted q;
 }
 
-pub coming_refused : (route : IncomingRoute) (messages rest rest' : List (List (List ℕ))) (frames : List (List ℕ))
+pub coming_refused : (route : IncomingRoute) (messages rest rest' : List (List (List ℕ)))
+    (frames : List (List ℕ))
     (old mid new : PassState Call) (e : PumpEnd) → Coming route messages rest old mid → rest ≡ frames ∷ rest'
-    → StopsBy e mid.calls new → SubmittedFront route (frames ∷ []) mid new e → SubmittedFront route messages old new e
+    → StopsBy e mid.calls new → SubmittedFront route (frames ∷ []) mid new e
+    → SubmittedFront route messages old new e
 coming_refused route messages rest rest' frames old mid new e p is stops q =
     let one = front_on route p.done (frames ∷ []) old mid new e p.submitted q in
     let no_all = not_all e mid.calls new stops in
@@ -201,7 +207,8 @@ coming_refused route messages rest rest' frames old mid new e p is stops q =
     subst C (append_assoc p.done (frames ∷ []) rest'
     ∙ sym (p.split ∙ ap (λ (l : List (List (List ℕ))). p.done ++ l) is)) all
 
-pub coming_stops : (route : IncomingRoute) (messages rest : List (List (List ℕ))) (old mid new : PassState Call)
+pub coming_stops : (route : IncomingRoute) (messages rest : List (List (List ℕ)))
+    (old mid new : PassState Call)
     (e : PumpEnd) → Coming route messages rest old mid → StopsBy e mid.calls new → StopsBy e old.calls new
 coming_stops route messages rest old mid new e p stops =
     later e old.calls mid.calls p.submitted.added new p.submitted.calls stops
@@ -217,7 +224,8 @@ coming_end route messages rest old new p e =
 abbrev pub receiver : DecoderState → PassState Call → Receiver
 receiver decoder pass = record { decoder = decoder; pass = pass }
 
-pub receives_piece : (route : IncomingRoute) (s t : DecoderState) (bytes : List ℕ) (messages : List (List (List ℕ)))
+pub receives_piece : (route : IncomingRoute) (s t : DecoderState) (bytes : List ℕ)
+    (messages : List (List (List ℕ)))
     (old new : PassState Call) → Completes s bytes messages t → SubmittedAll route messages old new
     → ReceivedAll route [] bytes (receiver s old) (receiver t new)
 receives_piece route s t bytes messages old new reads submitted =
@@ -236,8 +244,10 @@ receives_whole route held bytes old new e h = record {
 }
 
 -- all was submitted, and the stream is broken after it
-pub receives_broken : (route : IncomingRoute) (s t : DecoderState) (bytes : List ℕ) (messages : List (List (List ℕ)))
-    (old new : PassState Call) (e : PumpEnd) → Completes s bytes messages t → SubmittedAll route messages old new
+pub receives_broken : (route : IncomingRoute) (s t : DecoderState) (bytes : List ℕ)
+    (messages : List (List (List ℕ)))
+    (old new : PassState Call) (e : PumpEnd) → Completes s bytes messages t
+    → SubmittedAll route messages old new
     → ReceivedFront route [] bytes (receiver s old) (receiver t new) e
 receives_broken route s t bytes messages old new e reads submitted =
     receives_whole route [] bytes (receiver s old) (receiver t new) e
@@ -257,26 +267,31 @@ receives_front route s t held bytes messages old new e reads submitted = record 
   all = λ _. refl;
 }
 
-pub receives_refused : (route : IncomingRoute) (s t : DecoderState) (bytes : List ℕ) (messages : List (List (List ℕ)))
+pub receives_refused : (route : IncomingRoute) (s t : DecoderState) (bytes : List ℕ)
+    (messages : List (List (List ℕ)))
     (old new : PassState Call) (e : PumpEnd) → Completes s bytes messages t
-    → SubmittedFront route messages old new e → ReceivedFront route [] bytes (receiver s old) (receiver t new) e
+    → SubmittedFront route messages old new e
+    → ReceivedFront route [] bytes (receiver s old) (receiver t new) e
 receives_refused route s t bytes messages old new e reads submitted =
     receives_front route s t [] bytes messages old new e reads submitted
 
 -- the piece wasn't taken
-pub receives_not : (route : IncomingRoute) (s t : DecoderState) (bytes : List ℕ) (old : PassState Call) → t ≡ s
+pub receives_not : (route : IncomingRoute) (s t : DecoderState) (bytes : List ℕ) (old : PassState Call)
+    → t ≡ s
     → ReceivedFront route [] bytes (receiver s old) (receiver t old) pump.OutOfMemory
 receives_not route s t bytes old decoder = record {
   taken = [];
   unread = bytes;
   messages = [];
   bytes_are = refl;
-  reads = (let C : DecoderState → Type 0 = λ u. Completes s [] [] u in subst C (sym decoder) (completes_none s));
+  reads = (let C : DecoderState → Type 0 = λ u. Completes s [] [] u in subst C (sym decoder)
+      (completes_none s));
   submitted = submitted_none route [] old;
   all = λ h. absurd cc;
 }
 
-receives_held : (route : IncomingRoute) (s : DecoderState) (held : List (List (List ℕ))) (old new : PassState Call)
+receives_held : (route : IncomingRoute) (s : DecoderState) (held : List (List (List ℕ)))
+    (old new : PassState Call)
     → SubmittedAll route held old new → ReceivedAll route held [] (receiver s old) (receiver s new)
 receives_held route s held old new submitted = record {
   messages = [];
@@ -286,15 +301,18 @@ receives_held route s held old new submitted = record {
       subst A (sym (append-nil held)) submitted);
 }
 
-front_held : (route : IncomingRoute) (s : DecoderState) (held : List (List (List ℕ))) (old new : PassState Call)
+front_held : (route : IncomingRoute) (s : DecoderState) (held : List (List (List ℕ)))
+    (old new : PassState Call)
     (e : PumpEnd) → SubmittedFront route held old new e
     → ReceivedFront route held [] (receiver s old) (receiver s new) e
 front_held route s held old new e submitted =
     let A : List (List (List ℕ)) → Type 0 = λ l. SubmittedFront route l old new e in
-    receives_front route s s held [] [] old new e (completes_none s) (subst A (sym (append-nil held)) submitted)
+    receives_front route s s held [] [] old new e (completes_none s)
+    (subst A (sym (append-nil held)) submitted)
 
 receives_on : (route : IncomingRoute) (held : List (List (List ℕ))) (x y : List ℕ) (old mid new : Receiver)
-    → ReceivedAll route held x old mid → ReceivedAll route [] y mid new → ReceivedAll route held (x ++ y) old new
+    → ReceivedAll route held x old mid → ReceivedAll route [] y mid new
+    → ReceivedAll route held (x ++ y) old new
 receives_on route held x y old mid new p q =
     let A : List (List (List ℕ)) → Type 0 = λ l. SubmittedAll route l old.pass new.pass in
     record {
@@ -315,10 +333,12 @@ stops_on route held x y old mid new e p q =
       unread = q.unread;
       messages = p.messages ++ q.messages;
       bytes_are = ap (λ (l : List ℕ). x ++ l) q.bytes_are ∙ sym (append_assoc x q.taken q.unread);
-      reads = completes_on old.decoder mid.decoder new.decoder x q.taken p.messages q.messages p.reads q.reads;
+      reads = completes_on old.decoder mid.decoder new.decoder x q.taken p.messages q.messages p.reads
+          q.reads;
       submitted =
           subst A (append_assoc held p.messages q.messages)
-          (front_on route (held ++ p.messages) q.messages old.pass mid.pass new.pass e p.submitted q.submitted);
+          (front_on route (held ++ p.messages) q.messages old.pass mid.pass new.pass e p.submitted
+          q.submitted);
       all = q.all;
     }
 
@@ -348,7 +368,8 @@ under_way route peer from t old mid new p q = record {
   bytes = [];
   gave = told_none from.given;
   received =
-      receives_on route peer.messages [] [] (receiver peer.decoder old) (receiver peer.decoder mid) (receiver t new)
+      receives_on route peer.messages [] [] (receiver peer.decoder old) (receiver peer.decoder mid)
+      (receiver t new)
       (receives_held route peer.decoder peer.messages old mid p) q;
   was_read = counts_none from.reads;
   within = none_read;
@@ -364,7 +385,8 @@ under_way_on route peer g h k t u reads x old mid new p told was left q =
       bytes = p.bytes ++ x;
       gave = told_on g.given h.given k.given p.bytes x p.gave told;
       received =
-          receives_on route peer.messages p.bytes x (receiver peer.decoder old) (receiver t mid) (receiver u new)
+          receives_on route peer.messages p.bytes x (receiver peer.decoder old) (receiver t mid)
+          (receiver u new)
           p.received q;
       was_read = counts_on g.reads h.reads k.reads reads 1 p.was_read was;
       within = most_below reads left;
@@ -375,7 +397,8 @@ positive zero some = absurd (some refl)
 positive (suc count) some = omega arith
 
 -- refused in the messages that were held
-pub held_refused : (route : IncomingRoute) (peer : Peer) (from : InletState) (old new : PassState Call) (e : PumpEnd)
+pub held_refused : (route : IncomingRoute) (peer : Peer) (from : InletState) (old new : PassState Call)
+    (e : PumpEnd)
     → IsReadable from → StopsBy e old.calls new → SubmittedFront route peer.messages old new e
     → ReadOut route peer (reader from old) (reader from new) e
 held_refused route peer from old new e good stops submitted = record {
@@ -401,7 +424,8 @@ stopped_first route peer from t old mid new e good p stops q = record {
   after = t;
   gave = told_none from.given;
   received =
-      stops_on route peer.messages [] [] (receiver peer.decoder old) (receiver peer.decoder mid) (receiver t new) e
+      stops_on route peer.messages [] [] (receiver peer.decoder old) (receiver peer.decoder mid)
+      (receiver t new) e
       (receives_held route peer.decoder peer.messages old mid p) q;
   reads = 0;
   was_read = counts_none from.reads;
@@ -412,7 +436,8 @@ stopped_first route peer from t old mid new e good p stops q = record {
 }
 
 -- stopped in a piece
-pub stopped : (route : IncomingRoute) (peer : Peer) (g h k : InletState) (t u : DecoderState) (reads : ℕ) (x : List ℕ)
+pub stopped : (route : IncomingRoute) (peer : Peer) (g h k : InletState) (t u : DecoderState) (reads : ℕ)
+    (x : List ℕ)
     (old mid new : PassState Call) (e : PumpEnd) → UnderWay route peer g h old (receiver t mid) reads
     → Gave h k x → WasRead h k 1 → reads < 4294967295 → IsReadable k → StopsPiece e mid.calls new u
     → ReceivedFront route [] x (receiver t mid) (receiver u new) e
@@ -447,7 +472,8 @@ ends_there route peer g h k t reads old new e p told was left cause = record {
   bytes = p.bytes;
   after = t;
   gave = gave_more g h k p.bytes p.gave told;
-  received = receives_whole route peer.messages p.bytes (receiver peer.decoder old) (receiver t new) e p.received;
+  received = receives_whole route peer.messages p.bytes (receiver peer.decoder old) (receiver t new) e
+      p.received;
   reads = reads + 1;
   was_read = counts_on g.reads h.reads k.reads reads 1 p.was_read was;
   within = most_below reads left;
@@ -478,7 +504,8 @@ read_enough route peer g h t reads old new p enough good =
       after = t;
       gave = p.gave;
       received =
-          receives_whole route peer.messages p.bytes (receiver peer.decoder old) (receiver t new) pump.ReadFailed
+          receives_whole route peer.messages p.bytes (receiver peer.decoder old) (receiver t new)
+          pump.ReadFailed
           p.received;
       reads = reads;
       was_read = p.was_read;

@@ -70,7 +70,8 @@ dropped_one route frames old dropped = record {
 }
 
 -- nothing was submitted
-submitted_not : (route : IncomingRoute) (messages : List (List (List ℕ))) (old new : PassState Call) (e : PumpEnd)
+submitted_not : (route : IncomingRoute) (messages : List (List (List ℕ))) (old new : PassState Call)
+    (e : PumpEnd)
     → submits_all e ≡ false → IsPrefix old.seen new.seen → new.calls ≡ old.calls
     → SubmittedFront route messages old new e
 submitted_not route messages old new e no_all onward same = record {
@@ -93,7 +94,8 @@ submitted_none route messages old =
 -- the call wasn't granted
 submitted_refused : (route : IncomingRoute) (frames : List (List ℕ)) (call : Call) (old new : PassState Call)
     (e : PumpEnd)
-    → IsSubmission route frames call → submits_all e ≡ false → IsPrefix old.seen new.seen → Refuses old call new e
+    → IsSubmission route frames call → submits_all e ≡ false → IsPrefix old.seen new.seen
+    → Refuses old call new e
     → SubmittedFront route (frames ∷ []) old new e
 submitted_refused route frames call old new e submitted no_all onward (inl same) =
     submitted_not route (frames ∷ []) old new e no_all onward same
@@ -111,7 +113,8 @@ submitted_refused route frames call old new e submitted no_all onward (inr (refu
 
 -- ---- subscriptions
 
-subscribed_on : (channel : Channel) (route : IncomingRoute) (frames : List (List ℕ)) (call : Call) → channel ≡ Iopub
+subscribed_on : (channel : Channel) (route : IncomingRoute) (frames : List (List ℕ)) (call : Call)
+    → channel ≡ Iopub
     → IsSubscription route frames call → IsSubmissionOn channel route frames call
 subscribed_on Iopub route frames call is s = s
 subscribed_on _ route frames call is s = absurd cc
@@ -119,7 +122,8 @@ subscribed_on _ route frames call is s = absurd cc
 submitted_subscription : (route : IncomingRoute) (wants : Bool) (prefix : List ℕ) (unix_seconds : ℕ)
     (frames : List (List ℕ)) (call : Call) → route.channel ≡ Iopub
     → unix_seconds ≤ 4102444800 → frames ≡ subscription_frames wants prefix
-    → call ≡ Subscribe route.connection (record { wants = wants; prefix = prefix; unix_seconds = unix_seconds })
+    → call ≡ Subscribe route.connection
+    (record { wants = wants; prefix = prefix; unix_seconds = unix_seconds })
     → IsSubmission route frames call
 submitted_subscription route wants prefix unix_seconds frames call iopub in_time frames_are call_is =
     subscribed_on route.channel route frames call iopub (record {
@@ -131,22 +135,27 @@ submitted_subscription route wants prefix unix_seconds frames call iopub in_time
       call_is = call_is;
     })
 
-pub subscribed : (route : IncomingRoute) (wants : Bool) (prefix : List ℕ) (unix_seconds : ℕ) (frames : List (List ℕ))
+pub subscribed : (route : IncomingRoute) (wants : Bool) (prefix : List ℕ) (unix_seconds : ℕ)
+    (frames : List (List ℕ))
     (call : Call) (old new : PassState Call) → route.channel ≡ Iopub
     → unix_seconds ≤ 4102444800 → frames ≡ subscription_frames wants prefix
-    → call ≡ Subscribe route.connection (record { wants = wants; prefix = prefix; unix_seconds = unix_seconds })
+    → call ≡ Subscribe route.connection
+    (record { wants = wants; prefix = prefix; unix_seconds = unix_seconds })
     → Grants old call new → SubmittedAll route (frames ∷ []) old new
 subscribed route wants prefix unix_seconds frames call old new iopub in_time frames_are call_is turned =
     submitted_one route frames call old new
-    (submitted_subscription route wants prefix unix_seconds frames call iopub in_time frames_are call_is) turned
+    (submitted_subscription route wants prefix unix_seconds frames call iopub in_time frames_are call_is)
+    turned
 
 pub subscription_refused : (route : IncomingRoute) (wants : Bool) (prefix : List ℕ) (unix_seconds : ℕ)
     (frames : List (List ℕ)) (call : Call) (old new : PassState Call) (e : PumpEnd) → route.channel ≡ Iopub
     → unix_seconds ≤ 4102444800 → frames ≡ subscription_frames wants prefix
-    → call ≡ Subscribe route.connection (record { wants = wants; prefix = prefix; unix_seconds = unix_seconds })
+    → call ≡ Subscribe route.connection
+    (record { wants = wants; prefix = prefix; unix_seconds = unix_seconds })
     → StopsBy e old.calls new → IsPrefix old.seen new.seen → Refuses old call new e
     → SubmittedFront route (frames ∷ []) old new e
-subscription_refused route wants prefix unix_seconds frames call old new e iopub in_time frames_are call_is stops
+subscription_refused route wants prefix unix_seconds frames call old new e iopub in_time frames_are call_is
+    stops
     onward refused =
     submitted_refused route frames call old new e
     (submitted_subscription route wants prefix unix_seconds frames call iopub in_time frames_are call_is)
@@ -157,7 +166,8 @@ unsubscribed_on : (channel : Channel) (route : IncomingRoute) (frames : List (Li
 unsubscribed_on Iopub route frames is s = s
 unsubscribed_on _ route frames is s = absurd cc
 
-pub no_subscription : (route : IncomingRoute) (frames : List (List ℕ)) (old : PassState Call) → route.channel ≡ Iopub
+pub no_subscription : (route : IncomingRoute) (frames : List (List ℕ)) (old : PassState Call)
+    → route.channel ≡ Iopub
     → IsNoSubscription frames → SubmittedAll route (frames ∷ []) old old
 no_subscription route frames old iopub dropped =
     dropped_one route frames old (unsubscribed_on route.channel route frames iopub dropped)
@@ -181,10 +191,12 @@ dropped_on : (channel : Channel) (route : IncomingRoute) (frames : List (List �
 dropped_on Iopub route frames other unopened = absurd (other refl)
 dropped_on _ route frames other unopened = unopened
 
-submitted_arrival : (route : IncomingRoute) (message : Message) (unix_seconds : ℕ) (frames : List (List ℕ)) (call : Call)
+submitted_arrival : (route : IncomingRoute) (message : Message) (unix_seconds : ℕ) (frames : List (List ℕ))
+    (call : Call)
     → (route.channel ≡ Iopub → ⊥) → unix_seconds ≤ 4102444800
     → IsMessage route.key.now frames message.parts message.header (view message.content)
-    → call ≡ Arrive route.connection (record { request = request_of route.channel message; unix_seconds = unix_seconds })
+    → call ≡ Arrive route.connection
+    (record { request = request_of route.channel message; unix_seconds = unix_seconds })
     → IsSubmission route frames call
 submitted_arrival route message unix_seconds frames call other in_time opens call_is =
     arrived_on route.channel route frames call other (record {
@@ -195,22 +207,27 @@ submitted_arrival route message unix_seconds frames call other in_time opens cal
       call_is = call_is;
     })
 
-pub arrived : (route : IncomingRoute) (message : Message) (unix_seconds : ℕ) (frames : List (List ℕ)) (call : Call)
+pub arrived : (route : IncomingRoute) (message : Message) (unix_seconds : ℕ) (frames : List (List ℕ))
+    (call : Call)
     (old new : PassState Call) → (route.channel ≡ Iopub → ⊥) → unix_seconds ≤ 4102444800
     → IsMessage route.key.now frames message.parts message.header (view message.content)
-    → call ≡ Arrive route.connection (record { request = request_of route.channel message; unix_seconds = unix_seconds })
+    → call ≡ Arrive route.connection
+    (record { request = request_of route.channel message; unix_seconds = unix_seconds })
     → Grants old call new → SubmittedAll route (frames ∷ []) old new
 arrived route message unix_seconds frames call old new other in_time opens call_is turned =
     submitted_one route frames call old new
     (submitted_arrival route message unix_seconds frames call other in_time opens call_is) turned
 
-pub arrival_refused : (route : IncomingRoute) (message : Message) (unix_seconds : ℕ) (frames : List (List ℕ)) (call : Call)
+pub arrival_refused : (route : IncomingRoute) (message : Message) (unix_seconds : ℕ) (frames : List (List ℕ))
+    (call : Call)
     (old new : PassState Call) (e : PumpEnd) → (route.channel ≡ Iopub → ⊥) → unix_seconds ≤ 4102444800
     → IsMessage route.key.now frames message.parts message.header (view message.content)
-    → call ≡ Arrive route.connection (record { request = request_of route.channel message; unix_seconds = unix_seconds })
+    → call ≡ Arrive route.connection
+    (record { request = request_of route.channel message; unix_seconds = unix_seconds })
     → StopsBy e old.calls new → IsPrefix old.seen new.seen → Refuses old call new e
     → SubmittedFront route (frames ∷ []) old new e
-arrival_refused route message unix_seconds frames call old new e other in_time opens call_is stops onward refused =
+arrival_refused route message unix_seconds frames call old new e other in_time opens call_is stops onward
+    refused =
     submitted_refused route frames call old new e
     (submitted_arrival route message unix_seconds frames call other in_time opens call_is)
     (not_all e old.calls new stops) onward refused

@@ -83,7 +83,8 @@ others n identity r (ask.Debug d) unix_seconds s = debugs n r d unix_seconds s
 others n identity r (ask.BadContent lacking) unix_seconds s = passes_over r lacking unix_seconds s
 others n identity r _ unix_seconds s = record { same = refl }
 
-replies : (plain : Option Content) (n : ℕ) (identity : List ℕ) (r : Request) (unix_seconds : ℕ) (s : KernelState)
+replies : (plain : Option Content) (n : ℕ) (identity : List ℕ) (r : Request) (unix_seconds : ℕ)
+    (s : KernelState)
     → Leaves s (by_reply plain n identity r unix_seconds s)
 replies (Some c) n identity r unix_seconds s = record { same = refl }
 replies None n identity r unix_seconds s = others n identity r r.body unix_seconds s
@@ -93,11 +94,13 @@ replies None n identity r unix_seconds s = others n identity r r.body unix_secon
 runs : (e : ℕ × SliceOutcome) (unix_seconds : ℕ) (s : KernelState) → Leaves s (running_to e unix_seconds s)
 runs (k, ending) unix_seconds s = record { same = refl }
 
-loads : (unix_seconds : ℕ) (queue : List Execution) (s : KernelState) → Leaves s (loading unix_seconds queue s)
+loads : (unix_seconds : ℕ) (queue : List Execution) (s : KernelState)
+    → Leaves s (loading unix_seconds queue s)
 loads unix_seconds [] s = record { same = refl }
 loads unix_seconds (x ∷ rest) s = record { same = refl }
 
-starts : (pending : Option ℕ) (unix_seconds : ℕ) (s : KernelState) → Leaves s (by_start pending unix_seconds s)
+starts : (pending : Option ℕ) (unix_seconds : ℕ) (s : KernelState)
+    → Leaves s (by_start pending unix_seconds s)
 starts None unix_seconds s = loads unix_seconds s.work.queue s
 starts (Some address) unix_seconds s = record { same = refl }
 
@@ -120,7 +123,8 @@ leaves : (peer : Option Peer) (n : ℕ) (s : KernelState)
 leaves None n s = record { same = refl }
 leaves (Some p) n s = record { same = refl }
 
-subscribes : (peer : Option Peer) (n : ℕ) (wants : Bool) (prefix : List ℕ) (unix_seconds : ℕ) (s : KernelState)
+subscribes : (peer : Option Peer) (n : ℕ) (wants : Bool) (prefix : List ℕ) (unix_seconds : ℕ)
+    (s : KernelState)
     → Leaves s (by_peer peer s (λ p.
     if not (is_on Iopub p) then refused fault.NoConnection s else
     if not wants then unsubscribed n prefix s else
@@ -149,7 +153,8 @@ arrives (Some p) n r unix_seconds s =
     (by_reply (plain_reply s.work.count r.body) n p.identity r unix_seconds s)
     (record { same = refl }) (replies (plain_reply s.work.count r.body) n p.identity r unix_seconds s)
 
-fetches : (peer : Option Peer) (n from : ℕ) (s : KernelState) → Leaves s (by_peer peer s (λ p. fetching n from s))
+fetches : (peer : Option Peer) (n from : ℕ) (s : KernelState)
+    → Leaves s (by_peer peer s (λ p. fetching n from s))
 fetches None n from s = record { same = refl }
 fetches (Some p) n from s =
     either (Leaves s) (nat_lt from (first_kept (length s.posts)))
@@ -159,14 +164,16 @@ fetches (Some p) n from s =
 
 slices : (unix_seconds : ℕ) (s : KernelState) → Leaves s (slicing unix_seconds s)
 slices unix_seconds s =
-    either (Leaves s) s.is_shut (quiet reply.Ended s) (by_run s.board.run unix_seconds s) (record { same = refl })
+    either (Leaves s) s.is_shut (quiet reply.Ended s) (by_run s.board.run unix_seconds s)
+    (record { same = refl })
     (goes_on s.board.run unix_seconds s)
 
 turn_leaves : (c : Call) (s : KernelState) → Leaves s (turn c s)
 unfolding turn
 turn_leaves (call.Join channel identity) s = joins channel identity s
 turn_leaves (call.Leave n) s = leaves (peer_at n s.connections.peers) n s
-turn_leaves (call.Subscribe n c) s = subscribes (peer_at n s.connections.peers) n c.wants c.prefix c.unix_seconds s
+turn_leaves (call.Subscribe n c) s =
+    subscribes (peer_at n s.connections.peers) n c.wants c.prefix c.unix_seconds s
 turn_leaves (call.Arrive n c) s = arrives (peer_at n s.connections.peers) n c.request c.unix_seconds s
 turn_leaves (call.Slice unix_seconds) s = slices unix_seconds s
 turn_leaves (call.Fetch n from) s = fetches (peer_at n s.connections.peers) n from s

@@ -1,5 +1,5 @@
 -- Rounds of the worker.
-use Rattle.std.proofs.Common.{◌≡◌, ℕ, ◌+◌, List, [], ◌∷◌, ◌++◌, length, Option, Some}
+use Rattle.std.proofs.Common.{◌≡◌, ℕ, List, [], ◌∷◌, ◌++◌, Option, Some}
 use Rattle.std.proofs.Common.{Result, Ok, Err, refl, arith, subst, length-append}
 use Rattle.std.specs.Result.{IfErr}
 use Rattle.std.proofs.lemmas.List.Elements.{All-append}
@@ -51,7 +51,8 @@ slice_calls v w unix_seconds (Err fault.OutOfMemory) p t h = absurd cc
 slice_calls v w unix_seconds (Err fault.JournalFull) p t h = absurd cc
 slice_calls v w unix_seconds (Err _) p t h = absurd cc
 
-pub saw_shutdown : (v w : PassState Call) (unix_seconds : ℕ) (answer : Result Reply KernelFault) (p : Progress)
+pub saw_shutdown : (v w : PassState Call) (unix_seconds : ℕ) (answer : Result Reply KernelFault)
+    (p : Progress)
     → TurnedBy v (Slice unix_seconds) answer w → progress_of answer ≡ Some (Ok p) → p ≡ progress.ShutDown
     → SawShutdown w
 saw_shutdown v w unix_seconds (Ok reply.Ended) p t h is =

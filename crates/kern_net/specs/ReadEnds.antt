@@ -53,8 +53,8 @@ abbrev pub StopsPiece : PumpEnd → List Call → PassState Call → DecoderStat
 StopsPiece (pump.Wire cause) old pass decoder = decoder.fault ≡ Some cause
 StopsPiece e old pass decoder = StopsBy e old pass
 
--- why it ended, as the pass, the reader, the decoder after it and the number of reads show it; a reader ends or
--- fails only where reading ends so
+-- why it ended, as the pass, the reader, the decoder after it and the number of reads show it; a reader ends
+-- or fails only where reading ends so
 abbrev pub EndsBy : PumpEnd → Reader → Reader → DecoderState → ℕ → Type 0
 EndsBy pump.PeerEnded old new decoder reads = (new.inlet.ended ≡ true) × (new.inlet.failed ≡ false)
 EndsBy pump.ReadFailed old new decoder reads =

@@ -61,14 +61,16 @@ pub record Receiver : Type 0 where
   pub decoder : DecoderState
   pub pass : PassState Call
 
--- the decoder read these bytes, and what the messages that were held and those in the bytes ask for was granted
+-- the decoder read these bytes, and what the messages that were held and those in the bytes ask for was
+-- granted
 pub record ReceivedAll (route : IncomingRoute) (held : Messages) (bytes : Bytes) (old new : Receiver)
     : Type 0 where
   pub messages : Messages
   pub reads : Completes old.decoder bytes messages new.decoder
   pub submitted : SubmittedAll route (held ++ messages) old.pass new.pass
 
--- the decoder read a front of the bytes, and a front of what the messages ask for was submitted, until this end
+-- the decoder read a front of the bytes, and a front of what the messages ask for was submitted, until this
+-- end
 pub record ReceivedFront (route : IncomingRoute) (held : Messages) (bytes : Bytes) (old new : Receiver)
     (e : PumpEnd) : Type 0 where
   pub taken : Bytes
@@ -79,8 +81,8 @@ pub record ReceivedFront (route : IncomingRoute) (held : Messages) (bytes : Byte
   pub submitted : SubmittedFront route (held ++ messages) old.pass new.pass e
   pub all : submits_all e ≡ true → unread ≡ []
 
--- the decoder took this piece, and what its messages ask for was submitted: all of it where it goes on; else as far
--- as the end says, and why it stops there
+-- the decoder took this piece, and what its messages ask for was submitted: all of it where it goes on; else
+-- as far as the end says, and why it stops there
 abbrev pub PieceSubmitted : IncomingRoute → Bytes → Receiver → Receiver → Result (Unit {0}) PumpEnd → Type 0
 PieceSubmitted route piece old new result = MatchResult result
     (λ _. ReceivedAll route [] piece old new)

@@ -69,6 +69,7 @@ IsDropped route frames = IsDroppedOn route.channel route frames
 pub data Submits (route : IncomingRoute) : Messages → List Call → Type 0 where
   NoMore : Submits route [] []
   Submitted : (frames : Frames) (messages : Messages) (call : Call) (calls : List Call)
-      → IsSubmission route frames call → Submits route messages calls → Submits route (frames ∷ messages) (call ∷ calls)
+      → IsSubmission route frames call → Submits route messages calls
+      → Submits route (frames ∷ messages) (call ∷ calls)
   Dropped : (frames : Frames) (messages : Messages) (calls : List Call)
       → IsDropped route frames → Submits route messages calls → Submits route (frames ∷ messages) calls

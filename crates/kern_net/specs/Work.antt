@@ -48,8 +48,8 @@ SliceEnds old new end.JournalFull = (new.calls ≡ old.calls) × IsJournalFull n
 SliceEnds old new end.Worn = (new.calls ≡ old.calls) × (new.worn ≡ true)
 SliceEnds old new _ = ⊥
 
--- Slices were added and nothing else. `before` has let through those and as many that weren't taken; `idle` was
--- polled once for each at most; and others were woken once for each.
+-- Slices were added and nothing else. `before` has let through those and as many that weren't taken; `idle`
+-- was polled once for each at most; and others were woken once for each.
 pub record Sliced (old new : List Call) (a b : WorkerPolls) (short : ℕ) : Type 0 where
   pub added : List Call
   pub calls : new ≡ old ++ added

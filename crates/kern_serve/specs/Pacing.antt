@@ -1,5 +1,5 @@
 -- How a running cell is held back so that the journal lasts.
-use Rattle.std.specs.Prelude.{ℕ, ◌+◌, ◌-◌, ◌*◌, ◌/◌, min, Bool, true, false, nat_le, if◌then◌else◌}
+use Rattle.std.specs.Prelude.{ℕ, ◌*◌, ◌/◌, min, Bool, true, false}
 
 -- As many microseconds as so many entries may take, where the rest of the journal is to last three hours
 -- (10,800 seconds); and never more than a second, so that a burst of requests doesn't stop a cell.

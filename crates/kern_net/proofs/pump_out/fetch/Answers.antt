@@ -12,7 +12,8 @@ batch_of-requires g c =
 
 pub returns-in-Ok-clause-err : goal.returns-in-Ok-clause-err
 returns-in-Ok-clause-err g c =
-    denied_by c.args.route.now.connection c.args.from c.args.pass.now c.turn.new.pass c.in-Ok.answer c.batch_of.result
+    denied_by c.args.route.now.connection c.args.from c.args.pass.now c.turn.new.pass c.in-Ok.answer
+    c.batch_of.result
     c.in-Ok.ensures.ok c.batch_of.ensures
 
 pub returns-in-Err-clause-err : goal.returns-in-Err-clause-err

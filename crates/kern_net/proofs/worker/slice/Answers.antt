@@ -5,7 +5,8 @@ use Rattle.kern_net.proofs.worker.slice.Goals as goal
 
 pub progress_of-requires : goal.progress_of-requires
 progress_of-requires g c =
-    answered c.args.pass.now c.turn.new.pass c.unix_seconds-unix_seconds.result c.in-Ok.answer c.in-Ok.ensures.ok
+    answered c.args.pass.now c.turn.new.pass c.unix_seconds-unix_seconds.result c.in-Ok.answer
+    c.in-Ok.ensures.ok
 
 pub returns-in-Ok-progress_of-clause-shut_down : goal.returns-in-Ok-progress_of-clause-shut_down
 returns-in-Ok-progress_of-clause-shut_down g c = λ is.

@@ -9,5 +9,6 @@ invariant-loop-slices g l = record {
   seat : l.pass.seat ≡ l.fn.pass.seat;
   gate : IsOpen (g.G.WorkerGate.polls l.gate);
   count : l.slices ≡ (g.G.WorkerGate.polls l.gate).before.yes;
-  sliced : Sliced l.fn.pass.calls l.pass.calls (g.G.WorkerGate.polls l.fn.gate) (g.G.WorkerGate.polls l.gate) 0;
+  sliced : Sliced l.fn.pass.calls l.pass.calls (g.G.WorkerGate.polls l.fn.gate) (g.G.WorkerGate.polls l.gate)
+      0;
 }
