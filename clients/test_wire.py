@@ -1,10 +1,12 @@
 """Messages at the border of what is taken, by libzmq."""
+import contextlib
 import time
 
 import zmq
 from jupyter_client.session import Session
 
 from lab80_client import HELLO, PATIENCE, Lab, streams
+from zmtp import Peer
 
 
 class Wire(Lab):
@@ -58,6 +60,17 @@ class Wire(Lab):
         for _ in range(300):
             self.reply(self.client.kernel_info())
         self.assertLess(time.monotonic() - began, PATIENCE)
+
+    def test_who_is_sent_nothing_is_not_left_behind(self):
+        with contextlib.ExitStack() as stack:
+            quiet = [stack.enter_context(Peer(self.connection, it)).greet() for it in ("control", "shell", "stdin")]
+            busy = stack.enter_context(Peer(self.connection, "shell")).greet()
+            # Each request is three posts, and the last 4,096 posts are kept.
+            for _ in range(3_000):
+                self.assertTrue(busy.is_served())
+            for peer in quiet:
+                self.assertFalse(peer.is_ended(0.2), peer.channel)
+                self.assertTrue(peer.is_served(), peer.channel)
 
     def test_the_heartbeat_sends_back(self):
         beat = self.socket(zmq.REQ, "hb")

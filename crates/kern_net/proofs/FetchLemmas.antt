@@ -1,5 +1,6 @@
 -- What a Fetch is answered.
-use Rattle.std.proofs.Common.{◌≡◌, ℕ, ◌+◌, ◌-◌, ◌≤◌, Bool, true, false, if◌then◌else◌, List, length, take}
+use Rattle.std.proofs.Common.{◌≡◌, ℕ, ◌+◌, ◌-◌, ◌<◌, ◌≤◌, Bool, true, false, if◌then◌else◌, List, length}
+use Rattle.std.proofs.Common.{take}
 use Rattle.std.proofs.Common.{drop, Option, Some, None, Result, Ok, Err, refl, arith, sym, ap, ◌∙◌, subst}
 use Rattle.std.proofs.Common.{take-append-drop}
 use Rattle.std.specs.Prelude.{nat_lt, min, max}
@@ -130,3 +131,38 @@ pub gives : (before : List (ℕ × Call)) (c f : ℕ) (posts : List Post) (next 
     → Ok (reply.Fetched posts next ended) ≡ seated_answer before (Fetch c f)
     → Gives c f (posts_in before) posts next
 gives before c f posts next ended e = gives_there c f (state_after (calls_of before)) posts next ended e
+
+-- ---- a Fetch that leaves no post
+
+behind : (f n next : ℕ) → next ≡ max f (min (f + 64) (n + 1)) → next - f < 64 → n < next
+behind f n next is short = omega (arith, is, short)
+
+reaches_if : (b : Bool) (c f : ℕ) (s : KernelState) (lagged : KernelFault) (posts : List Post) (next : ℕ)
+    (ended : Bool)
+    → Ok (reply.Fetched posts next ended) ≡ (if b then refused lagged s else quiet
+    (reply.Fetched (posts_to c f s.posts) (next_from f (length s.posts)) s.is_shut) s).answer
+    → next - f < 64 → length s.posts < next
+reaches_if true c f s lagged posts next ended e short = absurd cc
+reaches_if false c f s lagged posts next ended e short =
+    let at : next ≡ next_from f (length s.posts) = cc in behind f (length s.posts) next at short
+
+reaches_at : (peer : Option Peer) (c f : ℕ) (s : KernelState) (posts : List Post) (next : ℕ) (ended : Bool)
+    → Ok (reply.Fetched posts next ended) ≡ (by_peer peer s (λ p. fetching c f s)).answer
+    → next - f < 64 → length s.posts < next
+reaches_at None c f s posts next ended e short = absurd cc
+reaches_at (Some p) c f s posts next ended e short =
+    reaches_if (nat_lt f (first_kept (length s.posts))) c f s (fault.Lagged (first_kept (length s.posts)))
+    posts
+    next ended e short
+
+reaches_there : (c f : ℕ) (s : KernelState) (posts : List Post) (next : ℕ) (ended : Bool)
+    → Ok (reply.Fetched posts next ended) ≡ (turn (Fetch c f) s).answer → next - f < 64
+    → length s.posts < next
+unfolding turn
+reaches_there c f s posts next ended e short = reaches_at _ c f s posts next ended e short
+
+pub reaches : (before : List (ℕ × Call)) (c f : ℕ) (posts : List Post) (next : ℕ) (ended : Bool)
+    → Ok (reply.Fetched posts next ended) ≡ seated_answer before (Fetch c f) → next - f < 64
+    → length (posts_in before) < next
+reaches before c f posts next ended e short =
+    reaches_there c f (state_after (calls_of before)) posts next ended e short

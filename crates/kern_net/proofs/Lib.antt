@@ -7,7 +7,9 @@ pub mod LagLemmas
 pub mod OutLemmas
 pub mod ReadLemmas
 pub mod ReadTurnLemmas
+pub mod RingLemmas
 pub mod StreamLemmas
 pub mod SubmitLemmas
 pub mod TurnLemmas
+pub mod WakeLemmas
 pub mod WorkLemmas

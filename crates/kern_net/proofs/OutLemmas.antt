@@ -1,14 +1,14 @@
 -- What a pump wrote, from Fetch to Fetch.
 use Rattle.std.proofs.Common.{◌≡◌, ℕ, zero, suc, zero-add, ◌+◌, ◌-◌, ◌<◌, ◌≤◌, ◌⊎◌, inl, inr, Bool, true}
 use Rattle.std.proofs.Common.{false, List, [], ◌∷◌, ◌++◌, length, take, drop, Result, Ok, Err, refl}
-use Rattle.std.proofs.Common.{arith, sym, ap, ◌∙◌, subst, append_assoc, append-nil, length-append, All}
+use Rattle.std.proofs.Common.{arith, sym, ap, ◌∙◌, subst, append_assoc, append-nil, length-append}
 use Rattle.std.specs.List.{filter}
 use Rattle.std.specs.Result.{IfErr}
 use mathlib.Core.List.{IsPrefix}
 use Rattle.std.proofs.lemmas.Grind.{common_steps}
 use Rattle.std.proofs.lemmas.Bool.{cases_lt}
 use Rattle.std.proofs.lemmas.List.{take-append-le, drop-append-le, drop-drop, length-drop}
-use Rattle.std.proofs.lemmas.List.Elements.{filter-append, All-push}
+use Rattle.std.proofs.lemmas.List.Elements.{filter-append}
 use Rattle.lab_turn.specs.History.{PassState}
 use Rattle.base_streams.specs.States.{OutletState, IsWritable}
 use Rattle.base_streams.specs.Told.{TookFront}
@@ -27,7 +27,7 @@ use Rattle.kern_core.specs.Kernels.{is_entry}
 use Rattle.kern_net.specs.declared.end.PumpEnd.{PumpEnd}
 use Rattle.kern_net.specs.declared.end.PumpEnd.TheVariants as end
 use Rattle.kern_net.specs.Ends.{end_by_kernel}
-use Rattle.kern_net.specs.Gates.{AnswerCounts, WriterPolls, with_answer, times}
+use Rattle.kern_net.specs.Gates.{AnswerCounts, WriterPolls, with_answer, times, FetchedAll, HasCaughtUp}
 use Rattle.kern_net.specs.Calls.{TurnedBy, LastCall}
 use Rattle.kern_net.proofs.CallLemmas.{turned_prefix, last_call}
 use Rattle.kern_net.specs.declared.pump_out.Batch.{Batch}
@@ -39,7 +39,7 @@ use Rattle.kern_net.specs.Rounds.{Answers, Denied, IsWorn, IsRefused, Cut, IsUnf
 use Rattle.kern_net.specs.Rounds.{IsDenied, IsCut}
 use Rattle.kern_net.proofs.StreamLemmas.{no_posts, stream-append}
 use Rattle.kern_net.proofs.GrowLemmas.{Grows, posts_grow}
-use Rattle.kern_net.proofs.FetchLemmas.{Gives, gives}
+use Rattle.kern_net.proofs.FetchLemmas.{Gives, gives, reaches}
 
 -- ---- windows
 
@@ -277,7 +277,8 @@ pub went_calls : (route : OutgoingRoute) (b d : OutletState) (f next : ℕ) (end
 went_calls route b d f next ended v w s = (s.turned.entered refl).counted
 
 -- a refusal
-pub denied_by : (c f : ℕ) (v w : PassState Call) (answer : Result Reply KernelFault) (r : Result Batch PumpEnd)
+pub denied_by : (c f : ℕ) (v w : PassState Call) (answer : Result Reply KernelFault)
+    (r : Result Batch PumpEnd)
     → TurnedBy v (Fetch c f) answer w → Answers answer r → IfErr r (Denied c v w f)
 denied_by c f v w answer (Ok b) t e = tt
 denied_by c f v w answer (Err e) t (x, is, same) =
@@ -304,7 +305,8 @@ pub went_longer : (route : OutgoingRoute) (b d : OutletState) (f next : ℕ) (en
     (v w : PassState Call) → Went route f (writer b v) (writer d w) (next, ended)
     → length w.calls ≡ length v.calls + 1
 went_longer route b d f next ended v w s =
-    ap length (went_calls route b d f next ended v w s) ∙ length-append v.calls (Fetch route.connection f ∷ [])
+    ap length (went_calls route b d f next ended v w s)
+    ∙ length-append v.calls (Fetch route.connection f ∷ [])
 
 -- it ended after a whole round
 pub went_done : (route : OutgoingRoute) (a b d : OutletState) (from f next : ℕ) (ended : Bool)
@@ -440,25 +442,34 @@ halted_ends route b d f v w g e o (IsDenied e1 h same n) = denied_ends route.con
 halted_ends route b d f v w g e o (IsCut e1 posts next ended t h) =
     cut_ends route b d w g posts e o h
 
--- a shutdown was seen, and the Fetch moved nothing
+-- the Fetch left no post
+fetched_all : (route : OutgoingRoute) (b d : OutletState) (f next : ℕ) (ended : Bool) (v w : PassState Call)
+    → Went route f (writer b v) (writer d w) (next, ended) → next - f < 64 → FetchedAll route.connection w
+fetched_all route b d f next ended v w s short =
+    let last = last_call v w (Fetch route.connection f) (Ok (reply.Fetched s.posts next ended)) refl
+    s.turned in
+    record {
+      from = f;
+      posts = s.posts;
+      next = next;
+      ended = ended;
+      last = last;
+      all = reaches last.before route.connection f s.posts next ended last.answered short;
+    }
+
+pub went_up : (route : OutgoingRoute) (b d : OutletState) (f next : ℕ) (ended : Bool) (v w : PassState Call)
+    → Went route f (writer b v) (writer d w) (next, ended) → next - f < 64 → HasCaughtUp w next
+unfolding fetched_all
+went_up route b d f next ended v w s short =
+    (route.connection, fetched_all route b d f next ended v w s short, refl)
+
+-- and a shutdown was seen
 pub went_over : (route : OutgoingRoute) (b d : OutletState) (f next : ℕ) (ended : Bool)
-    (v w : PassState Call) (g : WriterPolls) → g.idle.no ≡ 0 → IsWritable d → ended ≡ true → next ≡ f
+    (v w : PassState Call) (g : WriterPolls) → g.idle.no ≡ 0 → IsWritable d → ended ≡ true → next - f < 64
     → Went route f (writer b v) (writer d w) (next, ended) → OutEnds route.connection (writer d w) g end.Ended
-went_over route b d f next ended v w g o n e k s =
-    let answer : Ok (reply.Fetched s.posts next ended) ≡ Ok (reply.Fetched s.posts f true) =
-    ap (λ (i : ℕ). Ok (reply.Fetched s.posts i ended)) k ∙ ap (λ x. Ok (reply.Fetched s.posts f x)) e in
-    let L : Result Reply KernelFault → Type 0 = λ r. LastCall w (Fetch route.connection f) r in (
-      n,
-      inr (
-        o,
-        (
-          f,
-          s.posts,
-          subst L answer (last_call v w (Fetch route.connection f) (Ok (reply.Fetched s.posts next ended))
-              refl s.turned),
-        ),
-      ),
-    )
+unfolding fetched_all
+went_over route b d f next ended v w g o n e short s =
+    (n, inr (o, (fetched_all route b d f next ended v w s short, e)))
 
 pub said_yes : (a b : WriterPolls) (r : Bool) → b.idle ≡ with_answer r a.idle → r ≡ true
     → (times b.idle ≡ times a.idle + 1) × (b.idle.no ≡ a.idle.no)

@@ -1,7 +1,13 @@
 -- What gates were asked, how often each answer came, and how often others were woken by them.
-use Rattle.std.specs.Prelude.{◌≡◌, ℕ, ◌+◌, ◌≤◌, Bool, true, false, length}
+use Rattle.std.specs.Prelude.{◌≡◌, ℕ, ◌+◌, ◌<◌, ◌≤◌, Bool, true, false, length, count_by, List, Ok}
 use Rattle.lab_turn.specs.History.{PassState}
+use Rattle.kern_post.specs.declared.post.Post.{Post}
 use Rattle.kern_core.specs.declared.call.Call.{Call}
+use Rattle.kern_core.specs.declared.call.Call.TheVariants.{Fetch}
+use Rattle.kern_core.specs.declared.call.Reply.TheVariants.{Fetched}
+use Rattle.kern_net.specs.Calls.{LastCall}
+use Rattle.kern_net.specs.Streams.{posts_in}
+use Rattle.kern_net.specs.Wakes.{gives_work, gives_none}
 
 -- how often a question was answered yes, and how often no
 pub record AnswerCounts : Type 0 where
@@ -25,6 +31,7 @@ pub record WorkerPolls : Type 0 where
 -- a reader's
 pub record ReaderPolls : Type 0 where
   pub wakes : ℕ
+  pub tells : ℕ
 
 -- a writer's
 pub record WriterPolls : Type 0 where
@@ -39,6 +46,11 @@ idle_polled answer p = record p { idle = with_answer answer p.idle }
 
 abbrev pub with_wake : WorkerPolls → WorkerPolls
 with_wake p = record p { wakes = p.wakes + 1 }
+
+-- all were woken, or those were told whom a call tells something that gives the worker nothing to do
+abbrev pub rung : Bool → ReaderPolls → ReaderPolls
+rung true p = record p { wakes = p.wakes + 1 }
+rung false p = record p { tells = p.tells + 1 }
 
 -- of a gate that wasn't polled yet, and woke nobody
 abbrev pub unpolled : WorkerPolls
@@ -56,6 +68,26 @@ IsOpen p = (p.before.no ≡ 0) × (p.idle.no ≡ 0)
 abbrev pub PolledForEach : PassState Call → PassState Call → WriterPolls → WriterPolls → Type 0
 PolledForEach old new a b = times b.idle + length old.calls ≤ times a.idle + length new.calls
 
--- others were woken once for each call that was added
+-- all were woken once for each call that was added and may give the worker something to do
 abbrev pub WokeForEach : PassState Call → PassState Call → ReaderPolls → ReaderPolls → Type 0
-WokeForEach old new a b = b.wakes + length old.calls ≡ a.wakes + length new.calls
+WokeForEach old new a b =
+    b.wakes + count_by gives_work old.calls ≡ a.wakes + count_by gives_work new.calls
+
+-- and those whom it concerns were told once for each other
+abbrev pub ToldForEach : PassState Call → PassState Call → ReaderPolls → ReaderPolls → Type 0
+ToldForEach old new a b =
+    b.tells + count_by gives_none old.calls ≡ a.tells + count_by gives_none new.calls
+
+-- The last call of the pass was a Fetch on this connection, and it went on behind the last post that there
+-- was.
+pub record FetchedAll (connection : ℕ) (pass : PassState Call) : Type 0 where
+  pub from : ℕ
+  pub posts : List Post
+  pub next : ℕ
+  pub ended : Bool
+  pub last : LastCall pass (Fetch connection from) (Ok (Fetched posts next ended))
+  pub all : length (posts_in last.before) < next
+
+-- and this is where to go on
+abbrev pub HasCaughtUp : PassState Call → ℕ → Type 0
+HasCaughtUp pass next = (connection : ℕ) × (f : FetchedAll connection pass) × (f.next ≡ next)

@@ -7,4 +7,5 @@ pub mod Reading
 pub mod Rounds
 pub mod Streams
 pub mod Submitting
+pub mod Wakes
 pub mod Work

@@ -12,8 +12,8 @@ use Rattle.kern_core.specs.declared.fault.KernelFault.TheVariants as fault
 use Rattle.kern_net.specs.declared.end.PumpEnd.{PumpEnd}
 use Rattle.kern_net.specs.declared.pump_out.OutgoingRoute.{OutgoingRoute}
 use Rattle.kern_net.specs.declared.end.PumpEnd.TheVariants as end
-use Rattle.kern_net.specs.Gates.{WriterPolls}
-use Rattle.kern_net.specs.Calls.{TurnedBy, LastCall}
+use Rattle.kern_net.specs.Gates.{WriterPolls, FetchedAll}
+use Rattle.kern_net.specs.Calls.{TurnedBy}
 use Rattle.kern_net.specs.Streams.{posts_in, window, IsStreamOf}
 
 -- what is written to, and the pass of the calls that fetch
@@ -21,8 +21,8 @@ pub record Writer : Type 0 where
   pub outlet : OutletState
   pub pass : PassState Call
 
--- These Fetches were made and answered, one turn after the other: the first from this number, each other from where
--- the one before said to go on. The last number is where to go on now.
+-- These Fetches were made and answered, one turn after the other: the first from this number, each other from
+-- where the one before said to go on. The last number is where to go on now.
 pub data FetchedOn (connection from : ℕ) (old : PassState Call) : PassState Call → ℕ → Type 0 where
   NoFetch : FetchedOn connection from old old from
   OneFetch : (mid new : PassState Call) (at next : ℕ) (posts : List Post) (ended : Bool)
@@ -30,8 +30,8 @@ pub data FetchedOn (connection from : ℕ) (old : PassState Call) : PassState Ca
       → TurnedBy mid (Fetch connection at) (Ok (reply.Fetched posts next ended)) new
       → FetchedOn connection from old new next
 
--- What came after them, by the end: nothing, or one Fetch more from where to go on, which was refused so, or for
--- which no turn was had.
+-- What came after them, by the end: nothing, or one Fetch more from where to go on, which was refused so, or
+-- for which no turn was had.
 abbrev pub StopsFetching : ℕ → ℕ → PassState Call → PassState Call → PumpEnd → Type 0
 StopsFetching connection next mid new end.Ended = new ≡ mid
 StopsFetching connection next mid new end.WriteFailed = new ≡ mid
@@ -67,8 +67,8 @@ pub record WroteAll (route : OutgoingRoute) (to to' : OutletState) (posts : List
   pub stream : IsStreamOf route.key.now route.session.now posts bytes
   pub took : Took to to' bytes
 
--- Fetches were made and nothing else, up to the first that was refused; what was written is of the posts to the
--- connection that they reach, in the history that the pass has seen.
+-- Fetches were made and nothing else, up to the first that was refused; what was written is of the posts to
+-- the connection that they reach, in the history that the pass has seen.
 pub record WroteOut (route : OutgoingRoute) (from : ℕ) (old new : Writer) (e : PumpEnd) : Type 0 where
   pub mid : PassState Call
   pub next : ℕ
@@ -80,14 +80,12 @@ pub record WroteOut (route : OutgoingRoute) (from : ℕ) (old new : Writer) (e :
   pub whole : is_whole e ≡ true → WroteAll route old.outlet new.outlet
       (window route.connection from next (posts_in new.pass.seen))
 
--- the last Fetch was answered that a shutdown came, and moved nothing
+-- the last Fetch was answered that a shutdown came, and left no post
 abbrev pub SawEnd : ℕ → PassState Call → Type 0
-SawEnd connection pass =
-    (from : ℕ) × (posts : List Post) × LastCall pass (Fetch connection from)
-    (Ok (reply.Fetched posts from true))
+SawEnd connection pass = (f : FetchedAll connection pass) × (f.ended ≡ true)
 
--- It ended because the gate has said no, once, or a shutdown was seen and all is written; or because the writer
--- failed. At the other ends neither has happened.
+-- It ended because the gate has said no, once, or a shutdown was seen and all is written; or because the
+-- writer failed. At the other ends neither has happened.
 abbrev pub OutEnds : ℕ → Writer → WriterPolls → PumpEnd → Type 0
 OutEnds connection writer polls end.Ended =
     IsWritable writer.outlet

@@ -1,9 +1,10 @@
 //! What holds the worker and the pumps back, and what they wake others by. After a false answer a gate isn't
 //! polled again.
-ghost use Rattle.std.specs.Prelude.{◌≡◌, ◌≤◌, ◌+◌};
+ghost use Rattle.std.specs.Prelude.{◌≡◌, ◌≤◌, true, false};
 ghost use Rattle.kern_net.specs.Gates.{WorkerPolls, ReaderPolls, WriterPolls, with_answer};
-ghost use Rattle.kern_net.specs.Gates.{before_polled, idle_polled, with_wake};
+ghost use Rattle.kern_net.specs.Gates.{before_polled, idle_polled, with_wake, rung, HasCaughtUp};
 
+use kern_desk::seated::Pass;
 use std::sync::Wait;
 
 /// What the worker polls before each Slice and after one that found nothing to do.
@@ -33,12 +34,17 @@ pub trait WorkerGate {
 
 /// What a reader wakes others by.
 pub trait ReaderGate {
-    /// How often `wake` was called.
+    /// How often `wake` and `tell` were called.
     ghost polls: { Self → ReaderPolls };
 
-    /// Wakes those that wait for what a call may have changed.
+    /// Wakes the worker and all writers, after a call that may have given the worker something to do.
     fn wake<R: Wait>(&mut self, rt: &R)
-        ensures { (polls self.new).wakes ≡ (polls self.old).wakes + 1 };
+        ensures { polls self.new ≡ rung true (polls self.old) };
+
+    /// Wakes the writers to whose connections a call of this reader's may have posted that gives the worker
+    /// nothing to do: that of its own connection, and those of iopub.
+    fn tell<R: Wait>(&mut self, rt: &R)
+        ensures { polls self.new ≡ rung false (polls self.old) };
 
     /// Whole seconds since 1970, at most those of 2100-01-01T00:00:00Z: a later clock counts as that.
     fn unix_seconds<R: Wait>(&mut self, rt: &R) -> u64
@@ -51,7 +57,9 @@ pub trait WriterGate {
     /// How often `idle` has answered yes and no.
     ghost polls: { Self → WriterPolls };
 
-    /// Waits until something may have been posted, and tells whether to go on.
-    fn idle<R: Wait>(&mut self, rt: &R) -> bool
+    /// Waits until something may have been posted, and tells whether to go on. By the pass all was fetched that
+    /// was posted below this number, and then there was no other post.
+    fn idle<R: Wait>(&mut self, rt: &R, pass: &Pass, next: u64) -> bool
+        requires { HasCaughtUp pass.now next }
         ensures { (polls self.new).idle ≡ with_answer result (polls self.old).idle };
 }

@@ -3,7 +3,9 @@
 // `pump_out` writes the posts to a connection, in order, none left out; `worker` makes the kernel go on by
 // slices and does nothing else. Each ends only for its cause, a `PumpEnd`.
 // Three gates say whether to go on, wait, and wake others; contracts see how often they were polled and what
-// they answered. All of it holds however many threads share the desk.
+// they answered. A reader wakes all after a call that may give the worker something to do; after another it
+// tells those to whom that may have posted. A writer waits only where it has fetched all.
+// All of it holds however many threads share the desk.
 #![tactic(auto)]
 
 pub mod end;
@@ -13,4 +15,5 @@ pub mod pump_out;
 pub mod stream;
 mod submitting;
 pub mod tally;
+mod wakes;
 pub mod worker;

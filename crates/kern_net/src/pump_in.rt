@@ -3,7 +3,7 @@ ghost use Rattle.std.specs.Prelude.{◌≡◌};
 ghost use Rattle.base_streams.specs.States.{IsReadable};
 ghost use Rattle.zmtp_wire.specs.declared.fault.StreamFault.{StreamFault};
 ghost use Rattle.kern_net.specs.declared.end.PumpEnd.TheVariants as pump;
-ghost use Rattle.kern_net.specs.Gates.{WokeForEach};
+ghost use Rattle.kern_net.specs.Gates.{WokeForEach, ToldForEach};
 ghost use Rattle.kern_net.specs.Reading.{SubmittedFor, PieceSubmitted, ReadOut};
 
 use crate::end::PumpEnd;
@@ -43,6 +43,7 @@ fn submit_all<R: Wait, G: ReaderGate>(
     requires { pass.old.turnstile ≡ route.now.desk.now }
     ensures same { (pass.new.turnstile ≡ route.now.desk.now) × (pass.new.seat ≡ pass.old.seat) }
     ensures woke { WokeForEach pass.old pass.new (G.polls gate.old) (G.polls gate.new) }
+    ensures told { ToldForEach pass.old pass.new (G.polls gate.old) (G.polls gate.new) }
     ensures submitted { SubmittedFor route.now messages pass.old pass.new result }
 {
     for frames in messages.into_vec() {
@@ -67,6 +68,7 @@ fn take_piece<R: Wait, G: ReaderGate>(
     requires { pass.old.turnstile ≡ route.now.desk.now }
     ensures same { (pass.new.turnstile ≡ route.now.desk.now) × (pass.new.seat ≡ pass.old.seat) }
     ensures woke { WokeForEach pass.old pass.new (G.polls gate.old) (G.polls gate.new) }
+    ensures told { ToldForEach pass.old pass.new (G.polls gate.old) (G.polls gate.new) }
     ensures submitted { PieceSubmitted route.now piece.now (record { decoder = decoder.old; pass = pass.old })
         (record { decoder = decoder.new; pass = pass.new }) result }
 {
@@ -104,6 +106,7 @@ pub fn pump_in<R: Wait, I: Inlet, G: ReaderGate>(
     requires readable { IsReadable (I.state from.old) }
     ensures same { (pass.new.turnstile ≡ route.now.desk.now) × (pass.new.seat ≡ pass.old.seat) }
     ensures woke { WokeForEach pass.old pass.new (G.polls gate.old) (G.polls gate.new) }
+    ensures told { ToldForEach pass.old pass.new (G.polls gate.old) (G.polls gate.new) }
     ensures read { ReadOut route.now peer (record { inlet = I.state from.old; pass = pass.old })
         (record { inlet = I.state from.new; pass = pass.new }) result }
 {

@@ -17,6 +17,7 @@ use kern_core::call::{Call, Reply};
 use kern_core::fault::KernelFault;
 use kern_desk::seated::{Desk, Pass};
 use kern_post::post::{Post, Posts};
+use kern_post::store::FETCHED_AT_ONCE;
 use std::alloc::Global;
 use std::sync::Wait;
 
@@ -31,6 +32,9 @@ pub struct OutgoingRoute<'a> {
     /// The session's name in the headers.
     pub session: &'a str,
 }
+
+/// How far a Fetch goes that leaves posts.
+pub const NUMBERS_OF_A_FETCH: u64 = FETCHED_AT_ONCE as u64;
 
 // What a Fetch gave: posts, where to go on, and whether a shutdown came.
 struct Batch {
@@ -132,7 +136,7 @@ fn fetch_on<R: Wait, W: Outlet>(
 
 /// Writes the posts that go to a connection, from a number on, each once and in order, until the gate
 /// says no, a shutdown was seen and all is written, a turn is refused, the writer fails or memory is
-/// wanting. Where a Fetch moved nothing it polls `idle`.
+/// wanting. Where a Fetch left no post it polls `idle`, and makes no other before that.
 ///
 /// It may wait, or never end, as its gate does.
 pub fn pump_out<R: Wait, W: Outlet, G: WriterGate>(
@@ -159,11 +163,11 @@ pub fn pump_out<R: Wait, W: Outlet, G: WriterGate>(
         match fetch_on(rt, alloc, pass, to, route, next) {
             Err(end) => return end,
             Ok((after, ended)) => {
-                if after == next {
+                if after.saturating_sub(next) < NUMBERS_OF_A_FETCH {
                     if ended {
                         return PumpEnd::Ended;
                     }
-                    if !gate.idle(rt) {
+                    if !gate.idle(rt, pass, after) {
                         return PumpEnd::Ended;
                     }
                 }

@@ -9,7 +9,7 @@ ghost use Rattle.kern_request.specs.Requests.{request_of as request_in};
 ghost use Rattle.kern_core.specs.declared.call.Call.TheVariants.{Arrive, Subscribe};
 ghost use Rattle.kern_core.specs.declared.call.Reply.{Reply};
 ghost use Rattle.kern_net.specs.Calls.{TurnedBy};
-ghost use Rattle.kern_net.specs.Gates.{WokeForEach};
+ghost use Rattle.kern_net.specs.Gates.{rung, WokeForEach, ToldForEach};
 ghost use Rattle.kern_net.specs.Submitting.{subscription_frames, IsUnopened, IsNoSubscription};
 ghost use Rattle.kern_net.specs.ReadEnds.{IsReaderCall, IsRefusal, StopsBy};
 ghost use Rattle.kern_net.specs.Reading.{SubmittedFor};
@@ -17,6 +17,7 @@ ghost use Rattle.kern_net.specs.Reading.{SubmittedFor};
 use crate::end::PumpEnd;
 use crate::gate::ReaderGate;
 use crate::pump_in::IncomingRoute;
+use crate::wakes::gives_work;
 use base_text::sequence::{Bytes, Frames};
 use jup_wire::channel::Channel;
 use jup_wire::message::{Message, WireFault};
@@ -40,8 +41,19 @@ fn refusal(answer: Result<Reply, KernelFault>) -> Result<(), KernelFault>
     }
 }
 
-// Makes one turn, and wakes others where its call stands in the journal.
-#[tactic(auto, using(crate::proofs::ReadTurnLemmas::stops_full, crate::proofs::ReadTurnLemmas::stops_unknown, crate::proofs::ReadTurnLemmas::stops_journal_full, crate::proofs::ReadTurnLemmas::never_lagged, crate::proofs::ReadTurnLemmas::call_granted, crate::proofs::ReadTurnLemmas::worn_onward, crate::proofs::ReadTurnLemmas::refuses_worn, crate::proofs::ReadTurnLemmas::refuses_memory, crate::proofs::ReadTurnLemmas::refuses_journal_full, crate::proofs::ReadTurnLemmas::refuses_full, crate::proofs::ReadTurnLemmas::refuses_unknown, crate::proofs::CallLemmas::turned_prefix))]
+// Wakes all, or tells those whom a call concerns that gives the worker nothing to do.
+fn ring<R: Wait, G: ReaderGate>(rt: &R, gate: &mut G, has_work: bool)
+    ensures { G.polls gate.new ≡ rung has_work (G.polls gate.old) }
+{
+    if has_work {
+        gate.wake(rt);
+    } else {
+        gate.tell(rt);
+    }
+}
+
+// Makes one turn, and rings where its call stands in the journal.
+#[tactic(auto, using(crate::proofs::RingLemmas::woke_by, crate::proofs::RingLemmas::told_by, crate::proofs::RingLemmas::woke_not, crate::proofs::RingLemmas::told_not, crate::proofs::ReadTurnLemmas::stops_full, crate::proofs::ReadTurnLemmas::stops_unknown, crate::proofs::ReadTurnLemmas::stops_journal_full, crate::proofs::ReadTurnLemmas::never_lagged, crate::proofs::ReadTurnLemmas::call_granted, crate::proofs::ReadTurnLemmas::worn_onward, crate::proofs::ReadTurnLemmas::refuses_worn, crate::proofs::ReadTurnLemmas::refuses_memory, crate::proofs::ReadTurnLemmas::refuses_journal_full, crate::proofs::ReadTurnLemmas::refuses_full, crate::proofs::ReadTurnLemmas::refuses_unknown, crate::proofs::CallLemmas::turned_prefix))]
 fn make_call<R: Wait, G: ReaderGate>(
     rt: &R,
     desk: &Desk,
@@ -53,28 +65,30 @@ fn make_call<R: Wait, G: ReaderGate>(
     requires read { IsReaderCall call }
     ensures same { (pass.new.turnstile ≡ desk.now) × (pass.new.seat ≡ pass.old.seat) }
     ensures woke { WokeForEach pass.old pass.new (G.polls gate.old) (G.polls gate.new) }
+    ensures told { ToldForEach pass.old pass.new (G.polls gate.old) (G.polls gate.new) }
     ensures ok { OnOk result ((reply : Reply) × TurnedBy pass.old call (Ok reply) pass.new) }
     ensures err { IfErr result (λ e. StopsBy e pass.old.calls pass.new) }
     ensures onward { OnErr result (IsPrefix pass.old.seen pass.new.seen) }
     ensures counted { IfErr result (λ e. (pass.new.calls ≡ pass.old.calls)
         ⊎ (IsRefusal e × (pass.new.calls ≡ pass.old.calls ++ call ∷ []))) }
 {
+    let has_work = gives_work(&call);
     let Ok(answer) = desk.turn(rt, pass, call) else {
         return Err(PumpEnd::Worn);
     };
     match refusal(answer) {
         Ok(()) => {
-            gate.wake(rt);
+            ring(rt, gate, has_work);
             Ok(())
         }
         Err(KernelFault::OutOfMemory) => Err(PumpEnd::OutOfMemory),
         Err(KernelFault::JournalFull) => Err(PumpEnd::JournalFull),
         Err(KernelFault::Full) => {
-            gate.wake(rt);
+            ring(rt, gate, has_work);
             Err(PumpEnd::Refused(KernelFault::Full))
         }
         Err(KernelFault::NoConnection) => {
-            gate.wake(rt);
+            ring(rt, gate, has_work);
             Err(PumpEnd::Refused(KernelFault::NoConnection))
         }
         Err(KernelFault::Lagged { .. }) => Err(PumpEnd::Lagged),
@@ -82,13 +96,13 @@ fn make_call<R: Wait, G: ReaderGate>(
 }
 
 /// A subscription, or the end of one.
-struct Wanted<'a> {
+struct Wish<'a> {
     wants: bool,
     prefix: &'a [u8],
 }
 
 // What the frames want, if they are those of a subscription or of the end of one.
-fn wanted_in(frames: &Frames) -> Option<Wanted<'_>>
+fn wish_in(frames: &Frames) -> Option<Wish<'_>>
     ensures some { IfSome result (λ w. frames.now ≡ subscription_frames w.wants w.prefix.now) }
     ensures none { IfNone result (IsNoSubscription frames.now) }
 {
@@ -99,11 +113,11 @@ fn wanted_in(frames: &Frames) -> Option<Wanted<'_>>
         return None;
     };
     match *mark {
-        1 => Some(Wanted {
+        1 => Some(Wish {
             wants: true,
             prefix,
         }),
-        0 => Some(Wanted {
+        0 => Some(Wish {
             wants: false,
             prefix,
         }),
@@ -190,9 +204,10 @@ fn subscribe<R: Wait, G: ReaderGate>(
     requires iopub { route.now.channel ≡ Iopub }
     ensures same { (pass.new.turnstile ≡ route.now.desk.now) × (pass.new.seat ≡ pass.old.seat) }
     ensures woke { WokeForEach pass.old pass.new (G.polls gate.old) (G.polls gate.new) }
+    ensures told { ToldForEach pass.old pass.new (G.polls gate.old) (G.polls gate.new) }
     ensures submitted { SubmittedFor route.now (frames.now ∷ []) pass.old pass.new result }
 {
-    let Some(Wanted { wants, prefix }) = wanted_in(frames) else {
+    let Some(Wish { wants, prefix }) = wish_in(frames) else {
         return Ok(());
     };
     let unix_seconds = gate.unix_seconds(rt);
@@ -218,6 +233,7 @@ fn arrive<R: Wait, G: ReaderGate>(
     requires other { route.now.channel ≡ Iopub → ⊥ }
     ensures same { (pass.new.turnstile ≡ route.now.desk.now) × (pass.new.seat ≡ pass.old.seat) }
     ensures woke { WokeForEach pass.old pass.new (G.polls gate.old) (G.polls gate.new) }
+    ensures told { ToldForEach pass.old pass.new (G.polls gate.old) (G.polls gate.new) }
     ensures submitted { SubmittedFor route.now (frames ∷ []) pass.old pass.new result }
 {
     match message_in(alloc, frames, route.key) {
@@ -248,6 +264,7 @@ pub(crate) fn submit<R: Wait, G: ReaderGate>(
     requires { pass.old.turnstile ≡ route.now.desk.now }
     ensures same { (pass.new.turnstile ≡ route.now.desk.now) × (pass.new.seat ≡ pass.old.seat) }
     ensures woke { WokeForEach pass.old pass.new (G.polls gate.old) (G.polls gate.new) }
+    ensures told { ToldForEach pass.old pass.new (G.polls gate.old) (G.polls gate.new) }
     ensures submitted { SubmittedFor route.now (frames ∷ []) pass.old pass.new result }
 {
     if route.channel == Channel::Iopub {

@@ -33,11 +33,11 @@ const COMMAND: Course = Course::Met(PumpEnd::Wire(StreamFault::Command), PumpEnd
 const ROWS: [Row; 22] = [
     // A handshake and nothing else: three Fetches, after the last of which the gate says no.
     (Shell, &[Dealer], BOTH_END, 94, "JFFF"),
-    // One request: a Fetch that gives its reply, and three that give nothing.
-    (Shell, &[Dealer, Unsigned, Info], BOTH_END, 572, "JAFFFF"),
+    // One request: a Fetch that gives its reply, and two that give nothing.
+    (Shell, &[Dealer, Unsigned, Info], BOTH_END, 572, "JAFFF"),
     // Subscriptions, one that is taken back, and what is none.
-    (Subscriber, &[Sub, WantsAll], BOTH_END, 266, "JUFFFF"),
-    (Subscriber, &[Sub, WantsStatus], BOTH_END, 266, "JUFFFF"),
+    (Subscriber, &[Sub, WantsAll], BOTH_END, 266, "JUFFF"),
+    (Subscriber, &[Sub, WantsStatus], BOTH_END, 266, "JUFFF"),
     (Subscriber, &[Sub, WantsStream], BOTH_END, 91, "JUFFF"),
     (Subscriber, &[Sub, WantsNoMore], BOTH_END, 91, "JUFFF"),
     (Subscriber, &[Sub, NoSubscription], BOTH_END, 91, "JFFF"),
@@ -48,7 +48,7 @@ const ROWS: [Row; 22] = [
         &[Sub, NoSubscription, WantsAll],
         BOTH_END,
         266,
-        "JUFFFF",
+        "JUFFF",
     ),
     // Broken streams. A message before what breaks the stream is asked for, also where they come in one
     // piece with READY.
@@ -61,27 +61,27 @@ const ROWS: [Row; 22] = [
         &[Dealer, Unsigned, Info, BadFlags, Unsigned, Info],
         FLAGS,
         572,
-        "JAFFFF",
+        "JAFFF",
     ),
     // What isn't signed with the key, or is no message, makes no turn, and the connection goes on.
     (Signing, &[Dealer, Example], BOTH_END, 94, "JFFF"),
     (Signing, &[Dealer, ForgedExample], BOTH_END, 94, "JFFF"),
     (Signing, &[Dealer, Forged, Info], BOTH_END, 94, "JFFF"),
     (Signing, &[Dealer, Unsigned, Info], BOTH_END, 94, "JFFF"),
-    (Signing, &[Dealer, Signed, Info], BOTH_END, 572, "JAFFFF"),
+    (Signing, &[Dealer, Signed, Info], BOTH_END, 572, "JAFFF"),
     (
         Signing,
         &[Dealer, Forged, Info, Example, Signed, Info],
         BOTH_END,
         572,
-        "JAFFFF",
+        "JAFFF",
     ),
     (
         Signing,
         &[Dealer, Signed, Info, Forged, Info, Unsigned, Info],
         BOTH_END,
         572,
-        "JAFFFF",
+        "JAFFF",
     ),
 ];
 
@@ -106,7 +106,7 @@ const JOURNALS: [(u32, Course, usize, &str); 6] = [
     (3, WRITER_FULL, 94, "JAA"),
     (4, WRITER_FULL, 1050, "JAAF"),
     (5, WRITER_FULL, 1050, "JAAFF"),
-    (7, BOTH_END, 1050, "JAAFFFF"),
+    (6, BOTH_END, 1050, "JAAFFF"),
 ];
 
 /// A conversation must have gone so in a row of a test.

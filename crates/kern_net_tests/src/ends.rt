@@ -5,7 +5,7 @@ use crate::conversations::expect_told;
 use crate::gates::{InGate, OutGate, WorkGate};
 use crate::messages::{Part, TWO};
 use crate::rows::expect_at;
-use crate::table::{Table, open_table};
+use crate::table::{Table, open_table, unsigned_origin};
 use crate::talks::{AMPLE, BOTH_END, Client, read_as, talk_at};
 use crate::texts::count_of;
 use base_streams::memory::Sink;
@@ -38,7 +38,7 @@ fn check_work<R: Wait + Abort>(rt: &R, alloc: Global, row: Work, place: usize) {
     let end = table.work(rt, &mut gate);
     let is_called = table.is_told(rt, alloc, calls);
     expect_at(rt, end == wanted, "another end", place, 0);
-    expect_at(rt, gate.told() == said, "polled otherwise", place, 0);
+    expect_at(rt, gate.answers() == said, "polled otherwise", place, 0);
     let wakes = gate.polls.wakes();
     expect_at(rt, wakes == calls.len() as u64, "wakes", place, wakes);
     expect_at(rt, is_called, "other calls", place, 0);
@@ -53,7 +53,8 @@ fn work_without_requests(rt: HostRuntime) {
 
 const REQUEST: &[Part] = &[Part::Dealer, Part::Unsigned, Part::Info];
 
-fn has_ended(read: Result<PumpEnd, PeerFault>, wanted: PumpEnd) -> bool {
+/// Whether a peer was met and reading ended so.
+pub fn has_ended(read: Result<PumpEnd, PeerFault>, wanted: PumpEnd) -> bool {
     match read {
         Ok(end) => end == wanted,
         Err(_) => false,
@@ -62,8 +63,9 @@ fn has_ended(read: Result<PumpEnd, PeerFault>, wanted: PumpEnd) -> bool {
 
 // Connection 1 makes a request.
 fn ask<R: Wait + Abort>(rt: &R, alloc: Global, table: &mut Table, given: &[Part]) {
-    let mut gate = InGate { wakes: 0 };
-    let end = read_as(rt, alloc, table, &mut gate, 1, given);
+    let mut gate = InGate::new();
+    let origin = unsigned_origin(Channel::Shell, 1);
+    let end = read_as(rt, alloc, table, &mut gate, origin, given);
     let has_ended = has_ended(end, PumpEnd::PeerEnded);
     expect_at(rt, has_ended, "another end of a request", 0, 0);
 }
@@ -102,7 +104,7 @@ fn write_from<R: Wait>(
     let end = table.write(rt, alloc, &mut gate, &mut to, connection, from);
     let wrote = Wrote {
         end,
-        said: gate.told(),
+        said: gate.answers(),
         bytes: to.as_slice().len(),
         replies: count_of(to.as_slice(), b"<IDS|MSG>"),
         first: count_of(to.as_slice(), b"\"S_4034\""),
@@ -151,7 +153,7 @@ fn check_starts<R: Wait + Abort>(rt: &R, alloc: Global, table: &mut Table) {
 // which the first is gone. Posts that are gone end the writing; those that are kept are all written, 64
 // numbers a Fetch.
 #[test]
-fn lagged(rt: HostRuntime) {
+fn posts_that_are_gone(rt: HostRuntime) {
     let mut table = open_table(&rt, rt.alloc(), MOST_ENTRIES);
     ask_often(&rt, rt.alloc(), &mut table, 1365);
     ask(
@@ -171,32 +173,20 @@ const REFUSED: PumpEnd = PumpEnd::Refused(KernelFault::NoConnection);
 fn no_connection(rt: HostRuntime) {
     let mut table = open_table(&rt, rt.alloc(), MOST_ENTRIES);
     let wrote = write_from(&rt, rt.alloc(), &mut table, 9, 1);
-    let mut gate = InGate { wakes: 0 };
-    let end = read_as(&rt, rt.alloc(), &mut table, &mut gate, 9, TWO);
+    let mut gate = InGate::new();
+    let origin = unsigned_origin(Channel::Shell, 9);
+    let end = read_as(&rt, rt.alloc(), &mut table, &mut gate, origin, TWO);
     let is_called = table.is_told(&rt, rt.alloc(), "FA");
     expect_at(&rt, wrote.end == REFUSED, "another end of writing", 0, 0);
     expect_at(&rt, wrote.said == [0, 0], "polled", 0, 0);
     expect_at(&rt, wrote.bytes == 0, "bytes", 0, wrote.bytes as u64);
     expect_at(&rt, has_ended(end, REFUSED), "another end of reading", 0, 0);
-    expect_at(&rt, gate.wakes == 1, "wakes", 0, gate.wakes);
+    expect_at(&rt, gate.wakes == 0, "wakes", 0, gate.wakes);
+    expect_at(&rt, gate.tells == 1, "tells", 0, gate.tells);
     expect_at(&rt, is_called, "other calls", 0, 0);
 }
 
-// Reading wakes the others after each call.
-#[test]
-fn wakes(rt: HostRuntime) {
-    let mut table = open_table(&rt, rt.alloc(), MOST_ENTRIES);
-    let connection = table.join(&rt, rt.alloc(), Channel::Shell);
-    let mut gate = InGate { wakes: 0 };
-    let end = read_as(&rt, rt.alloc(), &mut table, &mut gate, connection, TWO);
-    let is_called = table.is_told(&rt, rt.alloc(), "JAA");
-    expect_at(&rt, is_called, "other calls", 0, 0);
-    let has_ended = has_ended(end, PumpEnd::PeerEnded);
-    expect_at(&rt, has_ended, "another end", 0, 0);
-    expect_at(&rt, gate.wakes == 2, "wakes", 0, gate.wakes);
-}
-
-// After a shutdown the writer writes what is left and ends, and the worker ends after one slice. Neither
+// After a shutdown the writer writes what is left by one Fetch and ends, and the worker ends after one slice. Neither
 // gate is polled by `idle`. The replies have 478 and 238 bytes, behind the 94 of the handshake.
 #[test]
 fn shut_down(rt: HostRuntime) {
@@ -211,9 +201,9 @@ fn shut_down(rt: HostRuntime) {
     let told = talk_at(&rt, rt.alloc(), &mut table, Client::Closing, &given, AMPLE);
     let mut gate = WorkGate::new(99, 99);
     let end = table.work(&rt, &mut gate);
-    let is_called = table.is_told(&rt, rt.alloc(), "JAAFFS");
+    let is_called = table.is_told(&rt, rt.alloc(), "JAAFS");
     expect_told(&rt, told, BOTH_END, 810, 0);
     expect_at(&rt, is_called, "other calls", 0, 0);
     expect_at(&rt, end == PumpEnd::Ended, "another end", 0, 0);
-    expect_at(&rt, gate.told() == [1, 0, 0, 0], "polled", 0, 0);
+    expect_at(&rt, gate.answers() == [1, 0, 0, 0], "polled", 0, 0);
 }

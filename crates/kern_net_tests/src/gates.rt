@@ -2,6 +2,7 @@
 ghost use Rattle.std.specs.Prelude.{◌≡◌};
 ghost use Rattle.kern_net.specs.Gates.{unpolled};
 
+use kern_desk::seated::Pass;
 use kern_net::gate::{ReaderGate, WorkerGate, WriterGate};
 use kern_net::tally::{Tally, WorkerTally, one_more};
 use std::sync::Wait;
@@ -30,7 +31,7 @@ impl WorkGate {
     }
 
     /// How often `before` said yes and no, and `idle` yes and no.
-    pub fn told(&self) -> [u64; 4] {
+    pub fn answers(&self) -> [u64; 4] {
         let (before, idle) = (self.polls.before(), self.polls.idle());
         [before.yes(), before.no(), idle.yes(), idle.no()]
     }
@@ -63,15 +64,27 @@ impl WorkerGate for WorkGate {
 /// A reader's gate.
 #[derive(Drop)]
 pub struct InGate {
-    /// How often it woke others.
+    /// How often it woke all, and told those whom a call concerned.
     pub wakes: u64,
+    pub tells: u64,
+}
+
+impl InGate {
+    /// A gate that woke nobody.
+    pub fn new() -> InGate {
+        InGate { wakes: 0, tells: 0 }
+    }
 }
 
 impl ReaderGate for InGate {
-    ghost polls = { λ g. record { wakes = g.wakes } };
+    ghost polls = { λ g. record { wakes = g.wakes; tells = g.tells } };
 
     fn wake<R: Wait>(&mut self, rt: &R) {
         self.wakes = one_more(rt, self.wakes);
+    }
+
+    fn tell<R: Wait>(&mut self, rt: &R) {
+        self.tells = one_more(rt, self.tells);
     }
 
     fn unix_seconds<R: Wait>(&mut self, _rt: &R) -> u64 {
@@ -98,7 +111,7 @@ impl OutGate {
     }
 
     /// How often `idle` said yes and no.
-    pub fn told(&self) -> [u64; 2] {
+    pub fn answers(&self) -> [u64; 2] {
         [self.idle.yes(), self.idle.no()]
     }
 }
@@ -106,7 +119,7 @@ impl OutGate {
 impl WriterGate for OutGate {
     ghost polls = { λ g. record { idle = g.idle } };
 
-    fn idle<R: Wait>(&mut self, rt: &R) -> bool {
+    fn idle<R: Wait>(&mut self, rt: &R, _pass: &Pass, _next: u64) -> bool {
         let said = self.idle.yes() < self.idles;
         self.idle.add(rt, said);
         said

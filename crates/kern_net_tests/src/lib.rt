@@ -15,6 +15,8 @@ mod gates;
 #[cfg(test)]
 mod messages;
 #[cfg(test)]
+mod rings;
+#[cfg(test)]
 mod rows;
 #[cfg(test)]
 mod table;

@@ -43,6 +43,24 @@ const UNKNOWN: &[u8] =
     b"\x01\x3B{\"msg_id\":\"r_3\",\"msg_type\":\"unknown_request\",\"session\":\"r\"}\
     \x01\x02{}\x01\x02{}\0\x02{}";
 
+// The same of an execute_request, of an interrupt_request, and of a debug_request for the threads and for a
+// reset of the board.
+const EXECUTE: &[u8] =
+    b"\x01\x3B{\"msg_id\":\"r_4\",\"msg_type\":\"execute_request\",\"session\":\"r\"}\
+    \x01\x02{}\x01\x02{}\0\x0B{\"code\":\"\"}";
+
+const INTERRUPT: &[u8] =
+    b"\x01\x3D{\"msg_id\":\"r_5\",\"msg_type\":\"interrupt_request\",\"session\":\"r\"}\
+    \x01\x02{}\x01\x02{}\0\x02{}";
+
+const THREADS: &[u8] =
+    b"\x01\x39{\"msg_id\":\"r_6\",\"msg_type\":\"debug_request\",\"session\":\"r\"}\
+    \x01\x02{}\x01\x02{}\0\x2E{\"command\":\"threads\",\"seq\":1,\"type\":\"request\"}";
+
+const BOARD_RESET: &[u8] =
+    b"\x01\x39{\"msg_id\":\"r_7\",\"msg_type\":\"debug_request\",\"session\":\"r\"}\
+    \x01\x02{}\x01\x02{}\0\x31{\"command\":\"boardReset\",\"seq\":1,\"type\":\"request\"}";
+
 /// The key of RFC 2104's second example.
 pub const KEY: &[u8] = b"Jefe";
 
@@ -104,6 +122,10 @@ pub enum Part {
     Info,
     Shutdown,
     Unknown,
+    Execute,
+    Interrupt,
+    Threads,
+    BoardReset,
     Example,
     ForgedExample,
     Signed,
@@ -139,6 +161,10 @@ impl Part {
             Part::Info => INFO,
             Part::Shutdown => SHUTDOWN,
             Part::Unknown => UNKNOWN,
+            Part::Execute => EXECUTE,
+            Part::Interrupt => INTERRUPT,
+            Part::Threads => THREADS,
+            Part::BoardReset => BOARD_RESET,
             Part::Example => EXAMPLE,
             Part::ForgedExample => FORGED_EXAMPLE,
             Part::Signed => SIGNED,

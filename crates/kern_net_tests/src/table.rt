@@ -56,6 +56,15 @@ pub struct Origin<'a> {
     pub key: &'a [u8],
 }
 
+/// A connection of this number on a channel, whose messages aren't signed.
+pub fn unsigned_origin(channel: Channel, connection: u32) -> Origin<'static> {
+    Origin {
+        connection,
+        channel,
+        key: b"",
+    }
+}
+
 /// A desk with two passes.
 #[derive(Drop)]
 pub struct Table {

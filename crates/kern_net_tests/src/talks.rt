@@ -63,13 +63,6 @@ impl Client {
         }
     }
 
-    fn role(self) -> Role {
-        match self {
-            Client::Subscriber => Role::Pub,
-            _ => Role::Router,
-        }
-    }
-
     fn key(self) -> &'static [u8] {
         match self {
             Client::Signing => KEY,
@@ -78,7 +71,7 @@ impl Client {
     }
 
     // What the kernel writes to it: no more than this, and less if less is asked or something fails.
-    fn wanted(self) -> &'static [Part] {
+    fn replies(self) -> &'static [Part] {
         match self {
             Client::Closing => CLOSED,
             Client::Subscriber => SUBSCRIBED,
@@ -129,7 +122,7 @@ fn course_of<R: Wait + Abort>(
     requires failed { from.old.failed ≡ false }
     requires good { to.old.failed ≡ false }
 {
-    let peer = match handshake(alloc, from, to, client.role()) {
+    let peer = match handshake(alloc, from, to, role_on(client.channel())) {
         Ok(peer) => peer,
         Err(fault) => return Course::Unmet(fault),
     };
@@ -139,7 +132,7 @@ fn course_of<R: Wait + Abort>(
         channel: client.channel(),
         key: client.key(),
     };
-    let mut gate = InGate { wakes: 0 };
+    let mut gate = InGate::new();
     let read = table.read(rt, alloc, &mut gate, from, peer, origin);
     let mut gate = OutGate::new(2);
     let wrote = table.write(rt, alloc, &mut gate, to, connection, 1);
@@ -161,19 +154,26 @@ pub fn talk_at<R: Wait + Abort>(
     let told = Told {
         course,
         written: to.as_slice().len(),
-        is_front: is_front(to.as_slice(), client.wanted()),
+        is_front: is_front(to.as_slice(), client.replies()),
     };
     drop(from);
     drop(to);
     told
 }
 
-fn read_met<R: Wait + Abort>(
+fn role_on(channel: Channel) -> Role {
+    match channel {
+        Channel::Iopub => Role::Pub,
+        Channel::Shell | Channel::Stdin | Channel::Control => Role::Router,
+    }
+}
+
+fn read_met<R: Wait>(
     rt: &R,
     alloc: Global,
     table: &mut Table,
     gate: &mut InGate,
-    connection: u32,
+    origin: Origin<'_>,
     from: &mut Source,
     to: &mut Sink,
 ) -> Result<PumpEnd, PeerFault>
@@ -181,30 +181,24 @@ fn read_met<R: Wait + Abort>(
     requires failed { from.old.failed ≡ false }
     requires good { to.old.failed ≡ false }
 {
-    let origin = Origin {
-        connection,
-        channel: Channel::Shell,
-        key: b"",
-    };
-    match handshake(alloc, from, to, Role::Router) {
+    match handshake(alloc, from, to, role_on(origin.channel)) {
         Ok(peer) => Ok(table.read(rt, alloc, gate, from, peer, origin)),
         Err(fault) => Err(fault),
     }
 }
 
-/// How reading from a connection of this number ends, at a gate, or why the handshake isn't made. Nothing
-/// else is written.
+/// How reading ends at a gate, or why the handshake isn't made. Nothing else is written.
 pub fn read_as<R: Wait + Abort>(
     rt: &R,
     alloc: Global,
     table: &mut Table,
     gate: &mut InGate,
-    connection: u32,
+    origin: Origin<'_>,
     given: &[Part],
 ) -> Result<PumpEnd, PeerFault> {
     let mut from = Source::new(bytes_of(rt, alloc, given), 4096, 9999);
     let mut to = Sink::new(alloc, 4096, 9999);
-    let end = read_met(rt, alloc, table, gate, connection, &mut from, &mut to);
+    let end = read_met(rt, alloc, table, gate, origin, &mut from, &mut to);
     drop(from);
     drop(to);
     end

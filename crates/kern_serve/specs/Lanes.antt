@@ -11,5 +11,5 @@ AreOf desk seats = (seats.first.turnstile ≡ desk) × (seats.second.turnstile �
 
 -- the passes of a task, if it has any, are of this desk
 abbrev pub IsOf : TurnstileState → Task → Type 0
-IsOf desk (Lane channel seats) = AreOf desk seats
+IsOf desk (Lane place seats) = AreOf desk seats
 IsOf desk Beats = Unit {0}

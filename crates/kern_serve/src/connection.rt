@@ -2,7 +2,7 @@
 ghost use Rattle.std.specs.Prelude.{◌≡◌};
 ghost use Rattle.kern_serve.specs.Lanes.{AreOf};
 
-use crate::bell::Bell;
+use crate::bell::{Bell, Place};
 use crate::gates::{InGate, OutGate};
 use crate::host::Host;
 use crate::listeners::Listeners;
@@ -20,7 +20,6 @@ use kern_desk::seated::{Desk, Pass};
 use kern_net::end::PumpEnd;
 use kern_net::pump_in::{IncomingRoute, pump_in};
 use kern_net::pump_out::{OutgoingRoute, pump_out};
-use kern_net::tally::Tally;
 use std::alloc::{AllocError, Global};
 use std::net::TcpStream;
 use std::rt::Clock;
@@ -48,11 +47,11 @@ pub struct Seats {
     pub second: Pass,
 }
 
-// The two ends of a connection: its number and channel, its socket, and whether its reader has closed it.
+// The two ends of a connection: its number and place, its socket, and whether its reader has closed it.
 #[derive(Drop)]
 struct Ends {
     connection: u32,
-    channel: Channel,
+    place: Place,
     stream: TcpStream,
     is_closed: AtomicBool,
 }
@@ -73,26 +72,29 @@ fn read_on<R: Wait + Clock>(
         return pass;
     };
     let bell = &shared.bell;
+    let own = bell.spot(ends.place);
     let mut gate = InGate {
         bell,
+        own,
         clock: rt,
         wakes: 0,
+        tells: 0,
     };
     let mut from = StdInlet::new(&ends.stream);
     let route = IncomingRoute {
         desk: &shared.desk,
         connection: ends.connection,
-        channel: ends.channel,
+        channel: ends.place.channel,
         key: shared.key.as_str().as_bytes(),
     };
     let end = pump_in(rt, alloc, &mut pass, &mut gate, &mut from, peer, &route);
     if end == PumpEnd::JournalFull {
-        bell.wake_worker(rt);
+        bell.wake_all();
         return pass;
     }
     ends.is_closed.store(true, Ordering::SeqCst);
     close(&ends.stream);
-    bell.wake_writers(rt);
+    own.ring();
     pass
 }
 
@@ -109,13 +111,8 @@ fn write_on<R: Wait + Clock>(
     ensures { result.turnstile ≡ shared.now.desk }
 {
     let bell = &shared.bell;
-    let mut gate = OutGate {
-        bell,
-        is_closed: &ends.is_closed,
-        seen: 0,
-        is_closing: false,
-        idle: Tally::new(),
-    };
+    let own = bell.spot(ends.place);
+    let mut gate = OutGate::new(bell, own, &ends.is_closed, joined.from);
     let mut to = CountedOutlet {
         outlet: StdOutlet::new(&ends.stream),
         bell,
@@ -146,7 +143,7 @@ fn pump<R: Host>(
     rt: &R,
     alloc: Global,
     shared: &Shared,
-    channel: Channel,
+    place: Place,
     joined: Joined,
     met: Met,
     seats: Seats,
@@ -160,7 +157,7 @@ fn pump<R: Host>(
     let mut peer = Some(peer);
     let ends = Ends {
         connection: joined.connection,
-        channel,
+        place,
         stream,
         is_closed: AtomicBool::new(false),
     };
@@ -201,7 +198,7 @@ fn join_as<R: Wait>(
     match join(rt, &shared.desk, pass, channel, identity) {
         Ok(joined) => Some(joined),
         Err(KernelFault::JournalFull) => {
-            shared.bell.wake_worker(rt);
+            shared.bell.wake_all();
             None
         }
         Err(_) => None,
@@ -235,19 +232,20 @@ fn leave<R: Wait>(rt: &R, shared: &Shared, pass: &mut Pass, connection: u32)
     drop(shared.desk.turn(rt, pass, Call::Leave { connection }));
 }
 
-/// Serves a connection of a channel until it ends, and gives its passes back. One that makes no handshake
+/// Serves a connection at a place until it ends, and gives its passes back. One that makes no handshake
 /// or for which the kernel has no place is closed.
 pub fn serve_connection<R: Host>(
     rt: &R,
     alloc: Global,
     shared: &Shared,
-    channel: Channel,
+    place: Place,
     stream: TcpStream,
     mut seats: Seats,
 ) -> Seats
     requires { AreOf shared.now.desk seats }
     ensures { AreOf shared.now.desk result }
 {
+    let channel = place.channel;
     let Some(peer) = meet(alloc, &stream, channel) else {
         drop(stream);
         return seats;
@@ -258,7 +256,7 @@ pub fn serve_connection<R: Host>(
         return seats;
     };
     let met = Met { peer, stream };
-    seats = pump(rt, alloc, shared, channel, joined, met, seats);
+    seats = pump(rt, alloc, shared, place, joined, met, seats);
     leave(rt, shared, &mut seats.first, joined.connection);
     seats
 }

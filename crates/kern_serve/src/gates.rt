@@ -3,8 +3,11 @@ ghost use Rattle.std.specs.Prelude.{◌≡◌, ◌≤◌, ◌+◌, ◌<◌, ◌�
 
 use crate::bell::Bell;
 use crate::pace::{JOURNAL_LIMIT, RESERVE, SHORTEST_GAP, SLICES_AT_FULL_SPEED, next_gap, pause};
+use crate::spot::Spot;
 use crate::system::unix_seconds;
+use kern_desk::seated::Pass;
 use kern_net::gate::{ReaderGate, WorkerGate, WriterGate};
+use kern_net::pump_out::NUMBERS_OF_A_FETCH;
 use kern_net::tally::{Tally, WorkerTally, one_more};
 use std::rt::Clock;
 use std::sync::Wait;
@@ -15,17 +18,26 @@ use std::time::{Duration, Instant};
 #[derive(Drop)]
 pub struct InGate<'a, C: Clock> {
     pub bell: &'a Bell,
+    /// Where the writer of its connection waits.
+    pub own: &'a Spot,
     pub clock: &'a C,
     pub wakes: u64,
+    pub tells: u64,
 }
 
 impl<'a, C: Clock> ReaderGate for InGate<'a, C> {
-    ghost polls = { λ g. record { wakes = g.wakes } };
+    ghost polls = { λ g. record { wakes = g.wakes; tells = g.tells } };
 
     fn wake<R: Wait>(&mut self, rt: &R) {
         self.bell.count_entries(1);
-        self.bell.wake_worker(rt);
+        self.bell.wake_all();
         self.wakes = one_more(rt, self.wakes);
+    }
+
+    fn tell<R: Wait>(&mut self, rt: &R) {
+        self.bell.count_entries(1);
+        self.bell.tell(self.own);
+        self.tells = one_more(rt, self.tells);
     }
 
     fn unix_seconds<R: Wait>(&mut self, _rt: &R) -> u64 {
@@ -37,24 +49,52 @@ impl<'a, C: Clock> ReaderGate for InGate<'a, C> {
 /// or once all is written that was posted before the worker ended.
 #[derive(Drop)]
 pub struct OutGate<'a> {
-    pub bell: &'a Bell,
-    pub is_closed: &'a AtomicBool,
-    pub seen: u64,
-    pub is_closing: bool,
-    pub idle: Tally,
+    bell: &'a Bell,
+    // Where it waits, and how often somebody had rung there before the last Fetch.
+    own: &'a Spot,
+    seen: u64,
+    is_closed: &'a AtomicBool,
+    // Whether the worker had ended before the last Fetch.
+    is_closing: bool,
+    // From which number to go on, when it was polled last.
+    next: u64,
+    idle: Tally,
 }
 
 impl<'a> OutGate<'a> {
-    // Waits for the next ring, and tells whether to go on.
-    fn next<R: Wait>(&mut self, rt: &R) -> bool
+    /// The gate of a writer that makes no Fetch yet, the first of which is to begin at this number.
+    pub fn new(bell: &'a Bell, own: &'a Spot, is_closed: &'a AtomicBool, from: u64) -> OutGate<'a>
+        ensures { result.idle ≡ record { yes = 0; no = 0 } }
+    {
+        OutGate {
+            bell,
+            own,
+            seen: own.rings(),
+            is_closed,
+            is_closing: bell.is_closing(),
+            next: from,
+            idle: Tally::new(),
+        }
+    }
+
+    // Counts the Fetches since it was polled last. All but the last of them went as far as they could.
+    fn count(&mut self, next: u64)
         ensures { self.new.idle ≡ self.old.idle }
     {
-        if self.is_closing {
+        let moved = next.saturating_sub(self.next);
+        self.bell.count_entries(moved / NUMBERS_OF_A_FETCH + 1);
+        self.next = next;
+    }
+
+    // Waits for the next ring, and tells whether to go on.
+    fn wait<R: Wait>(&mut self, rt: &R) -> bool
+        ensures { self.new.idle ≡ self.old.idle }
+    {
+        if self.is_closing || self.is_closed.load(Ordering::SeqCst) {
             return false;
         }
-        let news = self.bell.next_news(rt, self.seen);
-        self.seen = news.seen;
-        self.is_closing = news.is_closing;
+        self.seen = self.own.wait(rt, self.seen);
+        self.is_closing = self.bell.is_closing();
         !self.is_closed.load(Ordering::SeqCst)
     }
 }
@@ -62,10 +102,9 @@ impl<'a> OutGate<'a> {
 impl<'a> WriterGate for OutGate<'a> {
     ghost polls = { λ g. record { idle = g.idle } };
 
-    // It is polled after a Fetch that moved nothing, before which one may have moved something.
-    fn idle<R: Wait>(&mut self, rt: &R) -> bool {
-        self.bell.count_entries(2);
-        let goes_on = self.next(rt);
+    fn idle<R: Wait>(&mut self, rt: &R, _pass: &Pass, next: u64) -> bool {
+        self.count(next);
+        let goes_on = self.wait(rt);
         self.idle.add(rt, goes_on);
         goes_on
     }
@@ -159,15 +198,15 @@ impl<'a, C: Wait + Clock> WorkGate<'a, C> {
     }
 
     // Rings, if the time for it has come.
-    fn ring<R: Wait>(&mut self, rt: &R)
+    fn ring(&mut self)
         ensures { self.new.polls ≡ self.old.polls }
     {
         let Some(begun) = &self.begun else {
-            self.bell.wake_writers(rt);
+            self.bell.wake_writers();
             return;
         };
         let Ok(since) = begun.elapsed(self.clock) else {
-            self.bell.wake_writers(rt);
+            self.bell.wake_writers();
             return;
         };
         let now = since.as_micros();
@@ -178,7 +217,7 @@ impl<'a, C: Wait + Clock> WorkGate<'a, C> {
         self.gap = next_gap(self.gap, writes != self.writes);
         self.writes = writes;
         self.rung = now;
-        self.bell.wake_writers(rt);
+        self.bell.wake_writers();
     }
 }
 
@@ -196,7 +235,7 @@ impl<'a, C: Wait + Clock> WorkerGate for WorkGate<'a, C> {
     }
 
     fn idle<R: Wait>(&mut self, rt: &R) -> bool {
-        self.bell.wake_writers(rt);
+        self.bell.wake_writers();
         self.seen = self.bell.next_work(rt, self.seen);
         self.free = SLICES_AT_FULL_SPEED;
         self.gap = SHORTEST_GAP;
@@ -206,7 +245,7 @@ impl<'a, C: Wait + Clock> WorkerGate for WorkGate<'a, C> {
     }
 
     fn wake<R: Wait>(&mut self, rt: &R) {
-        self.ring(rt);
+        self.ring();
         self.polls.add_wake(rt);
     }
 

@@ -16,4 +16,5 @@ mod outlet;
 mod pace;
 pub mod server;
 mod socket;
+mod spot;
 pub mod system;

@@ -4,7 +4,7 @@ ghost use Rattle.std.specs.Arc.{arc_value};
 ghost use Rattle.kern_serve.specs.Ends.{served};
 ghost use Rattle.kern_serve.specs.Lanes.{AreOf, IsOf};
 
-use crate::bell::Bell;
+use crate::bell::{Bell, PLACES, Place};
 use crate::connection::{Seats, Shared, serve_connection};
 use crate::fault::ServerFault;
 use crate::gates::WorkGate;
@@ -17,10 +17,10 @@ use base_text::text::Text;
 use jup_connection::connection_file::ConnectionFile;
 use jup_wire::channel::Channel;
 use kern_desk::desks::open_desk;
-use kern_desk::seated::Pass;
+use kern_desk::seated::{Desk, Pass};
 use kern_net::end::PumpEnd;
 use kern_net::worker::worker;
-use std::alloc::Global;
+use std::alloc::{AllocError, Global};
 use std::net::{TcpListener, TcpStream};
 use std::random::RandomSource;
 use std::rt::Clock;
@@ -37,9 +37,6 @@ pub enum ServerEnd {
     JournalFull,
 }
 
-// How many connections of a channel are served at once.
-const PLACES: u8 = 16;
-
 // Two passes for each place of four channels, and the worker's.
 const PASSES: u32 = 129;
 
@@ -49,15 +46,15 @@ const FAREWELL_MILLIS: u64 = 400;
 // How long to wait after a connection couldn't be accepted, as where too many files are open.
 const RETRY_MILLIS: u64 = 50;
 
-// Serves one connection of a channel after another.
-fn lane<R: Host>(rt: &R, alloc: Global, shared: &Shared, channel: Channel, mut seats: Seats)
+// Serves one connection after another at a place.
+fn lane<R: Host>(rt: &R, alloc: Global, shared: &Shared, place: Place, mut seats: Seats)
     requires { AreOf shared.now.desk seats }
 {
-    let listener = shared.listeners.of(channel);
+    let listener = shared.listeners.of(place.channel);
     for _ in rt.forever() {
         match listener.accept() {
             Ok((stream, _)) => {
-                seats = serve_connection(rt, alloc, shared, channel, stream, seats);
+                seats = serve_connection(rt, alloc, shared, place, stream, seats);
             }
             Err(_) => thread::sleep(rt, Duration::from_millis(RETRY_MILLIS)),
         }
@@ -79,8 +76,8 @@ fn beats<R: Wait + Clock>(rt: &R, alloc: Global, listener: &TcpListener) {
 // What a thread of the server does for good.
 #[derive(Drop)]
 enum Task {
-    // Serves one connection of a channel after another.
-    Lane(Channel, Seats),
+    // Serves one connection after another at a place.
+    Lane(Place, Seats),
     // Serves one connection of the heartbeat after another.
     Beats,
 }
@@ -89,7 +86,7 @@ fn perform<R: Host>(rt: &R, alloc: Global, shared: &Shared, task: Task)
     requires { IsOf shared.now.desk task }
 {
     match task {
-        Task::Lane(channel, seats) => lane(rt, alloc, shared, channel, seats),
+        Task::Lane(place, seats) => lane(rt, alloc, shared, place, seats),
         Task::Beats => beats(rt, alloc, shared.listeners.heartbeat()),
     }
 }
@@ -133,15 +130,16 @@ fn start_lanes<R: Host>(
     requires { All (λ p. p.turnstile ≡ (arc_value shared.now).desk) passes.old.items }
     ensures { All (λ p. p.turnstile ≡ (arc_value shared.now).desk) passes.new.items }
 {
-    for _ in 0..PLACES {
+    for number in 0..PLACES {
         let (Some(first), Some(second)) = (passes.pop(), passes.pop()) else {
             return Err(ServerFault::System);
         };
+        let place = Place { channel, number };
         start_task(
             rt,
             alloc,
             shared,
-            Task::Lane(channel, Seats { first, second }),
+            Task::Lane(place, Seats { first, second }),
         )?;
     }
     Ok(())
@@ -184,7 +182,21 @@ fn work<R: Wait + Clock>(rt: &R, shared: &Shared, mut pass: Pass) -> Result<Serv
     end_of(end, gate.is_closed())
 }
 
-// A desk, its passes, and what else the threads share.
+// A desk, its passes, and a bell.
+fn open_desk_and_bell(alloc: Global) -> Result<(Desk, Vec<Pass>, Bell), AllocError>
+    ensures { IfOk result (λ opened. All (λ p. p.turnstile ≡ opened.0) opened.1.items) }
+{
+    let bell = Bell::new(alloc)?;
+    match open_desk(alloc, JOURNAL_LIMIT, PASSES) {
+        Ok((desk, passes)) => Ok((desk, passes, bell)),
+        Err(error) => {
+            drop(bell);
+            Err(error)
+        }
+    }
+}
+
+// What the threads share, and the passes of its desk.
 fn open(
     alloc: Global,
     listeners: Listeners,
@@ -193,11 +205,11 @@ fn open(
 ) -> Result<(Shared, Vec<Pass>), ServerFault>
     ensures { IfOk result (λ opened. All (λ p. p.turnstile ≡ opened.0.desk) opened.1.items) }
 {
-    match open_desk(alloc, JOURNAL_LIMIT, PASSES) {
-        Ok((desk, passes)) => {
+    match open_desk_and_bell(alloc) {
+        Ok((desk, passes, bell)) => {
             let shared = Shared {
                 desk,
-                bell: Bell::new(),
+                bell,
                 key,
                 session,
                 listeners,

@@ -1,7 +1,8 @@
 use Rattle.std.proofs.Common.{refl, ◌∙◌, arith}
 use Rattle.kern_net.specs.Out.{NoFetch}
 use Rattle.kern_net.proofs.OutLemmas.{written_first, halted, halted_ends, halted_calls}
-use Rattle.kern_net.proofs.OutLemmas.{went_on, went_fetched, went_longer, went_done, went_over, said_yes}
+use Rattle.kern_net.proofs.OutLemmas.{went_on, went_fetched, went_longer, went_done, went_over, went_up}
+use Rattle.kern_net.proofs.OutLemmas.{said_yes}
 use Rattle.kern_net.proofs.pump_out.pump_out.Goals as goal
 
 pub loop-init : goal.loop-init
@@ -36,8 +37,10 @@ returns-then-ended-clause-wrote g c =
 
 pub returns-then-ended-clause-ends : goal.returns-then-ended-clause-ends
 returns-then-ended-clause-ends g c =
+    let moved = c.saturating_sub.ensures in
+    let short = c.if-saturating_sub-lt-NUMBERS_OF_A_FETCH.true in
     went_over _ _ _ _ _ _ _ _ (g.G.WriterGate.polls c.loop.gate) c.loop.invariant.gate c.in-Ok.ensures.good
-    c.if-ended.true c.if-after-next.true c.in-Ok.ensures.ok
+    c.if-ended.true (omega (arith, moved, short)) c.in-Ok.ensures.ok
 
 pub returns-then-not-idle-clause-wrote : goal.returns-then-not-idle-clause-wrote
 returns-then-not-idle-clause-wrote g c =
@@ -72,3 +75,9 @@ loop-preserved g c =
       fetched = went_fetched _ _ _ _ _ _ _ _ _ _ i.fetched s;
       polled = omega (arith, n, a);
     }
+
+pub idle-requires : goal.idle-requires
+idle-requires g c =
+    let moved = c.saturating_sub.ensures in
+    let short = c.if-saturating_sub-lt-NUMBERS_OF_A_FETCH.true in
+    went_up _ _ _ _ _ _ _ _ c.in-Ok.ensures.ok (omega (arith, moved, short))

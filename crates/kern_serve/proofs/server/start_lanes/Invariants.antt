@@ -4,5 +4,6 @@ use Rattle.lab_turn.specs.History.{PassState}
 use Rattle.kern_core.specs.declared.call.Call.{Call}
 use Rattle.kern_serve.proofs.server.start_lanes.Given as goal
 
-abbrev pub invariant-loop : goal.invariant-loop
-invariant-loop g l = All (λ (p : PassState Call). p.turnstile ≡ (arc_value l.shared).desk) l.passes.items
+abbrev pub invariant-loop-number : goal.invariant-loop-number
+invariant-loop-number g l =
+    All (λ (p : PassState Call). p.turnstile ≡ (arc_value l.shared).desk) l.passes.items

@@ -1,0 +1,49 @@
+-- How often others were woken, and told.
+use Rattle.std.proofs.Common.{◌≡◌, ◌∙◌, ◌+◌, Bool, true, false, List, [], ◌∷◌, ◌++◌, Result, refl, ap}
+use Rattle.std.proofs.Common.{arith}
+use Rattle.std.specs.Prelude.{cond, count_by, not}
+use Rattle.std.proofs.lemmas.List.Sums.{sum_by_push}
+use Rattle.lab_turn.specs.History.{PassState}
+use Rattle.kern_core.specs.declared.call.Call.{Call}
+use Rattle.kern_core.specs.declared.call.Reply.{Reply}
+use Rattle.kern_core.specs.declared.fault.KernelFault.{KernelFault}
+use Rattle.kern_core.specs.Kernels.{is_entry}
+use Rattle.kern_net.specs.Calls.{TurnedBy}
+use Rattle.kern_net.specs.Gates.{ReaderPolls, rung, WokeForEach, ToldForEach}
+use Rattle.kern_net.specs.Wakes.{gives_work, gives_none}
+
+-- with one call more
+count_more : (p : Call → Bool) (old new : List Call) (call : Call) → new ≡ old ++ call ∷ []
+    → count_by p new ≡ count_by p old + cond (p call) 1 0
+count_more p old new call is = ap (count_by p) is ∙ sum_by_push (λ c. cond (p c) 1 0) old call
+
+wakes_by : (b : Bool) (p : ReaderPolls) → (rung b p).wakes ≡ p.wakes + cond b 1 0
+wakes_by true p = refl
+wakes_by false p = omega arith
+
+tells_by : (b : Bool) (p : ReaderPolls) → (rung b p).tells ≡ p.tells + cond (not b) 1 0
+tells_by true p = omega arith
+tells_by false p = refl
+
+pub woke_by : (old new : PassState Call) (call : Call) (answer : Result Reply KernelFault) (a b : ReaderPolls)
+    → TurnedBy old call answer new → is_entry answer ≡ true → b ≡ rung (gives_work call) a
+    → WokeForEach old new a b
+woke_by old new call answer a b turned entry is =
+    let more = count_more gives_work old.calls new.calls call (turned.entered entry).counted in
+    let rang = ap (λ (p : ReaderPolls). p.wakes) is ∙ wakes_by (gives_work call) a in
+    omega (arith, more, rang)
+
+pub told_by : (old new : PassState Call) (call : Call) (answer : Result Reply KernelFault) (a b : ReaderPolls)
+    → TurnedBy old call answer new → is_entry answer ≡ true → b ≡ rung (gives_work call) a
+    → ToldForEach old new a b
+told_by old new call answer a b turned entry is =
+    let more = count_more gives_none old.calls new.calls call (turned.entered entry).counted in
+    let rang = ap (λ (p : ReaderPolls). p.tells) is ∙ tells_by (gives_work call) a in
+    omega (arith, more, rang)
+
+-- nobody was, where the call doesn't stand in the journal
+pub woke_not : (old new : PassState Call) (a : ReaderPolls) → new.calls ≡ old.calls → WokeForEach old new a a
+woke_not old new a is = let same = ap (count_by gives_work) is in omega (arith, same)
+
+pub told_not : (old new : PassState Call) (a : ReaderPolls) → new.calls ≡ old.calls → ToldForEach old new a a
+told_not old new a is = let same = ap (count_by gives_none) is in omega (arith, same)
