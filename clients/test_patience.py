@@ -2,7 +2,7 @@
 import time
 
 from lab80_client import Lab, printing, streams
-from zmtp import Peer, message
+from zmtp import Peer, greeting, message
 
 PRINTED = 32_768
 
@@ -34,6 +34,17 @@ class Patience(Lab):
             # A write to it took ten seconds, or what it should have got isn't kept any more. What the system
             # holds for it comes before the end.
             self.assertTrue(idler.is_ended(20))
+        self.assertEqual(streams(self.execute(printing("after"))[1]), "after")
+
+    def test_greetings_that_take_for_ever(self):
+        for channel in ("shell", "iopub", "hb"):
+            with self.subTest(channel), Peer(self.connection, channel) as slow:
+                began = time.monotonic()
+                for byte in greeting():
+                    if slow.is_ended(1):
+                        break
+                    slow.say(bytes((byte,)))
+                self.assertLess(time.monotonic() - began, 13)
         self.assertEqual(streams(self.execute(printing("after"))[1]), "after")
 
     def test_a_loop_left_alone(self):

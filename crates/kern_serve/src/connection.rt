@@ -8,6 +8,7 @@ use crate::host::Host;
 use crate::listeners::Listeners;
 use crate::outlet::CountedOutlet;
 use crate::socket::{Met, close, meet};
+use crate::spot::Spot;
 use base_streams::std_io::{StdInlet, StdOutlet};
 use base_text::sequence::Bytes;
 use base_text::text::Text;
@@ -26,6 +27,7 @@ use std::rt::Clock;
 use std::sync::Wait;
 use std::sync::atomic::{AtomicBool, Ordering};
 use std::thread;
+use std::time::Duration;
 use zmtp_peer::handshake::Peer;
 
 /// What the threads of a server share.
@@ -54,6 +56,25 @@ struct Ends {
     place: Place,
     stream: TcpStream,
     is_closed: AtomicBool,
+    // Where its writer waits until its reader has begun.
+    begun: Spot,
+}
+
+// How often, and for how long, the writer looks whether the reader has begun.
+const LOOKS: u32 = 100;
+
+const LOOK_MILLIS: u64 = 10;
+
+// Whether the reader begins. Where no thread can be had, it is to go last, once the writer has ended; but by
+// the reader alone it is known that a peer has gone.
+fn has_reader<R: Wait>(rt: &R, ends: &Ends) -> bool {
+    for _ in 0..LOOKS {
+        let most = Duration::from_millis(LOOK_MILLIS);
+        if ends.begun.wait_within(rt, 0, most) != 0 {
+            return true;
+        }
+    }
+    false
 }
 
 // Reads until the end, and then closes both halves: but a full journal leaves its writer what was posted.
@@ -68,6 +89,7 @@ fn read_on<R: Wait + Clock>(
     requires { pass.turnstile ≡ shared.now.desk }
     ensures { result.turnstile ≡ shared.now.desk }
 {
+    ends.begun.ring();
     let Some(peer) = peer.take() else {
         return pass;
     };
@@ -98,7 +120,7 @@ fn read_on<R: Wait + Clock>(
     pass
 }
 
-// Writes until the end, and then closes both halves.
+// Writes until the end, and then closes both halves; where there is no reader it closes them at once.
 fn write_on<R: Wait + Clock>(
     rt: &R,
     alloc: Global,
@@ -110,6 +132,10 @@ fn write_on<R: Wait + Clock>(
     requires { pass.turnstile ≡ shared.now.desk }
     ensures { result.turnstile ≡ shared.now.desk }
 {
+    if !has_reader(rt, ends) {
+        close(&ends.stream);
+        return pass;
+    }
     let bell = &shared.bell;
     let own = bell.spot(ends.place);
     let mut gate = OutGate::new(bell, own, &ends.is_closed, joined.from);
@@ -160,6 +186,7 @@ fn pump<R: Host>(
         place,
         stream,
         is_closed: AtomicBool::new(false),
+        begun: Spot::new(),
     };
     let (first, second) = thread::join(
         rt,
@@ -223,13 +250,22 @@ fn join_peer<R: Wait>(
     }
 }
 
-// Leaves. A refused Leave needs nothing more: the journal is full, or memory is wanting for an entry.
-fn leave<R: Wait>(rt: &R, shared: &Shared, pass: &mut Pass, connection: u32)
+// Leaves, but where the kernel takes no more calls. Where memory is wanting for the entry it tries again, so that
+// no place and no identity stay taken by nobody.
+fn leave<R: Wait + Clock>(rt: &R, shared: &Shared, pass: &mut Pass, connection: u32)
     requires { pass.old.turnstile ≡ shared.now.desk }
     ensures { pass.new.turnstile ≡ shared.now.desk }
 {
     shared.bell.count_entries(1);
-    drop(shared.desk.turn(rt, pass, Call::Leave { connection }));
+    for _ in rt.forever() {
+        let answer = shared.desk.turn(rt, pass, Call::Leave { connection });
+        let wants_memory = matches!(&answer, Ok(Err(KernelFault::OutOfMemory)));
+        drop(answer);
+        if !wants_memory {
+            return;
+        }
+        thread::sleep(rt, Duration::from_millis(LOOK_MILLIS));
+    }
 }
 
 /// Serves a connection at a place until it ends, and gives its passes back. One that makes no handshake
@@ -246,7 +282,7 @@ pub fn serve_connection<R: Host>(
     ensures { AreOf shared.now.desk result }
 {
     let channel = place.channel;
-    let Some(peer) = meet(alloc, &stream, channel) else {
+    let Some(peer) = meet(rt, alloc, &stream, channel) else {
         drop(stream);
         return seats;
     };

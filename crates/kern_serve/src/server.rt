@@ -66,7 +66,8 @@ fn beats<R: Wait + Clock>(rt: &R, alloc: Global, listener: &TcpListener) {
     for _ in rt.forever() {
         match listener.accept() {
             Ok((stream, _)) => {
-                let _ = beat(alloc, stream);
+                let _ = beat(rt, alloc, &stream);
+                drop(stream);
             }
             Err(_) => thread::sleep(rt, Duration::from_millis(RETRY_MILLIS)),
         }
@@ -287,8 +288,8 @@ fn serve_as<R: Host>(
 /// been written to each client that reads, or half a second has passed. The threads that serve connections
 /// aren't joined: the program is to end.
 ///
-/// A connection that breaks the protocol, is silent for ten seconds before its handshake is made, or doesn't
-/// read for ten seconds, ends alone.
+/// A connection that breaks the protocol, doesn't make its handshake within ten seconds, or doesn't read for
+/// ten seconds, ends alone.
 pub fn serve<R: Host + RandomSource>(
     rt: &R,
     alloc: Global,

@@ -5,12 +5,13 @@ use std::alloc::Global;
 use std::io;
 use std::io::Read;
 use std::net::{Shutdown, TcpStream};
-use std::time::Duration;
+use std::rt::Clock;
+use std::time::{Duration, Instant};
 use zmtp_peer::handshake::{Peer, handshake};
 use zmtp_peer::heartbeat::heartbeat;
 use zmtp_wire::role::Role;
 
-// How long a read may wait during the handshake, and a write ever.
+// How long a handshake may take, and how long a write may wait.
 const PATIENCE_SECONDS: u64 = 10;
 
 // The size of a greeting, in bytes.
@@ -35,16 +36,69 @@ fn role_of(channel: Channel) -> Role {
     }
 }
 
-// A message is sent at once, and a peer that is silent or never reads is given up.
-fn prepare(stream: &TcpStream) -> io::Result<()> {
-    let patience = Some(Duration::from_secs(PATIENCE_SECONDS));
-    stream.set_nodelay(true)?;
-    stream.set_read_timeout(patience)?;
-    stream.set_write_timeout(patience)
+fn patience() -> Duration {
+    Duration::from_secs(PATIENCE_SECONDS)
 }
 
-fn greet(alloc: Global, stream: &TcpStream, channel: Channel) -> Option<Peer> {
-    let mut from = StdInlet::new(stream);
+// A message is sent at once, and a peer that never reads is given up.
+fn prepare(stream: &TcpStream) -> io::Result<()> {
+    stream.set_nodelay(true)?;
+    stream.set_write_timeout(Some(patience()))
+}
+
+// A socket whose first bytes, more than so many, must come while there is patience; then reads may wait for
+// ever.
+#[derive(Drop)]
+struct PatientStream<'a, C: Clock> {
+    stream: &'a TcpStream,
+    clock: &'a C,
+    begun: Option<Instant>,
+    first: usize,
+    read: usize,
+}
+
+impl<'a, C: Clock> PatientStream<'a, C> {
+    fn new(stream: &'a TcpStream, clock: &'a C, first: usize) -> PatientStream<'a, C> {
+        PatientStream {
+            stream,
+            clock,
+            begun: Instant::now(clock).ok(),
+            first,
+            read: 0,
+        }
+    }
+
+    // How much patience is left; where no clock can be read, all.
+    fn rest(&self) -> Duration {
+        let Some(begun) = &self.begun else {
+            return patience();
+        };
+        match begun.elapsed(self.clock) {
+            Ok(since) => patience().saturating_sub(since),
+            Err(_) => patience(),
+        }
+    }
+}
+
+impl<'a, C: Clock> Read for PatientStream<'a, C> {
+    // A read that may wait no time at all fails.
+    fn read(&mut self, buffer: &mut [u8]) -> io::Result<usize> {
+        let mut stream = self.stream;
+        if self.read > self.first {
+            return stream.read(buffer);
+        }
+        stream.set_read_timeout(Some(self.rest()))?;
+        let count = stream.read(buffer)?;
+        self.read = self.read.saturating_add(count);
+        if self.read > self.first {
+            stream.set_read_timeout(None)?;
+        }
+        Ok(count)
+    }
+}
+
+fn greet<C: Clock>(clock: &C, alloc: Global, stream: &TcpStream, channel: Channel) -> Option<Peer> {
+    let mut from = StdInlet::new(PatientStream::new(stream, clock, usize::MAX));
     let mut to = StdOutlet::new(stream);
     match handshake(alloc, &mut from, &mut to, role_of(channel)) {
         Ok(peer) => Some(peer),
@@ -52,13 +106,18 @@ fn greet(alloc: Global, stream: &TcpStream, channel: Channel) -> Option<Peer> {
     }
 }
 
-/// Makes the handshake on a socket of a channel, in which no read waits longer than ten seconds. From then on
-/// a read may wait for ever, and a write ten seconds.
-pub fn meet(alloc: Global, stream: &TcpStream, channel: Channel) -> Option<Peer> {
+/// Makes the handshake on a socket of a channel, for which there are ten seconds. From then on a read may wait
+/// for ever, and a write ten seconds.
+pub fn meet<C: Clock>(
+    clock: &C,
+    alloc: Global,
+    stream: &TcpStream,
+    channel: Channel,
+) -> Option<Peer> {
     if prepare(stream).is_err() {
         return None;
     }
-    let peer = greet(alloc, stream, channel)?;
+    let peer = greet(clock, alloc, stream, channel)?;
     if stream.set_read_timeout(None).is_err() {
         drop(peer);
         return None;
@@ -66,33 +125,11 @@ pub fn meet(alloc: Global, stream: &TcpStream, channel: Channel) -> Option<Peer>
     Some(peer)
 }
 
-// A socket of the heartbeat, on which reads may wait for ever once more than a greeting came.
-#[derive(Drop)]
-struct PatientStream {
-    stream: TcpStream,
-    read: usize,
-}
-
-impl Read for PatientStream {
-    fn read(&mut self, buffer: &mut [u8]) -> io::Result<usize> {
-        if self.read > GREETING_SIZE {
-            return self.stream.read(buffer);
-        }
-        let count = self.stream.read(buffer)?;
-        self.read = self.read.saturating_add(count);
-        if self.read > GREETING_SIZE {
-            self.stream.set_read_timeout(None)?;
-        }
-        Ok(count)
-    }
-}
-
-/// Serves a socket of the heartbeat until it ends.
-pub fn beat(alloc: Global, stream: TcpStream) -> io::Result<()> {
-    prepare(&stream)?;
-    let other = stream.try_clone()?;
-    let mut from = StdInlet::new(PatientStream { stream, read: 0 });
-    let mut to = StdOutlet::new(other);
+/// Serves a socket of the heartbeat until it ends. More than a greeting must come within ten seconds.
+pub fn beat<C: Clock>(clock: &C, alloc: Global, stream: &TcpStream) -> io::Result<()> {
+    prepare(stream)?;
+    let mut from = StdInlet::new(PatientStream::new(stream, clock, GREETING_SIZE));
+    let mut to = StdOutlet::new(stream);
     let _ = heartbeat(alloc, &mut from, &mut to);
     Ok(())
 }
