@@ -1,10 +1,10 @@
 //! Journals against the calls that were made, and the same calls on a new kernel.
 
-use crate::actions::is_call;
 use crate::turns::{Row, Turn, act, expect_at};
 use kern_core::kernel::Kernel;
 use kern_desk::desks::MOST_ENTRIES;
 use kern_desk::seated::Seated;
+use kern_test_kit::actions::is_call;
 use std::alloc::Global;
 use std::process::Abort;
 

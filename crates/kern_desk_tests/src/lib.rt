@@ -6,8 +6,6 @@
 #![tactic(auto)]
 
 #[cfg(test)]
-mod actions;
-#[cfg(test)]
 mod journals;
 #[cfg(test)]
 mod limits;

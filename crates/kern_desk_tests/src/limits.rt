@@ -1,5 +1,4 @@
 //! How many posts are kept, and how many entries a journal has.
-use crate::actions::{Action, Question};
 use crate::journals::new_kernel;
 use crate::outcomes::Outcome;
 use crate::seats::run_rows;
@@ -8,6 +7,7 @@ use jup_wire::channel::Channel;
 use kern_core::fault::KernelFault;
 use kern_core::kernel::Kernel;
 use kern_desk::desks::MOST_ENTRIES;
+use kern_test_kit::actions::{Action, Question};
 use std::alloc::Global;
 use std::process::Abort;
 
@@ -29,7 +29,7 @@ fn expect_act<R: Abort>(
 fn request_often<R: Abort>(rt: &R, alloc: Global, kernel: &mut Kernel) {
     act(rt, alloc, kernel, Action::Join(Channel::Shell), 0);
     for unix_seconds in 1..3033 {
-        let action = Action::RequestBody(1, Question::KernelInfo);
+        let action = Action::Ask(1, Question::KernelInfo);
         expect_act(rt, alloc, kernel, action, unix_seconds, Outcome::Arrived);
     }
 }
@@ -158,11 +158,7 @@ const FULL_JOURNAL: [Row; 12] = [
         Outcome::Refused(KernelFault::Lagged { first: 1 }),
     ),
     (0, Action::Subscribe(1), NO_CONNECTION),
-    (
-        1,
-        Action::RequestBody(1, Question::KernelInfo),
-        Outcome::Arrived,
-    ),
+    (1, Action::Ask(1, Question::KernelInfo), Outcome::Arrived),
     (
         2,
         Action::Fetch(1, 1),
@@ -171,7 +167,7 @@ const FULL_JOURNAL: [Row; 12] = [
     (0, Action::Join(Channel::Iopub), FULL),
     (1, Action::Leave(9), FULL),
     (2, Action::Subscribe(1), FULL),
-    (0, Action::RequestBody(1, Question::Shutdown), FULL),
+    (0, Action::Ask(1, Question::Shutdown), FULL),
     (1, Action::Slice, FULL),
     (2, Action::Fetch(1, 1), FULL),
 ];

@@ -1,11 +1,11 @@
 //! Passes that make calls one after the other, by a script.
 ghost use Rattle.std.specs.Prelude.{◌≡◌};
 
-use crate::actions::{Action, Question};
 use crate::outcomes::Outcome;
 use crate::turns::{Turn, make};
 use jup_wire::channel::Channel;
 use kern_desk::seated::{Desk, Pass};
+use kern_test_kit::actions::{Action, Question};
 use std::alloc::Global;
 use std::process::Abort;
 use std::sync::Wait;
@@ -55,7 +55,7 @@ fn ask(turn: u32, connection: u32, from: u64) -> Action {
         return Action::Join(Channel::Shell);
     }
     if turn % 2 == 1 {
-        return Action::RequestBody(connection, Question::KernelInfo);
+        return Action::Ask(connection, Question::KernelInfo);
     }
     Action::Fetch(connection, from)
 }
@@ -70,8 +70,8 @@ fn listen(turn: u32, connection: u32, from: u64) -> Action {
 
 fn interrupt(turn: u32, connection: u32, from: u64) -> Action {
     match turn {
-        0..40 => Action::RequestBody(connection, Question::KernelInfo),
-        40 => Action::RequestBody(connection, Question::Interrupt),
+        0..40 => Action::Ask(connection, Question::KernelInfo),
+        40 => Action::Ask(connection, Question::Interrupt),
         _ => Action::Fetch(connection, from),
     }
 }

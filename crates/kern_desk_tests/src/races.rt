@@ -1,7 +1,6 @@
 //! Calls of several threads at once.
 ghost use Rattle.std.specs.Prelude.{◌≡◌, ◌<◌, All, IfSome};
 
-use crate::actions::{Action, Question};
 use crate::journals::{Entry, merge, replay};
 use crate::outcomes::Outcome;
 use crate::players::{Part, Player, Script};
@@ -9,6 +8,7 @@ use crate::turns::{Turn, expect_at};
 use jup_wire::channel::Channel;
 use kern_desk::desks::{MOST_ENTRIES, close_desk, open_desk};
 use kern_desk::seated::{Desk, Pass};
+use kern_test_kit::actions::{Action, Question};
 use std::alloc::Global;
 use std::process::Abort;
 use std::sync::Wait;
@@ -184,7 +184,7 @@ fn posts_to_listener(entries: &[Entry]) -> usize {
     for entry in entries {
         match entry.turn.action {
             Action::Subscribe(_) => posts = 1,
-            Action::RequestBody(_, _) if posts > 0 => posts = posts.saturating_add(2),
+            Action::Ask(_, _) if posts > 0 => posts = posts.saturating_add(2),
             _ => {}
         }
     }
@@ -231,10 +231,7 @@ const THREE: Game = Game {
         (1, Action::Join(Channel::Shell)),
         (2, Action::Join(Channel::Iopub)),
         (2, Action::Subscribe(2)),
-        (
-            1,
-            Action::RequestBody(1, Question::Execute("X: JMP X\nEND X")),
-        ),
+        (1, Action::Ask(1, Question::Execute("X: JMP X\nEND X"))),
         (0, Action::Slice),
         (0, Action::Slice),
     ],
@@ -255,7 +252,7 @@ fn check_slices<R: Abort>(rt: &R, entries: &[Entry]) {
     let mut wanted = Outcome::More;
     for (place, entry) in entries.iter().enumerate() {
         match entry.turn.action {
-            Action::RequestBody(_, Question::Interrupt) => wanted = Outcome::Idle,
+            Action::Ask(_, Question::Interrupt) => wanted = Outcome::Idle,
             Action::Slice => {
                 expect_at(rt, entry.turn.outcome == wanted, "slice", place as u64);
             }

@@ -1,7 +1,6 @@
 //! Calls of several seats, one after the other.
 ghost use Rattle.std.specs.Prelude.{◌≡◌, ◌≤◌, All};
 
-use crate::actions::{Action, Question, call_of};
 use crate::journals::check_rows;
 use crate::outcomes::{Outcome, outcome_of};
 use crate::turns::{Row, expect_at, make};
@@ -13,6 +12,7 @@ use kern_desk::desks::{MOST_ENTRIES, close_desk, open_desk};
 use kern_desk::seated::{Desk, Pass, Seated};
 use kern_post::content::Content;
 use kern_post::post::Post;
+use kern_test_kit::actions::{Action, Question, call_of};
 use lab_turn::fault::CloseFault;
 use std::alloc::Global;
 use std::process::Abort;
@@ -78,11 +78,7 @@ const SIX_TURNS: [Row; 6] = [
     (1, Action::Join(Channel::Iopub), Outcome::Joined(2, 1)),
     (2, Action::Slice, Outcome::Idle),
     (1, Action::Subscribe(2), Outcome::Subscribed),
-    (
-        0,
-        Action::RequestBody(1, Question::KernelInfo),
-        Outcome::Arrived,
-    ),
+    (0, Action::Ask(1, Question::KernelInfo), Outcome::Arrived),
     (
         1,
         Action::Fetch(2, 1),
@@ -100,11 +96,7 @@ const SESSION: [Row; 20] = [
     (0, Action::Join(Channel::Shell), Outcome::Joined(1, 1)),
     (1, Action::Join(Channel::Iopub), Outcome::Joined(2, 1)),
     (1, Action::Subscribe(2), Outcome::Subscribed),
-    (
-        0,
-        Action::RequestBody(1, Question::KernelInfo),
-        Outcome::Arrived,
-    ),
+    (0, Action::Ask(1, Question::KernelInfo), Outcome::Arrived),
     (
         1,
         Action::Fetch(2, 1),
@@ -117,7 +109,7 @@ const SESSION: [Row; 20] = [
     ),
     (
         0,
-        Action::RequestBody(1, Question::Execute("HLT\nEND 0")),
+        Action::Ask(1, Question::Execute("HLT\nEND 0")),
         Outcome::Arrived,
     ),
     (
@@ -149,11 +141,7 @@ const SESSION: [Row; 20] = [
         Outcome::Fetched(1, [7, 0, 0, 0, 0, 0], 0, 9, false),
     ),
     (2, Action::Slice, Outcome::Idle),
-    (
-        0,
-        Action::RequestBody(1, Question::Shutdown),
-        Outcome::Arrived,
-    ),
+    (0, Action::Ask(1, Question::Shutdown), Outcome::Arrived),
     (2, Action::Slice, Outcome::Ended),
     (
         1,
@@ -261,14 +249,10 @@ const SWITCHES: [Row; 4] = [
     (0, Action::Join(Channel::Control), Outcome::Joined(1, 1)),
     (
         0,
-        Action::RequestBody(1, Question::Switches(0x5A)),
+        Action::Ask(1, Question::Switches(0x5A)),
         Outcome::Arrived,
     ),
-    (
-        1,
-        Action::RequestBody(1, Question::Variables(3)),
-        Outcome::Arrived,
-    ),
+    (1, Action::Ask(1, Question::Variables(3)), Outcome::Arrived),
     (
         1,
         Action::Fetch(1, 1),

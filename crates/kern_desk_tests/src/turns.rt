@@ -1,12 +1,12 @@
 //! Calls made at a desk and on a kernel, and what came of them.
 ghost use Rattle.std.specs.Prelude.{◌≡◌};
 
-use crate::actions::{Action, call_of};
 use crate::outcomes::{Outcome, outcome_of};
 use kern_core::call::Reply;
 use kern_core::fault::KernelFault;
 use kern_core::kernel::Kernel;
 use kern_desk::seated::{Desk, Pass};
+use kern_test_kit::actions::{Action, call_of};
 use std::alloc::Global;
 use std::process::Abort;
 use std::sync::Wait;

@@ -2,15 +2,14 @@
 
 use crate::fault::SessionFault;
 use crate::members::{bytes, frames, member, number, small_number, text, truth};
-use base_text::sequence::{Bytes, Frames};
 use jup_wire::channel::Channel;
-use jup_wire::message::{DELIMITER, Message};
-use jup_wire::opening::open_message;
+use jup_wire::message::{Message, WireFault};
 use kern_core::call::{Arrival, Call, Subscription};
 use kern_core::held::Held;
 use kern_request::reading::request_of;
+use kern_test_kit::messages;
 use serde_json::Value;
-use std::alloc::{AllocError, Global};
+use std::alloc::Global;
 
 /// The call that a line tells.
 pub fn call_of(alloc: Global, call: &Value) -> Result<Call, SessionFault> {
@@ -93,27 +92,14 @@ fn arrive(alloc: Global, call: &Value) -> Result<Call, SessionFault> {
     })
 }
 
+// The message of a line, without a key.
 fn message_of(alloc: Global, call: &Value) -> Result<Message, SessionFault> {
-    let frames = frames_of(alloc, call)?;
-    match open_message(alloc, frames, b"") {
-        Ok(message) => Ok(message),
-        Err(fault) => Err(SessionFault::Wire(fault)),
-    }
-}
-
-fn push_copies(alloc: Global, frames: &mut Frames, items: &[&[u8]]) -> Result<(), AllocError> {
-    for item in items {
-        frames.push(Bytes::copy_of(alloc, item)?)?;
-    }
-    Ok(())
-}
-
-// The frames of a message without a key.
-fn frames_of(alloc: Global, call: &Value) -> Result<Frames, SessionFault> {
     let header = text(call, "header")?.as_bytes();
     let content = member(call, "content")?.to_vec(alloc)?;
-    let mut frames = frames(alloc, call, "identities")?;
-    let items = [DELIMITER, b"", header, b"{}", b"{}", content.as_slice()];
-    push_copies(alloc, &mut frames, &items)?;
-    Ok(frames)
+    let identities = frames(alloc, call, "identities")?;
+    match messages::message_of(alloc, identities, header, content.as_slice()) {
+        Ok(message) => Ok(message),
+        Err(WireFault::OutOfMemory) => Err(SessionFault::OutOfMemory),
+        Err(fault) => Err(SessionFault::Wire(fault)),
+    }
 }

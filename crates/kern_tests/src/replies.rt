@@ -5,6 +5,7 @@ use crate::members::{has_number, has_text, has_truth, items};
 use kern_core::call::Reply;
 use kern_core::fault::KernelFault;
 use kern_post::post::{Post, Posts};
+use kern_test_kit::names::{fault_name, reply_name};
 use serde_json::Value;
 
 /// Compares an answer with the reply that a line tells.
@@ -24,26 +25,13 @@ pub fn compare_reply(
 }
 
 fn is_reply(told: &Value, reply: &Reply) -> bool {
-    if told.get("refused").is_some() || !has_text(told, "kind", kind_of(reply)) {
+    if told.get("refused").is_some() || !has_text(told, "kind", reply_name(reply)) {
         return false;
     }
     match reply {
         Reply::Joined { connection, from } => is_joined(told, *connection, *from),
         Reply::Fetched { posts, next, ended } => is_fetched(told, posts, *next, *ended),
         _ => true,
-    }
-}
-
-fn kind_of(reply: &Reply) -> &'static str {
-    match reply {
-        Reply::Joined { .. } => "Joined",
-        Reply::Left => "Left",
-        Reply::Subscribed => "Subscribed",
-        Reply::Arrived => "Arrived",
-        Reply::More => "More",
-        Reply::Idle => "Idle",
-        Reply::Ended => "Ended",
-        Reply::Fetched { .. } => "Fetched",
     }
 }
 
@@ -76,20 +64,10 @@ fn are_numbers(told: &Value, posts: &[Post]) -> bool {
 fn is_refusal(told: &Value, fault: KernelFault) -> bool {
     match fault {
         KernelFault::Lagged { first } => is_lagged(told, first),
-        _ => has_text(told, "refused", name_of(fault)),
+        _ => has_text(told, "refused", fault_name(fault)),
     }
 }
 
 fn is_lagged(told: &Value, first: u64) -> bool {
     has_text(told, "refused", "Lagged") && has_number(told, "first", first)
-}
-
-fn name_of(fault: KernelFault) -> &'static str {
-    match fault {
-        KernelFault::OutOfMemory => "OutOfMemory",
-        KernelFault::Full => "Full",
-        KernelFault::Lagged { .. } => "Lagged",
-        KernelFault::JournalFull => "JournalFull",
-        KernelFault::NoConnection => "NoConnection",
-    }
 }

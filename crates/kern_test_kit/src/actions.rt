@@ -1,11 +1,13 @@
 //! Calls as plain data.
 
+use crate::messages::message_of;
 use base_text::sequence::{Bytes, Frames};
 use base_text::text::Text;
 use dap_talk::command::{DapCommand, DapRequest};
 use jup_wire::channel::Channel;
 use kern_core::call::{Arrival, Call, Subscription};
 use kern_core::held::Held;
+use kern_request::reading::request_of;
 use kern_request::request::{ExecuteRequest, Request, RequestBody};
 use std::alloc::{AllocError, Global};
 
@@ -14,11 +16,15 @@ use std::alloc::{AllocError, Global};
 pub enum Action {
     /// A connection without an identity comes.
     Join(Channel),
+    /// A connection with an identity comes.
+    JoinAs(Channel, &'static str),
     Leave(u32),
     /// A connection wants all posts.
     Subscribe(u32),
     /// A connection asks.
-    RequestBody(u32, Question),
+    Ask(u32, Question),
+    /// A message comes on a connection of this channel: its type, and its content as JSON in which `'` stands for `"`.
+    Send(u32, Channel, &'static str, &'static str),
     Slice,
     Fetch(u32, u64),
 }
@@ -34,25 +40,28 @@ pub enum Question {
     Variables(u32),
 }
 
-/// The call at a moment.
+/// The call at a moment. Only want of memory hinders it: what is sent must be a message.
 pub fn call_of(alloc: Global, action: Action, unix_seconds: u64) -> Result<Call, AllocError> {
     match action {
-        Action::Join(channel) => join_call(alloc, channel),
+        Action::Join(channel) => join_call(alloc, channel, ""),
+        Action::JoinAs(channel, identity) => join_call(alloc, channel, identity),
         Action::Leave(connection) => Ok(Call::Leave { connection }),
         Action::Subscribe(connection) => subscribe_call(alloc, connection, unix_seconds),
-        Action::RequestBody(connection, question) => arrive_call(
-            alloc,
-            connection,
-            question,
-            unix_seconds,
-        ),
+        Action::Ask(connection, question) => {
+            let request = request_for(alloc, question)?;
+            arrive_call(alloc, connection, request, unix_seconds)
+        }
+        Action::Send(connection, channel, kind, content) => {
+            let request = request_sent(alloc, channel, kind, content)?;
+            arrive_call(alloc, connection, request, unix_seconds)
+        }
         Action::Slice => Ok(Call::Slice { unix_seconds }),
         Action::Fetch(connection, from) => Ok(Call::Fetch { connection, from }),
     }
 }
 
-fn join_call(alloc: Global, channel: Channel) -> Result<Call, AllocError> {
-    let identity = Held::new(alloc, Bytes::new(alloc))?;
+fn join_call(alloc: Global, channel: Channel, identity: &str) -> Result<Call, AllocError> {
+    let identity = Held::new(alloc, Bytes::copy_of(alloc, identity.as_bytes())?)?;
     Ok(Call::Join { channel, identity })
 }
 
@@ -72,15 +81,9 @@ fn subscribe_call(alloc: Global, connection: u32, unix_seconds: u64) -> Result<C
 fn arrive_call(
     alloc: Global,
     connection: u32,
-    question: Question,
+    request: Request,
     unix_seconds: u64,
 ) -> Result<Call, AllocError> {
-    let header = Bytes::copy_of(alloc, b"{}")?;
-    let request = Request {
-        body: body_of(alloc, question)?,
-        identities: Frames::new(alloc),
-        header,
-    };
     let arrival = Held::new(
         alloc,
         Arrival {
@@ -92,6 +95,34 @@ fn arrive_call(
         connection,
         arrival,
     })
+}
+
+fn request_for(alloc: Global, question: Question) -> Result<Request, AllocError> {
+    let header = Bytes::copy_of(alloc, b"{}")?;
+    Ok(Request {
+        body: body_of(alloc, question)?,
+        identities: Frames::new(alloc),
+        header,
+    })
+}
+
+// The request of a message goes the whole way of one that comes over a wire.
+fn request_sent(
+    alloc: Global,
+    channel: Channel,
+    kind: &str,
+    content: &str,
+) -> Result<Request, AllocError> {
+    let header = format!(in alloc;
+        "{{\"msg_id\":\"m-1\",\"msg_type\":\"{kind}\",\"session\":\"anna\"}}"
+    )?;
+    let content = content.replace(alloc, '\'', "\"")?;
+    let mut identities = Frames::new(alloc);
+    identities.push(Bytes::copy_of(alloc, b"anna")?)?;
+    match message_of(alloc, identities, header.as_bytes(), content.as_bytes()) {
+        Ok(message) => request_of(alloc, channel, message),
+        Err(_) => Err(AllocError),
+    }
 }
 
 fn body_of(alloc: Global, question: Question) -> Result<RequestBody, AllocError> {
@@ -127,7 +158,8 @@ fn debug(command: DapCommand) -> RequestBody {
     RequestBody::Debug(DapRequest { seq: 1, command })
 }
 
-/// Whether a call is this one. A Join, a Leave and a Fetch have no moment.
+/// Whether a call is this one. A Join, a Leave and a Fetch have no moment; of one with an identity, and of what is
+/// sent, this isn't told.
 pub fn is_call(call: &Call, action: Action, unix_seconds: u64) -> bool {
     match (call, action) {
         (Call::Join { channel, .. }, Action::Join(wanted)) => *channel == wanted,
@@ -137,7 +169,7 @@ pub fn is_call(call: &Call, action: Action, unix_seconds: u64) -> bool {
             wanted,
             unix_seconds,
         ),
-        (Call::Arrive { .. }, Action::RequestBody(wanted, question)) => {
+        (Call::Arrive { .. }, Action::Ask(wanted, question)) => {
             is_arrive(call, wanted, question, unix_seconds)
         }
         (Call::Slice { unix_seconds: made }, Action::Slice) => *made == unix_seconds,
