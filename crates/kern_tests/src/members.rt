@@ -2,6 +2,7 @@
 
 use crate::fault::SessionFault;
 use base_text::sequence::{Bytes, Frames};
+use hex::FromHexError;
 use serde_json::Value;
 use std::alloc::{AllocError, Global};
 
@@ -66,6 +67,7 @@ fn frame(alloc: Global, item: &Value, key: &'static str) -> Result<Bytes, Sessio
     let digits = item.as_str().ok_or(SessionFault::Member(key))?;
     match hex::decode(alloc, digits.as_bytes()) {
         Ok(items) => Ok(Bytes::from(items)),
+        Err(FromHexError::OutOfMemory) => Err(SessionFault::OutOfMemory),
         Err(_) => Err(SessionFault::Member(key)),
     }
 }

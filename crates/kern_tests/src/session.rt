@@ -150,11 +150,24 @@ impl Session {
     }
 
     fn call(&mut self, alloc: Global, line: &Value) -> Result<(), SessionFault> {
-        let call = call_of(alloc, member(line, "call")?)?;
-        let answer = self.kernel.act(call);
+        let answer = self.act(alloc, member(line, "call")?)?;
         let compared = self.compare(alloc, line, &answer);
         drop(answer);
         compared
+    }
+
+    // Makes a call, and once more where the kernel had no memory for it: that must not have changed anything.
+    fn act(
+        &mut self,
+        alloc: Global,
+        told: &Value,
+    ) -> Result<Result<Reply, KernelFault>, SessionFault> {
+        let answer = self.kernel.act(call_of(alloc, told)?);
+        if !is_refused(&answer) {
+            return Ok(answer);
+        }
+        drop(answer);
+        Ok(self.kernel.act(call_of(alloc, told)?))
     }
 
     fn compare(
@@ -209,6 +222,10 @@ impl Session {
     }
 }
 
+fn is_refused(answer: &Result<Reply, KernelFault>) -> bool {
+    matches!(answer, Err(KernelFault::OutOfMemory))
+}
+
 fn see_posts_of(
     alloc: Global,
     kernel: &mut Kernel,
@@ -216,7 +233,10 @@ fn see_posts_of(
     connection: u32,
     from: u64,
 ) -> Result<(), SessionFault> {
-    let answer = kernel.act(Call::Fetch { connection, from });
+    let mut answer = kernel.act(Call::Fetch { connection, from });
+    if is_refused(&answer) {
+        answer = kernel.act(Call::Fetch { connection, from });
+    }
     let compared = compare_seen(alloc, line, connection, &answer);
     drop(answer);
     compared
@@ -231,6 +251,7 @@ fn compare_seen(
 ) -> Result<(), SessionFault> {
     match answer {
         Ok(Reply::Fetched { posts, .. }) => compare_fetched(alloc, line, connection, posts),
+        Err(KernelFault::OutOfMemory) => Err(SessionFault::OutOfMemory),
         _ => Err(SessionFault::Fetch(connection)),
     }
 }
