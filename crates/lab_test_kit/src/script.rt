@@ -103,7 +103,8 @@ pub fn set_breakpoints(
     Ok(Some(Event::SetBreakpoints { path, lines }))
 }
 
-fn event(alloc: Global, step: Step) -> Result<Option<Event>, AllocError>
+/// The event of a step; none, where it is a look, more than one event, or has more lines than a source may have.
+pub fn event_of(alloc: Global, step: Step) -> Result<Option<Event>, AllocError>
     ensures { IfOk result (λ event. IfSome event (λ event. Fits event)) }
 {
     Ok(Some(match step {
@@ -189,7 +190,7 @@ pub fn tell_event(lab: &mut Lab, event: Event, told: &mut String) -> Result<(), 
 
 // Adds what an event answers, or what is looked at.
 fn tell_one(alloc: Global, lab: &mut Lab, step: Step, told: &mut String) -> Result<(), AllocError> {
-    match event(alloc, step)? {
+    match event_of(alloc, step)? {
         Some(event) => tell_event(lab, event, told),
         None => show(lab, step, told),
     }

@@ -1,0 +1,152 @@
+//! Boards, by lists of events.
+ghost use Rattle.std.specs.Prelude.{All, IfOk};
+ghost use Rattle.lab_core.specs.Events.{Fits};
+
+use crate::again::{again, tell_want};
+use crate::plays::PLAYS;
+use anyhow::{Result, bail};
+use lab_core::answer::Answers;
+use lab_core::event::Event;
+use lab_core::lab::Lab;
+use lab_test_kit::ask::{Ask, view};
+use lab_test_kit::script::{Step, event_of, tell_event};
+use lab_test_kit::told::put_told;
+use std::alloc::{AllocError, Global};
+
+// What is compared of two boards.
+const VIEWS: [Ask; 9] = [
+    Ask::Info,
+    Ask::Frames(0, 0),
+    Ask::Variables(1, 0, 0),
+    Ask::Variables(2, 0, 0),
+    Ask::Variables(3, 0, 0),
+    Ask::Variables(4, 0, 0),
+    Ask::Variables(5, 0, 256),
+    Ask::Code(0, 16),
+    Ask::Source("p"),
+];
+
+fn events_of(alloc: Global, steps: &[Step]) -> Result<Vec<Event>, AllocError>
+    ensures { IfOk result (λ events. All Fits events.items) }
+{
+    let mut events = Vec::new(alloc);
+    for step in steps {
+        if let Some(event) = event_of(alloc, *step)? {
+            events.push(event)?;
+        }
+    }
+    Ok(events)
+}
+
+fn text_of(alloc: Global, answers: &Answers) -> Result<String, AllocError> {
+    let mut text = String::new(alloc);
+    for answer in answers.as_slice() {
+        put_told(&mut text, answer)?;
+    }
+    Ok(text)
+}
+
+fn tell(rt: &impl Print, alloc: Global, answers: &Answers) -> Result<()> {
+    let text = again!(rt, "the answers' text", text_of(alloc, answers));
+    print!(rt; "{}", text.as_str())?;
+    Ok(())
+}
+
+fn put_origins(text: &mut String, lab: &Lab) -> Result<(), AllocError> {
+    for address in 0..32u16 {
+        if let Some(origin) = lab.origin_at(address) {
+            write!(
+                text,
+                "{} {} {}\n",
+                origin.source, origin.line, origin.is_first
+            )?;
+        }
+    }
+    Ok(())
+}
+
+// What a board shows, and where its first bytes come from.
+fn views_text(alloc: Global, lab: &mut Lab) -> Result<String, AllocError> {
+    let mut text = String::new(alloc);
+    for ask in VIEWS {
+        tell_event(lab, Event::Show(view(alloc, ask)?), &mut text)?;
+    }
+    put_origins(&mut text, lab)?;
+    Ok(text)
+}
+
+// A new board on which these events were done.
+fn replay(alloc: Global, done: &[Event]) -> Result<Lab>
+    requires { All Fits done.now }
+{
+    let mut lab = Lab::new(alloc)?;
+    if lab.run(done).is_ok() {
+        return Ok(lab);
+    }
+    drop(lab);
+    bail!("out of memory twice")
+}
+
+fn expect_same(alloc: Global, lab: &mut Lab, other: &mut Lab) -> Result<()> {
+    let text = views_text(alloc, lab)?;
+    let wanted = views_text(alloc, other)?;
+    if text.as_str() != wanted.as_str() {
+        bail!("the board isn't as before: {text} and {wanted}");
+    }
+    Ok(())
+}
+
+// The board must be one on which these events and no others were done.
+fn expect_as_before(alloc: Global, lab: &mut Lab, done: &[Event]) -> Result<()>
+    requires { All Fits done.now }
+{
+    let mut other = replay(alloc, done)?;
+    let same = expect_same(alloc, lab, &mut other);
+    drop(other);
+    same
+}
+
+// Does the events that are left.
+fn finish(rt: &impl Print, alloc: Global, lab: &mut Lab, rest: &[Event]) -> Result<()>
+    requires { All Fits rest.now }
+{
+    match lab.run(rest) {
+        Ok(answers) => tell(rt, alloc, &answers),
+        Err(_) => bail!("out of memory twice"),
+    }
+}
+
+// Does events in turn on a new board. Where they stop, the board must be as after those before, and then the others
+// follow.
+fn make(rt: &impl Print, alloc: Global, lab: &mut Lab, events: &[Event]) -> Result<()>
+    requires { All Fits events.now }
+{
+    match lab.run(events) {
+        Ok(answers) => tell(rt, alloc, &answers),
+        Err(stopped) => {
+            tell_want(rt, "run")?;
+            let (done, rest) = events.split_at(stopped.answers.len());
+            tell(rt, alloc, &stopped.answers)?;
+            drop(stopped);
+            expect_as_before(alloc, lab, done)?;
+            finish(rt, alloc, lab, rest)
+        }
+    }
+}
+
+fn play(rt: &impl Print, alloc: Global, steps: &[Step]) -> Result<()> {
+    let events = again!(rt, "events", events_of(alloc, steps));
+    let mut lab = again!(rt, "Lab::new", Lab::new(alloc));
+    let made = make(rt, alloc, &mut lab, events.as_slice());
+    drop(lab);
+    drop(events);
+    made
+}
+
+/// The run.
+pub fn run(rt: &impl Print, alloc: Global) -> Result<()> {
+    for steps in PLAYS {
+        play(rt, alloc, steps)?;
+    }
+    Ok(())
+}

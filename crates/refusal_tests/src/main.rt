@@ -1,0 +1,52 @@
+// Five runs of the workspace's parts, each told whole: `refusal_tests assembler`, `board`, `kernel`,
+// `requests` or `desk`. Where a call has no memory, a line `out of memory: CALL` tells it, the value is held against
+// what it was before, and the same call is made once more. So whichever one allocation is refused, the same is printed
+// but for one such line at most: refusals/run refuses each in turn.
+// No contract is claimed here but that events fit and passes stay with their desk.
+#![tactic(auto)]
+
+mod again;
+mod answers;
+mod assembler;
+mod board;
+mod desk;
+mod kernel;
+mod plays;
+mod requests;
+
+use crate::again::tell_want;
+use anyhow::{Result, bail};
+use std::alloc::Global;
+use std::env;
+use std::rt::Env;
+use std::sync::Wait;
+
+fn run<R: Wait + Print>(rt: &R, alloc: Global, name: &str) -> Result<()> {
+    match name {
+        "assembler" => assembler::run(rt, alloc),
+        "board" => board::run(rt, alloc),
+        "kernel" => kernel::run(rt, alloc, &kernel::FIRST),
+        "requests" => kernel::run(rt, alloc, &requests::ACTIONS),
+        "desk" => desk::run(rt, alloc),
+        _ => bail!("usage: refusal_tests assembler | board | kernel | requests | desk"),
+    }
+}
+
+fn words_of<R: Env + AllocGlobal>(rt: &R) -> Result<Vec<String>> {
+    Ok(env::args(rt)?.skip(1).collect(rt.alloc())?)
+}
+
+fn main(rt: HostRuntime) -> Result<()> {
+    let words = match words_of(&rt) {
+        Ok(words) => words,
+        Err(_) => {
+            tell_want(&rt, "the words")?;
+            words_of(&rt)?
+        }
+    };
+    let name = match words.as_slice() {
+        [name] => name.as_str(),
+        _ => "",
+    };
+    run(&rt, rt.alloc(), name)
+}
