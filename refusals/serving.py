@@ -1,0 +1,52 @@
+"""Starts kernels of connection files of their own, of which allocations may be refused."""
+import json
+import os
+import random
+import select
+import subprocess
+import tempfile
+
+from refusing import Counts, program
+
+KEY = "a kernel's key"
+PORTS = ("shell", "iopub", "stdin", "control", "hb")
+FIRST_PORT = 5001
+# How long a kernel may take to begin, in seconds.
+SECONDS = 10
+
+
+class Kernel:
+    """A kernel at an address of its own. With an allocator some of its allocations are refused."""
+
+    def __init__(self, library=None, first=0, last=0):
+        parts = (random.randrange(1, 255) for _ in range(3))
+        self.connection = {"transport": "tcp", "ip": f"127.{'.'.join(map(str, parts))}", "key": KEY,
+                           "signature_scheme": "hmac-sha256"}
+        self.connection |= {f"{name}_port": FIRST_PORT + place for place, name in enumerate(PORTS)}
+        descriptor, self.path = tempfile.mkstemp(suffix=".json")
+        with os.fdopen(descriptor, "w", encoding="ascii") as file:
+            json.dump(self.connection, file)
+        self.counts = Counts(library, first, last) if library else None
+        self.process = subprocess.Popen(
+            [program("lab80_kernel"), "kernel", self.path], env=self.counts.environment if library else {},
+            stdin=subprocess.DEVNULL, stdout=subprocess.PIPE, stderr=subprocess.STDOUT)
+        said, _, _ = select.select([self.process.stdout], [], [], SECONDS)
+        self.listens = bool(said) and self.process.stdout.readline() == b"listening\n"
+
+    def __enter__(self):
+        return self
+
+    def __exit__(self, *_):
+        self.process.kill()
+        self.process.wait()
+        self.process.stdout.close()
+        os.unlink(self.path)
+        if self.counts:
+            self.counts.__exit__()
+
+    def status(self, seconds):
+        """The status with which it ends within this time, if it does."""
+        try:
+            return self.process.wait(seconds)
+        except subprocess.TimeoutExpired:
+            return None
