@@ -3,8 +3,6 @@ import socket
 import struct
 import time
 
-from jupyter_client.session import Session
-
 CHANNELS = ("shell", "iopub", "stdin", "control", "hb")
 
 # What connects to each channel.
@@ -94,6 +92,8 @@ class Peer:
             self.say(message(b"\x01"))
             return self.receive_message()[0].startswith(b"status")
         if self.channel != "stdin":
+            # Here alone: refusals/serve has no need of Jupyter's packages.
+            from jupyter_client.session import Session
             session = Session(key=self.key)
             self.say(message(*session.serialize(session.msg("kernel_info_request"))))
             return b'"kernel_info_reply"' in self.receive_message()[2]
