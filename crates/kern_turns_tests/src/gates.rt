@@ -3,6 +3,7 @@ ghost use Rattle.std.specs.Prelude.{◌≡◌};
 ghost use Rattle.kern_net.specs.Gates.{unpolled};
 
 use crate::signals::{Signals, rest};
+use kern_desk::seated::Pass;
 use kern_net::gate::{ReaderGate, WorkerGate, WriterGate};
 use kern_net::tally::{Tally, WorkerTally, one_more};
 use std::rt::Clock;
@@ -80,13 +81,18 @@ impl<'a, C: Clock> WorkerGate for WorkGate<'a, C> {
 #[derive(Drop)]
 pub struct InGate {
     pub wakes: u64,
+    pub tells: u64,
 }
 
 impl ReaderGate for InGate {
-    ghost polls = { λ g. record { wakes = g.wakes } };
+    ghost polls = { λ g. record { wakes = g.wakes; tells = g.tells } };
 
     fn wake<R: Wait>(&mut self, rt: &R) {
         self.wakes = one_more(rt, self.wakes);
+    }
+
+    fn tell<R: Wait>(&mut self, rt: &R) {
+        self.tells = one_more(rt, self.tells);
     }
 
     fn unix_seconds<R: Wait>(&mut self, _rt: &R) -> u64 {
@@ -118,7 +124,7 @@ impl<'a, C: Clock> OutGate<'a, C> {
 impl<'a, C: Clock> WriterGate for OutGate<'a, C> {
     ghost polls = { λ g. record { idle = g.idle } };
 
-    fn idle<R: Wait>(&mut self, rt: &R) -> bool {
+    fn idle<R: Wait>(&mut self, rt: &R, _pass: &Pass, _next: u64) -> bool {
         rest(self.clock);
         let said = !self.signals.answered.has_come() && self.idle.yes() < MOST_LOOKS;
         self.idle.add(rt, said);
