@@ -5,7 +5,7 @@ ghost use Rattle.asm_syntax.specs.Outcome.{LineGives};
 ghost use Rattle.asm_text.specs.Forms.{no_operand, one_operand, two_operands, only_expression};
 ghost use Rattle.asm_text.specs.Forms.{only_named};
 
-use crate::registers::{Named, fitting, named_operand};
+use crate::registers::{Named, fit, named_operand};
 use asm_operand::commas::{pair, single};
 use asm_operand::expression::expression;
 use asm_syntax::fault::{FaultKind, LineFault};
@@ -34,7 +34,7 @@ pub fn one_operand<'a>(
 ) -> Result<&'a [Placed<'a>], LineFault>
     ensures { LineGives (λ x. pieces_of x.now) result (one_operand column (pieces_of tokens.now)) }
 {
-    fitting(column, single(tokens))
+    fit(column, single(tokens))
 }
 
 /// The operands, where two stand after the operation.
@@ -45,7 +45,7 @@ pub fn two_operands<'a>(
     ensures { LineGives (λ x. (pieces_of x.0.now, pieces_of x.1.now)) result
         (two_operands column (pieces_of tokens.now)) }
 {
-    fitting(column, pair(tokens))
+    fit(column, pair(tokens))
 }
 
 /// The expression, where one operand stands after the operation.

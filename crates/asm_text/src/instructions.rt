@@ -7,7 +7,7 @@ ghost use Rattle.asm_text.specs.Forms.{register_instruction, pair_instruction, i
 ghost use Rattle.asm_text.specs.Forms.{stack_instruction, instruction_of};
 
 use crate::forms::{no_operand, only_expression, only_named, two_operands};
-use crate::registers::{fitting, named_operand, register_of};
+use crate::registers::{fit, named_operand, register_of};
 use asm_operand::expression::expression;
 use asm_syntax::fault::LineFault;
 use asm_syntax::keyword::{
@@ -76,7 +76,7 @@ fn move_of(column: usize, operands: (&[Placed], &[Placed])) -> Result<Instr, Lin
 {
     let to = named_operand(column, operands.0)?;
     let from = named_operand(column, operands.1)?;
-    fitting(column, move_between(register_of(to), register_of(from)))
+    fit(column, move_between(register_of(to), register_of(from)))
 }
 
 // MOV with its operands.

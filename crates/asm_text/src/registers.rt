@@ -100,7 +100,7 @@ pub fn register_of(reg: Reg) -> Option<Register>
 }
 
 /// What fits, or the fault of the operation at this column.
-pub fn fitting<T>(column: usize, found: Option<T>) -> Result<T, LineFault>
+pub fn fit<T>(column: usize, found: Option<T>) -> Result<T, LineFault>
     ensures { LineGives (λ x. x) result (fitting column found) }
 {
     match found {
@@ -120,5 +120,5 @@ pub fn named_operand<T: Named>(column: usize, operand: &[Placed]) -> Result<T, L
         Some(word) => T::from_word(word),
         None => None,
     };
-    fitting(column, named)
+    fit(column, named)
 }

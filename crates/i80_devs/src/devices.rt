@@ -126,11 +126,11 @@ impl Devices {
     }
 
     /// How many typed bytes wait.
-    pub fn waiting(&self) -> usize
+    pub fn bytes_waiting(&self) -> usize
         ensures { (past : List Operation) → StandsFor self.now past
             → result ≡ length (panel_after past).waiting }
     {
-        self.panel.waiting()
+        self.panel.bytes_waiting()
     }
 
     /// Sets the eight switches.

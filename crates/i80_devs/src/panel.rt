@@ -75,7 +75,7 @@ impl Panel {
         }
     }
 
-    pub fn waiting(&self) -> usize
+    pub fn bytes_waiting(&self) -> usize
         ensures { result ≡ length self.now.waiting }
     {
         self.waiting.len()

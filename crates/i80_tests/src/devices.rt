@@ -55,7 +55,7 @@ fn perform(devices: &mut Devices, act: Act) -> Result<bool, AllocError> {
 fn finds(devices: &mut Devices, act: Act) -> bool {
     match act {
         Act::Press(number, answer) => devices.press(number) == answer,
-        Act::Waiting(count) => devices.waiting() == count,
+        Act::Waiting(count) => devices.bytes_waiting() == count,
         Act::Lights(switches, lamps) => {
             devices.switches() == switches && devices.lamps() == lamps
         }

@@ -200,7 +200,7 @@ fn push_devices(
     push_byte(alloc, shown, "lamps", devices.lamps())?;
     let latched = latched_text(alloc, devices.request())?;
     push(alloc, shown, "latched", latched)?;
-    let waiting = decimal(alloc, devices.waiting())?;
+    let waiting = decimal(alloc, devices.bytes_waiting())?;
     push(alloc, shown, "waiting", waiting)
 }
 

@@ -89,7 +89,7 @@ impl Context {
     {
         match self.early(machine, is_watched) {
             Some(outcome) => Some(outcome),
-            None => self.waiting(machine),
+            None => self.find_wait(machine),
         }
     }
 
@@ -187,7 +187,7 @@ impl Context {
 
     /// HLT with interrupts on, and no request is latched yet.
     #[inline(always)]
-    pub(super) fn waiting(&self, machine: &Machine) -> Option<SliceOutcome>
+    pub(super) fn find_wait(&self, machine: &Machine) -> Option<SliceOutcome>
         ensures { FindsIn waiting result machine.now self.now }
     {
         if self.is_halted {

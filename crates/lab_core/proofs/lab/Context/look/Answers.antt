@@ -11,4 +11,4 @@ returns-in-Some c = λ lab b traffic s.
 pub returns-in-None : goal.returns-in-None
 returns-in-None c = λ lab b traffic s.
     let early : early_reason b ≡ None = sym (c.early.ensures lab b traffic s) ∙ c.in-None.is in
-    rw early (c.waiting.ensures lab b traffic s)
+    rw early (c.find_wait.ensures lab b traffic s)

@@ -7,7 +7,7 @@ use Rattle.i80_exec.specs.declared.registers.Interrupts.{Interrupts}
 use Rattle.i80_devs.specs.Past.{panel_after}
 use Rattle.lab_core.specs.declared.answer.SliceOutcome.TheVariants as outcome
 use Rattle.lab_core.specs.Slices.{ends_in_halt, is_on}
-use Rattle.lab_core.proofs.lab.Context.waiting.Goals as goal
+use Rattle.lab_core.proofs.lab.Context.find_wait.Goals as goal
 
 pub returns-then-self : goal.returns-then-self
 returns-then-self c = λ lab b traffic s.
