@@ -6,7 +6,7 @@ use Rattle.std.specs.Prelude.{nat_lt, nat_le}
 use Rattle.std.specs.List.{list_all}
 use Rattle.asm_lex.specs.Characters.{is_printed}
 use Rattle.asm_syntax.specs.Lexemes.{characters_of}
-use Rattle.asm_lex.specs.Texts.{moved_by, closing, is_text}
+use Rattle.asm_lex.specs.Texts.{moved_by, closing_quote, is_text}
 
 pub moved_none : (o : Option ℕ) → moved_by 0 o ≡ o
 moved_none None = refl
@@ -17,27 +17,27 @@ moved_more m n None = refl
 moved_more m n (Some k) = ap (λ (j : ℕ). Some j) (omega arith)
 
 pub plain : (len : ℕ) (rest : List ℕ) (total : Option ℕ) → 0 < length rest → get_or rest 0 0 ≢ 39
-    → moved_by len (closing rest) ≡ total → moved_by (len + 1) (closing (drop 1 rest)) ≡ total
+    → moved_by len (closing_quote rest) ≡ total → moved_by (len + 1) (closing_quote (drop 1 rest)) ≡ total
 plain len [] total lt ne h = absurd (omega arith)
 plain len (b ∷ []) total lt ne h = let e : eqb b 39 ≡ false = ne_eqb b 39 ne in rw e at h
 plain len (b ∷ c ∷ rest) total lt ne h =
     let e : eqb b 39 ≡ false = ne_eqb b 39 ne in
-    sym (moved_more len 1 (closing (c ∷ rest))) ∙ rw e at h
+    sym (moved_more len 1 (closing_quote (c ∷ rest))) ∙ rw e at h
 
 pub doubled : (len : ℕ) (rest : List ℕ) (total : Option ℕ) → 2 ≤ length rest → get_or rest 0 0 ≡ 39
     → get_or rest 1 0 ≡ 39
-    → moved_by len (closing rest) ≡ total → moved_by (len + 2) (closing (drop 2 rest)) ≡ total
+    → moved_by len (closing_quote rest) ≡ total → moved_by (len + 2) (closing_quote (drop 2 rest)) ≡ total
 doubled len [] total lt e f h = absurd (omega arith)
 doubled len (b ∷ []) total lt e f h = absurd (omega arith)
 doubled len (b ∷ c ∷ rest) total lt e f h =
     let p = eq-eqb b 39 e in
     let q = eq-eqb c 39 f in
-    sym (moved_more len 2 (closing rest)) ∙ rw (p, q) at h
+    sym (moved_more len 2 (closing_quote rest)) ∙ rw (p, q) at h
 
 -- the closing quote: a quote at the end, or one that isn't doubled
 pub closes : (len : ℕ) (rest : List ℕ) (total : Option ℕ) → 0 < length rest → get_or rest 0 0 ≡ 39
     → (2 ≤ length rest → get_or rest 1 0 ≢ 39)
-    → moved_by len (closing rest) ≡ total → Some len ≡ total
+    → moved_by len (closing_quote rest) ≡ total → Some len ≡ total
 closes len [] total lt e f h = absurd (omega arith)
 closes len (b ∷ []) total lt e f h =
     let p = eq-eqb b 39 e in

@@ -18,7 +18,7 @@ use Rattle.asm_syntax.specs.Outcome.{Fault}
 use Rattle.std.specs.Char.{is_ascii_digit, is_ascii_alphanumeric}
 use Rattle.asm_lex.specs.Characters.{is_blank, is_word_part, is_printed}
 use Rattle.asm_lex.specs.Numbers.{number_of}
-use Rattle.asm_lex.specs.Texts.{closing}
+use Rattle.asm_lex.specs.Texts.{closing_quote}
 use Rattle.asm_lex.specs.Tokens.{text_read, token_at, tokens_from, tokens_of}
 use Rattle.asm_lex.specs.Spelling.{Begins, IsWord, IsDigits, is_quote, IsString, is_sign, IsToken, SpellsUpTo}
 use Rattle.asm_lex.specs.Spelling.{Spells, IsWrong, Breaks}
@@ -68,7 +68,7 @@ wrong_number c (b ∷ bs) rest h e =
 
 no_string : (bytes : List ℕ) → AtQuote bytes
     → ((cs text rest : List ℕ) → 39 ∷ bytes ≡ text ++ rest → IsString cs text rest → ⊥)
-    → text_read bytes (closing bytes) ≡ Err kind.Text
+    → text_read bytes (closing_quote bytes) ≡ Err kind.Text
 no_string bytes (string cs text rest is s) h = absurd (h cs text rest is s)
 no_string bytes (none e) h = e
 

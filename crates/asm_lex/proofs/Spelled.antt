@@ -9,7 +9,7 @@ use Rattle.asm_syntax.specs.Outcome.{Fault, ◌>>=◌}
 use Rattle.std.specs.Char.{is_ascii_digit, is_ascii_uppercase, is_ascii_lowercase, is_ascii_alphanumeric}
 use Rattle.asm_lex.specs.Characters.{is_blank, is_word_part, is_printed}
 use Rattle.asm_lex.specs.Numbers.{number_of}
-use Rattle.asm_lex.specs.Texts.{closing}
+use Rattle.asm_lex.specs.Texts.{closing_quote}
 use Rattle.asm_lex.specs.Tokens.{number_read, value_read, word_read, text_read, token_at, tokens_from}
 use Rattle.asm_lex.specs.Spelling.{IsWord, IsDigits, doubled, IsString, is_sign, IsToken, SpellsUpTo, IsTail}
 use Rattle.asm_lex.proofs.Spans.{span_is, drop_front, differs}
@@ -28,7 +28,7 @@ word_first : (b : ℕ) (xs : List ℕ) → is_ascii_digit b ≡ false → is_wor
 unfolding token_at
 word_first b xs digit part = rw (part, digit) refl
 
-pub text_first : (xs : List ℕ) → token_at (39 ∷ xs) ≡ text_read xs (closing xs)
+pub text_first : (xs : List ℕ) → token_at (39 ∷ xs) ≡ text_read xs (closing_quote xs)
 unfolding token_at
 text_first xs = refl
 

@@ -9,7 +9,7 @@ use Rattle.std.proofs.lemmas.Bool.{and_parts, eqb-true, lt-ltb, le-leb, ltb-true
 use Rattle.asm_syntax.specs.declared.fault.FaultKind.TheVariants as kind
 use Rattle.asm_syntax.specs.Lexemes.{characters_of, Text}
 use Rattle.asm_lex.specs.Characters.{is_printed}
-use Rattle.asm_lex.specs.Texts.{moved_by, closing, is_text}
+use Rattle.asm_lex.specs.Texts.{moved_by, closing_quote, is_text}
 use Rattle.asm_lex.specs.Tokens.{text_read}
 use Rattle.asm_lex.specs.Spelling.{Stops, is_quote, doubled, IsString}
 
@@ -42,28 +42,28 @@ printed-doubled (c ∷ cs) = printed_step c cs (eqb c 39) refl (printed-doubled 
 moved_is : (n m k : ℕ) (o : Option ℕ) → o ≡ Some m → k ≡ n + m → moved_by n o ≡ Some k
 moved_is n m k o e f = rw (e, f) refl
 
-other_closing : (c : ℕ) (t : List ℕ) (n : ℕ) → eqb c 39 ≡ false → closing t ≡ Some n
-    → closing (c ∷ t) ≡ Some (suc n)
+other_closing : (c : ℕ) (t : List ℕ) (n : ℕ) → eqb c 39 ≡ false → closing_quote t ≡ Some n
+    → closing_quote (c ∷ t) ≡ Some (suc n)
 other_closing c [] n e h = absurd cc
-other_closing c (d ∷ t) n e h = rw e (moved_is 1 n (suc n) (closing (d ∷ t)) h (omega arith))
+other_closing c (d ∷ t) n e h = rw e (moved_is 1 n (suc n) (closing_quote (d ∷ t)) h (omega arith))
 
 closing_step : (c : ℕ) (cs rest : List ℕ) (v : Bool) → eqb c 39 ≡ v
-    → closing (doubled cs ++ (39 ∷ rest)) ≡ Some (length (doubled cs))
-    → closing (doubled (c ∷ cs) ++ (39 ∷ rest)) ≡ Some (length (doubled (c ∷ cs)))
+    → closing_quote (doubled cs ++ (39 ∷ rest)) ≡ Some (length (doubled cs))
+    → closing_quote (doubled (c ∷ cs) ++ (39 ∷ rest)) ≡ Some (length (doubled (c ∷ cs)))
 closing_step c cs rest true e h =
     rw (e, e) (moved_is 2 (length (doubled cs)) (suc (suc (length (doubled cs))))
-    (closing (doubled cs ++ (39 ∷ rest))) h (omega arith))
+    (closing_quote (doubled cs ++ (39 ∷ rest))) h (omega arith))
 closing_step c cs rest false e h =
     rw e (other_closing c (doubled cs ++ (39 ∷ rest)) (length (doubled cs)) e h)
 
 -- the quote after a string's characters closes it
-pub closing-doubled : (cs rest : List ℕ) → Stops is_quote rest
-    → closing (doubled cs ++ (39 ∷ rest)) ≡ Some (length (doubled cs))
-closing-doubled [] [] stops = refl
-closing-doubled [] (b ∷ rest) stops = rw stops refl
-closing-doubled (c ∷ cs) rest stops = closing_step c cs rest (eqb c 39) refl (closing-doubled cs rest stops)
+pub closing_quote-doubled : (cs rest : List ℕ) → Stops is_quote rest
+    → closing_quote (doubled cs ++ (39 ∷ rest)) ≡ Some (length (doubled cs))
+closing_quote-doubled [] [] stops = refl
+closing_quote-doubled [] (b ∷ rest) stops = rw stops refl
+closing_quote-doubled (c ∷ cs) rest stops = closing_step c cs rest (eqb c 39) refl (closing_quote-doubled cs rest stops)
 
--- what closing finds: a string's characters, each quote doubled, and the closing quote after them
+-- what is before a closing quote: a string's characters, each quote doubled, and the closing quote after them
 pub record Closed (bytes : List ℕ) (n : ℕ) : Type 0 where
   pub cs : List ℕ
   pub rest : List ℕ
@@ -75,10 +75,10 @@ moved_some : (k n : ℕ) (o : Option ℕ) → moved_by k o ≡ Some n → (m : �
 moved_some k n None h = absurd cc
 moved_some k n (Some m) h = (m, refl, cc)
 
-add_doubled : (n : ℕ) (rest : List ℕ) → moved_by 2 (closing rest) ≡ Some n
-    → ((m : ℕ) → closing rest ≡ Some m → Closed rest m) → Closed (39 ∷ 39 ∷ rest) n
+add_doubled : (n : ℕ) (rest : List ℕ) → moved_by 2 (closing_quote rest) ≡ Some n
+    → ((m : ℕ) → closing_quote rest ≡ Some m → Closed rest m) → Closed (39 ∷ 39 ∷ rest) n
 add_doubled n rest h more =
-    let (m, is, n_is) = moved_some 2 n (closing rest) h in
+    let (m, is, n_is) = moved_some 2 n (closing_quote rest) h in
     let r = more m is in
     record {
       cs = 39 ∷ r.cs;
@@ -88,10 +88,10 @@ add_doubled n rest h more =
       len = omega (arith, r.len);
     }
 
-add_other : (b n : ℕ) (rest : List ℕ) → eqb b 39 ≡ false → moved_by 1 (closing rest) ≡ Some n
-    → ((m : ℕ) → closing rest ≡ Some m → Closed rest m) → Closed (b ∷ rest) n
+add_other : (b n : ℕ) (rest : List ℕ) → eqb b 39 ≡ false → moved_by 1 (closing_quote rest) ≡ Some n
+    → ((m : ℕ) → closing_quote rest ≡ Some m → Closed rest m) → Closed (b ∷ rest) n
 add_other b n rest e h more =
-    let (m, is, n_is) = moved_some 1 n (closing rest) h in
+    let (m, is, n_is) = moved_some 1 n (closing_quote rest) h in
     let r = more m is in
     record {
       cs = b ∷ r.cs;
@@ -102,7 +102,7 @@ add_other b n rest e h more =
           (omega (arith, r.len));
     }
 
-closed_one : (b n : ℕ) (v : Bool) → eqb b 39 ≡ v → closing (b ∷ []) ≡ Some n → Closed (b ∷ []) n
+closed_one : (b n : ℕ) (v : Bool) → eqb b 39 ≡ v → closing_quote (b ∷ []) ≡ Some n → Closed (b ∷ []) n
 closed_one b n true e h =
     let is : b ≡ 39 = eqb-true b 39 e in
     let n_is : Some 0 ≡ Some n = rw e at h in
@@ -110,23 +110,23 @@ closed_one b n true e h =
 closed_one b n false e h = let no : None ≡ Some n = rw e at h in absurd cc
 
 closed_two : (b c n : ℕ) (rest : List ℕ) (v w : Bool) → eqb b 39 ≡ v → eqb c 39 ≡ w
-    → closing (b ∷ c ∷ rest) ≡ Some n
-    → ((m : ℕ) → closing rest ≡ Some m → Closed rest m)
-    → ((m : ℕ) → closing (c ∷ rest) ≡ Some m → Closed (c ∷ rest) m) → Closed (b ∷ c ∷ rest) n
+    → closing_quote (b ∷ c ∷ rest) ≡ Some n
+    → ((m : ℕ) → closing_quote rest ≡ Some m → Closed rest m)
+    → ((m : ℕ) → closing_quote (c ∷ rest) ≡ Some m → Closed (c ∷ rest) m) → Closed (b ∷ c ∷ rest) n
 closed_two b c n rest true true e f h two one =
     let b_is : b ≡ 39 = eqb-true b 39 e in
     let c_is : c ≡ 39 = eqb-true c 39 f in
-    let k : moved_by 2 (closing rest) ≡ Some n = rw (e, f) at h in
+    let k : moved_by 2 (closing_quote rest) ≡ Some n = rw (e, f) at h in
     rw (b_is, c_is) (add_doubled n rest k two)
 closed_two b c n rest true false e f h two one =
     let b_is : b ≡ 39 = eqb-true b 39 e in
     let n_is : Some 0 ≡ Some n = rw (e, f) at h in
     record { cs = []; rest = c ∷ rest; splits = ap (λ k. k ∷ c ∷ rest) b_is; ends = f; len = cc }
 closed_two b c n rest false w e f h two one =
-    let k : moved_by 1 (closing (c ∷ rest)) ≡ Some n = rw e at h in
+    let k : moved_by 1 (closing_quote (c ∷ rest)) ≡ Some n = rw e at h in
     add_other b n (c ∷ rest) e k one
 
-pub closed : (bytes : List ℕ) (n : ℕ) → closing bytes ≡ Some n → Closed bytes n
+pub closed : (bytes : List ℕ) (n : ℕ) → closing_quote bytes ≡ Some n → Closed bytes n
 closed [] n h = absurd cc
 closed (b ∷ []) n h = closed_one b n (eqb b 39) refl h
 closed (b ∷ c ∷ rest) n h =
@@ -134,7 +134,7 @@ closed (b ∷ c ∷ rest) n h =
 
 string_reads : (cs more : List ℕ) → Stops is_quote more → list_all is_printed cs ≡ true → 0 < length cs
     → length cs ≤ 128
-    → text_read (doubled cs ++ (39 ∷ more)) (closing (doubled cs ++ (39 ∷ more)))
+    → text_read (doubled cs ++ (39 ∷ more)) (closing_quote (doubled cs ++ (39 ∷ more)))
     ≡ Ok (Text cs, length (doubled cs) + 2)
 string_reads cs more ends printed some most =
     let taken : take (length (doubled cs)) (doubled cs ++ (39 ∷ more)) ≡ doubled cs =
@@ -142,11 +142,11 @@ string_reads cs more ends printed some most =
     let all : list_all is_printed (doubled cs) ≡ true = printed-doubled cs ∙ printed in
     let a : nat_lt 0 (length cs) ≡ true = lt-ltb 0 (length cs) some in
     let b : nat_le (length cs) 128 ≡ true = le-leb (length cs) 128 most in
-    rw (closing-doubled cs more ends, taken, all, characters_of-doubled cs, a, b) refl
+    rw (closing_quote-doubled cs more ends, taken, all, characters_of-doubled cs, a, b) refl
 
 -- a string is read as such
 pub string_is_read : (bytes cs text rest : List ℕ) → 39 ∷ bytes ≡ text ++ rest → IsString cs text rest
-    → text_read bytes (closing bytes) ≡ Ok (Text cs, length text)
+    → text_read bytes (closing_quote bytes) ≡ Ok (Text cs, length text)
 string_is_read bytes cs text rest splits s =
     let inner : bytes ≡ doubled cs ++ (39 ∷ rest) =
     ap (drop 1) (splits ∙ ap (λ t. t ++ rest) s.quoted) ∙ append_assoc (doubled cs) (39 ∷ []) rest in
@@ -157,9 +157,9 @@ string_is_read bytes cs text rest splits s =
 -- at a quote a string stands, or none
 pub data AtQuote (bytes : List ℕ) : Type 0 where
   string : (cs text rest : List ℕ) → 39 ∷ bytes ≡ text ++ rest → IsString cs text rest → AtQuote bytes
-  none : text_read bytes (closing bytes) ≡ Err kind.Text → AtQuote bytes
+  none : text_read bytes (closing_quote bytes) ≡ Err kind.Text → AtQuote bytes
 
-checked : (bytes : List ℕ) (n : ℕ) (v : Bool) → closing bytes ≡ Some n → is_text (take n bytes) ≡ v
+checked : (bytes : List ℕ) (n : ℕ) (v : Bool) → closing_quote bytes ≡ Some n → is_text (take n bytes) ≡ v
     → Closed bytes n → AtQuote bytes
 checked bytes n true e f r =
     let inner : take n bytes ≡ doubled r.cs =
@@ -182,9 +182,9 @@ checked bytes n true e f r =
     (record { quoted = refl; ends = r.ends; printed = printed; some = some; most = most })
 checked bytes n false e f r = none (rw (e, f) refl)
 
-at_closing : (bytes : List ℕ) (o : Option ℕ) → closing bytes ≡ o → AtQuote bytes
+at_closing : (bytes : List ℕ) (o : Option ℕ) → closing_quote bytes ≡ o → AtQuote bytes
 at_closing bytes None e = none (rw e refl)
 at_closing bytes (Some n) e = checked bytes n (is_text (take n bytes)) e refl (closed bytes n e)
 
 pub at_quote : (bytes : List ℕ) → AtQuote bytes
-at_quote bytes = at_closing bytes (closing bytes) refl
+at_quote bytes = at_closing bytes (closing_quote bytes) refl

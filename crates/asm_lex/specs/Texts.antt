@@ -13,12 +13,12 @@ moved_by n None = None
 moved_by n (Some m) = Some (n + m)
 
 -- where the closing quote stands after an opening one: it is the first that isn't doubled
-abbrev pub closing : List ℕ → Option ℕ
-closing [] = None
-closing (b ∷ []) = if b == quote then Some 0 else None
-closing (b ∷ c ∷ rest) =
-    if b == quote then (if c == quote then moved_by 2 (closing rest) else Some 0)
-    else moved_by 1 (closing (c ∷ rest))
+abbrev pub closing_quote : List ℕ → Option ℕ
+closing_quote [] = None
+closing_quote (b ∷ []) = if b == quote then Some 0 else None
+closing_quote (b ∷ c ∷ rest) =
+    if b == quote then (if c == quote then moved_by 2 (closing_quote rest) else Some 0)
+    else moved_by 1 (closing_quote (c ∷ rest))
 
 -- what may stand between a string's quotes: from 1 to 128 characters, a doubled quote as one
 abbrev pub is_text : List ℕ → Bool

@@ -12,7 +12,7 @@ use Rattle.asm_syntax.specs.Lexemes.{word_lexeme, lexeme_of, characters_of}
 use Rattle.asm_syntax.specs.Outcome.{Fault, ◌>>=◌}
 use Rattle.asm_lex.specs.Characters.{is_blank, is_word_part, is_printed}
 use Rattle.asm_lex.specs.Numbers.{number_of}
-use Rattle.asm_lex.specs.Texts.{closing, is_text}
+use Rattle.asm_lex.specs.Texts.{closing_quote, is_text}
 
 -- a lexeme and the length of its text, or what is wrong with it
 abbrev pub Read : Type 0
@@ -49,7 +49,7 @@ token_at [] = Err kind.Character
 token_at (b ∷ rest) =
     if is_ascii_digit b then number_read (take_while is_ascii_alphanumeric (b ∷ rest))
     else (if is_word_part b then word_read (take_while is_word_part (b ∷ rest))
-    else (if b == quote then text_read rest (closing rest)
+    else (if b == quote then text_read rest (closing_quote rest)
     else (if is_printed b then Ok (Sign b, 1)
     else Err kind.Character)))
 

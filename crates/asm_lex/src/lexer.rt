@@ -5,12 +5,12 @@ ghost use Rattle.std.specs.Char.{is_ascii_alphanumeric};
 ghost use Rattle.asm_syntax.specs.Lexemes.{pieces_of};
 ghost use Rattle.asm_syntax.specs.Outcome.{LineGives};
 ghost use Rattle.asm_lex.specs.Characters.{is_word_part};
-ghost use Rattle.asm_lex.specs.Texts.{closing};
+ghost use Rattle.asm_lex.specs.Texts.{closing_quote};
 ghost use Rattle.asm_lex.specs.Tokens.{read_of, number_read, text_read, token_at, tokens_of};
 
 use crate::class::{is_blank, is_printed, is_word_part};
 use crate::number::number_of;
-use crate::quote::{closing, is_text};
+use crate::quote::{find_closing_quote, is_text};
 use asm_syntax::fault::{FaultKind, LineFault};
 use asm_syntax::token::{Placed, Token, Word};
 use asm_syntax::word::word_token;
@@ -50,11 +50,11 @@ fn number_at(bytes: &[u8]) -> Result<(Token<'_>, usize), FaultKind>
 // The string whose opening quote stands at the front.
 fn text_at(bytes: &[u8]) -> Result<(Token<'_>, usize), FaultKind>
     requires { 0 < length bytes.now }
-    ensures value { read_of result ≡ text_read (drop 1 bytes.now) (closing (drop 1 bytes.now)) }
+    ensures value { read_of result ≡ text_read (drop 1 bytes.now) (closing_quote (drop 1 bytes.now)) }
     ensures within { IfOk result (λ x. (0 < x.1) × (x.1 ≤ length bytes.now)) }
 {
     let inner = bytes.split_at(1).1;
-    match closing(inner) {
+    match find_closing_quote(inner) {
         Some(len) => {
             let text = inner.split_at(len).0;
             if is_text(text) {

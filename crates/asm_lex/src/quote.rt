@@ -3,13 +3,13 @@ ghost use Rattle.std.specs.Prelude.{◌≡◌, ◌<◌, length, IfSome};
 ghost use Rattle.std.specs.List.{list_all};
 ghost use Rattle.asm_syntax.specs.Lexemes.{characters_of};
 ghost use Rattle.asm_lex.specs.Characters.{is_printed};
-ghost use Rattle.asm_lex.specs.Texts.{closing, is_text};
+ghost use Rattle.asm_lex.specs.Texts.{closing_quote, is_text};
 
 use crate::class::is_printed;
 
 // Where the closing quote stands after an opening one.
-pub fn closing(bytes: &[u8]) -> Option<usize>
-    ensures value { result ≡ closing bytes.now }
+pub fn find_closing_quote(bytes: &[u8]) -> Option<usize>
+    ensures value { result ≡ closing_quote bytes.now }
     ensures within { IfSome result (λ n. n < length bytes.now) }
 {
     let mut rest = bytes;
