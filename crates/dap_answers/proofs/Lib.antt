@@ -1,2 +1,4 @@
 pub mod SpacedLemmas
 pub mod MurmurLemmas
+pub mod FloatLemmas
+pub mod DepthLemmas

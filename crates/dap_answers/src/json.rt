@@ -90,7 +90,8 @@ impl ToJson for SourceBreakpoints {
     }
 }
 
-fn reference(alloc: Global, address: u16) -> Result<Value, AllocError>
+/// The JSON of an address: `0x` and four digits.
+pub fn reference(alloc: Global, address: u16) -> Result<Value, AllocError>
     ensures { IfOk result (λ v. view v ≡ string (reference address)) }
 {
     let mut text = String::from_str(alloc, "0x")?;

@@ -6,8 +6,8 @@
 #![tactic(auto)]
 
 pub mod answer;
-mod bodies;
+pub mod bodies;
 pub mod cell;
-mod json;
+pub mod json;
 pub mod object;
 pub mod sending;

@@ -21,8 +21,8 @@ use crate::object::Object;
 use serde_json::Value;
 use std::alloc::{AllocError, Global};
 
-// What a response has besides its command.
-fn bare_response(alloc: Global, seq: u64, request_seq: u32, is_success: bool) -> Object
+/// What a response has besides its command, and its body or its message.
+pub fn bare_response(alloc: Global, seq: u64, request_seq: u32, is_success: bool) -> Object
     ensures { HasMembers result (members_from (bare_response seq request_seq is_success)) }
 {
     Object::new(alloc)
@@ -48,7 +48,8 @@ fn success(
         .finish()
 }
 
-fn refusal(
+/// The JSON of a response that refuses its request with a message.
+pub fn refusal(
     alloc: Global,
     seq: u64,
     request_seq: u32,
@@ -95,8 +96,8 @@ fn continued_body(alloc: Global) -> Result<Value, AllocError>
         .finish()
 }
 
-// What an event has, with a body or without one.
-fn bare_event(alloc: Global, seq: u64, name: &str) -> Object
+/// What an event has, with a body or without one.
+pub fn bare_event(alloc: Global, seq: u64, name: &str) -> Object
     ensures { HasMembers result (members_from (bare_event seq name.now)) }
 {
     Object::new(alloc)
@@ -105,7 +106,13 @@ fn bare_event(alloc: Global, seq: u64, name: &str) -> Object
         .text("event", name)
 }
 
-fn event_with_body(alloc: Global, seq: u64, name: &str, body: Value) -> Result<Value, AllocError>
+/// The JSON of an event with this name and body.
+pub fn event_with_body(
+    alloc: Global,
+    seq: u64,
+    name: &str,
+    body: Value,
+) -> Result<Value, AllocError>
     ensures { IfOk result (λ v. view v ≡ event_with_body seq name.now (view body)) }
 {
     bare_event(alloc, seq, name).value("body", body).finish()

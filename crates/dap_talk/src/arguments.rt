@@ -61,7 +61,7 @@ pub fn whole_between(value: &Value, low: u32, high: u32) -> Option<u32>
 }
 
 /// What stands at a key, `Some(None)` where nothing does; None where the arguments are no object.
-fn argument_at<'a>(request: &'a Value, key: &str) -> Option<Option<&'a Value>>
+pub fn argument_at<'a>(request: &'a Value, key: &str) -> Option<Option<&'a Value>>
     ensures { option_map (option_map (λ v. view v.now)) result
         ≡ argument_at key.now (view request.now) }
 {
@@ -144,7 +144,8 @@ pub fn granularity_or_line(request: &Value, key: &str) -> Option<Granularity>
     }
 }
 
-fn address_of(text: &str) -> Option<u16>
+/// The address that a text is, `0x` and four hexadecimal digits.
+pub fn address_of(text: &str) -> Option<u16>
     ensures { result ≡ address_of text.now }
 {
     let [b'0', b'x', digits @ ..] = text.as_bytes() else {

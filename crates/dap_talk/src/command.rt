@@ -146,6 +146,16 @@ impl Drop for DapRequest {
     }
 }
 
+impl DapRequest {
+    /// The command alone.
+    pub fn into_command(self) -> DapCommand
+        ensures { result ≡ self.command }
+    {
+        let Self { seq: _, command } = self;
+        command
+    }
+}
+
 impl DapCommand {
     ghost use Rattle.dap_talk.specs.Table.{name_of};
 

@@ -6,7 +6,7 @@
 // `DapFault::to_response` is the response that refuses a request.
 #![tactic(auto)]
 
-mod arguments;
+pub mod arguments;
 pub mod command;
 pub mod fault;
 pub mod members;

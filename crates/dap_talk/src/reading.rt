@@ -184,8 +184,8 @@ fn read_command(
     }
 }
 
-// The number and the text of the command.
-fn envelope_of(value: &Value) -> Option<(u32, &str)>
+/// The number and the text of the command of a request; None where the value is none.
+pub fn envelope_of(value: &Value) -> Option<(u32, &str)>
     ensures read { option_map (λ e. envelope_with e.0 e.1.now) result
         ≡ envelope_of (view value.now) }
     ensures command { IfSome result

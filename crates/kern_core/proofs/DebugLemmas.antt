@@ -13,11 +13,11 @@ use Rattle.lab_core.specs.declared.fault.EventFault.{EventFault}
 use Rattle.lab_core.specs.declared.fault.EventFault.TheVariants.{OutOfMemory}
 use Rattle.lab_core.specs.Board.{Board}
 use Rattle.lab_core.specs.Labs.{LabState, StandsFor as LabStandsFor, Did, Does}
-use Rattle.kern_debug.specs.Names.{event_after}
+use Rattle.dap_board.specs.Names.{event_after}
 use Rattle.kern_post.specs.declared.post.Letter.{Letter}
 use Rattle.kern_post.specs.Posts.{StoreState, Keeps, posted}
 use Rattle.kern_request.specs.declared.request.Request.{Request}
-use Rattle.kern_debug.specs.Commands.{performed}
+use Rattle.dap_board.specs.Commands.{performed}
 use Rattle.kern_exec.specs.Letters.{enclosed}
 use Rattle.kern_post.specs.declared.content.Cause.TheVariants as cause
 use Rattle.kern_core.specs.declared.call.Reply.TheVariants.{Arrived}

@@ -21,8 +21,8 @@ use Rattle.dap_answers.specs.declared.answer.Event.{Event}
 use Rattle.dap_answers.specs.declared.answer.Outcome.{Outcome}
 use Rattle.dap_answers.specs.declared.answer.Outcome.TheVariants.{Success, Refused}
 use Rattle.dap_answers.specs.declared.answer.Response.{Response}
-use Rattle.kern_debug.specs.Commands.{performed}
-use Rattle.kern_debug.specs.Names.{refusal_name, event_after}
+use Rattle.dap_board.specs.Commands.{performed}
+use Rattle.dap_board.specs.Names.{refusal_name, event_after}
 use Rattle.kern_request.specs.declared.request.RequestBody.{RequestBody}
 use Rattle.kern_request.specs.declared.request.RequestBody.TheVariants as body
 use Rattle.kern_request.specs.declared.request.ExecuteRequest.{ExecuteRequest}

@@ -6,7 +6,7 @@ use Rattle.dap_talk.specs.declared.command.DapRequest.{DapRequest}
 use Rattle.dap_answers.specs.declared.answer.Body.{Body}
 use Rattle.lab_core.specs.declared.fault.EventFault.{EventFault}
 use Rattle.lab_core.specs.Board.{Board}
-use Rattle.kern_debug.specs.Commands.{performed}
+use Rattle.dap_board.specs.Commands.{performed}
 use Rattle.std.specs.Prelude.{codes}
 use Rattle.kern_request.specs.declared.request.RequestBody.{RequestBody}
 use Rattle.kern_request.specs.declared.request.RequestBody.TheVariants as ask

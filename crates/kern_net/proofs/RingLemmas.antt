@@ -10,40 +10,41 @@ use Rattle.kern_core.specs.declared.fault.KernelFault.{KernelFault}
 use Rattle.kern_core.specs.Kernels.{is_entry}
 use Rattle.kern_net.specs.Calls.{TurnedBy}
 use Rattle.kern_net.specs.Gates.{ReaderPolls, rung, WokeForEach, ToldForEach}
-use Rattle.kern_net.specs.Wakes.{gives_work, gives_none}
+use Rattle.kern_net.specs.Wakes.{concerns_worker, spares_worker}
 
 -- with one call more
 count_more : (p : Call → Bool) (old new : List Call) (call : Call) → new ≡ old ++ call ∷ []
     → count_by p new ≡ count_by p old + cond (p call) 1 0
 count_more p old new call is = ap (count_by p) is ∙ sum_by_push (λ c. cond (p c) 1 0) old call
 
-wakes_by : (b : Bool) (p : ReaderPolls) → (rung b p).wakes ≡ p.wakes + cond b 1 0
-wakes_by true p = refl
-wakes_by false p = omega arith
+wakes_by : (spares : Bool) (p : ReaderPolls)
+    → (rung (not spares) p).wakes ≡ p.wakes + cond (not spares) 1 0
+wakes_by true p = omega arith
+wakes_by false p = refl
 
-tells_by : (b : Bool) (p : ReaderPolls) → (rung b p).tells ≡ p.tells + cond (not b) 1 0
-tells_by true p = omega arith
-tells_by false p = refl
+tells_by : (spares : Bool) (p : ReaderPolls) → (rung (not spares) p).tells ≡ p.tells + cond spares 1 0
+tells_by true p = refl
+tells_by false p = omega arith
 
 pub woke_by : (old new : PassState Call) (call : Call) (answer : Result Reply KernelFault) (a b : ReaderPolls)
-    → TurnedBy old call answer new → is_entry answer ≡ true → b ≡ rung (gives_work call) a
+    → TurnedBy old call answer new → is_entry answer ≡ true → b ≡ rung (concerns_worker call) a
     → WokeForEach old new a b
 woke_by old new call answer a b turned entry is =
-    let more = count_more gives_work old.calls new.calls call (turned.entered entry).counted in
-    let rang = ap (λ (p : ReaderPolls). p.wakes) is ∙ wakes_by (gives_work call) a in
+    let more = count_more concerns_worker old.calls new.calls call (turned.entered entry).counted in
+    let rang = ap (λ (p : ReaderPolls). p.wakes) is ∙ wakes_by (spares_worker call) a in
     omega (arith, more, rang)
 
 pub told_by : (old new : PassState Call) (call : Call) (answer : Result Reply KernelFault) (a b : ReaderPolls)
-    → TurnedBy old call answer new → is_entry answer ≡ true → b ≡ rung (gives_work call) a
+    → TurnedBy old call answer new → is_entry answer ≡ true → b ≡ rung (concerns_worker call) a
     → ToldForEach old new a b
 told_by old new call answer a b turned entry is =
-    let more = count_more gives_none old.calls new.calls call (turned.entered entry).counted in
-    let rang = ap (λ (p : ReaderPolls). p.tells) is ∙ tells_by (gives_work call) a in
+    let more = count_more spares_worker old.calls new.calls call (turned.entered entry).counted in
+    let rang = ap (λ (p : ReaderPolls). p.tells) is ∙ tells_by (spares_worker call) a in
     omega (arith, more, rang)
 
 -- nobody was, where the call doesn't stand in the journal
 pub woke_not : (old new : PassState Call) (a : ReaderPolls) → new.calls ≡ old.calls → WokeForEach old new a a
-woke_not old new a is = let same = ap (count_by gives_work) is in omega (arith, same)
+woke_not old new a is = let same = ap (count_by concerns_worker) is in omega (arith, same)
 
 pub told_not : (old new : PassState Call) (a : ReaderPolls) → new.calls ≡ old.calls → ToldForEach old new a a
-told_not old new a is = let same = ap (count_by gives_none) is in omega (arith, same)
+told_not old new a is = let same = ap (count_by spares_worker) is in omega (arith, same)

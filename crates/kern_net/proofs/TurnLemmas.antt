@@ -11,7 +11,7 @@ use Rattle.lab_core.specs.declared.run_state.RunState.TheVariants as run
 use Rattle.lab_core.specs.Board.{Board}
 use Rattle.dap_talk.specs.declared.command.DapRequest.{DapRequest}
 use Rattle.dap_answers.specs.declared.answer.Body.{Body}
-use Rattle.kern_debug.specs.Commands.{performed}
+use Rattle.dap_board.specs.Commands.{performed}
 use Rattle.kern_request.specs.declared.request.RequestBody.{RequestBody}
 use Rattle.kern_request.specs.declared.request.RequestBody.TheVariants as ask
 use Rattle.kern_request.specs.declared.request.ExecuteRequest.{ExecuteRequest}

@@ -20,9 +20,9 @@ use Rattle.dap_answers.specs.declared.answer.Body.{Body}
 use Rattle.dap_answers.specs.declared.answer.Body.TheVariants as answer_body
 use Rattle.dap_answers.specs.declared.answer.Outcome.TheVariants.{Success, Refused}
 use Rattle.dap_answers.specs.declared.answer.Event.{Event}
-use Rattle.kern_debug.specs.Bodies.{body_of}
-use Rattle.kern_debug.specs.Commands.{Performed, performed, with_body, first_line}
-use Rattle.kern_debug.specs.Names.{event_after, refusal_name}
+use Rattle.dap_board.specs.Bodies.{body_of}
+use Rattle.dap_board.specs.Commands.{Performed, performed, with_body, first_line}
+use Rattle.dap_board.specs.Names.{event_after, refusal_name}
 use Rattle.kern_request.specs.declared.request.RequestBody.{RequestBody}
 use Rattle.kern_request.specs.declared.request.RequestBody.TheVariants as ask
 use Rattle.kern_request.specs.declared.request.NeedyRequest.{NeedyRequest}
@@ -52,7 +52,7 @@ use Rattle.kern_post.specs.declared.content.Cause.TheVariants as cause
 use Rattle.kern_core.specs.Requests.{passing}
 use Rattle.kern_core.specs.Requests.{unanswered, other, by_reply, arriving}
 use Rattle.kern_core.specs.Turns.{turn}
-use Rattle.kern_net.specs.Wakes.{is_look, asks_for_work, gives_work, GoesTo, LeavesWork, GivesNone}
+use Rattle.kern_net.specs.Wakes.{steers, spared_by, concerns_worker, GoesTo, LeavesWork, GivesNone}
 use Rattle.kern_net.proofs.ChoiceLemmas.{either}
 
 -- ---- letters
@@ -145,7 +145,7 @@ shown_keeps : (given : Result Shown ViewFault) (b : Board) (body : Body) (new : 
 shown_keeps (Ok s) b body new is = same_board _ (body, new) is
 shown_keeps (Err fault) b body new is = absurd cc
 
-looks_keep : (c : DapCommand) (b : Board) (body : Body) (new : Board) → is_look c ≡ true
+looks_keep : (c : DapCommand) (b : Board) (body : Body) (new : Board) → steers c ≡ false
     → performed c b ≡ Ok (body, new) → new ≡ b
 unfolding performed
 looks_keep command.Initialize b body new look is = same_board (answer_body.Capabilities, b) (body, new) is
@@ -164,7 +164,7 @@ looks_keep command.InspectVariables b body new look is =
     shown_keeps (shown (view.Variables 1 0 0) (parts_of b)) b body new is
 looks_keep _ b body new look is = absurd cc
 
-no_reset : (c : DapCommand) → is_look c ≡ true → is_reset c ≡ false
+no_reset : (c : DapCommand) → steers c ≡ false → is_reset c ≡ false
 no_reset command.BoardReset look = absurd cc
 no_reset _ look = refl
 
@@ -182,14 +182,14 @@ refusing_leaves n r d message unix_seconds s =
     let content = content.DebugReply (response_to d (Refused message)) in
     around n s r unix_seconds (reply_to n r content ∷ []) (reply_goes n s r content)
 
-ended_none : (c : DapCommand) (s : KernelState) → is_look c ≡ true → ended_by c s ≡ []
+ended_none : (c : DapCommand) (s : KernelState) → steers c ≡ false → ended_by c s ≡ []
 ended_none c s look = ap (λ b. if b then cut_letters cause.Reset s else []) (no_reset c look)
 
-work_same : (c : DapCommand) (s : KernelState) → is_look c ≡ true → work_by c s ≡ s.work
+work_same : (c : DapCommand) (s : KernelState) → steers c ≡ false → work_by c s ≡ s.work
 work_same c s look = ap (λ b. if b then cut_work s else s.work) (no_reset c look)
 
 performed_go : (n : ℕ) (r : Request) (d : DapRequest) (s : KernelState) (body : Body)
-    → is_look d.command ≡ true
+    → steers d.command ≡ false
     → Go n s (ended_by d.command s
     ++ performed_letters (Ok body) (after_letter (event_after d.command) r s) n r d)
 performed_go n r d s body look =
@@ -200,7 +200,7 @@ performed_go n r d s body look =
     (more_go n s reply after (inl refl) (after_goes n s r (event_after d.command)))
 
 answering_leaves : (n : ℕ) (r : Request) (d : DapRequest) (unix_seconds : ℕ) (s : KernelState)
-    (result : Result (Body × Board) EventFault) → is_look d.command ≡ true
+    (result : Result (Body × Board) EventFault) → steers d.command ≡ false
     → performed d.command s.board ≡ result
     → LeavesWork n s (answering n r d unix_seconds s result)
 answering_leaves n r d unix_seconds s (Ok (body, b)) look is = record {
@@ -213,7 +213,7 @@ answering_leaves n r d unix_seconds s (Err fault) look is =
     refusing_leaves n r d (refusal_name fault) unix_seconds s
 
 debugging_leaves : (n : ℕ) (r : Request) (d : DapRequest) (unix_seconds : ℕ) (s : KernelState)
-    → is_look d.command ≡ true → LeavesWork n s (debugging n r d unix_seconds s)
+    → steers d.command ≡ false → LeavesWork n s (debugging n r d unix_seconds s)
 debugging_leaves n r d unix_seconds s look =
     either (LeavesWork n s) (is_bounded d.command) (performing n r d unix_seconds s)
     (refusing n r d (codes "Arguments") unix_seconds s)
@@ -239,20 +239,24 @@ unanswered_leaves n r needy.InputReply unix_seconds s =
     record { board = refl; work = refl; is_shut = refl; letters = none_go n s }
 unanswered_leaves n r _ unix_seconds s = passing_leaves n r unix_seconds s
 
+is_false : (b : Bool) → not b ≡ true → b ≡ false
+is_false true h = absurd cc
+is_false false h = refl
+
 is_true : (b : Bool) → not b ≡ false → b ≡ true
 is_true true h = refl
 is_true false h = absurd cc
 
 other_leaves : (n : ℕ) (identity : List ℕ) (r : Request) (a : RequestBody) (unix_seconds : ℕ)
     (s : KernelState)
-    → asks_for_work a ≡ false → LeavesWork n s (other n identity r a unix_seconds s)
+    → spared_by a ≡ true → LeavesWork n s (other n identity r a unix_seconds s)
 other_leaves n identity r (ask.Execute x) unix_seconds s none = absurd cc
 other_leaves n identity r (ask.CommOpen comm_id) unix_seconds s none =
     closing_leaves n r comm_id unix_seconds s
 other_leaves n identity r (ask.Shutdown restarts) unix_seconds s none = absurd cc
 other_leaves n identity r ask.Interrupt unix_seconds s none = absurd cc
 other_leaves n identity r (ask.Debug d) unix_seconds s none =
-    debugging_leaves n r d unix_seconds s (is_true (is_look d.command) none)
+    debugging_leaves n r d unix_seconds s (is_false (steers d.command) none)
 other_leaves n identity r (ask.InputReply typed) unix_seconds s none = absurd cc
 other_leaves n identity r (ask.BadContent lacking) unix_seconds s none =
     unanswered_leaves n r lacking unix_seconds s
@@ -260,19 +264,20 @@ other_leaves n identity r _ unix_seconds s none = passing_leaves n r unix_second
 
 by_reply_leaves : (c : Option Content) (n : ℕ) (identity : List ℕ) (r : Request) (unix_seconds : ℕ)
     (s : KernelState)
-    → asks_for_work r.body ≡ false → LeavesWork n s (by_reply c n identity r unix_seconds s)
+    → spared_by r.body ≡ true → LeavesWork n s (by_reply c n identity r unix_seconds s)
 by_reply_leaves (Some c) n identity r unix_seconds s none =
     around n s r unix_seconds (reply_to n r c ∷ []) (reply_goes n s r c)
 by_reply_leaves None n identity r unix_seconds s none = other_leaves n identity r r.body unix_seconds s none
 
-arriving_leaves : (n : ℕ) (r : Request) (unix_seconds : ℕ) (s : KernelState) → asks_for_work r.body ≡ false
+arriving_leaves : (n : ℕ) (r : Request) (unix_seconds : ℕ) (s : KernelState) → spared_by r.body ≡ true
     → LeavesWork n s (arriving n r unix_seconds s)
 arriving_leaves n r unix_seconds s none = at_peer n s (peer_at n s.connections.peers) _ (λ p.
     either (LeavesWork n s) (is_on Iopub p) (refused NoConnection s) _ (refused_leaves n s NoConnection)
     (by_reply_leaves (plain_reply s.work.count r.body) n p.identity r unix_seconds s none))
 
-pub gives_none : (c : Call) → gives_work c ≡ false → (s : KernelState) → GivesNone c s
+pub gives_none : (c : Call) → concerns_worker c ≡ false → (s : KernelState) → GivesNone c s
 unfolding turn
 gives_none (call.Subscribe n c) none s = subscribing_leaves n c.wants c.prefix c.unix_seconds s
-gives_none (call.Arrive n c) none s = arriving_leaves n c.request c.unix_seconds s none
+gives_none (call.Arrive n c) none s =
+    arriving_leaves n c.request c.unix_seconds s (is_true (spared_by c.request.body) none)
 gives_none _ none s = absurd cc

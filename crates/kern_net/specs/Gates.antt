@@ -7,7 +7,7 @@ use Rattle.kern_core.specs.declared.call.Call.TheVariants.{Fetch}
 use Rattle.kern_core.specs.declared.call.Reply.TheVariants.{Fetched}
 use Rattle.kern_net.specs.Calls.{LastCall}
 use Rattle.kern_net.specs.Streams.{posts_in}
-use Rattle.kern_net.specs.Wakes.{gives_work, gives_none}
+use Rattle.kern_net.specs.Wakes.{concerns_worker, spares_worker}
 
 -- how often a question was answered yes, and how often no
 pub record AnswerCounts : Type 0 where
@@ -71,12 +71,12 @@ PolledForEach old new a b = times b.idle + length old.calls ≤ times a.idle + l
 -- all were woken once for each call that was added and may give the worker something to do
 abbrev pub WokeForEach : PassState Call → PassState Call → ReaderPolls → ReaderPolls → Type 0
 WokeForEach old new a b =
-    b.wakes + count_by gives_work old.calls ≡ a.wakes + count_by gives_work new.calls
+    b.wakes + count_by concerns_worker old.calls ≡ a.wakes + count_by concerns_worker new.calls
 
 -- and those whom it concerns were told once for each other
 abbrev pub ToldForEach : PassState Call → PassState Call → ReaderPolls → ReaderPolls → Type 0
 ToldForEach old new a b =
-    b.tells + count_by gives_none old.calls ≡ a.tells + count_by gives_none new.calls
+    b.tells + count_by spares_worker old.calls ≡ a.tells + count_by spares_worker new.calls
 
 -- The last call of the pass was a Fetch on this connection, and it went on behind the last post that there
 -- was.

@@ -1,5 +1,5 @@
 -- Which of a reader's calls may give the worker something to do, and what the others leave alone.
-use Rattle.std.specs.Prelude.{◌≡◌, ◌⊎◌, ℕ, ◌∷◌, [], List, Bool, true, false, not, All}
+use Rattle.std.specs.Prelude.{◌≡◌, ◌⊎◌, ℕ, ◌∷◌, [], List, Bool, true, false, not, is_some, All}
 use Rattle.dap_talk.specs.declared.command.DapCommand.{DapCommand}
 use Rattle.dap_talk.specs.declared.command.DapCommand.TheVariants as command
 use Rattle.kern_request.specs.declared.request.RequestBody.{RequestBody}
@@ -8,40 +8,43 @@ use Rattle.kern_peers.specs.Connections.{Connections, subscribers}
 use Rattle.kern_post.specs.declared.post.Letter.{Letter}
 use Rattle.kern_core.specs.declared.call.Call.{Call}
 use Rattle.kern_core.specs.declared.call.Call.TheVariants.{Subscribe, Arrive}
+use Rattle.kern_core.specs.Requests.{plain_reply}
 use Rattle.kern_core.specs.States.{KernelState, Turn}
 use Rattle.kern_core.specs.Turns.{turn}
 
--- the debug commands that leave the board as it is
-abbrev pub is_look : DapCommand → Bool
-is_look command.Initialize = true
-is_look command.ConfigurationDone = true
-is_look command.Threads = true
-is_look (command.StackTrace start levels) = true
-is_look (command.Scopes frame) = true
-is_look (command.Variables reference start count) = true
-is_look (command.Disassemble address offset instruction_offset count) = true
-is_look (command.Source path) = true
-is_look command.DebugInfo = true
-is_look command.InspectVariables = true
-is_look _ = false
+-- the debug commands that steer a run, or change the board, its breakpoints or the texts that it keeps
+abbrev pub steers : DapCommand → Bool
+steers command.Attach = true
+steers command.Disconnect = true
+steers (command.SetBreakpoints path lines) = true
+steers (command.SetVariable reference name value) = true
+steers command.Continue = true
+steers (command.Step kind granularity) = true
+steers command.Pause = true
+steers (command.DumpCell code) = true
+steers (command.BoardSwitches value) = true
+steers (command.BoardPress vector) = true
+steers (command.BoardType text) = true
+steers command.BoardReset = true
+steers (command.BoardAliases aliases) = true
+steers _ = false
 
--- the requests by which the kernel may go on otherwise
-abbrev pub asks_for_work : RequestBody → Bool
-asks_for_work (body.Execute x) = true
-asks_for_work (body.Shutdown restarts) = true
-asks_for_work body.Interrupt = true
-asks_for_work (body.Debug d) = not (is_look d.command)
-asks_for_work (body.InputReply typed) = true
-asks_for_work _ = false
+-- the requests that are answered by one reply, or by nothing between busy and idle but the end of a comm
+abbrev pub spared_by : RequestBody → Bool
+spared_by (body.Debug d) = not (steers d.command)
+spared_by (body.CommOpen comm_id) = true
+spared_by (body.BadContent lacking) = true
+spared_by body.Unknown = true
+spared_by other = is_some (plain_reply 0 other)
 
--- The call may give the worker something to do. Of calls that no reader makes nothing is known.
-abbrev pub gives_work : Call → Bool
-gives_work (Subscribe connection subscription) = false
-gives_work (Arrive connection arrival) = asks_for_work arrival.request.body
-gives_work _ = true
+-- The call gives the worker nothing to do. Of calls that no reader makes this isn't said.
+abbrev pub spares_worker : Call → Bool
+spares_worker (Subscribe connection subscription) = true
+spares_worker (Arrive connection arrival) = spared_by arrival.request.body
+spares_worker _ = false
 
-abbrev pub gives_none : Call → Bool
-gives_none call = not (gives_work call)
+abbrev pub concerns_worker : Call → Bool
+concerns_worker call = not (spares_worker call)
 
 -- to this connection alone, or to those on iopub who subscribe to some topic
 abbrev pub GoesTo : ℕ → Connections → Letter → Type 0

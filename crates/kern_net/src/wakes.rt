@@ -1,7 +1,7 @@
 //! Which of a reader's calls may give the worker something to do.
-ghost use Rattle.std.specs.Prelude.{◌≡◌, false};
+ghost use Rattle.std.specs.Prelude.{◌≡◌, false, not};
 ghost use Rattle.kern_core.specs.States.{KernelState};
-ghost use Rattle.kern_net.specs.Wakes.{is_look, asks_for_work, gives_work, GivesNone};
+ghost use Rattle.kern_net.specs.Wakes.{steers, spared_by, concerns_worker, GivesNone};
 
 use dap_talk::command::DapCommand;
 use kern_core::call::Call;
@@ -9,7 +9,7 @@ use kern_request::request::RequestBody;
 
 // Whether a command leaves the board as it is.
 fn is_look(command: &DapCommand) -> bool
-    ensures { result ≡ is_look command.now }
+    ensures { result ≡ not (steers command.now) }
 {
     match command {
         DapCommand::Initialize
@@ -40,7 +40,7 @@ fn is_look(command: &DapCommand) -> bool
 
 // Whether the kernel may go on otherwise after a request.
 fn asks_for_work(body: &RequestBody) -> bool
-    ensures { result ≡ asks_for_work body.now }
+    ensures { result ≡ not (spared_by body.now) }
 {
     match body {
         RequestBody::Execute(_)
@@ -65,7 +65,7 @@ fn asks_for_work(body: &RequestBody) -> bool
 /// alone.
 #[tactic(auto, using(crate::proofs::WakeLemmas::gives_none))]
 pub(crate) fn gives_work(call: &Call) -> bool
-    ensures means { result ≡ gives_work call.now }
+    ensures means { result ≡ concerns_worker call.now }
     ensures law { result ≡ false → (s : KernelState) → GivesNone call.now s }
 {
     match call {

@@ -1,6 +1,6 @@
 //! What a board answers, as the body of a response.
 ghost use Rattle.std.specs.Prelude.{◌≡◌};
-ghost use Rattle.kern_debug.specs.Bodies.{shown_body, body_of};
+ghost use Rattle.dap_board.specs.Bodies.{shown_body, body_of};
 
 use dap_answers::answer::{Body, DebugState};
 use lab_core::answer::Answer;

@@ -1,7 +1,7 @@
 //! The commands that look at a board and change nothing.
 ghost use Rattle.std.specs.Prelude.{◌≡◌, ◌+◌};
 ghost use Rattle.i80_exec.specs.State.{wrapped};
-ghost use Rattle.kern_debug.specs.Commands.{performed, answered, disassembled, Performs, IsLook};
+ghost use Rattle.dap_board.specs.Commands.{performed, answered, disassembled, Performs, IsLook};
 
 use crate::event::answer_to;
 use crate::far::after_instructions;

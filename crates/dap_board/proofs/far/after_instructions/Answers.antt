@@ -1,7 +1,7 @@
 use Rattle.std.proofs.Common.{◌∙◌, ◌-◌, ◌≤◌, ap, arith}
 use Rattle.lab_views.specs.Code.{after_instructions}
-use Rattle.kern_debug.proofs.FarLemmas.{after_part, after_remainder}
-use Rattle.kern_debug.proofs.far.after_instructions.Goals as goal
+use Rattle.dap_board.proofs.FarLemmas.{after_part, after_remainder}
+use Rattle.dap_board.proofs.far.after_instructions.Goals as goal
 
 pub returns-in-Some : goal.returns-in-Some
 returns-in-Some c = λ b s.

@@ -1,7 +1,7 @@
 use Rattle.std.proofs.Common.{◌∙◌, sym, ap}
 use Rattle.lab_views.specs.Code.{after_instructions}
-use Rattle.kern_debug.proofs.FarLemmas.{after_none, after_sum}
-use Rattle.kern_debug.proofs.far.cycle_at.Goals as goal
+use Rattle.dap_board.proofs.FarLemmas.{after_none, after_sum}
+use Rattle.dap_board.proofs.far.cycle_at.Goals as goal
 
 pub loop-passed-init : goal.loop-passed-init
 loop-passed-init c = λ b s. sym (after_none b.machine c.args.address)

@@ -29,7 +29,7 @@ use Rattle.dap_talk.specs.declared.command.Granularity.{Granularity}
 use Rattle.dap_talk.specs.declared.command.Granularity.TheVariants.{Line, Instruction}
 use Rattle.dap_talk.specs.declared.command.DapCommand.{DapCommand}
 use Rattle.dap_talk.specs.declared.command.DapCommand.TheVariants as command
-use Rattle.kern_debug.specs.Bodies.{body_of}
+use Rattle.dap_board.specs.Bodies.{body_of}
 
 abbrev pub Performed : Type 0
 Performed = Result (Body × Board) EventFault

@@ -1,6 +1,6 @@
 use Rattle.std.proofs.Common.{Ok, Err}
-use Rattle.kern_debug.proofs.EventLemmas.{does_with}
-use Rattle.kern_debug.proofs.event.apply_for.Goals as goal
+use Rattle.dap_board.proofs.EventLemmas.{does_with}
+use Rattle.dap_board.proofs.event.apply_for.Goals as goal
 
 pub returns-in-Ok : goal.returns-in-Ok
 returns-in-Ok c = (

@@ -2,7 +2,7 @@ use Rattle.std.proofs.Common.{◌≡◌}
 use Rattle.lab_views.specs.Code.{after_instructions}
 use Rattle.lab_core.specs.Board.{Board}
 use Rattle.lab_core.specs.Labs.{StandsFor}
-use Rattle.kern_debug.proofs.far.cycle_at.Given as goal
+use Rattle.dap_board.proofs.far.cycle_at.Given as goal
 
 abbrev pub invariant-loop-passed : goal.invariant-loop-passed
 invariant-loop-passed l =

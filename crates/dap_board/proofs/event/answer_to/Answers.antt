@@ -1,7 +1,7 @@
 use Rattle.std.proofs.Common.{◌≡◌, Ok, Err, rules}
-use Rattle.kern_debug.specs.Bodies.{body_of}
-use Rattle.kern_debug.proofs.EventLemmas.{does_with}
-use Rattle.kern_debug.proofs.event.answer_to.Goals as goal
+use Rattle.dap_board.specs.Bodies.{body_of}
+use Rattle.dap_board.proofs.EventLemmas.{does_with}
+use Rattle.dap_board.proofs.event.answer_to.Goals as goal
 
 pub returns-in_err-answer : goal.returns-in_err-answer
 returns-in_err-answer c =

@@ -2,7 +2,7 @@ use Rattle.std.proofs.Common.{◌≡◌}
 use Rattle.lab_views.specs.Code.{after_instructions}
 use Rattle.lab_core.specs.Board.{Board}
 use Rattle.lab_core.specs.Labs.{StandsFor}
-use Rattle.kern_debug.proofs.far.in_strides.Given as goal
+use Rattle.dap_board.proofs.far.in_strides.Given as goal
 
 abbrev pub invariant-loop-left : goal.invariant-loop-left
 invariant-loop-left l =

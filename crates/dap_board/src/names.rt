@@ -1,6 +1,6 @@
 //! The names of refusals, and the events that follow commands.
 ghost use Rattle.std.specs.Prelude.{◌≡◌, IfOk};
-ghost use Rattle.kern_debug.specs.Names.{refusal_name, event_after};
+ghost use Rattle.dap_board.specs.Names.{refusal_name, event_after};
 
 use base_text::text::Text;
 use dap_answers::answer::{Event, Outcome, StopReason};

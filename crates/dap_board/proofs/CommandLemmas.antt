@@ -7,7 +7,7 @@ use Rattle.dap_answers.specs.declared.answer.Body.{Body}
 use Rattle.dap_answers.specs.declared.answer.Body.TheVariants as body
 use Rattle.dap_answers.specs.Murmur.{cell_path}
 use Rattle.dap_talk.specs.declared.command.DapCommand.{DapCommand}
-use Rattle.kern_debug.specs.Commands.{performed, done, dumped, Performs}
+use Rattle.dap_board.specs.Commands.{performed, done, dumped, Performs}
 
 -- each arm of a match knows its command
 pub of_known : (command known : DapCommand) (old new : LabState) (reply : Result Body EventFault)

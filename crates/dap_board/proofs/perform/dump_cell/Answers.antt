@@ -1,7 +1,7 @@
 use Rattle.std.proofs.Common.{◌≡◌, ◌∙◌, ap, rules}
 use Rattle.dap_answers.specs.Murmur.{cell_path}
-use Rattle.kern_debug.proofs.CommandLemmas.{does_dump}
-use Rattle.kern_debug.proofs.perform.dump_cell.Goals as goal
+use Rattle.dap_board.proofs.CommandLemmas.{does_dump}
+use Rattle.dap_board.proofs.perform.dump_cell.Goals as goal
 
 pub returns : goal.returns
 returns c =

@@ -1,6 +1,6 @@
 //! Events of a board, each with the body of a response.
 ghost use Rattle.lab_core.specs.Events.{Fits};
-ghost use Rattle.kern_debug.specs.Commands.{answered, done, Performs};
+ghost use Rattle.dap_board.specs.Commands.{answered, done, Performs};
 
 use crate::body::body_of;
 use dap_answers::answer::Body;

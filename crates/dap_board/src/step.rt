@@ -1,6 +1,6 @@
 //! The Step that a command asks for.
 ghost use Rattle.std.specs.Prelude.{◌≡◌};
-ghost use Rattle.kern_debug.specs.Commands.{step_kind, step_granularity, step_request};
+ghost use Rattle.dap_board.specs.Commands.{step_kind, step_granularity, step_request};
 
 use dap_talk::command::{Granularity, StepKind};
 use lab_core::event::{self, StepRequest};

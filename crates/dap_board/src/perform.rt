@@ -2,8 +2,8 @@
 ghost use Rattle.std.specs.Prelude.{◌≡◌, ◌≤◌, length};
 ghost use Rattle.dap_talk.specs.Table.{IsBounded};
 ghost use Rattle.base_text.specs.Latin.{latin_bytes};
-ghost use Rattle.kern_debug.specs.Commands.{performed, answered, done, dumped, step_request, board_with};
-ghost use Rattle.kern_debug.specs.Commands.{Performs};
+ghost use Rattle.dap_board.specs.Commands.{performed, answered, done, dumped, step_request, board_with};
+ghost use Rattle.dap_board.specs.Commands.{Performs};
 
 use crate::event::{answer_to, apply_for};
 use crate::look::look;

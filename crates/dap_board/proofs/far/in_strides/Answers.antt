@@ -1,7 +1,7 @@
 use Rattle.std.proofs.Common.{◌∙◌, ◌-◌, ◌≤◌, ap, arith}
 use Rattle.lab_views.specs.Code.{after_instructions}
-use Rattle.kern_debug.proofs.FarLemmas.{after_part}
-use Rattle.kern_debug.proofs.far.in_strides.Goals as goal
+use Rattle.dap_board.proofs.FarLemmas.{after_part}
+use Rattle.dap_board.proofs.far.in_strides.Goals as goal
 
 pub loop-left-preserved : goal.loop-left-preserved
 loop-left-preserved c = λ b s.

@@ -7,7 +7,7 @@ use Rattle.lab_core.specs.Board.{Board}
 use Rattle.lab_core.specs.Events.{Given, given}
 use Rattle.lab_core.specs.Labs.{LabState, Did, Does}
 use Rattle.dap_answers.specs.declared.answer.Body.{Body}
-use Rattle.kern_debug.specs.Commands.{with_body}
+use Rattle.dap_board.specs.Commands.{with_body}
 
 abbrev pub reply_with : (Answer → Body) → Result Answer EventFault → Result Body EventFault
 reply_with to_body (Ok answer) = Ok (to_body answer)
