@@ -1,4 +1,10 @@
-"""The streams that `hostile` sends: each is a function of a seed and of its number alone."""
+"""The streams that `hostile` sends: each is a function of a seed and of its number alone.
+
+Where eight strangers leave a channel within a second, peers that made their handshake and of which no message opened, a kernel
+lets twenty connections a second join there. So most streams that break after their handshake say a message first that opens and
+that nobody answers. One of four hundred such streams doesn't: of a thousand streams a second on a channel that makes two strangers
+or three, and the kernel takes all as fast as it can.
+"""
 import collections
 import hmac
 import json
@@ -65,6 +71,9 @@ VALUES = (
     b'{"a":1,"a":2}', b"{}{}", b"{} x", b"[}", b"// {}", b"'x'",
 )
 
+# The share of strangers among streams that break after their handshake.
+STRANGERS = 1 / 400
+
 # How deep a JSON value may be, and beyond.
 DEPTHS = (126, 127, 128, 129, 1000, 5000)
 DEEPEST = 127
@@ -120,6 +129,21 @@ def plain(channel):
     return greeting() + ready(SOCKET_TYPES[channel])
 
 
+def opening(number, channel):
+    """A message that opens and that nobody answers: on iopub the end of a subscription that isn't there."""
+    if channel == "hb":
+        return b""
+    if channel == "iopub":
+        return message(b"\x00x")
+    return signed(header(number, "input_reply" if channel == "stdin" else "usage_request"), b"{}", b"{}", b"{}")
+
+
+def begun(dice, number, channel):
+    """A handshake, and mostly a message that opens."""
+    first = handshake(dice, number, channel)
+    return first if dice.random() < STRANGERS else first + opening(number, channel)
+
+
 def said(dice, number, channel):
     """A valid message, and what must be heard of it, if anything must."""
     if channel == "hb":
@@ -133,10 +157,10 @@ def said(dice, number, channel):
     return signed(first, b"{}", b"{}", written(content)), None if channel == "stdin" else first
 
 
-def conversation(dice, number, channel):
-    """A handshake and up to three messages: their bytes, and what must be heard of the last one."""
-    messages = [said(dice, number, channel) for _ in range(dice.randint(1, 3))]
-    return handshake(dice, number, channel) + b"".join(data for data, _ in messages), messages[-1][1]
+def messages(dice, number, channel):
+    """Up to three messages: their bytes, and what must be heard of the last one."""
+    all_said = [said(dice, number, channel) for _ in range(dice.randint(1, 3))]
+    return b"".join(data for data, _ in all_said), all_said[-1][1]
 
 
 def placed(dice, number, channel, data):
@@ -146,7 +170,7 @@ def placed(dice, number, channel, data):
         return data, False
     if chance < 0.2:
         return greeting() + data, False
-    return handshake(dice, number, channel) + data, True
+    return begun(dice, number, channel) + data, True
 
 
 # Each kind of stream: its bytes, what is awaited, and whether nothing may be heard.
@@ -160,8 +184,9 @@ def random_bytes(dice, number, channel):
     return data, None, not is_after
 
 
-def mutated(dice, number, channel):
-    data = bytearray(conversation(dice, number, channel)[0])
+def changed(dice, data):
+    """The same, but for up to four changes."""
+    data = bytearray(data)
     for _ in range(dice.randint(1, 4)):
         at, other, how = dice.randrange(len(data)), dice.randrange(len(data)), dice.randrange(6)
         piece = slice(at, at + dice.randint(1, 9))
@@ -176,13 +201,24 @@ def mutated(dice, number, channel):
         else:
             data[at] = dice.choice((0, 1, 2, 3, 4, 6, 127, 128, 255))
         data = data or bytearray(b"\0")
-    return bytes(data), None, False
+    return bytes(data)
+
+
+def mutated(dice, number, channel):
+    """A conversation that is changed in its handshake, or in its messages."""
+    first, rest = begun(dice, number, channel), messages(dice, number, channel)[0]
+    if dice.random() < 0.3:
+        return changed(dice, first) + rest, None, False
+    return first + changed(dice, rest), None, False
 
 
 def cut(dice, number, channel):
-    data = conversation(dice, number, channel)[0]
-    at = dice.randrange(len(data))
-    return data[:at], None, at < 64
+    """A conversation that is cut in its handshake, or in its messages."""
+    first, rest = handshake(dice, number, channel), messages(dice, number, channel)[0]
+    at = dice.randrange(len(first) + len(rest))
+    if at < len(first):
+        return first[:at], None, at < 64
+    return begun(dice, number, channel) + rest[:at - len(first)], None, False
 
 
 def greetings(dice, number, channel):
@@ -237,7 +273,7 @@ def deep(dice, number, channel):
     value = opened * inner + (b"0" if opened != b"[" else b"") + closed * inner
     parts[at] = value if at else first[:-1] + b',"x":' + value + b"}"
     is_taken = depth <= DEEPEST and channel in ("shell", "control")
-    data = plain(channel) + signed(*parts)
+    data = plain(channel) + opening(number, channel) + signed(*parts)
     return data, parts[0] if is_taken else None, depth > DEEPEST and channel in ("shell", "control", "stdin")
 
 
@@ -292,8 +328,8 @@ def whole(dice, number, channel):
         first = header(number, "execute_request")
         content = {"code": dice.choice(CELLS), "silent": dice.random() < 0.5}
         return handshake(dice, number, channel) + signed(first, b"{}", b"{}", written(content)), first, False
-    data, awaited = conversation(dice, number, channel)
-    return data, awaited, False
+    data, awaited = messages(dice, number, channel)
+    return handshake(dice, number, channel) + data, awaited, False
 
 
 KINDS = {

@@ -10,6 +10,7 @@ import time
 import unittest
 
 from jupyter_client import write_connection_file
+from jupyter_client.kernelspec import get_kernel_spec
 
 from lab80_client import HELLO, Lab, are_gone, processes, program, serve, streams
 
@@ -52,6 +53,13 @@ class Refused(unittest.TestCase):
     def test_no_connection_file(self):
         os.remove(self.path)
         self.assertEqual(serve(self.path), (4, "no file\n"))
+
+    def test_too_little_memory_for_its_threads(self):
+        # Of its 80 threads each has eight million bytes for its stack.
+        kernel = os.path.join(get_kernel_spec("lab80").resource_dir, "lab80")
+        words = ["sh", "-c", 'ulimit -v 400000; exec "$0" kernel "$1"', kernel, self.path]
+        done = subprocess.run(words, capture_output=True, text=True, timeout=10, check=False)
+        self.assertEqual((done.returncode, done.stdout), (3, "listening\n"))
 
     def test_a_terminal_without_a_kernel(self):
         words = [program(), "term", self.path]

@@ -6,7 +6,7 @@ import zmq
 from jupyter_client.session import Session
 
 from lab80_client import HELLO, PATIENCE, Lab, streams
-from zmtp import Peer
+from zmtp import Peer, message
 
 
 class Wire(Lab):
@@ -71,6 +71,24 @@ class Wire(Lab):
             for peer in quiet:
                 self.assertFalse(peer.is_ended(0.2), peer.channel)
                 self.assertTrue(peer.is_served(), peer.channel)
+
+    def test_four_who_ask_64_times_each_while_a_cell_runs(self):
+        self.run_endless()
+        session = Session(key=self.connection["key"].encode())
+        with contextlib.ExitStack() as stack:
+            peers = [stack.enter_context(Peer(self.connection, "shell")).greet() for _ in range(4)]
+            asked = [[session.msg("kernel_info_request") for _ in range(64)] for _ in peers]
+            for peer, requests in zip(peers, asked):
+                peer.say(b"".join(message(*session.serialize(it)) for it in requests))
+            for peer, requests in zip(peers, asked):
+                peer.stream.settimeout(PATIENCE)
+                for request in requests:
+                    _, parts = session.feed_identities(peer.receive_message())
+                    reply = session.deserialize(parts)
+                    self.assertEqual(reply["msg_type"], "kernel_info_reply")
+                    self.assertEqual(reply["parent_header"]["msg_id"], request["header"]["msg_id"])
+        self.control("interrupt")
+        self.assertTrue(self.is_served())
 
     def test_the_heartbeat_sends_back(self):
         beat = self.socket(zmq.REQ, "hb")

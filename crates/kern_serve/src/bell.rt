@@ -34,6 +34,7 @@ pub struct Bell {
     writers: Mutex<u64>,
     quiet: Condvar,
     entries: AtomicU64,
+    subscriptions: AtomicU64,
     writes: AtomicU64,
 }
 
@@ -53,6 +54,7 @@ impl Bell {
             writers: Mutex::new(0),
             quiet: Condvar::new(),
             entries: AtomicU64::new(0),
+            subscriptions: AtomicU64::new(0),
             writes: AtomicU64::new(0),
         })
     }
@@ -143,6 +145,11 @@ impl Bell {
     /// How many calls were counted.
     pub fn entries(&self) -> u64 {
         self.entries.load(Ordering::SeqCst)
+    }
+
+    /// A subscription was taken, after so many others.
+    pub fn count_subscription(&self) -> u64 {
+        self.subscriptions.fetch_add(1, Ordering::SeqCst)
     }
 
     /// Something was written to a peer.

@@ -7,8 +7,9 @@ use crate::gates::{InGate, OutGate};
 use crate::host::Host;
 use crate::listeners::Listeners;
 use crate::outlet::CountedOutlet;
-use crate::socket::{Met, close, meet};
+use crate::socket::{close, meet};
 use crate::spot::Spot;
+use crate::throttles::Throttles;
 use base_streams::std_io::{StdInlet, StdOutlet};
 use base_text::sequence::Bytes;
 use base_text::text::Text;
@@ -35,6 +36,8 @@ use zmtp_peer::handshake::Peer;
 pub struct Shared {
     pub desk: Desk,
     pub bell: Bell,
+    /// What strangers are held back by.
+    pub throttles: Throttles,
     /// The key of the signatures.
     pub key: Text,
     /// The session's name in the headers of what the kernel sends.
@@ -49,15 +52,30 @@ pub struct Seats {
     pub second: Pass,
 }
 
-// The two ends of a connection: its number and place, its socket, and whether its reader has closed it.
+// The two ends of a connection: its place, how it joined, its socket, and whether its reader has closed it.
 #[derive(Drop)]
 struct Ends {
-    connection: u32,
     place: Place,
+    joined: Joined,
+    // How often somebody had rung at the place before it joined.
+    seen: u64,
     stream: TcpStream,
     is_closed: AtomicBool,
     // Where its writer waits until its reader has begun.
     begun: Spot,
+}
+
+impl Ends {
+    fn new(place: Place, joined: Joined, seen: u64, stream: TcpStream) -> Ends {
+        Ends {
+            place,
+            joined,
+            seen,
+            stream,
+            is_closed: AtomicBool::new(false),
+            begun: Spot::new(),
+        }
+    }
 }
 
 // How often, and for how long, the writer looks whether the reader has begun.
@@ -77,7 +95,8 @@ fn has_reader<R: Wait>(rt: &R, ends: &Ends) -> bool {
     false
 }
 
-// Reads until the end, and then closes both halves: but a full journal leaves its writer what was posted.
+// Reads until the end, and then closes both halves: but a full journal leaves its writer what was posted. A
+// peer of which nothing was taken was a stranger.
 fn read_on<R: Wait + Clock>(
     rt: &R,
     alloc: Global,
@@ -94,18 +113,11 @@ fn read_on<R: Wait + Clock>(
         return pass;
     };
     let bell = &shared.bell;
-    let own = bell.spot(ends.place);
-    let mut gate = InGate {
-        bell,
-        own,
-        clock: rt,
-        wakes: 0,
-        tells: 0,
-    };
+    let mut gate = InGate::new(bell, rt, ends.place);
     let mut from = StdInlet::new(&ends.stream);
     let route = IncomingRoute {
         desk: &shared.desk,
-        connection: ends.connection,
+        connection: ends.joined.connection,
         channel: ends.place.channel,
         key: shared.key.as_str().as_bytes(),
     };
@@ -114,9 +126,12 @@ fn read_on<R: Wait + Clock>(
         bell.wake_all();
         return pass;
     }
+    if !gate.was_used() {
+        shared.throttles.add_stranger(rt, ends.place.channel);
+    }
     ends.is_closed.store(true, Ordering::SeqCst);
     close(&ends.stream);
-    own.ring();
+    bell.spot(ends.place).nudge();
     pass
 }
 
@@ -126,7 +141,6 @@ fn write_on<R: Wait + Clock>(
     alloc: Global,
     shared: &Shared,
     mut pass: Pass,
-    joined: Joined,
     ends: &Ends,
 ) -> Pass
     requires { pass.turnstile ≡ shared.now.desk }
@@ -138,7 +152,8 @@ fn write_on<R: Wait + Clock>(
     }
     let bell = &shared.bell;
     let own = bell.spot(ends.place);
-    let mut gate = OutGate::new(bell, own, &ends.is_closed, joined.from);
+    let joined = ends.joined;
+    let mut gate = OutGate::new(bell, own, &ends.is_closed, joined.from, ends.seen);
     let mut to = CountedOutlet {
         outlet: StdOutlet::new(&ends.stream),
         bell,
@@ -150,15 +165,17 @@ fn write_on<R: Wait + Clock>(
         session: shared.session.as_str(),
     };
     bell.begin_writer(rt);
-    let _ = pump_out(
-        rt,
-        alloc,
-        &mut pass,
-        &mut gate,
-        &mut to,
-        &route,
-        joined.from,
-    );
+    if gate.wait_for_posts(rt) {
+        let _ = pump_out(
+            rt,
+            alloc,
+            &mut pass,
+            &mut gate,
+            &mut to,
+            &route,
+            joined.from,
+        );
+    }
     close(&ends.stream);
     bell.end_writer(rt);
     pass
@@ -169,25 +186,16 @@ fn pump<R: Host>(
     rt: &R,
     alloc: Global,
     shared: &Shared,
-    place: Place,
-    joined: Joined,
-    met: Met,
+    peer: Peer,
+    ends: Ends,
     seats: Seats,
 ) -> Seats
     requires { AreOf shared.now.desk seats }
     ensures { AreOf shared.now.desk result }
 {
-    let Met { peer, stream } = met;
     let Seats { first, second } = seats;
     // The reader takes the peer out of here.
     let mut peer = Some(peer);
-    let ends = Ends {
-        connection: joined.connection,
-        place,
-        stream,
-        is_closed: AtomicBool::new(false),
-        begun: Spot::new(),
-    };
     let (first, second) = thread::join(
         rt,
         || -> Pass
@@ -197,7 +205,7 @@ fn pump<R: Host>(
         || -> Pass
             requires { second.turnstile ≡ shared.now.desk }
             ensures { result.turnstile ≡ shared.entry.now.desk }
-        { write_on(rt, alloc, shared, second, joined, &ends) },
+        { write_on(rt, alloc, shared, second, &ends) },
     );
     Seats { first, second }
 }
@@ -269,7 +277,7 @@ fn leave<R: Wait + Clock>(rt: &R, shared: &Shared, pass: &mut Pass, connection: 
 }
 
 /// Serves a connection at a place until it ends, and gives its passes back. One that makes no handshake
-/// or for which the kernel has no place is closed.
+/// or for which the kernel has no place is closed. Where many strangers come it waits for its turn to join.
 pub fn serve_connection<R: Host>(
     rt: &R,
     alloc: Global,
@@ -286,13 +294,16 @@ pub fn serve_connection<R: Host>(
         drop(stream);
         return seats;
     };
+    shared.throttles.admit(rt, channel);
+    let seen = shared.bell.spot(place).rings();
     let Some(joined) = join_peer(rt, alloc, shared, &mut seats.first, channel, &peer) else {
+        shared.throttles.add_stranger(rt, channel);
         drop(peer);
         drop(stream);
         return seats;
     };
-    let met = Met { peer, stream };
-    seats = pump(rt, alloc, shared, place, joined, met, seats);
+    let ends = Ends::new(place, joined, seen, stream);
+    seats = pump(rt, alloc, shared, peer, ends, seats);
     leave(rt, shared, &mut seats.first, joined.connection);
     seats
 }

@@ -1,10 +1,14 @@
 //! The gates of a server: where its threads wait, and what they wake others by.
 ghost use Rattle.std.specs.Prelude.{◌≡◌, ◌≤◌, ◌+◌, ◌<◌, ◌↔◌, IsTrue};
 
-use crate::bell::Bell;
-use crate::pace::{JOURNAL_LIMIT, RESERVE, SHORTEST_GAP, SLICES_AT_FULL_SPEED, next_gap, pause};
+use crate::bell::{Bell, Place};
+use crate::pace::{
+    JOURNAL_LIMIT, RESERVE, SHORTEST_GAP, SLICES_AT_FULL_SPEED, SUBSCRIPTIONS_AT_FULL_SPEED,
+    is_nearly_full, next_gap, pause_at,
+};
 use crate::spot::Spot;
 use crate::system::unix_seconds;
+use jup_wire::channel::Channel;
 use kern_desk::seated::Pass;
 use kern_net::gate::{ReaderGate, WorkerGate, WriterGate};
 use kern_net::pump_out::NUMBERS_OF_A_FETCH;
@@ -12,17 +16,55 @@ use kern_net::tally::{Tally, WorkerTally, one_more};
 use std::rt::Clock;
 use std::sync::Wait;
 use std::sync::atomic::{AtomicBool, Ordering};
+use std::thread;
 use std::time::{Duration, Instant};
 
-/// A reader's gate.
+/// A reader's gate. Where many subscriptions were taken, it holds further ones back so that the journal lasts.
 #[derive(Drop)]
 pub struct InGate<'a, C: Clock> {
-    pub bell: &'a Bell,
-    /// Where the writer of its connection waits.
-    pub own: &'a Spot,
-    pub clock: &'a C,
-    pub wakes: u64,
-    pub tells: u64,
+    bell: &'a Bell,
+    // Where the writer of its connection waits.
+    own: &'a Spot,
+    clock: &'a C,
+    channel: Channel,
+    // How many entries there were when something came through it last.
+    entries: u64,
+    wakes: u64,
+    tells: u64,
+}
+
+impl<'a, C: Clock> InGate<'a, C> {
+    /// A gate through which nothing has come yet, of a connection at this place.
+    pub fn new(bell: &'a Bell, clock: &'a C, place: Place) -> InGate<'a, C> {
+        InGate {
+            bell,
+            own: bell.spot(place),
+            clock,
+            channel: place.channel,
+            entries: bell.entries(),
+            wakes: 0,
+            tells: 0,
+        }
+    }
+
+    /// Whether anything came through it: a message that opens, or on iopub a subscription.
+    pub fn was_used(&self) -> bool
+        ensures { IsTrue result ↔ (0 < self.now.wakes + self.now.tells) }
+    {
+        self.wakes > 0 || self.tells > 0
+    }
+
+    // After many subscriptions, waits for the next one.
+    fn hold(&mut self)
+        ensures { (self.new.wakes ≡ self.old.wakes) × (self.new.tells ≡ self.old.tells) }
+    {
+        let entries = self.bell.entries();
+        let micros = pause_at(entries, self.entries);
+        self.entries = entries;
+        if self.bell.count_subscription() >= SUBSCRIPTIONS_AT_FULL_SPEED {
+            thread::sleep(self.clock, Duration::from_micros(micros));
+        }
+    }
 }
 
 impl<'a, C: Clock> ReaderGate for InGate<'a, C> {
@@ -38,6 +80,9 @@ impl<'a, C: Clock> ReaderGate for InGate<'a, C> {
         self.bell.count_entries(1);
         self.bell.tell(self.own);
         self.tells = one_more(rt, self.tells);
+        if self.channel == Channel::Iopub {
+            self.hold();
+        }
     }
 
     fn unix_seconds<R: Wait>(&mut self, _rt: &R) -> u64 {
@@ -62,14 +107,21 @@ pub struct OutGate<'a> {
 }
 
 impl<'a> OutGate<'a> {
-    /// The gate of a writer that makes no Fetch yet, the first of which is to begin at this number.
-    pub fn new(bell: &'a Bell, own: &'a Spot, is_closed: &'a AtomicBool, from: u64) -> OutGate<'a>
+    /// The gate of a writer that makes no Fetch yet, the first of which is to begin at this number. So often
+    /// somebody had rung where it waits before that number was told.
+    pub fn new(
+        bell: &'a Bell,
+        own: &'a Spot,
+        is_closed: &'a AtomicBool,
+        from: u64,
+        seen: u64,
+    ) -> OutGate<'a>
         ensures { result.idle ≡ record { yes = 0; no = 0 } }
     {
         OutGate {
             bell,
             own,
-            seen: own.rings(),
+            seen,
             is_closed,
             is_closing: bell.is_closing(),
             next: from,
@@ -86,15 +138,14 @@ impl<'a> OutGate<'a> {
         self.next = next;
     }
 
-    // Waits for the next ring, and tells whether to go on.
-    fn wait<R: Wait>(&mut self, rt: &R) -> bool
+    /// Waits until something may have been posted, and tells whether there is still somebody to write to.
+    pub fn wait_for_posts<R: Wait>(&mut self, rt: &R) -> bool
         ensures { self.new.idle ≡ self.old.idle }
     {
-        if self.is_closing || self.is_closed.load(Ordering::SeqCst) {
-            return false;
+        if !self.is_closing {
+            self.seen = self.own.wait_unless(rt, self.seen, self.is_closed);
+            self.is_closing = self.bell.is_closing();
         }
-        self.seen = self.own.wait(rt, self.seen);
-        self.is_closing = self.bell.is_closing();
         !self.is_closed.load(Ordering::SeqCst)
     }
 }
@@ -104,16 +155,17 @@ impl<'a> WriterGate for OutGate<'a> {
 
     fn idle<R: Wait>(&mut self, rt: &R, _pass: &Pass, next: u64) -> bool {
         self.count(next);
-        let goes_on = self.wait(rt);
+        let goes_on = !self.is_closing && self.wait_for_posts(rt);
         self.idle.add(rt, goes_on);
         goes_on
     }
 }
 
 /// The worker's gate. It waits until there may be work; it says no once the journal is full but for a
-/// reserve. It holds a long run back so that the journal lasts, and rings for its posts.
+/// reserve, and prints a line before that. It holds a long run back so that the journal lasts, and rings for
+/// its posts.
 #[derive(Drop)]
-pub struct WorkGate<'a, C: Wait + Clock> {
+pub struct WorkGate<'a, C: Wait + Clock + Print> {
     bell: &'a Bell,
     clock: &'a C,
     begun: Option<Instant>,
@@ -128,11 +180,13 @@ pub struct WorkGate<'a, C: Wait + Clock> {
     rung: u128,
     gap: u64,
     writes: u64,
+    // Whether it has printed that the journal is nearly full.
+    has_warned: bool,
     polls: WorkerTally,
     ghost gap_bound: { gap ≤ 100000 },
 }
 
-impl<'a, C: Wait + Clock> WorkGate<'a, C> {
+impl<'a, C: Wait + Clock + Print> WorkGate<'a, C> {
     ghost use Rattle.kern_net.specs.Gates.{unpolled, noes};
 
     /// A gate that wasn't polled yet.
@@ -150,6 +204,7 @@ impl<'a, C: Wait + Clock> WorkGate<'a, C> {
             rung: 0,
             gap: SHORTEST_GAP,
             writes: 0,
+            has_warned: false,
             polls: WorkerTally::new(),
         }
     }
@@ -166,9 +221,16 @@ impl<'a, C: Wait + Clock> WorkGate<'a, C> {
         self.slices.saturating_add(self.bell.entries())
     }
 
-    // Whether the rest of the journal is for the writers.
-    fn is_full(&self) -> bool {
-        self.count() >= u64::from(JOURNAL_LIMIT) - RESERVE
+    // Whether the rest of the journal is for the writers. Where it is nearly full, it says so once.
+    fn is_full(&mut self) -> bool
+        ensures { self.new.polls ≡ self.old.polls }
+    {
+        let entries = self.count();
+        if !self.has_warned && is_nearly_full(entries) {
+            self.has_warned = true;
+            let _ = self.clock.println("journal 90 percent full");
+        }
+        entries >= u64::from(JOURNAL_LIMIT) - RESERVE
     }
 
     // Waits so that the journal lasts, unless work comes meanwhile.
@@ -176,12 +238,8 @@ impl<'a, C: Wait + Clock> WorkGate<'a, C> {
         ensures { self.new.polls ≡ self.old.polls }
     {
         let entries = self.count();
-        let spent = entries
-            .saturating_sub(self.entries)
-            .min(u64::from(JOURNAL_LIMIT));
+        let most = Duration::from_micros(pause_at(entries, self.entries));
         self.entries = entries;
-        let rest = u64::from(JOURNAL_LIMIT).saturating_sub(entries).max(1);
-        let most = Duration::from_micros(pause(spent, rest));
         self.seen = self.bell.next_work_within(self.clock, self.seen, most);
     }
 
@@ -221,7 +279,7 @@ impl<'a, C: Wait + Clock> WorkGate<'a, C> {
     }
 }
 
-impl<'a, C: Wait + Clock> WorkerGate for WorkGate<'a, C> {
+impl<'a, C: Wait + Clock + Print> WorkerGate for WorkGate<'a, C> {
     ghost polls = { λ g. g.polls };
 
     fn before<R: Wait>(&mut self, rt: &R, slices: u64) -> bool {

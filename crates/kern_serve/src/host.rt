@@ -4,10 +4,10 @@ use std::rt::Clock;
 use std::sync::Wait;
 use std::thread::Threads;
 
-/// Waiting, time and threads, to which it may be handed.
-pub trait Host: Wait + Clock + Threads + Clone + Send + Sync + Drop + 'static {}
+/// Waiting, time, lines on standard output, and threads, to which it may be handed.
+pub trait Host: Wait + Clock + Print + Threads + Clone + Send + Sync + Drop + 'static {}
 
-impl<R: Wait + Clock + Threads + Clone + Send + Sync + Drop + 'static> Host for R {}
+impl<R: Wait + Clock + Print + Threads + Clone + Send + Sync + Drop + 'static> Host for R {}
 
 /// TCP sockets of the system.
 pub trait TcpNet: Net<Listener = TcpListener, Stream = TcpStream> {}

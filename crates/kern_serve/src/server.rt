@@ -13,6 +13,7 @@ use crate::listeners::Listeners;
 use crate::pace::JOURNAL_LIMIT;
 use crate::socket::beat;
 use crate::system::new_session;
+use crate::throttles::Throttles;
 use base_text::text::Text;
 use jup_connection::connection_file::ConnectionFile;
 use jup_wire::channel::Channel;
@@ -116,7 +117,8 @@ fn start_task<R: Host>(
     );
     match started {
         Ok(_) => Ok(()),
-        Err(_) => Err(ServerFault::System),
+        // The library doesn't tell why. That memory is wanting for one of some 80 stacks is the likeliest.
+        Err(_) => Err(ServerFault::OutOfMemory),
     }
 }
 
@@ -172,7 +174,7 @@ fn end_of(end: PumpEnd, is_closed: bool) -> Result<ServerEnd, ServerFault>
 }
 
 // Works until a shutdown came or the journal is full, and lets the writers end.
-fn work<R: Wait + Clock>(rt: &R, shared: &Shared, mut pass: Pass) -> Result<ServerEnd, ServerFault>
+fn work<R: Host>(rt: &R, shared: &Shared, mut pass: Pass) -> Result<ServerEnd, ServerFault>
     requires { pass.turnstile ≡ shared.now.desk }
 {
     let mut gate = WorkGate::new(&shared.bell, rt);
@@ -198,7 +200,8 @@ fn open_desk_and_bell(alloc: Global) -> Result<(Desk, Vec<Pass>, Bell), AllocErr
 }
 
 // What the threads share, and the passes of its desk.
-fn open(
+fn open<C: Clock>(
+    clock: &C,
     alloc: Global,
     listeners: Listeners,
     key: Text,
@@ -211,6 +214,7 @@ fn open(
             let shared = Shared {
                 desk,
                 bell,
+                throttles: Throttles::new(clock),
                 key,
                 session,
                 listeners,
@@ -269,7 +273,7 @@ fn serve_as<R: Host>(
     key: Text,
     session: Text,
 ) -> Result<ServerEnd, ServerFault> {
-    let (shared, passes) = open(alloc, listeners, key, session)?;
+    let (shared, passes) = open(rt, alloc, listeners, key, session)?;
     match Arc::new(alloc, shared) {
         Ok(shared) => {
             let ended = run(rt, alloc, &shared, passes);

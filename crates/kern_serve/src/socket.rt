@@ -17,13 +17,6 @@ const PATIENCE_SECONDS: u64 = 10;
 // The size of a greeting, in bytes.
 const GREETING_SIZE: usize = 64;
 
-/// A socket whose handshake is made, and its peer.
-#[derive(Drop)]
-pub struct Met {
-    pub peer: Peer,
-    pub stream: TcpStream,
-}
-
 /// Ends reads and writes on a socket, whatever thread waits in one.
 pub fn close(stream: &TcpStream) {
     let _ = stream.shutdown(Shutdown::Both);

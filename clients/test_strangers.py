@@ -1,0 +1,149 @@
+"""A flood of strangers, peers that make their handshake and have no key: they spend little of the journal, and hold nobody up who
+has one."""
+import glob
+import os
+import tempfile
+import threading
+import time
+import unittest
+
+from jupyter_client import BlockingKernelClient, write_connection_file
+from jupyter_client.session import Session
+
+from lab80_client import PATIENCE, start_alone
+from zmtp import SOCKET_TYPES, Peer, greeting, message, ready
+
+# On each of these channels so many strangers come at once, one after the other.
+CHANNELS, AT_ONCE = ("shell", "iopub", "stdin", "control"), 5
+
+# How long they come, and how often the client with the key asks meanwhile, in seconds.
+FLOOD, PAUSE = 5, 0.02
+
+# Of a channel's strangers eight are served as they come, and so are those that it serves by then; then one each 50 milliseconds.
+FIRST, A_SECOND = 8 + AT_ONCE, 20
+
+
+def strange(channel):
+    """What a stranger says: a handshake, and a request that is signed with another key; on iopub that is no subscription."""
+    session = Session(key=b"another")
+    asked = message(*session.serialize(session.msg("kernel_info_request")))
+    return greeting() + ready(SOCKET_TYPES[channel]) + asked
+
+
+class Flood:
+    """Strangers on each channel, from a thread for each of those that come at once."""
+
+    def __init__(self, connection):
+        self.connection, self.is_over, self.served, self.wrong = connection, threading.Event(), dict.fromkeys(CHANNELS, 0), None
+        self.lock = threading.Lock()
+        self.threads = [threading.Thread(target=self.come, args=(channel,), daemon=True)
+                        for channel in CHANNELS for _ in range(AT_ONCE)]
+
+    def come(self, channel):
+        said = strange(channel)
+        try:
+            while not self.is_over.is_set():
+                with Peer(self.connection, channel) as peer:
+                    peer.say(said)
+                    peer.stream.shutdown(1)
+                    # The kernel ends the connection once it has joined and left.
+                    if not peer.is_ended(PATIENCE):
+                        raise TimeoutError(channel)
+                with self.lock:
+                    self.served[channel] += 1
+        except Exception as wrong:
+            self.wrong = wrong
+
+    def __enter__(self):
+        self.began = time.monotonic()
+        for thread in self.threads:
+            thread.start()
+        return self
+
+    def __exit__(self, *_):
+        self.is_over.set()
+        for thread in self.threads:
+            thread.join()
+        self.took = time.monotonic() - self.began
+
+
+class Strangers(unittest.TestCase):
+    def setUp(self):
+        folder = self.enterContext(tempfile.TemporaryDirectory())
+        self.path, self.connection = write_connection_file(os.path.join(folder, "connection.json"), key=b"key")
+        self.kernel = start_alone(self.path)
+        self.addCleanup(self.kernel.communicate)
+        self.addCleanup(self.kernel.kill)
+
+    def ask_until(self, peer, until):
+        """How long each answer takes to a client that asks on and on, in seconds."""
+        while time.monotonic() < until:
+            began = time.monotonic()
+            self.assertTrue(peer.is_served())
+            yield time.monotonic() - began
+            time.sleep(PAUSE)
+
+    def come_new(self):
+        """How long it takes a client that comes with the key to hear what the kernel is, in seconds."""
+        client = BlockingKernelClient(connection_file=self.path)
+        client.load_connection_file()
+        began = time.monotonic()
+        client.start_channels()
+        try:
+            number = client.kernel_info()
+            while client.get_shell_msg(timeout=PATIENCE)["parent_header"].get("msg_id") != number:
+                pass
+            return time.monotonic() - began
+        finally:
+            client.stop_channels()
+
+    def test_a_flood_of_strangers(self):
+        with Peer(self.connection, "shell") as shell, Peer(self.connection, "control") as control:
+            for peer in (shell, control):
+                self.assertTrue(peer.greet().is_served())
+            with Flood(self.connection) as flood:
+                answers = [*self.ask_until(shell, flood.began + FLOOD / 2), *self.ask_until(control, flood.began + FLOOD)]
+                late = max(self.come_new() for _ in range(2))
+        self.assertIsNone(flood.wrong)
+        answers.sort()
+        told = (f"{flood.served} strangers in {flood.took:.1f} seconds, {len(answers)} answers in {answers[len(answers) // 2]:.4f} "
+                f"to {answers[-1]:.3f} seconds, a new client's in {late:.3f}")
+        # On a machine with other work one answer in a hundred may wait for a processor.
+        self.assertLess(answers[-1 - len(answers) // 100], 0.1, told)
+        self.assertLess(answers[-1], 1, told)
+        self.assertLess(late, 2, told)
+        for served in flood.served.values():
+            self.assertLessEqual(served, FIRST + A_SECOND * (flood.took + 1), told)
+            self.assertGreater(served, FIRST, told)
+        self.assertIsNone(self.kernel.poll())
+
+    def test_subscriptions_without_an_end(self):
+        # The first 65,536 are taken as they come, further ones a few hundred a second.
+        with Peer(self.connection, "iopub") as subscriber, Peer(self.connection, "shell") as shell:
+            subscriber.greet()
+            shell.greet()
+            for _ in range(65):
+                subscriber.say(message(b"\x00x") * 1000)
+            began = time.monotonic()
+            subscriber.say(message(b"\x00x") * 1000 + message(b"\x01status"))
+            self.assertTrue(shell.is_served())
+            self.assertTrue(subscriber.receive_message()[0].startswith(b"status"))
+            self.assertGreater(time.monotonic() - began, 1)
+
+    def naps(self):
+        """How often threads of the kernel, which has its shell's number, went to sleep."""
+        naps = 0
+        for path in glob.glob(f"/proc/{self.kernel.pid}/task/*/status"):
+            with open(path, encoding="ascii") as file:
+                naps += sum(int(line.split()[1]) for line in file if line.startswith("voluntary_ctxt_switches"))
+        return naps
+
+    def test_an_idle_kernel_enters_nothing(self):
+        # An entry takes a thread that wakes, and sleeps again.
+        peers = [self.enterContext(Peer(self.connection, channel)).greet() for channel in SOCKET_TYPES for _ in range(16)]
+        for peer in peers:
+            self.assertTrue(peer.is_served())
+        time.sleep(1)
+        before = self.naps()
+        time.sleep(2)
+        self.assertEqual(self.naps(), before)

@@ -1,0 +1,75 @@
+//! How a channel holds connections back where many strangers come: peers that left without a message that
+//! opens. Moments are milliseconds since the server began.
+ghost use Rattle.std.specs.Prelude.{◌≡◌, ◌≤◌, ◌↔◌, ⊤, IsTrue, replicate};
+ghost use Rattle.kern_serve.specs.Strangers.{with_stranger, IsCrowded, HasTurn};
+
+use std::marker::Model;
+
+// So many strangers within a second are a crowd.
+const CROWD: usize = 8;
+
+const SECOND: u64 = 1_000;
+
+// The time from one turn to the next.
+const GAP: u64 = 50;
+
+// As long as sixteen turns: a channel has so many places.
+const LONGEST_WAIT: u64 = 800;
+
+/// The strangers and the turns of a channel.
+#[derive(Drop)]
+pub struct Throttle {
+    until: [u64; CROWD],
+    next: u64,
+}
+
+impl Model for Throttle {
+    ghost use Rattle.kern_serve.specs.Strangers.{ThrottleState};
+
+    ghost Value = { ThrottleState };
+
+    ghost view = { λ t. record { until = t.until; next = t.next } };
+}
+
+impl Throttle {
+    /// Of a channel to which nobody came.
+    pub fn new() -> Throttle
+        ensures { result ≡ record { until = replicate 8 0; next = 0 } }
+    {
+        Throttle {
+            until: [0; CROWD],
+            next: 0,
+        }
+    }
+
+    /// A stranger has left.
+    #[tactic(auto, using(crate::proofs::StrangerLemmas::first_last))]
+    pub fn add_stranger(&mut self, now: u64)
+        requires { now ≤ 1000000000000000 }
+        ensures { self.new ≡ with_stranger now self.old }
+    {
+        self.until[0] = now + SECOND;
+        self.until.rotate_left(1);
+    }
+
+    // Whether eight strangers have left within a second.
+    fn is_crowded(&self, now: u64) -> bool
+        ensures { IsTrue result ↔ IsCrowded now self.now }
+    {
+        self.until.iter().all(|until| now < *until)
+    }
+
+    /// How long a connection that came now is to wait, in milliseconds.
+    pub fn admit(&mut self, now: u64) -> u64
+        requires { now ≤ 1000000000000000 }
+        ensures turn { IsCrowded now self.old → HasTurn now self.old self.new result }
+        ensures free { (IsCrowded now self.old → ⊥) → (result ≡ 0) × (self.new ≡ self.old) }
+    {
+        if !self.is_crowded(now) {
+            return 0;
+        }
+        let wait = self.next.saturating_sub(now).min(LONGEST_WAIT);
+        self.next = now + wait + GAP;
+        wait
+    }
+}
