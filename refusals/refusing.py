@@ -1,4 +1,4 @@
-"""Runs programs of which some allocations are refused, for the scripts beside this file."""
+"""Runs programs to which some allocations, reads or writes are refused, for the scripts beside this file."""
 import mmap
 import os
 import struct
@@ -15,7 +15,9 @@ from workspace import KIT, folder
 
 # The longest that a program may take, in seconds. It takes some milliseconds.
 SECONDS = 30
-# A number that no allocation reaches.
+# What is refused, in the order of the rows that refuse.c counts them in.
+ALLOCATIONS, READS, WRITES = KINDS = ("allocations", "reads", "writes")
+# A number that none of these reaches.
 ALL = 2**62
 
 
@@ -29,24 +31,39 @@ def build(*crates):
 
 
 @contextmanager
-def allocator():
-    """The allocator that refuses, as a library that can be preloaded."""
+def refuser():
+    """What refuses, as a library that can be preloaded."""
     tools = KIT / "toolchain/bin"
     with tempfile.TemporaryDirectory() as place:
-        library = Path(place) / "malloc.so"
+        library = Path(place) / "refuse.so"
         words = [tools / "clang", "-O2", "-Wall", "-shared", "-fPIC", "-nostdlib", f"--ld-path={tools}/ld.lld"]
-        subprocess.run([*words, "-o", library, Path(__file__).parent / "malloc.c"], check=True)
+        subprocess.run([*words, "-o", library, Path(__file__).parent / "refuse.c"], check=True)
         yield library
 
 
-class Counts:
-    """Which allocations of a process are refused, from a first number to a last one, and how many it asked for."""
+class Refused:
+    """Which calls of a kind are refused, from a first number to a last one."""
 
-    def __init__(self, library, first=0, last=0):
+    def __init__(self, kind=ALLOCATIONS, first=0, last=0):
+        self.kind, self.first, self.last = kind, first, last
+
+    def __str__(self):
+        rest = "" if self.last == self.first else " and all after it"
+        return f"{self.kind.removesuffix('s')} {self.first}{rest} refused"
+
+
+NOTHING = Refused()
+
+
+class Counts:
+    """What is refused to a process, and how much of each kind it asked for."""
+
+    def __init__(self, library, refused=NOTHING):
         descriptor, self.path = tempfile.mkstemp(dir="/dev/shm")
-        os.write(descriptor, struct.pack("4q", 0, first, last, 0))
-        self.shared = mmap.mmap(descriptor, 32)
+        os.write(descriptor, bytes(32 * len(KINDS)))
+        self.shared = mmap.mmap(descriptor, 32 * len(KINDS))
         os.close(descriptor)
+        self.refuse(refused)
         self.environment = {"LD_PRELOAD": str(library), "COUNTS": self.path}
 
     def __enter__(self):
@@ -56,29 +73,28 @@ class Counts:
         self.shared.close()
         os.unlink(self.path)
 
-    def numbers(self):
-        return struct.unpack("4q", self.shared[:])
+    def row(self, kind):
+        """How many calls of a kind there were, the first and the last that is refused, and how many were."""
+        at = 32 * KINDS.index(kind)
+        return struct.unpack("4q", self.shared[at:at + 32])
 
     def asked(self):
-        return self.numbers()[0]
+        return {kind: self.row(kind)[0] for kind in KINDS}
 
-    def refused(self):
-        return self.numbers()[3]
-
-    def refuse(self, first, last):
-        """From now on these numbers are refused."""
-        self.shared[8:24] = struct.pack("2q", first, last)
+    def refuse(self, refused):
+        """From now on these are refused, and no others of their kind."""
+        at = 32 * KINDS.index(refused.kind)
+        self.shared[at + 8:at + 24] = struct.pack("2q", refused.first, refused.last)
 
 
 class Made:
-    """A run of a program: its status, what it printed, how many allocations it asked for, how many were refused."""
+    """A run of a program: its status, what it printed, how much it asked for, and how often it was refused that."""
 
-    def __init__(self, library, words, text=b"", first=0, last=0):
-        with Counts(library, first, last) as counts:
+    def __init__(self, library, words, text=b"", refused=NOTHING):
+        with Counts(library, refused) as counts:
             try:
                 done = subprocess.run(words, input=text, capture_output=True, env=counts.environment, timeout=SECONDS)
                 self.status, self.printed, self.complained = done.returncode, done.stdout, done.stderr
             except subprocess.TimeoutExpired:
                 self.status, self.printed, self.complained = f"none after {SECONDS} seconds", b"", b""
-            _, _, _, self.refused = numbers = counts.numbers()
-            self.asked = numbers[0]
+            self.asked, self.refused = counts.asked(), counts.row(refused.kind)[3]

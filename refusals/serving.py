@@ -1,4 +1,4 @@
-"""Starts kernels of connection files of their own, of which allocations may be refused."""
+"""Starts kernels of connection files of their own, to which allocations, reads or writes may be refused."""
 import json
 import os
 import random
@@ -6,7 +6,7 @@ import select
 import subprocess
 import tempfile
 
-from refusing import Counts, program
+from refusing import NOTHING, Counts, program
 
 KEY = "a kernel's key"
 PORTS = ("shell", "iopub", "stdin", "control", "hb")
@@ -16,9 +16,9 @@ SECONDS = 10
 
 
 class Kernel:
-    """A kernel at an address of its own. With an allocator some of its allocations are refused."""
+    """A kernel at an address of its own. With a library that refuses, this is refused to it."""
 
-    def __init__(self, library=None, first=0, last=0):
+    def __init__(self, library=None, refused=NOTHING):
         parts = (random.randrange(1, 255) for _ in range(3))
         self.connection = {"transport": "tcp", "ip": f"127.{'.'.join(map(str, parts))}", "key": KEY,
                            "signature_scheme": "hmac-sha256"}
@@ -26,7 +26,7 @@ class Kernel:
         descriptor, self.path = tempfile.mkstemp(suffix=".json")
         with os.fdopen(descriptor, "w", encoding="ascii") as file:
             json.dump(self.connection, file)
-        self.counts = Counts(library, first, last) if library else None
+        self.counts = Counts(library, refused) if library else None
         self.process = subprocess.Popen(
             [program("lab80_kernel"), "kernel", self.path], env=self.counts.environment if library else {},
             stdin=subprocess.DEVNULL, stdout=subprocess.PIPE, stderr=subprocess.STDOUT)

@@ -143,10 +143,27 @@ fn play(rt: &impl Print, alloc: Global, steps: &[Step]) -> Result<()> {
     made
 }
 
+fn dump(rt: &impl Print, alloc: Global, lab: &mut Lab, call: &str) -> Result<()> {
+    if let Some(event) = again!(rt, "events", event_of(alloc, Step::Dump("p", "HLT"))) {
+        let dumped = again!(rt, call, lab.apply(&event));
+        drop(dumped);
+    }
+    Ok(())
+}
+
+// A text that is kept already is dumped without memory: refusals/run looks that this is never told.
+fn dump_twice(rt: &impl Print, alloc: Global, lab: &mut Lab) -> Result<()> {
+    dump(rt, alloc, lab, "dump")?;
+    dump(rt, alloc, lab, "dump of a kept text")
+}
+
 /// The run.
 pub fn run(rt: &impl Print, alloc: Global) -> Result<()> {
     for steps in PLAYS {
         play(rt, alloc, steps)?;
     }
-    Ok(())
+    let mut lab = again!(rt, "Lab::new", Lab::new(alloc));
+    let made = dump_twice(rt, alloc, &mut lab);
+    drop(lab);
+    made
 }
