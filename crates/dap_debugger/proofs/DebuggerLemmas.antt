@@ -1,0 +1,66 @@
+use Rattle.std.proofs.Common.{◌≡◌, ℕ, ◌+◌, List, [], ◌∷◌, ◌++◌, length, refl, arith, sym, ◌∙◌, ap, subst}
+use Rattle.std.proofs.Common.{append_assoc, length-append}
+use Rattle.std.proofs.lemmas.List.{append-nil}
+use Rattle.dap_editor.specs.declared.message.Message.{Message}
+use Rattle.dap_session.specs.States.{SessionState, opened}
+use Rattle.dap_session.specs.Slices.{Input, step, played}
+use Rattle.dap_session.specs.Stands.{StandsFor, Tells}
+use Rattle.dap_debugger.specs.Sending.{sent_bytes, joined}
+use Rattle.dap_debugger.specs.Debuggers.{DebuggerState, Past}
+use Rattle.dap_debugger.proofs.SendingLemmas.{sent_bytes-append}
+
+-- one input more
+played_messages : (inputs : List Input) (input : Input) (s : SessionState)
+    → (played (inputs ++ input ∷ []) s).messages
+    ≡ (played inputs s).messages ++ (step input (played inputs s).state).messages
+played_messages [] input s = append-nil (step input s).messages
+played_messages (i ∷ inputs) input s =
+    let first = step i s in
+    ap (λ m. first.messages ++ m) (played_messages inputs input first.state)
+    ∙ sym (append_assoc first.messages (played inputs first.state).messages
+    (step input (played inputs first.state).state).messages)
+
+played_state : (inputs : List Input) (input : Input) (s : SessionState)
+    → (played (inputs ++ input ∷ []) s).state ≡ (step input (played inputs s).state).state
+played_state [] input s = refl
+played_state (i ∷ inputs) input s = played_state inputs input (step i s).state
+
+joined_push : (lists : List (List Message)) (messages : List Message)
+    → joined (lists ++ messages ∷ []) ≡ joined lists ++ messages
+joined_push [] messages = append-nil messages
+joined_push (list ∷ lists) messages =
+    ap (λ m. list ++ m) (joined_push lists messages) ∙ sym (append_assoc list (joined lists) messages)
+
+-- a debugger that was told one thing more
+pub past_more : (old new : DebuggerState) (inputs : List Input) (bytes : List ℕ) (input : Input)
+    (messages : List Message) (lists all : List (List Message)) → Past old inputs bytes
+    → Tells (step input (played inputs opened).state) messages new.session → new.sent ≡ old.sent
+    → old.told ≡ joined lists → all ≡ lists ++ messages ∷ [] → new.told ≡ joined all
+    → Past new (inputs ++ input ∷ []) bytes
+past_more old new inputs bytes input messages lists all p tells sent old_is all_is new_is =
+    let before = (played inputs opened).messages in
+    let told : new.told ≡ old.told ++ messages =
+    new_is ∙ (ap joined all_is ∙ (joined_push lists messages ∙ ap (λ m. m ++ messages) (sym old_is))) in
+    record {
+      session = subst (StandsFor new.session) (sym (played_state inputs input opened)) tells.1;
+      before = p.before;
+      messages = played_messages inputs input opened
+          ∙ (ap (λ m. before ++ m) (sym tells.0) ∙ (ap (λ m. m ++ messages) p.messages
+          ∙ (append_assoc p.before old.told messages ∙ ap (λ m. p.before ++ m) (sym told))));
+      count = sent ∙ p.count;
+      wrote = p.wrote;
+    }
+
+-- a debugger that has sent all that it told
+pub past_sent : (old new : DebuggerState) (inputs : List Input) (bytes more : List ℕ) → Past old inputs bytes
+    → new.session ≡ old.session → new.told ≡ [] → new.sent ≡ old.sent + length old.told
+    → more ≡ sent_bytes old.sent old.told → Past new inputs (bytes ++ more)
+past_sent old new inputs bytes more p session told sent is = record {
+  session = subst (λ v. StandsFor v (played inputs opened).state) (sym session) p.session;
+  before = p.before ++ old.told;
+  messages = p.messages ∙ (sym (append-nil (p.before ++ old.told)) ∙ ap (λ m. (p.before ++ old.told) ++ m) (sym told));
+  count = (let c = p.count in omega (arith, sent, c, length-append p.before old.told));
+  wrote = ap (λ b. b ++ more) p.wrote ∙ (ap (λ b. sent_bytes 0 p.before ++ b) (is
+      ∙ ap (λ n. sent_bytes n old.told) (p.count ∙ omega arith))
+      ∙ sym (sent_bytes-append 0 p.before old.told));
+}

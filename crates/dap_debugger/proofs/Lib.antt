@@ -1,0 +1,4 @@
+pub mod DebuggerLemmas
+pub mod JsonLemmas
+pub mod LaunchLemmas
+pub mod SendingLemmas

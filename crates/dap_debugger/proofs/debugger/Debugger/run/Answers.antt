@@ -1,0 +1,17 @@
+use Rattle.std.proofs.Common.{◌∷◌, ◌++◌, [], refl, sym, ◌∙◌, ap, subst}
+use Rattle.dap_session.specs.States.{opened}
+use Rattle.dap_session.specs.Slices.{slice, played}
+use Rattle.dap_session.specs.Stands.{StandsFor}
+use Rattle.dap_debugger.specs.Debuggers.{DebuggerState}
+use Rattle.dap_debugger.proofs.DebuggerLemmas.{past_more}
+use Rattle.dap_debugger.proofs.debugger.Debugger.run.Goals as goal
+
+pub returns-clause-ok : goal.returns-clause-ok
+returns-clause-ok c inputs bytes past =
+    let s = (played inputs opened).state in
+    let stands = subst (λ (d : DebuggerState). StandsFor d.session s) (sym c.self.view_is) past.session in
+    past_more c.args.self.now _ inputs bytes slice c.in_ok-messages.messages
+    c.self.inside.told.items c.push_reserved.new.self.items past (c.in_ok-messages.ensures.0 s stands)
+    (ap (λ (d : DebuggerState). d.sent) c.self.view_is) (ap (λ (d : DebuggerState). d.told) (sym c.self.view_is))
+    (c.push_reserved.ensures.items
+    ∙ ap (λ l. l ++ c.in_ok-messages.messages ∷ []) c.in_ok-reserve.ensures.items) refl

@@ -1,0 +1,31 @@
+-- What a debugger stands for: all that was asked of it, and all that it sent.
+use Rattle.std.specs.Prelude.{◌≡◌, ◌⊎◌, ℕ, List, [], ◌∷◌, ◌++◌, length}
+use Rattle.base_text.specs.Bytes.{Bytes}
+use Rattle.dap_editor.specs.declared.message.Message.{Message}
+use Rattle.dap_editor.specs.declared.request.Asked.{Asked}
+use Rattle.dap_session.specs.States.{opened}
+use Rattle.dap_session.specs.Slices.{Input, played}
+use Rattle.dap_session.specs.Stands.{SessionFields, StandsFor, IsLeft as SessionIsLeft}
+use Rattle.dap_debugger.specs.Sending.{sent_bytes}
+
+-- what a contract sees of it
+pub record DebuggerState : Type 0 where
+  pub session : SessionFields
+  pub sent : ℕ
+  pub told : List Message
+
+-- After these requests and slices, these bytes were sent: the messages of all that the session tells, in order and
+-- numbered from 1, but for those that are told and not sent yet.
+pub record Past (d : DebuggerState) (inputs : List Input) (bytes : Bytes) : Type 0 where
+  pub session : StandsFor d.session (played inputs opened).state
+  pub before : List Message
+  pub messages : (played inputs opened).messages ≡ before ++ d.told
+  pub count : d.sent ≡ length before
+  pub wrote : bytes ≡ sent_bytes 0 before
+
+-- What want of memory leaves: nothing more is sent or told, and the session is as it was; but of bytes that were to be
+-- written to the program's memory some may be, from the first on.
+abbrev pub IsLeft : Asked → DebuggerState → DebuggerState → Type 0
+IsLeft a old new =
+    (new ≡ old)
+    ⊎ (SessionIsLeft a old.session new.session × (new ≡ record old { session = new.session }))

@@ -1,0 +1,5 @@
+pub mod Debuggers
+pub mod Given
+pub mod LaunchTexts
+pub mod Requests
+pub mod Sending

@@ -1,0 +1,20 @@
+-- What the body of a message asks for.
+use Rattle.std.specs.Prelude.{Option, Some, None, if◌then◌else◌}
+use Rattle.std.specs.Str.{is_utf8}
+use Rattle.base_text.specs.Bytes.{Bytes}
+use Rattle.serde_json.specs.Data.{Data}
+use Rattle.serde_json.specs.Read.{read}
+use Rattle.dap_editor.specs.declared.request.EditorRequest.{EditorRequest}
+use Rattle.dap_editor.specs.Reading.{editor_request, unreadable}
+
+-- the value of a body that is one JSON text in UTF-8 (RFC 8259), with arrays and objects nested at most 127 deep
+unfoldable pub json_of : Bytes → Option Data
+json_of body = if is_utf8 body then read body else None
+
+-- what is no JSON is a request that can't be read
+abbrev pub request_in : Option Data → EditorRequest
+request_in None = unreadable
+request_in (Some json) = editor_request json
+
+abbrev pub request_of : Bytes → EditorRequest
+request_of body = request_in (json_of body)

@@ -1,0 +1,22 @@
+-- The bytes that go out (Debug Adapter Protocol, "Base Protocol").
+use Rattle.std.specs.Prelude.{ℕ, ◌+◌, List, [], ◌∷◌, ◌++◌}
+use Rattle.base_text.specs.Bytes.{Bytes}
+use Rattle.serde_json.specs.Written.{compact_text}
+use Rattle.dap_stream.specs.Writing.{message_bytes}
+use Rattle.dap_editor.specs.declared.message.Message.{Message}
+use Rattle.dap_editor.specs.Json.{message_json}
+
+-- the JSON of a message with this number, without blanks
+abbrev pub text_of : ℕ → Message → Bytes
+text_of number message = compact_text (message_json number message)
+
+-- messages, numbered on from so many
+abbrev pub sent_bytes : ℕ → List Message → Bytes
+sent_bytes sent [] = []
+sent_bytes sent (message ∷ messages) =
+    message_bytes (text_of (sent + 1) message) ++ sent_bytes (sent + 1) messages
+
+-- lists one after another
+abbrev pub joined : List (List Message) → List Message
+joined [] = []
+joined (messages ∷ lists) = messages ++ joined lists

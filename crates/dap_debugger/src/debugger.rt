@@ -1,0 +1,115 @@
+//! The debugger.
+ghost use Rattle.std.specs.Prelude.{◌≡◌, ◌∷◌, ◌++◌, [], List, IfOk, OnOk, OnErr, option_map};
+ghost use Rattle.base_text.specs.Bytes.{Bytes};
+ghost use Rattle.dap_session.specs.States.{opened, wants_slice};
+ghost use Rattle.dap_session.specs.Requests.{wanted_file};
+ghost use Rattle.dap_session.specs.Slices.{Input, request as asks, slice, played};
+
+use crate::sending::put_all;
+use base_text::sequence::{Bytes, Sequence};
+use dap_editor::message::Message;
+use dap_editor::request::EditorRequest;
+use dap_session::file::FileText;
+use dap_session::session::Session;
+use std::alloc::{AllocError, Global};
+use std::marker::Model;
+
+/// A session, how many of its messages were sent, and those that it has told since.
+#[derive(Drop)]
+pub struct Debugger {
+    session: Session,
+    sent: u64,
+    told: Vec<Sequence<Message>>,
+}
+
+impl Model for Debugger {
+    ghost use Rattle.dap_debugger.specs.Debuggers.{DebuggerState};
+    ghost use Rattle.dap_debugger.specs.Sending.{joined};
+
+    ghost Value = { DebuggerState };
+
+    ghost view = { λ d. record { session = d.session; sent = d.sent; told = joined d.told.items } };
+}
+
+impl Debugger {
+    ghost use Rattle.dap_debugger.specs.Debuggers.{Past, IsLeft};
+
+    /// A debugger before its first request.
+    pub fn new(alloc: Global) -> Result<Debugger, AllocError>
+        ensures { IfOk result (λ debugger. Past debugger [] []) }
+    {
+        let session = Session::new(alloc)?;
+        Ok(Debugger {
+            session,
+            sent: 0,
+            told: Vec::new(alloc),
+        })
+    }
+
+    /// Answers a request, where this was found at the path that it needs (`wanted_file`). Out of memory changes nothing; but
+    /// of the bytes of a `writeMemory` some may be written then, from the first on.
+    pub fn answer(
+        &mut self,
+        alloc: Global,
+        request: EditorRequest,
+        file: Option<FileText>,
+    ) -> Result<(), AllocError>
+        ensures ok { (inputs : List Input) (bytes : Bytes) → Past self.old inputs bytes
+            → OnOk result (Past self.new (inputs ++ asks request file ∷ []) bytes) }
+        ensures err { OnErr result (IsLeft request.asked self.old self.new) }
+    {
+        self.told.reserve(1)?;
+        let messages = self.session.take(alloc, request, file)?;
+        self.told.push_reserved(messages);
+        Ok(())
+    }
+
+    /// Makes a slice of a run that goes on.
+    pub fn run(&mut self, alloc: Global) -> Result<(), AllocError>
+        ensures ok { (inputs : List Input) (bytes : Bytes) → Past self.old inputs bytes
+            → OnOk result (Past self.new (inputs ++ slice ∷ []) bytes) }
+        ensures err { OnErr result (self.new ≡ self.old) }
+    {
+        self.told.reserve(1)?;
+        let messages = self.session.run(alloc)?;
+        self.told.push_reserved(messages);
+        Ok(())
+    }
+
+    /// The bytes of what was told since the last of them. Out of memory also where no number is left.
+    pub fn send(&mut self, alloc: Global) -> Result<Bytes, AllocError>
+        ensures ok { (inputs : List Input) (bytes : Bytes) → Past self.old inputs bytes
+            → IfOk result (λ more. Past self.new inputs (bytes ++ more)) }
+        ensures all { OnOk result (self.new.told ≡ []) }
+        ensures err { OnErr result (self.new ≡ self.old) }
+    {
+        let mut out = Vec::new(alloc);
+        self.sent = put_all(alloc, self.sent, &self.told, &mut out)?;
+        self.told.clear();
+        Ok(Bytes::from(out))
+    }
+
+    /// Whether a slice has something to do.
+    pub fn wants_slice(&self) -> bool
+        ensures { (inputs : List Input) (bytes : Bytes) → Past self.now inputs bytes
+            → result ≡ wants_slice (played inputs opened).state }
+    {
+        self.session.wants_slice()
+    }
+
+    /// The path whose text a request needs.
+    pub fn wanted_file<'a>(&'a self, request: &'a EditorRequest) -> Option<&'a str>
+        ensures { (inputs : List Input) (bytes : Bytes) → Past self.now inputs bytes
+            → option_map (λ path. path.now) result ≡ wanted_file request.now.asked (played inputs opened).state }
+    {
+        self.session.wanted_file(request)
+    }
+
+    /// Whether a disconnect was answered.
+    pub fn has_ended(&self) -> bool
+        ensures { (inputs : List Input) (bytes : Bytes) → Past self.now inputs bytes
+            → result ≡ (played inputs opened).state.settings.has_ended }
+    {
+        self.session.has_ended()
+    }
+}

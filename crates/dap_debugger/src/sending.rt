@@ -1,0 +1,76 @@
+//! Messages as the bytes that go out.
+ghost use Rattle.std.specs.Prelude.{◌≡◌, ◌+◌, ◌++◌, length, IfOk, OnOk, string_bytes};
+ghost use Rattle.dap_stream.specs.Writing.{message_bytes};
+ghost use Rattle.dap_debugger.specs.Sending.{text_of, sent_bytes, joined};
+
+use base_text::sequence::Sequence;
+use dap_editor::json::message_json;
+use dap_editor::message::Message;
+use dap_stream::writing::put_message;
+use std::alloc::{AllocError, Global};
+
+// The text of a message with this number.
+#[tactic(auto, using(dap_editor::proofs::FloatLemmas::message_has_no_float))]
+fn text_of(alloc: Global, number: u64, message: &Message) -> Result<String, AllocError>
+    ensures { IfOk result (λ text. string_bytes text ≡ text_of number message.now) }
+{
+    let value = message_json(alloc, number, message)?;
+    value.to_string(alloc)
+}
+
+// Writes a message with this number.
+fn put_numbered(
+    alloc: Global,
+    number: u64,
+    message: &Message,
+    out: &mut Vec<u8>,
+) -> Result<(), AllocError>
+    ensures { OnOk result
+        (out.new.items ≡ out.old.items ++ message_bytes (text_of number message.now)) }
+{
+    let text = text_of(alloc, number, message)?;
+    put_message(alloc, out, text.as_bytes())
+}
+
+// Writes messages, numbered on from so many, and gives how many there are now.
+fn put_messages(
+    alloc: Global,
+    sent: u64,
+    messages: &[Message],
+    out: &mut Vec<u8>,
+) -> Result<u64, AllocError>
+    ensures count { IfOk result (λ now. now ≡ sent + length messages.now) }
+    ensures bytes { OnOk result (out.new.items ≡ out.old.items ++ sent_bytes sent messages.now) }
+{
+    let mut number = sent;
+    let mut rest = messages;
+    while let Some((message, others)) = rest.split_first() {
+        let Some(next) = number.checked_add(1) else {
+            return Err(AllocError);
+        };
+        put_numbered(alloc, next, message, out)?;
+        number = next;
+        rest = others;
+    }
+    Ok(number)
+}
+
+/// Writes the messages of lists, numbered on from so many, and gives how many there are now. After an error some of
+/// them may have been written; no number is above 2^64 - 1.
+pub fn put_all(
+    alloc: Global,
+    sent: u64,
+    lists: &[Sequence<Message>],
+    out: &mut Vec<u8>,
+) -> Result<u64, AllocError>
+    ensures count { IfOk result (λ now. now ≡ sent + length (joined lists.now)) }
+    ensures bytes { OnOk result (out.new.items ≡ out.old.items ++ sent_bytes sent (joined lists.now)) }
+{
+    let mut number = sent;
+    let mut rest = lists;
+    while let Some((messages, others)) = rest.split_first() {
+        number = put_messages(alloc, number, messages.as_slice(), out)?;
+        rest = others;
+    }
+    Ok(number)
+}

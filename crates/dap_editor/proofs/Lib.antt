@@ -1,0 +1,5 @@
+pub mod FloatLemmas
+pub mod DepthLemmas
+pub mod FunctionLemmas
+pub mod PathLemmas
+pub mod Base64Lemmas

@@ -1,0 +1,108 @@
+-- What stands in the arguments of an editor's request, and what it is as one of the kinds that only editors'
+-- commands have.
+use Rattle.std.specs.Prelude.{
+  ℕ,
+  ℤ,
+  pos,
+  negsuc,
+  ◌+◌,
+  ◌≤◌,
+  nat_le,
+  ◌&&◌,
+  if◌then◌else◌,
+  length,
+  List,
+  [],
+  ◌∷◌,
+  Bool,
+  Option,
+  Some,
+  None,
+  is_none,
+  option_map,
+  option_and_then,
+  codes,
+}
+use Rattle.std.specs.Str.{bytes_eq}
+use Rattle.base_text.specs.Bytes.{Bytes, Text}
+use Rattle.base64.specs.Engines.{standard}
+use Rattle.base64.specs.GeneralPurpose.{decoded_of}
+use Rattle.serde_json.specs.Data.{Data, Items, no_items, item}
+use Rattle.serde_json.specs.Find.{get, as_number, as_i64, as_str, as_array}
+use Rattle.dap_talk.specs.Argument.{argument_at, at_most_256, address_of, text_at, when_between}
+use Rattle.dap_editor.specs.declared.request.Shift.{Shift}
+use Rattle.dap_editor.specs.declared.request.Shift.TheVariants.{Forward, Back}
+use Rattle.dap_editor.specs.declared.request.EvaluateContext.{EvaluateContext}
+use Rattle.dap_editor.specs.declared.request.EvaluateContext.TheVariants.{Repl, Other}
+
+-- ---- where they stand
+
+-- what the argument at a key is as one of a kind
+abbrev pub required : {T : Type 0} → Text → (Data → Option T) → Data → Option T
+required key kind request = option_and_then (option_and_then kind) (argument_at key request)
+
+abbrev pub kind_or : {T : Type 0} → (Data → Option T) → T → Option Data → Option T
+kind_or kind absent None = Some absent
+kind_or kind absent (Some d) = kind d
+
+-- the same, or a value where there is no such argument
+abbrev pub optional : {T : Type 0} → Text → (Data → Option T) → T → Data → Option T
+optional key kind absent request = option_and_then (kind_or kind absent) (argument_at key request)
+
+-- ---- their kinds
+
+-- `0x` and four hexadecimal digits
+abbrev pub address : Data → Option ℕ
+address d = option_and_then address_of (as_str d)
+
+-- forward up to 4,294,967,295, and back up to a limit
+abbrev pub shift_within : ℕ → ℤ → Option Shift
+shift_within limit (pos n) = option_map Forward (when_between 0 4294967295 n)
+shift_within limit (negsuc n) = option_map Back (when_between 1 limit (n + 1))
+
+-- a whole number, written without fraction and exponent, and not `-0`
+abbrev pub shift : ℕ → Data → Option Shift
+shift limit d = option_and_then (shift_within limit) (option_and_then as_i64 (as_number d))
+
+-- not back beyond a limit
+abbrev pub IsBackWithin : ℕ → Shift → Type 0
+IsBackWithin limit (Forward n) = Unit {0}
+IsBackWithin limit (Back n) = n ≤ limit
+
+-- `repl`, or any other text
+abbrev pub context_named : Text → EvaluateContext
+context_named name = if bytes_eq name (codes "repl") then Repl else Other
+
+abbrev pub context : Data → Option EvaluateContext
+context d = option_map context_named (as_str d)
+
+-- conditions and hit counts aren't supported, whatever their values are
+abbrev pub is_unconditional : Data → Bool
+is_unconditional d = is_none (get (codes "condition") d) && is_none (get (codes "hitCondition") d)
+
+-- the function that a breakpoint is on
+abbrev pub function_of : Data → Option Text
+function_of d = if is_unconditional d then text_at (codes "name") d else None
+
+abbrev pub functions_of : Items → Option (List Text)
+functions_of no_items = Some []
+functions_of (item d ds) =
+    option_and_then (λ name. option_map (λ names. name ∷ names) (functions_of ds)) (function_of d)
+
+-- at most 256 of them
+abbrev pub breakpoints : Data → Option Items
+breakpoints d = option_and_then at_most_256 (as_array d)
+
+abbrev pub functions : Data → Option (List Text)
+functions d = option_and_then functions_of (breakpoints d)
+
+-- the bytes that a text has in base64 (RFC 4648, section 4: the standard alphabet, padded)
+unfoldable pub bytes_of : Text → Option Bytes
+bytes_of text = decoded_of standard text
+
+abbrev pub at_most_65536 : Bytes → Option Bytes
+at_most_65536 bytes = if nat_le (length bytes) 65536 then Some bytes else None
+
+-- at most 65,536 bytes, in base64
+abbrev pub base64 : Data → Option Bytes
+base64 d = option_and_then at_most_65536 (option_and_then bytes_of (as_str d))

@@ -1,0 +1,198 @@
+-- The JSON of what an editor is told (Debug Adapter Protocol, "Base Protocol", "Events", "Requests", "Types"),
+-- beside what dap_answers has. The members of an object stand in the order of their keys' bytes.
+use Rattle.std.specs.Prelude.{
+  ℕ,
+  ◌==◌,
+  if◌then◌else◌,
+  true,
+  false,
+  Bool,
+  List,
+  [],
+  ◌∷◌,
+  ◌++◌,
+  Option,
+  Some,
+  None,
+  option_map,
+  unwrap_or,
+  codes,
+}
+use Rattle.std.specs.Path.{slash, rsplit_once}
+use Rattle.base_text.specs.Bytes.{Bytes, Text}
+use Rattle.base_text.specs.Latin.{latin_text}
+use Rattle.base64.specs.Engines.{standard}
+use Rattle.base64.specs.GeneralPurpose.{encode_of}
+use Rattle.serde_json.specs.Data.{Data, boolean, string}
+use Rattle.dap_answers.specs.declared.answer.Event.TheVariants as board
+use Rattle.dap_answers.specs.Json.{object_of, whole_number, list_of, one_list, reference, body_json}
+use Rattle.dap_answers.specs.Json.{bare_response, refusal_json, bare_event, event_with_body, event_json}
+use Rattle.dap_editor.specs.declared.message.PlacedBreakpoint.{PlacedBreakpoint}
+use Rattle.dap_editor.specs.declared.message.EditorBody.{EditorBody}
+use Rattle.dap_editor.specs.declared.message.EditorBody.TheVariants as body
+use Rattle.dap_editor.specs.declared.message.EditorOutcome.{EditorOutcome}
+use Rattle.dap_editor.specs.declared.message.EditorOutcome.TheVariants.{Success, Refused}
+use Rattle.dap_editor.specs.declared.message.EditorResponse.{EditorResponse}
+use Rattle.dap_editor.specs.declared.message.EditorStop.{EditorStop}
+use Rattle.dap_editor.specs.declared.message.EditorStop.TheVariants as stop
+use Rattle.dap_editor.specs.declared.message.OutputCategory.{OutputCategory}
+use Rattle.dap_editor.specs.declared.message.OutputCategory.TheVariants as category
+use Rattle.dap_editor.specs.declared.message.SourcePlace.{SourcePlace}
+use Rattle.dap_editor.specs.declared.message.EditorEvent.{EditorEvent}
+use Rattle.dap_editor.specs.declared.message.EditorEvent.TheVariants as event
+use Rattle.dap_editor.specs.declared.message.Message.{Message}
+use Rattle.dap_editor.specs.declared.message.Message.TheVariants.{Response, Event}
+
+-- ---- parts of bodies
+
+-- the breakpoint's line is absent where it isn't known
+abbrev pub line_members : Option ℕ → List (Text × Data)
+line_members None = []
+line_members (Some line) = (codes "line", whole_number line) ∷ []
+
+abbrev pub placed_json : PlacedBreakpoint → Data
+placed_json b = object_of (
+    (codes "id", whole_number b.id) ∷ line_members b.line ++
+    (codes "verified", boolean b.is_verified) ∷ [])
+
+-- the part of a path behind its last `/`, or all of it
+abbrev pub last_part : Text → Text
+last_part path = unwrap_or (option_map (λ parts. parts.1) (rsplit_once slash path)) path
+
+abbrev pub source_json : Text → Data
+source_json path = object_of (
+    (codes "name", string (last_part path)) ∷
+    (codes "path", string path) ∷ [])
+
+-- in base64 (RFC 4648, section 4: the standard alphabet, padded)
+unfoldable pub base64_text : Bytes → Text
+base64_text bytes = encode_of standard bytes
+
+-- the bytes are absent where there are none
+abbrev pub data_members : Bytes → List (Text × Data)
+data_members [] = []
+data_members (byte ∷ bytes) = (codes "data", string (base64_text (byte ∷ bytes))) ∷ []
+
+-- a count of bytes that aren't there, where there are such
+abbrev pub unreadable_members : ℕ → List (Text × Data)
+unreadable_members count =
+    if count == 0 then [] else (codes "unreadableBytes", whole_number count) ∷ []
+
+-- ---- bodies
+
+abbrev pub can : Text → Text × Data
+can key = (key, boolean true)
+
+abbrev pub capabilities_json : Data
+capabilities_json = object_of (
+    can (codes "supportsConfigurationDoneRequest") ∷
+    can (codes "supportsDisassembleRequest") ∷
+    can (codes "supportsEvaluateForHovers") ∷
+    can (codes "supportsFunctionBreakpoints") ∷
+    can (codes "supportsLoadedSourcesRequest") ∷
+    can (codes "supportsReadMemoryRequest") ∷
+    can (codes "supportsRestartRequest") ∷
+    can (codes "supportsSetVariable") ∷
+    can (codes "supportsSteppingGranularity") ∷
+    can (codes "supportsTerminateRequest") ∷
+    can (codes "supportsWriteMemoryRequest") ∷ [])
+
+abbrev pub evaluation_json : Text → Data
+evaluation_json text = object_of (
+    (codes "result", string text) ∷
+    (codes "variablesReference", whole_number 0) ∷ [])
+
+abbrev pub memory_json : ℕ → Bytes → ℕ → Data
+memory_json address bytes unreadable = object_of (
+    (codes "address", string (reference address)) ∷
+    data_members bytes ++ unreadable_members unreadable)
+
+abbrev pub written_json : ℕ → Data
+written_json count = object_of ((codes "bytesWritten", whole_number count) ∷ [])
+
+abbrev pub editor_body_json : EditorBody → Data
+editor_body_json (body.Board b) = body_json b
+editor_body_json body.Capabilities = capabilities_json
+editor_body_json (body.Breakpoints bs) = one_list (codes "breakpoints") placed_json bs
+editor_body_json (body.Evaluation text) = evaluation_json text
+editor_body_json (body.Memory address bytes unreadable) = memory_json address bytes unreadable
+editor_body_json (body.Written count) = written_json count
+editor_body_json (body.Sources paths) = one_list (codes "sources") source_json paths
+
+-- ---- responses
+
+abbrev pub success_json : ℕ → ℕ → Text → Data → Data
+success_json seq request_seq command b = object_of (
+    (codes "body", b) ∷
+    (codes "command", string command) ∷ bare_response seq request_seq true)
+
+-- a success has a body and no message, a refusal a message and no body
+abbrev pub outcome_json : ℕ → ℕ → Text → EditorOutcome → Data
+outcome_json seq request_seq command (Success b) =
+    success_json seq request_seq command (editor_body_json b)
+outcome_json seq request_seq command (Refused message) =
+    refusal_json seq request_seq command message
+
+abbrev pub response_json : ℕ → EditorResponse → Data
+response_json seq r = outcome_json seq r.request_seq r.command r.outcome
+
+-- ---- events
+
+abbrev pub entry_json : Data
+entry_json = object_of (
+    (codes "allThreadsStopped", boolean true) ∷
+    (codes "reason", string (codes "entry")) ∷
+    (codes "threadId", whole_number 1) ∷ [])
+
+abbrev pub stopped_json : ℕ → EditorStop → Data
+stopped_json seq stop.Entry = event_with_body seq (codes "stopped") entry_json
+stopped_json seq (stop.Board reason) = event_json seq (board.Stopped reason)
+
+abbrev pub category_text : OutputCategory → Text
+category_text category.Console = codes "console"
+category_text category.Stdout = codes "stdout"
+category_text category.Stderr = codes "stderr"
+
+abbrev pub bare_output : OutputCategory → Bytes → List (Text × Data)
+bare_output category bytes =
+    (codes "category", string (category_text category)) ∷
+    (codes "output", string (latin_text bytes)) ∷ []
+
+abbrev pub placed_output : OutputCategory → Bytes → SourcePlace → Data
+placed_output category bytes place = object_of (
+    (codes "category", string (category_text category)) ∷
+    (codes "column", whole_number place.column) ∷
+    (codes "line", whole_number place.line) ∷
+    (codes "output", string (latin_text bytes)) ∷
+    (codes "source", source_json place.path) ∷ [])
+
+-- output that belongs to no place has none
+abbrev pub output_json : OutputCategory → Bytes → Option SourcePlace → Data
+output_json category bytes None = object_of (bare_output category bytes)
+output_json category bytes (Some place) = placed_output category bytes place
+
+abbrev pub changed_json : PlacedBreakpoint → Data
+changed_json b = object_of (
+    (codes "breakpoint", placed_json b) ∷
+    (codes "reason", string (codes "changed")) ∷ [])
+
+abbrev pub exited_json : ℕ → Data
+exited_json code = object_of ((codes "exitCode", whole_number code) ∷ [])
+
+abbrev pub editor_event_json : ℕ → EditorEvent → Data
+editor_event_json seq event.Initialized = event_json seq board.Initialized
+editor_event_json seq (event.Stopped reason) = stopped_json seq reason
+editor_event_json seq event.Continued = event_json seq board.Continued
+editor_event_json seq (event.Output category bytes place) =
+    event_with_body seq (codes "output") (output_json category bytes place)
+editor_event_json seq (event.Breakpoint b) =
+    event_with_body seq (codes "breakpoint") (changed_json b)
+editor_event_json seq (event.Exited code) =
+    event_with_body seq (codes "exited") (exited_json code)
+editor_event_json seq event.Terminated = object_of (bare_event seq (codes "terminated"))
+
+-- ---- what goes out
+
+abbrev pub message_json : ℕ → Message → Data
+message_json seq (Response r) = response_json seq r
+message_json seq (Event e) = editor_event_json seq e

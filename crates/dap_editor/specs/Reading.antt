@@ -1,0 +1,97 @@
+-- What a JSON value asks for as an editor's request (Debug Adapter Protocol, "Base Protocol": ProtocolMessage
+-- and Request): the commands of editors come before those that the kernel has too.
+use Rattle.std.specs.Prelude.{
+  ◌≤◌,
+  length,
+  Bool,
+  if◌then◌else◌,
+  [],
+  ◌∷◌,
+  Option,
+  Some,
+  None,
+  is_some,
+  option_and_then,
+  codes,
+}
+use Rattle.base_text.specs.Bytes.{Text}
+use Rattle.serde_json.specs.Data.{Data, string}
+use Rattle.serde_json.specs.Find.{get, as_null}
+use Rattle.dap_answers.specs.Json.{object_of, whole_number}
+use Rattle.dap_talk.specs.Table as table
+use Rattle.dap_talk.specs.Reading.{Envelope, envelope_of, Reading, not_request, unknown_command}
+use Rattle.dap_talk.specs.Reading.{bad_arguments, request, reading}
+use Rattle.dap_editor.specs.declared.name.EditorName.{EditorName}
+use Rattle.dap_editor.specs.declared.request.EditorCommand.{EditorCommand}
+use Rattle.dap_editor.specs.declared.request.EditorCommand.TheVariants as command
+use Rattle.dap_editor.specs.declared.request.RequestFault.TheVariants.{NotRequest, UnknownCommand, Arguments}
+use Rattle.dap_editor.specs.declared.request.Asked.{Asked}
+use Rattle.dap_editor.specs.declared.request.Asked.TheVariants.{Board, Editor, Faulty}
+use Rattle.dap_editor.specs.declared.request.EditorRequest.{EditorRequest}
+use Rattle.dap_editor.specs.Argument.{IsBackWithin}
+use Rattle.dap_editor.specs.Table.{named, asked}
+
+-- ---- arguments that are `null`
+
+abbrev pub has_null_arguments : Data → Bool
+has_null_arguments d = is_some (option_and_then as_null (get (codes "arguments") d))
+
+-- a request that has no arguments
+abbrev pub bare_request : Envelope → Data
+bare_request e = object_of (
+    (codes "command", string e.command) ∷
+    (codes "seq", whole_number e.seq) ∷
+    (codes "type", string (codes "request")) ∷ [])
+
+-- a request with the arguments `null` is as one without arguments
+abbrev pub without_null : Envelope → Data → Data
+without_null e d = if has_null_arguments d then bare_request e else d
+
+-- ---- what is asked for
+
+-- by a command that the kernel has too
+abbrev pub asked_of_board : Reading → Asked
+asked_of_board not_request = Faulty NotRequest
+asked_of_board (unknown_command seq command) = Faulty UnknownCommand
+asked_of_board (bad_arguments seq command) = Faulty Arguments
+asked_of_board (request seq command) = Board command
+
+-- by a command of editors
+abbrev pub asked_of_editor : Option EditorCommand → Asked
+asked_of_editor None = Faulty Arguments
+asked_of_editor (Some c) = Editor c
+
+abbrev pub asked_by : Option EditorName → Data → Asked
+asked_by (Some name) d = asked_of_editor (asked name d)
+asked_by None d = asked_of_board (reading d)
+
+-- ---- the request
+
+-- what is no request
+abbrev pub unreadable : EditorRequest
+unreadable = record { seq = 0; command = []; asked = Faulty NotRequest }
+
+abbrev pub request_of : Envelope → Data → EditorRequest
+request_of e d = record { seq = e.seq; command = e.command; asked = asked_by (named e.command) d }
+
+abbrev pub request_in : Data → Option Envelope → EditorRequest
+request_in d None = unreadable
+request_in d (Some e) = request_of e (without_null e d)
+
+-- its number and command with what it asks for
+unfoldable pub editor_request : Data → EditorRequest
+editor_request d = request_in d (envelope_of d)
+
+-- ---- what every request that was read keeps to
+
+abbrev pub IsCommandBounded : EditorCommand → Type 0
+IsCommandBounded (command.SetFunctionBreakpoints names) = length names ≤ 256
+IsCommandBounded (command.WriteMemory to offset bytes) = length bytes ≤ 65536
+IsCommandBounded (command.Disassemble from offset instructions count) =
+    (1 ≤ count) × (count ≤ 256) × IsBackWithin 65536 instructions
+IsCommandBounded other = Unit {0}
+
+abbrev pub IsBounded : Asked → Type 0
+IsBounded (Board c) = table.IsBounded c
+IsBounded (Editor c) = IsCommandBounded c
+IsBounded (Faulty fault) = Unit {0}

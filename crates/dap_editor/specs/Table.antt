@@ -1,0 +1,139 @@
+-- The commands of editors (Debug Adapter Protocol, "Requests"): how each is spelled, and what it asks for by
+-- its arguments.
+use Rattle.std.specs.Prelude.{
+  ◌≤◌,
+  length,
+  ℕ,
+  Bool,
+  true,
+  false,
+  not,
+  List,
+  [],
+  ◌∷◌,
+  Option,
+  Some,
+  option_map,
+  option_and_then,
+  find,
+  codes,
+}
+use Rattle.std.specs.Str.{bytes_eq}
+use Rattle.base_text.specs.Bytes.{Bytes, Text}
+use Rattle.serde_json.specs.Data.{Data}
+use Rattle.serde_json.specs.Find.{as_str, as_bool}
+use Rattle.dap_talk.specs.Argument.{whole_between}
+use Rattle.dap_editor.specs.declared.name.EditorName.{EditorName}
+use Rattle.dap_editor.specs.declared.name.EditorName.TheVariants as name
+use Rattle.dap_editor.specs.declared.request.Launch.{Launch}
+use Rattle.dap_editor.specs.declared.request.Shift.{Shift}
+use Rattle.dap_editor.specs.declared.request.Shift.TheVariants.{Forward, Back}
+use Rattle.dap_editor.specs.declared.request.EvaluateContext.TheVariants.{Other}
+use Rattle.dap_editor.specs.declared.request.EditorCommand.{EditorCommand}
+use Rattle.dap_editor.specs.declared.request.EditorCommand.TheVariants as command
+use Rattle.dap_editor.specs.Argument.{required, optional, address, shift, context, functions, base64}
+
+abbrev pub spelled : EditorName → Text
+spelled name.Launch = codes "launch"
+spelled name.Restart = codes "restart"
+spelled name.Terminate = codes "terminate"
+spelled name.SetFunctionBreakpoints = codes "setFunctionBreakpoints"
+spelled name.SetExceptionBreakpoints = codes "setExceptionBreakpoints"
+spelled name.Evaluate = codes "evaluate"
+spelled name.ReadMemory = codes "readMemory"
+spelled name.WriteMemory = codes "writeMemory"
+spelled name.Disassemble = codes "disassemble"
+spelled name.LoadedSources = codes "loadedSources"
+
+-- ---- what each asks for
+
+infixr 20 ◌then_with◌
+-- where the one is there, the other with it
+abbrev pub ◌then_with◌ : {A B : Type 0} → Option A → (A → Option B) → Option B
+a then_with f = option_and_then f a
+
+abbrev pub byte : Data → Option ℕ
+byte = whole_between 0 255
+
+abbrev pub any_number : Data → Option ℕ
+any_number = whole_between 0 4294967295
+
+-- how many bytes behind a place, or before it
+abbrev pub offset : Data → Option Shift
+offset = optional (codes "offset") (shift 4294967295) (Forward 0)
+
+abbrev pub memory_reference : Data → Option ℕ
+memory_reference = required (codes "memoryReference") address
+
+abbrev pub launch_asked : Data → Option EditorCommand
+launch_asked d =
+    required (codes "program") as_str d then_with λ program.
+    optional (codes "stopOnEntry") as_bool false d then_with λ stops_on_entry.
+    optional (codes "noDebug") as_bool false d then_with λ only_runs.
+    optional (codes "aliases") as_bool false d then_with λ has_aliases.
+    optional (codes "switches") byte 0 d then_with λ switches.
+    Some (command.Launch (record {
+      program = program;
+      stops_on_entry = stops_on_entry;
+      is_debugged = not only_runs;
+      has_aliases = has_aliases;
+      switches = switches;
+    }))
+
+abbrev pub evaluate_asked : Data → Option EditorCommand
+evaluate_asked d =
+    required (codes "expression") as_str d then_with λ expression.
+    optional (codes "context") context Other d then_with λ where_shown.
+    Some (command.Evaluate expression where_shown)
+
+abbrev pub read_memory_asked : Data → Option EditorCommand
+read_memory_asked d =
+    memory_reference d then_with λ from.
+    offset d then_with λ bytes.
+    required (codes "count") any_number d then_with λ count.
+    Some (command.ReadMemory from bytes count)
+
+abbrev pub write_memory_asked : Data → Option EditorCommand
+write_memory_asked d =
+    memory_reference d then_with λ to.
+    offset d then_with λ bytes.
+    required (codes "data") base64 d then_with λ content.
+    Some (command.WriteMemory to bytes content)
+
+abbrev pub disassemble_asked : Data → Option EditorCommand
+disassemble_asked d =
+    memory_reference d then_with λ from.
+    offset d then_with λ bytes.
+    optional (codes "instructionOffset") (shift 65536) (Forward 0) d then_with λ instructions.
+    required (codes "instructionCount") (whole_between 1 256) d then_with λ count.
+    Some (command.Disassemble from bytes instructions count)
+
+-- what a request asks for by this command, if its arguments are as they must be
+abbrev pub asked : EditorName → Data → Option EditorCommand
+asked name.Launch d = launch_asked d
+asked name.Restart d = Some command.Restart
+asked name.Terminate d = Some command.Terminate
+asked name.SetFunctionBreakpoints d =
+    option_map command.SetFunctionBreakpoints (required (codes "breakpoints") functions d)
+asked name.SetExceptionBreakpoints d = Some command.SetExceptionBreakpoints
+asked name.Evaluate d = evaluate_asked d
+asked name.ReadMemory d = read_memory_asked d
+asked name.WriteMemory d = write_memory_asked d
+asked name.Disassemble d = disassemble_asked d
+asked name.LoadedSources d = Some command.LoadedSources
+
+-- ---- the names
+
+abbrev pub every_name : List EditorName
+every_name =
+    name.Launch ∷ name.Restart ∷ name.Terminate ∷ name.SetFunctionBreakpoints ∷
+    name.SetExceptionBreakpoints ∷ name.Evaluate ∷ name.ReadMemory ∷ name.WriteMemory ∷
+    name.Disassemble ∷ name.LoadedSources ∷ []
+
+-- the first of these that is spelled so
+abbrev pub first_named : List EditorName → Text → Option EditorName
+first_named names t = find (λ name. bytes_eq (spelled name) t) names
+
+-- the command that is spelled so, if there is one
+abbrev pub named : Text → Option EditorName
+named t = first_named every_name t

@@ -1,0 +1,223 @@
+//! What stands in the arguments of an editor's request.
+ghost use Rattle.std.specs.Prelude.{◌≡◌, ◌≤◌, IfOk, IfSome, false, length, option_map, option_and_then};
+ghost use Rattle.serde_json.specs.Find.{as_str, as_bool, as_array};
+ghost use Rattle.serde_json.specs.View.{view, items_view};
+ghost use Rattle.dap_talk.specs.Argument.{whole_between, at_most_256};
+ghost use Rattle.dap_editor.specs.Answer.{Answers};
+ghost use Rattle.dap_editor.specs.Argument.{
+  required,
+  optional,
+  address,
+  IsBackWithin,
+  shift_within,
+  shift,
+  context,
+  is_unconditional,
+  function_of,
+  functions_of,
+  breakpoints,
+  functions,
+  bytes_of,
+  base64,
+};
+ghost use Rattle.dap_editor.specs.Table.{byte, any_number, offset, memory_reference};
+
+use crate::request::{EvaluateContext, Shift};
+use base_text::sequence::{Bytes, Sequence};
+use base_text::text::Text;
+use base64::DecodeAllocError;
+use base64::engine::general_purpose::STANDARD;
+use dap_talk::arguments::{ArgumentFault, address_of, argument_at, whole_between};
+use dap_talk::members;
+use serde_json::Value;
+use std::alloc::Global;
+
+/// A text, which is required.
+pub fn text_at<'a>(request: &'a Value, key: &str) -> Option<&'a str>
+    ensures { option_map (λ t. t.now) result ≡ required key.now as_str (view request.now) }
+{
+    argument_at(request, key)??.as_str()
+}
+
+/// `true` or `false`, `false` where it is absent.
+pub fn truth_or_false(request: &Value, key: &str) -> Option<bool>
+    ensures { result ≡ optional key.now as_bool false (view request.now) }
+{
+    match argument_at(request, key)? {
+        None => Some(false),
+        Some(value) => value.as_bool(),
+    }
+}
+
+/// A whole number of at most 255, 0 where it is absent.
+pub fn byte_or_0(request: &Value, key: &str) -> Option<u8>
+    ensures { result ≡ optional key.now byte 0 (view request.now) }
+{
+    match argument_at(request, key)? {
+        None => Some(0),
+        Some(value) => u8::try_from(whole_between(value, 0, 255)?).ok(),
+    }
+}
+
+/// A whole number of 32 bits, which is required.
+pub fn number_at(request: &Value, key: &str) -> Option<u32>
+    ensures { result ≡ required key.now any_number (view request.now) }
+{
+    whole_between(argument_at(request, key)??, 0, u32::MAX)
+}
+
+/// A whole number from 1 to 256, which is required.
+pub fn count_at(request: &Value, key: &str) -> Option<u16>
+    ensures value { result ≡ required key.now (whole_between 1 256) (view request.now) }
+    ensures from { IfSome result (λ n. 1 ≤ n) }
+    ensures to { IfSome result (λ n. n ≤ 256) }
+{
+    let n = whole_between(argument_at(request, key)??, 1, 256)?;
+    u16::try_from(n).ok()
+}
+
+/// An address, which is required under `memoryReference`.
+pub fn memory_reference(request: &Value) -> Option<u16>
+    ensures { result ≡ memory_reference (view request.now) }
+{
+    address_of(text_at(request, "memoryReference")?)
+}
+
+// How far an `i64` is from 0, where that is within the bounds.
+fn shift_by(n: i64, limit: u32) -> Option<Shift>
+    ensures value { result ≡ shift_within limit n }
+    ensures within { IfSome result (λ shift. IsBackWithin limit shift) }
+{
+    if n < 0 {
+        let back = u32::try_from(n.unsigned_abs()).ok()?;
+        if back > limit {
+            return None;
+        }
+        return Some(Shift::Back(back));
+    }
+    let forward = u32::try_from(n).ok()?;
+    Some(Shift::Forward(forward))
+}
+
+/// A whole number that may be negative, down to this limit; 0 where it is absent.
+pub fn shift_or_0(request: &Value, key: &str, limit: u32) -> Option<Shift>
+    ensures value { result ≡ optional key.now (shift limit) (Shift.Forward 0) (view request.now) }
+    ensures within { IfSome result (λ shift. IsBackWithin limit shift) }
+{
+    match argument_at(request, key)? {
+        None => Some(Shift::Forward(0)),
+        Some(value) => shift_by(value.as_i64()?, limit),
+    }
+}
+
+/// How many bytes behind a place or before it, none where it is absent.
+pub fn offset(request: &Value) -> Option<Shift>
+    ensures { result ≡ offset (view request.now) }
+{
+    shift_or_0(request, "offset", u32::MAX)
+}
+
+fn context_of(value: &Value) -> Option<EvaluateContext>
+    ensures { result ≡ context (view value.now) }
+{
+    if value.as_str()? == "repl" {
+        Some(EvaluateContext::Repl)
+    } else {
+        Some(EvaluateContext::Other)
+    }
+}
+
+/// Where an expression's value is shown.
+pub fn context_or_other(request: &Value, key: &str) -> Option<EvaluateContext>
+    ensures { result ≡ optional key.now context EvaluateContext.Other (view request.now) }
+{
+    match argument_at(request, key)? {
+        None => Some(EvaluateContext::Other),
+        Some(value) => context_of(value),
+    }
+}
+
+fn is_unconditional(breakpoint: &Value) -> bool
+    ensures { result ≡ is_unconditional (view breakpoint.now) }
+{
+    breakpoint.get("condition").is_none() && breakpoint.get("hitCondition").is_none()
+}
+
+fn function_of(breakpoint: &Value) -> Option<&str>
+    ensures { option_map (λ name. name.now) result ≡ function_of (view breakpoint.now) }
+{
+    if !is_unconditional(breakpoint) {
+        return None;
+    }
+    members::text_at(breakpoint, "name")
+}
+
+fn functions_of(alloc: Global, breakpoints: &[Value]) -> Result<Sequence<Text>, ArgumentFault>
+    ensures answer { Answers (functions_of (items_view breakpoints.now)) result }
+    ensures count { IfOk result (λ names. length names ≡ length breakpoints.now) }
+{
+    let mut names = Sequence::new(alloc);
+    for breakpoint in breakpoints {
+        let name = function_of(breakpoint).ok_or(ArgumentFault::Arguments)?;
+        names.push(Text::copy_of(alloc, name)?)?;
+    }
+    Ok(names)
+}
+
+#[tactic(auto, using(dap_talk::proofs::LineLemmas::few_items))]
+fn few_breakpoints(value: &Value) -> Option<&[Value]>
+    ensures value { option_map (λ bs. items_view bs.now) result
+        ≡ option_and_then at_most_256 (as_array (view value.now)) }
+    ensures few { IfSome result (λ bs. length bs.now ≤ 256) }
+{
+    let breakpoints = value.as_array()?.as_slice();
+    if breakpoints.len() > 256 {
+        return None;
+    }
+    Some(breakpoints)
+}
+
+fn breakpoints_at<'a>(request: &'a Value, key: &str) -> Option<&'a [Value]>
+    ensures value { option_map (λ bs. items_view bs.now) result
+        ≡ required key.now breakpoints (view request.now) }
+    ensures few { IfSome result (λ bs. length bs.now ≤ 256) }
+{
+    few_breakpoints(argument_at(request, key)??)
+}
+
+/// The functions that are to have breakpoints, which are required.
+pub fn functions_at(
+    alloc: Global,
+    request: &Value,
+    key: &str,
+) -> Result<Sequence<Text>, ArgumentFault>
+    ensures answer { Answers (required key.now functions (view request.now)) result }
+    ensures few { IfOk result (λ names. length names ≤ 256) }
+{
+    let breakpoints = breakpoints_at(request, key).ok_or(ArgumentFault::Arguments)?;
+    functions_of(alloc, breakpoints)
+}
+
+#[tactic(auto, unfolding(crate::specs::Argument::bytes_of, base64::specs::GeneralPurpose::decoded_of))]
+fn bytes_of(alloc: Global, text: &str) -> Result<Bytes, ArgumentFault>
+    ensures { Answers (bytes_of text.now) result }
+{
+    match STANDARD.decode(alloc, text.as_bytes()) {
+        Ok(bytes) => Ok(Bytes::from(bytes)),
+        Err(DecodeAllocError::OutOfMemory) => Err(ArgumentFault::OutOfMemory),
+        Err(DecodeAllocError::DecodeError(_)) => Err(ArgumentFault::Arguments),
+    }
+}
+
+/// At most 65,536 bytes in base64, which are required.
+pub fn bytes_at(alloc: Global, request: &Value, key: &str) -> Result<Bytes, ArgumentFault>
+    ensures answer { Answers (required key.now base64 (view request.now)) result }
+    ensures short { IfOk result (λ bytes. length bytes ≤ 65536) }
+{
+    let text = text_at(request, key).ok_or(ArgumentFault::Arguments)?;
+    let bytes = bytes_of(alloc, text)?;
+    if bytes.len() > 65536 {
+        return Err(ArgumentFault::Arguments);
+    }
+    Ok(bytes)
+}

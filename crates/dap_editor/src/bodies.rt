@@ -1,0 +1,171 @@
+//! The JSON of bodies.
+ghost use Rattle.std.specs.Prelude.{◌≡◌, ◌∷◌, IfOk, codes};
+ghost use Rattle.serde_json.specs.Data.{string};
+ghost use Rattle.serde_json.specs.View.{view};
+ghost use Rattle.dap_answers.specs.Object.{HasMembers};
+ghost use Rattle.dap_answers.specs.Json.{members_from, list_of, one_list, reference};
+ghost use Rattle.dap_editor.specs.Json.{
+  placed_json,
+  last_part,
+  source_json,
+  base64_text,
+  data_members,
+  capabilities_json,
+  evaluation_json,
+  memory_json,
+  written_json,
+  editor_body_json,
+};
+
+use crate::message::{EditorBody, PlacedBreakpoint};
+use base_text::text::Text;
+use base64::engine::general_purpose::STANDARD;
+use dap_answers::bodies::body_json;
+use dap_answers::json::{ToJson, array_of, reference};
+use dap_answers::object::Object;
+use serde_json::Value;
+use std::alloc::{AllocError, Global};
+
+fn capabilities(alloc: Global) -> Result<Value, AllocError>
+    ensures { IfOk result (λ v. view v ≡ capabilities_json) }
+{
+    Object::new(alloc)
+        .flag("supportsConfigurationDoneRequest", true)
+        .flag("supportsDisassembleRequest", true)
+        .flag("supportsEvaluateForHovers", true)
+        .flag("supportsFunctionBreakpoints", true)
+        .flag("supportsLoadedSourcesRequest", true)
+        .flag("supportsReadMemoryRequest", true)
+        .flag("supportsRestartRequest", true)
+        .flag("supportsSetVariable", true)
+        .flag("supportsSteppingGranularity", true)
+        .flag("supportsTerminateRequest", true)
+        .flag("supportsWriteMemoryRequest", true)
+        .finish()
+}
+
+impl ToJson for PlacedBreakpoint {
+    ghost json = { placed_json };
+
+    fn to_json(&self, alloc: Global) -> Result<Value, AllocError> {
+        let bare = Object::new(alloc)
+            .number("id", u64::from(self.id))
+            .flag("verified", self.is_verified);
+        match self.line {
+            None => bare.finish(),
+            Some(line) => bare.number("line", u64::from(line)).finish(),
+        }
+    }
+}
+
+fn breakpoints(alloc: Global, list: &[PlacedBreakpoint]) -> Result<Value, AllocError>
+    ensures { IfOk result (λ v. view v ≡ one_list (codes "breakpoints") placed_json list.now) }
+{
+    let list = array_of(alloc, list)?;
+    Object::new(alloc).value("breakpoints", list).finish()
+}
+
+// The part of a path behind its last `/`.
+fn last_part(path: &str) -> &str
+    ensures { result.now ≡ last_part path.now }
+{
+    match path.rsplit_once('/') {
+        Some((_, name)) => name,
+        None => path,
+    }
+}
+
+/// The JSON of a source.
+pub fn source(alloc: Global, path: &str) -> Result<Value, AllocError>
+    ensures { IfOk result (λ v. view v ≡ source_json path.now) }
+{
+    Object::new(alloc)
+        .text("name", last_part(path))
+        .text("path", path)
+        .finish()
+}
+
+fn every_source(alloc: Global, paths: &[Text]) -> Result<Value, AllocError>
+    ensures { IfOk result (λ v. view v ≡ list_of source_json paths.now) }
+{
+    let mut values = Vec::new(alloc);
+    for path in paths {
+        values.push(source(alloc, path.as_str())?)?;
+    }
+    Ok(Value::from(values))
+}
+
+fn sources(alloc: Global, paths: &[Text]) -> Result<Value, AllocError>
+    ensures { IfOk result (λ v. view v ≡ one_list (codes "sources") source_json paths.now) }
+{
+    let values = every_source(alloc, paths)?;
+    Object::new(alloc).value("sources", values).finish()
+}
+
+fn evaluation(alloc: Global, text: &str) -> Result<Value, AllocError>
+    ensures { IfOk result (λ v. view v ≡ evaluation_json text.now) }
+{
+    Object::new(alloc)
+        .text("result", text)
+        .number("variablesReference", 0)
+        .finish()
+}
+
+#[tactic(auto, unfolding(crate::specs::Json::base64_text))]
+fn base64_text(alloc: Global, bytes: &[u8]) -> Result<Value, AllocError>
+    ensures { IfOk result (λ v. view v ≡ string (base64_text bytes.now)) }
+{
+    Ok(Value::from(STANDARD.encode(alloc, bytes)?))
+}
+
+// What a body of memory has, but for the count of the bytes that aren't there.
+fn read_bytes(alloc: Global, address: u16, bytes: &[u8]) -> Result<Object, AllocError>
+    ensures { IfOk result (λ o. HasMembers o (members_from
+        ((codes "address", string (reference address)) ∷ data_members bytes.now))) }
+{
+    let address = reference(alloc, address)?;
+    let bare = Object::new(alloc).value("address", address);
+    if bytes.is_empty() {
+        return Ok(bare);
+    }
+    let text = base64_text(alloc, bytes)?;
+    Ok(bare.value("data", text))
+}
+
+fn memory(alloc: Global, address: u16, bytes: &[u8], unreadable: u32) -> Result<Value, AllocError>
+    ensures { IfOk result (λ v. view v ≡ memory_json address bytes.now unreadable) }
+{
+    let read = read_bytes(alloc, address, bytes)?;
+    if unreadable == 0 {
+        return read.finish();
+    }
+    read.number("unreadableBytes", u64::from(unreadable))
+        .finish()
+}
+
+fn written(alloc: Global, count: u32) -> Result<Value, AllocError>
+    ensures { IfOk result (λ v. view v ≡ written_json count) }
+{
+    Object::new(alloc)
+        .number("bytesWritten", u64::from(count))
+        .finish()
+}
+
+/// The JSON of a body.
+pub fn editor_body_json(alloc: Global, body: &EditorBody) -> Result<Value, AllocError>
+    ensures { IfOk result (λ v. view v ≡ editor_body_json body.now) }
+{
+    match body {
+        EditorBody::Board(body) => body_json(alloc, body),
+        EditorBody::Capabilities => capabilities(alloc),
+        EditorBody::Breakpoints(list) => breakpoints(alloc, list.as_slice()),
+        EditorBody::Evaluation(text) => evaluation(alloc, text.as_str()),
+        EditorBody::Memory {
+            address,
+            bytes,
+            unreadable,
+        } => memory(alloc, *address, bytes.as_slice(), *unreadable),
+        EditorBody::Written(count) => written(alloc, *count),
+        EditorBody::Sources(paths) => sources(alloc, paths.as_slice()),
+    }
+}

@@ -1,0 +1,153 @@
+//! The JSON of events.
+ghost use Rattle.std.specs.Prelude.{◌≡◌, IfOk};
+ghost use Rattle.serde_json.specs.View.{view};
+ghost use Rattle.dap_answers.specs.Json.{object_of};
+ghost use Rattle.dap_answers.specs.Object.{HasMembers};
+ghost use Rattle.dap_answers.specs.Json.{members_from};
+ghost use Rattle.dap_editor.specs.Json.{
+  entry_json,
+  stopped_json,
+  bare_output,
+  placed_output,
+  output_json,
+  changed_json,
+  exited_json,
+  editor_event_json,
+};
+
+use crate::bodies::source;
+use crate::message::{EditorEvent, EditorStop, OutputCategory, PlacedBreakpoint, SourcePlace};
+use base_text::latin;
+use dap_answers::answer::Event;
+use dap_answers::json::ToJson;
+use dap_answers::object::Object;
+use dap_answers::sending::{bare_event, event, event_with_body};
+use serde_json::Value;
+use std::alloc::{AllocError, Global};
+
+impl OutputCategory {
+    ghost use Rattle.dap_editor.specs.Json.{category_text};
+
+    /// The text of `category` in `output`.
+    pub fn as_str(self) -> &'static str
+        ensures { result.now ≡ category_text self }
+    {
+        match self {
+            OutputCategory::Console => "console",
+            OutputCategory::Stdout => "stdout",
+            OutputCategory::Stderr => "stderr",
+        }
+    }
+}
+
+fn entry_body(alloc: Global) -> Result<Value, AllocError>
+    ensures { IfOk result (λ v. view v ≡ entry_json) }
+{
+    Object::new(alloc)
+        .text("reason", "entry")
+        .number("threadId", 1)
+        .flag("allThreadsStopped", true)
+        .finish()
+}
+
+fn stopped(alloc: Global, seq: u64, reason: EditorStop) -> Result<Value, AllocError>
+    ensures { IfOk result (λ v. view v ≡ stopped_json seq reason) }
+{
+    match reason {
+        EditorStop::Entry => event_with_body(alloc, seq, "stopped", entry_body(alloc)?),
+        EditorStop::Board(reason) => event(alloc, seq, Event::Stopped(reason)),
+    }
+}
+
+// What output has, with a place or without one.
+fn bare_output(alloc: Global, category: OutputCategory, bytes: &[u8]) -> Result<Object, AllocError>
+    ensures { IfOk result (λ o. HasMembers o (members_from (bare_output category bytes.now))) }
+{
+    let text = Value::from(latin::to_text(alloc, bytes)?);
+    Ok(
+        Object::new(alloc)
+            .text("category", category.as_str())
+            .value("output", text),
+    )
+}
+
+fn placed_output(
+    alloc: Global,
+    category: OutputCategory,
+    bytes: &[u8],
+    place: &SourcePlace,
+) -> Result<Value, AllocError>
+    ensures { IfOk result (λ v. view v ≡ placed_output category bytes.now place.now) }
+{
+    let source = source(alloc, place.path.as_str())?;
+    bare_output(alloc, category, bytes)?
+        .value("source", source)
+        .number("line", u64::from(place.line))
+        .number("column", u64::from(place.column))
+        .finish()
+}
+
+fn output(
+    alloc: Global,
+    category: OutputCategory,
+    bytes: &[u8],
+    place: &Option<SourcePlace>,
+) -> Result<Value, AllocError>
+    ensures { IfOk result (λ v. view v ≡ output_json category bytes.now place.now) }
+{
+    match place {
+        None => bare_output(alloc, category, bytes)?.finish(),
+        Some(place) => placed_output(alloc, category, bytes, place),
+    }
+}
+
+fn changed(alloc: Global, breakpoint: &PlacedBreakpoint) -> Result<Value, AllocError>
+    ensures { IfOk result (λ v. view v ≡ changed_json breakpoint.now) }
+{
+    let breakpoint = breakpoint.to_json(alloc)?;
+    Object::new(alloc)
+        .value("breakpoint", breakpoint)
+        .text("reason", "changed")
+        .finish()
+}
+
+fn exited(alloc: Global, code: u8) -> Result<Value, AllocError>
+    ensures { IfOk result (λ v. view v ≡ exited_json code) }
+{
+    Object::new(alloc)
+        .number("exitCode", u64::from(code))
+        .finish()
+}
+
+/// The JSON of an event with this number.
+pub fn editor_event_json(
+    alloc: Global,
+    seq: u64,
+    message: &EditorEvent,
+) -> Result<Value, AllocError>
+    ensures { IfOk result (λ v. view v ≡ editor_event_json seq message.now) }
+{
+    match message {
+        EditorEvent::Initialized => event(alloc, seq, Event::Initialized),
+        EditorEvent::Stopped(reason) => stopped(alloc, seq, *reason),
+        EditorEvent::Continued => event(alloc, seq, Event::Continued),
+        EditorEvent::Output {
+            category,
+            bytes,
+            place,
+        } => {
+            let body = output(alloc, *category, bytes.as_slice(), place)?;
+            event_with_body(alloc, seq, "output", body)
+        }
+        EditorEvent::Breakpoint(breakpoint) => {
+            event_with_body(alloc, seq, "breakpoint", changed(alloc, breakpoint)?)
+        }
+        EditorEvent::Exited { code } => event_with_body(
+            alloc,
+            seq,
+            "exited",
+            exited(alloc, *code)?,
+        ),
+        EditorEvent::Terminated => bare_event(alloc, seq, "terminated").finish(),
+    }
+}

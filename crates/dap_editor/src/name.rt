@@ -1,0 +1,71 @@
+//! The commands that editors have and a kernel hasn't, or has with less.
+ghost use Rattle.std.specs.Prelude.{◌≡◌};
+ghost use Rattle.dap_editor.specs.Table.{spelled, first_named};
+
+/// A command of editors.
+#[derive(Clone, Copy)]
+pub enum EditorName {
+    Launch,
+    Restart,
+    Terminate,
+    SetFunctionBreakpoints,
+    SetExceptionBreakpoints,
+    Evaluate,
+    ReadMemory,
+    WriteMemory,
+    Disassemble,
+    LoadedSources,
+}
+
+const EVERY_NAME: [EditorName; 10] = [
+    EditorName::Launch,
+    EditorName::Restart,
+    EditorName::Terminate,
+    EditorName::SetFunctionBreakpoints,
+    EditorName::SetExceptionBreakpoints,
+    EditorName::Evaluate,
+    EditorName::ReadMemory,
+    EditorName::WriteMemory,
+    EditorName::Disassemble,
+    EditorName::LoadedSources,
+];
+
+impl EditorName {
+    ghost use Rattle.dap_editor.specs.Table.{named};
+
+    /// The text of `command` in requests.
+    fn as_str(self) -> &'static str
+        ensures { result.now ≡ spelled self }
+    {
+        match self {
+            EditorName::Launch => "launch",
+            EditorName::Restart => "restart",
+            EditorName::Terminate => "terminate",
+            EditorName::SetFunctionBreakpoints => "setFunctionBreakpoints",
+            EditorName::SetExceptionBreakpoints => "setExceptionBreakpoints",
+            EditorName::Evaluate => "evaluate",
+            EditorName::ReadMemory => "readMemory",
+            EditorName::WriteMemory => "writeMemory",
+            EditorName::Disassemble => "disassemble",
+            EditorName::LoadedSources => "loadedSources",
+        }
+    }
+
+    /// The command of this text, if it is one.
+    pub fn from_name(text: &str) -> Option<EditorName>
+        ensures { result ≡ named text.now }
+    {
+        first_named(&EVERY_NAME, text)
+    }
+}
+
+fn first_named(names: &[EditorName], text: &str) -> Option<EditorName>
+    ensures { result ≡ first_named names.now text.now }
+{
+    for name in names {
+        if name.as_str() == text {
+            return Some(*name);
+        }
+    }
+    None
+}

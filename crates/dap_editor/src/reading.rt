@@ -1,0 +1,234 @@
+//! Reading requests: one function for each command that has arguments.
+ghost use Rattle.std.specs.Prelude.{◌≡◌, IfOk, IfSome, OnErr, IsSome, Some};
+ghost use Rattle.serde_json.specs.View.{view};
+ghost use Rattle.dap_talk.specs.Reading.{envelope_of, envelope_with, reading};
+ghost use Rattle.dap_editor.specs.Answer.{Answers};
+ghost use Rattle.dap_editor.specs.Table.{named, asked};
+ghost use Rattle.dap_editor.specs.Table.{launch_asked, evaluate_asked, read_memory_asked};
+ghost use Rattle.dap_editor.specs.Table.{write_memory_asked, disassemble_asked};
+ghost use Rattle.dap_editor.specs.Reading.{
+  has_null_arguments,
+  bare_request,
+  asked_of_board,
+  asked_of_editor,
+  asked_by,
+  unreadable,
+  editor_request,
+  IsCommandBounded,
+  IsBounded,
+};
+
+use crate::arguments::{
+    byte_or_0, bytes_at, context_or_other, count_at, functions_at, memory_reference, number_at,
+    offset, shift_or_0, text_at, truth_or_false,
+};
+use crate::name::EditorName;
+use crate::request::{Asked, EditorCommand, EditorRequest, Launch, RequestFault};
+use base_text::text::Text;
+use dap_answers::object::Object;
+use dap_talk::arguments::ArgumentFault;
+use dap_talk::fault::DapFault;
+use dap_talk::reading::{envelope_of, read_request};
+use serde_json::Value;
+use std::alloc::{AllocError, Global};
+
+fn launch(alloc: Global, request: &Value) -> Result<EditorCommand, ArgumentFault>
+    ensures answer { Answers (launch_asked (view request.now)) result }
+    ensures bounded { IfOk result (λ c. IsCommandBounded c) }
+{
+    let program = text_at(request, "program").ok_or(ArgumentFault::Arguments)?;
+    let stops_on_entry = truth_or_false(request, "stopOnEntry").ok_or(ArgumentFault::Arguments)?;
+    let only_runs = truth_or_false(request, "noDebug").ok_or(ArgumentFault::Arguments)?;
+    let has_aliases = truth_or_false(request, "aliases").ok_or(ArgumentFault::Arguments)?;
+    let switches = byte_or_0(request, "switches").ok_or(ArgumentFault::Arguments)?;
+    let program = Text::copy_of(alloc, program)?;
+    Ok(EditorCommand::Launch(Launch {
+        program,
+        stops_on_entry,
+        is_debugged: !only_runs,
+        has_aliases,
+        switches,
+    }))
+}
+
+fn set_function_breakpoints(alloc: Global, request: &Value) -> Result<EditorCommand, ArgumentFault>
+    ensures answer { Answers (asked EditorName.SetFunctionBreakpoints (view request.now)) result }
+    ensures bounded { IfOk result (λ c. IsCommandBounded c) }
+{
+    let names = functions_at(alloc, request, "breakpoints")?;
+    Ok(EditorCommand::SetFunctionBreakpoints(names))
+}
+
+fn evaluate(alloc: Global, request: &Value) -> Result<EditorCommand, ArgumentFault>
+    ensures answer { Answers (evaluate_asked (view request.now)) result }
+    ensures bounded { IfOk result (λ c. IsCommandBounded c) }
+{
+    let expression = text_at(request, "expression").ok_or(ArgumentFault::Arguments)?;
+    let context = context_or_other(request, "context").ok_or(ArgumentFault::Arguments)?;
+    let expression = Text::copy_of(alloc, expression)?;
+    Ok(EditorCommand::Evaluate {
+        expression,
+        context,
+    })
+}
+
+fn read_memory(request: &Value) -> Option<EditorCommand>
+    ensures value { result ≡ read_memory_asked (view request.now) }
+    ensures bounded { IfSome result (λ c. IsCommandBounded c) }
+{
+    let address = memory_reference(request)?;
+    let offset = offset(request)?;
+    let count = number_at(request, "count")?;
+    Some(EditorCommand::ReadMemory {
+        address,
+        offset,
+        count,
+    })
+}
+
+fn write_memory(alloc: Global, request: &Value) -> Result<EditorCommand, ArgumentFault>
+    ensures answer { Answers (write_memory_asked (view request.now)) result }
+    ensures bounded { IfOk result (λ c. IsCommandBounded c) }
+{
+    let address = memory_reference(request).ok_or(ArgumentFault::Arguments)?;
+    let offset = offset(request).ok_or(ArgumentFault::Arguments)?;
+    let bytes = bytes_at(alloc, request, "data")?;
+    Ok(EditorCommand::WriteMemory {
+        address,
+        offset,
+        bytes,
+    })
+}
+
+fn disassemble(request: &Value) -> Option<EditorCommand>
+    ensures value { result ≡ disassemble_asked (view request.now) }
+    ensures bounded { IfSome result (λ c. IsCommandBounded c) }
+{
+    let address = memory_reference(request)?;
+    let offset = offset(request)?;
+    let instruction_offset = shift_or_0(request, "instructionOffset", 65536)?;
+    let instruction_count = count_at(request, "instructionCount")?;
+    Some(EditorCommand::Disassemble {
+        address,
+        offset,
+        instruction_offset,
+        instruction_count,
+    })
+}
+
+fn or_refused(command: Option<EditorCommand>) -> Result<EditorCommand, ArgumentFault>
+    ensures answer { Answers command result }
+    ensures same { IfOk result (λ c. command ≡ Some c) }
+{
+    command.ok_or(ArgumentFault::Arguments)
+}
+
+fn read_command(
+    alloc: Global,
+    name: EditorName,
+    request: &Value,
+) -> Result<EditorCommand, ArgumentFault>
+    ensures answer { Answers (asked name (view request.now)) result }
+    ensures bounded { IfOk result (λ c. IsCommandBounded c) }
+{
+    match name {
+        EditorName::Launch => launch(alloc, request),
+        EditorName::Restart => Ok(EditorCommand::Restart),
+        EditorName::Terminate => Ok(EditorCommand::Terminate),
+        EditorName::SetFunctionBreakpoints => set_function_breakpoints(alloc, request),
+        EditorName::SetExceptionBreakpoints => Ok(EditorCommand::SetExceptionBreakpoints),
+        EditorName::Evaluate => evaluate(alloc, request),
+        EditorName::ReadMemory => or_refused(read_memory(request)),
+        EditorName::WriteMemory => write_memory(alloc, request),
+        EditorName::Disassemble => or_refused(disassemble(request)),
+        EditorName::LoadedSources => Ok(EditorCommand::LoadedSources),
+    }
+}
+
+fn read_for_editor(alloc: Global, name: EditorName, request: &Value) -> Result<Asked, AllocError>
+    ensures read { IfOk result (λ a. a ≡ asked_of_editor (asked name (view request.now))) }
+    ensures bounded { IfOk result (λ a. IsBounded a) }
+{
+    match read_command(alloc, name, request) {
+        Ok(command) => Ok(Asked::Editor(command)),
+        Err(ArgumentFault::OutOfMemory) => Err(AllocError),
+        Err(ArgumentFault::Arguments) => Ok(Asked::Faulty(RequestFault::Arguments)),
+    }
+}
+
+fn read_for_board(alloc: Global, request: &Value) -> Result<Asked, AllocError>
+    ensures read { IfOk result (λ a. a ≡ asked_of_board (reading (view request.now))) }
+    ensures bounded { IfOk result (λ a. IsBounded a) }
+{
+    match read_request(alloc, request) {
+        Ok(read) => Ok(Asked::Board(read.into_command())),
+        Err(DapFault::OutOfMemory) => Err(AllocError),
+        Err(DapFault::NotRequest) => Ok(Asked::Faulty(RequestFault::NotRequest)),
+        Err(DapFault::Command { .. }) => Ok(Asked::Faulty(RequestFault::UnknownCommand)),
+        Err(DapFault::Arguments { .. }) => Ok(Asked::Faulty(RequestFault::Arguments)),
+    }
+}
+
+fn read_asked(alloc: Global, command: &str, request: &Value) -> Result<Asked, AllocError>
+    ensures read { IfOk result (λ a. a ≡ asked_by (named command.now) (view request.now)) }
+    ensures bounded { IfOk result (λ a. IsBounded a) }
+{
+    match EditorName::from_name(command) {
+        Some(name) => read_for_editor(alloc, name, request),
+        None => read_for_board(alloc, request),
+    }
+}
+
+fn has_null_arguments(request: &Value) -> bool
+    ensures { result ≡ has_null_arguments (view request.now) }
+{
+    request.get("arguments").is_some_and(Value::is_null)
+}
+
+fn bare_request(alloc: Global, seq: u32, command: &str) -> Result<Value, AllocError>
+    ensures { IfOk result (λ v. view v ≡ bare_request (envelope_with seq command.now)) }
+{
+    Object::new(alloc)
+        .text("type", "request")
+        .number("seq", u64::from(seq))
+        .text("command", command)
+        .finish()
+}
+
+impl EditorRequest {
+    /// The request that bytes are which are no JSON.
+    pub fn unreadable(alloc: Global) -> EditorRequest
+        ensures { result ≡ unreadable }
+    {
+        EditorRequest {
+            seq: 0,
+            command: Text::from(String::new(alloc)),
+            asked: Asked::Faulty(RequestFault::NotRequest),
+        }
+    }
+}
+
+/// Reads a request (Debug Adapter Protocol, "Base Protocol"): for every JSON value there is one. Its number
+/// and command are kept also where it can't be carried out. Arguments that are `null` count as absent ones.
+#[tactic(auto, unfolding(crate::specs::Reading::editor_request))]
+pub fn read_editor_request(alloc: Global, request: &Value) -> Result<EditorRequest, AllocError>
+    ensures read { IfOk result (λ r. r ≡ editor_request (view request.now)) }
+    ensures bounded { IfOk result (λ r. IsBounded r.asked) }
+    ensures refused { OnErr result (IsSome (envelope_of (view request.now))) }
+{
+    let Some((seq, text)) = envelope_of(request) else {
+        return Ok(EditorRequest::unreadable(alloc));
+    };
+    let command = Text::copy_of(alloc, text)?;
+    let asked = if has_null_arguments(request) {
+        let bare = bare_request(alloc, seq, text)?;
+        read_asked(alloc, text, &bare)?
+    } else {
+        read_asked(alloc, text, request)?
+    };
+    Ok(EditorRequest {
+        seq,
+        command,
+        asked,
+    })
+}

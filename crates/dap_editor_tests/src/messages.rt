@@ -1,0 +1,282 @@
+//! What editors are told, to the byte.
+use base_text::sequence::{Bytes, Sequence};
+use base_text::text::Text;
+use dap_answers::answer::{Body, StopReason};
+use dap_editor::json::message_json;
+use dap_editor::message::{
+    EditorBody, EditorEvent, EditorOutcome, EditorResponse, EditorStop, Message, OutputCategory,
+    PlacedBreakpoint, SourcePlace,
+};
+use std::alloc::{AllocError, Global};
+
+// A body, from plain values.
+#[derive(Clone, Copy)]
+enum Shape {
+    Threads,
+    Capabilities,
+    // Number, line and whether it is verified.
+    Breakpoints(&'static [(u32, Option<u32>, bool)]),
+    Evaluation(&'static str),
+    // Address, bytes and how many aren't there.
+    Memory(u16, &'static [u8], u32),
+    Written(u32),
+    Sources(&'static [&'static str]),
+}
+
+fn placed(row: (u32, Option<u32>, bool)) -> PlacedBreakpoint {
+    PlacedBreakpoint {
+        id: row.0,
+        line: row.1,
+        is_verified: row.2,
+    }
+}
+
+fn breakpoints(
+    alloc: Global,
+    rows: &[(u32, Option<u32>, bool)],
+) -> Result<Sequence<PlacedBreakpoint>, AllocError> {
+    let mut list = Sequence::new(alloc);
+    for row in rows {
+        list.push(placed(*row))?;
+    }
+    Ok(list)
+}
+
+fn texts(alloc: Global, rows: &[&str]) -> Result<Sequence<Text>, AllocError> {
+    let mut list = Sequence::new(alloc);
+    for row in rows {
+        list.push(Text::copy_of(alloc, row)?)?;
+    }
+    Ok(list)
+}
+
+fn body(alloc: Global, shape: &Shape) -> Result<EditorBody, AllocError> {
+    match shape {
+        Shape::Threads => Ok(EditorBody::Board(Body::Threads)),
+        Shape::Capabilities => Ok(EditorBody::Capabilities),
+        Shape::Breakpoints(rows) => Ok(EditorBody::Breakpoints(breakpoints(alloc, rows)?)),
+        Shape::Evaluation(text) => Ok(EditorBody::Evaluation(Text::copy_of(alloc, text)?)),
+        Shape::Memory(address, bytes, unreadable) => Ok(EditorBody::Memory {
+            address: *address,
+            bytes: Bytes::copy_of(alloc, bytes)?,
+            unreadable: *unreadable,
+        }),
+        Shape::Written(count) => Ok(EditorBody::Written(*count)),
+        Shape::Sources(paths) => Ok(EditorBody::Sources(texts(alloc, paths)?)),
+    }
+}
+
+fn response(alloc: Global, outcome: EditorOutcome) -> Result<Message, AllocError> {
+    let command = Text::copy_of(alloc, "c");
+    let Ok(command) = command else {
+        drop(outcome);
+        return Err(AllocError);
+    };
+    Ok(Message::Response(EditorResponse {
+        request_seq: 9,
+        command,
+        outcome,
+    }))
+}
+
+fn is_written(alloc: Global, message: &Message, json: &str) -> Result<bool, AllocError> {
+    let value = message_json(alloc, 12, message)?;
+    let text = value.to_string(alloc);
+    drop(value);
+    Ok(text?.as_str() == json)
+}
+
+const BODIES: [(Shape, &str); 12] = [
+    (
+        Shape::Threads,
+        "{\"threads\":[{\"id\":1,\"name\":\"8080\"}]}",
+    ),
+    (
+        Shape::Capabilities,
+        "{\"supportsConfigurationDoneRequest\":true,\"supportsDisassembleRequest\":true,\
+\"supportsEvaluateForHovers\":true,\"supportsFunctionBreakpoints\":true,\
+\"supportsLoadedSourcesRequest\":true,\"supportsReadMemoryRequest\":true,\
+\"supportsRestartRequest\":true,\"supportsSetVariable\":true,\"supportsSteppingGranularity\":true,\
+\"supportsTerminateRequest\":true,\"supportsWriteMemoryRequest\":true}",
+    ),
+    (Shape::Breakpoints(&[]), "{\"breakpoints\":[]}"),
+    (
+        Shape::Breakpoints(&[(257, Some(3), true), (2, None, false)]),
+        "{\"breakpoints\":[{\"id\":257,\"line\":3,\"verified\":true},{\"id\":2,\"verified\":false}]}",
+    ),
+    (
+        Shape::Evaluation("0FFH \"255\""),
+        "{\"result\":\"0FFH \\\"255\\\"\",\"variablesReference\":0}",
+    ),
+    (
+        Shape::Memory(0xc3fe, &[0, 255, 16], 0),
+        "{\"address\":\"0xc3fe\",\"data\":\"AP8Q\"}",
+    ),
+    (
+        Shape::Memory(65535, &[0], 7),
+        "{\"address\":\"0xffff\",\"data\":\"AA==\",\"unreadableBytes\":7}",
+    ),
+    (
+        Shape::Memory(0, &[], 4294967295),
+        "{\"address\":\"0x0000\",\"unreadableBytes\":4294967295}",
+    ),
+    (Shape::Memory(0, &[], 0), "{\"address\":\"0x0000\"}"),
+    (Shape::Written(65536), "{\"bytesWritten\":65536}"),
+    (Shape::Sources(&[]), "{\"sources\":[]}"),
+    (
+        Shape::Sources(&["/home/u/a.asm", "b.asm", "c/"]),
+        "{\"sources\":[{\"name\":\"a.asm\",\"path\":\"/home/u/a.asm\"},\
+{\"name\":\"b.asm\",\"path\":\"b.asm\"},{\"name\":\"\",\"path\":\"c/\"}]}",
+    ),
+];
+
+fn is_body(alloc: Global, shape: &Shape, json: &str) -> Result<bool, AllocError> {
+    let message = response(alloc, EditorOutcome::Success(body(alloc, shape)?))?;
+    let wanted = format!(in alloc;
+        "{{\"body\":{json},\"command\":\"c\",\"request_seq\":9,\
+\"seq\":12,\"success\":true,\"type\":\"response\"}}"
+    )?;
+    is_written(alloc, &message, wanted.as_str())
+}
+
+#[test]
+fn bodies(rt: HostRuntime) -> Result<(), AllocError> {
+    for (shape, json) in &BODIES {
+        assert!(rt; is_body(rt.alloc(), shape, json)?, "{json}");
+    }
+    Ok(())
+}
+
+#[test]
+fn refusals(rt: HostRuntime) -> Result<(), AllocError> {
+    let message = Text::copy_of(rt.alloc(), "no file")?;
+    let refusal = response(rt.alloc(), EditorOutcome::Refused(message))?;
+    assert!(rt;
+        is_written(
+            rt.alloc(),
+            &refusal,
+            "{\"command\":\"c\",\"message\":\"no file\",\"request_seq\":9,\"seq\":12,\
+\"success\":false,\"type\":\"response\"}",
+        )?
+    );
+    Ok(())
+}
+
+// An event, from plain values.
+#[derive(Clone, Copy)]
+enum Told {
+    Initialized,
+    Stopped(EditorStop),
+    Continued,
+    Output(OutputCategory, &'static [u8]),
+    // Path, line and column.
+    Placed(OutputCategory, &'static [u8], (&'static str, u32, u32)),
+    Breakpoint((u32, Option<u32>, bool)),
+    Exited(u8),
+    Terminated,
+}
+
+fn place(alloc: Global, row: (&str, u32, u32)) -> Result<SourcePlace, AllocError> {
+    let path = Text::copy_of(alloc, row.0)?;
+    Ok(SourcePlace {
+        path,
+        line: row.1,
+        column: row.2,
+    })
+}
+
+fn output(
+    alloc: Global,
+    category: OutputCategory,
+    bytes: &[u8],
+    place: Option<SourcePlace>,
+) -> Result<EditorEvent, AllocError> {
+    let bytes = Bytes::copy_of(alloc, bytes)?;
+    Ok(EditorEvent::Output {
+        category,
+        bytes,
+        place,
+    })
+}
+
+fn event(alloc: Global, told: &Told) -> Result<EditorEvent, AllocError> {
+    match told {
+        Told::Initialized => Ok(EditorEvent::Initialized),
+        Told::Stopped(reason) => Ok(EditorEvent::Stopped(*reason)),
+        Told::Continued => Ok(EditorEvent::Continued),
+        Told::Output(category, bytes) => output(alloc, *category, bytes, None),
+        Told::Placed(category, bytes, row) => {
+            let place = place(alloc, *row)?;
+            output(alloc, *category, bytes, Some(place))
+        }
+        Told::Breakpoint(row) => Ok(EditorEvent::Breakpoint(placed(*row))),
+        Told::Exited(code) => Ok(EditorEvent::Exited { code: *code }),
+        Told::Terminated => Ok(EditorEvent::Terminated),
+    }
+}
+
+const EVENTS: [(Told, &str, &str); 12] = [
+    (Told::Initialized, "", "initialized"),
+    (
+        Told::Stopped(EditorStop::Entry),
+        "\"body\":{\"allThreadsStopped\":true,\"reason\":\"entry\",\"threadId\":1},",
+        "stopped",
+    ),
+    (
+        Told::Stopped(EditorStop::Board(StopReason::Breakpoint)),
+        "\"body\":{\"allThreadsStopped\":true,\"reason\":\"breakpoint\",\"threadId\":1},",
+        "stopped",
+    ),
+    (
+        Told::Stopped(EditorStop::Board(StopReason::Pause)),
+        "\"body\":{\"allThreadsStopped\":true,\"reason\":\"pause\",\"threadId\":1},",
+        "stopped",
+    ),
+    (
+        Told::Continued,
+        "\"body\":{\"allThreadsContinued\":true,\"threadId\":1},",
+        "continued",
+    ),
+    (
+        Told::Output(OutputCategory::Console, b"ok\n"),
+        "\"body\":{\"category\":\"console\",\"output\":\"ok\\n\"},",
+        "output",
+    ),
+    (
+        Told::Output(OutputCategory::Stdout, b"\x41\xe9\x07"),
+        "\"body\":{\"category\":\"stdout\",\"output\":\"A\u{e9}\\u0007\"},",
+        "output",
+    ),
+    (
+        Told::Placed(OutputCategory::Stderr, b"3:5 Syntax\n", ("/a/b.asm", 3, 5)),
+        "\"body\":{\"category\":\"stderr\",\"column\":5,\"line\":3,\"output\":\"3:5 Syntax\\n\",\
+\"source\":{\"name\":\"b.asm\",\"path\":\"/a/b.asm\"}},",
+        "output",
+    ),
+    (
+        Told::Breakpoint((258, Some(4), true)),
+        "\"body\":{\"breakpoint\":{\"id\":258,\"line\":4,\"verified\":true},\"reason\":\"changed\"},",
+        "breakpoint",
+    ),
+    (
+        Told::Breakpoint((1, None, false)),
+        "\"body\":{\"breakpoint\":{\"id\":1,\"verified\":false},\"reason\":\"changed\"},",
+        "breakpoint",
+    ),
+    (Told::Exited(1), "\"body\":{\"exitCode\":1},", "exited"),
+    (Told::Terminated, "", "terminated"),
+];
+
+fn is_event(alloc: Global, told: &Told, body: &str, name: &str) -> Result<bool, AllocError> {
+    let message = Message::Event(event(alloc, told)?);
+    let wanted = format!(in alloc; "{{{body}\"event\":\"{name}\",\"seq\":12,\"type\":\"event\"}}")?;
+    is_written(alloc, &message, wanted.as_str())
+}
+
+#[test]
+fn events(rt: HostRuntime) -> Result<(), AllocError> {
+    for (told, body, name) in &EVENTS {
+        assert!(rt; is_event(rt.alloc(), told, body, name)?, "{body}{name}");
+    }
+    Ok(())
+}

@@ -1,0 +1,407 @@
+//! Requests as editors write them: what each is read as.
+use base_text::text::Text;
+use dap_editor::reading::read_editor_request;
+use dap_editor::request::{
+    Asked, EditorCommand, EditorRequest, EvaluateContext, Launch, RequestFault, Shift,
+};
+use serde_json::Value;
+use std::alloc::{AllocError, Global};
+use std::test::Fail;
+
+fn truth_word(truth: bool) -> &'static str {
+    if truth { "true" } else { "false" }
+}
+
+fn put_shift(told: &mut String, shift: Shift) -> Result<(), AllocError> {
+    match shift {
+        Shift::Forward(n) => write!(told, " +{n}")?,
+        Shift::Back(n) => write!(told, " -{n}")?,
+    }
+    Ok(())
+}
+
+fn put_launch(told: &mut String, launch: &Launch) -> Result<(), AllocError> {
+    let program = launch.program.as_str();
+    let entry = truth_word(launch.stops_on_entry);
+    let debugged = truth_word(launch.is_debugged);
+    let aliases = truth_word(launch.has_aliases);
+    let switches = launch.switches;
+    write!(
+        told,
+        "launch {program} {entry} {debugged} {aliases} {switches}"
+    )?;
+    Ok(())
+}
+
+fn put_names(told: &mut String, names: &[Text]) -> Result<(), AllocError> {
+    told.push_str("functions")?;
+    for name in names {
+        told.push_str(" ")?;
+        told.push_str(name.as_str())?;
+    }
+    Ok(())
+}
+
+fn put_place(told: &mut String, word: &str, address: u16, offset: Shift) -> Result<(), AllocError> {
+    write!(told, "{word} {address}")?;
+    put_shift(told, offset)
+}
+
+fn put_written(told: &mut String, bytes: &[u8]) -> Result<(), AllocError> {
+    for byte in bytes {
+        write!(told, " {byte}")?;
+    }
+    Ok(())
+}
+
+fn context_word(context: EvaluateContext) -> &'static str {
+    match context {
+        EvaluateContext::Repl => "repl",
+        EvaluateContext::Other => "other",
+    }
+}
+
+fn put_evaluation(
+    told: &mut String,
+    expression: &Text,
+    context: EvaluateContext,
+) -> Result<(), AllocError> {
+    let word = context_word(context);
+    let expression = expression.as_str();
+    write!(told, "evaluate {word} {expression}")?;
+    Ok(())
+}
+
+// Adds a command that has to do with memory.
+fn put_memory(told: &mut String, command: &EditorCommand) -> Result<(), AllocError> {
+    match command {
+        EditorCommand::ReadMemory {
+            address,
+            offset,
+            count,
+        } => {
+            put_place(told, "read", *address, *offset)?;
+            write!(told, " {count}")?;
+        }
+        EditorCommand::WriteMemory {
+            address,
+            offset,
+            bytes,
+        } => {
+            put_place(told, "write", *address, *offset)?;
+            put_written(told, bytes.as_slice())?;
+        }
+        EditorCommand::Disassemble {
+            address,
+            offset,
+            instruction_offset,
+            instruction_count,
+        } => {
+            put_place(told, "code", *address, *offset)?;
+            put_shift(told, *instruction_offset)?;
+            write!(told, " {instruction_count}")?;
+        }
+        _ => {}
+    }
+    Ok(())
+}
+
+fn put_command(told: &mut String, command: &EditorCommand) -> Result<(), AllocError> {
+    match command {
+        EditorCommand::Launch(launch) => put_launch(told, launch),
+        EditorCommand::Restart => told.push_str("restart"),
+        EditorCommand::Terminate => told.push_str("terminate"),
+        EditorCommand::SetFunctionBreakpoints(names) => put_names(told, names.as_slice()),
+        EditorCommand::SetExceptionBreakpoints => told.push_str("exceptions"),
+        EditorCommand::Evaluate {
+            expression,
+            context,
+        } => put_evaluation(told, expression, *context),
+        EditorCommand::LoadedSources => told.push_str("sources"),
+        _ => put_memory(told, command),
+    }
+}
+
+fn fault_word(fault: RequestFault) -> &'static str {
+    match fault {
+        RequestFault::NotRequest => "NotRequest",
+        RequestFault::UnknownCommand => "UnknownCommand",
+        RequestFault::Arguments => "Arguments",
+    }
+}
+
+fn put_asked(told: &mut String, asked: &Asked) -> Result<(), AllocError> {
+    match asked {
+        Asked::Board(command) => {
+            told.push_str("board ")?;
+            told.push_str(command.name().as_str())
+        }
+        Asked::Editor(command) => put_command(told, command),
+        Asked::Faulty(fault) => told.push_str(fault_word(*fault)),
+    }
+}
+
+fn told_of(alloc: Global, request: &EditorRequest) -> Result<String, AllocError> {
+    let seq = request.seq;
+    let command = request.command.as_str();
+    let mut told = format!(in alloc; "{seq} {command}: ")?;
+    put_asked(&mut told, &request.asked)?;
+    Ok(told)
+}
+
+fn reads_as(alloc: Global, text: &str, wanted: &str) -> Result<bool, Fail> {
+    let value = Value::from_str(alloc, text)?;
+    let request = read_editor_request(alloc, &value)?;
+    let told = told_of(alloc, &request)?;
+    Ok(told.as_str() == wanted)
+}
+
+// Requests with the number 7: the command and its arguments, and what it is read as.
+const REQUESTS: [(&str, &str, &str); 43] = [
+    (
+        "launch",
+        "{\"program\":\"a.asm\"}",
+        "launch a.asm false true false 0",
+    ),
+    (
+        "launch",
+        "{\"program\":\"\",\"stopOnEntry\":true,\"noDebug\":true,\"aliases\":true,\"switches\":255,\
+\"other\":null}",
+        "launch  true false true 255",
+    ),
+    (
+        "launch",
+        "{\"program\":\"a\",\"switches\":256}",
+        "Arguments",
+    ),
+    (
+        "launch",
+        "{\"program\":\"a\",\"switches\":1.0}",
+        "Arguments",
+    ),
+    (
+        "launch",
+        "{\"program\":\"a\",\"noDebug\":null}",
+        "Arguments",
+    ),
+    ("launch", "{\"stopOnEntry\":true}", "Arguments"),
+    ("launch", "null", "Arguments"),
+    ("restart", "3", "restart"),
+    ("terminate", "null", "terminate"),
+    ("setExceptionBreakpoints", "{\"filters\":[]}", "exceptions"),
+    ("loadedSources", "{}", "sources"),
+    (
+        "setFunctionBreakpoints",
+        "{\"breakpoints\":[]}",
+        "functions",
+    ),
+    (
+        "setFunctionBreakpoints",
+        "{\"breakpoints\":[{\"name\":\"LOOP\"},{\"name\":\"END\",\"logMessage\":\"\"}]}",
+        "functions LOOP END",
+    ),
+    ("setFunctionBreakpoints", "{}", "Arguments"),
+    (
+        "setFunctionBreakpoints",
+        "{\"breakpoints\":[{\"name\":1}]}",
+        "Arguments",
+    ),
+    (
+        "setFunctionBreakpoints",
+        "{\"breakpoints\":[{\"name\":\"A\",\"condition\":\"\"}]}",
+        "Arguments",
+    ),
+    (
+        "setFunctionBreakpoints",
+        "{\"breakpoints\":[{\"name\":\"A\",\"hitCondition\":null}]}",
+        "Arguments",
+    ),
+    (
+        "evaluate",
+        "{\"expression\":\"HL\",\"frameId\":\"x\"}",
+        "evaluate other HL",
+    ),
+    (
+        "evaluate",
+        "{\"expression\":\"HL\",\"context\":\"repl\"}",
+        "evaluate repl HL",
+    ),
+    (
+        "evaluate",
+        "{\"expression\":\"HL\",\"context\":\"Repl\"}",
+        "evaluate other HL",
+    ),
+    (
+        "evaluate",
+        "{\"expression\":\"HL\",\"context\":1}",
+        "Arguments",
+    ),
+    ("evaluate", "{}", "Arguments"),
+    (
+        "readMemory",
+        "{\"memoryReference\":\"0xFf00\",\"count\":16}",
+        "read 65280 +0 16",
+    ),
+    (
+        "readMemory",
+        "{\"memoryReference\":\"0x0000\",\"offset\":-4294967295,\"count\":4294967295}",
+        "read 0 -4294967295 4294967295",
+    ),
+    (
+        "readMemory",
+        "{\"memoryReference\":\"0x0000\",\"offset\":4294967295,\"count\":0}",
+        "read 0 +4294967295 0",
+    ),
+    (
+        "readMemory",
+        "{\"memoryReference\":\"0x0000\",\"offset\":4294967296,\"count\":0}",
+        "Arguments",
+    ),
+    (
+        "readMemory",
+        "{\"memoryReference\":\"0x0000\",\"offset\":-4294967296,\"count\":0}",
+        "Arguments",
+    ),
+    (
+        "readMemory",
+        "{\"memoryReference\":\"0x0000\",\"offset\":-0,\"count\":0}",
+        "Arguments",
+    ),
+    (
+        "readMemory",
+        "{\"memoryReference\":\"0000\",\"count\":1}",
+        "Arguments",
+    ),
+    (
+        "readMemory",
+        "{\"memoryReference\":\"0x0000\"}",
+        "Arguments",
+    ),
+    (
+        "writeMemory",
+        "{\"memoryReference\":\"0x0100\",\"offset\":-1,\"data\":\"AP8Q\"}",
+        "write 256 -1 0 255 16",
+    ),
+    (
+        "writeMemory",
+        "{\"memoryReference\":\"0x0100\",\"data\":\"\"}",
+        "write 256 +0",
+    ),
+    (
+        "writeMemory",
+        "{\"memoryReference\":\"0x0100\",\"data\":\"AA==\"}",
+        "write 256 +0 0",
+    ),
+    (
+        "writeMemory",
+        "{\"memoryReference\":\"0x0100\",\"data\":\"AA\"}",
+        "Arguments",
+    ),
+    (
+        "writeMemory",
+        "{\"memoryReference\":\"0x0100\",\"data\":\"A-==\"}",
+        "Arguments",
+    ),
+    (
+        "writeMemory",
+        "{\"memoryReference\":\"0x0100\",\"data\":[0]}",
+        "Arguments",
+    ),
+    (
+        "disassemble",
+        "{\"memoryReference\":\"0x1234\",\"instructionCount\":1}",
+        "code 4660 +0 +0 1",
+    ),
+    (
+        "disassemble",
+        "{\"memoryReference\":\"0x1234\",\"offset\":-2,\"instructionOffset\":-65536,\
+\"instructionCount\":256}",
+        "code 4660 -2 -65536 256",
+    ),
+    (
+        "disassemble",
+        "{\"memoryReference\":\"0x1234\",\"instructionOffset\":-65537,\"instructionCount\":1}",
+        "Arguments",
+    ),
+    (
+        "disassemble",
+        "{\"memoryReference\":\"0x1234\",\"instructionCount\":257}",
+        "Arguments",
+    ),
+    ("threads", "null", "board threads"),
+    ("stackTrace", "null", "board stackTrace"),
+    ("scopes", "null", "Arguments"),
+];
+
+fn request(alloc: Global, command: &str, arguments: &str) -> Result<String, AllocError> {
+    format!(in alloc;
+        "{{\"seq\":7,\"type\":\"request\",\"command\":\"{command}\",\"arguments\":{arguments}}}"
+    )
+}
+
+fn is_read(alloc: Global, command: &str, arguments: &str, wanted: &str) -> Result<bool, Fail> {
+    let text = request(alloc, command, arguments)?;
+    let told = format!(in alloc; "7 {command}: {wanted}")?;
+    reads_as(alloc, text.as_str(), told.as_str())
+}
+
+#[test]
+fn reads_requests(rt: HostRuntime) -> Result<(), Fail> {
+    for (command, arguments, wanted) in &REQUESTS {
+        assert!(rt;
+            is_read(rt.alloc(), command, arguments, wanted)?,
+            "{command} {arguments}"
+        );
+    }
+    Ok(())
+}
+
+// Whole values, and what they are read as.
+const VALUES: [(&str, &str); 9] = [
+    ("null", "0 : NotRequest"),
+    ("[]", "0 : NotRequest"),
+    (
+        "{\"seq\":7,\"type\":\"event\",\"command\":\"restart\"}",
+        "0 : NotRequest",
+    ),
+    (
+        "{\"seq\":-1,\"type\":\"request\",\"command\":\"restart\"}",
+        "0 : NotRequest",
+    ),
+    (
+        "{\"seq\":4294967296,\"type\":\"request\",\"command\":\"restart\"}",
+        "0 : NotRequest",
+    ),
+    (
+        "{\"seq\":7,\"type\":\"request\",\"command\":3}",
+        "0 : NotRequest",
+    ),
+    (
+        "{\"seq\":4294967295,\"type\":\"request\",\"command\":\"restart\"}",
+        "4294967295 restart: restart",
+    ),
+    (
+        "{\"seq\":0,\"type\":\"request\",\"command\":\"Restart\",\"arguments\":null}",
+        "0 Restart: UnknownCommand",
+    ),
+    (
+        "{\"seq\":1,\"type\":\"request\",\"command\":\"configurationDone\",\"arguments\":null}",
+        "1 configurationDone: board configurationDone",
+    ),
+];
+
+#[test]
+fn reads_values(rt: HostRuntime) -> Result<(), Fail> {
+    for (text, wanted) in &VALUES {
+        assert!(rt; reads_as(rt.alloc(), text, wanted)?, "{text}");
+    }
+    Ok(())
+}
+
+#[test]
+fn knows_what_is_no_json(rt: HostRuntime) -> Result<(), AllocError> {
+    let request = EditorRequest::unreadable(rt.alloc());
+    let told = told_of(rt.alloc(), &request)?;
+    assert_eq!(rt; told.as_str(), "0 : NotRequest");
+    Ok(())
+}

@@ -1,0 +1,5 @@
+pub mod Registers
+pub mod Expressions
+pub mod Memory
+pub mod Instructions
+pub mod Labels

@@ -1,0 +1,134 @@
+//! The breakpoints that are kept.
+ghost use Rattle.std.specs.Prelude.{◌≡◌, ◌<◌, ◌≤◌, length, take, true, IfOk, IfSome};
+ghost use Rattle.dap_points.specs.Points.{no_points, place_of, number_of, has_place, lines_at, with_lines};
+
+use base_text::sequence::Sequence;
+use base_text::text::Text;
+use std::alloc::{AllocError, Global};
+use std::marker::Model;
+
+/// The most sources whose breakpoints are kept.
+pub const MOST_SOURCES: usize = 1024;
+
+/// The most lines of a source, and the most labels, that count.
+pub const MOST_POINTS: usize = 256;
+
+/// The lines of a source that are to have breakpoints, as they came.
+#[derive(Drop)]
+pub struct SourceLines {
+    pub path: Text,
+    pub lines: Sequence<u32>,
+}
+
+/// The breakpoints that are kept: the lines of each source, and labels. A source whose lines are taken away keeps its
+/// place.
+#[derive(Drop)]
+pub struct Points {
+    lists: Vec<SourceLines>,
+    functions: Sequence<Text>,
+}
+
+impl Model for Points {
+    ghost use Rattle.std.specs.Prelude.{◌≤◌, length, vec_capacity};
+    ghost use Rattle.dap_points.specs.Points.{PointsState};
+
+    ghost Value = { PointsState };
+
+    ghost view = { λ p. record { lists = p.lists.items; functions = p.functions } };
+
+    // Room for all is made at the start.
+    ghost invariant = { λ p. (length p.lists.items ≤ 1024) × (1024 ≤ vec_capacity p.lists) };
+}
+
+// The place of a source, if it has one.
+fn place_of(lists: &[SourceLines], path: &str) -> Option<usize>
+    ensures place { result ≡ place_of path.now lists.now }
+    ensures within { IfSome result (λ place. place < length lists.now) }
+{
+    lists.iter().position(|list| list.path.as_str() == path)
+}
+
+// The first items, as many as count.
+fn first<T>(items: &[T]) -> &[T]
+    ensures first { result.now ≡ take 256 items.now }
+    ensures few { length result.now ≤ 256 }
+{
+    if items.len() <= MOST_POINTS {
+        return items;
+    }
+    let (first, _) = items.split_at(MOST_POINTS);
+    first
+}
+
+impl Points {
+    /// None, with room for the lines of as many sources as are kept.
+    pub fn new(alloc: Global) -> Result<Points, AllocError>
+        ensures { IfOk result (λ points. points ≡ no_points) }
+    {
+        let lists = Vec::with_capacity(alloc, MOST_SOURCES)?;
+        Ok(Points {
+            lists,
+            functions: Sequence::new(alloc),
+        })
+    }
+
+    /// The number of a source, from 1; of a new one the number that it will have.
+    pub fn number_of(&self, path: &str) -> u32
+        ensures number { result ≡ number_of path.now self.now.lists }
+        ensures few { result ≤ 1025 }
+    {
+        match place_of(&self.lists, path) {
+            Some(place) => place as u32 + 1,
+            None => self.lists.len() as u32 + 1,
+        }
+    }
+
+    /// Whether the lines of this source may be kept.
+    pub fn has_place(&self, path: &str) -> bool
+        ensures { result ≡ has_place path.now self.now.lists }
+    {
+        match place_of(&self.lists, path) {
+            Some(_) => true,
+            None => self.lists.len() < MOST_SOURCES,
+        }
+    }
+
+    /// The lines of a source.
+    pub fn lines_at(&self, path: &str) -> &[u32]
+        ensures lines { result.now ≡ lines_at path.now self.now.lists }
+        ensures few { length result.now ≤ 256 }
+    {
+        match place_of(&self.lists, path) {
+            Some(place) => first(self.lists[place].lines.as_slice()),
+            None => &[],
+        }
+    }
+
+    /// The labels.
+    pub fn functions(&self) -> &[Text]
+        ensures labels { result.now ≡ take 256 self.now.functions }
+        ensures few { length result.now ≤ 256 }
+    {
+        first(self.functions.as_slice())
+    }
+
+    /// Gives a source these lines, without allocating.
+    pub fn set_lines(&mut self, path: Text, lines: Sequence<u32>)
+        requires { has_place path self.old.lists ≡ true }
+        ensures { self.new ≡ with_lines path lines self.old }
+    {
+        let place = place_of(&self.lists, path.as_str());
+        let list = SourceLines { path, lines };
+        match place {
+            Some(place) => self.lists[place] = list,
+            None => self.lists.push_reserved(list),
+        }
+    }
+
+    /// Takes these labels in place of those before.
+    pub fn set_functions(&mut self, names: Sequence<Text>)
+        ensures { self.new ≡ record self.old { functions = names } }
+    {
+        self.functions = names;
+    }
+}

@@ -1,0 +1,5 @@
+pub mod ChangeLemmas
+pub mod LoadLemmas
+pub mod SliceLemmas
+pub mod LineLemmas
+pub mod MemoryLemmas

@@ -1,0 +1,33 @@
+-- What events make of a board, which a refusal leaves as it was.
+use Rattle.std.specs.Prelude.{ℕ, Bool, Ok, Err, if◌then◌else◌}
+use Rattle.lab_core.specs.declared.event.Event.{Event}
+use Rattle.lab_core.specs.declared.event.Event.TheVariants as event
+use Rattle.lab_core.specs.Board.{Board}
+use Rattle.lab_core.specs.Events.{Given, given}
+use Rattle.lab_core.specs.Labs.{LabState, StandsFor}
+
+abbrev pub board_after : Board → Given → Board
+board_after b (Ok (answer, b')) = b'
+board_after b (Err fault) = b
+
+abbrev pub after : Event → Board → Board
+after e b = board_after b (given e b)
+
+-- the events that take no memory
+abbrev pub IsSure : Event → Type 0
+IsSure (event.Start address) = Unit {0}
+IsSure event.Pause = Unit {0}
+IsSure event.Interrupt = Unit {0}
+IsSure (event.SetBoard option) = Unit {0}
+IsSure event.Attach = Unit {0}
+IsSure (event.Switches byte) = Unit {0}
+IsSure _ = ⊥
+
+-- A run begins at an address; where it pauses, it is stopped before its first step.
+abbrev pub begun : ℕ → Bool → Board → Board
+begun start pauses b =
+    if pauses then after event.Pause (after (event.Start start) b) else after (event.Start start) b
+
+-- some board is stood for
+abbrev pub Stands : LabState → Type 0
+Stands lab = (b : Board) × StandsFor lab b

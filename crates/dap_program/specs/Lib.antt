@@ -1,0 +1,10 @@
+pub mod Boards
+pub mod Messages
+pub mod Refusals
+pub mod Loading
+pub mod Slices
+pub mod Kits
+pub mod Breakpoints
+pub mod Openings
+pub mod Failures
+pub mod Memory

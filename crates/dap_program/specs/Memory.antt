@@ -1,0 +1,23 @@
+-- Bytes that a debugger writes (Debug Adapter Protocol, `writeMemory`).
+use Rattle.std.specs.Prelude.{◌≡◌, ℕ, ◌+◌, List, [], ◌∷◌, take}
+use Rattle.base_text.specs.Bytes.{Bytes}
+use Rattle.base_text.specs.Hexadecimal.{upper_word}
+use Rattle.i80_dis.specs.Text.{byte_text}
+use Rattle.lab_core.specs.declared.event.Event.{Event}
+use Rattle.lab_core.specs.declared.event.Event.TheVariants.{Poke}
+use Rattle.lab_core.specs.Board.{Board}
+use Rattle.lab_core.specs.Labs.{LabState, StandsFor}
+use Rattle.dap_program.specs.Boards.{after}
+
+-- a change by hand of the byte at an address, in the scope Memory (5)
+abbrev pub poke_of : ℕ → ℕ → Event
+poke_of address byte = Poke 5 (upper_word address) (byte_text byte)
+
+-- bytes are written one after the other, the first of them at this address
+abbrev pub written : ℕ → Bytes → Board → Board
+written start [] b = b
+written start (byte ∷ bytes) b = written (start + 1) bytes (after (poke_of start byte) b)
+
+-- some of them are, from the first on
+abbrev pub WritesSome : ℕ → Bytes → Board → LabState → Type 0
+WritesSome start bytes b lab = (k : ℕ) × StandsFor lab (written start (take k bytes) b)

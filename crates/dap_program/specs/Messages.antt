@@ -1,0 +1,34 @@
+-- What goes out (Debug Adapter Protocol, "Base Protocol").
+use Rattle.std.specs.Prelude.{ℕ, List, [], ◌∷◌, map}
+use Rattle.base_text.specs.Bytes.{Text}
+use Rattle.dap_editor.specs.declared.message.EditorEvent.{EditorEvent}
+use Rattle.dap_editor.specs.declared.message.EditorEvent.TheVariants as event
+use Rattle.dap_editor.specs.declared.message.EditorOutcome.{EditorOutcome}
+use Rattle.dap_editor.specs.declared.message.Message.{Message}
+use Rattle.dap_editor.specs.declared.message.Message.TheVariants as message
+use Rattle.dap_program.specs.declared.messages.Caller.{Caller}
+use Rattle.dap_program.specs.declared.messages.Follow.{Follow}
+use Rattle.dap_program.specs.declared.messages.Follow.TheVariants as follow
+
+abbrev pub told : List EditorEvent → List Message
+told events = map (λ e. message.Event e) events
+
+-- the answer to the request of this number and command
+abbrev pub response : Caller → EditorOutcome → Message
+response c outcome =
+    message.Response (record { request_seq = c.seq; command = c.command; outcome = outcome })
+
+-- the answer comes first, and the events that it causes come behind it
+abbrev pub turn_messages : Caller → EditorOutcome → List EditorEvent → List Message
+turn_messages c outcome events = response c outcome ∷ told events
+
+-- A run is over, and with it the program.
+abbrev pub end_events : ℕ → List EditorEvent
+end_events code = event.Exited code ∷ event.Terminated ∷ []
+
+-- what follows an answer
+abbrev pub events_of : Follow → List EditorEvent
+events_of follow.Nothing = []
+events_of follow.Continued = event.Continued ∷ []
+events_of (follow.Stopped reason) = event.Stopped reason ∷ []
+events_of follow.Ended = end_events 1

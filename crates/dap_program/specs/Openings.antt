@@ -1,0 +1,34 @@
+-- What is told of a program that is loaded (Debug Adapter Protocol, `launch` and `restart`).
+use Rattle.std.specs.Prelude.{List, [], ◌∷◌, ◌++◌, Option, Some, None, if◌then◌else◌}
+use Rattle.std.specs.List.{filter_map}
+use Rattle.dap_answers.specs.declared.answer.Body.TheVariants.{Empty}
+use Rattle.dap_editor.specs.declared.message.EditorBody.TheVariants.{Board}
+use Rattle.dap_editor.specs.declared.message.EditorEvent.{EditorEvent}
+use Rattle.dap_editor.specs.declared.message.EditorEvent.TheVariants as event
+use Rattle.dap_editor.specs.declared.message.EditorOutcome.{EditorOutcome}
+use Rattle.dap_editor.specs.declared.message.EditorOutcome.TheVariants.{Success}
+use Rattle.dap_editor.specs.declared.message.PlacedBreakpoint.{PlacedBreakpoint}
+use Rattle.dap_program.specs.declared.messages.Follow.{Follow}
+use Rattle.dap_program.specs.declared.opening.Occasion.{Occasion}
+use Rattle.dap_program.specs.declared.opening.Occasion.TheVariants.{Launch, Restart}
+use Rattle.dap_program.specs.Messages.{events_of}
+
+-- done, with no more to say
+abbrev pub accepted_outcome : EditorOutcome
+accepted_outcome = Success (Board Empty)
+
+-- those that are verified now
+abbrev pub changed : PlacedBreakpoint → Option EditorEvent
+changed p = if p.is_verified then Some (event.Breakpoint p) else None
+
+abbrev pub changed_events : List PlacedBreakpoint → List EditorEvent
+changed_events points = filter_map changed points
+
+-- A launch asks for the configuration; a restart keeps it.
+abbrev pub first_events : Occasion → List EditorEvent
+first_events Launch = event.Initialized ∷ []
+first_events Restart = []
+
+abbrev pub opening_events : Occasion → List PlacedBreakpoint → List PlacedBreakpoint → Follow → List EditorEvent
+opening_events occasion lines labels follow =
+    first_events occasion ++ (changed_events lines ++ (changed_events labels ++ events_of follow))

@@ -1,0 +1,55 @@
+//! Events of a board.
+ghost use Rattle.std.specs.Prelude.{◌≡◌, true, Err, OnOk, OnErr};
+ghost use Rattle.lab_core.specs.Board.{Board};
+ghost use Rattle.lab_core.specs.Events.{Fits};
+ghost use Rattle.lab_core.specs.Labs.{StandsFor};
+ghost use Rattle.dap_program.specs.Boards.{IsSure, after, begun};
+
+use lab_core::answer::Answer;
+use lab_core::event::Event;
+use lab_core::fault::EventFault;
+use lab_core::lab::Lab;
+use std::alloc::AllocError;
+
+fn is_out_of_memory(answer: Result<Answer, EventFault>) -> bool
+    ensures lack { answer ≡ Err EventFault.OutOfMemory → result ≡ true }
+    ensures only { result ≡ true → answer ≡ Err EventFault.OutOfMemory }
+{
+    let is_out = matches!(answer, Err(EventFault::OutOfMemory));
+    drop(answer);
+    is_out
+}
+
+/// Does an event, which a refusal leaves undone.
+pub fn change(lab: &mut Lab, event: Event) -> Result<(), AllocError>
+    requires { Fits event }
+    ensures ok { (b : Board) → StandsFor lab.old b → OnOk result (StandsFor lab.new (after event b)) }
+    ensures err { OnErr result (lab.new ≡ lab.old) }
+{
+    let answer = lab.apply(&event);
+    drop(event);
+    if is_out_of_memory(answer) {
+        return Err(AllocError);
+    }
+    Ok(())
+}
+
+/// Does an event that takes no memory, which a refusal leaves undone.
+pub fn change_surely(lab: &mut Lab, event: Event)
+    requires { IsSure event }
+    ensures { (b : Board) → StandsFor lab.old b → StandsFor lab.new (after event b) }
+{
+    let answer = lab.apply(&event);
+    drop(event);
+    drop(answer);
+}
+
+/// Begins a run at an address. Where it pauses, it is stopped before its first step.
+pub fn begin(lab: &mut Lab, start: u16, pauses: bool)
+    ensures { (b : Board) → StandsFor lab.old b → StandsFor lab.new (begun start pauses b) }
+{
+    change_surely(lab, Event::Start(start));
+    if pauses {
+        change_surely(lab, Event::Pause);
+    }
+}

@@ -1,0 +1,101 @@
+//! What is told of a program that isn't loaded.
+ghost use Rattle.std.specs.Prelude.{◌≡◌, ◌≤◌, ◌+◌, ◌++◌, length, IfOk, codes, option_to_list};
+ghost use Rattle.dap_program.specs.Messages.{turn_messages, told};
+ghost use Rattle.dap_program.specs.Refusals.{assembly_refusal};
+ghost use Rattle.dap_program.specs.Failures.{load_refusal, told_number, load_event};
+
+use crate::load::LoadFault;
+use crate::messages::{Caller, Messages};
+use crate::refusals::{assembly_refusal, board_refusal};
+use asm_syntax::fault::{AsmFault, FaultKind};
+use base_text::sequence::{Bytes, Sequence};
+use base_text::text::Text;
+use dap_editor::message::{EditorEvent, EditorOutcome, Message, OutputCategory, SourcePlace};
+use lab_core::fault::EventFault;
+use std::alloc::{AllocError, Global};
+
+fn load_refusal(alloc: Global, fault: LoadFault) -> Result<Text, AllocError>
+    ensures { IfOk result (λ text. text ≡ load_refusal fault) }
+{
+    match fault {
+        LoadFault::OutOfMemory => Text::copy_of(alloc, "out of memory"),
+        LoadFault::NoStart => Text::copy_of(alloc, "the program has no start: END names none"),
+        LoadFault::Refused(EventFault::Assembly(AsmFault::At { line, column, kind })) => {
+            assembly_refusal(alloc, line, column, kind)
+        }
+        LoadFault::Refused(fault) => Text::copy_of(alloc, board_refusal(fault)),
+    }
+}
+
+fn told_number(number: usize) -> u32
+    ensures { result ≡ told_number number }
+{
+    number.min(4_294_967_295) as u32
+}
+
+// What is wrong with a program's text, as a line of output.
+fn fault_line(
+    alloc: Global,
+    line: usize,
+    column: usize,
+    kind: FaultKind,
+) -> Result<Bytes, AllocError>
+    ensures { IfOk result (λ bytes. bytes ≡ assembly_refusal line column kind ++ codes "\n") }
+{
+    let text = assembly_refusal(alloc, line, column, kind)?;
+    let mut bytes = text.as_str().as_bytes().to_vec(alloc)?;
+    bytes.push(b'\n')?;
+    Ok(Bytes::from(bytes))
+}
+
+fn load_event(
+    path: &Text,
+    alloc: Global,
+    fault: LoadFault,
+) -> Result<Option<EditorEvent>, AllocError>
+    ensures { IfOk result (λ event. event ≡ load_event path.now fault) }
+{
+    let LoadFault::Refused(EventFault::Assembly(AsmFault::At { line, column, kind })) = fault else {
+        return Ok(None);
+    };
+    let path = path.clone()?;
+    let bytes = fault_line(alloc, line, column, kind)?;
+    let place = SourcePlace {
+        path,
+        line: told_number(line),
+        column: told_number(column),
+    };
+    Ok(Some(EditorEvent::Output {
+        category: OutputCategory::Stderr,
+        bytes,
+        place: Some(place),
+    }))
+}
+
+fn push_some(messages: &mut Messages, event: Option<EditorEvent>)
+    requires { length messages.old + 1 ≤ 8 }
+    ensures { messages.new ≡ messages.old ++ told (option_to_list event) }
+{
+    match event {
+        None => {}
+        Some(event) => messages.push_event(event),
+    }
+}
+
+/// What is told of a launch or a restart of the program at this path that fails.
+pub fn failure(
+    alloc: Global,
+    caller: Caller,
+    path: &Text,
+    fault: LoadFault,
+) -> Result<Sequence<Message>, AllocError>
+    ensures { IfOk result (λ messages. messages
+        ≡ turn_messages caller (EditorOutcome.Refused (load_refusal fault)) (option_to_list (load_event path.now fault))) }
+{
+    let mut messages = Messages::new(alloc)?;
+    let text = load_refusal(alloc, fault)?;
+    let event = load_event(path, alloc, fault)?;
+    messages.push_response(caller, EditorOutcome::Refused(text));
+    push_some(&mut messages, event);
+    Ok(messages.into_sequence())
+}

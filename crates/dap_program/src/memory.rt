@@ -1,0 +1,55 @@
+//! Bytes that a debugger writes.
+ghost use Rattle.std.specs.Prelude.{◌≡◌, ◌≤◌, ◌+◌, length, IfOk, OnOk, OnErr};
+ghost use Rattle.lab_core.specs.Board.{Board};
+ghost use Rattle.lab_core.specs.Labs.{StandsFor};
+ghost use Rattle.dap_program.specs.Boards.{after};
+ghost use Rattle.dap_program.specs.Memory.{poke_of, written, WritesSome};
+
+use crate::change::change;
+use base_text::hexadecimal::push_word;
+use base_text::text::Text;
+use i80_dis::numeral::push_byte;
+use lab_core::event::Event;
+use lab_core::lab::Lab;
+use std::alloc::{AllocError, Global};
+
+/// The scope that shows memory.
+const MEMORY: u32 = 5;
+
+fn poke_of(alloc: Global, address: u16, byte: u8) -> Result<Event, AllocError>
+    ensures { IfOk result (λ event. event ≡ poke_of address byte) }
+{
+    let mut name = String::new(alloc);
+    push_word(&mut name, address)?;
+    let mut value = String::new(alloc);
+    push_byte(&mut value, byte)?;
+    Ok(Event::Poke {
+        reference: MEMORY,
+        name: Text::from(name),
+        value: Text::from(value),
+    })
+}
+
+fn write_byte(alloc: Global, lab: &mut Lab, address: u16, byte: u8) -> Result<(), AllocError>
+    ensures ok { (b : Board) → StandsFor lab.old b
+        → OnOk result (StandsFor lab.new (after (poke_of address byte) b)) }
+    ensures err { OnErr result (lab.new ≡ lab.old) }
+{
+    let event = poke_of(alloc, address, byte)?;
+    change(lab, event)
+}
+
+/// Writes bytes from an address on, one after the other, as changes by hand of a stopped run's memory. Each takes
+/// memory: where that is wanting, those before it stay written.
+pub fn write_bytes(alloc: Global, lab: &mut Lab, start: u16, bytes: &[u8]) -> Result<(), AllocError>
+    requires { start + length bytes.now ≤ 65536 }
+    ensures ok { (b : Board) → StandsFor lab.old b → OnOk result (StandsFor lab.new (written start bytes.now b)) }
+    ensures err { (b : Board) → StandsFor lab.old b → OnErr result (WritesSome start bytes.now b lab.new) }
+{
+    let mut address = u32::from(start);
+    for byte in bytes {
+        write_byte(alloc, lab, address as u16, *byte)?;
+        address += 1;
+    }
+    Ok(())
+}

@@ -1,0 +1,130 @@
+//! What goes out.
+ghost use Rattle.std.specs.Prelude.{◌≡◌, ◌≤◌, ◌+◌, ◌++◌, ◌∷◌, [], length, IfOk};
+ghost use Rattle.dap_program.specs.Messages.{told, response, turn_messages, end_events, events_of};
+
+use base_text::sequence::Sequence;
+use base_text::text::Text;
+use dap_editor::message::{EditorEvent, EditorOutcome, EditorResponse, EditorStop, Message};
+use std::alloc::{AllocError, Global};
+use std::marker::Model;
+
+/// The most messages for which room is made at once.
+pub const MOST_MESSAGES: usize = 8;
+
+/// Who is answered: the number and the command of a request.
+#[derive(Drop)]
+pub struct Caller {
+    pub seq: u32,
+    pub command: Text,
+}
+
+/// What an editor is told behind the answer to a request.
+#[derive(Clone, Copy)]
+pub enum Follow {
+    Nothing,
+    /// That the run goes on.
+    Continued,
+    /// That it is stopped.
+    Stopped(EditorStop),
+    /// That the program was ended.
+    Ended,
+}
+
+/// At most eight messages, with room for all, seen as the list of them.
+pub struct Messages {
+    messages: Vec<Message>,
+}
+
+// One function for all places where messages are dropped.
+impl Drop for Messages {
+    fn drop(self) {
+        let Self { messages: _ } = self;
+    }
+}
+
+impl Model for Messages {
+    ghost use Rattle.std.specs.Prelude.{◌≤◌, length, vec_capacity, List};
+    ghost use Rattle.dap_editor.specs.declared.message.Message.{Message};
+
+    ghost Value = { List Message };
+
+    ghost view = { λ m. m.messages.items };
+
+    ghost invariant = { λ m. (length m.messages.items ≤ 8) × (8 ≤ vec_capacity m.messages) };
+}
+
+impl Messages {
+    /// None, with room for eight.
+    pub fn new(alloc: Global) -> Result<Messages, AllocError>
+        ensures { IfOk result (λ messages. messages ≡ []) }
+    {
+        let messages = Vec::with_capacity(alloc, MOST_MESSAGES)?;
+        Ok(Messages { messages })
+    }
+
+    /// Adds the answer to a request, without allocating.
+    pub fn push_response(&mut self, caller: Caller, outcome: EditorOutcome)
+        requires { length self.old + 1 ≤ 8 }
+        ensures { self.new ≡ self.old ++ response caller outcome ∷ [] }
+    {
+        let Caller { seq, command } = caller;
+        self.messages.push_reserved(Message::Response(EditorResponse {
+            request_seq: seq,
+            command,
+            outcome,
+        }));
+    }
+
+    /// Adds an event, without allocating.
+    pub fn push_event(&mut self, event: EditorEvent)
+        requires { length self.old + 1 ≤ 8 }
+        ensures { self.new ≡ self.old ++ told (event ∷ []) }
+    {
+        self.messages.push_reserved(Message::Event(event));
+    }
+
+    /// Adds what tells that the program is over, without allocating.
+    pub fn push_end(&mut self, code: u8)
+        requires { length self.old + 2 ≤ 8 }
+        ensures { self.new ≡ self.old ++ told (end_events code) }
+    {
+        self.push_event(EditorEvent::Exited { code });
+        self.push_event(EditorEvent::Terminated);
+    }
+
+    /// Adds what follows an answer, without allocating.
+    pub fn push_follow(&mut self, follow: Follow)
+        requires { length self.old + 2 ≤ 8 }
+        ensures { self.new ≡ self.old ++ told (events_of follow) }
+    {
+        match follow {
+            Follow::Nothing => {}
+            Follow::Continued => self.push_event(EditorEvent::Continued),
+            Follow::Stopped(reason) => self.push_event(EditorEvent::Stopped(reason)),
+            Follow::Ended => self.push_end(1),
+        }
+    }
+
+    /// The answer to a request and what follows it, in the room of these messages.
+    pub fn turn(
+        mut self,
+        caller: Caller,
+        outcome: EditorOutcome,
+        follow: Follow,
+    ) -> Sequence<Message>
+        requires { self ≡ [] }
+        ensures { result ≡ turn_messages caller outcome (events_of follow) }
+    {
+        self.push_response(caller, outcome);
+        self.push_follow(follow);
+        self.into_sequence()
+    }
+
+    /// The messages, without allocating.
+    pub fn into_sequence(self) -> Sequence<Message>
+        ensures { result ≡ self }
+    {
+        let Messages { messages } = self;
+        Sequence::from(messages)
+    }
+}

@@ -1,0 +1,118 @@
+//! What is told of a program that is loaded.
+ghost use Rattle.std.specs.Prelude.{◌≡◌, ◌++◌, ◌∷◌, [], OnOk, IfOk};
+ghost use Rattle.dap_program.specs.Messages.{turn_messages, told, response, events_of};
+ghost use Rattle.dap_program.specs.Openings.{accepted_outcome, changed_events, first_events, opening_events};
+
+use crate::messages::{Caller, Follow};
+use base_text::sequence::Sequence;
+use dap_answers::answer::Body;
+use dap_editor::message::{
+    EditorBody, EditorEvent, EditorOutcome, EditorResponse, Message, PlacedBreakpoint,
+};
+use std::alloc::{AllocError, Global};
+
+/// Why a program is loaded.
+#[derive(Clone, Copy)]
+pub enum Occasion {
+    Launch,
+    Restart,
+}
+
+fn push_message(messages: &mut Sequence<Message>, event: EditorEvent) -> Result<(), AllocError>
+    ensures { OnOk result (messages.new ≡ messages.old ++ told (event ∷ [])) }
+{
+    messages.push(Message::Event(event))
+}
+
+// Adds an event where a breakpoint is verified.
+fn push_changed(
+    messages: &mut Sequence<Message>,
+    point: &PlacedBreakpoint,
+) -> Result<(), AllocError>
+    ensures { OnOk result (messages.new ≡ messages.old ++ told (changed_events (point.now ∷ []))) }
+{
+    if !point.is_verified {
+        return Ok(());
+    }
+    push_message(
+        messages,
+        EditorEvent::Breakpoint(PlacedBreakpoint {
+            id: point.id,
+            line: point.line,
+            is_verified: point.is_verified,
+        }),
+    )
+}
+
+fn push_all_changed(
+    messages: &mut Sequence<Message>,
+    points: &[PlacedBreakpoint],
+) -> Result<(), AllocError>
+    ensures { OnOk result (messages.new ≡ messages.old ++ told (changed_events points.now)) }
+{
+    let mut left = points;
+    while let Some((point, later)) = left.split_first() {
+        push_changed(messages, point)?;
+        left = later;
+    }
+    Ok(())
+}
+
+fn push_first(messages: &mut Sequence<Message>, occasion: Occasion) -> Result<(), AllocError>
+    ensures { OnOk result (messages.new ≡ messages.old ++ told (first_events occasion)) }
+{
+    match occasion {
+        Occasion::Launch => push_message(messages, EditorEvent::Initialized),
+        Occasion::Restart => Ok(()),
+    }
+}
+
+// Of what follows a launch only a stop is told.
+fn push_stop(messages: &mut Sequence<Message>, follow: Follow) -> Result<(), AllocError>
+    ensures { OnOk result (messages.new ≡ messages.old ++ told (events_of follow)) }
+{
+    match follow {
+        Follow::Nothing => Ok(()),
+        Follow::Continued => push_message(messages, EditorEvent::Continued),
+        Follow::Stopped(reason) => push_message(messages, EditorEvent::Stopped(reason)),
+        Follow::Ended => {
+            push_message(messages, EditorEvent::Exited { code: 1 })?;
+            push_message(messages, EditorEvent::Terminated)
+        }
+    }
+}
+
+// The answer to a launch or a restart.
+fn accepted(caller: Caller) -> Message
+    ensures { result ≡ response caller (EditorOutcome.Success (EditorBody.Board Body.Empty)) }
+{
+    let Caller { seq, command } = caller;
+    Message::Response(EditorResponse {
+        request_seq: seq,
+        command,
+        outcome: EditorOutcome::Success(EditorBody::Board(Body::Empty)),
+    })
+}
+
+/// What is told of a launch or a restart: the answer, then `initialized` where it asks for the configuration, then the
+/// breakpoints that are verified now, and what follows.
+pub fn opening_messages(
+    alloc: Global,
+    caller: Caller,
+    occasion: Occasion,
+    lines: &[PlacedBreakpoint],
+    labels: &[PlacedBreakpoint],
+    follow: Follow,
+) -> Result<Sequence<Message>, AllocError>
+    ensures { IfOk result (λ messages. messages
+        ≡ turn_messages caller accepted_outcome
+        (opening_events occasion lines.now labels.now follow)) }
+{
+    let mut messages = Sequence::new(alloc);
+    messages.push(accepted(caller))?;
+    push_first(&mut messages, occasion)?;
+    push_all_changed(&mut messages, lines)?;
+    push_all_changed(&mut messages, labels)?;
+    push_stop(&mut messages, follow)?;
+    Ok(messages)
+}

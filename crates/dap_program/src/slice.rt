@@ -1,0 +1,305 @@
+//! Slices of a run.
+ghost use Rattle.std.specs.Prelude.{◌≡◌, ◌<◌, ◌≤◌, ◌+◌, ◌++◌, [], length, IfOk, OnErr};
+ghost use Rattle.std.specs.Prelude.{◌∷◌, vec_capacity, vec_len, codes};
+ghost use Rattle.std.specs.List.{filter_map, list_any};
+ghost use Rattle.base_text.specs.Hexadecimal.{upper_digit, upper_byte};
+ghost use Rattle.lab_core.specs.declared.run_state.RunState.TheVariants.{Running};
+ghost use Rattle.lab_core.specs.Board.{Board};
+ghost use Rattle.lab_core.specs.Slices.{traffic_of, after_steps, left_by};
+ghost use Rattle.lab_core.specs.Labs.{StandsFor};
+ghost use Rattle.dap_program.specs.Boards.{Stands};
+ghost use Rattle.dap_program.specs.Messages.{told};
+ghost use Rattle.dap_program.specs.Slices as slices;
+ghost use Rattle.dap_program.specs.Slices.{printed, console_events, line_question, line_events, run_end_events};
+ghost use Rattle.dap_program.specs.Slices.{undefined_line, outcome_events, slice_events, slice_end, IsSliceOf};
+ghost use Rattle.dap_program.specs.Kits.{IsSliceKit};
+
+use crate::messages::Messages;
+use base_text::sequence::{Bytes, Sequence};
+use dap_answers::answer::StopReason;
+use dap_editor::message::{EditorEvent, EditorStop, Message, OutputCategory};
+use i80_devs::traffic::Traffic;
+use i80_exec::ports::PortOperation;
+use lab_core::answer::{Answer, End, SliceOutcome, Stop};
+use lab_core::event::Event;
+use lab_core::lab::Lab;
+use std::alloc::{AllocError, Global};
+
+/// The steps of a slice, at most.
+pub const STEPS: u16 = 4096;
+
+/// What an editor is told of a slice, and how it ended.
+#[derive(Drop)]
+pub struct Slice {
+    pub messages: Sequence<Message>,
+    pub outcome: SliceOutcome,
+}
+
+/// All that a slice may tell, made before its first step.
+pub struct SliceKit {
+    pub messages: Messages,
+    /// Room for what is written to the console.
+    pub console: Vec<u8>,
+    pub question: Bytes,
+    /// The beginning of what is said of an undefined opcode, with room for the rest.
+    pub opcode: Vec<u8>,
+}
+
+// One function for all places where a kit is dropped.
+impl Drop for SliceKit {
+    fn drop(self) {
+        let Self {
+            messages: _,
+            console: _,
+            question: _,
+            opcode: _,
+        } = self;
+    }
+}
+
+/// How many bytes are said of an undefined opcode.
+const OPCODE_LINE: usize = 28;
+
+fn slice_kit(alloc: Global) -> Result<SliceKit, AllocError>
+    ensures { IfOk result IsSliceKit }
+{
+    let messages = Messages::new(alloc)?;
+    let console = Vec::with_capacity(alloc, STEPS.into())?;
+    let question = Bytes::copy_of(alloc, b"the program asks for a line: evaluate  type TEXT\n")?;
+    let mut opcode = Vec::with_capacity(alloc, OPCODE_LINE)?;
+    opcode.extend_from_slice(b"UndefinedOpcode: ")?;
+    Ok(SliceKit {
+        messages,
+        console,
+        question,
+        opcode,
+    })
+}
+
+// ---- what the program writes
+
+fn push_printed(console: &mut Vec<u8>, operation: &PortOperation)
+    requires { vec_len console.old < vec_capacity console.old }
+    ensures items { console.new.items ≡ console.old.items ++ filter_map printed (operation.now ∷ []) }
+    ensures capacity { vec_capacity console.new ≡ vec_capacity console.old }
+    ensures len { vec_len console.new ≤ vec_len console.old + 1 }
+{
+    match operation {
+        PortOperation::Out { port: 1, byte } => console.push_reserved(*byte),
+        _ => {}
+    }
+}
+
+fn print_all(mut console: Vec<u8>, traffic: &[PortOperation]) -> Vec<u8>
+    requires empty { console.items ≡ [] }
+    requires room { length traffic.now ≤ vec_capacity console }
+    ensures { result.items ≡ filter_map printed traffic.now }
+{
+    for operation in traffic {
+        push_printed(&mut console, operation);
+    }
+    console
+}
+
+fn asks_for_line(operation: &PortOperation) -> bool
+    ensures { result ≡ slices.asks_for_line operation.now }
+{
+    matches!(operation, PortOperation::Out { port: 3, .. })
+}
+
+fn is_line_asked(traffic: &[PortOperation]) -> bool
+    ensures { result ≡ list_any slices.asks_for_line traffic.now }
+{
+    traffic.iter().any(asks_for_line)
+}
+
+fn output(category: OutputCategory, bytes: Bytes) -> EditorEvent
+    ensures { result ≡ slices.output category bytes }
+{
+    EditorEvent::Output {
+        category,
+        bytes,
+        place: None,
+    }
+}
+
+fn push_console(messages: &mut Messages, console: Vec<u8>)
+    requires { length messages.old + 1 ≤ 8 }
+    ensures said { messages.new ≡ messages.old ++ told (console_events console.items) }
+    ensures few { length messages.new ≤ length messages.old + 1 }
+{
+    if console.is_empty() {
+        return;
+    }
+    messages.push_event(output(OutputCategory::Stdout, Bytes::from(console)));
+}
+
+fn push_line(messages: &mut Messages, question: Bytes, is_asked: bool)
+    requires room { length messages.old + 1 ≤ 8 }
+    requires question { question ≡ line_question }
+    ensures said { messages.new ≡ messages.old ++ told (line_events is_asked) }
+    ensures few { length messages.new ≤ length messages.old + 1 }
+{
+    if is_asked {
+        messages.push_event(output(OutputCategory::Console, question));
+    }
+}
+
+// ---- how the slice ends
+
+fn upper_digit(digit: u8) -> u8
+    requires { digit < 16 }
+    ensures { result ≡ upper_digit digit }
+{
+    if digit < 10 { 48 + digit } else { 55 + digit }
+}
+
+// Adds a byte as two digits, without allocating.
+fn push_byte(text: &mut Vec<u8>, byte: u8)
+    requires { vec_len text.old + 2 ≤ vec_capacity text.old }
+    ensures items { text.new.items ≡ text.old.items ++ upper_byte byte }
+    ensures len { vec_len text.new ≡ vec_len text.old + 2 }
+    ensures capacity { vec_capacity text.new ≡ vec_capacity text.old }
+{
+    text.push_reserved(upper_digit(byte / 16));
+    text.push_reserved(upper_digit(byte % 16));
+}
+
+// Adds ` at `, without allocating.
+fn push_at(text: &mut Vec<u8>)
+    requires { vec_len text.old + 4 ≤ vec_capacity text.old }
+    ensures items { text.new.items ≡ text.old.items ++ codes " at " }
+    ensures len { vec_len text.new ≡ vec_len text.old + 4 }
+    ensures capacity { vec_capacity text.new ≡ vec_capacity text.old }
+{
+    text.push_reserved(b' ');
+    text.push_reserved(b'a');
+    text.push_reserved(b't');
+    text.push_reserved(b' ');
+}
+
+// What is said of an undefined opcode, in the room of its beginning.
+fn undefined_line(mut text: Vec<u8>, opcode: u8, pc: u16) -> Bytes
+    requires begun { text.items ≡ codes "UndefinedOpcode: " }
+    requires room { 28 ≤ vec_capacity text }
+    ensures { result ≡ undefined_line opcode pc }
+{
+    push_byte(&mut text, opcode);
+    push_at(&mut text);
+    push_byte(&mut text, (pc / 256) as u8);
+    push_byte(&mut text, (pc % 256) as u8);
+    text.push_reserved(b'\n');
+    Bytes::from(text)
+}
+
+fn reason_of(stop: Stop) -> StopReason
+    ensures { result ≡ slices.reason_of stop }
+{
+    match stop {
+        Stop::Breakpoint => StopReason::Breakpoint,
+        Stop::Step => StopReason::Step,
+    }
+}
+
+fn push_run_end(messages: &mut Messages, text: Vec<u8>, end: End)
+    requires few { length messages.old + 3 ≤ 8 }
+    requires begun { text.items ≡ codes "UndefinedOpcode: " }
+    requires room { 28 ≤ vec_capacity text }
+    ensures { messages.new ≡ messages.old ++ told (run_end_events end) }
+{
+    match end {
+        End::Halted => {
+            drop(text);
+            messages.push_end(0);
+        }
+        End::Undefined { opcode, pc } => {
+            let line = undefined_line(text, opcode, pc);
+            messages.push_event(output(OutputCategory::Stderr, line));
+            messages.push_end(1);
+        }
+    }
+}
+
+fn push_outcome(messages: &mut Messages, text: Vec<u8>, outcome: SliceOutcome)
+    requires few { length messages.old + 3 ≤ 8 }
+    requires begun { text.items ≡ codes "UndefinedOpcode: " }
+    requires room { 28 ≤ vec_capacity text }
+    ensures { messages.new ≡ messages.old ++ told (outcome_events outcome) }
+{
+    match outcome {
+        SliceOutcome::More | SliceOutcome::Waiting => drop(text),
+        SliceOutcome::Stop(stop) => {
+            drop(text);
+            let reason = EditorStop::Board(reason_of(stop));
+            messages.push_event(EditorEvent::Stopped(reason));
+        }
+        SliceOutcome::End(end) => push_run_end(messages, text, end),
+    }
+}
+
+impl SliceKit {
+    // What is told of a slice with these port operations that ended so.
+    fn tell(self, traffic: &[PortOperation], outcome: SliceOutcome) -> Sequence<Message>
+        requires kit { IsSliceKit self }
+        requires few { length traffic.now ≤ 4096 }
+        ensures { result ≡ told (slice_events traffic.now outcome) }
+    {
+        let SliceKit {
+            mut messages,
+            console,
+            question,
+            opcode,
+        } = self;
+        let console = print_all(console, traffic);
+        push_console(&mut messages, console);
+        push_line(&mut messages, question, is_line_asked(traffic));
+        push_outcome(&mut messages, opcode, outcome);
+        messages.into_sequence()
+    }
+}
+
+// ---- the slice
+
+// The port operations of a slice's steps, and how it ended.
+fn steps(lab: &mut Lab) -> Result<(Traffic, SliceOutcome), AllocError>
+    ensures made { (b : Board) → StandsFor lab.old b → b.run ≡ Running → IfOk result (λ made.
+        (made.0 ≡ traffic_of (slice_end b).0 b) × ((made.1 ≡ (slice_end b).1)
+        × StandsFor lab.new (left_by (slice_end b).1 (after_steps (slice_end b).0 b)))) }
+    ensures few { (b : Board) → StandsFor lab.old b → IfOk result (λ made. length made.0 ≤ 4096) }
+    ensures err { (b : Board) → StandsFor lab.old b → OnErr result (lab.new ≡ lab.old) }
+{
+    match lab.apply(&Event::Slice(STEPS)) {
+        Ok(
+            Answer::Sliced {
+                traffic,
+                outcome,
+                ..
+            },
+        ) => Ok((traffic, outcome)),
+        other => {
+            drop(other);
+            Err(AllocError)
+        }
+    }
+}
+
+/// At most 4,096 steps of the run on a board, and what is told of them. Where there is no run that goes on, that is
+/// answered as out of memory is. Both leave the board as it was.
+pub fn make_slice(alloc: Global, lab: &mut Lab) -> Result<Slice, AllocError>
+    requires { Stands lab.old }
+    ensures made { (b : Board) → StandsFor lab.old b → b.run ≡ Running
+        → IfOk result (λ slice. IsSliceOf b slice lab.new) }
+    ensures err { OnErr result (lab.new ≡ lab.old) }
+{
+    let kit = slice_kit(alloc)?;
+    match steps(lab) {
+        Ok((traffic, outcome)) => {
+            let messages = kit.tell(traffic.as_slice(), outcome);
+            Ok(Slice { messages, outcome })
+        }
+        Err(_) => {
+            drop(kit);
+            Err(AllocError)
+        }
+    }
+}

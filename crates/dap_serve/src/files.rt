@@ -1,0 +1,53 @@
+//! The files of programs.
+use base_streams::std_io::StdInlet;
+use cli_io::reading::read_all;
+use cli_io::status::Status;
+use dap_debugger::incoming::ProgramFiles;
+use dap_debugger::launch_text::{TEXT_SIZE, text_of};
+use dap_session::file::FileText;
+use std::alloc::{AllocError, Global};
+use std::io::{ErrorKind, Read};
+use std::rt::Files;
+use std::{fs, io};
+
+/// The files of the system.
+#[derive(Drop)]
+pub struct HostFiles<'a, R> {
+    pub rt: &'a R,
+}
+
+// The text of an open file, of which no more is read than shows that it is too long.
+fn read_open<F: Read + Drop>(alloc: Global, file: F) -> Result<FileText, AllocError> {
+    let most = TEXT_SIZE as u64 + 1;
+    match read_all(alloc, &mut StdInlet::new(file.take(most))) {
+        Ok(bytes) => Ok(text_of(bytes)),
+        Err(Status::OutOfMemory) => Err(AllocError),
+        Err(_) => Ok(FileText::Unreadable),
+    }
+}
+
+// What an error says of a file.
+fn missing(error: io::Error) -> Result<FileText, AllocError> {
+    let kind = error.kind();
+    drop(error);
+    match kind {
+        ErrorKind::OutOfMemory => Err(AllocError),
+        ErrorKind::NotFound => Ok(FileText::Missing),
+        _ => Ok(FileText::Unreadable),
+    }
+}
+
+impl<'a, R: Files> ProgramFiles for HostFiles<'a, R> {
+    // What is no file, as a folder or a pipe, isn't read: a pipe might keep the debugger waiting.
+    fn read(&self, alloc: Global, path: &str) -> Result<FileText, AllocError> {
+        match fs::metadata(self.rt, path) {
+            Ok(metadata) if !metadata.is_file() => return Ok(FileText::Unreadable),
+            Ok(_) => {}
+            Err(error) => return missing(error),
+        }
+        match fs::open(self.rt, path) {
+            Ok(file) => read_open(alloc, file),
+            Err(error) => missing(error),
+        }
+    }
+}

@@ -1,0 +1,137 @@
+//! Where bodies wait for an answer.
+use base_text::sequence::Bytes;
+use dap_debugger::incoming::{BodySource, Incoming, StreamEnd};
+use std::alloc::{AllocError, Global};
+use std::collections::VecDeque;
+use std::sync::{Condvar, Mutex, Wait};
+
+// So many bodies wait at most.
+const ROOM: usize = 64;
+
+// What waits.
+#[derive(Drop)]
+struct Waiting {
+    bodies: VecDeque<Bytes>,
+    // Why no more come.
+    end: Option<StreamEnd>,
+    // Whether nobody takes any more.
+    is_closed: bool,
+}
+
+/// Bodies in the order in which they came, for one thread that puts them and one that takes them.
+#[derive(Drop)]
+pub struct Inbox {
+    waiting: Mutex<Waiting>,
+    filled: Condvar,
+    emptied: Condvar,
+}
+
+fn begin(alloc: Global) -> Result<VecDeque<Bytes>, AllocError> {
+    let mut bodies = VecDeque::new(alloc);
+    bodies.reserve(ROOM)?;
+    Ok(bodies)
+}
+
+impl Inbox {
+    /// An inbox with nothing in it.
+    pub fn new(alloc: Global) -> Result<Inbox, AllocError> {
+        let bodies = begin(alloc)?;
+        Ok(Inbox {
+            waiting: Mutex::new(Waiting {
+                bodies,
+                end: None,
+                is_closed: false,
+            }),
+            filled: Condvar::new(),
+            emptied: Condvar::new(),
+        })
+    }
+
+    /// Puts a body, once there is room. Whether it is taken in: not where nobody takes any more.
+    pub fn put<R: Wait>(&self, rt: &R, body: Bytes) -> Result<bool, AllocError> {
+        let mut waiting = self
+            .emptied
+            .wait_while(rt, self.waiting.lock(rt), |waiting| {
+                waiting.bodies.len() >= ROOM && !waiting.is_closed
+            });
+        if waiting.is_closed {
+            drop(waiting);
+            drop(body);
+            return Ok(false);
+        }
+        let put = waiting.bodies.push_back(body);
+        drop(waiting);
+        self.filled.notify_one();
+        put?;
+        Ok(true)
+    }
+
+    /// No more bodies come.
+    pub fn finish<R: Wait>(&self, rt: &R, end: StreamEnd) {
+        let mut waiting = self.waiting.lock(rt);
+        waiting.end = Some(end);
+        drop(waiting);
+        self.filled.notify_one();
+    }
+
+    /// Nobody takes any more.
+    pub fn close<R: Wait>(&self, rt: &R) {
+        let mut waiting = self.waiting.lock(rt);
+        waiting.is_closed = true;
+        drop(waiting);
+        self.emptied.notify_one();
+    }
+
+    // The body that came first, or why no more come; waits for either.
+    fn next<R: Wait>(&self, rt: &R) -> Incoming {
+        let mut waiting = self
+            .filled
+            .wait_while(rt, self.waiting.lock(rt), |waiting| {
+                waiting.bodies.is_empty() && waiting.end.is_none()
+            });
+        let incoming = take_first(&mut waiting);
+        drop(waiting);
+        self.emptied.notify_one();
+        incoming
+    }
+
+    // The same without waiting.
+    fn next_if_there<R: Wait>(&self, rt: &R) -> Incoming {
+        let mut waiting = self.waiting.lock(rt);
+        let incoming = take_first(&mut waiting);
+        drop(waiting);
+        self.emptied.notify_one();
+        incoming
+    }
+}
+
+fn take_first(waiting: &mut Waiting) -> Incoming {
+    match waiting.bodies.pop_front() {
+        Some(body) => Incoming::Body(body),
+        None => match waiting.end {
+            Some(end) => Incoming::End(end),
+            None => Incoming::Nothing,
+        },
+    }
+}
+
+/// The side of an inbox that takes.
+#[derive(Drop)]
+pub struct Taker<'a, R: Wait> {
+    pub rt: &'a R,
+    pub inbox: &'a Inbox,
+}
+
+impl<'a, R: Wait> BodySource for Taker<'a, R> {
+    ghost use Rattle.std.specs.Prelude.{None};
+
+    ghost given = { λ _. None };
+
+    fn next(&mut self, is_running: bool) -> Incoming {
+        if is_running {
+            self.inbox.next_if_there(self.rt)
+        } else {
+            self.inbox.next(self.rt)
+        }
+    }
+}

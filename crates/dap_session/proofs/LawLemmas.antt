@@ -1,0 +1,250 @@
+-- What goes out, of whom and of what.
+use Rattle.std.proofs.Common.{◌≡◌, ◌∙◌, ℕ, List, [], ◌∷◌, ◌++◌, Bool, true, false, Option, Some, None, Result}
+use Rattle.std.proofs.Common.{Ok, Err, refl, sym, ap, inl, inr}
+use Rattle.std.proofs.lemmas.Bool.{cases_Bool}
+use Rattle.std.proofs.lemmas.Grind.{flat_map-append}
+use Rattle.std.proofs.lemmas.List.Elements.{filter_map-append}
+use Rattle.std.specs.Prelude.{option_to_list}
+use Rattle.std.specs.List.{filter_map, flat_map}
+use Rattle.base_text.specs.Bytes.{Bytes, Text}
+use Rattle.asm_syntax.specs.declared.fault.AsmFault.TheVariants as asm
+use Rattle.lab_core.specs.declared.answer.End.{End}
+use Rattle.lab_core.specs.declared.answer.End.TheVariants as end
+use Rattle.lab_core.specs.declared.answer.SliceOutcome.{SliceOutcome}
+use Rattle.lab_core.specs.declared.answer.SliceOutcome.TheVariants as outcome
+use Rattle.lab_core.specs.declared.fault.EventFault.{EventFault}
+use Rattle.lab_core.specs.declared.fault.EventFault.TheVariants as refused
+use Rattle.lab_core.specs.Board.{Board}
+use Rattle.lab_core.specs.Slices.{traffic_of}
+use Rattle.dap_editor.specs.declared.message.EditorEvent.{EditorEvent}
+use Rattle.dap_editor.specs.declared.message.Message.{Message}
+use Rattle.dap_editor.specs.declared.message.PlacedBreakpoint.{PlacedBreakpoint}
+use Rattle.dap_editor.specs.declared.request.Asked.{Asked}
+use Rattle.dap_editor.specs.declared.request.Asked.TheVariants as asked
+use Rattle.dap_editor.specs.declared.request.EditorCommand.TheVariants as editor
+use Rattle.dap_editor.specs.declared.request.EvaluateContext.TheVariants as context
+use Rattle.dap_editor.specs.declared.request.Launch.{Launch as LaunchOf}
+use Rattle.dap_inspect.specs.declared.fault.EvaluateFault.{EvaluateFault}
+use Rattle.dap_inspect.specs.Expressions.{evaluated}
+use Rattle.dap_program.specs.declared.load.LoadFault.{LoadFault}
+use Rattle.dap_program.specs.declared.load.LoadFault.TheVariants as fault
+use Rattle.dap_program.specs.declared.messages.Follow.{Follow}
+use Rattle.dap_program.specs.declared.messages.Follow.TheVariants as follow
+use Rattle.dap_program.specs.declared.opening.Occasion.{Occasion}
+use Rattle.dap_program.specs.declared.opening.Occasion.TheVariants.{Launch, Restart}
+use Rattle.dap_program.specs.Failures.{load_event}
+use Rattle.dap_program.specs.Loading.{loaded}
+use Rattle.dap_program.specs.Openings.{changed_events, first_events, opening_events}
+use Rattle.dap_program.specs.Messages.{told, end_events, events_of}
+use Rattle.dap_program.specs.Slices.{slice_end, slice_events, console_events, line_events, outcome_events, printed}
+use Rattle.dap_program.specs.Slices.{run_end_events, asks_for_line}
+use Rattle.dap_program.proofs.SliceLemmas.{told-append}
+use Rattle.dap_session.specs.declared.file.FileText.{FileText}
+use Rattle.dap_session.specs.declared.settings.Program.{Program}
+use Rattle.dap_session.specs.States.{SessionState, wants_slice}
+use Rattle.dap_session.specs.Turns.{Turn}
+use Rattle.dap_session.specs.Evaluations.{value_told}
+use Rattle.dap_session.specs.Memory.{writing}
+use Rattle.dap_session.specs.Launches.{text_in}
+use Rattle.dap_session.specs.Launches.{program_of, program_lines, program_labels, started_follow}
+use Rattle.dap_session.specs.Launches.{by_text, loading, loading_as, launching_over, restarting_of}
+use Rattle.dap_session.specs.Requests.{objection, asking, asking_unless, and_tried, replying, turn}
+use Rattle.dap_session.specs.Slices.{Input, request, slice, Told, caller_of, slicing, sliced, step, played}
+use Rattle.dap_session.specs.Laws.{caller_in, callers_answered, request_in, callers_asking, stdout_in, console_of}
+use Rattle.dap_session.specs.Laws.{written_in, written_by, all_written}
+
+-- ---- responses
+
+callers_answered-told : (es : List EditorEvent) → callers_answered (told es) ≡ []
+callers_answered-told [] = refl
+callers_answered-told (e ∷ es) = callers_answered-told es
+
+answered_slicing : (p : ℕ × SliceOutcome) (s : SessionState) → callers_answered (slicing p s).messages ≡ []
+answered_slicing (k, ending) s = callers_answered-told (slice_events (traffic_of k s.board) ending)
+
+answered_sliced : (s : SessionState) → callers_answered (sliced s).messages ≡ []
+unfolding sliced
+answered_sliced s = elim (cases_Bool (wants_slice s)) [
+  | inl so ↦ rw so (answered_slicing (slice_end s.board) s)
+  | inr other ↦ rw other refl
+]
+
+answered_step : (input : Input) (s : SessionState)
+    → callers_answered (step input s).messages ≡ callers_asking (input ∷ [])
+answered_step (request r found) s =
+    ap (λ rest. caller_of r ∷ rest) (callers_answered-told (turn r.asked found s).events)
+answered_step slice s = answered_sliced s
+
+pub answered_played : (inputs : List Input) (s : SessionState)
+    → callers_answered (played inputs s).messages ≡ callers_asking inputs
+answered_played [] s = refl
+answered_played (input ∷ inputs) s =
+    let first = step input s in
+    filter_map-append caller_in first.messages (played inputs first.state).messages
+    ∙ (ap (λ xs. xs ++ callers_answered (played inputs first.state).messages) (answered_step input s)
+    ∙ (ap (λ xs. callers_asking (input ∷ []) ++ xs) (answered_played inputs first.state)
+    ∙ sym (filter_map-append request_in (input ∷ []) inputs)))
+
+-- ---- the console
+
+abbrev shown : List EditorEvent → Bytes
+shown es = console_of (told es)
+
+shown-append : (first second : List EditorEvent) → shown (first ++ second) ≡ shown first ++ shown second
+shown-append first second =
+    ap console_of (told-append first second) ∙ flat_map-append stdout_in (told first) (told second)
+
+-- nothing of it is the console's
+abbrev IsSilent : List EditorEvent → Type 0
+IsSilent es = shown es ≡ []
+
+silent-append : (first second : List EditorEvent) → IsSilent first → IsSilent second → IsSilent (first ++ second)
+silent-append first second one two =
+    shown-append first second ∙ (ap (λ xs. xs ++ shown second) one ∙ two)
+
+silent_follow : (f : Follow) → IsSilent (events_of f)
+silent_follow follow.Nothing = refl
+silent_follow follow.Continued = refl
+silent_follow (follow.Stopped reason) = refl
+silent_follow follow.Ended = refl
+
+silent_changed : (points : List PlacedBreakpoint) → IsSilent (changed_events points)
+silent_changed [] = refl
+silent_changed (p ∷ points) = elim (cases_Bool p.is_verified) [
+  | inl so ↦ rw so (silent_changed points)
+  | inr other ↦ rw other (silent_changed points)
+]
+
+silent_first : (o : Occasion) → IsSilent (first_events o)
+silent_first Launch = refl
+silent_first Restart = refl
+
+silent_opening : (o : Occasion) (lines labels : List PlacedBreakpoint) (f : Follow)
+    → IsSilent (opening_events o lines labels f)
+silent_opening o lines labels f =
+    silent-append (first_events o) (changed_events lines ++ (changed_events labels ++ events_of f)) (silent_first o)
+    (silent-append (changed_events lines) (changed_events labels ++ events_of f) (silent_changed lines)
+    (silent-append (changed_events labels) (events_of f) (silent_changed labels) (silent_follow f)))
+
+silent_refused : (path : Text) (f : EventFault) → IsSilent (option_to_list (load_event path (fault.Refused f)))
+silent_refused path (refused.Assembly (asm.At line column kind)) = refl
+silent_refused path (refused.Assembly asm.OutOfMemory) = refl
+silent_refused path _ = refl
+
+silent_load : (path : Text) (f : LoadFault) → IsSilent (option_to_list (load_event path f))
+silent_load path fault.OutOfMemory = refl
+silent_load path fault.NoStart = refl
+silent_load path (fault.Refused f) = silent_refused path f
+
+silent_loading : (r : Result (Board × ℕ) LoadFault) (o : Occasion) (l : LaunchOf) (text : Text) (s : SessionState)
+    → IsSilent (loading_as r o l text s).events
+silent_loading (Ok (b, start)) o l text s =
+    let p = program_of l start text in
+    let kept = s.settings.points in
+    silent_opening o (program_lines p kept) (program_labels p kept b) (started_follow p s)
+silent_loading (Err f) o l text s = silent_load l.program f
+
+silent_text : (t : Result Text Text) (o : Occasion) (l : LaunchOf) (s : SessionState)
+    → IsSilent (by_text t s (λ text. loading o l text s)).events
+silent_text (Ok text) o l s = silent_loading (loaded l text) o l text s
+silent_text (Err message) o l s = refl
+
+silent_launch : (p : Option Program) (l : LaunchOf) (found : Option FileText) (s : SessionState)
+    → IsSilent (launching_over p l found s).events
+silent_launch None l found s = silent_text (text_in found) Launch l s
+silent_launch (Some p) l found s = refl
+
+silent_restart : (p : Option Program) (found : Option FileText) (s : SessionState)
+    → IsSilent (restarting_of p found s).events
+silent_restart None found s = refl
+silent_restart (Some p) found s = silent_text (text_in found) Restart p.launch s
+
+silent_asking : (a : Asked) (found : Option FileText) (s : SessionState) → IsSilent (asking a found s).events
+silent_asking (asked.Editor (editor.Launch l)) found s = silent_launch s.settings.program l found s
+silent_asking (asked.Editor editor.Restart) found s = silent_restart s.settings.program found s
+silent_asking (asked.Editor (editor.WriteMemory address offset bytes)) found s =
+    silent_follow (writing address offset bytes s).follow
+silent_asking (asked.Board c) found s = silent_follow (replying (asked.Board c) s).follow
+silent_asking (asked.Faulty f) found s = silent_follow (replying (asked.Faulty f) s).follow
+silent_asking other found s = silent_follow (replying other s).follow
+
+silent_unless : (o : Option Text) (a : Asked) (found : Option FileText) (s : SessionState)
+    → IsSilent (asking_unless o a found s).events
+silent_unless (Some text) a found s = refl
+silent_unless None a found s = silent_asking a found s
+
+silent_turn : (a : Asked) (found : Option FileText) (s : SessionState) → IsSilent (turn a found s).events
+unfolding turn
+silent_turn a found s = silent_unless (objection a s) a found s
+
+append-nil : (xs : Bytes) → xs ++ [] ≡ xs
+append-nil [] = refl
+append-nil (x ∷ xs) = ap (λ rest. x ∷ rest) (append-nil xs)
+
+shown_console : (bytes : Bytes) → shown (console_events bytes) ≡ bytes
+shown_console [] = refl
+shown_console (byte ∷ bytes) = append-nil (byte ∷ bytes)
+
+silent_line : (b : Bool) → IsSilent (line_events b)
+silent_line true = refl
+silent_line false = refl
+
+silent_end : (e : End) → IsSilent (run_end_events e)
+silent_end end.Halted = refl
+silent_end (end.Undefined opcode pc) = refl
+
+silent_outcome : (o : SliceOutcome) → IsSilent (outcome_events o)
+silent_outcome outcome.More = refl
+silent_outcome outcome.Waiting = refl
+silent_outcome (outcome.Stop reason) = refl
+silent_outcome (outcome.End e) = silent_end e
+
+shown_events : (bytes : Bytes) (asks : Bool) (o : SliceOutcome)
+    → shown (console_events bytes ++ (line_events asks ++ outcome_events o)) ≡ bytes
+shown_events bytes asks o =
+    let rest = line_events asks ++ outcome_events o in
+    let silent : IsSilent rest =
+    silent-append (line_events asks) (outcome_events o) (silent_line asks) (silent_outcome o) in
+    shown-append (console_events bytes) rest
+    ∙ (ap (λ xs. xs ++ shown rest) (shown_console bytes) ∙ (ap (λ xs. bytes ++ xs) silent ∙ append-nil bytes))
+
+shown_slicing : (p : ℕ × SliceOutcome) (s : SessionState)
+    → console_of (slicing p s).messages ≡ written_in p s.board
+shown_slicing (k, ending) s = shown_events (filter_map printed (traffic_of k s.board)) _ ending
+
+shown_sliced : (s : SessionState) → console_of (sliced s).messages ≡ written_by slice s
+unfolding sliced
+shown_sliced s = elim (cases_Bool (wants_slice s)) [
+  | inl so ↦ rw so (shown_slicing (slice_end s.board) s)
+  | inr other ↦ rw other refl
+]
+
+shown_step : (input : Input) (s : SessionState) → console_of (step input s).messages ≡ written_by input s
+shown_step (request r found) s = silent_turn r.asked found s
+shown_step slice s = shown_sliced s
+
+pub shown_played : (inputs : List Input) (s : SessionState)
+    → console_of (played inputs s).messages ≡ all_written inputs s
+shown_played [] s = refl
+shown_played (input ∷ inputs) s =
+    let first = step input s in
+    flat_map-append stdout_in first.messages (played inputs first.state).messages
+    ∙ (ap (λ xs. xs ++ console_of (played inputs first.state).messages) (shown_step input s)
+    ∙ ap (λ xs. written_by input s ++ xs) (shown_played inputs first.state))
+
+-- ---- looks
+
+kept_value : (r : Result Text EvaluateFault) (s : SessionState) → (value_told r s).state.board ≡ s.board
+kept_value (Ok text) s = refl
+kept_value (Err f) s = refl
+
+kept_unless : (o : Option Text) (expression : Text) (found : Option FileText) (s : SessionState)
+    → (asking_unless o (asked.Editor (editor.Evaluate expression context.Other)) found s).state.board ≡ s.board
+kept_unless (Some text) expression found s = refl
+kept_unless None expression found s = kept_value (evaluated s.board expression) s
+
+pub kept_look : (expression : Text) (found : Option FileText) (s : SessionState)
+    → (turn (asked.Editor (editor.Evaluate expression context.Other)) found s).state.board ≡ s.board
+unfolding turn
+kept_look expression found s =
+    kept_unless (objection (asked.Editor (editor.Evaluate expression context.Other)) s) expression found s

@@ -1,0 +1,164 @@
+-- Sessions, and the states that they stand for.
+use Rattle.std.proofs.Common.{◌≡◌, ℕ, zero, suc, ◌-◌, List, [], ◌∷◌, take, Bool, true, false, Result, Ok, Err}
+use Rattle.std.proofs.Common.{Option, Some, None, IfOk, OnErr, codes, if◌then◌else◌, sym, refl, ap, subst}
+use Rattle.std.specs.declared.alloc.AllocError.{AllocError}
+use Rattle.base_text.specs.Bytes.{Bytes}
+use Rattle.lab_core.specs.declared.fault.EventFault.TheVariants.{NotStopped}
+use Rattle.dap_editor.specs.declared.message.Message.{Message}
+use Rattle.dap_editor.specs.declared.request.Asked.{Asked}
+use Rattle.dap_editor.specs.declared.request.Asked.TheVariants as asked
+use Rattle.dap_editor.specs.declared.request.EditorCommand.TheVariants as editor
+use Rattle.dap_editor.specs.declared.request.Shift.{Shift}
+use Rattle.dap_program.specs.declared.messages.Caller.{Caller}
+use Rattle.dap_program.specs.Memory.{written}
+use Rattle.dap_program.specs.Refusals.{board_refusal}
+use Rattle.dap_session.specs.declared.settings.Phase.{Phase}
+use Rattle.dap_session.specs.declared.settings.Phase.TheVariants.{Loaded}
+use Rattle.dap_session.specs.declared.settings.Program.{Program}
+use Rattle.dap_session.specs.States.{SessionState, with_board}
+use Rattle.dap_session.specs.Turns.{Replied, turn_of, refusing}
+use Rattle.dap_session.specs.Memory.{is_stopped, address_at, writing_from, writing}
+use Rattle.dap_session.specs.Launches.{beginning, beginning_in, beginning_where, started}
+use Rattle.dap_session.specs.Slices.{Told, told_in}
+use Rattle.dap_session.specs.Stands.{SessionFields, StandsFor, Stands, Tells, Takes, TakesFor, IsLeft, WritesFirst}
+
+-- ---- want of memory
+
+on_err : {A P Q : Type 0} (r : Result A AllocError) → (P → Q) → OnErr r P → OnErr r Q
+on_err (Ok x) f p = p
+on_err (Err lack) f p = f p
+
+abbrev pub write_command : ℕ → Shift → Bytes → Asked
+write_command address offset bytes = asked.Editor (editor.WriteMemory address offset bytes)
+
+-- a write that is refused, and that would be so of no bytes too
+pub refused_write : (address : ℕ) (offset : Shift) (bytes text : Bytes) (c : Caller) (old new : SessionFields)
+    (r : Result (List Message) AllocError)
+    → ((xs : Bytes) (s : SessionState) → StandsFor old s → writing address offset xs s ≡ refusing text s)
+    → Takes (λ s. told_in c (turn_of (refusing text s))) old r new
+    → TakesFor (write_command address offset bytes) (λ s. told_in c (turn_of (writing address offset bytes s))) old r
+    new
+refused_write address offset bytes text c old new r same takes = (
+  λ s stands.
+      let P : Replied → Type 0 = λ t. IfOk r (λ messages. Tells (told_in c (turn_of t)) messages new) in
+      subst P (sym (same bytes s stands)) (takes.0 s stands),
+  on_err r (λ kept s stands.
+      let P : Replied → Type 0 = λ t. StandsFor new t.state in
+      (0, subst P (sym (same (take 0 bytes) s stands)) (subst (λ v. StandsFor v s) (sym kept) stands))) takes.1,
+)
+
+pub unstopped : (address : ℕ) (offset : Shift) (bytes : Bytes) (s : SessionState) → is_stopped s.board.run ≡ false
+    → writing address offset bytes s ≡ refusing (board_refusal NotStopped) s
+unstopped address offset bytes s e = rw e refl
+
+pub nowhere : (address : ℕ) (offset : Shift) (bytes : Bytes) (s : SessionState) → is_stopped s.board.run ≡ true
+    → address_at address offset ≡ None
+    → writing address offset bytes s ≡ refusing (codes "there is no such address") s
+nowhere address offset bytes s e f = rw (e, f) refl
+
+pub somewhere : (address start : ℕ) (offset : Shift) (bytes : Bytes) (s : SessionState)
+    → is_stopped s.board.run ≡ true → address_at address offset ≡ Some start
+    → writing address offset bytes s ≡ writing_from (Some start) bytes s
+somewhere address start offset bytes s e f = rw (e, f) refl
+
+taken_twice : (m n : ℕ) (xs : Bytes) → take m (take n xs) ≡ take n (take m xs)
+taken_twice zero zero xs = refl
+taken_twice zero (suc n) [] = refl
+taken_twice zero (suc n) (x ∷ xs) = refl
+taken_twice (suc m) zero [] = refl
+taken_twice (suc m) zero (x ∷ xs) = refl
+taken_twice (suc m) (suc n) [] = refl
+taken_twice (suc m) (suc n) (x ∷ xs) = ap (λ rest. x ∷ rest) (taken_twice m n xs)
+
+-- a write that is done, or of which some bytes are written
+pub done_write : (address start : ℕ) (offset : Shift) (bytes : Bytes) (c : Caller) (old new : SessionFields)
+    (r : Result (List Message) AllocError)
+    → ((s : SessionState) → StandsFor old s → is_stopped s.board.run ≡ true) → address_at address offset ≡ Some start
+    → ((s : SessionState) → StandsFor old s → IfOk r (λ messages.
+    Tells (told_in c (turn_of (writing_from (Some start) bytes s))) messages new))
+    → ((s : SessionState) → StandsFor old s → OnErr r (WritesFirst start (take (65536 - start) bytes) s new))
+    → TakesFor (write_command address offset bytes) (λ s. told_in c (turn_of (writing address offset bytes s))) old r
+    new
+done_write address start offset bytes c old new (Ok messages) stopped at made err = (
+  λ s stands.
+      let P : Replied → Type 0 = λ t. Tells (told_in c (turn_of t)) messages new in
+      subst P (sym (somewhere address start offset bytes s (stopped s stands) at)) (made s stands),
+  tt,
+)
+done_write address start offset bytes c old new (Err lack) stopped at made err = (
+  λ s stands. tt,
+  λ s stands.
+      let some = err s stands in
+      let k = some.0 in
+      let P : Replied → Type 0 = λ t. StandsFor new t.state in
+      let B : Bytes → Type 0 = λ xs. StandsFor new (with_board (written start xs s.board) s) in (
+        k,
+        subst P (sym (somewhere address start offset (take k bytes) s (stopped s stands) at))
+            (subst B (taken_twice k (65536 - start) bytes) some.1),
+      ),
+)
+
+-- some state is stood for after a turn
+stands_left : (a : Asked) (old new : SessionFields) → IsLeft a old new → Stands old → Stands new
+stands_left (asked.Editor (editor.WriteMemory address offset bytes)) old new left (s, stands) =
+    let some = left s stands in ((writing address offset (take some.0 bytes) s).state, some.1)
+stands_left (asked.Board c) old new left some = subst Stands (sym left) some
+stands_left (asked.Faulty f) old new left some = subst Stands (sym left) some
+stands_left other old new left some = subst Stands (sym left) some
+
+pub stands_on : (a : Asked) (f : SessionState → Told) (old new : SessionFields)
+    (r : Result (List Message) AllocError) → TakesFor a f old r new → Stands old → Stands new
+stands_on a f old new (Ok messages) takes (s, stands) = ((f s).state, (takes.0 s stands).1)
+stands_on a f old new (Err lack) takes some = stands_left a old new takes.1 some
+
+abbrev no_bytes : Bytes
+no_bytes = []
+
+-- want of memory that changed nothing is that of any request
+none_taken : (n : ℕ) → take n no_bytes ≡ []
+none_taken zero = refl
+none_taken (suc n) = refl
+
+unwritten_in : (o : Option ℕ) (s : SessionState) → (writing_from o [] s).state ≡ s
+unwritten_in None s = refl
+unwritten_in (Some start) s =
+    let P : Bytes → Type 0 = λ xs. with_board (written start xs s.board) s ≡ s in
+    subst P (sym (none_taken (65536 - start))) refl
+
+unwritten : (b : Bool) (o : Option ℕ) (s : SessionState)
+    → (if b then writing_from o [] s else refusing (board_refusal NotStopped) s).state ≡ s
+unwritten true o s = unwritten_in o s
+unwritten false o s = refl
+
+pub left_same : (a : Asked) (old new : SessionFields) → new ≡ old → IsLeft a old new
+left_same (asked.Editor (editor.WriteMemory address offset bytes)) old new same = λ s stands. (
+  0,
+  subst (λ t. StandsFor new t) (sym (unwritten (is_stopped s.board.run) (address_at address offset) s))
+      (subst (λ v. StandsFor v s) (sym same) stands),
+)
+left_same (asked.Board c) old new same = same
+left_same (asked.Faulty f) old new same = same
+left_same other old new same = same
+
+pub takes_for : (a : Asked) (f : SessionState → Told) (old new : SessionFields)
+    (r : Result (List Message) AllocError) → Takes f old r new → TakesFor a f old r new
+takes_for a f old new r takes = (takes.0, on_err r (left_same a old new) takes.1)
+
+-- ---- the beginning of a program
+
+if_true : (b : Bool) (x y : SessionState) → b ≡ true → (if b then x else y) ≡ x
+if_true b x y is = rw is refl
+
+-- where the configuration is done it begins
+pub started_so : (p : Program) (s : SessionState) → s.settings.is_configured ≡ true
+    → started p s ≡ (beginning p s).state
+started_so p s done = if_true s.settings.is_configured (beginning p s).state s done
+
+begun_in : (p : Program) (s : SessionState) (phase : Phase) → phase ≡ Loaded
+    → (beginning_in phase p s).state ≡ (beginning p s).state
+begun_in p s phase is = rw is refl
+
+-- a program that hasn't begun begins
+pub begun_so : (o : Option Program) (p : Program) (s : SessionState) → o ≡ Some p → p.phase ≡ Loaded
+    → (beginning_where o s).state ≡ (beginning p s).state
+begun_so o p s is phase = rw is (begun_in p s p.phase phase)

@@ -1,0 +1,65 @@
+-- Breakpoints (Debug Adapter Protocol, `setBreakpoints` and `setFunctionBreakpoints`).
+use Rattle.std.specs.Prelude.{ℕ, ◌+◌, List, [], ◌∷◌, take, Option, Some, None, option_map, codes, if◌then◌else◌}
+use Rattle.std.specs.Str.{bytes_eq}
+use Rattle.base_text.specs.Bytes.{Text}
+use Rattle.lab_core.specs.Board.{Board}
+use Rattle.dap_editor.specs.declared.message.EditorBody.TheVariants.{Breakpoints}
+use Rattle.dap_points.specs.Points.{PointsState, number_of, has_place, lines_at, with_lines}
+use Rattle.dap_points.specs.Placed.{line_points}
+use Rattle.dap_program.specs.declared.messages.Follow.TheVariants.{Nothing}
+use Rattle.dap_program.specs.Breakpoints.{labels_behind, armed}
+use Rattle.dap_session.specs.declared.settings.Program.{Program}
+use Rattle.dap_session.specs.States.{SessionState, with_board, with_points}
+use Rattle.dap_session.specs.Turns.{Replied, refusing, succeeding}
+
+-- ---- lines
+
+abbrev pub is_launched_as : Text → Option Program → Option Program
+is_launched_as path None = None
+is_launched_as path (Some p) = if bytes_eq p.launch.program path then Some p else None
+
+-- how many lines the text of a program has; none is known of another
+abbrev pub line_count_of : Option Program → ℕ
+line_count_of None = 0
+line_count_of (Some p) = p.line_count
+
+-- Only the program that was launched is on the board.
+abbrev pub armed_where : Option Program → List ℕ → List Text → Board → Board
+armed_where None lines names b = b
+armed_where (Some program) lines names b = armed program.launch.program lines names b
+
+abbrev pub lines_armed : Text → List ℕ → SessionState → SessionState
+lines_armed path lines s =
+    with_board (armed_where (is_launched_as path s.settings.program) lines (take 256 s.settings.points.functions) s.board)
+    s
+
+abbrev pub lines_set : Option Program → Text → List ℕ → SessionState → Replied
+lines_set program path lines s =
+    let p = s.settings.points in
+    succeeding (Breakpoints (line_points (number_of path p.lists) (line_count_of program) 0 lines)) Nothing
+    (with_points (with_lines path lines p) (lines_armed path lines s))
+
+abbrev pub setting_lines : Text → List ℕ → SessionState → Replied
+setting_lines path lines s =
+    if has_place path s.settings.points.lists
+    then lines_set (is_launched_as path s.settings.program) path lines s
+    else refusing (codes "too many sources have breakpoints") s
+
+-- ---- labels
+
+-- the lines of the program that are to have breakpoints
+abbrev pub program_lines : Option Program → PointsState → List ℕ
+program_lines None p = []
+program_lines (Some program) p = lines_at program.launch.program p.lists
+
+abbrev pub labels_armed : Option Program → List Text → PointsState → Board → Board
+labels_armed None names p b = b
+labels_armed (Some program) names p b =
+    armed program.launch.program (lines_at program.launch.program p.lists) names b
+
+abbrev pub setting_functions : List Text → SessionState → Replied
+setting_functions names s =
+    let p = s.settings.points in
+    let program = s.settings.program in
+    succeeding (Breakpoints (labels_behind (program_lines program p) names s.board)) Nothing
+    (with_board (labels_armed program names p s.board) (with_points (record p { functions = names }) s))

@@ -1,0 +1,10 @@
+pub mod States
+pub mod Turns
+pub mod Breakpoints
+pub mod Evaluations
+pub mod Memory
+pub mod Launches
+pub mod Requests
+pub mod Slices
+pub mod Stands
+pub mod Laws

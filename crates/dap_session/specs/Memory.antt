@@ -1,0 +1,67 @@
+-- Memory and code (Debug Adapter Protocol, `readMemory`, `writeMemory` and `disassemble`).
+use Rattle.std.specs.Prelude.{ℕ, ◌+◌, ◌-◌, ◌%◌, [], length, take, nat_le, Bool, true, false, Option, Some, None}
+use Rattle.std.specs.Prelude.{codes, if◌then◌else◌}
+use Rattle.base_text.specs.Bytes.{Bytes}
+use Rattle.i80_exec.specs.State.{MachineState, wrapped}
+use Rattle.dap_talk.specs.declared.command.DapCommand.TheVariants.{Disassemble}
+use Rattle.dap_talk.specs.declared.command.DapCommand.{DapCommand}
+use Rattle.dap_editor.specs.declared.request.Shift.{Shift}
+use Rattle.dap_editor.specs.declared.request.Shift.TheVariants.{Forward, Back}
+use Rattle.dap_editor.specs.declared.message.EditorBody.{EditorBody}
+use Rattle.dap_editor.specs.declared.message.EditorBody.TheVariants as body
+use Rattle.dap_inspect.specs.Memory.{bytes_from}
+use Rattle.dap_inspect.specs.Instructions.{before_instructions}
+use Rattle.dap_program.specs.declared.messages.Follow.TheVariants.{Nothing}
+use Rattle.dap_program.specs.Memory.{written}
+use Rattle.dap_program.specs.Refusals.{board_refusal}
+use Rattle.lab_core.specs.declared.fault.EventFault.TheVariants.{NotStopped}
+use Rattle.lab_core.specs.declared.run_state.RunState.{RunState}
+use Rattle.lab_core.specs.declared.run_state.RunState.TheVariants.{NoRun, Running, Stopped}
+use Rattle.lab_core.specs.Board.{Board}
+use Rattle.dap_session.specs.States.{SessionState, with_board}
+use Rattle.dap_session.specs.Turns.{Replied, refusing, succeeding}
+
+-- ---- bytes
+
+-- the address so far from another, where there is one
+abbrev pub address_at : ℕ → Shift → Option ℕ
+address_at address (Forward n) = if nat_le (address + n) 65535 then Some (address + n) else None
+address_at address (Back n) = if nat_le n address then Some (address - n) else None
+
+-- at most so many bytes; what isn't there is unreadable
+abbrev pub memory_at : Option ℕ → ℕ → ℕ → MachineState → EditorBody
+memory_at None address count m = body.Memory address [] count
+memory_at (Some start) address count m =
+    let bytes = bytes_from m start count in body.Memory start bytes (count - length bytes)
+
+-- ---- bytes that are written
+
+abbrev pub is_stopped : RunState → Bool
+is_stopped NoRun = false
+is_stopped Running = false
+is_stopped Stopped = true
+
+-- as many as there are addresses for
+abbrev pub writing_from : Option ℕ → Bytes → SessionState → Replied
+writing_from None bytes s = refusing (codes "there is no such address") s
+writing_from (Some start) bytes s =
+    let all = take (65536 - start) bytes in
+    succeeding (body.Written (length all)) Nothing (with_board (written start all s.board) s)
+
+-- while a run is stopped
+abbrev pub writing : ℕ → Shift → Bytes → SessionState → Replied
+writing address offset bytes s =
+    if is_stopped s.board.run then writing_from (address_at address offset) bytes s
+    else refusing (board_refusal NotStopped) s
+
+-- ---- code
+
+-- the address so many bytes from another. Addresses wrap.
+abbrev pub wrapped_at : ℕ → Shift → ℕ
+wrapped_at address (Forward n) = wrapped (address + n)
+wrapped_at address (Back n) = wrapped (address + (65536 - n % 65536))
+
+-- so many lines of code, so many instructions from an address
+abbrev pub disassembly : ℕ → Shift → ℕ → Board → DapCommand
+disassembly address (Forward n) count b = Disassemble address 0 n count
+disassembly address (Back n) count b = Disassemble (before_instructions b address n) 0 0 count

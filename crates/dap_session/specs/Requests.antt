@@ -1,0 +1,188 @@
+-- What each request is answered with, and what it makes of a session (Debug Adapter Protocol, "Requests").
+use Rattle.std.specs.Prelude.{ℕ, nat_le, List, [], length, map, Bool, true, false, not, ◌&&◌, ◌||◌, Option, Some}
+use Rattle.std.specs.Prelude.{None, Ok, Err, option_to_list, option_map, codes, if◌then◌else◌}
+use Rattle.base_text.specs.Bytes.{Text}
+use Rattle.lab_core.specs.declared.event.Event.TheVariants.{Interrupt}
+use Rattle.lab_core.specs.Board.{Board}
+use Rattle.dap_answers.specs.declared.answer.StopReason.TheVariants.{Pause as ByPause}
+use Rattle.dap_talk.specs.declared.command.DapCommand.{DapCommand}
+use Rattle.dap_talk.specs.declared.command.DapCommand.TheVariants as command
+use Rattle.dap_board.specs.Commands.{Performed, performed}
+use Rattle.dap_editor.specs.declared.message.EditorBody.TheVariants as body
+use Rattle.dap_editor.specs.declared.message.EditorStop.TheVariants.{Board as AtBoard}
+use Rattle.dap_editor.specs.declared.message.Message.{Message}
+use Rattle.dap_editor.specs.declared.request.Asked.{Asked}
+use Rattle.dap_editor.specs.declared.request.Asked.TheVariants as asked
+use Rattle.dap_editor.specs.declared.request.EditorCommand.{EditorCommand}
+use Rattle.dap_editor.specs.declared.request.EditorCommand.TheVariants as editor
+use Rattle.dap_editor.specs.declared.request.EditorRequest.{EditorRequest}
+use Rattle.dap_editor.specs.declared.request.Shift.{Shift}
+use Rattle.dap_editor.specs.declared.request.Shift.TheVariants.{Back}
+use Rattle.dap_program.specs.declared.messages.Follow.{Follow}
+use Rattle.dap_program.specs.declared.messages.Follow.TheVariants as follow
+use Rattle.dap_program.specs.Boards.{after}
+use Rattle.dap_program.specs.Messages.{turn_messages}
+use Rattle.dap_program.specs.Refusals.{board_refusal, request_refusal}
+use Rattle.dap_session.specs.declared.file.FileText.{FileText}
+use Rattle.dap_session.specs.declared.settings.Program.{Program}
+use Rattle.dap_session.specs.States.{SessionState, with_board, with_waits, is_live, ended}
+use Rattle.dap_session.specs.Turns.{Turn, Replied, turn_of, refusing, succeeding, accepting}
+use Rattle.dap_session.specs.Breakpoints.{setting_lines, setting_functions}
+use Rattle.dap_session.specs.Evaluations.{evaluating}
+use Rattle.dap_session.specs.Memory.{address_at, memory_at, writing, wrapped_at, disassembly}
+use Rattle.dap_session.specs.Launches.{beginning_where, launching, restarting}
+
+-- ---- commands of a board
+
+-- what is told of a command once it is done
+abbrev pub follow_of : DapCommand → Follow
+follow_of command.Continue = follow.Continued
+follow_of (command.Step kind granularity) = follow.Continued
+follow_of command.Pause = follow.Stopped (AtBoard ByPause)
+follow_of other = follow.Nothing
+
+abbrev pub board_done : Performed → Follow → SessionState → Replied
+board_done (Ok (b, board)) f s = succeeding (body.Board b) f (with_board board s)
+board_done (Err fault) f s = refusing (board_refusal fault) s
+
+abbrev pub performing : DapCommand → Follow → SessionState → Replied
+performing c f s = board_done (performed c s.board) f s
+
+-- ---- the end of a program
+
+-- what is told where it is over by this
+abbrev pub end_follow : SessionState → Follow
+end_follow s = if is_live s.settings.program then follow.Ended else follow.Nothing
+
+abbrev pub and_ended : Replied → Replied
+and_ended r = record r { state = ended r.state }
+
+-- A reset of the board takes the program away.
+abbrev pub resetting : SessionState → Replied
+resetting s = and_ended (performing command.BoardReset (end_follow s) s)
+
+abbrev pub terminating : SessionState → Replied
+terminating s = accepting (end_follow s) (ended (with_board (after Interrupt s.board) s))
+
+-- ---- the session
+
+abbrev pub initialized : SessionState → SessionState
+initialized s = record s { settings = record s.settings { is_initialized = true } }
+
+abbrev pub initializing : SessionState → Replied
+initializing s =
+    if s.settings.is_initialized then refusing (codes "initialized already") s
+    else succeeding body.Capabilities follow.Nothing (initialized s)
+
+abbrev pub configured : SessionState → SessionState
+configured s = record s { settings = record s.settings { is_configured = true } }
+
+abbrev pub configuring : SessionState → Replied
+configuring s = beginning_where s.settings.program (configured s)
+
+abbrev pub disconnecting : SessionState → Replied
+disconnecting s = accepting follow.Nothing (record s { settings = record s.settings { has_ended = true } })
+
+-- ---- what only looks
+
+abbrev pub reading : ℕ → Shift → ℕ → SessionState → Replied
+reading address offset count s =
+    succeeding (memory_at (address_at address offset) address count s.board.machine) follow.Nothing s
+
+abbrev pub disassembling : ℕ → Shift → Shift → ℕ → SessionState → Replied
+disassembling address offset instruction_offset count s =
+    performing (disassembly (wrapped_at address offset) instruction_offset count s.board) follow.Nothing s
+
+abbrev pub path_of : Program → Text
+path_of p = p.launch.program
+
+abbrev pub sources : Option Program → List Text
+sources program = option_to_list (option_map path_of program)
+
+-- ---- the commands
+
+abbrev pub commanding : DapCommand → SessionState → Replied
+commanding command.Initialize s = initializing s
+commanding command.Attach s = refusing (codes "attach is not supported: launch a program") s
+commanding command.Disconnect s = disconnecting s
+commanding command.ConfigurationDone s = configuring s
+commanding (command.SetBreakpoints path lines) s = setting_lines path lines s
+commanding command.BoardReset s = resetting s
+commanding other s = performing other (follow_of other) s
+
+abbrev pub editing : EditorCommand → SessionState → Replied
+editing editor.Terminate s = terminating s
+editing (editor.SetFunctionBreakpoints names) s = setting_functions names s
+editing editor.SetExceptionBreakpoints s = succeeding (body.Breakpoints []) follow.Nothing s
+editing (editor.Evaluate expression context) s = evaluating expression context s
+editing (editor.ReadMemory address offset count) s = reading address offset count s
+editing (editor.Disassemble address offset instruction_offset count) s =
+    disassembling address offset instruction_offset count s
+editing editor.LoadedSources s = succeeding (body.Sources (sources s.settings.program)) follow.Nothing s
+editing other s = refusing (codes "unknown command") s
+
+abbrev pub replying : Asked → SessionState → Replied
+replying (asked.Board c) s = commanding c s
+replying (asked.Editor c) s = editing c s
+replying (asked.Faulty f) s = refusing (request_refusal f) s
+
+-- ---- what can't be carried out
+
+-- before a session is initialized
+abbrev pub opens : Asked → Bool
+opens (asked.Board command.Initialize) = true
+opens (asked.Board command.Disconnect) = true
+opens (asked.Faulty f) = true
+opens other = false
+
+-- no request that was read is out of these bounds
+abbrev pub is_few : ℕ → Bool
+is_few count = nat_le 1 count && nat_le count 256
+
+abbrev pub is_near : Shift → Bool
+is_near (Back n) = nat_le n 65536
+is_near other = true
+
+abbrev pub is_command_bounded : DapCommand → Bool
+is_command_bounded (command.SetBreakpoints path lines) = nat_le (length lines) 256
+is_command_bounded (command.Disassemble address offset instruction_offset count) = is_few count
+is_command_bounded other = true
+
+abbrev pub is_bounded : Asked → Bool
+is_bounded (asked.Board c) = is_command_bounded c
+is_bounded (asked.Editor (editor.SetFunctionBreakpoints names)) = nat_le (length names) 256
+is_bounded (asked.Editor (editor.Disassemble address offset instruction_offset count)) =
+    is_near instruction_offset && is_few count
+is_bounded other = true
+
+abbrev pub objection : Asked → SessionState → Option Text
+objection a s =
+    if not (s.settings.is_initialized || opens a) then Some (codes "not initialized") else
+    if not (is_bounded a) then Some (codes "bad arguments") else None
+
+-- ---- a request
+
+abbrev pub asking : Asked → Option FileText → SessionState → Turn
+asking (asked.Editor (editor.Launch l)) found s = launching l found s
+asking (asked.Editor editor.Restart) found s = restarting found s
+asking (asked.Editor (editor.WriteMemory address offset bytes)) found s = turn_of (writing address offset bytes s)
+asking other found s = turn_of (replying other s)
+
+abbrev pub asking_unless : Option Text → Asked → Option FileText → SessionState → Turn
+asking_unless (Some text) a found s = turn_of (refusing text s)
+asking_unless None a found s = asking a found s
+
+-- a run that waited is tried again
+abbrev pub and_tried : Turn → Turn
+and_tried t = record t { state = with_waits false t.state }
+
+-- what a request gives, where this was found at the path that it needs
+unfoldable pub turn : Asked → Option FileText → SessionState → Turn
+turn a found s = and_tried (asking_unless (objection a s) a found s)
+
+-- ---- the path whose text a request needs
+
+abbrev pub wanted_file : Asked → SessionState → Option Text
+wanted_file (asked.Editor (editor.Launch l)) s = Some l.program
+wanted_file (asked.Editor editor.Restart) s = option_map path_of s.settings.program
+wanted_file other s = None

@@ -1,0 +1,77 @@
+-- A slice of the run, and what a whole session tells.
+use Rattle.std.specs.Prelude.{ℕ, List, [], ◌∷◌, ◌++◌, Bool, true, false, Option, if◌then◌else◌}
+use Rattle.std.specs.List.{fold}
+use Rattle.lab_core.specs.declared.answer.SliceOutcome.{SliceOutcome}
+use Rattle.lab_core.specs.declared.answer.SliceOutcome.TheVariants as outcome
+use Rattle.lab_core.specs.Slices.{traffic_of, after_steps, left_by}
+use Rattle.dap_editor.specs.declared.message.EditorEvent.{EditorEvent}
+use Rattle.dap_editor.specs.declared.message.Message.{Message}
+use Rattle.dap_editor.specs.declared.request.EditorRequest.{EditorRequest}
+use Rattle.dap_program.specs.declared.messages.Caller.{Caller}
+use Rattle.dap_program.specs.Messages.{told, turn_messages}
+use Rattle.dap_program.specs.Slices.{slice_end, slice_events}
+use Rattle.dap_session.specs.declared.file.FileText.{FileText}
+use Rattle.dap_session.specs.declared.settings.Settings.{Settings}
+use Rattle.dap_session.specs.States.{SessionState, over, wants_slice}
+use Rattle.dap_session.specs.Turns.{Turn}
+use Rattle.dap_session.specs.Requests.{turn}
+
+-- ---- a slice
+
+-- messages, and the session after them
+pub record Told : Type 0 where
+  pub messages : List Message
+  pub state : SessionState
+
+-- a run that waits isn't tried until a request came, and one that has ended takes the program with it
+abbrev pub settings_after : SliceOutcome → Settings → Settings
+settings_after outcome.More t = t
+settings_after outcome.Waiting t = record t { waits = true }
+settings_after (outcome.Stop reason) t = t
+settings_after (outcome.End how) t = over t
+
+abbrev pub slicing : ℕ × SliceOutcome → SessionState → Told
+slicing (k, ending) s = record {
+  messages = told (slice_events (traffic_of k s.board) ending);
+  state = record {
+    board = left_by ending (after_steps k s.board);
+    settings = settings_after ending s.settings;
+  };
+}
+
+-- of a run that goes on
+unfoldable pub sliced : SessionState → Told
+sliced s = if wants_slice s then slicing (slice_end s.board) s else record { messages = []; state = s }
+
+-- ---- a request
+
+abbrev pub caller_of : EditorRequest → Caller
+caller_of r = record { seq = r.seq; command = r.command }
+
+abbrev pub told_by : Caller → Turn → List Message
+told_by c t = turn_messages c t.outcome t.events
+
+abbrev pub told_in : Caller → Turn → Told
+told_in c t = record { messages = told_by c t; state = t.state }
+
+abbrev pub taken : EditorRequest → Option FileText → SessionState → Told
+taken r found s = told_in (caller_of r) (turn r.asked found s)
+
+-- ---- a session
+
+pub data Input : Type 0 where
+  -- with what was found at the path that it needs
+  request : EditorRequest → Option FileText → Input
+  slice : Input
+
+abbrev pub step : Input → SessionState → Told
+step (request r found) s = taken r found s
+step slice s = sliced s
+
+-- what goes out for these, and the session after them
+abbrev pub played : List Input → SessionState → Told
+played [] s = record { messages = []; state = s }
+played (input ∷ inputs) s =
+    let first = step input s in
+    let rest = played inputs first.state in
+    record { messages = first.messages ++ rest.messages; state = rest.state }

@@ -1,0 +1,73 @@
+-- A debugger's session: a board, and what the editor set.
+use Rattle.std.specs.Prelude.{Bool, true, false, not, ◌&&◌, Option, Some, None, option_map, if◌then◌else◌}
+use Rattle.lab_core.specs.declared.run_state.RunState.{RunState}
+use Rattle.lab_core.specs.declared.run_state.RunState.TheVariants.{NoRun, Running, Stopped}
+use Rattle.lab_core.specs.Board.{Board, opening}
+use Rattle.dap_points.specs.Points.{PointsState, no_points}
+use Rattle.dap_session.specs.declared.settings.Phase.{Phase}
+use Rattle.dap_session.specs.declared.settings.Phase.TheVariants as phase
+use Rattle.dap_session.specs.declared.settings.Program.{Program}
+use Rattle.dap_session.specs.declared.settings.Settings.{Settings}
+
+pub record SessionState : Type 0 where
+  pub board : Board
+  pub settings : Settings
+
+-- before the first request
+abbrev pub opened : SessionState
+opened = record {
+  board = opening;
+  settings = record {
+    is_initialized = false;
+    is_configured = false;
+    program = None;
+    points = no_points;
+    waits = false;
+    has_ended = false;
+  };
+}
+
+abbrev pub with_board : Board → SessionState → SessionState
+with_board b s = record s { board = b }
+
+abbrev pub with_program : Option Program → SessionState → SessionState
+with_program p s = record s { settings = record s.settings { program = p } }
+
+abbrev pub with_points : PointsState → SessionState → SessionState
+with_points p s = record s { settings = record s.settings { points = p } }
+
+abbrev pub with_waits : Bool → SessionState → SessionState
+with_waits waits s = record s { settings = record s.settings { waits = waits } }
+
+-- ---- the program
+
+abbrev pub in_phase : Phase → Program → Program
+in_phase to p = record p { phase = to }
+
+abbrev pub is_over : Phase → Bool
+is_over phase.Loaded = false
+is_over phase.Begun = false
+is_over phase.Over = true
+
+-- a program was launched, and isn't over
+abbrev pub is_live : Option Program → Bool
+is_live None = false
+is_live (Some p) = not (is_over p.phase)
+
+-- the program is over, if one was launched
+abbrev pub over : Settings → Settings
+over t = record t { program = option_map (in_phase phase.Over) t.program }
+
+abbrev pub ended : SessionState → SessionState
+ended s = record s { settings = over s.settings }
+
+-- ---- the run
+
+abbrev pub is_running : RunState → Bool
+is_running NoRun = false
+is_running Running = true
+is_running Stopped = false
+
+-- a run goes on, and doesn't wait for a button
+abbrev pub wants_slice : SessionState → Bool
+wants_slice s = is_running s.board.run && not s.settings.waits

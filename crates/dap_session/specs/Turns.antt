@@ -1,0 +1,37 @@
+-- What a request gives: its answer, the events behind it, and the session after it.
+use Rattle.std.specs.Prelude.{ℕ, List, [], ◌∷◌}
+use Rattle.base_text.specs.Bytes.{Text}
+use Rattle.dap_answers.specs.declared.answer.Body.TheVariants as board
+use Rattle.dap_editor.specs.declared.message.EditorBody.{EditorBody}
+use Rattle.dap_editor.specs.declared.message.EditorBody.TheVariants as body
+use Rattle.dap_editor.specs.declared.message.EditorEvent.{EditorEvent}
+use Rattle.dap_editor.specs.declared.message.EditorOutcome.{EditorOutcome}
+use Rattle.dap_editor.specs.declared.message.EditorOutcome.TheVariants as outcome
+use Rattle.dap_program.specs.declared.messages.Follow.{Follow}
+use Rattle.dap_program.specs.declared.messages.Follow.TheVariants.{Nothing}
+use Rattle.dap_program.specs.Messages.{events_of}
+use Rattle.dap_session.specs.States.{SessionState}
+
+pub record Turn : Type 0 where
+  pub outcome : EditorOutcome
+  pub events : List EditorEvent
+  pub state : SessionState
+
+-- of most requests
+pub record Replied : Type 0 where
+  pub outcome : EditorOutcome
+  pub follow : Follow
+  pub state : SessionState
+
+abbrev pub turn_of : Replied → Turn
+turn_of r = record { outcome = r.outcome; events = events_of r.follow; state = r.state }
+
+abbrev pub refusing : Text → SessionState → Replied
+refusing text s = record { outcome = outcome.Refused text; follow = Nothing; state = s }
+
+abbrev pub succeeding : EditorBody → Follow → SessionState → Replied
+succeeding body follow s = record { outcome = outcome.Success body; follow = follow; state = s }
+
+-- done, with no more to say
+abbrev pub accepting : Follow → SessionState → Replied
+accepting follow s = succeeding (body.Board board.Empty) follow s

@@ -1,0 +1,41 @@
+//! Answers to requests.
+ghost use Rattle.std.specs.Prelude.{◌≡◌, IfOk};
+
+use dap_answers::answer::Body;
+use dap_editor::message::{EditorBody, EditorOutcome};
+use dap_program::messages::Follow;
+use dap_program::refusals::refused;
+use std::alloc::{AllocError, Global};
+
+/// The answer to a request, and what is told behind it.
+#[derive(Drop)]
+pub struct Reply {
+    pub outcome: EditorOutcome,
+    pub follow: Follow,
+}
+
+pub(crate) fn refuse(alloc: Global, text: &str) -> Result<Reply, AllocError>
+    ensures { IfOk result (λ reply. reply ≡ record { outcome = EditorOutcome.Refused text.now; follow = Follow.Nothing }) }
+{
+    let outcome = refused(alloc, text)?;
+    Ok(Reply {
+        outcome,
+        follow: Follow::Nothing,
+    })
+}
+
+pub(crate) fn succeed(body: EditorBody, follow: Follow) -> Reply
+    ensures { result ≡ record { outcome = EditorOutcome.Success body; follow = follow } }
+{
+    Reply {
+        outcome: EditorOutcome::Success(body),
+        follow,
+    }
+}
+
+/// Done, with no more to say.
+pub(crate) fn accept(follow: Follow) -> Reply
+    ensures { result ≡ record { outcome = EditorOutcome.Success (EditorBody.Board Body.Empty); follow = follow } }
+{
+    succeed(EditorBody::Board(Body::Empty), follow)
+}

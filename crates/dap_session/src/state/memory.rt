@@ -1,0 +1,226 @@
+//! Memory and code.
+ghost use Rattle.std.specs.Prelude.{◌≡◌, ◌+◌, ◌-◌, ◌≤◌, length, take, true, Some, IfOk, OnOk, OnErr};
+ghost use Rattle.dap_talk.specs.Table.{IsBounded};
+ghost use Rattle.dap_program.specs.Memory.{written};
+ghost use Rattle.dap_session.specs.Memory.{address_at, wrapped_at, disassembly, memory_at, is_stopped, writing_from};
+ghost use Rattle.dap_session.specs.Memory.{writing};
+ghost use Rattle.dap_session.specs.Requests as requests;
+ghost use Rattle.dap_session.specs.Requests.{reading, disassembling};
+ghost use Rattle.dap_session.specs.States.{SessionState, with_board};
+ghost use Rattle.dap_session.specs.Turns.{turn_of};
+ghost use Rattle.dap_session.specs.Slices.{told_in};
+ghost use Rattle.dap_session.specs.Stands.{StandsFor, Answers, Tells, TakesFor, WritesFirst};
+
+use crate::reply::{Reply, succeed};
+use crate::state::State;
+use base_text::sequence::{Bytes, Sequence};
+use dap_editor::message::{EditorBody, EditorOutcome, Message};
+use dap_editor::request::{Asked, EditorCommand, Shift};
+use dap_inspect::before::before_instructions;
+use dap_inspect::memory::read_memory;
+use dap_program::memory::write_bytes;
+use dap_program::messages::{Caller, Follow, Messages};
+use dap_program::refusals::board_refusal;
+use dap_talk::command::DapCommand;
+use lab_core::fault::EventFault;
+use lab_core::run_state::RunState;
+use std::alloc::{AllocError, Global};
+
+/// How many addresses there are.
+const ADDRESSES: usize = 65_536;
+
+// The address so far from another, where there is one.
+fn address_at(address: u16, offset: Shift) -> Option<u16>
+    ensures { result ≡ address_at address offset }
+{
+    match offset {
+        Shift::Forward(n) => {
+            let far = u64::from(address) + u64::from(n);
+            if far <= 65535 { Some(far as u16) } else { None }
+        }
+        Shift::Back(n) => {
+            if n <= u32::from(address) {
+                Some((u32::from(address) - n) as u16)
+            } else {
+                None
+            }
+        }
+    }
+}
+
+// The address so many bytes from another. Addresses wrap.
+fn wrapped_at(address: u16, offset: Shift) -> u16
+    ensures { result ≡ wrapped_at address offset }
+{
+    let far = match offset {
+        Shift::Forward(n) => u64::from(address) + u64::from(n),
+        Shift::Back(n) => u64::from(address) + (65_536 - u64::from(n % 65_536)),
+    };
+    (far % 65_536) as u16
+}
+
+// How many bytes of a count aren't there, where so many are.
+fn unreadable(count: u32, read: usize) -> u32
+    ensures { result ≡ count - read }
+{
+    (count as usize).saturating_sub(read) as u32
+}
+
+// Of these bytes as many as there are addresses for, from this one on.
+fn writable(start: u16, bytes: &[u8]) -> &[u8]
+    ensures all { result.now ≡ take (65536 - start) bytes.now }
+    ensures fits { start + length result.now ≤ 65536 }
+{
+    let room = ADDRESSES - usize::from(start);
+    if bytes.len() <= room {
+        return bytes;
+    }
+    let (all, _) = bytes.split_at(room);
+    all
+}
+
+impl State {
+    // The bytes from an address on, at most so many.
+    fn memory_at(
+        &self,
+        alloc: Global,
+        start: Option<u16>,
+        address: u16,
+        count: u32,
+    ) -> Result<EditorBody, AllocError>
+        ensures { (s : SessionState) → StandsFor self.now s
+            → IfOk result (λ body. body ≡ memory_at start address count s.board.machine) }
+    {
+        match start {
+            None => Ok(EditorBody::Memory {
+                address,
+                bytes: Bytes::new(alloc),
+                unreadable: count,
+            }),
+            Some(start) => {
+                let bytes = read_memory(alloc, &self.lab, start, count)?;
+                let unreadable = unreadable(count, bytes.len());
+                Ok(EditorBody::Memory {
+                    address: start,
+                    bytes,
+                    unreadable,
+                })
+            }
+        }
+    }
+
+    pub(super) fn read_memory(
+        &mut self,
+        alloc: Global,
+        address: u16,
+        offset: Shift,
+        count: u32,
+    ) -> Result<Reply, AllocError>
+        ensures { Answers (reading address offset count) self.old result self.new }
+    {
+        let body = self.memory_at(alloc, address_at(address, offset), address, count)?;
+        Ok(succeed(body, Follow::Nothing))
+    }
+
+    // The command that shows so many lines of code, so many instructions from an address.
+    fn disassembly(&self, address: u16, offset: Shift, count: u16) -> DapCommand
+        requires { requests.is_near offset ≡ true }
+        ensures command { (s : SessionState) → StandsFor self.now s
+            → result ≡ disassembly address offset count s.board }
+        ensures fits { requests.is_few count ≡ true → IsBounded result }
+    {
+        match offset {
+            Shift::Forward(n) => DapCommand::Disassemble {
+                address,
+                offset: 0,
+                instruction_offset: n,
+                instruction_count: count,
+            },
+            Shift::Back(n) => DapCommand::Disassemble {
+                address: before_instructions(&self.lab, address, n),
+                offset: 0,
+                instruction_offset: 0,
+                instruction_count: count,
+            },
+        }
+    }
+
+    pub(super) fn disassemble(
+        &mut self,
+        alloc: Global,
+        address: u16,
+        offset: Shift,
+        instruction_offset: Shift,
+        count: u16,
+    ) -> Result<Reply, AllocError>
+        requires near { requests.is_near instruction_offset ≡ true }
+        requires few { requests.is_few count ≡ true }
+        ensures { Answers (disassembling address offset instruction_offset count) self.old result self.new }
+    {
+        let command = self.disassembly(wrapped_at(address, offset), instruction_offset, count);
+        let reply = self.perform(alloc, &command, Follow::Nothing);
+        drop(command);
+        reply
+    }
+
+    fn is_stopped(&self) -> bool
+        ensures { (s : SessionState) → StandsFor self.now s → result ≡ is_stopped s.board.run }
+    {
+        match self.lab.run_state() {
+            RunState::Stopped => true,
+            RunState::NoRun | RunState::Running => false,
+        }
+    }
+
+    // Writes bytes from an address on.
+    fn write_from(&mut self, alloc: Global, start: u16, bytes: &[u8]) -> Result<(), AllocError>
+        requires { start + length bytes.now ≤ 65536 }
+        ensures ok { (s : SessionState) → StandsFor self.old s
+            → OnOk result (StandsFor self.new (with_board (written start bytes.now s.board) s)) }
+        ensures err { (s : SessionState) → StandsFor self.old s
+            → OnErr result (WritesFirst start bytes.now s self.new) }
+    {
+        write_bytes(alloc, &mut self.lab, start, bytes)
+    }
+
+    // Writes as many bytes as there are addresses for. The room for the answer is made before.
+    fn write_at(
+        &mut self,
+        alloc: Global,
+        caller: Caller,
+        start: u16,
+        bytes: &Bytes,
+    ) -> Result<Sequence<Message>, AllocError>
+        ensures made { (s : SessionState) → StandsFor self.old s → IfOk result (λ messages.
+            Tells (told_in caller (turn_of (writing_from (Some start) bytes.now s))) messages self.new) }
+        ensures err { (s : SessionState) → StandsFor self.old s
+            → OnErr result (WritesFirst start (take (65536 - start) bytes.now) s self.new) }
+    {
+        let messages = Messages::new(alloc)?;
+        let all = writable(start, bytes.as_slice());
+        self.write_from(alloc, start, all)?;
+        let written = EditorOutcome::Success(EditorBody::Written(all.len() as u32));
+        Ok(messages.turn(caller, written, Follow::Nothing))
+    }
+
+    /// Writes bytes from an address on, as many as there are addresses for.
+    pub(super) fn write_memory(
+        &mut self,
+        alloc: Global,
+        caller: Caller,
+        address: u16,
+        offset: Shift,
+        bytes: &Bytes,
+    ) -> Result<Sequence<Message>, AllocError>
+        ensures { TakesFor (Asked.Editor (EditorCommand.WriteMemory address offset bytes.now))
+            (λ s. told_in caller (turn_of (writing address offset bytes.now s))) self.old result self.new }
+    {
+        if !self.is_stopped() {
+            return self.refuse(alloc, caller, board_refusal(EventFault::NotStopped));
+        }
+        match address_at(address, offset) {
+            None => self.refuse(alloc, caller, "there is no such address"),
+            Some(start) => self.write_at(alloc, caller, start, bytes),
+        }
+    }
+}

@@ -1,0 +1,181 @@
+use Rattle.std.proofs.Common.{◌≡◌, ℕ, ◌<◌, Bool, true, false, List, [], ◌∷◌, ◌++◌, length, refl, sym, ◌∙◌}
+use Rattle.std.proofs.Common.{ap, subst, append_assoc, if◌then◌else◌}
+use Rattle.std.specs.List.{list_all}
+use Rattle.std.proofs.lemmas.List.{append-nil}
+use Rattle.dap_stream.specs.Header.{line_end, colon, is_name_byte, is_value_byte, Field, IsLine, IsLines}
+use Rattle.dap_stream.specs.Header.{Ends}
+use Rattle.dap_stream.specs.Header.{Next, IsHeader, is_length_name, lengths}
+use Rattle.dap_stream.specs.Faults.{CanBe}
+use Rattle.dap_stream.proofs.SpanLemmas.{same_split}
+
+-- lines one after another
+pub lines_on : (a b : List ℕ) (fs gs : List Field) → IsLines a fs → IsLines b gs → IsLines (a ++ b)
+    (fs ++ gs)
+lines_on _ b _ gs (Ends a e) next = rw e next
+lines_on _ b _ gs (Next a line others field fields is e are) next =
+    Next (a ++ b) line (others ++ b) field (fields ++ gs) is (ap (λ l. l ++ b) e ∙ append_assoc line others
+    b)
+    (lines_on others b fields gs are next)
+
+pub one_line : (line : List ℕ) (field : Field) → IsLine line field → IsLines line (field ∷ [])
+one_line line field is = Next line line [] field [] is (sym (append-nil line)) (Ends [] refl)
+
+pub lengths-append : (fs gs : List Field) → lengths (fs ++ gs) ≡ lengths fs ++ lengths gs
+lengths-append [] gs = refl
+lengths-append (f ∷ fs) gs = rw (lengths-append fs gs) (by_name (is_length_name f.name))
+  where
+    by_name : (b : Bool) → (if b then (f.value ∷ (lengths fs ++ lengths gs)) else
+        (lengths fs ++ lengths gs))
+        ≡ (if b then (f.value ∷ lengths fs) else (lengths fs)) ++ lengths gs
+    by_name true = refl
+    by_name false = refl
+
+-- whole lines, and then a header
+pub header_on : (lines t : List ℕ) (fs gs : List Field) → IsLines lines fs → IsHeader t gs
+    → IsHeader (lines ++ t) (fs ++ gs)
+header_on lines t fs gs are h = record {
+  lines = lines ++ h.lines;
+  are = lines_on lines h.lines fs gs are h.are;
+  spelled = ap (λ l. lines ++ l) h.spelled ∙ sym (append_assoc lines h.lines line_end);
+}
+
+-- the first line of a header
+pub data Shape (bytes : List ℕ) : List Field → Type 0 where
+  Empty : bytes ≡ line_end → Shape bytes []
+  Full : (field : Field) (line others : List ℕ) (fields : List Field) → IsLine line field
+      → bytes ≡ field.name ++ colon ∷ (field.value ++ 13 ∷ 10 ∷ others) → IsHeader others fields
+      → Shape bytes (field ∷ fields)
+
+shape_of : (bytes lines : List ℕ) (fields : List Field) → IsLines lines fields → bytes ≡ lines ++ line_end
+    → Shape bytes fields
+shape_of bytes _ _ (Ends lines e) s = Empty (s ∙ ap (λ l. l ++ line_end) e)
+shape_of bytes _ _ (Next lines line others field fields is e are) s =
+    let k : bytes ≡ ((field.name ++ colon ∷ (field.value ++ line_end)) ++ others) ++ line_end =
+    s ∙ ap (λ l. l ++ line_end) (e ∙ ap (λ l. l ++ others) is.spelled) in
+    Full field line (others ++ line_end) fields is (k ∙ simp append_assoc)
+    (record { lines = others; are = are; spelled = refl })
+
+pub shape : (bytes : List ℕ) (fields : List Field) → IsHeader bytes fields → Shape bytes fields
+shape bytes fields h = shape_of bytes h.lines fields h.are h.spelled
+
+-- a header that begins with a name and then a byte that is none of a name's
+pub data AtName (name : List ℕ) (byte : ℕ) (t : List ℕ) : List Field → Type 0 where
+  AtEnd : name ≡ [] → byte ≡ 13 → t ≡ 10 ∷ [] → AtName name byte t []
+  AtColon : (field : Field) (others : List ℕ) (fields : List Field) → field.name ≡ name → 0 < length name
+      → byte ≡ colon → list_all is_value_byte field.value ≡ true → t ≡ field.value ++ 13 ∷ 10 ∷ others
+      → IsHeader others fields → AtName name byte t (field ∷ fields)
+
+name_shape : (name t : List ℕ) (byte : ℕ) (fields : List Field) → list_all is_name_byte name ≡ true
+    → is_name_byte byte ≡ false → Shape (name ++ byte ∷ t) fields → AtName name byte t fields
+name_shape name t byte _ pn pb (Empty e) =
+    let s = same_split is_name_byte name [] t (10 ∷ []) byte 13 pn refl pb refl e in
+    AtEnd s.front s.byte s.others
+name_shape name t byte _ pn pb (Full field line others fields is e h) =
+    let s = same_split is_name_byte name field.name t (field.value ++ 13 ∷ 10 ∷ others) byte colon pn
+    is.name_is
+    pb refl e in
+    AtColon field others fields (sym s.front) (rw s.front is.some) s.byte is.value_is s.others h
+
+pub at_name : (name t : List ℕ) (byte : ℕ) (fields : List Field) → list_all is_name_byte name ≡ true
+    → is_name_byte byte ≡ false → IsHeader (name ++ byte ∷ t) fields → AtName name byte t fields
+at_name name t byte fields pn pb h = name_shape name t byte fields pn pb (shape (name ++ byte ∷ t) fields h)
+
+-- a header that begins with a name and a colon
+pub record AtField (name t : List ℕ) (gs : List Field) : Type 0 where
+  pub field : Field
+  pub others : List ℕ
+  pub fields : List Field
+  pub fields_are : gs ≡ field ∷ fields
+  pub name_is : field.name ≡ name
+  pub value_is : list_all is_value_byte field.value ≡ true
+  pub after : t ≡ field.value ++ 13 ∷ 10 ∷ others
+  pub header : IsHeader others fields
+
+field_at : (name t : List ℕ) (gs : List Field) → AtName name colon t gs → AtField name t gs
+field_at name t _ (AtEnd a b c) = absurd (cc)
+field_at name t _ (AtColon field others fields n some b v e h) = record {
+  field = field;
+  others = others;
+  fields = fields;
+  fields_are = refl;
+  name_is = n;
+  value_is = v;
+  after = e;
+  header = h;
+}
+
+pub at_field : (name t : List ℕ) (gs : List Field) → list_all is_name_byte name ≡ true
+    → IsHeader (name ++ colon ∷ t) gs → AtField name t gs
+at_field name t gs pn h = field_at name t gs (at_name name t colon gs pn refl h)
+
+-- what follows whole lines in a header is a header
+pub record After (t : List ℕ) (fs gs : List Field) : Type 0 where
+  pub others : List Field
+  pub fields_are : gs ≡ fs ++ others
+  pub header : IsHeader t others
+
+abbrev made : List ℕ → List ℕ → Field
+made name value = record { name = name; value = value }
+
+after_line : (line t : List ℕ) (field : Field) (gs : List Field) → IsLine line field → IsHeader (line ++ t)
+    gs
+    → After t (field ∷ []) gs
+after_line line t field gs is h =
+    let e : line ++ t ≡ field.name ++ colon ∷ (field.value ++ 13 ∷ 10 ∷ t) =
+    ap (λ l. l ++ t) is.spelled ∙ simp append_assoc in
+    let a = at_field field.name (field.value ++ 13 ∷ 10 ∷ t) gs is.name_is (rw e at h) in
+    let s = same_split is_value_byte field.value a.field.value (10 ∷ t) (10 ∷ a.others) 13 13 is.value_is
+    a.value_is
+    refl refl a.after in
+    let n = a.name_is in
+    let v = s.front in
+    let same : made a.field.name a.field.value ≡ made field.name field.value = cc in
+    let o = s.others in
+    let t_is : t ≡ a.others = cc in
+    record {
+      others = a.fields;
+      fields_are = a.fields_are ∙ ap (λ f. f ∷ a.fields) same;
+      header = subst (λ l. IsHeader l a.fields) (sym t_is) a.header;
+    }
+
+pub after_lines : (lines t : List ℕ) (fs gs : List Field) → IsLines lines fs → IsHeader (lines ++ t) gs
+    → After t fs gs
+after_lines _ t _ gs (Ends lines e) h = record { others = gs; fields_are = refl; header = rw e at h }
+after_lines _ t _ gs (Next lines line others field fields is e are) h =
+    let k : lines ++ t ≡ line ++ (others ++ t) = ap (λ l. l ++ t) e ∙ append_assoc line others t in
+    let a = after_line line (others ++ t) field gs is (rw k at h) in
+    let b = after_lines others t fields a.others are a.header in
+    record {
+      others = b.others;
+      fields_are = a.fields_are ∙ ap (λ l. field ∷ l) b.fields_are;
+      header = b.header;
+    }
+
+-- after whole lines, what no header can have from there on
+pub never : (demand : List (List ℕ) → Type 0) (lines part : List ℕ) (fs : List Field) → IsLines lines fs
+    → ((more : List ℕ) (gs : List Field) → IsHeader (part ++ more) gs → demand (lengths fs ++ lengths gs) →
+    ⊥)
+    → CanBe demand (lines ++ part) → ⊥
+never demand lines part fs are none can =
+    let h = rw (append_assoc lines part can.more) at can.header in
+    let a = after_lines lines (part ++ can.more) fs can.fields are h in
+    none can.more a.others a.header (rw (a.fields_are, lengths-append fs a.others) at can.met)
+
+-- after whole lines, what a header has from there on
+pub ever : (demand : List (List ℕ) → Type 0) (lines part more : List ℕ) (fs gs : List Field) → IsLines lines
+    fs
+    → IsHeader (part ++ more) gs → demand (lengths fs ++ lengths gs) → CanBe demand (lines ++ part)
+ever demand lines part more fs gs are h met = record {
+  more = more;
+  fields = fs ++ gs;
+  header = rw (append_assoc lines part more) (header_on lines (part ++ more) fs gs are h);
+  met = rw (lengths-append fs gs) met;
+}
+
+-- a header of one field
+pub short_header : (line : List ℕ) (field : Field) → IsLine line field → IsHeader (line ++ line_end)
+    (field ∷ [])
+short_header line field is = record { lines = line; are = one_line line field is; spelled = refl }
+
+pub empty_header : IsHeader line_end []
+empty_header = record { lines = []; are = Ends [] refl; spelled = refl }

@@ -1,0 +1,8 @@
+pub mod SpanLemmas
+pub mod HeaderLemmas
+pub mod FrontLemmas
+pub mod LengthLemmas
+pub mod LineLemmas
+pub mod LawLemmas
+pub mod StreamLemmas
+pub mod WritingLemmas

@@ -1,0 +1,10 @@
+pub mod Faults
+pub mod Feeding
+pub mod Header
+pub mod Lengths
+pub mod Lines
+pub mod Reading
+pub mod Spans
+pub mod Stream
+pub mod Wire
+pub mod Writing

@@ -1,0 +1,17 @@
+//! Laws of the definitions.
+ghost use Rattle.std.specs.Prelude.{◌≡◌, ◌≤◌, [], length, All};
+ghost use Rattle.dap_stream.specs.Stream.{DecoderState, StandsFor, Reads};
+ghost use Rattle.dap_stream.specs.Wire.{Bytes, Bodies};
+ghost use Rattle.dap_stream.specs.Writing.{written};
+
+/// A stream has one reading, however it was cut into pieces: the same bodies, and the same state or fault.
+pub fn one_reading()
+    ensures { (s t : DecoderState) (stream : Bytes) (m n : Bodies)
+        → StandsFor s stream m → StandsFor t stream n → (m ≡ n) × (s ≡ t) }
+{}
+
+/// What is written is read as these messages and nothing more.
+pub fn written_is_read()
+    ensures { (bodies : Bodies) → All (λ body. length body ≤ 1048576) bodies
+        → Reads (written bodies) bodies [] }
+{}

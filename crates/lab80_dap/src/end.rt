@@ -1,0 +1,32 @@
+//! How serving ended.
+use cli_io::status::Status;
+use dap_debugger::conversation::ConversationEnd;
+use dap_debugger::incoming::StreamEnd;
+use dap_serve::server::ServerEnd;
+use dap_stream::fault::StreamFault;
+
+// Says what is wrong with the stream.
+fn tell_fault(rt: &impl Eprint, fault: StreamFault) -> Status {
+    let _ = eprintln!(rt; "broken stream: {fault}");
+    Status::Refused
+}
+
+/// The status of an end. Of a stream that can't be read on standard error says why.
+pub fn tell_end(rt: &impl Eprint, end: ServerEnd) -> Status {
+    let end = match end {
+        ServerEnd::Conversation(end) => end,
+        ServerEnd::NoThread => return Status::Failed,
+    };
+    match end {
+        ConversationEnd::Disconnected | ConversationEnd::Stream(StreamEnd::Ended) => {
+            Status::Success
+        }
+        ConversationEnd::Stream(StreamEnd::Broken(fault)) => tell_fault(rt, fault),
+        ConversationEnd::Stream(StreamEnd::OutOfMemory) | ConversationEnd::OutOfMemory => {
+            Status::OutOfMemory
+        }
+        ConversationEnd::Stream(StreamEnd::ReadFailed) | ConversationEnd::WriteFailed => {
+            Status::Failed
+        }
+    }
+}
