@@ -69,7 +69,7 @@ class Lines(unittest.TestResult):
 
     def addSkip(self, test, reason):
         super().addSkip(test, reason)
-        self.say(test, f"not for this language ({reason})" if reason else "not for this language")
+        self.say(test, f"passed over ({reason})" if reason else "passed over")
 
 
 def run(name):
@@ -112,12 +112,12 @@ def run_all(names):
 
 
 def kernels():
-    """The processes of the installed program."""
-    folder = os.environ["JUPYTER_PATH"]
+    """The processes of the installed programs."""
+    places = os.environ["JUPYTER_PATH"], os.environ["LAB80_DAP"]
     found = []
     for process in glob.glob("/proc/[0-9]*"):
         try:
-            if os.readlink(process + "/exe").startswith(folder):
+            if os.readlink(process + "/exe").startswith(places):
                 found.append(os.path.basename(process))
         except OSError:
             pass
@@ -125,7 +125,7 @@ def kernels():
 
 
 def has_left_none():
-    """Whether all kernels have ended, some time after the tests."""
+    """Whether all kernels and debuggers have ended, some time after the tests."""
     for _ in range(30):
         if not kernels():
             return True
@@ -142,7 +142,7 @@ def main():
     found = sorted(os.path.basename(path)[:-len(".py")] for path in glob.glob("test_*.py"))
     passed, failed = run_all(sys.argv[1:] or sorted(found, key=lambda name: name not in FIRST))
     is_clean = has_left_none()
-    print(f"{'passed' if is_clean else 'failed'}: no kernel is left running")
+    print(f"{'passed' if is_clean else 'failed'}: no kernel and no debugger is left running")
     print(f"{passed + is_clean} passed, {failed + (not is_clean)} failed")
     sys.exit(0 if is_clean and not failed else 1)
 

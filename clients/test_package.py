@@ -10,6 +10,7 @@ import unittest
 from unittest import mock
 
 import test_words
+from dap_wire import framed, written
 from lab80_client import HELLO, are_gone
 
 TOP = os.path.dirname(os.path.dirname(os.path.abspath(__file__)))
@@ -28,6 +29,10 @@ with run_kernel(kernel_name="lab80") as client:
     client.execute_interactive(sys.stdin.read(), timeout=10)
     print(client.kernel_info(reply=True, timeout=10)["content"]["implementation_version"])
 """
+
+# An editor's first words to the debugger, and its last ones.
+GREETING = {"seq": 1, "type": "request", "command": "initialize"}
+FAREWELL = {"seq": 2, "type": "request", "command": "disconnect"}
 
 # Runs words where the files of a root lie over the machine's. Nothing but these words sees that.
 OVERLAY = 'mount -t overlay lab80 -o ro,lowerdir="$0/usr":/usr /usr && exec "$@"'
@@ -159,7 +164,7 @@ class Package(unittest.TestCase):
     def test_removed_it_leaves_nothing(self):
         root = Root(os.path.join(self.folder, "root"))
         root.install(package)
-        self.assertIn("usr/bin/lab80", root.names())
+        self.assertLessEqual({"usr/bin/lab80", "usr/bin/lab80-dap"}, set(root.names()))
         root.remove()
         self.assertEqual(root.names(), [])
 
@@ -174,11 +179,17 @@ class Installed(unittest.TestCase):
         put = os.path.join(os.environ["JUPYTER_PATH"], "kernels/lab80")
         self.assertEqual(sorted(os.listdir(place.folder + KERNELSPEC)), sorted(os.listdir(put)))
 
-    def test_documents_lessons_and_examples(self):
-        for names in ("README.md", "docs/*.md", "docs/*.png", "lessons/*.ipynb", "examples/*"):
-            for path in glob.glob(names, root_dir=TOP):
+    def test_an_editor_is_answered(self):
+        asked = "".join(framed(written(it)).decode() for it in (GREETING, FAREWELL))
+        answered = place.call(f"{place.top}/usr/bin/lab80-dap", text=asked)
+        self.assertEqual(re.findall(r'"command":"(\w+)"', answered), ["initialize", "disconnect"])
+
+    def test_documents_lessons_examples_and_what_editors_need(self):
+        for names in ("README.md", "docs/*.md", "docs/*.png", "lessons/*.ipynb", "examples/*", "editors/**"):
+            for path in glob.glob(names, root_dir=TOP, recursive=True):
                 held = os.path.join(place.folder + DOCUMENTS, path)
-                self.assertTrue(filecmp.cmp(os.path.join(TOP, path), held, shallow=False), path)
+                if os.path.isfile(os.path.join(TOP, path)):
+                    self.assertTrue(filecmp.cmp(os.path.join(TOP, path), held, shallow=False), path)
 
     def test_the_licences_of_what_it_is_built_from(self):
         with open(place.folder + DOCUMENTS + "/copyright", encoding="utf-8") as file:

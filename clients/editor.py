@@ -1,0 +1,262 @@
+"""An editor's end of a debugging session: it asks lab80's debugger, and looks at each message that comes back."""
+import collections
+import json
+import os
+import select
+import socket
+import subprocess
+import tempfile
+import time
+import unittest
+
+import dap_schema
+from dap_wire import CLIENT, debugger, example, framed, request, split, written
+
+# How long a test waits for a message, in seconds.
+PATIENCE = 10
+
+
+class Ended(Exception):
+    """The debugger said no more."""
+
+
+class Editor:
+    """A debugger of its own, and what was said to it and heard from it. It ends with a `with`."""
+
+    def __init__(self, *words):
+        self.process = subprocess.Popen([debugger(), *words], stdin=subprocess.PIPE, stdout=subprocess.PIPE,
+                                        stderr=subprocess.PIPE, bufsize=0)
+        self.into, self.out = self.process.stdin.fileno(), self.process.stdout.fileno()
+        os.set_blocking(self.into, False)
+        self.heard, self.messages = b"", collections.deque()
+        self.last_heard, self.last_asked, self.asked = 0, 0, collections.deque()
+
+    def __enter__(self):
+        return self
+
+    def __exit__(self, *_):
+        self.process.kill()
+        with self.process:
+            pass
+
+    # ---- bytes
+
+    def say(self, data):
+        """Says these bytes, and meanwhile hears what comes."""
+        until = time.monotonic() + PATIENCE
+        while data:
+            readable, writable, _ = select.select([self.out], [self.into], [], max(until - time.monotonic(), 0))
+            if readable:
+                self.hear_some()
+            if writable:
+                data = data[os.write(self.into, data):]
+            if not readable and not writable:
+                raise TimeoutError("the debugger hears nothing")
+
+    def hear_some(self):
+        piece = os.read(self.out, 1 << 20)
+        if not piece:
+            raise Ended(self.heard)
+        bodies, self.heard = split(self.heard + piece)
+        self.messages.extend(self.checked(body) for body in bodies)
+
+    def checked(self, body):
+        """A message, which must be as the debugger writes all: numbered without a gap, and as the protocol's schema has it; a
+        response must be that to the first request which has none."""
+        message = json.loads(body)
+        self.last_heard += 1
+        faults = dap_schema.faults(message)
+        if message["type"] == "response" and self.asked:
+            wanted = self.asked.popleft()
+            if (message["request_seq"], message["command"]) != wanted:
+                faults.append(f"response to {wanted} expected")
+        if message["seq"] != self.last_heard:
+            faults.append(f"number {self.last_heard} expected")
+        if written(message) != body:
+            faults.append("another form of JSON expected")
+        if faults:
+            raise AssertionError(f"{faults}: {body!r}")
+        return message
+
+    # ---- messages
+
+    def wait(self, seconds=PATIENCE):
+        """Waits until something is said."""
+        if not select.select([self.out], [], [], max(seconds, 0))[0]:
+            raise TimeoutError("nothing is said")
+
+    def next(self, seconds=PATIENCE):
+        """The next message."""
+        until = time.monotonic() + seconds
+        while not self.messages:
+            self.wait(until - time.monotonic())
+            self.hear_some()
+        return self.messages.popleft()
+
+    def is_quiet(self, seconds=0.2):
+        """Whether nothing more is said for a while."""
+        try:
+            self.messages.appendleft(self.next(seconds))
+        except TimeoutError:
+            return True
+        return False
+
+    def request(self, command, arguments=None):
+        """A request's bytes; its response is expected from now on."""
+        self.last_asked += 1
+        self.asked.append((self.last_asked, command))
+        return framed(request(self.last_asked, command, arguments))
+
+    def send(self, command, arguments=None):
+        """Sends a request, and waits for nothing."""
+        self.say(self.request(command, arguments))
+
+    def ask(self, command, **arguments):
+        """Sends a request: its response, which must be the next message. Events that came before are dropped."""
+        self.messages.clear()
+        self.send(command, arguments)
+        return self.response()
+
+    def response(self):
+        """The next response; what is said before it belongs to a run that was under way."""
+        while (message := self.next())["type"] != "response":
+            pass
+        return message
+
+    def do(self, command, **arguments):
+        """Sends a request that must succeed: its body."""
+        response = self.ask(command, **arguments)
+        if not response["success"]:
+            raise AssertionError(response)
+        return response["body"]
+
+    def refusal(self, command, **arguments):
+        """Sends a request that must be refused: the message."""
+        response = self.ask(command, **arguments)
+        if response["success"] or "body" in response:
+            raise AssertionError(response)
+        return response["message"]
+
+    def event(self):
+        """The next message's name and body, which must be an event."""
+        message = self.next()
+        if message["type"] != "event":
+            raise AssertionError(message)
+        return message["event"], message.get("body")
+
+    def events_to(self, name):
+        """All events up to the next one of this name, which is the last."""
+        events = [self.event()]
+        while events[-1][0] != name:
+            events.append(self.event())
+        return events
+
+    # ---- what an editor does
+
+    def initialize(self):
+        return self.do("initialize", **CLIENT)
+
+    def launch(self, path, **options):
+        """Begins as editors do, up to where breakpoints are set."""
+        self.initialize()
+        self.do("launch", program=path, **options)
+        if self.event() != ("initialized", None):
+            raise AssertionError("initialized expected")
+
+    def set_breakpoints(self, path, lines):
+        """Sets a source's breakpoints: what is answered for each, its line and whether it is verified."""
+        wanted = {"source": {"path": path}, "breakpoints": [{"line": line} for line in lines]}
+        shown = self.do("setBreakpoints", **wanted)["breakpoints"]
+        return [(it["line"], it["verified"]) for it in shown]
+
+    def run_to(self, path, *lines, **options):
+        """Launches a program with breakpoints on these lines, and runs it to the first stop: why it stopped."""
+        self.launch(path, **options)
+        self.set_breakpoints(path, lines)
+        self.do("configurationDone")
+        return self.stop()
+
+    def stop(self):
+        """Runs to the next stop: why."""
+        return self.events_to("stopped")[-1][1]["reason"]
+
+    def step(self, command, **arguments):
+        """Makes a step, which must come to a stop: the routine and the line."""
+        self.do(command, threadId=1, **arguments)
+        if self.event()[0] != "continued" or self.stop() != "step":
+            raise AssertionError(f"{command} expected")
+        return self.place()
+
+    def frames(self):
+        """The routines that are live, innermost first, with their lines."""
+        return [(it["name"], it["line"]) for it in self.do("stackTrace", threadId=1)["stackFrames"]]
+
+    def place(self):
+        return self.frames()[0]
+
+    def shown(self, scope):
+        """The variables of a scope, by its number."""
+        return {it["name"]: it["value"] for it in self.do("variables", variablesReference=scope)["variables"]}
+
+    def evaluate(self, expression, context="hover"):
+        """What an expression gives, or why it is refused."""
+        response = self.ask("evaluate", expression=expression, context=context)
+        return response["body"]["result"] if response["success"] else response["message"]
+
+    def output_to_end(self):
+        """Hears a run to its end: what the program printed, and the exit code."""
+        events = self.events_to("terminated")
+        codes = [body["exitCode"] for name, body in events if name == "exited"]
+        if codes == [] or codes[1:] or events[-2][0] != "exited":
+            raise AssertionError(events)
+        return printed(events), codes[0]
+
+    def end(self, seconds=5):
+        """Says no more: the exit status, and what stands on standard error."""
+        self.process.stdin.close()
+        return self.ended(seconds)
+
+    def ended(self, seconds=5):
+        """The same of a debugger that ends by itself. The messages up to its end are kept."""
+        until = time.monotonic() + seconds
+        try:
+            while True:
+                self.wait(until - time.monotonic())
+                self.hear_some()
+        except Ended:
+            pass
+        if self.heard:
+            raise AssertionError(f"a message that is cut: {self.heard!r}")
+        status = self.process.wait(max(until - time.monotonic(), 0.1))
+        return status, self.process.stderr.read().decode()
+
+
+def printed(events, category="stdout"):
+    """The output of a category among events."""
+    return "".join(body["output"] for name, body in events if name == "output" and body["category"] == category)
+
+
+class Session(unittest.TestCase):
+    """Tests over debuggers of their own, with programs in a folder of their own."""
+
+    def setUp(self):
+        self.folder = self.enterContext(tempfile.TemporaryDirectory())
+
+    def program(self, text, name="program.asm"):
+        """The path of a file with this text."""
+        path = os.path.join(self.folder, name)
+        with open(path, "w", encoding="utf-8", newline="") as file:
+            file.write(text)
+        return path
+
+    def count(self):
+        """The path of a copy of examples/count.asm."""
+        return self.program(example("count.asm"), "count.asm")
+
+    def editor(self, *words):
+        return self.enterContext(Editor(*words))
+
+
+def free_port():
+    with socket.create_server(("127.0.0.1", 0)) as listener:
+        return listener.getsockname()[1]

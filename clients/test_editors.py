@@ -1,0 +1,244 @@
+"""Editors that debug a program with lab80's debugger, and what editors/ has for them."""
+import json
+import os
+import re
+import shutil
+import subprocess
+import tomllib
+import unittest
+import xml.etree.ElementTree
+
+import kate
+from dap_wire import TOP, debugger
+from editor import Session
+
+EDITORS = os.path.join(TOP, "editors")
+
+# What is seen in Emacs (emacs_session.el).
+SEEN_IN_EMACS = """\
+lab80-dap-run: SHOW, line 10, cursor in line 10
+dap-next: SHOW, line 11, cursor in line 11
+dap-next: SHOW, line 12, cursor in line 12
+dap-step-out: main, line 6, cursor in line 6
+dap-step-in: main, line 7, cursor in line 7
+A lab80: 033H
+b lab80: 002H
+SHOW+1 lab80: 0010CH
+$ lab80: 00107H
+1/ lab80: column 1: Operands
+switches 5 lab80: ok
+switches 256 lab80: a number from 0 to 255 must follow
+B lab80: 009H
+0100 lab80: the value is no number that fits there
+scopes: Registers Flags Devices Symbols Memory
+registers: 033H 009H 000H 000H 000H 000H 000H 00000H 00107H
+lab80-dap-run: SHOW, line 10, cursor in line 10
+B lab80: 001H
+ended: terminated
+output: "39"
+"""
+
+# What Kate asks in its session, but for what it shows.
+ASKED_BY_KATE = ["initialize", "launch", "setBreakpoints", "configurationDone", "evaluate", "next", "stepOut", "stepIn", "continue",
+                 "setBreakpoints", "continue", "disconnect"]
+SHOWING = ("threads", "stackTrace", "scopes", "variables")
+
+
+def words_of_the_assembler():
+    """The one list of words that mean something by themselves, by their kinds."""
+    with open(os.path.join(TOP, "kernelspec/kernel.js"), encoding="utf-8") as file:
+        listed = re.search(r"const WORDS = \{(.*?)\};", file.read(), re.S)[1]
+    return {kind: words.split() for kind, words in re.findall(r'(\w+): "([^"]*)"', listed)}
+
+
+def read_json(*path):
+    with open(os.path.join(EDITORS, *path), encoding="utf-8") as file:
+        return json.load(file)
+
+
+class Emacs(Session):
+    def test_a_program_is_debugged(self):
+        if not shutil.which("emacs") or not os.path.isdir("/usr/share/emacs/site-lisp/elpa-src/dap-mode-0.7"):
+            self.skipTest("Emacs with dap-mode isn't here: emacs-nox, elpa-dap-mode")
+        self.count()
+        script = os.path.join(TOP, "clients/emacs_session.el")
+        environment = os.environ | {"HOME": self.folder, "LAB80_EDITORS": EDITORS, "LAB80_DAP": debugger()}
+        done = subprocess.run(["emacs", "--batch", "-l", script], cwd=self.folder, env=environment, capture_output=True, text=True,
+                              timeout=80, check=False)
+        self.assertEqual((done.returncode, done.stdout), (0, SEEN_IN_EMACS), done.stderr)
+
+    def test_its_file_compiles_without_a_warning(self):
+        if not shutil.which("emacs") or not os.path.isdir("/usr/share/emacs/site-lisp/elpa-src/dap-mode-0.7"):
+            self.skipTest("Emacs with dap-mode isn't here: emacs-nox, elpa-dap-mode")
+        shutil.copy(os.path.join(EDITORS, "emacs/lab80-dap.el"), self.folder)
+        words = ["emacs", "--batch", "--eval", "(progn (package-initialize) (setq byte-compile-error-on-warn t))",
+                 "-f", "batch-byte-compile", "lab80-dap.el"]
+        done = subprocess.run(words, cwd=self.folder, env=os.environ | {"HOME": self.folder}, capture_output=True, text=True,
+                              timeout=80, check=False)
+        self.assertEqual(done.returncode, 0, done.stderr)
+
+
+class Kate(Session):
+    def test_a_program_is_debugged(self):
+        if not kate.is_here():
+            self.skipTest("Kate on a screen that nobody sees isn't here: kate, xvfb, xdotool")
+        path = self.count()
+        with kate.Kate(self.folder, path, 10) as window:
+            self.debug(window, path)
+            kate.wait_for("no process of the debugger", lambda: "tee" not in dict(window.processes()))
+
+    def debug(self, window, path):
+        def stops(count):
+            return lambda: len(window.events("stopped")) == count
+
+        def line():
+            frames = [it for it in window.said() if it.get("command") == "stackTrace"][-1]["body"]["stackFrames"]
+            return frames[0]["name"], frames[0]["line"]
+
+        window.do(kate.START, "initialized", lambda: window.events("initialized"))
+        window.do(kate.BREAKPOINT, "breakpoints", lambda: window.asked()[-1]["command"] == "setBreakpoints")
+        window.do(kate.CONTINUE, "stopped at the breakpoint", stops(1))
+        self.assertEqual(line(), ("SHOW", 10))
+        window.do(kate.PRINT, "a value", lambda: window.asked()[-1]["command"] == "evaluate")
+        self.assertEqual(window.said()[-1]["body"]["result"], "0010BH")
+        for letter, count, place in ((kate.STEP_OVER, 2, ("SHOW", 11)), (kate.STEP_OUT, 3, ("main", 6)),
+                                     (kate.STEP_IN, 4, ("main", 7))):
+            window.do(letter, "a step", stops(count))
+            self.assertEqual(line(), place)
+            if letter == kate.STEP_OVER and os.environ.get("LAB80_PICTURES"):
+                window.picture(os.path.join(os.environ["LAB80_PICTURES"], "kate.png"))
+        window.do(kate.CONTINUE, "stopped at the breakpoint again", stops(5))
+        window.do(kate.BREAKPOINT, "no breakpoints", lambda: window.asked()[-1]["command"] == "setBreakpoints")
+        window.choose(kate.CONTINUE)
+        kate.wait_for("its end", lambda: window.asked()[-1]["command"] == "disconnect")
+        self.assertEqual([it["command"] for it in window.asked() if it["command"] not in SHOWING], ASKED_BY_KATE)
+        self.assertEqual("".join(body["output"] for body in window.events("output")), "321")
+        self.assertEqual(window.events("exited"), [{"exitCode": 0}])
+        self.assertEqual([it for it in window.said() if it.get("success") is False], [])
+
+
+class VisualStudioCode(unittest.TestCase):
+    """The extension as far as it can be read; it wasn't tried in Visual Studio Code."""
+
+    manifest = read_json("vscode", "package.json")
+
+    def test_the_manifest_has_known_keys(self):
+        known = {"name", "displayName", "description", "version", "publisher", "private", "engines", "categories", "main",
+                 "activationEvents", "contributes"}
+        self.assertLessEqual(set(self.manifest), known)
+        contributes = self.manifest["contributes"]
+        self.assertLessEqual(set(contributes), {"languages", "grammars", "breakpoints", "configuration", "debuggers"})
+        for name, known in (
+            ("languages", {"id", "aliases", "extensions", "configuration"}),
+            ("grammars", {"language", "scopeName", "path"}),
+            ("breakpoints", {"language"}),
+            ("debuggers", {"type", "label", "languages", "configurationAttributes", "initialConfigurations",
+                           "configurationSnippets"}),
+        ):
+            for each in contributes[name]:
+                self.assertLessEqual(set(each), known, name)
+        for each in contributes["configuration"]["properties"].values():
+            self.assertLessEqual(set(each), {"type", "default", "description"})
+
+    def test_its_names_agree(self):
+        contributes = self.manifest["contributes"]
+        [language], [debugger_] = contributes["languages"], contributes["debuggers"]
+        self.assertEqual([it["language"] for it in contributes["grammars"] + contributes["breakpoints"]], [language["id"]] * 2)
+        self.assertEqual(debugger_["languages"], [language["id"]])
+        snippets = [it["body"] for it in debugger_["configurationSnippets"]]
+        for each in debugger_["initialConfigurations"] + snippets:
+            self.assertEqual((each["type"], each["request"]), (debugger_["type"], "launch"))
+            self.assertLessEqual(set(each) - {"type", "request", "name"}, set(self.attributes()))
+        with open(os.path.join(TOP, "VERSION"), encoding="ascii") as file:
+            self.assertEqual(self.manifest["version"], file.read().strip() + ".0")
+
+    def attributes(self):
+        return self.manifest["contributes"]["debuggers"][0]["configurationAttributes"]["launch"]["properties"]
+
+    def test_a_launch_has_the_debuggers_arguments(self):
+        self.assertEqual({name: it["type"] for name, it in self.attributes().items()}, {
+            "program": "string", "stopOnEntry": "boolean", "noDebug": "boolean", "aliases": "boolean", "switches": "integer"})
+        for each in self.attributes().values():
+            self.assertLessEqual(set(each), {"type", "description", "default", "minimum", "maximum"})
+
+    def test_the_files_that_it_names_are_there(self):
+        contributes = self.manifest["contributes"]
+        named = [self.manifest["main"], contributes["grammars"][0]["path"], contributes["languages"][0]["configuration"]]
+        for path in named:
+            self.assertTrue(os.path.isfile(os.path.join(EDITORS, "vscode", path)), path)
+        read_json("vscode", contributes["languages"][0]["configuration"])
+
+
+# What is written, and how each word of it is coloured.
+COLOURED = (
+    ("START:  LXI H,TEXT ; A",
+     [("START", "label"), ("LXI", "transfer"), ("H", "register"), ("TEXT", "other"), ("; A", "semicolon")]),
+    ("count equ 5*(lines-1)",
+     [("count", "label"), ("equ", "directive"), ("5", "numeric"), ("*", "operator"), ("lines", "other"), ("-", "operator"),
+      ("1", "numeric")]),
+    ("  db 'IT''S',0FFH,2B,101b",
+     [("db", "directive"), ("'IT''S'", "single"), ("0FFH", "numeric"), ("2B", "number"), ("101b", "numeric")]),
+    ("  MVI A,'x", [("MVI", "transfer"), ("A", "register"), ("'x", "string")]),
+    ("?A@1 : MOVE", [("?A@1", "label"), ("MOVE", "other")]),
+    ("  IF NOT DEBUG", [("IF", "directive"), ("NOT", "word"), ("DEBUG", "other")]),
+    ("  jmp $+3", [("jmp", "branch"), ("$", "operator"), ("+", "operator"), ("3", "numeric")]),
+)
+
+
+class Grammar(unittest.TestCase):
+    """The colours of the language, as a grammar for TextMate."""
+
+    patterns = read_json("vscode", "syntaxes", "i8080.tmLanguage.json")["patterns"]
+
+    def test_its_words_are_the_assemblers(self):
+        kinds = words_of_the_assembler()
+        names = {"operator": "word"}
+        for kind, words in kinds.items():
+            [found] = [it for it in self.patterns if it["name"].split(".")[-2] == names.get(kind, kind) and "(?i:" in it["match"]
+                       and "|" in it["match"]]
+            self.assertEqual(re.search(r"\(\?i:([A-Z|]+)\)", found["match"])[1].split("|"), words, kind)
+
+    def coloured(self, line):
+        """Each part of a line with the last word but one of its style's name: at each place the first that matches."""
+        at, found = 0, []
+        while at < len(line):
+            tried = ((re.compile(it["match"]).match(line, at), it["name"].split(".")[-2]) for it in self.patterns)
+            matches = [(match, name) for match, name in tried if match]
+            if matches:
+                match, name = matches[0]
+                found.append((match[0], name))
+            at = matches[0][0].end() if matches else at + 1
+        return found
+
+    def test_colours(self):
+        for line, parts in COLOURED:
+            self.assertEqual(self.coloured(line), parts, line)
+
+
+class Configurations(unittest.TestCase):
+    """What editors/ has for other editors can be read, and names the debugger."""
+
+    def test_vim(self):
+        read = read_json("vim", "vimspector.json")
+        self.assertEqual(read["adapters"]["lab80"]["command"], ["lab80-dap"])
+        for each in read["configurations"].values():
+            self.assertIn(each["adapter"], read["adapters"])
+
+    def test_helix(self):
+        with open(os.path.join(EDITORS, "helix/languages.toml"), "rb") as file:
+            [language] = tomllib.load(file)["language"]
+        self.assertEqual(language["debugger"]["command"], "lab80-dap")
+        for each in language["debugger"]["templates"]:
+            self.assertEqual(each["request"], "launch")
+
+    def test_kate(self):
+        [configured] = read_json("kate", "dap.json")["dap"].values()
+        self.assertEqual(configured["run"]["command"], ["lab80-dap"])
+        colours = xml.etree.ElementTree.parse(os.path.join(EDITORS, "kate/i8080.xml"))
+        lists = {it.get("name"): [item.text for item in it] for it in colours.iter("list")}
+        self.assertEqual(lists, words_of_the_assembler())
+        self.assertEqual({it.get("String") for it in colours.iter("keyword")}, set(lists))
+
+
+if __name__ == "__main__":
+    unittest.main()
