@@ -143,8 +143,13 @@ class Page:
         self.waits(lambda: self.state() == state)
 
     def stops(self, reason, line):
-        """Waits until it shows a stop on a line."""
-        self.waits(lambda: (self.state(), self.line()) == (f"stopped: {reason}", line))
+        """Waits until it shows a stop on a line; in vain, it tells what is shown instead."""
+        wanted = f"stopped: {reason}", line
+        try:
+            self.waits(lambda: (self.state(), self.line()) == wanted)
+        except TimeoutError:
+            shown = self.state(), self.line(), self.message()
+            raise TimeoutError(f"it shows {shown}, and not {wanted}") from None
 
     def prints(self, text):
         self.waits(lambda: self.console() == text)

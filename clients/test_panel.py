@@ -480,6 +480,19 @@ class Panel(Pages, Doors):
         page.run("noteStop(arguments[0], false); showState()", seq + 1)
         self.assertEqual(page.state(), "running")
 
+    def test_a_stop_that_comes_behind_a_later_answer_tells_its_reason(self):
+        page = self.stopped(CALLS, 4)
+        page.run("""
+            const hears = hear, held = [];
+            hear = message => message.header.msg_type === "debug_event" ? void held.push(message) : hears(message);
+            window.release = () => { hear = hears; held.forEach(hears); };""")
+        page.command("stepIn")
+        time.sleep(0.5)
+        page.run("lookSoon(0)")
+        page.waits(lambda: page.line() == 7)
+        page.run("window.release()")
+        page.stops("step", 7)
+
     def test_texts_are_shown_as_texts(self):
         html = "<img src=x onerror='window.hurt = 1'>"
         page = self.open()
