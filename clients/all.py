@@ -99,16 +99,31 @@ def run_apart(name):
     return lines, int(count[1]), int(count[2])
 
 
+def run_again(lines):
+    """Once more by themselves, the tests that these lines say have failed: how many pass now. Beside others a browser or a
+    kernel may get no processor for as long as a test has patience."""
+    failed = [line.partition(": ")[2] for line in lines if re.fullmatch(r"failed: test_\w+\.\w+\.\w+", line)]
+    mended = 0
+    for name in dict.fromkeys(failed):
+        again, passed, others = run_apart(name)
+        print("\n".join(f"once more: {line}" for line in again), flush=True)
+        mended += passed == 1 and others == 0 and failed.count(name) == 1
+    return mended
+
+
 def run_all(names):
-    """Several files side by side, two on two processors; each file's lines come together."""
-    sums = [0, 0]
+    """Several files side by side, two on two processors; each file's lines come together. What fails is run once more at
+    the end; both lines stand."""
+    sums, all_lines = [0, 0], []
     with concurrent.futures.ThreadPoolExecutor(max(2, (os.cpu_count() or 1) // 2)) as pool:
         ends = [pool.submit(run_apart, name) for name in names]
         for end in concurrent.futures.as_completed(ends):
             lines, *counts = end.result()
             print("\n".join(lines), flush=True)
+            all_lines += lines
             sums = [sum(pair) for pair in zip(sums, counts)]
-    return sums
+    mended = run_again(all_lines)
+    return sums[0] + mended, sums[1] - mended
 
 
 def kernels():
