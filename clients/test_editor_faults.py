@@ -71,7 +71,7 @@ WRONG_ARGUMENTS = (
     ("writeMemory", {"memoryReference": "0x0000", "data": "AA"}),
     ("writeMemory", {"memoryReference": "0x0000", "data": "A" * 87_384}),
     ("disassemble", {"memoryReference": "0x0000"}), ("disassemble", {"memoryReference": "0x0000", "instructionCount": "1"}),
-    ("disassemble", {"memoryReference": "0x0000", "instructionCount": 257}),
+    ("disassemble", {"memoryReference": "0x0000", "instructionCount": 1025}),
     ("scopes", {}), ("variables", {}), ("setVariable", {"variablesReference": 1, "name": "A"}), ("source", {}),
     ("boardSwitches", {"value": 256}), ("boardAliases", {"aliases": 1}), ("stackTrace", 1),
 )

@@ -491,8 +491,8 @@ class Boards(Session):
         for back in range(1, 7):
             self.assertEqual(listed(instructionCount=back + 4, instructionOffset=-back), program[6 - back:], back)
         self.assertEqual(listed(instructionCount=2, instructionOffset=-8), [("0x00fe", "NOP"), ("0x00ff", "NOP")])
-        self.assertEqual(len(listed(instructionCount=256, instructionOffset=-65536)), 256)
-        for wanted in ({"instructionCount": 0}, {"instructionCount": 257}, {},
+        self.assertEqual(len(listed(instructionCount=1024, instructionOffset=-65536)), 1024)
+        for wanted in ({"instructionCount": 0}, {"instructionCount": 1025}, {},
                        {"instructionCount": 1, "instructionOffset": -65537}):
             self.assertFalse(editor.ask("disassemble", memoryReference="0x010b", **wanted)["success"], wanted)
 

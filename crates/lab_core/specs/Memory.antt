@@ -1,5 +1,5 @@
 -- Where an event may be answered with out of memory.
-use Rattle.std.specs.Prelude.{◌≡◌, IsOk, IsSome}
+use Rattle.std.specs.Prelude.{◌≡◌, Ok, None, IsOk, IsSome}
 use Rattle.lab_sources.specs.Sources.{place_of, source_at}
 use Rattle.lab_views.specs.Views.{shown}
 use Rattle.lab_core.specs.declared.run_state.RunState.TheVariants.{NoRun, Running}
@@ -13,7 +13,7 @@ use Rattle.lab_core.specs.Labs.{LabState, StandsFor}
 abbrev pub Takes : Event → Board → Type 0
 Takes (event.Load path text) b =
     (b.run ≡ NoRun) × IsOk (place_of (record { path = path; text = text }) b.sources)
-Takes (event.Dump path text) b = IsOk (place_of (record { path = path; text = text }) b.sources)
+Takes (event.Dump path text) b = place_of (record { path = path; text = text }) b.sources ≡ Ok None
 Takes (event.SetBreakpoints path lines) b = IsSome (source_at b.sources path)
 Takes (event.Slice n) b = b.run ≡ Running
 Takes (event.Show view) b = IsOk (shown view (parts_of b))

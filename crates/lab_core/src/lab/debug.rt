@@ -50,8 +50,7 @@ impl Lab {
             return Err(EventFault::NotAttached);
         }
         match self.run_state {
-            RunState::NoRun => Err(EventFault::NotRunning),
-            RunState::Stopped => Err(EventFault::NotRunning),
+            RunState::NoRun | RunState::Stopped => Err(EventFault::NotRunning),
             RunState::Running => {
                 self.run_state = RunState::Stopped;
                 self.context.request = None;
@@ -66,8 +65,7 @@ impl Lab {
         ensures memory { result ≡ Err EventFault.OutOfMemory → MayLackMemory Event.Resume self.old }
     {
         match self.run_state {
-            RunState::NoRun => Err(EventFault::NotStopped),
-            RunState::Running => Err(EventFault::NotStopped),
+            RunState::NoRun | RunState::Running => Err(EventFault::NotStopped),
             RunState::Stopped => {
                 self.go_on(None);
                 Ok(Answer::Accepted)
@@ -81,8 +79,7 @@ impl Lab {
         ensures memory { result ≡ Err EventFault.OutOfMemory → MayLackMemory (Event.Step request) self.old }
     {
         match self.run_state {
-            RunState::NoRun => Err(EventFault::NotStopped),
-            RunState::Running => Err(EventFault::NotStopped),
+            RunState::NoRun | RunState::Running => Err(EventFault::NotStopped),
             RunState::Stopped => {
                 self.go_on(Some(request));
                 Ok(Answer::Accepted)
@@ -144,8 +141,7 @@ impl Lab {
         self.context.request = None;
         self.run_state = match self.run_state {
             RunState::NoRun => RunState::NoRun,
-            RunState::Running => RunState::Running,
-            RunState::Stopped => RunState::Running,
+            RunState::Running | RunState::Stopped => RunState::Running,
         };
         Ok(Answer::Accepted)
     }

@@ -114,8 +114,7 @@ impl Lab {
         ensures memory { result ≡ Err EventFault.OutOfMemory → MayLackMemory (Event.Start address) self.old }
     {
         match self.run_state {
-            RunState::Running => Err(EventFault::Busy),
-            RunState::Stopped => Err(EventFault::Busy),
+            RunState::Running | RunState::Stopped => Err(EventFault::Busy),
             RunState::NoRun => {
                 self.forget_steps();
                 self.machine.set_pc(address);
@@ -132,8 +131,7 @@ impl Lab {
     {
         match self.run_state {
             RunState::NoRun => Err(EventFault::NotRunning),
-            RunState::Running => Ok(self.end_run()),
-            RunState::Stopped => Ok(self.end_run()),
+            RunState::Running | RunState::Stopped => Ok(self.end_run()),
         }
     }
 
@@ -194,8 +192,7 @@ impl Lab {
         ensures memory { result ≡ Err EventFault.OutOfMemory → MayLackMemory (Event.SetBoard option) self.old }
     {
         match self.run_state {
-            RunState::Running => Err(EventFault::Busy),
-            RunState::Stopped => Err(EventFault::Busy),
+            RunState::Running | RunState::Stopped => Err(EventFault::Busy),
             RunState::NoRun => {
                 self.machine.set_board(option);
                 Ok(Answer::BoardSet)

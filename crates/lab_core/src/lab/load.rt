@@ -27,8 +27,7 @@ impl Lab {
         ensures memory { result ≡ Err EventFault.OutOfMemory → MayLackMemory (Event.Load path.now text.now) self.old }
     {
         match self.run_state {
-            RunState::Running => Err(EventFault::Busy),
-            RunState::Stopped => Err(EventFault::Busy),
+            RunState::Running | RunState::Stopped => Err(EventFault::Busy),
             RunState::NoRun => {
                 let place = self.sources.place(path, text)?;
                 let built = self.assemble(text)?;

@@ -25,8 +25,7 @@ impl Lab {
             → MayLackMemory (Event.Poke reference name.now value.now) self.old }
     {
         match self.run_state {
-            RunState::NoRun => Err(EventFault::NotStopped),
-            RunState::Running => Err(EventFault::NotStopped),
+            RunState::NoRun | RunState::Running => Err(EventFault::NotStopped),
             RunState::Stopped => self.change(reference, name, value),
         }
     }

@@ -20,8 +20,7 @@ impl Lab {
         ensures memory { result ≡ Err EventFault.OutOfMemory → MayLackMemory (Event.Slice n) self.old }
     {
         match self.run_state {
-            RunState::NoRun => Err(EventFault::NotRunning),
-            RunState::Stopped => Err(EventFault::NotRunning),
+            RunState::NoRun | RunState::Stopped => Err(EventFault::NotRunning),
             RunState::Running => {
                 self.context.devices.reserve_out(n.into())?;
                 let (executed, outcome) = self.run_on(n);
