@@ -1,6 +1,6 @@
 //! How long a running cell is held back, how often it tells of its posts, and when a journal is nearly full.
 ghost use Rattle.std.specs.Prelude.{◌≡◌, ◌<◌, ◌≤◌, ◌*◌, ◌-◌, ◌↔◌, IsTrue, min, max};
-ghost use Rattle.kern_serve.specs.Pacing.{pause, next_gap};
+ghost use Rattle.kern_pace.specs.Pacing.{pause, next_gap};
 
 use kern_desk::desks::MOST_ENTRIES;
 
@@ -29,7 +29,7 @@ const LONGEST_PAUSE: u64 = 1_000_000;
 
 /// How long to wait after so many entries, in microseconds, where the journal has room for so many more.
 #[tactic(auto, unfolding(crate::specs::Pacing::pause))]
-pub fn pause(spent: u64, rest: u64) -> u64
+fn pause(spent: u64, rest: u64) -> u64
     requires spent { spent ≤ 4194304 }
     requires rest { 0 < rest }
     ensures { result ≡ pause spent rest }

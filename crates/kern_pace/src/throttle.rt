@@ -1,7 +1,7 @@
 //! How a channel holds connections back where many strangers come: peers that left without a message that
 //! opens. Moments are milliseconds since the server began.
 ghost use Rattle.std.specs.Prelude.{◌≡◌, ◌≤◌, ◌↔◌, ⊤, IsTrue, replicate};
-ghost use Rattle.kern_serve.specs.Strangers.{with_stranger, IsCrowded, HasTurn};
+ghost use Rattle.kern_pace.specs.Strangers.{with_stranger, IsCrowded, HasTurn};
 
 use std::marker::Model;
 
@@ -24,7 +24,7 @@ pub struct Throttle {
 }
 
 impl Model for Throttle {
-    ghost use Rattle.kern_serve.specs.Strangers.{ThrottleState};
+    ghost use Rattle.kern_pace.specs.Strangers.{ThrottleState};
 
     ghost Value = { ThrottleState };
 

@@ -2,10 +2,6 @@
 ghost use Rattle.std.specs.Prelude.{◌≡◌, ◌≤◌, ◌+◌, ◌<◌, ◌↔◌, IsTrue};
 
 use crate::bell::{Bell, Place};
-use crate::pace::{
-    JOURNAL_LIMIT, RESERVE, SHORTEST_GAP, SLICES_AT_FULL_SPEED, SUBSCRIPTIONS_AT_FULL_SPEED,
-    is_nearly_full, next_gap, pause_at,
-};
 use crate::spot::Spot;
 use crate::system::unix_seconds;
 use jup_wire::channel::Channel;
@@ -13,6 +9,10 @@ use kern_desk::seated::Pass;
 use kern_net::gate::{ReaderGate, WorkerGate, WriterGate};
 use kern_net::pump_out::NUMBERS_OF_A_FETCH;
 use kern_net::tally::{Tally, WorkerTally, one_more};
+use kern_pace::pace::{
+    JOURNAL_LIMIT, RESERVE, SHORTEST_GAP, SLICES_AT_FULL_SPEED, SUBSCRIPTIONS_AT_FULL_SPEED,
+    is_nearly_full, next_gap, pause_at,
+};
 use std::rt::Clock;
 use std::sync::Wait;
 use std::sync::atomic::{AtomicBool, Ordering};

@@ -2,8 +2,8 @@
 // a connection file, `serve` serves them until a shutdown comes or the journal is full.
 // Sixteen connections a channel are served at once, each by a reader and a writer with passes of their
 // own, for good; the thread that calls `serve` is the worker. Further connections wait for a free place.
-// Contracts say that each thread has passes of this kernel alone, that gates count what they say, how the
-// journal is paced and when strangers are held back. That threads wake one another is only tested.
+// Contracts say that each thread has passes of this kernel alone, and that gates count what they say; the pace is
+// kern_pace's. That threads wake one another is only tested.
 #![tactic(auto)]
 
 mod bell;
@@ -13,10 +13,8 @@ mod gates;
 pub mod host;
 pub mod listeners;
 mod outlet;
-mod pace;
 pub mod server;
 mod socket;
 mod spot;
 pub mod system;
-mod throttle;
 mod throttles;

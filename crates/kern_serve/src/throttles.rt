@@ -1,8 +1,8 @@
 //! The throttles of a server's channels, which its lanes share.
 ghost use Rattle.std.specs.Prelude.{◌≤◌, IfSome};
 
-use crate::throttle::Throttle;
 use jup_wire::channel::Channel;
+use kern_pace::throttle::Throttle;
 use std::rt::Clock;
 use std::sync::{Mutex, Wait};
 use std::thread;
