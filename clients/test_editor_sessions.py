@@ -518,6 +518,8 @@ class Ends(Session):
             file.seek(0)
             file.write(text)
         editor.do("restart")
+        # The run that was stopped is there no more.
+        self.assertEqual([name for name, _ in editor.events_to("continued")], ["breakpoint", "continued"])
         self.assertEqual(editor.stop(), "breakpoint")
         self.assertEqual((editor.place(), editor.evaluate("B")), (("SHOW", SHOW), "002H"))
         editor.set_breakpoints(path, [])
@@ -525,6 +527,14 @@ class Ends(Session):
         self.assertEqual(editor.output_to_end(), ("21", 0))
         editor.do("restart")
         self.assertEqual(editor.output_to_end(), ("21", 0))
+
+    def test_a_restart_stops_on_entry_again(self):
+        editor = self.editor()
+        editor.run_to(self.count(), stopOnEntry=True)
+        editor.step("next")
+        editor.do("restart")
+        self.assertEqual([body.get("reason") for _, body in editor.events_to("stopped")], ["entry"])
+        self.assertEqual(editor.frames(), [("main", 3)])
 
     def test_a_restart_with_a_slip_leaves_the_old_program(self):
         editor, path = self.editor(), self.count()

@@ -1,6 +1,6 @@
 -- What each debug command makes of a board (Debug Adapter Protocol, "Requests"; Jupyter messaging,
 -- "Debug request").
-use Rattle.std.specs.Prelude.{ℕ, ◌+◌, Result, Ok, Err, OnErr, ◌≡◌, Bool, true, false}
+use Rattle.std.specs.Prelude.{ℕ, ◌+◌, ◌≤◌, length, Result, Ok, Err, OnErr, ◌≡◌, Bool, true, false}
 use Rattle.base_text.specs.Bytes.{Text}
 use Rattle.base_text.specs.Latin.{latin_bytes}
 use Rattle.i80_rows.specs.declared.board.Board.{Board as BoardOption}
@@ -113,6 +113,11 @@ performed (command.BoardPress vector) b = done (event.Press vector) body.Empty b
 performed (command.BoardType text) b = done (event.Typed (latin_bytes text)) body.Empty b
 performed command.BoardReset b = done event.Reset body.Empty b
 performed (command.BoardAliases aliases) b = done (event.SetBoard (board_with aliases)) body.Empty b
+
+-- no list of lines is longer than a board takes
+abbrev pub IsPerformable : DapCommand → Type 0
+IsPerformable (command.SetBreakpoints path lines) = length lines ≤ 256
+IsPerformable other = Unit {0}
 
 -- the commands that look at the board
 abbrev pub IsLook : DapCommand → Type 0

@@ -1,9 +1,8 @@
 //! Debug commands, each carried out on a board.
 ghost use Rattle.std.specs.Prelude.{◌≡◌, ◌≤◌, length};
-ghost use Rattle.dap_talk.specs.Table.{IsBounded};
 ghost use Rattle.base_text.specs.Latin.{latin_bytes};
 ghost use Rattle.dap_board.specs.Commands.{performed, answered, done, dumped, step_request, board_with};
-ghost use Rattle.dap_board.specs.Commands.{Performs};
+ghost use Rattle.dap_board.specs.Commands.{Performs, IsPerformable};
 
 use crate::event::{answer_to, apply_for};
 use crate::look::look;
@@ -89,7 +88,7 @@ fn type_text(alloc: Global, lab: &mut Lab, text: &Text) -> Result<Body, EventFau
 /// is as it was too.
 #[tactic(auto, using(crate::proofs::CommandLemmas::of_known), unfolding(crate::specs::Commands::performed))]
 pub fn perform(alloc: Global, lab: &mut Lab, command: &DapCommand) -> Result<Body, EventFault>
-    requires { IsBounded command.now }
+    requires { IsPerformable command.now }
     ensures { Performs (performed command.now) lab.old result lab.new }
 {
     match command {

@@ -88,7 +88,7 @@ abbrev pub IsCommandBounded : EditorCommand → Type 0
 IsCommandBounded (command.SetFunctionBreakpoints names) = length names ≤ 256
 IsCommandBounded (command.WriteMemory to offset bytes) = length bytes ≤ 65536
 IsCommandBounded (command.Disassemble from offset instructions count) =
-    (1 ≤ count) × (count ≤ 256) × IsBackWithin 65536 instructions
+    (1 ≤ count) × (count ≤ 1024) × IsBackWithin 65536 instructions
 IsCommandBounded other = Unit {0}
 
 abbrev pub IsBounded : Asked → Type 0

@@ -105,7 +105,7 @@ disassemble_asked d =
     memory_reference d then_with λ from.
     offset d then_with λ bytes.
     optional (codes "instructionOffset") (shift 65536) (Forward 0) d then_with λ instructions.
-    required (codes "instructionCount") (whole_between 1 256) d then_with λ count.
+    required (codes "instructionCount") (whole_between 1 1024) d then_with λ count.
     Some (command.Disassemble from bytes instructions count)
 
 -- what a request asks for by this command, if its arguments are as they must be

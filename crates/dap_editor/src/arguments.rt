@@ -66,13 +66,13 @@ pub fn number_at(request: &Value, key: &str) -> Option<u32>
     whole_between(argument_at(request, key)??, 0, u32::MAX)
 }
 
-/// A whole number from 1 to 256, which is required.
+/// A whole number from 1 to 1,024, which is required.
 pub fn count_at(request: &Value, key: &str) -> Option<u16>
-    ensures value { result ≡ required key.now (whole_between 1 256) (view request.now) }
+    ensures value { result ≡ required key.now (whole_between 1 1024) (view request.now) }
     ensures from { IfSome result (λ n. 1 ≤ n) }
-    ensures to { IfSome result (λ n. n ≤ 256) }
+    ensures to { IfSome result (λ n. n ≤ 1024) }
 {
-    let n = whole_between(argument_at(request, key)??, 1, 256)?;
+    let n = whole_between(argument_at(request, key)??, 1, 1024)?;
     u16::try_from(n).ok()
 }
 

@@ -58,7 +58,7 @@ pub enum EditorCommand {
         offset: Shift,
         bytes: Bytes,
     },
-    /// So many instructions, 1 to 256. `offset` counts bytes and `instruction_offset` instructions, at most
+    /// So many instructions, 1 to 1,024. `offset` counts bytes and `instruction_offset` instructions, at most
     /// 65,536 of them back.
     Disassemble {
         address: u16,

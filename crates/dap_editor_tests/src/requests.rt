@@ -315,8 +315,8 @@ const REQUESTS: [(&str, &str, &str); 43] = [
     (
         "disassemble",
         "{\"memoryReference\":\"0x1234\",\"offset\":-2,\"instructionOffset\":-65536,\
-\"instructionCount\":256}",
-        "code 4660 -2 -65536 256",
+\"instructionCount\":1024}",
+        "code 4660 -2 -65536 1024",
     ),
     (
         "disassemble",
@@ -325,7 +325,7 @@ const REQUESTS: [(&str, &str, &str); 43] = [
     ),
     (
         "disassemble",
-        "{\"memoryReference\":\"0x1234\",\"instructionCount\":257}",
+        "{\"memoryReference\":\"0x1234\",\"instructionCount\":1025}",
         "Arguments",
     ),
     ("threads", "null", "board threads"),

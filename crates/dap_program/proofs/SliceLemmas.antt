@@ -1,20 +1,8 @@
 -- Of what a slice tells.
-use Rattle.std.proofs.Common.{◌≡◌, ◌∙◌, ℕ, List, [], ◌∷◌, ◌++◌, ◌+◌, ◌<◌, ap, length, take, get_or, map, refl, sym}
-use Rattle.std.proofs.Common.{append_assoc}
-use Rattle.std.proofs.lemmas.List.{take_more}
-use Rattle.std.proofs.lemmas.List.Elements.{filter_map-append}
-use Rattle.std.specs.List.{filter_map}
-use Rattle.i80_exec.specs.declared.ports.PortOperation.{PortOperation}
+use Rattle.std.proofs.Common.{◌≡◌, ◌∙◌, List, [], ◌∷◌, ◌++◌, ap, refl, sym, append_assoc}
 use Rattle.dap_editor.specs.declared.message.EditorEvent.{EditorEvent}
 use Rattle.dap_editor.specs.declared.message.Message.{Message}
-use Rattle.dap_program.specs.Slices.{printed}
 use Rattle.dap_program.specs.Messages.{told}
-
--- printing goes operation by operation
-pub printed_more : (xs : List PortOperation) (i : ℕ) (d : PortOperation) → i < length xs
-    → filter_map printed (take (i + 1) xs) ≡ filter_map printed (take i xs)
-    ++ filter_map printed (get_or xs i d ∷ [])
-printed_more xs i d h = rw (take_more xs i d h) (filter_map-append printed (take i xs) (get_or xs i d ∷ []))
 
 -- what is told of events one after the other
 pub told-append : (first second : List EditorEvent) → told (first ++ second) ≡ told first ++ told second

@@ -1,11 +1,10 @@
 -- A slice of a program's run, and what an editor is told of it.
-use Rattle.std.specs.Prelude.{◌≡◌, ◌≤◌, ℕ, ◌==◌, List, [], ◌∷◌, ◌++◌, Bool, true, false, Option, Some, None}
+use Rattle.std.specs.Prelude.{◌≡◌, ℕ, List, [], ◌∷◌, ◌++◌, Bool, None}
 use Rattle.std.specs.Prelude.{codes, if◌then◌else◌}
 use Rattle.std.specs.List.{filter_map, list_any}
 use Rattle.base_text.specs.Bytes.{Bytes}
 use Rattle.base_text.specs.Hexadecimal.{upper_byte, upper_word}
 use Rattle.i80_exec.specs.declared.ports.PortOperation.{PortOperation}
-use Rattle.i80_exec.specs.declared.ports.PortOperation.TheVariants.{In, Out}
 use Rattle.lab_core.specs.declared.answer.SliceOutcome.{SliceOutcome}
 use Rattle.lab_core.specs.declared.answer.SliceOutcome.TheVariants as outcome
 use Rattle.lab_core.specs.declared.answer.End.{End}
@@ -13,9 +12,10 @@ use Rattle.lab_core.specs.declared.answer.End.TheVariants as end
 use Rattle.lab_core.specs.declared.answer.Stop.{Stop}
 use Rattle.lab_core.specs.declared.answer.Stop.TheVariants as stop
 use Rattle.lab_core.specs.Board.{Board}
-use Rattle.lab_core.specs.Slices.{traffic_of, after_steps, left_by}
-use Rattle.lab_core.specs.SliceEnds.{slice_from}
+use Rattle.lab_core.specs.Slices.{traffic_of}
 use Rattle.lab_core.specs.Labs.{LabState, StandsFor}
+use Rattle.lab_slice.specs.Slices.{slice_end, after_slice}
+use Rattle.lab_slice.specs.Console.{written_to_console, wants_line}
 use Rattle.dap_answers.specs.declared.answer.StopReason.{StopReason}
 use Rattle.dap_answers.specs.declared.answer.StopReason.TheVariants as reason
 use Rattle.dap_editor.specs.declared.message.EditorEvent.{EditorEvent}
@@ -28,11 +28,6 @@ use Rattle.dap_program.specs.Messages.{told, end_events}
 
 -- ---- what the program writes
 
--- the byte that is written to the console
-abbrev pub printed : PortOperation → Option ℕ
-printed (In port byte) = None
-printed (Out port byte) = if port == 1 then Some byte else None
-
 abbrev pub output : OutputCategory → Bytes → EditorEvent
 output category bytes = event.Output category bytes None
 
@@ -40,11 +35,6 @@ output category bytes = event.Output category bytes None
 abbrev pub console_events : Bytes → List EditorEvent
 console_events [] = []
 console_events (byte ∷ bytes) = output category.Stdout (byte ∷ bytes) ∷ []
-
--- a line is asked for
-abbrev pub asks_for_line : PortOperation → Bool
-asks_for_line (In port byte) = false
-asks_for_line (Out port byte) = port == 3
 
 -- how it is typed
 abbrev pub line_question : Bytes
@@ -76,17 +66,13 @@ outcome_events (outcome.End e) = run_end_events e
 -- what is told of a slice with these port operations that ended so
 abbrev pub slice_events : List PortOperation → SliceOutcome → List EditorEvent
 slice_events traffic ending =
-    console_events (filter_map printed traffic) ++ (line_events (list_any asks_for_line traffic)
+    console_events (filter_map written_to_console traffic) ++ (line_events (list_any wants_line traffic)
     ++ outcome_events ending)
 
 -- ---- the slice
-
--- where a slice of 4,096 steps ends, and how
-abbrev pub slice_end : Board → ℕ × SliceOutcome
-slice_end b = slice_from 4096 0 b
 
 -- what a slice is on a board
 pub record IsSliceOf (b : Board) (s : Slice) (lab : LabState) : Type 0 where
   pub messages : s.messages ≡ told (slice_events (traffic_of (slice_end b).0 b) (slice_end b).1)
   pub outcome : s.outcome ≡ (slice_end b).1
-  pub stands : StandsFor lab (left_by (slice_end b).1 (after_steps (slice_end b).0 b))
+  pub stands : StandsFor lab (after_slice b)

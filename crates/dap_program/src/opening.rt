@@ -67,8 +67,8 @@ fn push_first(messages: &mut Sequence<Message>, occasion: Occasion) -> Result<()
     }
 }
 
-// Of what follows a launch only a stop is told.
-fn push_stop(messages: &mut Sequence<Message>, follow: Follow) -> Result<(), AllocError>
+// What follows: that the run is stopped or goes on, or that the program is over.
+fn push_follow(messages: &mut Sequence<Message>, follow: Follow) -> Result<(), AllocError>
     ensures { OnOk result (messages.new ≡ messages.old ++ told (events_of follow)) }
 {
     match follow {
@@ -113,6 +113,6 @@ pub fn opening_messages(
     push_first(&mut messages, occasion)?;
     push_all_changed(&mut messages, lines)?;
     push_all_changed(&mut messages, labels)?;
-    push_stop(&mut messages, follow)?;
+    push_follow(&mut messages, follow)?;
     Ok(messages)
 }

@@ -1,32 +1,26 @@
 //! Slices of a run.
-ghost use Rattle.std.specs.Prelude.{◌≡◌, ◌<◌, ◌≤◌, ◌+◌, ◌++◌, [], length, IfOk, OnErr};
-ghost use Rattle.std.specs.Prelude.{◌∷◌, vec_capacity, vec_len, codes};
-ghost use Rattle.std.specs.List.{filter_map, list_any};
+ghost use Rattle.std.specs.Prelude.{◌≡◌, ◌<◌, ◌≤◌, ◌+◌, ◌++◌, length, IfOk, OnErr, vec_capacity, vec_len, codes};
 ghost use Rattle.base_text.specs.Hexadecimal.{upper_digit, upper_byte};
 ghost use Rattle.lab_core.specs.declared.run_state.RunState.TheVariants.{Running};
 ghost use Rattle.lab_core.specs.Board.{Board};
-ghost use Rattle.lab_core.specs.Slices.{traffic_of, after_steps, left_by};
 ghost use Rattle.lab_core.specs.Labs.{StandsFor};
 ghost use Rattle.dap_program.specs.Boards.{Stands};
 ghost use Rattle.dap_program.specs.Messages.{told};
 ghost use Rattle.dap_program.specs.Slices as slices;
-ghost use Rattle.dap_program.specs.Slices.{printed, console_events, line_question, line_events, run_end_events};
-ghost use Rattle.dap_program.specs.Slices.{undefined_line, outcome_events, slice_events, slice_end, IsSliceOf};
+ghost use Rattle.dap_program.specs.Slices.{console_events, line_question, line_events, run_end_events};
+ghost use Rattle.dap_program.specs.Slices.{undefined_line, outcome_events, slice_events, IsSliceOf};
 ghost use Rattle.dap_program.specs.Kits.{IsSliceKit};
 
 use crate::messages::Messages;
 use base_text::sequence::{Bytes, Sequence};
 use dap_answers::answer::StopReason;
 use dap_editor::message::{EditorEvent, EditorStop, Message, OutputCategory};
-use i80_devs::traffic::Traffic;
 use i80_exec::ports::PortOperation;
-use lab_core::answer::{Answer, End, SliceOutcome, Stop};
-use lab_core::event::Event;
+use lab_core::answer::{End, SliceOutcome, Stop};
 use lab_core::lab::Lab;
+use lab_slice::console::{is_line_requested, print_all};
+use lab_slice::slice::{STEPS, run_slice};
 use std::alloc::{AllocError, Global};
-
-/// The steps of a slice, at most.
-pub const STEPS: u16 = 4096;
 
 /// What an editor is told of a slice, and how it ended.
 #[derive(Drop)]
@@ -77,41 +71,6 @@ fn slice_kit(alloc: Global) -> Result<SliceKit, AllocError>
 }
 
 // ---- what the program writes
-
-fn push_printed(console: &mut Vec<u8>, operation: &PortOperation)
-    requires { vec_len console.old < vec_capacity console.old }
-    ensures items { console.new.items ≡ console.old.items ++ filter_map printed (operation.now ∷ []) }
-    ensures capacity { vec_capacity console.new ≡ vec_capacity console.old }
-    ensures len { vec_len console.new ≤ vec_len console.old + 1 }
-{
-    match operation {
-        PortOperation::Out { port: 1, byte } => console.push_reserved(*byte),
-        _ => {}
-    }
-}
-
-fn print_all(mut console: Vec<u8>, traffic: &[PortOperation]) -> Vec<u8>
-    requires empty { console.items ≡ [] }
-    requires room { length traffic.now ≤ vec_capacity console }
-    ensures { result.items ≡ filter_map printed traffic.now }
-{
-    for operation in traffic {
-        push_printed(&mut console, operation);
-    }
-    console
-}
-
-fn asks_for_line(operation: &PortOperation) -> bool
-    ensures { result ≡ slices.asks_for_line operation.now }
-{
-    matches!(operation, PortOperation::Out { port: 3, .. })
-}
-
-fn is_line_asked(traffic: &[PortOperation]) -> bool
-    ensures { result ≡ list_any slices.asks_for_line traffic.now }
-{
-    traffic.iter().any(asks_for_line)
-}
 
 fn output(category: OutputCategory, bytes: Bytes) -> EditorEvent
     ensures { result ≡ slices.output category bytes }
@@ -252,36 +211,13 @@ impl SliceKit {
         } = self;
         let console = print_all(console, traffic);
         push_console(&mut messages, console);
-        push_line(&mut messages, question, is_line_asked(traffic));
+        push_line(&mut messages, question, is_line_requested(traffic));
         push_outcome(&mut messages, opcode, outcome);
         messages.into_sequence()
     }
 }
 
 // ---- the slice
-
-// The port operations of a slice's steps, and how it ended.
-fn steps(lab: &mut Lab) -> Result<(Traffic, SliceOutcome), AllocError>
-    ensures made { (b : Board) → StandsFor lab.old b → b.run ≡ Running → IfOk result (λ made.
-        (made.0 ≡ traffic_of (slice_end b).0 b) × ((made.1 ≡ (slice_end b).1)
-        × StandsFor lab.new (left_by (slice_end b).1 (after_steps (slice_end b).0 b)))) }
-    ensures few { (b : Board) → StandsFor lab.old b → IfOk result (λ made. length made.0 ≤ 4096) }
-    ensures err { (b : Board) → StandsFor lab.old b → OnErr result (lab.new ≡ lab.old) }
-{
-    match lab.apply(&Event::Slice(STEPS)) {
-        Ok(
-            Answer::Sliced {
-                traffic,
-                outcome,
-                ..
-            },
-        ) => Ok((traffic, outcome)),
-        other => {
-            drop(other);
-            Err(AllocError)
-        }
-    }
-}
 
 /// At most 4,096 steps of the run on a board, and what is told of them. Where there is no run that goes on, that is
 /// answered as out of memory is. Both leave the board as it was.
@@ -292,7 +228,7 @@ pub fn make_slice(alloc: Global, lab: &mut Lab) -> Result<Slice, AllocError>
     ensures err { OnErr result (lab.new ≡ lab.old) }
 {
     let kit = slice_kit(alloc)?;
-    match steps(lab) {
+    match run_slice(lab) {
         Ok((traffic, outcome)) => {
             let messages = kit.tell(traffic.as_slice(), outcome);
             Ok(Slice { messages, outcome })

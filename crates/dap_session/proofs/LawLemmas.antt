@@ -5,7 +5,7 @@ use Rattle.std.proofs.lemmas.Bool.{cases_Bool}
 use Rattle.std.proofs.lemmas.Grind.{flat_map-append}
 use Rattle.std.proofs.lemmas.List.Elements.{filter_map-append}
 use Rattle.std.specs.Prelude.{option_to_list}
-use Rattle.std.specs.List.{filter_map, flat_map}
+use Rattle.std.specs.List.{filter_map}
 use Rattle.base_text.specs.Bytes.{Bytes, Text}
 use Rattle.asm_syntax.specs.declared.fault.AsmFault.TheVariants as asm
 use Rattle.lab_core.specs.declared.answer.End.{End}
@@ -17,7 +17,6 @@ use Rattle.lab_core.specs.declared.fault.EventFault.TheVariants as refused
 use Rattle.lab_core.specs.Board.{Board}
 use Rattle.lab_core.specs.Slices.{traffic_of}
 use Rattle.dap_editor.specs.declared.message.EditorEvent.{EditorEvent}
-use Rattle.dap_editor.specs.declared.message.Message.{Message}
 use Rattle.dap_editor.specs.declared.message.PlacedBreakpoint.{PlacedBreakpoint}
 use Rattle.dap_editor.specs.declared.request.Asked.{Asked}
 use Rattle.dap_editor.specs.declared.request.Asked.TheVariants as asked
@@ -35,21 +34,21 @@ use Rattle.dap_program.specs.declared.opening.Occasion.TheVariants.{Launch, Rest
 use Rattle.dap_program.specs.Failures.{load_event}
 use Rattle.dap_program.specs.Loading.{loaded}
 use Rattle.dap_program.specs.Openings.{changed_events, first_events, opening_events}
-use Rattle.dap_program.specs.Messages.{told, end_events, events_of}
-use Rattle.dap_program.specs.Slices.{slice_end, slice_events, console_events, line_events, outcome_events, printed}
-use Rattle.dap_program.specs.Slices.{run_end_events, asks_for_line}
+use Rattle.dap_program.specs.Messages.{told, events_of}
+use Rattle.lab_slice.specs.Slices.{slice_end}
+use Rattle.lab_slice.specs.Console.{written_to_console}
+use Rattle.dap_program.specs.Slices.{slice_events, console_events, line_events, outcome_events, run_end_events}
 use Rattle.dap_program.proofs.SliceLemmas.{told-append}
 use Rattle.dap_session.specs.declared.file.FileText.{FileText}
 use Rattle.dap_session.specs.declared.settings.Program.{Program}
 use Rattle.dap_session.specs.States.{SessionState, wants_slice}
-use Rattle.dap_session.specs.Turns.{Turn}
 use Rattle.dap_session.specs.Evaluations.{value_told}
 use Rattle.dap_session.specs.Memory.{writing}
 use Rattle.dap_session.specs.Launches.{text_in}
 use Rattle.dap_session.specs.Launches.{program_of, program_lines, program_labels, started_follow}
 use Rattle.dap_session.specs.Launches.{by_text, loading, loading_as, launching_over, restarting_of}
-use Rattle.dap_session.specs.Requests.{objection, asking, asking_unless, and_tried, replying, turn}
-use Rattle.dap_session.specs.Slices.{Input, request, slice, Told, caller_of, slicing, sliced, step, played}
+use Rattle.dap_session.specs.Requests.{objection, asking, asking_unless, replying, turn}
+use Rattle.dap_session.specs.Slices.{Input, request, slice, caller_of, slicing, sliced, step, played}
 use Rattle.dap_session.specs.Laws.{caller_in, callers_answered, request_in, callers_asking, stdout_in, console_of}
 use Rattle.dap_session.specs.Laws.{written_in, written_by, all_written}
 
@@ -141,7 +140,7 @@ silent_loading : (r : Result (Board × ℕ) LoadFault) (o : Occasion) (l : Launc
 silent_loading (Ok (b, start)) o l text s =
     let p = program_of l start text in
     let kept = s.settings.points in
-    silent_opening o (program_lines p kept) (program_labels p kept b) (started_follow p s)
+    silent_opening o (program_lines p kept) (program_labels p kept b) (started_follow o p s)
 silent_loading (Err f) o l text s = silent_load l.program f
 
 silent_text : (t : Result Text Text) (o : Occasion) (l : LaunchOf) (s : SessionState)
@@ -210,7 +209,7 @@ shown_events bytes asks o =
 
 shown_slicing : (p : ℕ × SliceOutcome) (s : SessionState)
     → console_of (slicing p s).messages ≡ written_in p s.board
-shown_slicing (k, ending) s = shown_events (filter_map printed (traffic_of k s.board)) _ ending
+shown_slicing (k, ending) s = shown_events (filter_map written_to_console (traffic_of k s.board)) _ ending
 
 shown_sliced : (s : SessionState) → console_of (sliced s).messages ≡ written_by slice s
 unfolding sliced

@@ -1,5 +1,5 @@
 -- Breakpoints (Debug Adapter Protocol, `setBreakpoints` and `setFunctionBreakpoints`).
-use Rattle.std.specs.Prelude.{ℕ, ◌+◌, List, [], ◌∷◌, take, Option, Some, None, option_map, codes, if◌then◌else◌}
+use Rattle.std.specs.Prelude.{ℕ, List, [], take, Option, Some, None, codes, if◌then◌else◌}
 use Rattle.std.specs.Str.{bytes_eq}
 use Rattle.base_text.specs.Bytes.{Text}
 use Rattle.lab_core.specs.Board.{Board}

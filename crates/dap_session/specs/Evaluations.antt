@@ -1,5 +1,5 @@
 -- What is evaluated (Debug Adapter Protocol, `evaluate`).
-use Rattle.std.specs.Prelude.{ℕ, List, [], ◌∷◌, ◌++◌, take, drop, length, Option, Some, None, Result, Ok, Err, codes}
+use Rattle.std.specs.Prelude.{ℕ, ◌++◌, take, drop, length, Option, Some, None, Result, Ok, Err, codes}
 use Rattle.std.specs.Prelude.{if◌then◌else◌}
 use Rattle.std.specs.Str.{trim, bytes_eq}
 use Rattle.base_text.specs.Bytes.{Text}
@@ -8,8 +8,7 @@ use Rattle.lab_poke.specs.declared.fault.PokeFault.{PokeFault}
 use Rattle.lab_poke.specs.Values.{value_spelled}
 use Rattle.dap_talk.specs.declared.command.DapCommand.{DapCommand}
 use Rattle.dap_talk.specs.declared.command.DapCommand.TheVariants as command
-use Rattle.dap_talk.specs.Table.{IsBounded}
-use Rattle.dap_board.specs.Commands.{Performed, performed}
+use Rattle.dap_board.specs.Commands.{Performed, IsPerformable, performed}
 use Rattle.dap_editor.specs.declared.request.EvaluateContext.{EvaluateContext}
 use Rattle.dap_editor.specs.declared.request.EvaluateContext.TheVariants.{Repl, Other}
 use Rattle.dap_editor.specs.declared.message.EditorBody.TheVariants.{Evaluation}
@@ -43,7 +42,7 @@ byte_word to_command None = word.NoByte
 
 -- what every command of the prompt keeps to
 abbrev pub WordFits : Word → Type 0
-WordFits (word.Command c) = IsBounded c
+WordFits (word.Command c) = IsPerformable c
 WordFits word.NoByte = Unit {0}
 WordFits word.Expression = Unit {0}
 

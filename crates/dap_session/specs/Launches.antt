@@ -1,5 +1,5 @@
 -- How a program comes to the board (Debug Adapter Protocol, `launch` and `restart`), and begins.
-use Rattle.std.specs.Prelude.{ℕ, min, List, [], ◌∷◌, ◌++◌, map, take, Bool, ◌&&◌, Option, Some, None, Result}
+use Rattle.std.specs.Prelude.{ℕ, List, take, Bool, ◌&&◌, Option, Some, None, Result}
 use Rattle.std.specs.Prelude.{Ok, Err, codes, option_to_list, if◌then◌else◌}
 use Rattle.base_text.specs.Bytes.{Text}
 use Rattle.lab_core.specs.Board.{Board}
@@ -11,7 +11,7 @@ use Rattle.dap_points.specs.Points.{PointsState, number_of, lines_at}
 use Rattle.dap_points.specs.Placed.{line_points}
 use Rattle.dap_program.specs.declared.load.LoadFault.{LoadFault}
 use Rattle.dap_program.specs.declared.messages.Follow.{Follow}
-use Rattle.dap_program.specs.declared.messages.Follow.TheVariants.{Nothing, Stopped}
+use Rattle.dap_program.specs.declared.messages.Follow.TheVariants.{Nothing, Continued, Stopped}
 use Rattle.dap_program.specs.declared.opening.Occasion.{Occasion}
 use Rattle.dap_program.specs.declared.opening.Occasion.TheVariants.{Launch, Restart}
 use Rattle.dap_program.specs.Boards.{begun}
@@ -33,11 +33,17 @@ use Rattle.dap_session.specs.Turns.{Turn, Replied, turn_of, refusing, accepting}
 abbrev pub pauses : LaunchOf → Bool
 pauses l = l.stops_on_entry && l.is_debugged
 
-abbrev pub begun_follow : LaunchOf → Follow
-begun_follow l = if pauses l then Stopped Entry else Nothing
+-- A restart may follow a stop, so it tells that the run goes on.
+abbrev pub going_follow : Occasion → Follow
+going_follow Launch = Nothing
+going_follow Restart = Continued
 
+abbrev pub begun_follow : Occasion → LaunchOf → Follow
+begun_follow occasion l = if pauses l then Stopped Entry else going_follow occasion
+
+-- by the end of the configuration
 abbrev pub beginning : Program → SessionState → Replied
-beginning p s = accepting (begun_follow p.launch)
+beginning p s = accepting (begun_follow Launch p.launch)
     (with_board (begun p.start (pauses p.launch) s.board) (with_program (Some (in_phase phase.Begun p)) s))
 
 -- once
@@ -74,16 +80,17 @@ program_board p kept b =
 abbrev pub started : Program → SessionState → SessionState
 started p s = if s.settings.is_configured then (beginning p s).state else s
 
-abbrev pub started_follow : Program → SessionState → Follow
-started_follow p s = if s.settings.is_configured then begun_follow p.launch else Nothing
+abbrev pub started_follow : Occasion → Program → SessionState → Follow
+started_follow occasion p s = if s.settings.is_configured then begun_follow occasion p.launch else Nothing
 
 -- it takes the board's place
 abbrev pub installing : Occasion → Program → Board → SessionState → Turn
 installing occasion p b s =
     let kept = s.settings.points in
+    let follow = started_follow occasion p s in
     record {
       outcome = accepted_outcome;
-      events = opening_events occasion (program_lines p kept) (program_labels p kept b) (started_follow p s);
+      events = opening_events occasion (program_lines p kept) (program_labels p kept b) follow;
       state = started p (with_board (program_board p kept b) (with_program (Some p) s));
     }
 

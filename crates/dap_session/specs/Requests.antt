@@ -1,27 +1,23 @@
 -- What each request is answered with, and what it makes of a session (Debug Adapter Protocol, "Requests").
-use Rattle.std.specs.Prelude.{ℕ, nat_le, List, [], length, map, Bool, true, false, not, ◌&&◌, ◌||◌, Option, Some}
+use Rattle.std.specs.Prelude.{ℕ, nat_le, List, [], length, Bool, true, false, not, ◌&&◌, ◌||◌, Option, Some}
 use Rattle.std.specs.Prelude.{None, Ok, Err, option_to_list, option_map, codes, if◌then◌else◌}
 use Rattle.base_text.specs.Bytes.{Text}
 use Rattle.lab_core.specs.declared.event.Event.TheVariants.{Interrupt}
-use Rattle.lab_core.specs.Board.{Board}
 use Rattle.dap_answers.specs.declared.answer.StopReason.TheVariants.{Pause as ByPause}
 use Rattle.dap_talk.specs.declared.command.DapCommand.{DapCommand}
 use Rattle.dap_talk.specs.declared.command.DapCommand.TheVariants as command
 use Rattle.dap_board.specs.Commands.{Performed, performed}
 use Rattle.dap_editor.specs.declared.message.EditorBody.TheVariants as body
 use Rattle.dap_editor.specs.declared.message.EditorStop.TheVariants.{Board as AtBoard}
-use Rattle.dap_editor.specs.declared.message.Message.{Message}
 use Rattle.dap_editor.specs.declared.request.Asked.{Asked}
 use Rattle.dap_editor.specs.declared.request.Asked.TheVariants as asked
 use Rattle.dap_editor.specs.declared.request.EditorCommand.{EditorCommand}
 use Rattle.dap_editor.specs.declared.request.EditorCommand.TheVariants as editor
-use Rattle.dap_editor.specs.declared.request.EditorRequest.{EditorRequest}
 use Rattle.dap_editor.specs.declared.request.Shift.{Shift}
 use Rattle.dap_editor.specs.declared.request.Shift.TheVariants.{Back}
 use Rattle.dap_program.specs.declared.messages.Follow.{Follow}
 use Rattle.dap_program.specs.declared.messages.Follow.TheVariants as follow
 use Rattle.dap_program.specs.Boards.{after}
-use Rattle.dap_program.specs.Messages.{turn_messages}
 use Rattle.dap_program.specs.Refusals.{board_refusal, request_refusal}
 use Rattle.dap_session.specs.declared.file.FileText.{FileText}
 use Rattle.dap_session.specs.declared.settings.Program.{Program}
@@ -137,7 +133,7 @@ opens other = false
 
 -- no request that was read is out of these bounds
 abbrev pub is_few : ℕ → Bool
-is_few count = nat_le 1 count && nat_le count 256
+is_few count = nat_le 1 count && nat_le count 1024
 
 abbrev pub is_near : Shift → Bool
 is_near (Back n) = nat_le n 65536

@@ -1,15 +1,14 @@
 -- A slice of the run, and what a whole session tells.
-use Rattle.std.specs.Prelude.{ℕ, List, [], ◌∷◌, ◌++◌, Bool, true, false, Option, if◌then◌else◌}
-use Rattle.std.specs.List.{fold}
+use Rattle.std.specs.Prelude.{ℕ, List, [], ◌∷◌, ◌++◌, true, Option, if◌then◌else◌}
 use Rattle.lab_core.specs.declared.answer.SliceOutcome.{SliceOutcome}
 use Rattle.lab_core.specs.declared.answer.SliceOutcome.TheVariants as outcome
 use Rattle.lab_core.specs.Slices.{traffic_of, after_steps, left_by}
-use Rattle.dap_editor.specs.declared.message.EditorEvent.{EditorEvent}
 use Rattle.dap_editor.specs.declared.message.Message.{Message}
 use Rattle.dap_editor.specs.declared.request.EditorRequest.{EditorRequest}
 use Rattle.dap_program.specs.declared.messages.Caller.{Caller}
 use Rattle.dap_program.specs.Messages.{told, turn_messages}
-use Rattle.dap_program.specs.Slices.{slice_end, slice_events}
+use Rattle.lab_slice.specs.Slices.{slice_end}
+use Rattle.dap_program.specs.Slices.{slice_events}
 use Rattle.dap_session.specs.declared.file.FileText.{FileText}
 use Rattle.dap_session.specs.declared.settings.Settings.{Settings}
 use Rattle.dap_session.specs.States.{SessionState, over, wants_slice}

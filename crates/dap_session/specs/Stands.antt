@@ -11,7 +11,7 @@ use Rattle.dap_editor.specs.declared.request.EditorCommand.TheVariants as editor
 use Rattle.dap_session.specs.declared.settings.Settings.{Settings}
 use Rattle.dap_session.specs.declared.reply.Reply.{Reply}
 use Rattle.dap_session.specs.States.{SessionState, with_board}
-use Rattle.dap_session.specs.Turns.{Turn, Replied}
+use Rattle.dap_session.specs.Turns.{Replied}
 use Rattle.dap_program.specs.Breakpoints.{labels_behind}
 use Rattle.dap_program.specs.Memory.{written}
 use Rattle.dap_session.specs.Breakpoints.{program_lines, labels_armed}

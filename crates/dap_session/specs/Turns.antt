@@ -1,5 +1,5 @@
 -- What a request gives: its answer, the events behind it, and the session after it.
-use Rattle.std.specs.Prelude.{ℕ, List, [], ◌∷◌}
+use Rattle.std.specs.Prelude.{List}
 use Rattle.base_text.specs.Bytes.{Text}
 use Rattle.dap_answers.specs.declared.answer.Body.TheVariants as board
 use Rattle.dap_editor.specs.declared.message.EditorBody.{EditorBody}

@@ -1,5 +1,5 @@
 //! Laws of the definitions.
-ghost use Rattle.std.specs.Prelude.{◌≡◌, ◌∷◌, List, Option};
+ghost use Rattle.std.specs.Prelude.{◌≡◌, [], ◌∷◌, false, List, Option};
 ghost use Rattle.base_text.specs.Bytes.{Text};
 ghost use Rattle.dap_editor.specs.declared.request.Asked.TheVariants as asked;
 ghost use Rattle.dap_editor.specs.declared.request.EditorCommand.TheVariants as editor;
@@ -7,10 +7,12 @@ ghost use Rattle.dap_editor.specs.declared.request.EditorRequest.{EditorRequest}
 ghost use Rattle.dap_editor.specs.declared.request.EvaluateContext.TheVariants as context;
 ghost use Rattle.dap_program.specs.Messages.{response, told};
 ghost use Rattle.dap_session.specs.declared.file.FileText.{FileText};
-ghost use Rattle.dap_session.specs.States.{SessionState};
+ghost use Rattle.dap_session.specs.States.{SessionState, opened, is_live};
 ghost use Rattle.dap_session.specs.Requests.{turn};
-ghost use Rattle.dap_session.specs.Slices.{Input, caller_of, taken, played};
+ghost use Rattle.dap_session.specs.Slices.{Input, caller_of, taken, step, played};
 ghost use Rattle.dap_session.specs.Laws.{callers_answered, callers_asking, console_of, all_written};
+ghost use Rattle.dap_session.specs.Laws.{shown_by, shown_for, ends_told, ends_between, has_run, has_begun};
+ghost use Rattle.dap_session.specs.Laws.{events_in, loads};
 
 /// Each request has one response, in the order in which they came, with its number and its command.
 pub fn requests_are_answered()
@@ -35,4 +37,22 @@ pub fn console_is_whole()
 pub fn looks_keep_board()
     ensures { (expression : Text) (found : Option FileText) (s : SessionState)
         → (turn (asked.Editor (editor.Evaluate expression context.Other)) found s).state.board ≡ s.board }
+{}
+
+/// What the events say of stops is what the run on the board is, at every moment.
+pub fn stops_are_told()
+    ensures { (inputs : List Input)
+        → shown_by (played inputs opened).messages ≡ shown_for (played inputs opened).state.board.run }
+{}
+
+/// A run is on the board exactly while a program has begun and isn't over. Without a live program nothing but a launch or
+/// a restart tells more than its response. Where a live program ends `terminated` goes out once, and nowhere else.
+pub fn end_is_told()
+    ensures run { (inputs : List Input) → let s = (played inputs opened).state in
+        has_run s.board.run ≡ has_begun s.settings.program }
+    ensures quiet { (inputs : List Input) (input : Input) → let s = (played inputs opened).state in
+        is_live s.settings.program ≡ false → loads input ≡ false → events_in (step input s).messages ≡ [] }
+    ensures end { (inputs : List Input) (input : Input) → let s = (played inputs opened).state in
+        let after = (step input s).state in
+        ends_told (step input s).messages ≡ ends_between s.settings.program after.settings.program }
 {}

@@ -24,6 +24,7 @@ use dap_editor::request::{Asked, EditorCommand};
 use dap_points::points::Points;
 use dap_program::messages::{Caller, Messages};
 use lab_core::lab::Lab;
+use lab_core::run_state::RunState;
 use std::alloc::{AllocError, Global};
 use std::marker::Model;
 
@@ -165,7 +166,10 @@ impl State {
     pub fn wants_slice(&self) -> bool
         ensures { (s : SessionState) → StandsFor self.now s → result ≡ states.wants_slice s }
     {
-        self.is_running() && !self.settings.waits
+        match self.lab.run_state() {
+            RunState::Running => !self.settings.waits,
+            RunState::NoRun | RunState::Stopped => false,
+        }
     }
 
     /// The path whose text a request needs.

@@ -1,27 +1,22 @@
 -- What the board's answers to the events of executions say.
-use Rattle.std.proofs.Common.{◌≡◌, ◌≢◌, ℕ, List, Result, Ok, Err, sym}
+use Rattle.std.proofs.Common.{◌≡◌, ◌≢◌, ℕ, Result, Ok, Err, sym}
 use Rattle.std.proofs.Common.{ap, if◌then◌else◌}
-use Rattle.i80_exec.specs.declared.ports.PortOperation.{PortOperation}
 use Rattle.lab_core.specs.declared.run_state.RunState.{RunState}
 use Rattle.lab_core.specs.declared.run_state.RunState.TheVariants.{NoRun, Running, Stopped}
 use Rattle.lab_core.specs.declared.event.Event.{Event}
 use Rattle.lab_core.specs.declared.event.Event.TheVariants as event
 use Rattle.lab_core.specs.declared.answer.Answer.{Answer}
 use Rattle.lab_core.specs.declared.answer.Answer.TheVariants as answer
-use Rattle.lab_core.specs.declared.answer.SliceOutcome.{SliceOutcome}
 use Rattle.lab_core.specs.declared.fault.EventFault.{EventFault}
-use Rattle.lab_core.specs.declared.fault.EventFault.TheVariants.{OutOfMemory, NotRunning}
+use Rattle.lab_core.specs.declared.fault.EventFault.TheVariants.{OutOfMemory}
 use Rattle.lab_core.specs.Board.{Board}
-use Rattle.lab_core.specs.Slices.{traffic_of}
-use Rattle.lab_core.specs.Events.{Given, started, ended, without_run, with_run, while_running, given}
-use Rattle.lab_core.specs.SliceEnds.{sliced_at}
+use Rattle.lab_core.specs.Events.{Given, started, ended, without_run, with_run, given}
 use Rattle.lab_core.specs.Memory.{MayLackMemory}
 use Rattle.lab_core.specs.Labs.{LabState, StandsFor, Did, Does}
 use Rattle.kern_post.specs.declared.content.Ending.TheVariants.{Failed}
 use Rattle.kern_exec.specs.declared.loading.Loading.{Loading}
 use Rattle.kern_exec.specs.declared.loading.Loading.TheVariants.{Ends}
-use Rattle.kern_exec.specs.Boards.{cause_of, loading_by, loading_of, board_after, slice_end, after_slice}
-use Rattle.kern_exec.specs.Boards.{interrupted, is_run}
+use Rattle.kern_exec.specs.Boards.{cause_of, loading_by, loading_of, board_after, interrupted, is_run}
 
 abbrev pub Answered : Type 0
 Answered = Result Answer EventFault
@@ -106,60 +101,3 @@ pub refused_so : (old new : LabState) (e : Event) (f : EventFault) → Does (giv
     → (failed f ≡ loading_of (given e b)) × StandsFor new (board_after b (given e b))
 refused_so old new e f does other b stands =
     refused_by (given e b) b f new (does b stands (λ e. other (same_fault f OutOfMemory e)))
-
--- ---- a slice
-
-abbrev sliced : ℕ → List PortOperation → SliceOutcome → Answer
-sliced k traffic outcome = answer.Sliced k traffic outcome
-
-traffic_in : Answer → List PortOperation → List PortOperation
-traffic_in (answer.Sliced k traffic outcome) other = traffic
-traffic_in _ other = other
-
-outcome_in : Answer → SliceOutcome → SliceOutcome
-outcome_in (answer.Sliced k traffic outcome) other = outcome
-outcome_in _ other = other
-
-traffic_same : (k k' : ℕ) (t t' : List PortOperation) (o o' : SliceOutcome) → sliced k t o ≡ sliced k' t' o'
-    → t ≡ t'
-unfolding traffic_in
-traffic_same k k' t t' o o' e = ap (λ a. traffic_in a t) e
-
-outcome_same : (k k' : ℕ) (t t' : List PortOperation) (o o' : SliceOutcome) → sliced k t o ≡ sliced k' t' o'
-    → o ≡ o'
-unfolding outcome_in
-outcome_same k k' t t' o o' e = ap (λ a. outcome_in a o) e
-
-sliced_by : (run : RunState) (b : Board) (k : ℕ) (t : List PortOperation) (o : SliceOutcome) (new : LabState)
-    → run ≡ Running
-    → Did b (while_running run (Ok (sliced_at b (slice_end b)))) (ok (sliced k t o)) new
-    → (t ≡ traffic_of (slice_end b).0 b) × ((o ≡ (slice_end b).1) × StandsFor new (after_slice b))
-sliced_by NoRun b k t o new is did = absurd cc
-sliced_by Stopped b k t o new is did = absurd cc
-sliced_by Running b k t o new is did =
-    let same =
-    same_answer (sliced k t o) (sliced (slice_end b).0 (traffic_of (slice_end b).0 b) (slice_end b).1)
-    did.0 in (
-      traffic_same k (slice_end b).0 t (traffic_of (slice_end b).0 b) o (slice_end b).1 same,
-      (outcome_same k (slice_end b).0 t (traffic_of (slice_end b).0 b) o (slice_end b).1 same, did.1),
-    )
-
-pub sliced_so : (old new : LabState) (k : ℕ) (t : List PortOperation) (o : SliceOutcome)
-    → Does (given (event.Slice 4096)) old (ok (sliced k t o)) new → (b : Board) → StandsFor old b
-    → b.run ≡ Running
-    → (t ≡ traffic_of (slice_end b).0 b) × ((o ≡ (slice_end b).1) × StandsFor new (after_slice b))
-sliced_so old new k t o does b stands run =
-    sliced_by b.run b k t o new run (does b stands (apart (sliced k t o) OutOfMemory))
-
-answered_so : (run : RunState) (b : Board) (a : Answer) (new : LabState)
-    → Did b (while_running run (Ok (sliced_at b (slice_end b)))) (ok a) new
-    → a ≡ sliced (slice_end b).0 (traffic_of (slice_end b).0 b) (slice_end b).1
-answered_so NoRun b a new did = absurd (apart a NotRunning did.0)
-answered_so Stopped b a new did = absurd (apart a NotRunning did.0)
-answered_so Running b a new did = same_answer a _ did.0
-
--- a slice is answered as one, whatever board it is of
-pub only_sliced : (old new : LabState) (a : Answer) → Does (given (event.Slice 4096)) old (ok a) new
-    → (b : Board) → StandsFor old b
-    → a ≡ sliced (slice_end b).0 (traffic_of (slice_end b).0 b) (slice_end b).1
-only_sliced old new a does b stands = answered_so b.run b a new (does b stands (apart a OutOfMemory))

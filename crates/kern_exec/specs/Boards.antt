@@ -7,13 +7,10 @@ use Rattle.lab_core.specs.declared.run_state.RunState.TheVariants.{NoRun, Runnin
 use Rattle.lab_core.specs.declared.event.Event.TheVariants.{Load}
 use Rattle.lab_core.specs.declared.answer.Answer.{Answer}
 use Rattle.lab_core.specs.declared.answer.Answer.TheVariants.{Loaded}
-use Rattle.lab_core.specs.declared.answer.SliceOutcome.{SliceOutcome}
 use Rattle.lab_core.specs.declared.fault.EventFault.{EventFault}
 use Rattle.lab_core.specs.declared.fault.EventFault.TheVariants as fault
 use Rattle.lab_core.specs.Board.{Board}
-use Rattle.lab_core.specs.Slices.{after_steps, left_by}
 use Rattle.lab_core.specs.Events.{Given, given, ended as run_ended}
-use Rattle.lab_core.specs.SliceEnds.{slice_from}
 use Rattle.dap_answers.specs.Murmur.{cell_path}
 use Rattle.kern_post.specs.declared.content.Cause.{Cause}
 use Rattle.kern_post.specs.declared.content.Cause.TheVariants as cause
@@ -51,13 +48,6 @@ loading_of (Ok (a, b)) = loading_by a
 loading_of (Err f) = Ends (Failed (cause_of f))
 
 -- ---- a run
-
--- where a slice of 4,096 steps ends, and how
-abbrev pub slice_end : Board → ℕ × SliceOutcome
-slice_end b = slice_from 4096 0 b
-
-abbrev pub after_slice : Board → Board
-after_slice b = left_by (slice_end b).1 (after_steps (slice_end b).0 b)
 
 -- a run ends, where there is one
 abbrev pub interrupted : Board → Board

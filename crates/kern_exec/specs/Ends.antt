@@ -4,13 +4,13 @@ use Rattle.std.specs.Prelude.{if◌then◌else◌}
 use Rattle.std.specs.List.{filter_map, list_any}
 use Rattle.base_text.specs.Bytes.{Bytes}
 use Rattle.i80_exec.specs.declared.ports.PortOperation.{PortOperation}
-use Rattle.i80_exec.specs.declared.ports.PortOperation.TheVariants.{In, Out}
 use Rattle.lab_core.specs.declared.answer.SliceOutcome.{SliceOutcome}
 use Rattle.lab_core.specs.declared.answer.SliceOutcome.TheVariants as outcome
 use Rattle.lab_core.specs.declared.answer.End.{End}
 use Rattle.lab_core.specs.declared.answer.End.TheVariants as end
 use Rattle.lab_core.specs.declared.answer.Stop.{Stop}
 use Rattle.lab_core.specs.declared.answer.Stop.TheVariants as stop
+use Rattle.lab_slice.specs.Console.{written_to_console, wants_line}
 use Rattle.dap_answers.specs.declared.answer.StopReason.{StopReason}
 use Rattle.dap_answers.specs.declared.answer.StopReason.TheVariants as reason
 use Rattle.dap_answers.specs.declared.answer.Event.TheVariants.{Stopped}
@@ -68,21 +68,11 @@ loading_letters connections c loading =
 
 -- ---- a slice of the run
 
--- the bytes that were written to the console
-abbrev pub printed : PortOperation → Option ℕ
-printed (In port byte) = None
-printed (Out port byte) = if port == 1 then Some byte else None
-
 abbrev pub stream_letters : Connections → Current → Bytes → List Letter
 stream_letters connections c [] = []
 stream_letters connections c (byte ∷ bytes) =
     if c.execution.request.is_silent then [] else
     published connections c.execution.header (content.Stream (byte ∷ bytes)) ∷ []
-
--- a line was asked for
-abbrev pub requests_line : PortOperation → Bool
-requests_line (In port byte) = false
-requests_line (Out port byte) = port == 3
 
 abbrev pub to_stdin : Option ℕ → Current → Option Envelope
 to_stdin None c = None
@@ -118,6 +108,6 @@ outcome_letters connections c (outcome.End e) = end_letters connections c (endin
 -- what a slice with this traffic posts that ended so
 abbrev pub slice_letters : Connections → Current → List PortOperation → SliceOutcome → List Letter
 slice_letters connections c traffic ending =
-    stream_letters connections c (filter_map printed traffic) ++
-    (input_requests (line_envelope connections c) (list_any requests_line traffic) ++
+    stream_letters connections c (filter_map written_to_console traffic) ++
+    (input_requests (line_envelope connections c) (list_any wants_line traffic) ++
     outcome_letters connections c ending)

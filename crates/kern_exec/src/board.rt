@@ -1,10 +1,8 @@
 //! Events of the board.
-ghost use Rattle.std.specs.Prelude.{◌≡◌, ◌≤◌, ℕ, length, IfOk, OnErr, Err};
-ghost use Rattle.lab_core.specs.Board.{Board};
+ghost use Rattle.std.specs.Prelude.{◌≡◌, OnErr, Err};
 ghost use Rattle.lab_core.specs.Events.{Fits, given};
-ghost use Rattle.lab_core.specs.SliceEnds.{traffic_in};
 ghost use Rattle.lab_core.specs.Memory.{MayLackMemory};
-ghost use Rattle.lab_core.specs.Labs.{StandsFor, Does};
+ghost use Rattle.lab_core.specs.Labs.{Does};
 
 use lab_core::answer::Answer;
 use lab_core::event::Event;
@@ -15,8 +13,6 @@ use lab_core::lab::Lab;
 pub(crate) fn apply_event(lab: &mut Lab, event: Event) -> Result<Answer, EventFault>
     requires { Fits event }
     ensures given { Does (given event) lab.old result lab.new }
-    ensures few { (n : ℕ) (b : Board) → event ≡ Event.Slice n → StandsFor lab.old b
-        → IfOk result (λ answer. length (traffic_in answer) ≤ n) }
     ensures err { OnErr result (lab.new ≡ lab.old) }
     ensures memory { result ≡ Err EventFault.OutOfMemory → MayLackMemory event lab.old }
 {

@@ -1,38 +1,26 @@
 //! Slices of a run, and what they post.
-ghost use Rattle.std.specs.Prelude.{◌≡◌, ◌<◌, ◌≤◌, ◌+◌, ◌++◌, ◌∷◌, [], length, IfOk, OnErr, vec_capacity};
-ghost use Rattle.std.specs.Prelude.{vec_len, codes};
-ghost use Rattle.std.specs.List.{filter_map, list_any};
-ghost use Rattle.lab_core.specs.declared.run_state.RunState.TheVariants.{Running};
-ghost use Rattle.lab_core.specs.Board.{Board};
-ghost use Rattle.lab_core.specs.Slices.{traffic_of};
-ghost use Rattle.lab_core.specs.Labs.{StandsFor};
+ghost use Rattle.std.specs.Prelude.{◌≡◌, ◌<◌, ◌≤◌, ◌+◌, ◌++◌, ◌∷◌, [], length, IfOk, vec_capacity, codes};
 ghost use Rattle.kern_peers.specs.Connections.{Connections};
 ghost use Rattle.kern_exec.specs.declared.execution.Current.{Current};
-ghost use Rattle.kern_exec.specs.Boards.{slice_end, after_slice};
-ghost use Rattle.kern_exec.specs.Ends.{printed, requests_line, reason_of, ending_of, line_envelope, input_requests};
+ghost use Rattle.kern_exec.specs.Ends.{reason_of, ending_of, line_envelope, input_requests};
 ghost use Rattle.kern_exec.specs.Ends.{stream_letters, outcome_letters, slice_letters};
 ghost use Rattle.kern_exec.specs.Letters.{published_under};
 ghost use Rattle.kern_exec.specs.Kits.{IsSliceKit, end_kit_of};
 
-use crate::board::apply_event;
 use crate::ends::{EndKit, end_kit, push_end};
 use crate::execution::Current;
 use crate::letters::{address, published_under};
 use base_text::sequence::Bytes;
 use dap_answers::answer::{Event as DebugEvent, StopReason};
-use i80_devs::traffic::Traffic;
 use i80_exec::ports::PortOperation;
 use kern_peers::peers::Peers;
 use kern_post::content::{Cause, Content, Ending};
 use kern_post::letters::Letters;
 use kern_post::post::{Envelope, Letter};
-use lab_core::answer::{Answer, End, SliceOutcome, Stop};
-use lab_core::event::Event;
-use lab_core::lab::Lab;
+use lab_core::answer::{End, SliceOutcome, Stop};
+use lab_slice::console::{is_line_requested, print_all};
+use lab_slice::slice::STEPS;
 use std::alloc::{AllocError, Global};
-
-/// The steps of a slice, at most.
-pub const STEPS: u16 = 4096;
 
 /// All that a slice of an execution may post, made before its first step.
 #[derive(Drop)]
@@ -111,41 +99,6 @@ pub fn slice_kit(alloc: Global, peers: &Peers, current: &Current) -> Result<Slic
             Err(AllocError)
         }
     }
-}
-
-fn push_printed(text: &mut Vec<u8>, operation: &PortOperation)
-    requires { vec_len text.old < vec_capacity text.old }
-    ensures items { text.new.items ≡ text.old.items ++ filter_map printed (operation.now ∷ []) }
-    ensures capacity { vec_capacity text.new ≡ vec_capacity text.old }
-    ensures len { vec_len text.new ≤ vec_len text.old + 1 }
-{
-    match operation {
-        PortOperation::Out { port: 1, byte } => text.push_reserved(*byte),
-        _ => {}
-    }
-}
-
-fn print_all(mut text: Vec<u8>, traffic: &[PortOperation]) -> Vec<u8>
-    requires empty { text.items ≡ [] }
-    requires room { length traffic.now ≤ vec_capacity text }
-    ensures { result.items ≡ filter_map printed traffic.now }
-{
-    for operation in traffic {
-        push_printed(&mut text, operation);
-    }
-    text
-}
-
-fn requests_line(operation: &PortOperation) -> bool
-    ensures { result ≡ requests_line operation.now }
-{
-    matches!(operation, PortOperation::Out { port: 3, .. })
-}
-
-fn is_line_requested(traffic: &[PortOperation]) -> bool
-    ensures { result ≡ list_any requests_line traffic.now }
-{
-    traffic.iter().any(requests_line)
 }
 
 fn push_stream(letters: &mut Letters, envelope: Envelope, is_silent: bool, text: Vec<u8>)
@@ -245,27 +198,4 @@ pub fn letters_of(kit: SliceKit, traffic: &[PortOperation], outcome: SliceOutcom
     push_line(&mut letters, line, is_line_requested(traffic));
     push_outcome(&mut letters, stopped, end, outcome);
     letters
-}
-
-/// A slice of the run: the port operations of its steps, and how it ended. Out of memory leaves the
-/// board as it was.
-pub fn slice(lab: &mut Lab) -> Result<(Traffic, SliceOutcome), AllocError>
-    ensures made { (b : Board) → StandsFor lab.old b → b.run ≡ Running → IfOk result (λ made.
-        (made.0 ≡ traffic_of (slice_end b).0 b) × ((made.1 ≡ (slice_end b).1) × StandsFor lab.new (after_slice b))) }
-    ensures few { (b : Board) → StandsFor lab.old b → IfOk result (λ made. length made.0 ≤ 4096) }
-    ensures err { (b : Board) → StandsFor lab.old b → OnErr result (lab.new ≡ lab.old) }
-{
-    match apply_event(lab, Event::Slice(STEPS)) {
-        Ok(
-            Answer::Sliced {
-                traffic,
-                outcome,
-                ..
-            },
-        ) => Ok((traffic, outcome)),
-        other => {
-            drop(other);
-            Err(AllocError)
-        }
-    }
 }

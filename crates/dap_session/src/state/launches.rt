@@ -36,13 +36,16 @@ fn pauses(launch: &Launch) -> bool
     launch.stops_on_entry && launch.is_debugged
 }
 
-fn begun_follow(launch: &Launch) -> Follow
-    ensures { result ≡ launches.begun_follow launch.now }
+// What is told of a program that begins.
+fn begun_follow(occasion: Occasion, launch: &Launch) -> Follow
+    ensures { result ≡ launches.begun_follow occasion launch.now }
 {
     if pauses(launch) {
-        Follow::Stopped(EditorStop::Entry)
-    } else {
-        Follow::Nothing
+        return Follow::Stopped(EditorStop::Entry);
+    }
+    match occasion {
+        Occasion::Launch => Follow::Nothing,
+        Occasion::Restart => Follow::Continued,
     }
 }
 
@@ -136,7 +139,7 @@ impl State {
                 Phase::Loaded => {
                     begin(&mut self.lab, program.start, pauses(&program.launch));
                     program.phase = Phase::Begun;
-                    accept(begun_follow(&program.launch))
+                    accept(begun_follow(Occasion::Launch, &program.launch))
                 }
                 Phase::Begun | Phase::Over => accept(Follow::Nothing),
             },
@@ -210,11 +213,11 @@ impl State {
         }
     }
 
-    fn started_follow(&self, program: &Program) -> Follow
-        ensures { (s : SessionState) → StandsFor self.now s → result ≡ started_follow program.now s }
+    fn started_follow(&self, occasion: Occasion, program: &Program) -> Follow
+        ensures { (s : SessionState) → StandsFor self.now s → result ≡ started_follow occasion program.now s }
     {
         if self.settings.is_configured {
-            begun_follow(&program.launch)
+            begun_follow(occasion, &program.launch)
         } else {
             Follow::Nothing
         }
@@ -235,7 +238,7 @@ impl State {
         let points = &self.settings.points;
         let lines = program_lines(alloc, program, points)?;
         let labels = program_labels(alloc, program, points, lab)?;
-        let follow = self.started_follow(program);
+        let follow = self.started_follow(occasion, program);
         opening_messages(
             alloc,
             caller,

@@ -1,7 +1,7 @@
 //! Memory and code.
 ghost use Rattle.std.specs.Prelude.{◌≡◌, ◌+◌, ◌-◌, ◌≤◌, length, take, true, Some, IfOk, OnOk, OnErr};
-ghost use Rattle.dap_talk.specs.Table.{IsBounded};
 ghost use Rattle.dap_program.specs.Memory.{written};
+ghost use Rattle.dap_board.specs.Commands.{IsPerformable};
 ghost use Rattle.dap_session.specs.Memory.{address_at, wrapped_at, disassembly, memory_at, is_stopped, writing_from};
 ghost use Rattle.dap_session.specs.Memory.{writing};
 ghost use Rattle.dap_session.specs.Requests as requests;
@@ -59,13 +59,6 @@ fn wrapped_at(address: u16, offset: Shift) -> u16
     (far % 65_536) as u16
 }
 
-// How many bytes of a count aren't there, where so many are.
-fn unreadable(count: u32, read: usize) -> u32
-    ensures { result ≡ count - read }
-{
-    (count as usize).saturating_sub(read) as u32
-}
-
 // Of these bytes as many as there are addresses for, from this one on.
 fn writable(start: u16, bytes: &[u8]) -> &[u8]
     ensures all { result.now ≡ take (65536 - start) bytes.now }
@@ -99,7 +92,7 @@ impl State {
             }),
             Some(start) => {
                 let bytes = read_memory(alloc, &self.lab, start, count)?;
-                let unreadable = unreadable(count, bytes.len());
+                let unreadable = (count as usize).saturating_sub(bytes.len()) as u32;
                 Ok(EditorBody::Memory {
                     address: start,
                     bytes,
@@ -127,7 +120,7 @@ impl State {
         requires { requests.is_near offset ≡ true }
         ensures command { (s : SessionState) → StandsFor self.now s
             → result ≡ disassembly address offset count s.board }
-        ensures fits { requests.is_few count ≡ true → IsBounded result }
+        ensures performable { IsPerformable result }
     {
         match offset {
             Shift::Forward(n) => DapCommand::Disassemble {
@@ -153,8 +146,7 @@ impl State {
         instruction_offset: Shift,
         count: u16,
     ) -> Result<Reply, AllocError>
-        requires near { requests.is_near instruction_offset ≡ true }
-        requires few { requests.is_few count ≡ true }
+        requires { requests.is_near instruction_offset ≡ true }
         ensures { Answers (disassembling address offset instruction_offset count) self.old result self.new }
     {
         let command = self.disassembly(wrapped_at(address, offset), instruction_offset, count);

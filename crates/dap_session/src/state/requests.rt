@@ -1,7 +1,7 @@
 //! Requests, but for those that a file of their own has.
 ghost use Rattle.std.specs.Prelude.{◌≡◌, ◌≤◌, length, IsTrue, IfOk, OnErr, option_map, true, None, ◌≢◌};
-ghost use Rattle.dap_talk.specs.Table.{IsBounded};
 ghost use Rattle.dap_program.specs.Refusals.{board_refusal};
+ghost use Rattle.dap_board.specs.Commands.{IsPerformable};
 ghost use Rattle.dap_session.specs.States as states;
 ghost use Rattle.dap_session.specs.States.{SessionState, is_live};
 ghost use Rattle.dap_session.specs.Requests as requests;
@@ -24,11 +24,13 @@ use dap_program::refusals::{board_refusal, request_refusal};
 use dap_talk::command::DapCommand;
 use lab_core::event::Event;
 use lab_core::fault::EventFault;
-use lab_core::run_state::RunState;
 use std::alloc::{AllocError, Global};
 
-/// The most lines, labels or instructions that a request may name.
+/// The most lines or labels that a request may name.
 const MOST: usize = 256;
+
+/// The most instructions that a disassembly may list.
+const MOST_INSTRUCTIONS: u16 = 1024;
 
 /// How many instructions a disassembly may begin before its address.
 const MOST_BACK: u32 = 65_536;
@@ -47,7 +49,7 @@ fn opens(asked: &Asked) -> bool
 fn is_few(count: u16) -> bool
     ensures { result ≡ requests.is_few count }
 {
-    1 <= count && count <= 256
+    1 <= count && count <= MOST_INSTRUCTIONS
 }
 
 fn is_near(shift: Shift) -> bool
@@ -61,7 +63,7 @@ fn is_near(shift: Shift) -> bool
 
 fn is_command_bounded(command: &DapCommand) -> bool
     ensures bounded { result ≡ requests.is_command_bounded command.now }
-    ensures fits { result ≡ true → IsBounded command.now }
+    ensures fits { result ≡ true → IsPerformable command.now }
 {
     match command {
         DapCommand::SetBreakpoints { lines, .. } => lines.len() <= MOST,
@@ -113,18 +115,12 @@ pub(super) fn refuse_for(alloc: Global, fault: EventFault) -> Result<Reply, Allo
     Ok(reply)
 }
 
-fn is_over(phase: Phase) -> bool
-    ensures { result ≡ states.is_over phase }
-{
-    matches!(phase, Phase::Over)
-}
-
 fn is_live(program: &Option<Program>) -> bool
     ensures { result ≡ is_live program.now }
 {
     match program {
         None => false,
-        Some(program) => !is_over(program.phase),
+        Some(program) => !matches!(program.phase, Phase::Over),
     }
 }
 
@@ -163,16 +159,6 @@ impl State {
         }
     }
 
-    /// Whether a run goes on.
-    pub(super) fn is_running(&self) -> bool
-        ensures { (s : SessionState) → StandsFor self.now s → result ≡ states.is_running s.board.run }
-    {
-        match self.lab.run_state() {
-            RunState::Running => true,
-            RunState::NoRun | RunState::Stopped => false,
-        }
-    }
-
     // A command of a board, with what is told of it once it is done.
     pub(super) fn perform(
         &mut self,
@@ -180,7 +166,7 @@ impl State {
         command: &DapCommand,
         follow: Follow,
     ) -> Result<Reply, AllocError>
-        requires { IsBounded command.now }
+        requires { IsPerformable command.now }
         ensures { Answers (performing command.now follow) self.old result self.new }
     {
         match perform(alloc, &mut self.lab, command) {

@@ -1,7 +1,7 @@
 //! Requests of a debugger.
 ghost use Rattle.std.specs.Prelude.{◌≡◌, ◌<◌, ◌≤◌, ◌+◌, ◌++◌, ◌∷◌, length, true, false, option_to_list, None, Err};
 ghost use Rattle.std.specs.Prelude.{IfOk, IsOk, IsErr, IsTrue, codes};
-ghost use Rattle.dap_talk.specs.Table.{IsBounded};
+ghost use Rattle.dap_board.specs.Commands.{IsPerformable};
 ghost use Rattle.dap_board.specs.Names.{event_after};
 ghost use Rattle.kern_core.specs.Requests.{is_reset, after_letter, is_bounded, refusing, performing, debugging};
 ghost use Rattle.kern_core.specs.Requests.{debug_reply, performed_letters};
@@ -45,7 +45,7 @@ fn is_reset(command: &DapCommand) -> bool
 
 fn is_bounded(command: &DapCommand) -> bool
     ensures bounded { result ≡ is_bounded command.now }
-    ensures fits { IsTrue result → IsBounded command.now }
+    ensures fits { IsTrue result → IsPerformable command.now }
 {
     match command {
         DapCommand::SetBreakpoints { lines, .. } => lines.len() <= MOST_LINES,
@@ -259,7 +259,7 @@ impl KernelState {
         unix_seconds: u64,
     ) -> Result<Reply, KernelFault>
         requires room { HasRoom self.old }
-        requires bounded { IsBounded debug.now.command }
+        requires bounded { IsPerformable debug.now.command }
         requires other { is_reset debug.now.command ≡ false }
         ensures { Takes (performing connection request.now debug.now unix_seconds) self.old result self.new }
     {

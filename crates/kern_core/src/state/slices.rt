@@ -22,9 +22,10 @@ use kern_exec::cells::{LoadingKit, letters_of as loading_letters, load, loading_
 use kern_exec::executions::count_with;
 use kern_exec::loading::Loading;
 use kern_exec::runs::start;
-use kern_exec::slices::{SliceKit, letters_of, slice, slice_kit};
+use kern_exec::slices::{SliceKit, letters_of, slice_kit};
 use lab_core::answer::SliceOutcome;
 use lab_core::run_state::RunState;
+use lab_slice::slice::run_slice;
 use std::alloc::AllocError;
 
 impl KernelState {
@@ -119,7 +120,7 @@ impl KernelState {
         ensures { TakesIn Running (running unix_seconds) self.old result self.new }
     {
         let kit = self.kit()?;
-        match slice(&mut self.lab) {
+        match run_slice(&mut self.lab) {
             Ok((traffic, outcome)) => {
                 self.post_slice(unix_seconds, kit, &traffic, outcome);
                 Ok(self.leave_run(outcome))

@@ -1,4 +1,4 @@
-use Rattle.std.proofs.Common.{◌≡◌, ◌∙◌, true, false, sym, ap, subst}
+use Rattle.std.proofs.Common.{◌≡◌, ◌∙◌, true, sym, ap, subst}
 use Rattle.dap_session.specs.declared.settings.Settings.{Settings}
 use Rattle.dap_session.specs.Stands.{StandsFor}
 use Rattle.dap_session.proofs.SessionLemmas.{begun_so, started_so}

@@ -1,0 +1,264 @@
+-- What requests and slices tell of stops and of ends.
+use Rattle.std.proofs.Common.{◌≡◌, ◌∙◌, ℕ, List, [], ◌∷◌, ◌++◌, Bool, true, false, not, ◌&&◌, Option, Some, None}
+use Rattle.std.proofs.Common.{Ok, refl, sym, ap, subst, inl, inr, true≢false, fold, filter_map}
+use Rattle.std.proofs.lemmas.Bool.{cases_Bool, and_parts}
+use Rattle.std.proofs.lemmas.List.Sums.{fold-append}
+use Rattle.std.specs.List.{list_any}
+use Rattle.base_text.specs.Bytes.{Bytes, Text}
+use Rattle.base_text.specs.Latin.{latin_bytes}
+use Rattle.lab_views.specs.declared.view.View.TheVariants as view
+use Rattle.lab_core.specs.declared.answer.Answer.TheVariants as answer
+use Rattle.lab_core.specs.declared.answer.End.{End}
+use Rattle.lab_core.specs.declared.answer.End.TheVariants as end
+use Rattle.lab_core.specs.declared.answer.SliceOutcome.{SliceOutcome}
+use Rattle.lab_core.specs.declared.answer.SliceOutcome.TheVariants as outcome
+use Rattle.lab_core.specs.declared.event.Event.TheVariants as event
+use Rattle.lab_core.specs.declared.run_state.RunState.{RunState}
+use Rattle.lab_core.specs.declared.run_state.RunState.TheVariants.{NoRun, Running, Stopped}
+use Rattle.lab_core.specs.Board.{Board}
+use Rattle.lab_core.specs.Events.{given}
+use Rattle.lab_core.specs.Slices.{traffic_of, after_steps, left_by}
+use Rattle.lab_slice.specs.Slices.{slice_end}
+use Rattle.lab_slice.specs.Console.{written_to_console, wants_line}
+use Rattle.dap_answers.specs.declared.answer.Body.TheVariants as body
+use Rattle.dap_answers.specs.Murmur.{cell_path}
+use Rattle.dap_talk.specs.declared.command.DapCommand.{DapCommand}
+use Rattle.dap_talk.specs.declared.command.DapCommand.TheVariants as command
+use Rattle.dap_board.specs.Bodies.{body_of}
+use Rattle.dap_board.specs.Commands.{first_line, performed, board_with, step_request}
+use Rattle.dap_editor.specs.declared.request.Asked.{Asked}
+use Rattle.dap_editor.specs.declared.request.Asked.TheVariants as asked
+use Rattle.dap_editor.specs.declared.request.EditorCommand.{EditorCommand}
+use Rattle.dap_editor.specs.declared.request.EditorCommand.TheVariants as editor
+use Rattle.dap_program.specs.Messages.{told}
+use Rattle.dap_program.specs.Slices.{console_events, line_events, outcome_events, run_end_events}
+use Rattle.dap_session.specs.declared.file.FileText.{FileText}
+use Rattle.dap_session.specs.States.{SessionState, opened, with_board, is_live, is_running, wants_slice}
+use Rattle.dap_session.specs.Memory.{wrapped_at}
+use Rattle.dap_session.specs.Requests.{initialized, commanding, editing, objection, asking, asking_unless, turn}
+use Rattle.dap_session.specs.Slices.{Input, request, slice, settings_after, slicing, sliced, step, played}
+use Rattle.dap_session.specs.Laws.{Shown, unstopped, shown_after, shown_by, shown_for, ends_told, ends_between}
+use Rattle.dap_session.specs.Laws.{has_run, has_begun, events_in, asks_to_load, loads}
+use Rattle.dap_session.proofs.BoardLemmas.{SameRun, kept_without, kept_dump, kept_poke, kept_press, kept_steps}
+use Rattle.dap_session.proofs.RunLemmas.{seen, seen_board, IsReached, idle, lively, begun_runs, with_run, over_seen}
+use Rattle.dap_session.proofs.RunLemmas.{Follows, still, runs_on, ends_live, IsCalm, calm_follows}
+use Rattle.dap_session.proofs.TurnLemmas.{GoesBy, goes_either, goes_board, goes_shown, goes_evaluating}
+use Rattle.dap_session.proofs.TurnLemmas.{goes_disassembly, goes_lines, goes_functions, goes_writing, goes_paused}
+use Rattle.dap_session.proofs.TurnLemmas.{goes_resumed, goes_resetting, goes_terminating}
+use Rattle.dap_session.proofs.StartLemmas.{goes_where, calm_none, FollowsTurn, follows_launch, follows_restart}
+
+-- ---- the requests that load nothing
+
+goes_command : (c : DapCommand) (s : SessionState) → IsReached (seen s) → GoesBy s (commanding c s)
+unfolding performed
+goes_command command.Initialize s reached =
+    goes_either s.settings.is_initialized s _ _ (still s s reached refl) (still s (initialized s) reached refl)
+goes_command command.Attach s reached = still s s reached refl
+goes_command command.Disconnect s reached = still s _ reached refl
+goes_command command.ConfigurationDone s reached = goes_where s.settings.program s refl reached
+goes_command (command.SetBreakpoints path lines) s reached = goes_lines path lines s reached
+goes_command command.BoardReset s reached = goes_resetting s reached
+goes_command command.Threads s reached = still s _ reached refl
+goes_command (command.StackTrace start levels) s reached = goes_shown (view.Frames start levels) s reached
+goes_command (command.Scopes frame) s reached = goes_shown (view.Scopes frame) s reached
+goes_command (command.Variables reference start count) s reached =
+    goes_shown (view.Variables reference start count) s reached
+goes_command command.Continue s reached = goes_resumed s.board.run None _ s refl reached
+goes_command (command.Step kind granularity) s reached =
+    goes_resumed s.board.run (Some (step_request kind granularity)) _ s refl reached
+goes_command command.Pause s reached = goes_paused s.board.is_attached s.board.run s refl reached
+goes_command (command.Disassemble address offset instruction_offset count) s reached =
+    goes_shown (view.Code (first_line s.board.machine address offset instruction_offset) count) s reached
+goes_command (command.Source path) s reached = goes_shown (view.Source path) s reached
+goes_command (command.DumpCell code) s reached =
+    goes_board (λ _. body.SourcePath (cell_path code)) _ s reached (kept_dump (cell_path code) code s.board)
+goes_command command.DebugInfo s reached = goes_shown view.Info s reached
+goes_command command.InspectVariables s reached = goes_shown (view.Variables 1 0 0) s reached
+goes_command (command.SetVariable reference name value) s reached =
+    goes_board body_of _ s reached (kept_poke reference name value s.board)
+goes_command (command.BoardSwitches value) s reached =
+    goes_board (λ _. body.Empty) (given (event.Switches value) s.board) s reached
+    (record { run = refl; is_attached = refl })
+goes_command (command.BoardPress vector) s reached =
+    goes_board (λ _. body.Empty) (given (event.Press vector) s.board) s reached (kept_press vector s.board)
+goes_command (command.BoardType text) s reached =
+    goes_board (λ _. body.Empty) (given (event.Typed (latin_bytes text)) s.board) s reached
+    (record { run = refl; is_attached = refl })
+goes_command (command.BoardAliases aliases) s reached =
+    goes_board (λ _. body.Empty) (given (event.SetBoard (board_with aliases)) s.board) s reached
+    (kept_without s.board.run s.board (Ok (answer.BoardSet, _)) (record { run = refl; is_attached = refl }))
+
+goes_editing : (c : EditorCommand) (s : SessionState) → IsReached (seen s) → GoesBy s (editing c s)
+goes_editing editor.Terminate s reached = goes_terminating s reached
+goes_editing (editor.SetFunctionBreakpoints names) s reached = goes_functions names s reached
+goes_editing (editor.Evaluate expression c) s reached = goes_evaluating expression c s reached
+goes_editing (editor.Disassemble address offset instruction_offset count) s reached =
+    goes_disassembly (wrapped_at address offset) instruction_offset count s reached
+goes_editing other s reached = still s s reached refl
+
+-- ---- all requests
+
+follows_asking : (a : Asked) (found : Option FileText) (s : SessionState) → IsReached (seen s)
+    → FollowsTurn s (asking a found s)
+follows_asking (asked.Editor (editor.Launch l)) found s reached =
+    follows_launch s.settings.program l found s refl reached
+follows_asking (asked.Editor editor.Restart) found s reached =
+    follows_restart s.settings.program found s reached
+follows_asking (asked.Editor (editor.WriteMemory address offset bytes)) found s reached =
+    (goes_writing address offset bytes s reached).follows
+follows_asking (asked.Board c) found s reached = (goes_command c s reached).follows
+follows_asking (asked.Faulty f) found s reached = (still s s reached refl).follows
+follows_asking (asked.Editor c) found s reached = (goes_editing c s reached).follows
+
+follows_unless : (o : Option Text) (a : Asked) (found : Option FileText) (s : SessionState) → IsReached (seen s)
+    → FollowsTurn s (asking_unless o a found s)
+follows_unless (Some text) a found s reached = (still s s reached refl).follows
+follows_unless None a found s reached = follows_asking a found s reached
+
+follows_turn : (a : Asked) (found : Option FileText) (s : SessionState) → IsReached (seen s)
+    → FollowsTurn s (turn a found s)
+unfolding turn
+follows_turn a found s reached = follows_unless (objection a s) a found s reached
+
+quiet_asking : (a : Asked) (found : Option FileText) (s : SessionState) → IsReached (seen s)
+    → is_live s.settings.program ≡ false → asks_to_load a ≡ false → (asking a found s).events ≡ []
+quiet_asking (asked.Editor (editor.Launch l)) found s reached dead is = absurd (true≢false is)
+quiet_asking (asked.Editor editor.Restart) found s reached dead is = absurd (true≢false is)
+quiet_asking (asked.Editor (editor.WriteMemory address offset bytes)) found s reached dead is =
+    (goes_writing address offset bytes s reached).quiet dead
+quiet_asking (asked.Board c) found s reached dead is = (goes_command c s reached).quiet dead
+quiet_asking (asked.Faulty f) found s reached dead is = refl
+quiet_asking (asked.Editor c) found s reached dead is = (goes_editing c s reached).quiet dead
+
+quiet_unless : (o : Option Text) (a : Asked) (found : Option FileText) (s : SessionState) → IsReached (seen s)
+    → is_live s.settings.program ≡ false → asks_to_load a ≡ false → (asking_unless o a found s).events ≡ []
+quiet_unless (Some text) a found s reached dead is = refl
+quiet_unless None a found s reached dead is = quiet_asking a found s reached dead is
+
+quiet_turn : (a : Asked) (found : Option FileText) (s : SessionState) → IsReached (seen s)
+    → is_live s.settings.program ≡ false → asks_to_load a ≡ false → (turn a found s).events ≡ []
+unfolding turn
+quiet_turn a found s reached dead is = quiet_unless (objection a s) a found s reached dead is
+
+-- ---- slices
+
+calm_console : (bytes : Bytes) → IsCalm (console_events bytes)
+calm_console [] = calm_none
+calm_console (byte ∷ bytes) = record { stops = λ d. refl; ends = refl }
+
+calm_line : (b : Bool) → IsCalm (line_events b)
+calm_line true = record { stops = λ d. refl; ends = refl }
+calm_line false = calm_none
+
+over_shown : (e : End) (d : Shown) → fold shown_after d (told (run_end_events e)) ≡ unstopped
+over_shown end.Halted d = refl
+over_shown (end.Undefined opcode pc) d = refl
+
+over_ends : (e : End) → ends_told (told (run_end_events e)) ≡ 1
+over_ends end.Halted = refl
+over_ends (end.Undefined opcode pc) = refl
+
+-- the session after a slice of its run that ended so, on this board
+abbrev left : SliceOutcome → Board → SessionState → SessionState
+left o b s = record { board = left_by o b; settings = settings_after o s.settings }
+
+follows_outcome : (o : SliceOutcome) (b : Board) (s : SessionState) → SameRun s.board b → IsReached (seen s)
+    → has_run s.board.run ≡ true → Follows (seen s) (told (outcome_events o)) (seen (left o b s))
+follows_outcome outcome.More b s kept reached has =
+    (still s (with_board b s) reached (seen_board b s kept)).follows
+follows_outcome outcome.Waiting b s kept reached has =
+    (still s (with_board b s) reached (seen_board b s kept)).follows
+follows_outcome (outcome.Stop r) b s kept reached has =
+    let es = told (outcome_events (outcome.Stop r)) in
+    subst (λ a. Follows (seen s) es (record (with_run Stopped (seen s)) { is_attached = a }))
+    (sym kept.is_attached) (runs_on Stopped (seen s) es reached has refl refl refl)
+follows_outcome (outcome.End e) b s kept reached has =
+    let es = told (run_end_events e) in
+    subst (λ a. Follows (seen s) es (record (over_seen (seen s)) { is_attached = a })) (sym kept.is_attached)
+    (ends_live (seen s) es reached (lively (seen s) reached has) (over_shown e (shown_for s.board.run))
+    (over_ends e))
+
+follows_slicing : (p : ℕ × SliceOutcome) (s : SessionState) → IsReached (seen s) → has_run s.board.run ≡ true
+    → Follows (seen s) (slicing p s).messages (seen (slicing p s).state)
+follows_slicing (k, ending) s reached has =
+    let written = filter_map written_to_console (traffic_of k s.board) in
+    let asks = list_any wants_line (traffic_of k s.board) in
+    calm_follows (console_events written) (line_events asks ++ outcome_events ending) _ _ (calm_console written)
+    (calm_follows (line_events asks) (outcome_events ending) _ _ (calm_line asks)
+    (follows_outcome ending (after_steps k s.board) s (kept_steps k s.board) reached has))
+
+running_has : (r : RunState) → is_running r ≡ true → has_run r ≡ true
+running_has NoRun is = absurd (true≢false (sym is))
+running_has Running is = refl
+running_has Stopped is = absurd (true≢false (sym is))
+
+follows_sliced : (s : SessionState) → IsReached (seen s)
+    → Follows (seen s) (sliced s).messages (seen (sliced s).state)
+unfolding sliced
+follows_sliced s reached = elim (cases_Bool (wants_slice s)) [
+  | inl so ↦
+      rw so (follows_slicing (slice_end s.board) s reached
+      (running_has s.board.run (and_parts (is_running s.board.run) (not s.settings.waits) so).0))
+  | inr other ↦ rw other (still s s reached refl).follows
+]
+
+quiet_sliced : (s : SessionState) → IsReached (seen s) → is_live s.settings.program ≡ false
+    → events_in (sliced s).messages ≡ []
+unfolding sliced
+quiet_sliced s reached dead =
+    let unwanted : wants_slice s ≡ false =
+    ap (λ r. is_running r && not s.settings.waits) (idle (seen s) reached dead) in
+    rw unwanted refl
+
+-- ---- sessions
+
+follows_step : (input : Input) (s : SessionState) → IsReached (seen s)
+    → Follows (seen s) (step input s).messages (seen (step input s).state)
+follows_step (request r found) s reached =
+    let follows = follows_turn r.asked found s reached in
+    record { reached = follows.reached; stops = follows.stops; ends = follows.ends }
+follows_step slice s reached = follows_sliced s reached
+
+quiet_step : (input : Input) (s : SessionState) → IsReached (seen s) → is_live s.settings.program ≡ false
+    → loads input ≡ false → events_in (step input s).messages ≡ []
+quiet_step (request r found) s reached dead is =
+    ap (λ es. events_in (told es)) (quiet_turn r.asked found s reached dead is)
+quiet_step slice s reached dead is = quiet_sliced s reached dead
+
+reached_from : (inputs : List Input) (s : SessionState) → IsReached (seen s)
+    → IsReached (seen (played inputs s).state)
+reached_from [] s reached = reached
+reached_from (input ∷ inputs) s reached =
+    reached_from inputs (step input s).state (follows_step input s reached).reached
+
+stops_from : (inputs : List Input) (s : SessionState) → IsReached (seen s)
+    → fold shown_after (shown_for s.board.run) (played inputs s).messages
+    ≡ shown_for (played inputs s).state.board.run
+stops_from [] s reached = refl
+stops_from (input ∷ inputs) s reached =
+    let first = step input s in
+    let rest = played inputs first.state in
+    let follows = follows_step input s reached in
+    fold-append shown_after (shown_for s.board.run) first.messages rest.messages
+    ∙ (ap (λ d. fold shown_after d rest.messages) follows.stops ∙ stops_from inputs first.state follows.reached)
+
+reached_opened : (inputs : List Input) → IsReached (seen (played inputs opened).state)
+reached_opened inputs = reached_from inputs opened refl
+
+pub stops_told : (inputs : List Input)
+    → shown_by (played inputs opened).messages ≡ shown_for (played inputs opened).state.board.run
+stops_told inputs = stops_from inputs opened refl
+
+pub run_begun : (inputs : List Input)
+    → let s = (played inputs opened).state in has_run s.board.run ≡ has_begun s.settings.program
+run_begun inputs = begun_runs (seen (played inputs opened).state) (reached_opened inputs)
+
+pub quiet_told : (inputs : List Input) (input : Input)
+    → let s = (played inputs opened).state in
+    is_live s.settings.program ≡ false → loads input ≡ false → events_in (step input s).messages ≡ []
+quiet_told inputs input = quiet_step input (played inputs opened).state (reached_opened inputs)
+
+pub end_told : (inputs : List Input) (input : Input)
+    → let s = (played inputs opened).state in
+    ends_told (step input s).messages ≡ ends_between s.settings.program (step input s).state.settings.program
+end_told inputs input = (follows_step input (played inputs opened).state (reached_opened inputs)).ends

@@ -1,0 +1,191 @@
+-- What a request that begins no program tells of stops and of ends.
+use Rattle.std.proofs.Common.{◌≡◌, ◌-◌, ℕ, List, ◌++◌, Bool, true, false, Option, Some, None, Result, Ok, Err}
+use Rattle.std.proofs.Common.{codes, take, if◌then◌else◌, refl, ap}
+use Rattle.base_text.specs.Bytes.{Bytes, Text}
+use Rattle.base_text.specs.Latin.{latin_bytes}
+use Rattle.lab_views.specs.declared.view.View.{View}
+use Rattle.lab_views.specs.declared.view.View.TheVariants as view
+use Rattle.lab_core.specs.declared.answer.Answer.{Answer}
+use Rattle.lab_core.specs.declared.answer.Answer.TheVariants as answer
+use Rattle.lab_core.specs.declared.event.Event.TheVariants as event
+use Rattle.lab_core.specs.declared.event.StepRequest.{StepRequest}
+use Rattle.lab_core.specs.declared.run_state.RunState.{RunState}
+use Rattle.lab_core.specs.declared.run_state.RunState.TheVariants.{NoRun, Running, Stopped}
+use Rattle.lab_core.specs.Events.{Given, given, while_stopped, while_running, while_attached, going_on}
+use Rattle.lab_core.specs.Events.{stopped as board_stopped}
+use Rattle.dap_answers.specs.declared.answer.Body.{Body}
+use Rattle.dap_answers.specs.declared.answer.Body.TheVariants as body
+use Rattle.dap_answers.specs.declared.answer.StopReason.TheVariants.{Pause as ByPause}
+use Rattle.dap_talk.specs.declared.command.DapCommand.TheVariants as command
+use Rattle.dap_board.specs.Bodies.{body_of}
+use Rattle.dap_board.specs.Commands.{performed, first_line, with_body}
+use Rattle.dap_editor.specs.declared.message.EditorStop.TheVariants.{Board as AtBoard}
+use Rattle.dap_editor.specs.declared.request.EvaluateContext.{EvaluateContext}
+use Rattle.dap_editor.specs.declared.request.EvaluateContext.TheVariants as context
+use Rattle.dap_editor.specs.declared.request.Shift.{Shift}
+use Rattle.dap_editor.specs.declared.request.Shift.TheVariants.{Forward, Back}
+use Rattle.dap_inspect.specs.declared.fault.EvaluateFault.{EvaluateFault}
+use Rattle.dap_inspect.specs.Expressions.{evaluated}
+use Rattle.dap_inspect.specs.Instructions.{before_instructions}
+use Rattle.dap_points.specs.Points.{has_place}
+use Rattle.dap_program.specs.declared.messages.Follow.TheVariants as follow
+use Rattle.dap_program.specs.Boards.{after}
+use Rattle.dap_program.specs.Memory.{written}
+use Rattle.dap_program.specs.Messages.{events_of}
+use Rattle.dap_session.specs.States.{SessionState, with_board, is_live, ended}
+use Rattle.dap_session.specs.Turns.{Replied}
+use Rattle.dap_session.specs.Breakpoints.{is_launched_as, setting_lines, setting_functions}
+use Rattle.dap_session.specs.Evaluations.{behind, byte_spelled, byte_word, word_with, word_done, value_told}
+use Rattle.dap_session.specs.Evaluations.{by_word, evaluating}
+use Rattle.dap_session.specs.Memory.{is_stopped, address_at, writing_from, writing, disassembly}
+use Rattle.dap_session.specs.Requests.{board_done, performing, resetting, terminating}
+use Rattle.dap_session.specs.Laws.{has_run}
+use Rattle.dap_session.proofs.BoardLemmas.{KeepsRun, kept_press, kept_show, kept_where, kept_labels, kept_written}
+use Rattle.dap_session.proofs.BoardLemmas.{run_interrupted, still_attached}
+use Rattle.dap_session.proofs.RunLemmas.{seen, seen_board, IsReached, both, lively, over_seen, Goes, still, runs_on}
+use Rattle.dap_session.proofs.RunLemmas.{goes_over}
+
+abbrev pub GoesBy : SessionState → Replied → Type 0
+GoesBy s r = Goes s (events_of r.follow) r.state
+
+-- ---- what leaves the run as it was
+
+pub goes_either : (b : Bool) (s : SessionState) (r r' : Replied) → GoesBy s r → GoesBy s r'
+    → GoesBy s (if b then r else r')
+goes_either true s r r' one two = one
+goes_either false s r r' one two = two
+
+pub goes_board : (to_body : Answer → Body) (g : Given) (s : SessionState) → IsReached (seen s)
+    → KeepsRun s.board g → GoesBy s (board_done (with_body to_body g) follow.Nothing s)
+goes_board to_body (Ok (a, b)) s reached kept = still s (with_board b s) reached (seen_board b s kept)
+goes_board to_body (Err f) s reached kept = still s s reached refl
+
+pub goes_shown : (v : View) (s : SessionState) → IsReached (seen s)
+    → GoesBy s (board_done (with_body body_of (given (event.Show v) s.board)) follow.Nothing s)
+goes_shown v s reached = goes_board body_of (given (event.Show v) s.board) s reached (kept_show v s.board)
+
+goes_word_done : (to_body : Answer → Body) (g : Given) (s : SessionState) → IsReached (seen s)
+    → KeepsRun s.board g → GoesBy s (word_done (with_body to_body g) s)
+goes_word_done to_body (Ok (a, b)) s reached kept = still s (with_board b s) reached (seen_board b s kept)
+goes_word_done to_body (Err f) s reached kept = still s s reached refl
+
+goes_switches : (o : Option ℕ) (expression : Text) (s : SessionState) → IsReached (seen s)
+    → GoesBy s (by_word (byte_word (λ value. command.BoardSwitches value) o) expression s)
+unfolding performed
+goes_switches None expression s reached = still s s reached refl
+goes_switches (Some value) expression s reached =
+    goes_word_done (λ _. body.Empty) (given (event.Switches value) s.board) s reached
+    (record { run = refl; is_attached = refl })
+
+goes_press : (o : Option ℕ) (expression : Text) (s : SessionState) → IsReached (seen s)
+    → GoesBy s (by_word (byte_word (λ vector. command.BoardPress vector) o) expression s)
+unfolding performed
+goes_press None expression s reached = still s s reached refl
+goes_press (Some vector) expression s reached =
+    goes_word_done (λ _. body.Empty) (given (event.Press vector) s.board) s reached (kept_press vector s.board)
+
+goes_type : (text expression : Text) (s : SessionState) → IsReached (seen s)
+    → GoesBy s (word_done (performed (command.BoardType text) s.board) s)
+unfolding performed
+goes_type text expression s reached =
+    goes_word_done (λ _. body.Empty) (given (event.Typed (latin_bytes text)) s.board) s reached
+    (record { run = refl; is_attached = refl })
+
+goes_value : (r : Result Text EvaluateFault) (s : SessionState) → IsReached (seen s) → GoesBy s (value_told r s)
+goes_value (Ok text) s reached = still s s reached refl
+goes_value (Err f) s reached = still s s reached refl
+
+goes_word : (switches press line : Option Text) (expression : Text) (s : SessionState) → IsReached (seen s)
+    → GoesBy s (by_word (word_with switches press line) expression s)
+goes_word (Some n) press line expression s reached = goes_switches (byte_spelled n) expression s reached
+goes_word None (Some n) line expression s reached = goes_press (byte_spelled n) expression s reached
+goes_word None None (Some line) expression s reached = goes_type (line ++ codes "\n") expression s reached
+goes_word None None None expression s reached = goes_value (evaluated s.board expression) s reached
+
+pub goes_evaluating : (expression : Text) (c : EvaluateContext) (s : SessionState) → IsReached (seen s)
+    → GoesBy s (evaluating expression c s)
+goes_evaluating expression context.Repl s reached =
+    goes_word (behind (codes "switches ") expression) (behind (codes "press ") expression)
+    (behind (codes "type ") expression) expression s reached
+goes_evaluating expression context.Other s reached = goes_value (evaluated s.board expression) s reached
+
+pub goes_disassembly : (address : ℕ) (offset : Shift) (count : ℕ) (s : SessionState) → IsReached (seen s)
+    → GoesBy s (performing (disassembly address offset count s.board) follow.Nothing s)
+unfolding performed
+goes_disassembly address (Forward n) count s reached =
+    goes_shown (view.Code (first_line s.board.machine address 0 n) count) s reached
+goes_disassembly address (Back n) count s reached =
+    let start = before_instructions s.board address n in
+    goes_shown (view.Code (first_line s.board.machine start 0 0) count) s reached
+
+pub goes_lines : (path : Text) (lines : List ℕ) (s : SessionState) → IsReached (seen s)
+    → GoesBy s (setting_lines path lines s)
+goes_lines path lines s reached =
+    goes_either (has_place path s.settings.points.lists) s _ _
+    (still s _ reached (seen_board _ s (kept_where (is_launched_as path s.settings.program) lines _ s.board)))
+    (still s s reached refl)
+
+pub goes_functions : (names : List Text) (s : SessionState) → IsReached (seen s)
+    → GoesBy s (setting_functions names s)
+goes_functions names s reached =
+    still s _ reached (seen_board _ s (kept_labels s.settings.program names s.settings.points s.board))
+
+goes_written : (o : Option ℕ) (bytes : Bytes) (s : SessionState) → IsReached (seen s)
+    → GoesBy s (writing_from o bytes s)
+goes_written None bytes s reached = still s s reached refl
+goes_written (Some start) bytes s reached =
+    let all = take (65536 - start) bytes in
+    still s (with_board (written start all s.board) s) reached (seen_board _ s (kept_written all start s.board))
+
+pub goes_writing : (address : ℕ) (offset : Shift) (bytes : Bytes) (s : SessionState) → IsReached (seen s)
+    → GoesBy s (writing address offset bytes s)
+goes_writing address offset bytes s reached =
+    goes_either (is_stopped s.board.run) s _ _ (goes_written (address_at address offset) bytes s reached)
+    (still s s reached refl)
+
+-- ---- a run stops, or goes on
+
+pub goes_paused : (a : Bool) (r : RunState) (s : SessionState) → s.board.run ≡ r → IsReached (seen s)
+    → GoesBy s (board_done (with_body (λ _. body.Empty)
+    (while_attached a (while_running r (Ok (answer.Accepted, board_stopped s.board)))))
+    (follow.Stopped (AtBoard ByPause)) s)
+goes_paused false r s is reached = still s s reached refl
+goes_paused true NoRun s is reached = still s s reached refl
+goes_paused true Stopped s is reached = still s s reached refl
+goes_paused true Running s is reached =
+    let has : has_run s.board.run ≡ true = ap has_run is in
+    record {
+      follows = runs_on Stopped (seen s) _ reached has refl refl refl;
+      quiet = λ dead. both (is_live s.settings.program) (lively (seen s) reached has) dead;
+    }
+
+pub goes_resumed : (r : RunState) (step : Option StepRequest) (to_body : Answer → Body) (s : SessionState)
+    → s.board.run ≡ r → IsReached (seen s)
+    → GoesBy s (board_done (with_body to_body (while_stopped r (Ok (answer.Accepted, going_on step s.board))))
+    follow.Continued s)
+goes_resumed NoRun step to_body s is reached = still s s reached refl
+goes_resumed Running step to_body s is reached = still s s reached refl
+goes_resumed Stopped step to_body s is reached =
+    let has : has_run s.board.run ≡ true = ap has_run is in
+    record {
+      follows = runs_on Running (seen s) _ reached has refl refl refl;
+      quiet = λ dead. both (is_live s.settings.program) (lively (seen s) reached has) dead;
+    }
+
+-- ---- a program ends
+
+pub goes_resetting : (s : SessionState) → IsReached (seen s) → GoesBy s (resetting s)
+unfolding performed
+goes_resetting s reached = goes_over (is_live s.settings.program) s _ refl reached refl
+
+seen_terminated : (s : SessionState)
+    → seen (ended (with_board (after event.Interrupt s.board) s)) ≡ over_seen (seen s)
+seen_terminated s = λ i. record {
+  program = (over_seen (seen s)).program;
+  run = run_interrupted s.board i;
+  is_attached = still_attached s.board i;
+  is_configured = s.settings.is_configured;
+}
+
+pub goes_terminating : (s : SessionState) → IsReached (seen s) → GoesBy s (terminating s)
+goes_terminating s reached = goes_over (is_live s.settings.program) s _ refl reached (seen_terminated s)
