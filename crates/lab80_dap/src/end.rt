@@ -15,7 +15,8 @@ fn tell_fault(rt: &impl Eprint, fault: StreamFault) -> Status {
 pub fn tell_end(rt: &impl Eprint, end: ServerEnd) -> Status {
     let end = match end {
         ServerEnd::Conversation(end) => end,
-        ServerEnd::NoThread => return Status::Failed,
+        // the system gives no reason, and a thread's stack is the likeliest
+        ServerEnd::NoThread => return Status::OutOfMemory,
     };
     match end {
         ConversationEnd::Disconnected | ConversationEnd::Stream(StreamEnd::Ended) => {
