@@ -492,8 +492,9 @@ class Boards(Session):
             self.assertEqual(listed(instructionCount=back + 4, instructionOffset=-back), program[6 - back:], back)
         self.assertEqual(listed(instructionCount=2, instructionOffset=-8), [("0x00fe", "NOP"), ("0x00ff", "NOP")])
         self.assertEqual(len(listed(instructionCount=1024, instructionOffset=-65536)), 1024)
+        self.assertEqual(len(listed(instructionCount=1, instructionOffset=65535)), 1)
         for wanted in ({"instructionCount": 0}, {"instructionCount": 1025}, {},
-                       {"instructionCount": 1, "instructionOffset": -65537}):
+                       {"instructionCount": 1, "instructionOffset": -65537}, {"instructionCount": 1, "instructionOffset": 65536}):
             self.assertFalse(editor.ask("disassemble", memoryReference="0x010b", **wanted)["success"], wanted)
 
     def test_what_is_shown_at_a_stop(self):

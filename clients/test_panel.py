@@ -426,7 +426,7 @@ class Panel(Pages, Doors):
         page.is_in("idle")
         page.waits(lambda: (page.is_attached(), page.breakpoints(), page.frames()) == (False, [], ["Nothing is stopped."]))
         page.run_cell(HELLO)
-        page.waits(lambda: page.console().endswith("hello, world\n"))
+        page.waits(lambda: page.console().endswith("hello, world\n") and "hello, world" in page.text("#source"))
         page.toggle(5)
         page.click("#run")
         page.stops("breakpoint", 5)

@@ -1,7 +1,7 @@
 // What an editor is shown of a board beside its views. Each is a function of the board, and changes nothing.
 // `evaluate` gives a register, or the value of an expression of the assembler over the symbols that are kept.
 // `read_memory` gives bytes up to the last address.
-// `before_instructions` goes back over instructions, by the statements that are known to begin before.
+// `code_lines` lists code; `before_instructions` goes back over it, by the statements that are known to begin before.
 // `line_of_label` gives the line of a symbol's statement; `laws` says that a breakpoint there is met at it.
 #![tactic(auto)]
 
@@ -10,5 +10,6 @@ pub mod expression;
 pub mod fault;
 pub mod label;
 pub mod laws;
+pub mod listing;
 pub mod memory;
 mod register;

@@ -34,7 +34,6 @@ use Rattle.dap_program.specs.Messages.{told}
 use Rattle.dap_program.specs.Slices.{console_events, line_events, outcome_events, run_end_events}
 use Rattle.dap_session.specs.declared.file.FileText.{FileText}
 use Rattle.dap_session.specs.States.{SessionState, opened, with_board, is_live, is_running, wants_slice}
-use Rattle.dap_session.specs.Memory.{wrapped_at}
 use Rattle.dap_session.specs.Requests.{initialized, commanding, editing, objection, asking, asking_unless, turn}
 use Rattle.dap_session.specs.Slices.{Input, request, slice, settings_after, slicing, sliced, step, played}
 use Rattle.dap_session.specs.Laws.{Shown, unstopped, shown_after, shown_by, shown_for, ends_told, ends_between}
@@ -43,7 +42,7 @@ use Rattle.dap_session.proofs.BoardLemmas.{SameRun, kept_without, kept_dump, kep
 use Rattle.dap_session.proofs.RunLemmas.{seen, seen_board, IsReached, idle, lively, begun_runs, with_run, over_seen}
 use Rattle.dap_session.proofs.RunLemmas.{Follows, still, runs_on, ends_live, IsCalm, calm_follows}
 use Rattle.dap_session.proofs.TurnLemmas.{GoesBy, goes_either, goes_board, goes_shown, goes_evaluating}
-use Rattle.dap_session.proofs.TurnLemmas.{goes_disassembly, goes_lines, goes_functions, goes_writing, goes_paused}
+use Rattle.dap_session.proofs.TurnLemmas.{goes_lines, goes_functions, goes_writing, goes_paused}
 use Rattle.dap_session.proofs.TurnLemmas.{goes_resumed, goes_resetting, goes_terminating}
 use Rattle.dap_session.proofs.StartLemmas.{goes_where, calm_none, FollowsTurn, follows_launch, follows_restart}
 
@@ -92,8 +91,6 @@ goes_editing : (c : EditorCommand) (s : SessionState) → IsReached (seen s) →
 goes_editing editor.Terminate s reached = goes_terminating s reached
 goes_editing (editor.SetFunctionBreakpoints names) s reached = goes_functions names s reached
 goes_editing (editor.Evaluate expression c) s reached = goes_evaluating expression c s reached
-goes_editing (editor.Disassemble address offset instruction_offset count) s reached =
-    goes_disassembly (wrapped_at address offset) instruction_offset count s reached
 goes_editing other s reached = still s s reached refl
 
 -- ---- all requests

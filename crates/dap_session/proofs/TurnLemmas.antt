@@ -4,7 +4,6 @@ use Rattle.std.proofs.Common.{codes, take, if◌then◌else◌, refl, ap}
 use Rattle.base_text.specs.Bytes.{Bytes, Text}
 use Rattle.base_text.specs.Latin.{latin_bytes}
 use Rattle.lab_views.specs.declared.view.View.{View}
-use Rattle.lab_views.specs.declared.view.View.TheVariants as view
 use Rattle.lab_core.specs.declared.answer.Answer.{Answer}
 use Rattle.lab_core.specs.declared.answer.Answer.TheVariants as answer
 use Rattle.lab_core.specs.declared.event.Event.TheVariants as event
@@ -18,15 +17,13 @@ use Rattle.dap_answers.specs.declared.answer.Body.TheVariants as body
 use Rattle.dap_answers.specs.declared.answer.StopReason.TheVariants.{Pause as ByPause}
 use Rattle.dap_talk.specs.declared.command.DapCommand.TheVariants as command
 use Rattle.dap_board.specs.Bodies.{body_of}
-use Rattle.dap_board.specs.Commands.{performed, first_line, with_body}
+use Rattle.dap_board.specs.Commands.{performed, with_body}
 use Rattle.dap_editor.specs.declared.message.EditorStop.TheVariants.{Board as AtBoard}
 use Rattle.dap_editor.specs.declared.request.EvaluateContext.{EvaluateContext}
 use Rattle.dap_editor.specs.declared.request.EvaluateContext.TheVariants as context
 use Rattle.dap_editor.specs.declared.request.Shift.{Shift}
-use Rattle.dap_editor.specs.declared.request.Shift.TheVariants.{Forward, Back}
 use Rattle.dap_inspect.specs.declared.fault.EvaluateFault.{EvaluateFault}
 use Rattle.dap_inspect.specs.Expressions.{evaluated}
-use Rattle.dap_inspect.specs.Instructions.{before_instructions}
 use Rattle.dap_points.specs.Points.{has_place}
 use Rattle.dap_program.specs.declared.messages.Follow.TheVariants as follow
 use Rattle.dap_program.specs.Boards.{after}
@@ -37,8 +34,8 @@ use Rattle.dap_session.specs.Turns.{Replied}
 use Rattle.dap_session.specs.Breakpoints.{is_launched_as, setting_lines, setting_functions}
 use Rattle.dap_session.specs.Evaluations.{behind, byte_spelled, byte_word, word_with, word_done, value_told}
 use Rattle.dap_session.specs.Evaluations.{by_word, evaluating}
-use Rattle.dap_session.specs.Memory.{is_stopped, address_at, writing_from, writing, disassembly}
-use Rattle.dap_session.specs.Requests.{board_done, performing, resetting, terminating}
+use Rattle.dap_session.specs.Memory.{is_stopped, address_at, writing_from, writing}
+use Rattle.dap_session.specs.Requests.{board_done, resetting, terminating}
 use Rattle.dap_session.specs.Laws.{has_run}
 use Rattle.dap_session.proofs.BoardLemmas.{KeepsRun, kept_press, kept_show, kept_where, kept_labels, kept_written}
 use Rattle.dap_session.proofs.BoardLemmas.{run_interrupted, still_attached}
@@ -108,15 +105,6 @@ goes_evaluating expression context.Repl s reached =
     goes_word (behind (codes "switches ") expression) (behind (codes "press ") expression)
     (behind (codes "type ") expression) expression s reached
 goes_evaluating expression context.Other s reached = goes_value (evaluated s.board expression) s reached
-
-pub goes_disassembly : (address : ℕ) (offset : Shift) (count : ℕ) (s : SessionState) → IsReached (seen s)
-    → GoesBy s (performing (disassembly address offset count s.board) follow.Nothing s)
-unfolding performed
-goes_disassembly address (Forward n) count s reached =
-    goes_shown (view.Code (first_line s.board.machine address 0 n) count) s reached
-goes_disassembly address (Back n) count s reached =
-    let start = before_instructions s.board address n in
-    goes_shown (view.Code (first_line s.board.machine start 0 0) count) s reached
 
 pub goes_lines : (path : Text) (lines : List ℕ) (s : SessionState) → IsReached (seen s)
     → GoesBy s (setting_lines path lines s)

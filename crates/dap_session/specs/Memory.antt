@@ -3,8 +3,8 @@ use Rattle.std.specs.Prelude.{ℕ, ◌+◌, ◌-◌, ◌%◌, [], length, take, 
 use Rattle.std.specs.Prelude.{codes, if◌then◌else◌}
 use Rattle.base_text.specs.Bytes.{Bytes}
 use Rattle.i80_exec.specs.State.{MachineState, wrapped}
-use Rattle.dap_talk.specs.declared.command.DapCommand.TheVariants.{Disassemble}
-use Rattle.dap_talk.specs.declared.command.DapCommand.{DapCommand}
+use Rattle.lab_views.specs.Code.{lines_from, after_instructions}
+use Rattle.dap_answers.specs.declared.answer.Body.TheVariants.{Instructions}
 use Rattle.dap_editor.specs.declared.request.Shift.{Shift}
 use Rattle.dap_editor.specs.declared.request.Shift.TheVariants.{Forward, Back}
 use Rattle.dap_editor.specs.declared.message.EditorBody.{EditorBody}
@@ -61,7 +61,11 @@ abbrev pub wrapped_at : ℕ → Shift → ℕ
 wrapped_at address (Forward n) = wrapped (address + n)
 wrapped_at address (Back n) = wrapped (address + (65536 - n % 65536))
 
--- so many lines of code, so many instructions from an address
-abbrev pub disassembly : ℕ → Shift → ℕ → Board → DapCommand
-disassembly address (Forward n) count b = Disassemble address 0 n count
-disassembly address (Back n) count b = Disassemble (before_instructions b address n) 0 0 count
+-- where the first line of code stands that is so many instructions from an address
+abbrev pub first_line : ℕ → Shift → Board → ℕ
+first_line address (Forward n) b = after_instructions b.machine address n
+first_line address (Back n) b = before_instructions b address n
+
+-- so many lines of code from an address on
+abbrev pub code_at : ℕ → ℕ → Board → EditorBody
+code_at address count b = body.Board (Instructions (lines_from b.machine address count))

@@ -14,7 +14,7 @@ use Rattle.dap_editor.specs.declared.request.Asked.TheVariants as asked
 use Rattle.dap_editor.specs.declared.request.EditorCommand.{EditorCommand}
 use Rattle.dap_editor.specs.declared.request.EditorCommand.TheVariants as editor
 use Rattle.dap_editor.specs.declared.request.Shift.{Shift}
-use Rattle.dap_editor.specs.declared.request.Shift.TheVariants.{Back}
+use Rattle.dap_editor.specs.declared.request.Shift.TheVariants.{Forward, Back}
 use Rattle.dap_program.specs.declared.messages.Follow.{Follow}
 use Rattle.dap_program.specs.declared.messages.Follow.TheVariants as follow
 use Rattle.dap_program.specs.Boards.{after}
@@ -25,7 +25,7 @@ use Rattle.dap_session.specs.States.{SessionState, with_board, with_waits, is_li
 use Rattle.dap_session.specs.Turns.{Turn, Replied, turn_of, refusing, succeeding, accepting}
 use Rattle.dap_session.specs.Breakpoints.{setting_lines, setting_functions}
 use Rattle.dap_session.specs.Evaluations.{evaluating}
-use Rattle.dap_session.specs.Memory.{address_at, memory_at, writing, wrapped_at, disassembly}
+use Rattle.dap_session.specs.Memory.{address_at, memory_at, writing, wrapped_at, first_line, code_at}
 use Rattle.dap_session.specs.Launches.{beginning_where, launching, restarting}
 
 -- ---- commands of a board
@@ -87,7 +87,8 @@ reading address offset count s =
 
 abbrev pub disassembling : ℕ → Shift → Shift → ℕ → SessionState → Replied
 disassembling address offset instruction_offset count s =
-    performing (disassembly (wrapped_at address offset) instruction_offset count s.board) follow.Nothing s
+    let start = first_line (wrapped_at address offset) instruction_offset s.board in
+    succeeding (code_at start count s.board) follow.Nothing s
 
 abbrev pub path_of : Program → Text
 path_of p = p.launch.program
@@ -136,8 +137,8 @@ abbrev pub is_few : ℕ → Bool
 is_few count = nat_le 1 count && nat_le count 1024
 
 abbrev pub is_near : Shift → Bool
+is_near (Forward n) = nat_le n 65535
 is_near (Back n) = nat_le n 65536
-is_near other = true
 
 abbrev pub is_command_bounded : DapCommand → Bool
 is_command_bounded (command.SetBreakpoints path lines) = nat_le (length lines) 256

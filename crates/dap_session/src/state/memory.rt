@@ -1,8 +1,7 @@
 //! Memory and code.
 ghost use Rattle.std.specs.Prelude.{◌≡◌, ◌+◌, ◌-◌, ◌≤◌, length, take, true, Some, IfOk, OnOk, OnErr};
 ghost use Rattle.dap_program.specs.Memory.{written};
-ghost use Rattle.dap_board.specs.Commands.{IsPerformable};
-ghost use Rattle.dap_session.specs.Memory.{address_at, wrapped_at, disassembly, memory_at, is_stopped, writing_from};
+ghost use Rattle.dap_session.specs.Memory.{address_at, wrapped_at, first_line, memory_at, is_stopped, writing_from};
 ghost use Rattle.dap_session.specs.Memory.{writing};
 ghost use Rattle.dap_session.specs.Requests as requests;
 ghost use Rattle.dap_session.specs.Requests.{reading, disassembling};
@@ -14,14 +13,15 @@ ghost use Rattle.dap_session.specs.Stands.{StandsFor, Answers, Tells, TakesFor, 
 use crate::reply::{Reply, succeed};
 use crate::state::State;
 use base_text::sequence::{Bytes, Sequence};
+use dap_answers::answer::Body;
 use dap_editor::message::{EditorBody, EditorOutcome, Message};
 use dap_editor::request::{Asked, EditorCommand, Shift};
 use dap_inspect::before::before_instructions;
+use dap_inspect::listing::code_lines;
 use dap_inspect::memory::read_memory;
 use dap_program::memory::write_bytes;
 use dap_program::messages::{Caller, Follow, Messages};
 use dap_program::refusals::board_refusal;
-use dap_talk::command::DapCommand;
 use lab_core::fault::EventFault;
 use lab_core::run_state::RunState;
 use std::alloc::{AllocError, Global};
@@ -115,26 +115,14 @@ impl State {
         Ok(succeed(body, Follow::Nothing))
     }
 
-    // The command that shows so many lines of code, so many instructions from an address.
-    fn disassembly(&self, address: u16, offset: Shift, count: u16) -> DapCommand
+    // Where the first line of code stands that is so many instructions from an address.
+    fn first_line(&self, address: u16, offset: Shift) -> u16
         requires { requests.is_near offset ≡ true }
-        ensures command { (s : SessionState) → StandsFor self.now s
-            → result ≡ disassembly address offset count s.board }
-        ensures performable { IsPerformable result }
+        ensures { (s : SessionState) → StandsFor self.now s → result ≡ first_line address offset s.board }
     {
         match offset {
-            Shift::Forward(n) => DapCommand::Disassemble {
-                address,
-                offset: 0,
-                instruction_offset: n,
-                instruction_count: count,
-            },
-            Shift::Back(n) => DapCommand::Disassemble {
-                address: before_instructions(&self.lab, address, n),
-                offset: 0,
-                instruction_offset: 0,
-                instruction_count: count,
-            },
+            Shift::Forward(n) => self.lab.after_instructions(address, n as u16),
+            Shift::Back(n) => before_instructions(&self.lab, address, n),
         }
     }
 
@@ -149,10 +137,10 @@ impl State {
         requires { requests.is_near instruction_offset ≡ true }
         ensures { Answers (disassembling address offset instruction_offset count) self.old result self.new }
     {
-        let command = self.disassembly(wrapped_at(address, offset), instruction_offset, count);
-        let reply = self.perform(alloc, &command, Follow::Nothing);
-        drop(command);
-        reply
+        let start = self.first_line(wrapped_at(address, offset), instruction_offset);
+        let lines = code_lines(alloc, &self.lab, start, count)?;
+        let body = EditorBody::Board(Body::Instructions(lines));
+        Ok(succeed(body, Follow::Nothing))
     }
 
     fn is_stopped(&self) -> bool

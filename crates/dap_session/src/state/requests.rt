@@ -32,7 +32,10 @@ const MOST: usize = 256;
 /// The most instructions that a disassembly may list.
 const MOST_INSTRUCTIONS: u16 = 1024;
 
-/// How many instructions a disassembly may begin before its address.
+/// How many instructions a disassembly may begin behind its address.
+const MOST_FORWARD: u32 = 65_535;
+
+/// How many it may begin before it.
 const MOST_BACK: u32 = 65_536;
 
 // ---- what can't be carried out
@@ -57,7 +60,7 @@ fn is_near(shift: Shift) -> bool
 {
     match shift {
         Shift::Back(n) => n <= MOST_BACK,
-        Shift::Forward(_) => true,
+        Shift::Forward(n) => n <= MOST_FORWARD,
     }
 }
 
