@@ -1,4 +1,7 @@
 //! How serving ended.
+ghost use Rattle.std.specs.Prelude.{◌≡◌};
+ghost use Rattle.lab80_dap.specs.Ends.{status_of};
+
 use cli_io::status::Status;
 use dap_debugger::conversation::ConversationEnd;
 use dap_debugger::incoming::StreamEnd;
@@ -6,13 +9,17 @@ use dap_serve::server::ServerEnd;
 use dap_stream::fault::StreamFault;
 
 // Says what is wrong with the stream.
-fn tell_fault(rt: &impl Eprint, fault: StreamFault) -> Status {
+fn tell_fault(rt: &impl Eprint, fault: StreamFault) -> Status
+    ensures { result ≡ Status.Refused }
+{
     let _ = eprintln!(rt; "broken stream: {fault}");
     Status::Refused
 }
 
 /// The status of an end. Of a stream that can't be read on standard error says why.
-pub fn tell_end(rt: &impl Eprint, end: ServerEnd) -> Status {
+pub fn tell_end(rt: &impl Eprint, end: ServerEnd) -> Status
+    ensures { result ≡ status_of end }
+{
     let end = match end {
         ServerEnd::Conversation(end) => end,
         // the system gives no reason, and a thread's stack is the likeliest
