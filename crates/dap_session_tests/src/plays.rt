@@ -1,164 +1,75 @@
 //! Plays.
 
-use crate::asks::{Ask, play};
-use crate::told::push_told;
-use dap_session::session::Session;
-use std::alloc::{AllocError, Global};
+use crate::rows::first_other;
 use std::test::Fail;
 
-/// Writes `AB` and halts. Its statements stand in the lines 3 to 7.
-const LETTERS: &str = "\
-START  EQU 100H
-       ORG START
-FIRST: MVI A,41H
-       OUT 1
-SECOND: INR A
-       OUT 1
-       HLT
-       END FIRST
-";
-
-/// Loops for good.
-const LOOP: &str = "\
-       ORG 100H
-AGAIN: JMP AGAIN
-       END AGAIN
-";
-
-/// Writes `H` by its subroutine, and asks for a line.
-const CALLS: &str = "\
-       ORG 100H
-MAIN:  LXI SP,200H
-       CALL PRINT
-       OUT 3
-       HLT
-PRINT: MVI A,48H
-       OUT 1
-       RET
-       END MAIN
-";
-
-const SLIP: &str = "\
-       ORG 100H
-MAIN:  JMP NOWHERE
-       END MAIN
-";
-
-fn told(alloc: Global, session: &mut Session, seq: u32, ask: Ask) -> Result<String, AllocError> {
-    let messages = play(alloc, session, seq, ask)?;
-    let mut out = String::new(alloc);
-    push_told(&mut out, messages.as_slice())?;
-    Ok(out)
-}
-
 /// A run from launch to HLT, with a breakpoint that was set before the launch.
-const RUN: [(Ask, &str); 14] = [
-    (Ask::Continue, "0 refused: not initialized"),
-    (Ask::Initialize, "1 done capabilities"),
-    (Ask::Initialize, "2 refused: initialized already"),
-    (Ask::Lines(&[6, 99]), "3 done at 257@6=false 258@99=false"),
-    (Ask::Labels(&["second"]), "4 done at 1@0=false"),
-    (Ask::LaunchMissing, "5 refused: no file"),
-    (
-        Ask::Launch(LETTERS),
-        "6 done; initialized; breakpoint 257@6=true; breakpoint 1@5=true",
-    ),
-    (Ask::Launch(LETTERS), "7 refused: launched already"),
-    (Ask::Slice, ""),
-    (Ask::ConfigurationDone, "9 done"),
-    (Ask::Slice, "stdout A; stopped breakpoint"),
-    (Ask::Continue, "11 done body; continued"),
-    (Ask::Slice, "stopped breakpoint"),
-    (Ask::Sources, "13 done count.asm"),
-];
+const RUN: &str = r#"continue -> 0 "continue" false "not initialized"
+initialize -> 1 "initialize" true {"supportsConfigurationDoneRequest":true,"supportsDisassembleRequest":true,"supportsEvaluateForHovers":true,"supportsFunctionBreakpoints":true,"supportsLoadedSourcesRequest":true,"supportsReadMemoryRequest":true,"supportsRestartRequest":true,"supportsSetVariable":true,"supportsSteppingGranularity":true,"supportsTerminateRequest":true,"supportsWriteMemoryRequest":true}
+initialize -> 2 "initialize" false "initialized already"
+setBreakpoints {"source":{"path":"count.asm"},"breakpoints":[{"line":6},{"line":99}]} -> 3 "setBreakpoints" true {"breakpoints":[{"id":257,"line":6,"verified":false},{"id":258,"line":99,"verified":false}]}
+setFunctionBreakpoints {"breakpoints":[{"name":"second"}]} -> 4 "setFunctionBreakpoints" true {"breakpoints":[{"id":1,"verified":false}]}
+launch {"program":"count.asm"} -> 5 "launch" false "no file"
+launch {"program":"count.asm"} < letters -> 6 "launch" true {}; "initialized"; "breakpoint" {"breakpoint":{"id":257,"line":6,"verified":true},"reason":"changed"}; "breakpoint" {"breakpoint":{"id":1,"line":5,"verified":true},"reason":"changed"}
+launch {"program":"count.asm"} < letters -> 7 "launch" false "launched already"
+slice ->
+configurationDone -> 9 "configurationDone" true {}
+slice -> "output" {"category":"stdout","output":"A"}; "stopped" {"allThreadsStopped":true,"reason":"breakpoint","threadId":1}
+continue -> 11 "continue" true {"allThreadsContinued":true}; "continued" {"allThreadsContinued":true,"threadId":1}
+slice -> "stopped" {"allThreadsStopped":true,"reason":"breakpoint","threadId":1}
+loadedSources -> 13 "loadedSources" true {"sources":[{"name":"count.asm","path":"count.asm"}]}"#;
 
-const STEPS: [(Ask, &str); 19] = [
-    (Ask::Initialize, "0 done capabilities"),
-    (Ask::ConfigurationDone, "1 done"),
-    (
-        Ask::LaunchStopped(CALLS),
-        "2 done; initialized; stopped entry",
-    ),
-    (Ask::Hover("PC"), "3 done 00100H"),
-    (Ask::Next, "4 done; continued"),
-    (Ask::Slice, "stopped step"),
-    (Ask::Hover("sp"), "6 done 00200H"),
-    (Ask::Next, "7 done; continued"),
-    (Ask::Slice, "stdout H; stopped step"),
-    (
-        Ask::Type("switches 300"),
-        "9 refused: a number from 0 to 255 must follow",
-    ),
-    (Ask::Type("type x"), "10 done ok"),
-    (Ask::Hover("type x"), "11 refused: column 1: Operands"),
-    (Ask::Read(0x106, 3), "12 done 0106: d3 03 76 -0"),
-    (Ask::Read(0xffff, 3), "13 done ffff: 00 -2"),
-    (Ask::Write(0x300, &[1, 2, 255]), "14 done 3"),
-    (Ask::Read(0x300, 4), "15 done 0300: 01 02 ff 00 -0"),
-    (Ask::Continue, "16 done body; continued"),
-    (
-        Ask::Slice,
-        "console the program asks for a line: evaluate  type TEXT|; exited 0; terminated",
-    ),
-    (Ask::Continue, "18 refused: no program is stopped"),
-];
+const STEPS: &str = r#"initialize -> 0 "initialize" true {"supportsConfigurationDoneRequest":true,"supportsDisassembleRequest":true,"supportsEvaluateForHovers":true,"supportsFunctionBreakpoints":true,"supportsLoadedSourcesRequest":true,"supportsReadMemoryRequest":true,"supportsRestartRequest":true,"supportsSetVariable":true,"supportsSteppingGranularity":true,"supportsTerminateRequest":true,"supportsWriteMemoryRequest":true}
+configurationDone -> 1 "configurationDone" true {}
+launch {"program":"count.asm","stopOnEntry":true} < calls -> 2 "launch" true {}; "initialized"; "stopped" {"allThreadsStopped":true,"reason":"entry","threadId":1}
+evaluate {"expression":"PC"} -> 3 "evaluate" true {"result":"00100H","variablesReference":0}
+next {"threadId":1} -> 4 "next" true {}; "continued" {"allThreadsContinued":true,"threadId":1}
+slice -> "stopped" {"allThreadsStopped":true,"reason":"step","threadId":1}
+evaluate {"expression":"sp","context":"hover"} -> 6 "evaluate" true {"result":"00200H","variablesReference":0}
+next {"threadId":1} -> 7 "next" true {}; "continued" {"allThreadsContinued":true,"threadId":1}
+slice -> "output" {"category":"stdout","output":"H"}; "stopped" {"allThreadsStopped":true,"reason":"step","threadId":1}
+evaluate {"expression":"switches 300","context":"repl"} -> 9 "evaluate" false "a number from 0 to 255 must follow"
+evaluate {"expression":"type x","context":"repl"} -> 10 "evaluate" true {"result":"ok","variablesReference":0}
+evaluate {"expression":"type x","context":"watch"} -> 11 "evaluate" false "column 1: Operands"
+readMemory {"memoryReference":"0x0106","count":3} -> 12 "readMemory" true {"address":"0x0106","data":"0wN2"}
+readMemory {"memoryReference":"0xffff","count":3} -> 13 "readMemory" true {"address":"0xffff","data":"AA==","unreadableBytes":2}
+writeMemory {"memoryReference":"0x0300","data":"AQL/"} -> 14 "writeMemory" true {"bytesWritten":3}
+readMemory {"memoryReference":"0x0300","count":4} -> 15 "readMemory" true {"address":"0x0300","data":"AQL/AA=="}
+continue -> 16 "continue" true {"allThreadsContinued":true}; "continued" {"allThreadsContinued":true,"threadId":1}
+slice -> "output" {"category":"console","output":"the program asks for a line: evaluate  type TEXT\n"}; "exited" {"exitCode":0}; "terminated"
+continue -> 18 "continue" false "no program is stopped""#;
 
-const ENDS: [(Ask, &str); 16] = [
-    (Ask::Initialize, "0 done capabilities"),
-    (
-        Ask::Launch(SLIP),
-        "1 refused: 2:12 Undefined; stderr 2:12 Undefined| at 2:12",
-    ),
-    (
-        Ask::Launch("  END\n"),
-        "2 refused: the program has no start: END names none",
-    ),
-    (Ask::Launch(LOOP), "3 done; initialized"),
-    (Ask::ConfigurationDone, "4 done"),
-    (Ask::Slice, ""),
-    (Ask::Pause, "6 done; stopped pause"),
-    (Ask::Pause, "7 refused: no program runs"),
-    (
-        Ask::Restart(SLIP),
-        "8 refused: 2:12 Undefined; stderr 2:12 Undefined| at 2:12",
-    ),
-    (Ask::Restart(LETTERS), "9 done; continued"),
-    (Ask::Slice, "stdout AB; exited 0; terminated"),
-    (Ask::Terminate, "11 done"),
-    (Ask::Restart(LOOP), "12 done; continued"),
-    (Ask::Terminate, "13 done; exited 1; terminated"),
-    (Ask::Slice, ""),
-    (Ask::Disconnect, "15 done"),
-];
-
-fn first_other(
-    alloc: Global,
-    rows: &[(Ask, &'static str)],
-) -> Result<Option<(usize, String)>, AllocError> {
-    let mut session = Session::new(alloc)?;
-    for (place, (ask, wanted)) in rows.iter().enumerate() {
-        let told = told(alloc, &mut session, (place % 1_000) as u32, *ask)?;
-        if told.as_str() != *wanted {
-            return Ok(Some((place, told)));
-        }
-    }
-    Ok(None)
-}
+const ENDS: &str = r#"initialize -> 0 "initialize" true {"supportsConfigurationDoneRequest":true,"supportsDisassembleRequest":true,"supportsEvaluateForHovers":true,"supportsFunctionBreakpoints":true,"supportsLoadedSourcesRequest":true,"supportsReadMemoryRequest":true,"supportsRestartRequest":true,"supportsSetVariable":true,"supportsSteppingGranularity":true,"supportsTerminateRequest":true,"supportsWriteMemoryRequest":true}
+launch {"program":"count.asm"} < slip -> 1 "launch" false "2:12 Undefined"; "output" {"category":"stderr","column":12,"line":2,"output":"2:12 Undefined\n","source":{"name":"count.asm","path":"count.asm"}}
+launch {"program":"count.asm"} < end -> 2 "launch" false "the program has no start: END names none"
+launch {"program":"count.asm"} < loop -> 3 "launch" true {}; "initialized"
+configurationDone -> 4 "configurationDone" true {}
+slice ->
+pause -> 6 "pause" true {}; "stopped" {"allThreadsStopped":true,"reason":"pause","threadId":1}
+pause -> 7 "pause" false "no program runs"
+restart < slip -> 8 "restart" false "2:12 Undefined"; "output" {"category":"stderr","column":12,"line":2,"output":"2:12 Undefined\n","source":{"name":"count.asm","path":"count.asm"}}
+restart < letters -> 9 "restart" true {}; "continued" {"allThreadsContinued":true,"threadId":1}
+slice -> "output" {"category":"stdout","output":"AB"}; "exited" {"exitCode":0}; "terminated"
+terminate -> 11 "terminate" true {}
+restart < loop -> 12 "restart" true {}; "continued" {"allThreadsContinued":true,"threadId":1}
+terminate -> 13 "terminate" true {}; "exited" {"exitCode":1}; "terminated"
+slice ->
+disconnect -> 15 "disconnect" true {}"#;
 
 #[test]
 fn a_run_is_told(rt: HostRuntime) -> Result<(), Fail> {
-    assert_eq!(rt; first_other(rt.alloc(), &RUN)?, None);
+    assert_eq!(rt; first_other(rt.alloc(), RUN)?, None);
     Ok(())
 }
 
 #[test]
 fn steps_are_told(rt: HostRuntime) -> Result<(), Fail> {
-    assert_eq!(rt; first_other(rt.alloc(), &STEPS)?, None);
+    assert_eq!(rt; first_other(rt.alloc(), STEPS)?, None);
     Ok(())
 }
 
 #[test]
 fn ends_are_told(rt: HostRuntime) -> Result<(), Fail> {
-    assert_eq!(rt; first_other(rt.alloc(), &ENDS)?, None);
+    assert_eq!(rt; first_other(rt.alloc(), ENDS)?, None);
     Ok(())
 }

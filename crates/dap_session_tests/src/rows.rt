@@ -1,0 +1,178 @@
+//! A row of a play: what is asked, ` ->`, and what goes out for it.
+
+use base_text::sequence::Sequence;
+use base_text::text::Text;
+use dap_editor::json::message_json;
+use dap_editor::message::Message;
+use dap_editor::reading::read_editor_request;
+use dap_editor::request::EditorRequest;
+use dap_session::file::FileText;
+use dap_session::session::Session;
+use serde_json::Value;
+use std::alloc::{AllocError, Global};
+use std::test::Fail;
+
+/// Writes `AB` and halts. Its statements stand in the lines 3 to 7.
+const LETTERS: &str = "\
+START  EQU 100H
+       ORG START
+FIRST: MVI A,41H
+       OUT 1
+SECOND: INR A
+       OUT 1
+       HLT
+       END FIRST
+";
+
+/// Loops for good.
+const LOOP: &str = "\
+       ORG 100H
+AGAIN: JMP AGAIN
+       END AGAIN
+";
+
+/// Writes `H` by its subroutine, and asks for a line.
+const CALLS: &str = "\
+       ORG 100H
+MAIN:  LXI SP,200H
+       CALL PRINT
+       OUT 3
+       HLT
+PRINT: MVI A,48H
+       OUT 1
+       RET
+       END MAIN
+";
+
+const SLIP: &str = "\
+       ORG 100H
+MAIN:  JMP NOWHERE
+       END MAIN
+";
+
+fn program(name: &str) -> Option<&'static str> {
+    match name {
+        "letters" => Some(LETTERS),
+        "loop" => Some(LOOP),
+        "calls" => Some(CALLS),
+        "slip" => Some(SLIP),
+        "end" => Some("  END\n"),
+        _ => None,
+    }
+}
+
+// What is found where a program is looked for: the one of this name.
+fn file(alloc: Global, name: &str) -> Result<FileText, AllocError> {
+    match program(name) {
+        Some(text) => Ok(FileText::Text(Text::copy_of(alloc, text)?)),
+        None => Ok(FileText::Missing),
+    }
+}
+
+// The request of a command and its arguments, if it has some.
+fn request(alloc: Global, seq: usize, asked: &str) -> Result<EditorRequest, Fail> {
+    let (command, arguments) = asked.split_once(" ").unwrap_or((asked, "null"));
+    let text = format!(in alloc;
+        "{{\"seq\":{seq},\"type\":\"request\",\"command\":\"{command}\",\"arguments\":{arguments}}}"
+    )?;
+    let value = Value::from_str(alloc, text.as_str())?;
+    Ok(read_editor_request(alloc, &value)?)
+}
+
+// Answers a request, where the program of this name is found at the path that it needs, if it needs one.
+fn answer(
+    alloc: Global,
+    session: &mut Session,
+    request: EditorRequest,
+    name: &str,
+) -> Result<Sequence<Message>, AllocError> {
+    let found = match session.wanted_file(&request) {
+        Some(_) => Some(file(alloc, name)?),
+        None => None,
+    };
+    session.take(alloc, request, found)
+}
+
+// What goes out for `slice`, or for a request with this number: its command, its arguments, and behind ` < ` the name of
+// the program that is found.
+fn play(
+    alloc: Global,
+    session: &mut Session,
+    seq: usize,
+    asked: &str,
+) -> Result<Sequence<Message>, Fail> {
+    if asked == "slice" {
+        return Ok(session.run(alloc)?);
+    }
+    let (asked, name) = asked.split_once(" < ").unwrap_or((asked, ""));
+    let request = request(alloc, seq, asked)?;
+    Ok(answer(alloc, session, request, name)?)
+}
+
+// What is told of a message, each with a space before it.
+const MEMBERS: [&str; 6] = [
+    "event",
+    "request_seq",
+    "command",
+    "success",
+    "message",
+    "body",
+];
+
+fn push_members(out: &mut String, alloc: Global, value: &Value) -> Result<(), AllocError> {
+    for member in MEMBERS {
+        if let Some(found) = value.get(member) {
+            let text = found.to_string(alloc)?;
+            write!(out, " {}", text.as_str())?;
+        }
+    }
+    Ok(())
+}
+
+fn push_message(out: &mut String, alloc: Global, message: &Message) -> Result<(), AllocError> {
+    let value = message_json(alloc, 0, message)?;
+    let pushed = push_members(out, alloc, &value);
+    drop(value);
+    pushed
+}
+
+fn told_of(alloc: Global, messages: &[Message]) -> Result<String, AllocError> {
+    let mut out = String::new(alloc);
+    for message in messages {
+        if !out.is_empty() {
+            out.push_str(";")?;
+        }
+        push_message(&mut out, alloc, message)?;
+    }
+    Ok(out)
+}
+
+fn told(alloc: Global, session: &mut Session, seq: usize, asked: &str) -> Result<String, Fail> {
+    let messages = play(alloc, session, seq, asked)?;
+    let told = told_of(alloc, messages.as_slice());
+    drop(messages);
+    Ok(told?)
+}
+
+fn first_other_row(
+    alloc: Global,
+    session: &mut Session,
+    rows: &str,
+) -> Result<Option<String>, Fail> {
+    for (seq, row) in rows.lines().enumerate() {
+        let (asked, wanted) = row.split_once(" ->").unwrap_or((row, ""));
+        let told = told(alloc, session, seq, asked)?;
+        if told.as_str() != wanted {
+            return Ok(Some(format!(in alloc; "{asked} ->{}", told.as_str())?));
+        }
+    }
+    Ok(None)
+}
+
+/// The first row for which something else goes out, with that; the rows are those of a new session.
+pub fn first_other(alloc: Global, rows: &str) -> Result<Option<String>, Fail> {
+    let mut session = Session::new(alloc)?;
+    let other = first_other_row(alloc, &mut session, rows);
+    drop(session);
+    other
+}
