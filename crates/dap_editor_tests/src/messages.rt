@@ -10,7 +10,6 @@ use dap_editor::message::{
 use std::alloc::{AllocError, Global};
 
 // A body, from plain values.
-#[derive(Clone, Copy)]
 enum Shape {
     Threads,
     Capabilities,
@@ -130,13 +129,19 @@ const BODIES: [(Shape, &str); 12] = [
     ),
 ];
 
-fn is_body(alloc: Global, shape: &Shape, json: &str) -> Result<bool, AllocError> {
-    let message = response(alloc, EditorOutcome::Success(body(alloc, shape)?))?;
+fn is_success(alloc: Global, message: &Message, json: &str) -> Result<bool, AllocError> {
     let wanted = format!(in alloc;
         "{{\"body\":{json},\"command\":\"c\",\"request_seq\":9,\
 \"seq\":12,\"success\":true,\"type\":\"response\"}}"
     )?;
-    is_written(alloc, &message, wanted.as_str())
+    is_written(alloc, message, wanted.as_str())
+}
+
+fn is_body(alloc: Global, shape: &Shape, json: &str) -> Result<bool, AllocError> {
+    let message = response(alloc, EditorOutcome::Success(body(alloc, shape)?))?;
+    let is_same = is_success(alloc, &message, json);
+    drop(message);
+    is_same
 }
 
 #[test]
@@ -147,23 +152,22 @@ fn bodies(rt: HostRuntime) -> Result<(), AllocError> {
     Ok(())
 }
 
+fn is_refusal(alloc: Global, text: &str, json: &str) -> Result<bool, AllocError> {
+    let refusal = response(alloc, EditorOutcome::Refused(Text::copy_of(alloc, text)?))?;
+    let is_same = is_written(alloc, &refusal, json);
+    drop(refusal);
+    is_same
+}
+
 #[test]
 fn refusals(rt: HostRuntime) -> Result<(), AllocError> {
-    let message = Text::copy_of(rt.alloc(), "no file")?;
-    let refusal = response(rt.alloc(), EditorOutcome::Refused(message))?;
-    assert!(rt;
-        is_written(
-            rt.alloc(),
-            &refusal,
-            "{\"command\":\"c\",\"message\":\"no file\",\"request_seq\":9,\"seq\":12,\
-\"success\":false,\"type\":\"response\"}",
-        )?
-    );
+    let json = "{\"command\":\"c\",\"message\":\"no file\",\"request_seq\":9,\"seq\":12,\
+\"success\":false,\"type\":\"response\"}";
+    assert!(rt; is_refusal(rt.alloc(), "no file", json)?);
     Ok(())
 }
 
 // An event, from plain values.
-#[derive(Clone, Copy)]
 enum Told {
     Initialized,
     Stopped(EditorStop),
@@ -267,10 +271,16 @@ const EVENTS: [(Told, &str, &str); 12] = [
     (Told::Terminated, "", "terminated"),
 ];
 
+fn is_told(alloc: Global, message: &Message, body: &str, name: &str) -> Result<bool, AllocError> {
+    let wanted = format!(in alloc; "{{{body}\"event\":\"{name}\",\"seq\":12,\"type\":\"event\"}}")?;
+    is_written(alloc, message, wanted.as_str())
+}
+
 fn is_event(alloc: Global, told: &Told, body: &str, name: &str) -> Result<bool, AllocError> {
     let message = Message::Event(event(alloc, told)?);
-    let wanted = format!(in alloc; "{{{body}\"event\":\"{name}\",\"seq\":12,\"type\":\"event\"}}")?;
-    is_written(alloc, &message, wanted.as_str())
+    let is_same = is_told(alloc, &message, body, name);
+    drop(message);
+    is_same
 }
 
 #[test]

@@ -149,189 +149,63 @@ fn told_of(alloc: Global, request: &EditorRequest) -> Result<String, AllocError>
     Ok(told)
 }
 
-fn reads_as(alloc: Global, text: &str, wanted: &str) -> Result<bool, Fail> {
-    let value = Value::from_str(alloc, text)?;
-    let request = read_editor_request(alloc, &value)?;
-    let told = told_of(alloc, &request)?;
-    Ok(told.as_str() == wanted)
+fn is_told(alloc: Global, request: EditorRequest, wanted: &str) -> Result<bool, AllocError> {
+    let told = told_of(alloc, &request);
+    drop(request);
+    Ok(told?.as_str() == wanted)
 }
 
-// Requests with the number 7: the command and its arguments, and what it is read as.
-const REQUESTS: [(&str, &str, &str); 43] = [
-    (
-        "launch",
-        "{\"program\":\"a.asm\"}",
-        "launch a.asm false true false 0",
-    ),
-    (
-        "launch",
-        "{\"program\":\"\",\"stopOnEntry\":true,\"noDebug\":true,\"aliases\":true,\"switches\":255,\
-\"other\":null}",
-        "launch  true false true 255",
-    ),
-    (
-        "launch",
-        "{\"program\":\"a\",\"switches\":256}",
-        "Arguments",
-    ),
-    (
-        "launch",
-        "{\"program\":\"a\",\"switches\":1.0}",
-        "Arguments",
-    ),
-    (
-        "launch",
-        "{\"program\":\"a\",\"noDebug\":null}",
-        "Arguments",
-    ),
-    ("launch", "{\"stopOnEntry\":true}", "Arguments"),
-    ("launch", "null", "Arguments"),
-    ("restart", "3", "restart"),
-    ("terminate", "null", "terminate"),
-    ("setExceptionBreakpoints", "{\"filters\":[]}", "exceptions"),
-    ("loadedSources", "{}", "sources"),
-    (
-        "setFunctionBreakpoints",
-        "{\"breakpoints\":[]}",
-        "functions",
-    ),
-    (
-        "setFunctionBreakpoints",
-        "{\"breakpoints\":[{\"name\":\"LOOP\"},{\"name\":\"END\",\"logMessage\":\"\"}]}",
-        "functions LOOP END",
-    ),
-    ("setFunctionBreakpoints", "{}", "Arguments"),
-    (
-        "setFunctionBreakpoints",
-        "{\"breakpoints\":[{\"name\":1}]}",
-        "Arguments",
-    ),
-    (
-        "setFunctionBreakpoints",
-        "{\"breakpoints\":[{\"name\":\"A\",\"condition\":\"\"}]}",
-        "Arguments",
-    ),
-    (
-        "setFunctionBreakpoints",
-        "{\"breakpoints\":[{\"name\":\"A\",\"hitCondition\":null}]}",
-        "Arguments",
-    ),
-    (
-        "evaluate",
-        "{\"expression\":\"HL\",\"frameId\":\"x\"}",
-        "evaluate other HL",
-    ),
-    (
-        "evaluate",
-        "{\"expression\":\"HL\",\"context\":\"repl\"}",
-        "evaluate repl HL",
-    ),
-    (
-        "evaluate",
-        "{\"expression\":\"HL\",\"context\":\"Repl\"}",
-        "evaluate other HL",
-    ),
-    (
-        "evaluate",
-        "{\"expression\":\"HL\",\"context\":1}",
-        "Arguments",
-    ),
-    ("evaluate", "{}", "Arguments"),
-    (
-        "readMemory",
-        "{\"memoryReference\":\"0xFf00\",\"count\":16}",
-        "read 65280 +0 16",
-    ),
-    (
-        "readMemory",
-        "{\"memoryReference\":\"0x0000\",\"offset\":-4294967295,\"count\":4294967295}",
-        "read 0 -4294967295 4294967295",
-    ),
-    (
-        "readMemory",
-        "{\"memoryReference\":\"0x0000\",\"offset\":4294967295,\"count\":0}",
-        "read 0 +4294967295 0",
-    ),
-    (
-        "readMemory",
-        "{\"memoryReference\":\"0x0000\",\"offset\":4294967296,\"count\":0}",
-        "Arguments",
-    ),
-    (
-        "readMemory",
-        "{\"memoryReference\":\"0x0000\",\"offset\":-4294967296,\"count\":0}",
-        "Arguments",
-    ),
-    (
-        "readMemory",
-        "{\"memoryReference\":\"0x0000\",\"offset\":-0,\"count\":0}",
-        "Arguments",
-    ),
-    (
-        "readMemory",
-        "{\"memoryReference\":\"0000\",\"count\":1}",
-        "Arguments",
-    ),
-    (
-        "readMemory",
-        "{\"memoryReference\":\"0x0000\"}",
-        "Arguments",
-    ),
-    (
-        "writeMemory",
-        "{\"memoryReference\":\"0x0100\",\"offset\":-1,\"data\":\"AP8Q\"}",
-        "write 256 -1 0 255 16",
-    ),
-    (
-        "writeMemory",
-        "{\"memoryReference\":\"0x0100\",\"data\":\"\"}",
-        "write 256 +0",
-    ),
-    (
-        "writeMemory",
-        "{\"memoryReference\":\"0x0100\",\"data\":\"AA==\"}",
-        "write 256 +0 0",
-    ),
-    (
-        "writeMemory",
-        "{\"memoryReference\":\"0x0100\",\"data\":\"AA\"}",
-        "Arguments",
-    ),
-    (
-        "writeMemory",
-        "{\"memoryReference\":\"0x0100\",\"data\":\"A-==\"}",
-        "Arguments",
-    ),
-    (
-        "writeMemory",
-        "{\"memoryReference\":\"0x0100\",\"data\":[0]}",
-        "Arguments",
-    ),
-    (
-        "disassemble",
-        "{\"memoryReference\":\"0x1234\",\"instructionCount\":1}",
-        "code 4660 +0 +0 1",
-    ),
-    (
-        "disassemble",
-        "{\"memoryReference\":\"0x1234\",\"offset\":-2,\"instructionOffset\":-65536,\
-\"instructionCount\":1024}",
-        "code 4660 -2 -65536 1024",
-    ),
-    (
-        "disassemble",
-        "{\"memoryReference\":\"0x1234\",\"instructionOffset\":-65537,\"instructionCount\":1}",
-        "Arguments",
-    ),
-    (
-        "disassemble",
-        "{\"memoryReference\":\"0x1234\",\"instructionCount\":1025}",
-        "Arguments",
-    ),
-    ("threads", "null", "board threads"),
-    ("stackTrace", "null", "board stackTrace"),
-    ("scopes", "null", "Arguments"),
-];
+fn reads_as(alloc: Global, text: &str, wanted: &str) -> Result<bool, Fail> {
+    let value = Value::from_str(alloc, text)?;
+    let request = read_editor_request(alloc, &value);
+    drop(value);
+    Ok(is_told(alloc, request?, wanted)?)
+}
+
+// Requests with the number 7, a line each: the command, its arguments, and what it is read as.
+const REQUESTS: &str = r#"launch {"program":"a.asm"} -> launch a.asm false true false 0
+launch {"program":"","stopOnEntry":true,"noDebug":true,"aliases":true,"switches":255,"other":null} -> launch  true false true 255
+launch {"program":"a","switches":256} -> Arguments
+launch {"program":"a","switches":1.0} -> Arguments
+launch {"program":"a","noDebug":null} -> Arguments
+launch {"stopOnEntry":true} -> Arguments
+launch null -> Arguments
+restart 3 -> restart
+terminate null -> terminate
+setExceptionBreakpoints {"filters":[]} -> exceptions
+loadedSources {} -> sources
+setFunctionBreakpoints {"breakpoints":[]} -> functions
+setFunctionBreakpoints {"breakpoints":[{"name":"LOOP"},{"name":"END","logMessage":""}]} -> functions LOOP END
+setFunctionBreakpoints {} -> Arguments
+setFunctionBreakpoints {"breakpoints":[{"name":1}]} -> Arguments
+setFunctionBreakpoints {"breakpoints":[{"name":"A","condition":""}]} -> Arguments
+setFunctionBreakpoints {"breakpoints":[{"name":"A","hitCondition":null}]} -> Arguments
+evaluate {"expression":"HL","frameId":"x"} -> evaluate other HL
+evaluate {"expression":"HL","context":"repl"} -> evaluate repl HL
+evaluate {"expression":"HL","context":"Repl"} -> evaluate other HL
+evaluate {"expression":"HL","context":1} -> Arguments
+evaluate {} -> Arguments
+readMemory {"memoryReference":"0xFf00","count":16} -> read 65280 +0 16
+readMemory {"memoryReference":"0x0000","offset":-4294967295,"count":4294967295} -> read 0 -4294967295 4294967295
+readMemory {"memoryReference":"0x0000","offset":4294967295,"count":0} -> read 0 +4294967295 0
+readMemory {"memoryReference":"0x0000","offset":4294967296,"count":0} -> Arguments
+readMemory {"memoryReference":"0x0000","offset":-4294967296,"count":0} -> Arguments
+readMemory {"memoryReference":"0x0000","offset":-0,"count":0} -> Arguments
+readMemory {"memoryReference":"0000","count":1} -> Arguments
+readMemory {"memoryReference":"0x0000"} -> Arguments
+writeMemory {"memoryReference":"0x0100","offset":-1,"data":"AP8Q"} -> write 256 -1 0 255 16
+writeMemory {"memoryReference":"0x0100","data":""} -> write 256 +0
+writeMemory {"memoryReference":"0x0100","data":"AA=="} -> write 256 +0 0
+writeMemory {"memoryReference":"0x0100","data":"AA"} -> Arguments
+writeMemory {"memoryReference":"0x0100","data":"A-=="} -> Arguments
+writeMemory {"memoryReference":"0x0100","data":[0]} -> Arguments
+disassemble {"memoryReference":"0x1234","instructionCount":1} -> code 4660 +0 +0 1
+disassemble {"memoryReference":"0x1234","offset":-2,"instructionOffset":-65536,"instructionCount":1024} -> code 4660 -2 -65536 1024
+disassemble {"memoryReference":"0x1234","instructionOffset":-65537,"instructionCount":1} -> Arguments
+disassemble {"memoryReference":"0x1234","instructionCount":1025} -> Arguments
+threads null -> board threads
+stackTrace null -> board stackTrace
+scopes null -> Arguments"#;
 
 fn request(alloc: Global, command: &str, arguments: &str) -> Result<String, AllocError> {
     format!(in alloc;
@@ -339,7 +213,9 @@ fn request(alloc: Global, command: &str, arguments: &str) -> Result<String, Allo
     )
 }
 
-fn is_read(alloc: Global, command: &str, arguments: &str, wanted: &str) -> Result<bool, Fail> {
+fn is_read(alloc: Global, row: &str) -> Result<bool, Fail> {
+    let (asked, wanted) = row.split_once(" -> ").unwrap_or((row, ""));
+    let (command, arguments) = asked.split_once(" ").unwrap_or((asked, ""));
     let text = request(alloc, command, arguments)?;
     let told = format!(in alloc; "7 {command}: {wanted}")?;
     reads_as(alloc, text.as_str(), told.as_str())
@@ -347,53 +223,32 @@ fn is_read(alloc: Global, command: &str, arguments: &str, wanted: &str) -> Resul
 
 #[test]
 fn reads_requests(rt: HostRuntime) -> Result<(), Fail> {
-    for (command, arguments, wanted) in &REQUESTS {
-        assert!(rt;
-            is_read(rt.alloc(), command, arguments, wanted)?,
-            "{command} {arguments}"
-        );
+    for row in REQUESTS.lines() {
+        assert!(rt; is_read(rt.alloc(), row)?, "{row}");
     }
     Ok(())
 }
 
-// Whole values, and what they are read as.
-const VALUES: [(&str, &str); 9] = [
-    ("null", "0 : NotRequest"),
-    ("[]", "0 : NotRequest"),
-    (
-        "{\"seq\":7,\"type\":\"event\",\"command\":\"restart\"}",
-        "0 : NotRequest",
-    ),
-    (
-        "{\"seq\":-1,\"type\":\"request\",\"command\":\"restart\"}",
-        "0 : NotRequest",
-    ),
-    (
-        "{\"seq\":4294967296,\"type\":\"request\",\"command\":\"restart\"}",
-        "0 : NotRequest",
-    ),
-    (
-        "{\"seq\":7,\"type\":\"request\",\"command\":3}",
-        "0 : NotRequest",
-    ),
-    (
-        "{\"seq\":4294967295,\"type\":\"request\",\"command\":\"restart\"}",
-        "4294967295 restart: restart",
-    ),
-    (
-        "{\"seq\":0,\"type\":\"request\",\"command\":\"Restart\",\"arguments\":null}",
-        "0 Restart: UnknownCommand",
-    ),
-    (
-        "{\"seq\":1,\"type\":\"request\",\"command\":\"configurationDone\",\"arguments\":null}",
-        "1 configurationDone: board configurationDone",
-    ),
-];
+// Whole values, a line each, and what they are read as.
+const VALUES: &str = r#"null -> 0 : NotRequest
+[] -> 0 : NotRequest
+{"seq":7,"type":"event","command":"restart"} -> 0 : NotRequest
+{"seq":-1,"type":"request","command":"restart"} -> 0 : NotRequest
+{"seq":4294967296,"type":"request","command":"restart"} -> 0 : NotRequest
+{"seq":7,"type":"request","command":3} -> 0 : NotRequest
+{"seq":4294967295,"type":"request","command":"restart"} -> 4294967295 restart: restart
+{"seq":0,"type":"request","command":"Restart","arguments":null} -> 0 Restart: UnknownCommand
+{"seq":1,"type":"request","command":"configurationDone","arguments":null} -> 1 configurationDone: board configurationDone"#;
+
+fn is_value_read(alloc: Global, row: &str) -> Result<bool, Fail> {
+    let (text, wanted) = row.split_once(" -> ").unwrap_or((row, ""));
+    reads_as(alloc, text, wanted)
+}
 
 #[test]
 fn reads_values(rt: HostRuntime) -> Result<(), Fail> {
-    for (text, wanted) in &VALUES {
-        assert!(rt; reads_as(rt.alloc(), text, wanted)?, "{text}");
+    for row in VALUES.lines() {
+        assert!(rt; is_value_read(rt.alloc(), row)?, "{row}");
     }
     Ok(())
 }
@@ -401,7 +256,6 @@ fn reads_values(rt: HostRuntime) -> Result<(), Fail> {
 #[test]
 fn knows_what_is_no_json(rt: HostRuntime) -> Result<(), AllocError> {
     let request = EditorRequest::unreadable(rt.alloc());
-    let told = told_of(rt.alloc(), &request)?;
-    assert_eq!(rt; told.as_str(), "0 : NotRequest");
+    assert!(rt; is_told(rt.alloc(), request, "0 : NotRequest")?);
     Ok(())
 }
