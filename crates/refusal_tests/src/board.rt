@@ -5,7 +5,7 @@ ghost use Rattle.lab_core.specs.Events.{Fits};
 use crate::again::{again, tell_want};
 use crate::plays::PLAYS;
 use anyhow::{Result, bail};
-use lab_core::answer::Answers;
+use lab_core::answer::{Answers, EventsFault};
 use lab_core::event::Event;
 use lab_core::lab::Lab;
 use lab_test_kit::ask::{Ask, view};
@@ -65,13 +65,22 @@ fn put_origins(text: &mut String, lab: &Lab) -> Result<(), AllocError> {
     Ok(())
 }
 
+fn put_view(text: &mut String, alloc: Global, lab: &mut Lab, ask: Ask) -> Result<(), AllocError> {
+    let event = Event::Show(view(alloc, ask)?);
+    tell_event(lab, event, text)
+}
+
+fn put_views(text: &mut String, alloc: Global, lab: &mut Lab) -> Result<(), AllocError> {
+    for ask in VIEWS {
+        put_view(text, alloc, lab, ask)?;
+    }
+    put_origins(text, lab)
+}
+
 // What a board shows, and where its first bytes come from.
 fn views_text(alloc: Global, lab: &mut Lab) -> Result<String, AllocError> {
     let mut text = String::new(alloc);
-    for ask in VIEWS {
-        tell_event(lab, Event::Show(view(alloc, ask)?), &mut text)?;
-    }
-    put_origins(&mut text, lab)?;
+    put_views(&mut text, alloc, lab)?;
     Ok(text)
 }
 
@@ -106,14 +115,37 @@ fn expect_as_before(alloc: Global, lab: &mut Lab, done: &[Event]) -> Result<()>
     same
 }
 
-// Does the events that are left.
-fn finish(rt: &impl Print, alloc: Global, lab: &mut Lab, rest: &[Event]) -> Result<()>
-    requires { All Fits rest.now }
-{
-    match lab.run(rest) {
-        Ok(answers) => tell(rt, alloc, &answers),
-        Err(_) => bail!("out of memory twice"),
+// Tells what a run answered; how many events were done, where it stopped for want of memory.
+fn tell_run(
+    rt: &impl Print,
+    alloc: Global,
+    ran: &Result<Answers, EventsFault>,
+) -> Result<Option<usize>> {
+    match ran {
+        Ok(answers) => {
+            tell(rt, alloc, answers)?;
+            Ok(None)
+        }
+        Err(stopped) => {
+            tell_want(rt, "run")?;
+            tell(rt, alloc, &stopped.answers)?;
+            Ok(Some(stopped.answers.len()))
+        }
     }
+}
+
+fn run_events(
+    rt: &impl Print,
+    alloc: Global,
+    lab: &mut Lab,
+    events: &[Event],
+) -> Result<Option<usize>>
+    requires { All Fits events.now }
+{
+    let ran = lab.run(events);
+    let told = tell_run(rt, alloc, &ran);
+    drop(ran);
+    told
 }
 
 // Does events in turn on a new board. Where they stop, the board must be as after those before, and then the others
@@ -121,26 +153,34 @@ fn finish(rt: &impl Print, alloc: Global, lab: &mut Lab, rest: &[Event]) -> Resu
 fn make(rt: &impl Print, alloc: Global, lab: &mut Lab, events: &[Event]) -> Result<()>
     requires { All Fits events.now }
 {
-    match lab.run(events) {
-        Ok(answers) => tell(rt, alloc, &answers),
-        Err(stopped) => {
-            tell_want(rt, "run")?;
-            let (done, rest) = events.split_at(stopped.answers.len());
-            tell(rt, alloc, &stopped.answers)?;
-            drop(stopped);
-            expect_as_before(alloc, lab, done)?;
-            finish(rt, alloc, lab, rest)
-        }
+    let Some(count) = run_events(rt, alloc, lab, events)? else {
+        return Ok(());
+    };
+    if count > events.len() {
+        bail!("there are more answers than events");
     }
+    let (done, rest) = events.split_at(count);
+    expect_as_before(alloc, lab, done)?;
+    if run_events(rt, alloc, lab, rest)?.is_some() {
+        bail!("out of memory twice");
+    }
+    Ok(())
+}
+
+fn play_events(rt: &impl Print, alloc: Global, events: &[Event]) -> Result<()>
+    requires { All Fits events.now }
+{
+    let mut lab = again!(rt, "Lab::new", Lab::new(alloc));
+    let made = make(rt, alloc, &mut lab, events);
+    drop(lab);
+    made
 }
 
 fn play(rt: &impl Print, alloc: Global, steps: &[Step]) -> Result<()> {
     let events = again!(rt, "events", events_of(alloc, steps));
-    let mut lab = again!(rt, "Lab::new", Lab::new(alloc));
-    let made = make(rt, alloc, &mut lab, events.as_slice());
-    drop(lab);
+    let played = play_events(rt, alloc, events.as_slice());
     drop(events);
-    made
+    played
 }
 
 fn dump(rt: &impl Print, alloc: Global, lab: &mut Lab, call: &str) -> Result<()> {

@@ -8,7 +8,7 @@ use jup_wire::channel::Channel::{Iopub, Shell};
 use kern_core::call::Reply;
 use kern_core::fault::KernelFault;
 use kern_core::kernel::Kernel;
-use kern_desk::desks::MOST_ENTRIES;
+use kern_desk::desks::{MOST_ENTRIES, close_desk};
 use kern_desk::seated::{Desk, Pass, Seated};
 use kern_test_kit::actions::Action::{Fetch, Join, Send, Slice, Subscribe};
 use kern_test_kit::actions::{Action, call_of};
@@ -43,30 +43,36 @@ fn open(rt: &impl Print, alloc: Global) -> Result<(Desk, Vec<Pass>)>
     }
 }
 
-// A turn, which is made once more where the kernel had no memory for its call: it was passed on, or this one would wait
-// for ever.
-fn turn<R: Wait + Print>(
+// Tells what a turn answered; false where there was no memory for its call.
+fn tell_taken(rt: &impl Print, answer: &Result<Reply, KernelFault>) -> Result<bool> {
+    if matches!(answer, Err(KernelFault::OutOfMemory)) {
+        return Ok(false);
+    }
+    tell_answer(rt, answer)?;
+    Ok(true)
+}
+
+// Makes a turn; false where the kernel had no memory for its call.
+fn attempt<R: Wait + Print>(
     rt: &R,
     alloc: Global,
     desk: &Desk,
     pass: &mut Pass,
     action: Action,
     unix_seconds: u64,
-) -> Result<Result<Reply, KernelFault>>
+) -> Result<bool>
     requires { pass.old.turnstile ≡ desk.now }
     ensures { pass.new.turnstile ≡ desk.now }
 {
     let call = again!(rt, "a call's parts", call_of(alloc, action, unix_seconds));
-    let first = desk.turn(rt, pass, call)?;
-    if !matches!(&first, Err(KernelFault::OutOfMemory)) {
-        return Ok(first);
-    }
-    drop(first);
-    tell_want(rt, "turn")?;
-    let call = call_of(alloc, action, unix_seconds)?;
-    Ok(desk.turn(rt, pass, call)?)
+    let answer = desk.turn(rt, pass, call)?;
+    let told = tell_taken(rt, &answer);
+    drop(answer);
+    told
 }
 
+// Makes a turn, and once more where the kernel had no memory for its call: it was passed on, or this one would wait
+// for ever.
 fn make<R: Wait + Print>(
     rt: &R,
     alloc: Global,
@@ -78,10 +84,14 @@ fn make<R: Wait + Print>(
     requires { pass.old.turnstile ≡ desk.now }
     ensures { pass.new.turnstile ≡ desk.now }
 {
-    let answer = turn(rt, alloc, desk, pass, action, unix_seconds)?;
-    let told = tell_answer(rt, &answer);
-    drop(answer);
-    told
+    if attempt(rt, alloc, desk, pass, action, unix_seconds)? {
+        return Ok(());
+    }
+    tell_want(rt, "turn")?;
+    if !attempt(rt, alloc, desk, pass, action, unix_seconds)? {
+        bail!("out of memory twice");
+    }
+    Ok(())
 }
 
 fn make_at<R: Wait + Print>(
@@ -125,12 +135,29 @@ fn tell_entries(rt: &impl Print, seated: &Seated) -> Result<()> {
     Ok(())
 }
 
+// Closes the desk, and tells the entries of its kernel.
+fn close(rt: &impl Print, desk: Desk, passes: Vec<Pass>) -> Result<()>
+    requires { All (λ p. p.turnstile ≡ desk) passes.items }
+{
+    match close_desk(desk, passes) {
+        Some(seated) => {
+            let told = tell_entries(rt, &seated);
+            drop(seated);
+            told
+        }
+        None => bail!("a pass is missing"),
+    }
+}
+
 /// The run.
 pub fn run<R: Wait + Print>(rt: &R, alloc: Global) -> Result<()> {
     let (desk, mut passes) = open(rt, alloc)?;
-    make_all(rt, alloc, &desk, passes.as_mut_slice())?;
-    match desk.close(passes) {
-        Ok(seated) => tell_entries(rt, &seated),
-        Err(_) => bail!("a pass is missing"),
+    match make_all(rt, alloc, &desk, passes.as_mut_slice()) {
+        Ok(()) => close(rt, desk, passes),
+        Err(error) => {
+            drop(passes);
+            drop(desk);
+            Err(error)
+        }
     }
 }

@@ -2,34 +2,14 @@
 
 use crate::again::{again, tell_want};
 use crate::answers::{name_of, tell_answer, tell_posts};
+use crate::scripts::action;
 use anyhow::{Result, bail};
-use jup_wire::channel::Channel::{Iopub, Shell};
 use kern_core::call::Reply;
 use kern_core::fault::KernelFault;
 use kern_core::kernel::Kernel;
 use kern_desk::desks::MOST_ENTRIES;
-use kern_test_kit::actions::Action::{Ask, Fetch, Join, Send, Slice, Subscribe};
-use kern_test_kit::actions::{Action, Question, call_of};
+use kern_test_kit::actions::{Action, call_of};
 use std::alloc::Global;
-
-/// A first session: what the kernel is, a cell that halts, and the end.
-pub const FIRST: [Action; 15] = [
-    Join(Shell),
-    Join(Iopub),
-    Subscribe(2),
-    Send(1, Shell, "kernel_info_request", "{}"),
-    Fetch(2, 1),
-    Fetch(1, 1),
-    Ask(1, Question::Execute("HLT\nEND 0")),
-    Slice,
-    Slice,
-    Slice,
-    Slice,
-    Send(1, Shell, "shutdown_request", "{}"),
-    Slice,
-    Fetch(2, 5),
-    Fetch(1, 5),
-];
 
 // Whether a kernel has exactly so many entries.
 fn has_entries(kernel: &Kernel, count: usize) -> bool {
@@ -37,28 +17,32 @@ fn has_entries(kernel: &Kernel, count: usize) -> bool {
     is_last && kernel.entry(count).is_none()
 }
 
-// Makes a call, and once more where the kernel had no memory for it: then it left no entry.
-fn act(
+// Tells what a call answered, and the frames of the posts that it gave; false where there was no memory for it.
+fn tell_whole(rt: &impl Print, alloc: Global, answer: &Result<Reply, KernelFault>) -> Result<bool> {
+    if matches!(answer, Err(KernelFault::OutOfMemory)) {
+        return Ok(false);
+    }
+    tell_answer(rt, answer)?;
+    tell_posts(rt, alloc, answer)?;
+    Ok(true)
+}
+
+// Makes a call; false where the kernel had no memory for it.
+fn attempt(
     rt: &impl Print,
     alloc: Global,
     kernel: &mut Kernel,
     action: Action,
     place: usize,
-) -> Result<Result<Reply, KernelFault>> {
-    let unix_seconds = place as u64;
-    let call = again!(rt, "a call's parts", call_of(alloc, action, unix_seconds));
-    let first = kernel.act(call);
-    if !matches!(&first, Err(KernelFault::OutOfMemory)) {
-        return Ok(first);
-    }
-    drop(first);
-    tell_want(rt, "act")?;
-    if !has_entries(kernel, place) {
-        bail!("a refused call left an entry");
-    }
-    Ok(kernel.act(call_of(alloc, action, unix_seconds)?))
+) -> Result<bool> {
+    let call = again!(rt, "a call's parts", call_of(alloc, action, place as u64));
+    let answer = kernel.act(call);
+    let told = tell_whole(rt, alloc, &answer);
+    drop(answer);
+    told
 }
 
+// Makes a call, and once more where the kernel had no memory for it: then it left no entry.
 fn make(
     rt: &impl Print,
     alloc: Global,
@@ -66,15 +50,17 @@ fn make(
     action: Action,
     place: usize,
 ) -> Result<()> {
-    let answer = act(rt, alloc, kernel, action, place)?;
-    let told = tell_whole(rt, alloc, &answer);
-    drop(answer);
-    told
-}
-
-fn tell_whole(rt: &impl Print, alloc: Global, answer: &Result<Reply, KernelFault>) -> Result<()> {
-    tell_answer(rt, answer)?;
-    tell_posts(rt, alloc, answer)
+    if attempt(rt, alloc, kernel, action, place)? {
+        return Ok(());
+    }
+    tell_want(rt, "act")?;
+    if !has_entries(kernel, place) {
+        bail!("a refused call left an entry");
+    }
+    if !attempt(rt, alloc, kernel, action, place)? {
+        bail!("out of memory twice");
+    }
+    Ok(())
 }
 
 fn tell_entries(rt: &impl Print, kernel: &Kernel, count: usize) -> Result<()> {
@@ -90,17 +76,35 @@ fn tell_entries(rt: &impl Print, kernel: &Kernel, count: usize) -> Result<()> {
     Ok(())
 }
 
-fn make_all(rt: &impl Print, alloc: Global, kernel: &mut Kernel, actions: &[Action]) -> Result<()> {
-    for (place, action) in actions.iter().enumerate() {
-        make(rt, alloc, kernel, *action, place)?;
+fn make_row(
+    rt: &impl Print,
+    alloc: Global,
+    kernel: &mut Kernel,
+    row: &'static str,
+    place: usize,
+) -> Result<()> {
+    match action(row) {
+        Some(action) => make(rt, alloc, kernel, action, place),
+        None => bail!("{row}: there is no such call"),
     }
-    tell_entries(rt, kernel, actions.len())
+}
+
+fn make_all(
+    rt: &impl Print,
+    alloc: Global,
+    kernel: &mut Kernel,
+    script: &'static str,
+) -> Result<()> {
+    for (place, row) in script.lines().enumerate() {
+        make_row(rt, alloc, kernel, row, place)?;
+    }
+    tell_entries(rt, kernel, script.lines().count())
 }
 
 /// The run of these calls.
-pub fn run(rt: &impl Print, alloc: Global, actions: &[Action]) -> Result<()> {
+pub fn run(rt: &impl Print, alloc: Global, script: &'static str) -> Result<()> {
     let mut kernel = again!(rt, "Kernel::new", Kernel::new(alloc, MOST_ENTRIES));
-    let made = make_all(rt, alloc, &mut kernel, actions);
+    let made = make_all(rt, alloc, &mut kernel, script);
     drop(kernel);
     made
 }

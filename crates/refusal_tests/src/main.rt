@@ -12,7 +12,7 @@ mod board;
 mod desk;
 mod kernel;
 mod plays;
-mod requests;
+mod scripts;
 
 use crate::again::tell_want;
 use anyhow::{Result, bail};
@@ -25,8 +25,8 @@ fn run<R: Wait + Print>(rt: &R, alloc: Global, name: &str) -> Result<()> {
     match name {
         "assembler" => assembler::run(rt, alloc),
         "board" => board::run(rt, alloc),
-        "kernel" => kernel::run(rt, alloc, &kernel::FIRST),
-        "requests" => kernel::run(rt, alloc, &requests::ACTIONS),
+        "kernel" => kernel::run(rt, alloc, scripts::FIRST),
+        "requests" => kernel::run(rt, alloc, scripts::REQUESTS),
         "desk" => desk::run(rt, alloc),
         _ => bail!("usage: refusal_tests assembler | board | kernel | requests | desk"),
     }
