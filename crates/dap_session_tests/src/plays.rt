@@ -19,7 +19,8 @@ continue -> 11 "continue" true {"allThreadsContinued":true}; "continued" {"allTh
 slice -> "stopped" {"allThreadsStopped":true,"reason":"breakpoint","threadId":1}
 loadedSources -> 13 "loadedSources" true {"sources":[{"name":"count.asm","path":"count.asm"}]}"#;
 
-const STEPS: &str = r#"initialize -> 0 "initialize" true {"supportsConfigurationDoneRequest":true,"supportsDisassembleRequest":true,"supportsEvaluateForHovers":true,"supportsFunctionBreakpoints":true,"supportsLoadedSourcesRequest":true,"supportsReadMemoryRequest":true,"supportsRestartRequest":true,"supportsSetVariable":true,"supportsSteppingGranularity":true,"supportsTerminateRequest":true,"supportsWriteMemoryRequest":true}
+const STEPS: &str =
+    r#"initialize -> 0 "initialize" true {"supportsConfigurationDoneRequest":true,"supportsDisassembleRequest":true,"supportsEvaluateForHovers":true,"supportsFunctionBreakpoints":true,"supportsLoadedSourcesRequest":true,"supportsReadMemoryRequest":true,"supportsRestartRequest":true,"supportsSetVariable":true,"supportsSteppingGranularity":true,"supportsTerminateRequest":true,"supportsWriteMemoryRequest":true}
 configurationDone -> 1 "configurationDone" true {}
 launch {"program":"count.asm","stopOnEntry":true} < calls -> 2 "launch" true {}; "initialized"; "stopped" {"allThreadsStopped":true,"reason":"entry","threadId":1}
 evaluate {"expression":"PC"} -> 3 "evaluate" true {"result":"00100H","variablesReference":0}
@@ -39,7 +40,8 @@ continue -> 16 "continue" true {"allThreadsContinued":true}; "continued" {"allTh
 slice -> "output" {"category":"console","output":"the program asks for a line: evaluate  type TEXT\n"}; "exited" {"exitCode":0}; "terminated"
 continue -> 18 "continue" false "no program is stopped""#;
 
-const ENDS: &str = r#"initialize -> 0 "initialize" true {"supportsConfigurationDoneRequest":true,"supportsDisassembleRequest":true,"supportsEvaluateForHovers":true,"supportsFunctionBreakpoints":true,"supportsLoadedSourcesRequest":true,"supportsReadMemoryRequest":true,"supportsRestartRequest":true,"supportsSetVariable":true,"supportsSteppingGranularity":true,"supportsTerminateRequest":true,"supportsWriteMemoryRequest":true}
+const ENDS: &str =
+    r#"initialize -> 0 "initialize" true {"supportsConfigurationDoneRequest":true,"supportsDisassembleRequest":true,"supportsEvaluateForHovers":true,"supportsFunctionBreakpoints":true,"supportsLoadedSourcesRequest":true,"supportsReadMemoryRequest":true,"supportsRestartRequest":true,"supportsSetVariable":true,"supportsSteppingGranularity":true,"supportsTerminateRequest":true,"supportsWriteMemoryRequest":true}
 launch {"program":"count.asm"} < slip -> 1 "launch" false "2:12 Undefined"; "output" {"category":"stderr","column":12,"line":2,"output":"2:12 Undefined\n","source":{"name":"count.asm","path":"count.asm"}}
 launch {"program":"count.asm"} < end -> 2 "launch" false "the program has no start: END names none"
 launch {"program":"count.asm"} < loop -> 3 "launch" true {}; "initialized"
