@@ -86,46 +86,38 @@ fn is_written(alloc: Global, message: &Message, json: &str) -> Result<bool, Allo
 }
 
 const BODIES: [(Shape, &str); 12] = [
-    (
-        Shape::Threads,
-        "{\"threads\":[{\"id\":1,\"name\":\"8080\"}]}",
-    ),
+    (Shape::Threads, r#"{"threads":[{"id":1,"name":"8080"}]}"#),
     (
         Shape::Capabilities,
-        "{\"supportsConfigurationDoneRequest\":true,\"supportsDisassembleRequest\":true,\
-\"supportsEvaluateForHovers\":true,\"supportsFunctionBreakpoints\":true,\
-\"supportsLoadedSourcesRequest\":true,\"supportsReadMemoryRequest\":true,\
-\"supportsRestartRequest\":true,\"supportsSetVariable\":true,\"supportsSteppingGranularity\":true,\
-\"supportsTerminateRequest\":true,\"supportsWriteMemoryRequest\":true}",
+        r#"{"supportsConfigurationDoneRequest":true,"supportsDisassembleRequest":true,"supportsEvaluateForHovers":true,"supportsFunctionBreakpoints":true,"supportsLoadedSourcesRequest":true,"supportsReadMemoryRequest":true,"supportsRestartRequest":true,"supportsSetVariable":true,"supportsSteppingGranularity":true,"supportsTerminateRequest":true,"supportsWriteMemoryRequest":true}"#,
     ),
-    (Shape::Breakpoints(&[]), "{\"breakpoints\":[]}"),
+    (Shape::Breakpoints(&[]), r#"{"breakpoints":[]}"#),
     (
         Shape::Breakpoints(&[(257, Some(3), true), (2, None, false)]),
-        "{\"breakpoints\":[{\"id\":257,\"line\":3,\"verified\":true},{\"id\":2,\"verified\":false}]}",
+        r#"{"breakpoints":[{"id":257,"line":3,"verified":true},{"id":2,"verified":false}]}"#,
     ),
     (
-        Shape::Evaluation("0FFH \"255\""),
-        "{\"result\":\"0FFH \\\"255\\\"\",\"variablesReference\":0}",
+        Shape::Evaluation(r#"0FFH "255""#),
+        r#"{"result":"0FFH \"255\"","variablesReference":0}"#,
     ),
     (
         Shape::Memory(0xc3fe, &[0, 255, 16], 0),
-        "{\"address\":\"0xc3fe\",\"data\":\"AP8Q\"}",
+        r#"{"address":"0xc3fe","data":"AP8Q"}"#,
     ),
     (
         Shape::Memory(65535, &[0], 7),
-        "{\"address\":\"0xffff\",\"data\":\"AA==\",\"unreadableBytes\":7}",
+        r#"{"address":"0xffff","data":"AA==","unreadableBytes":7}"#,
     ),
     (
         Shape::Memory(0, &[], 4294967295),
-        "{\"address\":\"0x0000\",\"unreadableBytes\":4294967295}",
+        r#"{"address":"0x0000","unreadableBytes":4294967295}"#,
     ),
-    (Shape::Memory(0, &[], 0), "{\"address\":\"0x0000\"}"),
-    (Shape::Written(65536), "{\"bytesWritten\":65536}"),
-    (Shape::Sources(&[]), "{\"sources\":[]}"),
+    (Shape::Memory(0, &[], 0), r#"{"address":"0x0000"}"#),
+    (Shape::Written(65536), r#"{"bytesWritten":65536}"#),
+    (Shape::Sources(&[]), r#"{"sources":[]}"#),
     (
         Shape::Sources(&["/home/u/a.asm", "b.asm", "c/"]),
-        "{\"sources\":[{\"name\":\"a.asm\",\"path\":\"/home/u/a.asm\"},\
-{\"name\":\"b.asm\",\"path\":\"b.asm\"},{\"name\":\"\",\"path\":\"c/\"}]}",
+        r#"{"sources":[{"name":"a.asm","path":"/home/u/a.asm"},{"name":"b.asm","path":"b.asm"},{"name":"","path":"c/"}]}"#,
     ),
 ];
 
@@ -161,8 +153,8 @@ fn is_refusal(alloc: Global, text: &str, json: &str) -> Result<bool, AllocError>
 
 #[test]
 fn refusals(rt: HostRuntime) -> Result<(), AllocError> {
-    let json = "{\"command\":\"c\",\"message\":\"no file\",\"request_seq\":9,\"seq\":12,\
-\"success\":false,\"type\":\"response\"}";
+    let json =
+        r#"{"command":"c","message":"no file","request_seq":9,"seq":12,"success":false,"type":"response"}"#;
     assert!(rt; is_refusal(rt.alloc(), "no file", json)?);
     Ok(())
 }
@@ -223,51 +215,50 @@ const EVENTS: [(Told, &str, &str); 12] = [
     (Told::Initialized, "", "initialized"),
     (
         Told::Stopped(EditorStop::Entry),
-        "\"body\":{\"allThreadsStopped\":true,\"reason\":\"entry\",\"threadId\":1},",
+        r#""body":{"allThreadsStopped":true,"reason":"entry","threadId":1},"#,
         "stopped",
     ),
     (
         Told::Stopped(EditorStop::Board(StopReason::Breakpoint)),
-        "\"body\":{\"allThreadsStopped\":true,\"reason\":\"breakpoint\",\"threadId\":1},",
+        r#""body":{"allThreadsStopped":true,"reason":"breakpoint","threadId":1},"#,
         "stopped",
     ),
     (
         Told::Stopped(EditorStop::Board(StopReason::Pause)),
-        "\"body\":{\"allThreadsStopped\":true,\"reason\":\"pause\",\"threadId\":1},",
+        r#""body":{"allThreadsStopped":true,"reason":"pause","threadId":1},"#,
         "stopped",
     ),
     (
         Told::Continued,
-        "\"body\":{\"allThreadsContinued\":true,\"threadId\":1},",
+        r#""body":{"allThreadsContinued":true,"threadId":1},"#,
         "continued",
     ),
     (
         Told::Output(OutputCategory::Console, b"ok\n"),
-        "\"body\":{\"category\":\"console\",\"output\":\"ok\\n\"},",
+        r#""body":{"category":"console","output":"ok\n"},"#,
         "output",
     ),
     (
         Told::Output(OutputCategory::Stdout, b"\x41\xe9\x07"),
-        "\"body\":{\"category\":\"stdout\",\"output\":\"A\u{e9}\\u0007\"},",
+        r#""body":{"category":"stdout","output":"Aé\u0007"},"#,
         "output",
     ),
     (
         Told::Placed(OutputCategory::Stderr, b"3:5 Syntax\n", ("/a/b.asm", 3, 5)),
-        "\"body\":{\"category\":\"stderr\",\"column\":5,\"line\":3,\"output\":\"3:5 Syntax\\n\",\
-\"source\":{\"name\":\"b.asm\",\"path\":\"/a/b.asm\"}},",
+        r#""body":{"category":"stderr","column":5,"line":3,"output":"3:5 Syntax\n","source":{"name":"b.asm","path":"/a/b.asm"}},"#,
         "output",
     ),
     (
         Told::Breakpoint((258, Some(4), true)),
-        "\"body\":{\"breakpoint\":{\"id\":258,\"line\":4,\"verified\":true},\"reason\":\"changed\"},",
+        r#""body":{"breakpoint":{"id":258,"line":4,"verified":true},"reason":"changed"},"#,
         "breakpoint",
     ),
     (
         Told::Breakpoint((1, None, false)),
-        "\"body\":{\"breakpoint\":{\"id\":1,\"verified\":false},\"reason\":\"changed\"},",
+        r#""body":{"breakpoint":{"id":1,"verified":false},"reason":"changed"},"#,
         "breakpoint",
     ),
-    (Told::Exited(1), "\"body\":{\"exitCode\":1},", "exited"),
+    (Told::Exited(1), r#""body":{"exitCode":1},"#, "exited"),
     (Told::Terminated, "", "terminated"),
 ];
 

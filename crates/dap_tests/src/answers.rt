@@ -149,22 +149,13 @@ const BODIES: [(Shape, &str); 17] = [
     (Shape::Empty, "{}"),
     (
         Shape::Capabilities,
-        "{\"supportsConfigurationDoneRequest\":true,\"supportsDisassembleRequest\":true,\
-\"supportsSetVariable\":true,\"supportsSteppingGranularity\":true}",
+        r#"{"supportsConfigurationDoneRequest":true,"supportsDisassembleRequest":true,"supportsSetVariable":true,"supportsSteppingGranularity":true}"#,
     ),
-    (
-        Shape::Threads,
-        "{\"threads\":[{\"id\":1,\"name\":\"8080\"}]}",
-    ),
-    (Shape::Continued, "{\"allThreadsContinued\":true}"),
+    (Shape::Threads, r#"{"threads":[{"id":1,"name":"8080"}]}"#),
+    (Shape::Continued, r#"{"allThreadsContinued":true}"#),
     (
         Shape::Scopes,
-        "{\"scopes\":[\
-{\"expensive\":false,\"name\":\"Registers\",\"variablesReference\":1},\
-{\"expensive\":false,\"name\":\"Flags\",\"variablesReference\":2},\
-{\"expensive\":false,\"name\":\"Devices\",\"variablesReference\":3},\
-{\"expensive\":false,\"name\":\"Symbols\",\"variablesReference\":4},\
-{\"expensive\":true,\"name\":\"Memory\",\"variablesReference\":5}]}",
+        r#"{"scopes":[{"expensive":false,"name":"Registers","variablesReference":1},{"expensive":false,"name":"Flags","variablesReference":2},{"expensive":false,"name":"Devices","variablesReference":3},{"expensive":false,"name":"Symbols","variablesReference":4},{"expensive":true,"name":"Memory","variablesReference":5}]}"#,
     ),
     (
         Shape::Breakpoints(&[
@@ -177,19 +168,16 @@ const BODIES: [(Shape, &str); 17] = [
                 is_verified: false,
             },
         ]),
-        "{\"breakpoints\":[{\"line\":3,\"verified\":true},{\"line\":90,\"verified\":false}]}",
+        r#"{"breakpoints":[{"line":3,"verified":true},{"line":90,"verified":false}]}"#,
     ),
     (
         Shape::Variables(&[("A", "05AH")]),
-        "{\"variables\":[{\"name\":\"A\",\"value\":\"05AH\",\"variablesReference\":0}]}",
+        r#"{"variables":[{"name":"A","value":"05AH","variablesReference":0}]}"#,
     ),
-    (Shape::Variables(&[]), "{\"variables\":[]}"),
-    (Shape::Value("0C3FEH"), "{\"value\":\"0C3FEH\"}"),
-    (Shape::Value(""), "{\"value\":\"\"}"),
-    (
-        Shape::Value("\"\\\n\u{e9}"),
-        "{\"value\":\"\\\"\\\\\\n\u{e9}\"}",
-    ),
+    (Shape::Variables(&[]), r#"{"variables":[]}"#),
+    (Shape::Value("0C3FEH"), r#"{"value":"0C3FEH"}"#),
+    (Shape::Value(""), r#"{"value":""}"#),
+    (Shape::Value("\"\\\n\u{e9}"), r#"{"value":"\"\\\né"}"#),
     (
         Shape::StackTrace(
             &[
@@ -198,41 +186,27 @@ const BODIES: [(Shape, &str); 17] = [
             ],
             70,
         ),
-        "{\"stackFrames\":[\
-{\"column\":1,\"id\":1,\"instructionPointerReference\":\"0xc3fe\",\"line\":3,\"name\":\"F1\",\
-\"source\":{\"path\":\"/tmp/i8080_lab/0.asm\"}},\
-{\"column\":1,\"id\":2,\"instructionPointerReference\":\"0x0004\",\"line\":0,\"name\":\"main\"}],\
-\"totalFrames\":70}",
+        r#"{"stackFrames":[{"column":1,"id":1,"instructionPointerReference":"0xc3fe","line":3,"name":"F1","source":{"path":"/tmp/i8080_lab/0.asm"}},{"column":1,"id":2,"instructionPointerReference":"0x0004","line":0,"name":"main"}],"totalFrames":70}"#,
     ),
     (
         Shape::Instructions(&[
             (0xffff, &[0xc3, 0x04, 0xaf], "JMP 0AF04H"),
             (2, &[0], "NOP"),
         ]),
-        "{\"instructions\":[\
-{\"address\":\"0xffff\",\"instruction\":\"JMP 0AF04H\",\"instructionBytes\":\"C3 04 AF\"},\
-{\"address\":\"0x0002\",\"instruction\":\"NOP\",\"instructionBytes\":\"00\"}]}",
+        r#"{"instructions":[{"address":"0xffff","instruction":"JMP 0AF04H","instructionBytes":"C3 04 AF"},{"address":"0x0002","instruction":"NOP","instructionBytes":"00"}]}"#,
     ),
-    (
-        Shape::Content("HLT ;\"\n"),
-        "{\"content\":\"HLT ;\\\"\\n\"}",
-    ),
+    (Shape::Content("HLT ;\"\n"), r#"{"content":"HLT ;\"\n"}"#),
     (
         Shape::SourcePath("/tmp/i8080_lab/0.asm"),
-        "{\"sourcePath\":\"/tmp/i8080_lab/0.asm\"}",
+        r#"{"sourcePath":"/tmp/i8080_lab/0.asm"}"#,
     ),
     (
         Shape::DebugState(false, false, &[]),
-        "{\"breakpoints\":[],\"exceptionPaths\":[],\"hashMethod\":\"Murmur2\",\"hashSeed\":0,\
-\"isStarted\":false,\"richRendering\":false,\"stoppedThreads\":[],\
-\"tmpFilePrefix\":\"/tmp/i8080_lab/\",\"tmpFileSuffix\":\".asm\"}",
+        r#"{"breakpoints":[],"exceptionPaths":[],"hashMethod":"Murmur2","hashSeed":0,"isStarted":false,"richRendering":false,"stoppedThreads":[],"tmpFilePrefix":"/tmp/i8080_lab/","tmpFileSuffix":".asm"}"#,
     ),
     (
         Shape::DebugState(true, true, &[("a", &[2, 5])]),
-        "{\"breakpoints\":[{\"breakpoints\":[{\"line\":2},{\"line\":5}],\"source\":\"a\"}],\
-\"exceptionPaths\":[],\"hashMethod\":\"Murmur2\",\"hashSeed\":0,\
-\"isStarted\":true,\"richRendering\":false,\"stoppedThreads\":[1],\
-\"tmpFilePrefix\":\"/tmp/i8080_lab/\",\"tmpFileSuffix\":\".asm\"}",
+        r#"{"breakpoints":[{"breakpoints":[{"line":2},{"line":5}],"source":"a"}],"exceptionPaths":[],"hashMethod":"Murmur2","hashSeed":0,"isStarted":true,"richRendering":false,"stoppedThreads":[1],"tmpFilePrefix":"/tmp/i8080_lab/","tmpFileSuffix":".asm"}"#,
     ),
 ];
 
@@ -284,27 +258,23 @@ fn bodies(rt: HostRuntime) -> Result<(), AllocError> {
 const EVENTS: [(Event, &str); 5] = [
     (
         Event::Initialized,
-        "{\"event\":\"initialized\",\"seq\":4,\"type\":\"event\"}",
+        r#"{"event":"initialized","seq":4,"type":"event"}"#,
     ),
     (
         Event::Continued,
-        "{\"body\":{\"allThreadsContinued\":true,\"threadId\":1},\"event\":\"continued\",\
-\"seq\":4,\"type\":\"event\"}",
+        r#"{"body":{"allThreadsContinued":true,"threadId":1},"event":"continued","seq":4,"type":"event"}"#,
     ),
     (
         Event::Stopped(StopReason::Breakpoint),
-        "{\"body\":{\"allThreadsStopped\":true,\"reason\":\"breakpoint\",\"threadId\":1},\
-\"event\":\"stopped\",\"seq\":4,\"type\":\"event\"}",
+        r#"{"body":{"allThreadsStopped":true,"reason":"breakpoint","threadId":1},"event":"stopped","seq":4,"type":"event"}"#,
     ),
     (
         Event::Stopped(StopReason::Step),
-        "{\"body\":{\"allThreadsStopped\":true,\"reason\":\"step\",\"threadId\":1},\
-\"event\":\"stopped\",\"seq\":4,\"type\":\"event\"}",
+        r#"{"body":{"allThreadsStopped":true,"reason":"step","threadId":1},"event":"stopped","seq":4,"type":"event"}"#,
     ),
     (
         Event::Stopped(StopReason::Pause),
-        "{\"body\":{\"allThreadsStopped\":true,\"reason\":\"pause\",\"threadId\":1},\
-\"event\":\"stopped\",\"seq\":4,\"type\":\"event\"}",
+        r#"{"body":{"allThreadsStopped":true,"reason":"pause","threadId":1},"event":"stopped","seq":4,"type":"event"}"#,
     ),
 ];
 

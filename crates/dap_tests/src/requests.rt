@@ -9,18 +9,10 @@ use std::alloc::{AllocError, Global};
 use std::process::Abort;
 use std::test::Fail;
 
-// A request with the number 7 whose arguments are what stands before a value, the value, and what stands
-// after it.
-fn request(
-    alloc: Global,
-    command: &str,
-    before: &str,
-    value: &str,
-    after: &str,
-) -> Result<String, AllocError> {
+// A request with the number 7.
+fn request(alloc: Global, command: &str, arguments: &str) -> Result<String, AllocError> {
     format!(in alloc;
-        "{{\"seq\":7,\"type\":\"request\",\"command\":\"{command}\",\
-\"arguments\":{before}{value}{after}}}"
+        "{{\"seq\":7,\"type\":\"request\",\"command\":\"{command}\",\"arguments\":{arguments}}}"
     )
 }
 
@@ -31,9 +23,11 @@ fn put_numbers(told: &mut String, numbers: &[u32]) -> Result<(), AllocError> {
     Ok(())
 }
 
+// Texts stand between ' '.
 fn put_text(told: &mut String, text: &Text) -> Result<(), AllocError> {
-    told.push_str(" ")?;
-    told.push_str(text.as_str())
+    told.push_str(" '")?;
+    told.push_str(text.as_str())?;
+    told.push_str("'")
 }
 
 fn granularity_word(granularity: Granularity) -> &'static str {
@@ -146,182 +140,118 @@ fn reads_as(alloc: Global, text: &str, wanted: &str) -> Result<bool, Fail> {
     Ok(told.as_str() == wanted)
 }
 
-// Arguments, and what is read behind the command's name.
-type Argued = (&'static str, &'static str);
+// Commands with no arguments, which aren't looked at.
+const BARE_COMMANDS: &str = "\
+initialize
+attach
+disconnect
+configurationDone
+threads
+continue
+pause
+debugInfo
+inspectVariables
+boardReset";
 
-// Arguments of commands that list none aren't looked at.
-const NOT_LISTED: [Argued; 2] = [("{\"restart\":true}", ""), ("[]", "")];
+fn is_bare(alloc: Global, command: &str, arguments: &str) -> Result<bool, Fail> {
+    let text = request(alloc, command, arguments)?;
+    let wanted = format!(in alloc; "7 {command}")?;
+    reads_as(alloc, text.as_str(), wanted.as_str())
+}
 
-const BARE_COMMANDS: [&str; 10] = [
-    "initialize",
-    "attach",
-    "disconnect",
-    "configurationDone",
-    "threads",
-    "continue",
-    "pause",
-    "debugInfo",
-    "inspectVariables",
-    "boardReset",
-];
+#[test]
+fn reads_bare_commands(rt: HostRuntime) -> Result<(), Fail> {
+    for command in BARE_COMMANDS.lines() {
+        assert!(rt;
+            is_bare(rt.alloc(), command, r#"{"restart":true}"#)?,
+            "{command}"
+        );
+        assert!(rt; is_bare(rt.alloc(), command, "[]")?, "{command}");
+    }
+    Ok(())
+}
 
-// By line where nothing else is said.
-const STEPS: [Argued; 5] = [
-    ("{}", " line"),
-    ("{\"granularity\":\"line\"}", " line"),
-    ("{\"granularity\":\"statement\"}", " line"),
-    ("{\"granularity\":\"Instruction\"}", " line"),
-    (
-        "{\"granularity\":\"instruction\",\"threadId\":1}",
-        " instruction",
-    ),
-];
+// Commands with arguments, a line each, and what is read behind the command's name. A step is by line where nothing else is
+// said; other arguments may be left out where they are here, and others aren't looked at.
+const COMMANDS: &str = r#"next {} -> line
+next {"granularity":"line"} -> line
+next {"granularity":"statement"} -> line
+next {"granularity":"Instruction"} -> line
+next {"granularity":"instruction","threadId":1} -> instruction
+stepIn {} -> line
+stepIn {"granularity":"line"} -> line
+stepIn {"granularity":"statement"} -> line
+stepIn {"granularity":"Instruction"} -> line
+stepIn {"granularity":"instruction","threadId":1} -> instruction
+stepOut {} -> line
+stepOut {"granularity":"line"} -> line
+stepOut {"granularity":"statement"} -> line
+stepOut {"granularity":"Instruction"} -> line
+stepOut {"granularity":"instruction","threadId":1} -> instruction
+stackTrace {} -> 0 0
+stackTrace {"threadId":1} -> 0 0
+stackTrace {"startFrame":4294967295,"levels":20,"format":null} -> 4294967295 20
+scopes {"frameId":1} -> 1
+variables {"variablesReference":5,"start":16,"count":8,"filter":"named"} -> 5 16 8
+variables {"variablesReference":0} -> 0 0 0
+setVariable {"variablesReference":1,"name":"A","value":"05AH"} -> 1 'A' '05AH'
+setVariable {"value":"B","name":"C3FE","variablesReference":5} -> 5 'C3FE' 'B'
+setVariable {"variablesReference":0,"name":"","value":""} -> 0 '' ''
+setVariable {"variablesReference":4294967295,"name":"PC","value":""} -> 4294967295 'PC' ''
+setVariable {"variablesReference":1,"name":"\u0041\"\u00e9","value":"\\5\/"} -> 1 'A"é' '\5/'
+setVariable {"variablesReference":1,"name":"SP","value":"1.5","format":{"hex":true},"start":null} -> 1 'SP' '1.5'
+boardSwitches {"value":255} -> 255
+boardPress {"vector":8} -> 8
+source {"source":{"path":"/tmp/a.asm"},"sourceReference":0} -> '/tmp/a.asm'
+dumpCell {"code":"HLT"} -> 'HLT'
+boardType {"text":""} -> ''
+boardAliases {"aliases":true} -> true
+boardAliases {"aliases":false} -> false
+boardAliases {"alias":0,"value":null,"aliases":true} -> true
+setBreakpoints {"source":{"path":"a"}} -> 'a'
+setBreakpoints {"source":{"path":"a","name":1},"breakpoints":[]} -> 'a'
+setBreakpoints {"source":{"path":"a"},"lines":[9],"breakpoints":[{"line":3,"column":1},{"line":0},{"line":3}]} -> 'a' 3 0 3
+disassemble {"memoryReference":"0x0aFf","instructionCount":1} -> 2815 0 0 1
+disassemble {"memoryReference":"0xFFFF","offset":2,"instructionOffset":4294967295,"instructionCount":256,"resolveSymbols":false} -> 65535 2 4294967295 256"#;
 
-// Arguments may be left out, and others aren't looked at.
-const STACK_TRACES: [Argued; 3] = [
-    ("{}", " 0 0"),
-    ("{\"threadId\":1}", " 0 0"),
-    (
-        "{\"startFrame\":4294967295,\"levels\":20,\"format\":null}",
-        " 4294967295 20",
-    ),
-];
-
-const VARIABLES: [Argued; 2] = [
-    (
-        "{\"variablesReference\":5,\"start\":16,\"count\":8,\"filter\":\"named\"}",
-        " 5 16 8",
-    ),
-    ("{\"variablesReference\":0}", " 0 0 0"),
-];
-
-// The name and the value are any texts, and how the value is to be shown isn't looked at.
-const SET_VARIABLES: [Argued; 6] = [
-    (
-        "{\"variablesReference\":1,\"name\":\"A\",\"value\":\"05AH\"}",
-        " 1 A 05AH",
-    ),
-    (
-        "{\"value\":\"B\",\"name\":\"C3FE\",\"variablesReference\":5}",
-        " 5 C3FE B",
-    ),
-    (
-        "{\"variablesReference\":0,\"name\":\"\",\"value\":\"\"}",
-        " 0  ",
-    ),
-    (
-        "{\"variablesReference\":4294967295,\"name\":\"PC\",\"value\":\"\"}",
-        " 4294967295 PC ",
-    ),
-    (
-        "{\"variablesReference\":1,\"name\":\"\\u0041\\\"\\u00e9\",\"value\":\"\\\\\\n5\\/\"}",
-        " 1 A\"\u{e9} \\\n5/",
-    ),
-    (
-        "{\"variablesReference\":1,\"name\":\"SP\",\"value\":\"1.5\",\"format\":{\"hex\":true},\
-\"start\":null}",
-        " 1 SP 1.5",
-    ),
-];
-
-const ALIASES: [Argued; 3] = [
-    ("{\"aliases\":true}", " true"),
-    ("{\"aliases\":false}", " false"),
-    ("{\"alias\":0,\"value\":null,\"aliases\":true}", " true"),
-];
-
-const BREAKPOINTS: [Argued; 3] = [
-    ("{\"source\":{\"path\":\"a\"}}", " a"),
-    (
-        "{\"source\":{\"path\":\"a\",\"name\":1},\"breakpoints\":[]}",
-        " a",
-    ),
-    (
-        "{\"source\":{\"path\":\"a\"},\"lines\":[9],\
-\"breakpoints\":[{\"line\":3,\"column\":1},{\"line\":0},{\"line\":3}]}",
-        " a 3 0 3",
-    ),
-];
-
-const DISASSEMBLIES: [Argued; 2] = [
-    (
-        "{\"memoryReference\":\"0x0aFf\",\"instructionCount\":1}",
-        " 2815 0 0 1",
-    ),
-    (
-        "{\"memoryReference\":\"0xFFFF\",\"offset\":2,\"instructionOffset\":4294967295,\
-\"instructionCount\":256,\"resolveSymbols\":false}",
-        " 65535 2 4294967295 256",
-    ),
-];
-
-const SOURCES: [Argued; 1] = [(
-    "{\"source\":{\"path\":\"/tmp/a.asm\"},\"sourceReference\":0}",
-    " /tmp/a.asm",
-)];
-
-// Commands, and arguments that each of them may have.
-const COMMANDS: [(&[&str], &[Argued]); 14] = [
-    (&BARE_COMMANDS, &NOT_LISTED),
-    (&["next", "stepIn", "stepOut"], &STEPS),
-    (&["stackTrace"], &STACK_TRACES),
-    (&["scopes"], &[("{\"frameId\":1}", " 1")]),
-    (&["variables"], &VARIABLES),
-    (&["setVariable"], &SET_VARIABLES),
-    (&["boardSwitches"], &[("{\"value\":255}", " 255")]),
-    (&["boardPress"], &[("{\"vector\":8}", " 8")]),
-    (&["source"], &SOURCES),
-    (&["dumpCell"], &[("{\"code\":\"HLT\"}", " HLT")]),
-    (&["boardType"], &[("{\"text\":\"\"}", " ")]),
-    (&["boardAliases"], &ALIASES),
-    (&["setBreakpoints"], &BREAKPOINTS),
-    (&["disassemble"], &DISASSEMBLIES),
-];
-
-fn reads_command(alloc: Global, command: &str, row: Argued) -> Result<bool, Fail> {
-    let (arguments, read) = row;
-    let text = request(alloc, command, "", arguments, "")?;
+fn is_read(alloc: Global, row: &str) -> Result<bool, Fail> {
+    let (asked, read) = row.split_once(" ->").unwrap_or((row, ""));
+    let (command, arguments) = asked.split_once(" ").unwrap_or((asked, ""));
+    let text = request(alloc, command, arguments)?;
     let wanted = format!(in alloc; "7 {command}{read}")?;
     reads_as(alloc, text.as_str(), wanted.as_str())
 }
 
-fn expect_command(
-    rt: &(impl Abort + AllocGlobal),
-    command: &str,
-    rows: &[Argued],
-) -> Result<(), Fail> {
-    for row in rows {
-        let is_read = reads_command(rt.alloc(), command, *row)?;
-        assert!(rt; is_read, "{command} {}", row.0);
+#[test]
+fn reads_commands(rt: HostRuntime) -> Result<(), Fail> {
+    for row in COMMANDS.lines() {
+        assert!(rt; is_read(rt.alloc(), row)?, "{row}");
     }
     Ok(())
 }
 
+// A row is one line, so a text of two lines stands here.
+const LINES: &str = r#"{"variablesReference":1,"name":"A","value":"5\n6"}"#;
+
 #[test]
-fn reads_commands(rt: HostRuntime) -> Result<(), Fail> {
-    for (commands, rows) in &COMMANDS {
-        for command in *commands {
-            expect_command(&rt, command, rows)?;
-        }
-    }
+fn reads_a_text_of_two_lines(rt: HostRuntime) -> Result<(), Fail> {
+    let text = request(rt.alloc(), "setVariable", LINES)?;
+    assert!(rt; reads_as(rt.alloc(), text.as_str(), "7 setVariable 1 'A' '5\n6'")?);
     Ok(())
 }
 
 fn many_breakpoints(alloc: Global, count: usize) -> Result<String, AllocError> {
-    let mut text = String::from_str(
-        alloc,
-        "{\"source\":{\"path\":\"a\"},\"breakpoints\":[{\"line\":1}",
-    )?;
+    let mut text = String::from_str(alloc, r#"{"source":{"path":"a"},"breakpoints":[{"line":1}"#)?;
     for _ in 1..count {
-        text.push_str(",{\"line\":1}")?;
+        text.push_str(r#",{"line":1}"#)?;
     }
     text.push_str("]}")?;
-    request(alloc, "setBreakpoints", "", text.as_str(), "")
+    request(alloc, "setBreakpoints", text.as_str())
 }
 
 // As many lines as there are breakpoints are read.
 fn wanted_lines(alloc: Global) -> Result<String, AllocError> {
-    let mut wanted = String::from_str(alloc, "7 setBreakpoints a")?;
+    let mut wanted = String::from_str(alloc, "7 setBreakpoints 'a'")?;
     for _ in 0..256 {
         wanted.push_str(" 1")?;
     }
@@ -346,291 +276,241 @@ fn reads_256_breakpoints_and_no_more(rt: HostRuntime) -> Result<(), Fail> {
     Ok(())
 }
 
-const NO_OBJECTS: [&str; 5] = ["[]", "null", "1", "\"a\"", "true"];
-
-const NO_WHOLE_NUMBERS: [&str; 12] = [
-    "4294967296",
-    "18446744073709551616",
-    "-1",
-    "-0",
-    "1.0",
-    "1.5",
-    "1e0",
-    "null",
-    "\"1\"",
-    "[1]",
-    "{}",
-    "true",
-];
-
-const NO_REFERENCES: [&str; 14] = [
-    "\"\"",
-    "\"0x\"",
-    "\"0x000\"",
-    "\"0x00000\"",
-    "\"0000\"",
-    "\"000000\"",
-    "\"0X0000\"",
-    "\"1x0000\"",
-    "\"0x000g\"",
-    "\"0x00 0\"",
-    "\"0x+000\"",
-    "\" 0x0000\"",
-    "0",
-    "null",
-];
-
-const NO_BREAKPOINTS: [&str; 11] = [
-    "null",
-    "{}",
-    "1",
-    "[1]",
-    "[null]",
-    "[{}]",
-    "[{\"line\":1},{\"column\":1}]",
-    "[{\"line\":1,\"condition\":\"A==1\"}]",
-    "[{\"line\":1,\"condition\":null}]",
-    "[{\"line\":1,\"hitCondition\":\"\"}]",
-    "[{\"line\":1},{\"line\":2,\"logMessage\":false}]",
-];
-
-const NO_SOURCES: [&str; 4] = ["\"a\"", "null", "{\"path\":null}", "[\"a\"]"];
-
-const NO_GRANULARITIES: [&str; 3] = ["null", "1", "[\"line\"]"];
-
-const NO_TEXTS: [&str; 6] = ["null", "5", "true", "[]", "[\"A\"]", "{}"];
-
-const NO_TRUTHS: [&str; 10] = [
-    "1",
-    "0",
-    "1.0",
-    "\"true\"",
-    "\"false\"",
-    "\"\"",
-    "null",
-    "[]",
-    "[true]",
-    "{}",
-];
-
-const ARGUED_COMMANDS: [&str; 15] = [
-    "setBreakpoints",
-    "stackTrace",
-    "scopes",
-    "variables",
-    "setVariable",
-    "next",
-    "stepIn",
-    "stepOut",
-    "disassemble",
-    "source",
-    "dumpCell",
-    "boardSwitches",
-    "boardPress",
-    "boardType",
-    "boardAliases",
-];
-
-const WITH_ONE_ARGUMENT: [&str; 6] = [
-    "scopes",
-    "dumpCell",
-    "boardSwitches",
-    "boardPress",
-    "boardType",
-    "boardAliases",
-];
-
-const NO_BYTES: [&str; 1] = ["256"];
-
-const NO_COUNTS: [&str; 2] = ["0", "257"];
-
-const NO_DISASSEMBLIES: [&str; 2] = [
-    "{\"instructionCount\":1}",
-    "{\"memoryReference\":\"0x0000\"}",
-];
-
-const NO_SET_VARIABLES: [&str; 4] = [
-    "{}",
-    "{\"name\":\"A\",\"value\":\"1\"}",
-    "{\"variablesReference\":1,\"value\":\"1\"}",
-    "{\"variablesReference\":1,\"name\":\"A\"}",
-];
-
-// Arguments, in which a % stands for a value.
-const NUMBERS_OF_VARIABLES: [&str; 3] = [
-    "{\"variablesReference\":%}",
-    "{\"variablesReference\":1,\"start\":%}",
-    "{\"variablesReference\":4,\"count\":%}",
-];
-
-const COUNT: &str = "{\"memoryReference\":\"0x0000\",\"instructionCount\":%}";
-
-const NUMBERS_OF_DISASSEMBLE: [&str; 3] = [
-    "{\"memoryReference\":\"0x0000\",\"instructionCount\":1,\"offset\":%}",
-    "{\"memoryReference\":\"0x0000\",\"instructionCount\":1,\"instructionOffset\":%}",
-    COUNT,
-];
-
-const REFERENCE: &str = "{\"name\":\"A\",\"value\":\"1\",\"variablesReference\":%}";
-
-const LINE: &str = "{\"source\":{\"path\":\"a\"},\"breakpoints\":[{\"line\":%}]}";
-
-const TEXTS_OF_SET_VARIABLE: [&str; 2] = [
-    "{\"variablesReference\":1,\"value\":\"1\",\"name\":%}",
-    "{\"variablesReference\":1,\"name\":\"A\",\"value\":%}",
-];
-
-const ADDRESS: &str = "{\"instructionCount\":1,\"memoryReference\":%}";
-
-const LINES: &str = "{\"source\":{\"path\":\"a\"},\"breakpoints\":%}";
-
-// Commands, arguments of each, and values refused where these have a %.
-const REFUSED: [(&[&str], &[&str], &[&str]); 26] = [
-    // Arguments that are no object.
-    (&ARGUED_COMMANDS, &["%"], &NO_OBJECTS),
-    // Arguments that are missing.
-    (&WITH_ONE_ARGUMENT, &["%"], &["{}", "{\"argument\":1}"]),
-    (&["setBreakpoints"], &["%"], &["{}", "{\"breakpoints\":[]}"]),
-    (&["variables"], &["%"], &["{}", "{\"start\":0,\"count\":1}"]),
-    (&["setVariable"], &["%"], &NO_SET_VARIABLES),
-    (&["disassemble"], &["%"], &NO_DISASSEMBLIES),
-    (
-        &["source"],
-        &["%"],
-        &["{}", "{\"source\":{}}", "{\"path\":\"a\"}"],
-    ),
-    // Every number, with each value that is no whole number.
-    (
-        &["stackTrace"],
-        &["{\"startFrame\":%}", "{\"levels\":%}"],
-        &NO_WHOLE_NUMBERS,
-    ),
-    (&["scopes"], &["{\"frameId\":%}"], &NO_WHOLE_NUMBERS),
-    (&["variables"], &NUMBERS_OF_VARIABLES, &NO_WHOLE_NUMBERS),
-    (&["setVariable"], &[REFERENCE], &NO_WHOLE_NUMBERS),
-    (&["disassemble"], &NUMBERS_OF_DISASSEMBLE, &NO_WHOLE_NUMBERS),
-    (&["boardSwitches"], &["{\"value\":%}"], &NO_WHOLE_NUMBERS),
-    (&["boardPress"], &["{\"vector\":%}"], &NO_WHOLE_NUMBERS),
-    (&["setBreakpoints"], &[LINE], &NO_WHOLE_NUMBERS),
-    // Numbers out of their bounds.
-    (&["boardSwitches"], &["{\"value\":%}"], &NO_BYTES),
-    (&["boardPress"], &["{\"vector\":%}"], &NO_BYTES),
-    (&["disassemble"], &[COUNT], &NO_COUNTS),
-    // Values of another kind.
-    (
-        &["next", "stepIn", "stepOut"],
-        &["{\"granularity\":%}"],
-        &NO_GRANULARITIES,
-    ),
-    (&["dumpCell"], &["{\"code\":%}"], &NO_TEXTS),
-    (&["boardType"], &["{\"text\":%}"], &NO_TEXTS),
-    (&["setVariable"], &TEXTS_OF_SET_VARIABLE, &NO_TEXTS),
-    (&["boardAliases"], &["{\"aliases\":%}"], &NO_TRUTHS),
-    (
-        &["source", "setBreakpoints"],
-        &["{\"source\":%}"],
-        &NO_SOURCES,
-    ),
-    (&["disassemble"], &[ADDRESS], &NO_REFERENCES),
-    (&["setBreakpoints"], &[LINES], &NO_BREAKPOINTS),
-];
-
-// Whether a command is refused with this message whose arguments are so.
-fn is_refused(
-    alloc: Global,
-    command: &str,
-    before: &str,
-    value: &str,
-    after: &str,
-    message: &str,
-) -> Result<bool, Fail> {
-    let text = request(alloc, command, before, value, after)?;
-    reads_as(alloc, text.as_str(), message)
+// Whether a value is refused at a place: a command and its arguments, in which a % stands for the value.
+fn is_refused(alloc: Global, place: &str, value: &str) -> Result<bool, Fail> {
+    let (command, arguments) = place.split_once(" ").unwrap_or((place, "%"));
+    let arguments = arguments.replace(alloc, '%', value)?;
+    let text = request(alloc, command, arguments.as_str())?;
+    reads_as(alloc, text.as_str(), "Arguments")
 }
 
-fn expect_bad(
-    rt: &(impl Abort + AllocGlobal),
-    command: &str,
-    arguments: &str,
-    values: &[&str],
-) -> Result<(), Fail> {
-    let Some((before, after)) = arguments.split_once('%') else {
-        panic!(rt; "{arguments} has no %");
-    };
-    for value in values {
-        let is_bad = is_refused(rt.alloc(), command, before, value, after, "Arguments")?;
-        assert!(rt; is_bad, "{command} {before}{value}");
+fn expect_refused(rt: &(impl Abort + AllocGlobal), place: &str, values: &str) -> Result<(), Fail> {
+    for value in values.lines() {
+        assert!(rt; is_refused(rt.alloc(), place, value)?, "{place} of {value}");
     }
     Ok(())
 }
+
+// At each of these places each of these values is refused, a line each.
+fn expect_all_refused(
+    rt: &(impl Abort + AllocGlobal),
+    places: &str,
+    values: &str,
+) -> Result<(), Fail> {
+    for place in places.lines() {
+        expect_refused(rt, place, values)?;
+    }
+    Ok(())
+}
+
+const ARGUED: &str = "\
+setBreakpoints
+stackTrace
+scopes
+variables
+setVariable
+next
+stepIn
+stepOut
+disassemble
+source
+dumpCell
+boardSwitches
+boardPress
+boardType
+boardAliases";
 
 #[test]
-fn refuses_bad_arguments(rt: HostRuntime) -> Result<(), Fail> {
-    for (commands, all_arguments, values) in &REFUSED {
-        for command in *commands {
-            for arguments in *all_arguments {
-                expect_bad(&rt, command, arguments, values)?;
-            }
-        }
+fn refuses_arguments_that_are_no_object(rt: HostRuntime) -> Result<(), Fail> {
+    expect_all_refused(&rt, ARGUED, "[]\nnull\n1\n\"a\"\ntrue")
+}
+
+const WITH_ONE_ARGUMENT: &str = "\
+scopes
+dumpCell
+boardSwitches
+boardPress
+boardType
+boardAliases";
+
+const INCOMPLETE: &str = r#"setBreakpoints {}
+setBreakpoints {"breakpoints":[]}
+variables {}
+variables {"start":0,"count":1}
+setVariable {}
+setVariable {"name":"A","value":"1"}
+setVariable {"variablesReference":1,"value":"1"}
+setVariable {"variablesReference":1,"name":"A"}
+disassemble {"instructionCount":1}
+disassemble {"memoryReference":"0x0000"}
+source {}
+source {"source":{}}
+source {"path":"a"}"#;
+
+#[test]
+fn refuses_arguments_that_are_missing(rt: HostRuntime) -> Result<(), Fail> {
+    expect_all_refused(&rt, WITH_ONE_ARGUMENT, "{}\n{\"argument\":1}")?;
+    for request in INCOMPLETE.lines() {
+        assert!(rt; is_refused(rt.alloc(), request, "")?, "{request}");
     }
     Ok(())
 }
 
-const NO_REQUESTS: [&str; 16] = [
-    "null",
-    "[]",
-    "{}",
-    "\"request\"",
-    "{\"seq\":1,\"type\":\"event\",\"command\":\"threads\"}",
-    "{\"seq\":1,\"type\":\"Request\",\"command\":\"threads\"}",
-    "{\"seq\":1,\"type\":null,\"command\":\"threads\"}",
-    "{\"seq\":1,\"command\":\"threads\"}",
-    "{\"type\":\"request\",\"command\":\"threads\"}",
-    "{\"seq\":null,\"type\":\"request\",\"command\":\"threads\"}",
-    "{\"seq\":1.0,\"type\":\"request\",\"command\":\"threads\"}",
-    "{\"seq\":-1,\"type\":\"request\",\"command\":\"threads\"}",
-    "{\"seq\":4294967296,\"type\":\"request\",\"command\":\"threads\"}",
-    "{\"seq\":1,\"type\":\"request\"}",
-    "{\"seq\":1,\"type\":\"request\",\"command\":3}",
-    "{\"seq\":1,\"type\":\"event\",\"command\":\"evaluate\"}",
-];
+// Every number.
+const NUMBERS: &str = r#"stackTrace {"startFrame":%}
+stackTrace {"levels":%}
+scopes {"frameId":%}
+variables {"variablesReference":%}
+variables {"variablesReference":1,"start":%}
+variables {"variablesReference":4,"count":%}
+setVariable {"name":"A","value":"1","variablesReference":%}
+disassemble {"memoryReference":"0x0000","instructionCount":1,"offset":%}
+disassemble {"memoryReference":"0x0000","instructionCount":1,"instructionOffset":%}
+disassemble {"memoryReference":"0x0000","instructionCount":%}
+boardSwitches {"value":%}
+boardPress {"vector":%}
+setBreakpoints {"source":{"path":"a"},"breakpoints":[{"line":%}]}"#;
 
-// What values are read as, or the messages of their faults.
-const VALUES: [(&str, &[&str]); 5] = [
-    ("NotRequest", &NO_REQUESTS),
-    (
-        "Arguments",
-        &[
-            "{\"seq\":1,\"type\":\"request\",\"command\":\"scopes\"}",
-            "{\"seq\":1,\"type\":\"request\",\"command\":\"setVariable\"}",
-            "{\"seq\":1,\"type\":\"request\",\"command\":\"boardAliases\"}",
-        ],
-    ),
-    (
-        "1 threads",
-        &["{\"seq\":1,\"type\":\"request\",\"command\":\"threads\"}"],
-    ),
-    (
-        "0 threads",
-        &["{\"seq\":0,\"type\":\"request\",\"command\":\"threads\"}"],
-    ),
-    (
-        "4294967295 threads",
-        &["{\"seq\":4294967295,\"type\":\"request\",\"command\":\"threads\"}"],
-    ),
-];
+const NO_WHOLE_NUMBERS: &str = r#"4294967296
+18446744073709551616
+-1
+-0
+1.0
+1.5
+1e0
+null
+"1"
+[1]
+{}
+true"#;
 
-fn expect_all(rt: &(impl Abort + AllocGlobal), values: &[&str], wanted: &str) -> Result<(), Fail> {
-    for value in values {
-        assert!(rt; reads_as(rt.alloc(), value, wanted)?, "{value}");
-    }
-    Ok(())
+const BYTES: &str = r#"boardSwitches {"value":%}
+boardPress {"vector":%}"#;
+
+const COUNT: &str = r#"disassemble {"memoryReference":"0x0000","instructionCount":%}"#;
+
+#[test]
+fn refuses_what_is_no_number(rt: HostRuntime) -> Result<(), Fail> {
+    expect_all_refused(&rt, NUMBERS, NO_WHOLE_NUMBERS)?;
+    expect_all_refused(&rt, BYTES, "256")?;
+    expect_refused(&rt, COUNT, "0\n257")
+}
+
+const TEXTS: &str = r#"dumpCell {"code":%}
+boardType {"text":%}
+setVariable {"variablesReference":1,"value":"1","name":%}
+setVariable {"variablesReference":1,"name":"A","value":%}"#;
+
+const NO_TEXTS: &str = r#"null
+5
+true
+[]
+["A"]
+{}"#;
+
+const GRANULARITIES: &str = r#"next {"granularity":%}
+stepIn {"granularity":%}
+stepOut {"granularity":%}"#;
+
+const TRUTH: &str = r#"boardAliases {"aliases":%}"#;
+
+const NO_TRUTHS: &str = r#"1
+0
+1.0
+"true"
+"false"
+""
+null
+[]
+[true]
+{}"#;
+
+#[test]
+fn refuses_values_of_another_kind(rt: HostRuntime) -> Result<(), Fail> {
+    expect_all_refused(&rt, TEXTS, NO_TEXTS)?;
+    expect_all_refused(&rt, GRANULARITIES, "null\n1\n[\"line\"]")?;
+    expect_refused(&rt, TRUTH, NO_TRUTHS)
+}
+
+const SOURCES: &str = r#"source {"source":%}
+setBreakpoints {"source":%}"#;
+
+const NO_SOURCES: &str = r#""a"
+null
+{"path":null}
+["a"]"#;
+
+const REFERENCE: &str = r#"disassemble {"instructionCount":1,"memoryReference":%}"#;
+
+const NO_REFERENCES: &str = r#"""
+"0x"
+"0x000"
+"0x00000"
+"0000"
+"000000"
+"0X0000"
+"1x0000"
+"0x000g"
+"0x00 0"
+"0x+000"
+" 0x0000"
+0
+null"#;
+
+const BREAKPOINTS: &str = r#"setBreakpoints {"source":{"path":"a"},"breakpoints":%}"#;
+
+const NO_BREAKPOINTS: &str = r#"null
+{}
+1
+[1]
+[null]
+[{}]
+[{"line":1},{"column":1}]
+[{"line":1,"condition":"A==1"}]
+[{"line":1,"condition":null}]
+[{"line":1,"hitCondition":""}]
+[{"line":1},{"line":2,"logMessage":false}]"#;
+
+#[test]
+fn refuses_sources_references_and_breakpoints(rt: HostRuntime) -> Result<(), Fail> {
+    expect_all_refused(&rt, SOURCES, NO_SOURCES)?;
+    expect_refused(&rt, REFERENCE, NO_REFERENCES)?;
+    expect_refused(&rt, BREAKPOINTS, NO_BREAKPOINTS)
+}
+
+// Whole values, a line each, and what they are read as, or the messages of their faults.
+const VALUES: &str = r#"null -> NotRequest
+[] -> NotRequest
+{} -> NotRequest
+"request" -> NotRequest
+{"seq":1,"type":"event","command":"threads"} -> NotRequest
+{"seq":1,"type":"Request","command":"threads"} -> NotRequest
+{"seq":1,"type":null,"command":"threads"} -> NotRequest
+{"seq":1,"command":"threads"} -> NotRequest
+{"type":"request","command":"threads"} -> NotRequest
+{"seq":null,"type":"request","command":"threads"} -> NotRequest
+{"seq":1.0,"type":"request","command":"threads"} -> NotRequest
+{"seq":-1,"type":"request","command":"threads"} -> NotRequest
+{"seq":4294967296,"type":"request","command":"threads"} -> NotRequest
+{"seq":1,"type":"request"} -> NotRequest
+{"seq":1,"type":"request","command":3} -> NotRequest
+{"seq":1,"type":"event","command":"evaluate"} -> NotRequest
+{"seq":1,"type":"request","command":"scopes"} -> Arguments
+{"seq":1,"type":"request","command":"setVariable"} -> Arguments
+{"seq":1,"type":"request","command":"boardAliases"} -> Arguments
+{"seq":1,"type":"request","command":"threads"} -> 1 threads
+{"seq":0,"type":"request","command":"threads"} -> 0 threads
+{"seq":4294967295,"type":"request","command":"threads"} -> 4294967295 threads"#;
+
+fn is_value_read(alloc: Global, row: &str) -> Result<bool, Fail> {
+    let (text, wanted) = row.split_once(" -> ").unwrap_or((row, ""));
+    reads_as(alloc, text, wanted)
 }
 
 #[test]
 fn reads_whole_values(rt: HostRuntime) -> Result<(), Fail> {
-    for (wanted, values) in &VALUES {
-        expect_all(&rt, values, wanted)?;
+    for row in VALUES.lines() {
+        assert!(rt; is_value_read(rt.alloc(), row)?, "{row}");
     }
     Ok(())
 }
@@ -649,39 +529,25 @@ const UNKNOWN_COMMANDS: [&str; 10] = [
     "copyToGlobals",
 ];
 
+fn is_unknown(alloc: Global, command: &str) -> Result<bool, Fail> {
+    let text = request(alloc, command, "null")?;
+    reads_as(alloc, text.as_str(), "Command")
+}
+
 #[test]
 fn refuses_unknown_commands(rt: HostRuntime) -> Result<(), Fail> {
     for command in &UNKNOWN_COMMANDS {
-        let is_unknown = is_refused(rt.alloc(), command, "", "null", "", "Command")?;
-        assert!(rt; is_unknown, "{command}");
+        assert!(rt; is_unknown(rt.alloc(), command)?, "{command}");
     }
     Ok(())
 }
 
-// Refused requests, and the responses to them.
-const REFUSALS: [(&str, &str); 4] = [
-    (
-        "{\"seq\":5,\"type\":\"event\",\"command\":\"threads\"}",
-        "{\"command\":\"\",\"message\":\"NotRequest\",\"request_seq\":0,\"seq\":3,\
-\"success\":false,\"type\":\"response\"}",
-    ),
-    (
-        "{\"seq\":5,\"type\":\"request\",\"command\":\"evaluate\"}",
-        "{\"command\":\"evaluate\",\"message\":\"Command\",\"request_seq\":5,\"seq\":3,\
-\"success\":false,\"type\":\"response\"}",
-    ),
-    (
-        "{\"seq\":6,\"type\":\"request\",\"command\":\"scopes\"}",
-        "{\"command\":\"scopes\",\"message\":\"Arguments\",\"request_seq\":6,\"seq\":3,\
-\"success\":false,\"type\":\"response\"}",
-    ),
-    (
-        "{\"seq\":8,\"type\":\"request\",\"command\":\"setVariable\",\
-\"arguments\":{\"variablesReference\":1,\"name\":\"A\",\"value\":5}}",
-        "{\"command\":\"setVariable\",\"message\":\"Arguments\",\"request_seq\":8,\"seq\":3,\
-\"success\":false,\"type\":\"response\"}",
-    ),
-];
+// Refused requests, a line each, and the responses to them.
+const REFUSALS: &str =
+    r#"{"seq":5,"type":"event","command":"threads"} -> {"command":"","message":"NotRequest","request_seq":0,"seq":3,"success":false,"type":"response"}
+{"seq":5,"type":"request","command":"evaluate"} -> {"command":"evaluate","message":"Command","request_seq":5,"seq":3,"success":false,"type":"response"}
+{"seq":6,"type":"request","command":"scopes"} -> {"command":"scopes","message":"Arguments","request_seq":6,"seq":3,"success":false,"type":"response"}
+{"seq":8,"type":"request","command":"setVariable","arguments":{"variablesReference":1,"name":"A","value":5}} -> {"command":"setVariable","message":"Arguments","request_seq":8,"seq":3,"success":false,"type":"response"}"#;
 
 fn text_of(alloc: Global, value: Value) -> Result<String, AllocError> {
     let text = value.to_string(alloc);
@@ -722,15 +588,16 @@ fn refusal(alloc: Global, text: &str) -> Result<String, Fail> {
     Ok(refusal?)
 }
 
-fn is_its_refusal(alloc: Global, text: &str, json: &str) -> Result<bool, Fail> {
+fn is_its_refusal(alloc: Global, row: &str) -> Result<bool, Fail> {
+    let (text, json) = row.split_once(" -> ").unwrap_or((row, ""));
     let found = refusal(alloc, text)?;
     Ok(found.as_str() == json)
 }
 
 #[test]
 fn answers_what_it_refuses(rt: HostRuntime) -> Result<(), Fail> {
-    for (value, json) in &REFUSALS {
-        assert!(rt; is_its_refusal(rt.alloc(), value, json)?, "{value}");
+    for row in REFUSALS.lines() {
+        assert!(rt; is_its_refusal(rt.alloc(), row)?, "{row}");
     }
     Ok(())
 }
