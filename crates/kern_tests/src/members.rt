@@ -4,7 +4,7 @@ use crate::fault::SessionFault;
 use base_text::sequence::{Bytes, Frames};
 use hex::FromHexError;
 use serde_json::Value;
-use std::alloc::{AllocError, Global};
+use std::alloc::Global;
 
 /// What stands at a key.
 pub fn member<'a>(value: &'a Value, key: &'static str) -> Result<&'a Value, SessionFault> {
@@ -42,10 +42,7 @@ pub fn truth(value: &Value, key: &'static str) -> Result<bool, SessionFault> {
 
 /// A list.
 pub fn list<'a>(value: &'a Value, key: &'static str) -> Result<&'a [Value], SessionFault> {
-    match member(value, key)?.as_array() {
-        Some(items) => Ok(items.as_slice()),
-        None => Err(SessionFault::Member(key)),
-    }
+    items(value, key).ok_or(SessionFault::Member(key))
 }
 
 /// Bytes, in hexadecimal.
@@ -72,10 +69,18 @@ fn frame(alloc: Global, item: &Value, key: &'static str) -> Result<Bytes, Sessio
     }
 }
 
+/// Whether a value is this whole number.
+pub fn is_number(value: &Value, number: u64) -> bool {
+    match value.as_u64() {
+        Some(told) => told == number,
+        None => false,
+    }
+}
+
 /// Whether this whole number stands at a key.
 pub fn has_number(value: &Value, key: &str, number: u64) -> bool {
     match value.get(key) {
-        Some(told) => told.as_u64() == Some(number),
+        Some(told) => is_number(told, number),
         None => false,
     }
 }
@@ -83,17 +88,14 @@ pub fn has_number(value: &Value, key: &str, number: u64) -> bool {
 /// Whether this truth value stands at a key.
 pub fn has_truth(value: &Value, key: &str, truth: bool) -> bool {
     match value.get(key) {
-        Some(told) => told.as_bool() == Some(truth),
-        None => false,
+        Some(Value::Bool(told)) => *told == truth,
+        _ => false,
     }
 }
 
 /// Whether this text stands at a key.
 pub fn has_text(value: &Value, key: &str, text: &str) -> bool {
-    match value.get(key) {
-        Some(told) => told.as_str() == Some(text),
-        None => false,
-    }
+    has_bytes(value, key, text.as_bytes())
 }
 
 /// Whether these bytes stand at a key, as a text.
@@ -121,26 +123,19 @@ pub fn items<'a>(value: &'a Value, key: &str) -> Option<&'a [Value]> {
 pub fn are_frames(
     alloc: Global,
     value: &Value,
-    key: &str,
+    key: &'static str,
     frames: &Frames,
-) -> Result<bool, AllocError> {
+) -> Result<bool, SessionFault> {
     let Some(told) = items(value, key) else {
         return Ok(false);
     };
     if told.len() != frames.len() {
         return Ok(false);
     }
-    for (item, frame) in told.iter().zip(frames.as_slice()) {
-        if !is_frame(alloc, item, frame.as_slice())? {
+    for (item, wanted) in told.iter().zip(frames.as_slice()) {
+        if frame(alloc, item, key)?.as_slice() != wanted.as_slice() {
             return Ok(false);
         }
     }
     Ok(true)
-}
-
-fn is_frame(alloc: Global, item: &Value, frame: &[u8]) -> Result<bool, AllocError> {
-    let digits = hex::encode(alloc, frame)?;
-    let is_told = item.as_str() == Some(digits.as_str());
-    drop(digits);
-    Ok(is_told)
 }

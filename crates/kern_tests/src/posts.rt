@@ -1,17 +1,17 @@
 //! The posts of a session.
 
 use crate::fault::SessionFault;
-use crate::members::{are_frames, has_bytes, has_number, has_text, list};
+use crate::members::{are_frames, has_bytes, has_number, has_text, is_number, list};
 use kern_post::post::{Head, Post};
 use kern_render::content::content_json;
 use kern_render::rendering::render;
 use serde_json::Value;
-use std::alloc::{AllocError, Global};
+use std::alloc::Global;
 
 /// Whether a post that a line tells is addressed to a connection.
 pub fn is_to(told: &Value, connection: u32) -> Result<bool, SessionFault> {
     for other in list(told, "to")? {
-        if other.as_u64() == Some(u64::from(connection)) {
+        if is_number(other, u64::from(connection)) {
             return Ok(true);
         }
     }
@@ -58,7 +58,7 @@ fn other_part(
     told: &Value,
     unix_seconds: u64,
     post: &Post,
-) -> Result<Option<&'static str>, AllocError> {
+) -> Result<Option<&'static str>, SessionFault> {
     if !has_number(told, "number", post.number) {
         return Ok(Some("number"));
     }
@@ -73,7 +73,7 @@ fn other_part(
     Ok(None)
 }
 
-fn is_part(alloc: Global, told: &Value, post: &Post, part: Part) -> Result<bool, AllocError> {
+fn is_part(alloc: Global, told: &Value, post: &Post, part: Part) -> Result<bool, SessionFault> {
     match part {
         Part::Type => Ok(has_text(told, "msg_type", post.letter.content.topic())),
         Part::Head => is_head(alloc, told, post),
@@ -83,14 +83,14 @@ fn is_part(alloc: Global, told: &Value, post: &Post, part: Part) -> Result<bool,
     }
 }
 
-fn is_head(alloc: Global, told: &Value, post: &Post) -> Result<bool, AllocError> {
+fn is_head(alloc: Global, told: &Value, post: &Post) -> Result<bool, SessionFault> {
     match &post.letter.envelope.head {
         Head::Topic => Ok(has_text(told, "topic", post.letter.content.topic())),
         Head::Identities(identities) => are_frames(alloc, told, "reply_to", identities),
     }
 }
 
-fn is_content(alloc: Global, told: &Value, post: &Post) -> Result<bool, AllocError> {
+fn is_content(alloc: Global, told: &Value, post: &Post) -> Result<bool, SessionFault> {
     let Some(told) = told.get("content") else {
         return Ok(false);
     };
@@ -101,7 +101,7 @@ fn is_content(alloc: Global, told: &Value, post: &Post) -> Result<bool, AllocErr
 }
 
 // Where the frames are told, they are those under the empty key in the session `S`.
-fn is_rendered(alloc: Global, told: &Value, post: &Post) -> Result<bool, AllocError> {
+fn is_rendered(alloc: Global, told: &Value, post: &Post) -> Result<bool, SessionFault> {
     if told.get("frames").is_none() {
         return Ok(true);
     }

@@ -1,7 +1,7 @@
 //! The replies of a session.
 
 use crate::fault::SessionFault;
-use crate::members::{has_number, has_text, has_truth, items};
+use crate::members::{has_number, has_text, has_truth, is_number, items};
 use kern_core::call::Reply;
 use kern_core::fault::KernelFault;
 use kern_post::post::{Post, Posts};
@@ -54,7 +54,7 @@ fn are_numbers(told: &Value, posts: &[Post]) -> bool {
         return false;
     }
     for (number, post) in numbers.iter().zip(posts) {
-        if number.as_u64() != Some(post.number) {
+        if !is_number(number, post.number) {
             return false;
         }
     }
