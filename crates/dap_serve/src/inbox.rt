@@ -1,4 +1,7 @@
 //! Where bodies wait for an answer.
+ghost use Rattle.std.specs.Prelude.{◌≡◌, drop};
+ghost use Rattle.dap_serve.specs.Inbox.{first_of};
+
 use base_text::sequence::Bytes;
 use dap_debugger::incoming::{BodySource, Incoming, StreamEnd};
 use std::alloc::{AllocError, Global};
@@ -89,7 +92,8 @@ impl Inbox {
             .wait_while(rt, self.waiting.lock(rt), |waiting| {
                 waiting.bodies.is_empty() && waiting.end.is_none()
             });
-        let incoming = take_first(&mut waiting);
+        let end = waiting.end;
+        let incoming = take_first(&mut waiting.bodies, end);
         drop(waiting);
         self.emptied.notify_one();
         incoming
@@ -98,17 +102,22 @@ impl Inbox {
     // The same without waiting.
     fn next_if_there<R: Wait>(&self, rt: &R) -> Incoming {
         let mut waiting = self.waiting.lock(rt);
-        let incoming = take_first(&mut waiting);
+        let end = waiting.end;
+        let incoming = take_first(&mut waiting.bodies, end);
         drop(waiting);
         self.emptied.notify_one();
         incoming
     }
 }
 
-fn take_first(waiting: &mut Waiting) -> Incoming {
-    match waiting.bodies.pop_front() {
+// Takes the body that came first; where none waits, says why no more come.
+fn take_first(bodies: &mut VecDeque<Bytes>, end: Option<StreamEnd>) -> Incoming
+    ensures told { result ≡ first_of bodies.old.items end }
+    ensures left { bodies.new.items ≡ drop 1 bodies.old.items }
+{
+    match bodies.pop_front() {
         Some(body) => Incoming::Body(body),
-        None => match waiting.end {
+        None => match end {
             Some(end) => Incoming::End(end),
             None => Incoming::Nothing,
         },

@@ -1,0 +1,12 @@
+-- What is taken out of an inbox.
+use Rattle.std.specs.Prelude.{Option, Some, None, List, [], ◌∷◌}
+use Rattle.base_text.specs.Bytes.{Bytes}
+use Rattle.dap_debugger.specs.declared.incoming.StreamEnd.{StreamEnd}
+use Rattle.dap_debugger.specs.declared.incoming.Incoming.{Incoming}
+use Rattle.dap_debugger.specs.declared.incoming.Incoming.TheVariants.{Body, Nothing, End}
+
+-- the body that came first; where none waits, why no more come
+abbrev pub first_of : List Bytes → Option StreamEnd → Incoming
+first_of (body ∷ bodies) end = Body body
+first_of [] None = Nothing
+first_of [] (Some end) = End end
