@@ -66,6 +66,12 @@ def library_words(*crates):
     return words
 
 
+def crate_words(crate):
+    """The words that tell the prover, in a crate's folder, which crate to read and what it stands on."""
+    root = "src/main.rt" if is_program(crate) else "src/lib.rt"
+    return [root, "--crate-name", crate, *library_words(crate), *LOGIC]
+
+
 @cache
 def sources(crate):
     """The files of a crate that the prover reads."""
