@@ -114,7 +114,7 @@ impl Lab {
     ghost use Rattle.lab_core.specs.Labs.{StandsFor};
 
     /// A board after power-on, with nothing loaded or kept.
-    /// All room that its memory, its live frames, its list of texts and the bits of its breakpoints need
+    /// All room that its memory, its live frames, its list of texts and the bytes of its breakpoints need
     /// is made here, and that of the machine that lies in for its own while steps are made.
     pub fn new(alloc: Global) -> Result<Lab, AllocError>
         ensures { IfOk result (λ lab. StandsFor lab opening) }

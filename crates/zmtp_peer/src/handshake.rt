@@ -26,7 +26,7 @@ const GREETING_SIZE: usize = 64;
 pub struct Peer {
     pub decoder: Decoder,
     pub messages: Messages,
-    /// How often its reader was read by then; a conversation reads 4,294,967,295 times at most.
+    /// How often its reader was read by then; a call reads 4,294,967,295 times at most.
     pub reads: u32,
 }
 
