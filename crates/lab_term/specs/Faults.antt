@@ -1,4 +1,6 @@
 -- Why a cell wasn't run to its end.
+use Rattle.std.specs.Prelude.{Option, Some, None, codes}
+use Rattle.base_text.specs.Bytes.{Text}
 use Rattle.zmtp_peer.specs.declared.fault.PeerFault.{PeerFault}
 use Rattle.zmtp_peer.specs.declared.fault.PeerFault.TheVariants as peer
 use Rattle.lab_term.specs.declared.fault.TermFault.{TermFault}
@@ -12,3 +14,11 @@ term_fault_of peer.PeerEnded = term.Ended
 term_fault_of peer.ReadFailed = term.ReadFailed
 term_fault_of peer.WriteFailed = term.WriteFailed
 term_fault_of (peer.Wire cause) = term.Wire (Stream cause)
+
+-- the text that tells a fault; of what came it is the cause's own
+abbrev pub message_of : TermFault → Option Text
+message_of term.OutOfMemory = Some (codes "out of memory")
+message_of term.Ended = Some (codes "the kernel ended the connection")
+message_of term.ReadFailed = Some (codes "a read failed")
+message_of term.WriteFailed = Some (codes "a write failed")
+message_of (term.Wire cause) = None

@@ -48,15 +48,18 @@ pub enum TermFault {
 }
 
 impl fmt::Display for TermFault {
+    ghost use Rattle.lab_term.specs.Faults.{message_of};
+
+    ghost output = { λ fault. message_of fault };
+
     fn fmt<W: fmt::Write>(&self, f: &mut fmt::Formatter<W>) -> fmt::Result {
-        let text = match self {
-            TermFault::OutOfMemory => "out of memory",
-            TermFault::Ended => "the kernel ended the connection",
-            TermFault::ReadFailed => "a read failed",
-            TermFault::WriteFailed => "a write failed",
-            TermFault::Wire(cause) => return fmt::Display::fmt(cause, f),
-        };
-        f.write_str(text)
+        match self {
+            TermFault::OutOfMemory => f.write_str("out of memory"),
+            TermFault::Ended => f.write_str("the kernel ended the connection"),
+            TermFault::ReadFailed => f.write_str("a read failed"),
+            TermFault::WriteFailed => f.write_str("a write failed"),
+            TermFault::Wire(cause) => fmt::Display::fmt(cause, f),
+        }
     }
 }
 
