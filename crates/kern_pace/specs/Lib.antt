@@ -1,2 +1,3 @@
+pub mod Budgets
 pub mod Pacing
 pub mod Strangers

@@ -1,5 +1,6 @@
 //! What the threads of a server wake one another by.
 use crate::spot::Spot;
+use crate::stopwatch::Stopwatch;
 use jup_wire::channel::Channel;
 use std::alloc::{AllocError, Global};
 use std::rt::Clock;
@@ -13,7 +14,13 @@ pub const PLACES: usize = 16;
 // Each time that so many calls told only some, all are woken. A writer to which nothing was posted goes on
 // then, past posts to others: else those from which it is to go on would at last be kept no longer (a call makes
 // at most eight, and 4,096 are kept). And the worker looks how full the journal is.
-const TELLS_OF_A_ROUND: u64 = 64;
+const TELLS_OF_A_ROUND: u64 = 256;
+
+// How many posts a request makes that gives the worker nothing to do: busy, its reply and idle.
+const POSTS_OF_A_REQUEST: u64 = 3;
+
+// How long the statuses of looks may wait, in microseconds: somewhat less than a quarter of a second.
+const STATUS_MICROS: u64 = 245_000;
 
 /// A place of a channel, the first of which is 0.
 #[derive(Clone, Copy)]
@@ -22,54 +29,108 @@ pub struct Place {
     pub number: usize,
 }
 
-/// A spot for the worker, one for the writers of iopub together, and one for the writer of each other place.
-/// Beside them, counts of what was done, which nobody waits for.
+// How far posts are known that a running cell didn't make.
+#[derive(Drop)]
+struct Known {
+    // The number of the next post, and how many requests had been told by then.
+    next: u64,
+    requests: u64,
+    // Whether the last look found fewer posts than these requests make.
+    is_in_doubt: bool,
+}
+
+impl Known {
+    // Takes note of the number of the next post, after so many requests. Whether a running cell may have made posts: requests
+    // make three each, and if fewer posts came twice, some of them made fewer.
+    fn has_more(&mut self, next: u64, requests: u64) -> bool {
+        let posts = next.saturating_sub(self.next);
+        let expected = requests
+            .saturating_sub(self.requests)
+            .saturating_mul(POSTS_OF_A_REQUEST);
+        if posts < expected && !self.is_in_doubt {
+            self.is_in_doubt = true;
+            return false;
+        }
+        self.is_in_doubt = false;
+        self.next = next;
+        self.requests = requests;
+        posts != expected
+    }
+}
+
+/// A spot for the worker, and one for the writer of each place. Beside them, counts of what was done, which nobody waits for.
 #[derive(Drop)]
 pub struct Bell {
     work: Spot,
-    iopub: Spot,
+    iopub: Vec<Spot>,
     others: Vec<Spot>,
     tells: AtomicU64,
+    // Whether statuses of looks wait that iopub wasn't told of, and since when.
+    has_looks: AtomicBool,
+    looked: AtomicU64,
+    stopwatch: Stopwatch,
+    // The requests that gave the worker nothing to do, whose posts are known.
+    requests: AtomicU64,
+    known: Mutex<Known>,
+    // The place of iopub whose writer looks for posts, counted from 1, and how often posts of a running cell were found.
+    scout: AtomicU64,
+    finds: AtomicU64,
     is_closing: AtomicBool,
     writers: Mutex<u64>,
     quiet: Condvar,
     entries: AtomicU64,
     subscriptions: AtomicU64,
-    writes: AtomicU64,
+}
+
+// So many spots at which nobody rang.
+fn new_spots(alloc: Global, count: usize) -> Result<Vec<Spot>, AllocError> {
+    let mut spots = Vec::new(alloc);
+    for _ in 0..count {
+        spots.push(Spot::new())?;
+    }
+    Ok(spots)
 }
 
 impl Bell {
     /// A bell that nobody rang.
-    pub fn new(alloc: Global) -> Result<Bell, AllocError> {
-        let mut others = Vec::new(alloc);
-        for _ in 0..3 * PLACES {
-            others.push(Spot::new())?;
-        }
+    pub fn new<C: Clock>(clock: &C, alloc: Global) -> Result<Bell, AllocError> {
+        let iopub = new_spots(alloc, PLACES)?;
+        let others = new_spots(alloc, 3 * PLACES)?;
         Ok(Bell {
             work: Spot::new(),
-            iopub: Spot::new(),
+            iopub,
             others,
             tells: AtomicU64::new(0),
+            has_looks: AtomicBool::new(false),
+            looked: AtomicU64::new(0),
+            stopwatch: Stopwatch::new(clock),
+            requests: AtomicU64::new(0),
+            known: Mutex::new(Known {
+                next: 0,
+                requests: 0,
+                is_in_doubt: false,
+            }),
+            scout: AtomicU64::new(0),
+            finds: AtomicU64::new(0),
             is_closing: AtomicBool::new(false),
             writers: Mutex::new(0),
             quiet: Condvar::new(),
             entries: AtomicU64::new(0),
             subscriptions: AtomicU64::new(0),
-            writes: AtomicU64::new(0),
         })
     }
 
     /// Where the writer of a place waits.
     pub fn spot(&self, place: Place) -> &Spot {
-        let first = match place.channel {
-            Channel::Iopub => return &self.iopub,
-            Channel::Control => 0,
-            Channel::Shell => PLACES,
-            Channel::Stdin => 2 * PLACES,
+        let (spots, first) = match place.channel {
+            Channel::Iopub => (&self.iopub, 0),
+            Channel::Control => (&self.others, 0),
+            Channel::Shell => (&self.others, PLACES),
+            Channel::Stdin => (&self.others, 2 * PLACES),
         };
-        match self.others.get(first.saturating_add(place.number)) {
+        match spots.get(first.saturating_add(place.number)) {
             Some(spot) => spot,
-            None => &self.iopub,
+            None => &self.work,
         }
     }
 
@@ -84,23 +145,127 @@ impl Bell {
         for spot in &self.others {
             spot.ring();
         }
-        self.iopub.ring();
+        self.wake_iopub();
     }
 
-    /// Wakes the writer that waits at this spot and those of iopub, after a call that may have posted something
-    /// to these alone.
-    pub fn tell(&self, own: &Spot) {
-        own.ring();
-        self.iopub.ring();
+    /// Wakes the writers of iopub.
+    pub fn wake_iopub(&self) {
+        self.has_looks.store(false, Ordering::SeqCst);
+        for spot in &self.iopub {
+            spot.ring();
+        }
+    }
+
+    // Counts a call that told some alone.
+    fn count_tell(&self) {
         let tells = self.tells.fetch_add(1, Ordering::SeqCst);
         if tells % TELLS_OF_A_ROUND == TELLS_OF_A_ROUND - 1 {
             self.wake_all();
         }
     }
 
-    /// Waits until more work may have come than was seen.
-    pub fn next_work<R: Wait>(&self, rt: &R, seen: u64) -> u64 {
-        self.work.wait(rt, seen)
+    /// Wakes the writers of iopub, to which alone a subscription may have posted something.
+    pub fn tell_subscription(&self) {
+        self.wake_iopub();
+        self.count_tell();
+    }
+
+    /// Wakes the writer that waits at this spot and those of iopub, after a request that gave the worker nothing to do.
+    pub fn tell(&self, own: &Spot) {
+        self.requests.fetch_add(1, Ordering::SeqCst);
+        own.ring();
+        self.wake_iopub();
+        self.count_tell();
+    }
+
+    /// Wakes the writer that waits at this spot, for the reply to such a request that is a look at the board. Its statuses
+    /// wait for what iopub is told next, a quarter of a second at most.
+    pub fn tell_look<C: Clock>(&self, clock: &C, own: &Spot) {
+        self.requests.fetch_add(1, Ordering::SeqCst);
+        own.ring();
+        if !self.has_looks.load(Ordering::SeqCst) {
+            let now = self.micros(clock).unwrap_or(0);
+            self.looked.store(now, Ordering::SeqCst);
+            self.has_looks.store(true, Ordering::SeqCst);
+            self.work.nudge();
+        }
+        self.count_tell();
+    }
+
+    /// Microseconds since the server began; none if no clock can be read.
+    pub fn micros<C: Clock>(&self, clock: &C) -> Option<u64> {
+        self.stopwatch.micros(clock)
+    }
+
+    // How long statuses of looks may still wait, in microseconds.
+    fn patience(&self, now: u64) -> u64 {
+        let until = self
+            .looked
+            .load(Ordering::SeqCst)
+            .saturating_add(STATUS_MICROS);
+        until.saturating_sub(now)
+    }
+
+    /// Wakes the writers of iopub if statuses of looks wait that couldn't wait for so long.
+    pub fn tell_statuses(&self, now: u64, micros: u64) {
+        if self.has_looks.load(Ordering::SeqCst) && self.patience(now) <= micros {
+            self.wake_iopub();
+        }
+    }
+
+    /// Has one writer of iopub look whether a running cell has posted something; if all are busy, or there is none, wakes all
+    /// writers. So a cell that posts nothing costs one Fetch, and not one for each writer.
+    pub fn look_for_posts(&self) {
+        let last = self.scout.load(Ordering::SeqCst) as usize;
+        for step in 0..PLACES {
+            let number = last.saturating_add(step) % PLACES;
+            if let Some(spot) = self.iopub.get(number)
+                && spot.has_sleeper()
+            {
+                self.scout.store(number as u64 + 1, Ordering::SeqCst);
+                spot.ring();
+                return;
+            }
+        }
+        self.wake_writers();
+    }
+
+    /// A writer has fetched all posts below this number. If it is the one that looks for posts, and a running cell has made
+    /// some, all writers are woken.
+    pub fn note_posts<R: Wait>(&self, rt: &R, place: Place, next: u64) {
+        let number = (place.number as u64).saturating_add(1);
+        if place.channel != Channel::Iopub || self.scout.load(Ordering::SeqCst) != number {
+            return;
+        }
+        let requests = self.requests.load(Ordering::SeqCst);
+        if self.known.lock(rt).has_more(next, requests) {
+            self.finds.fetch_add(1, Ordering::SeqCst);
+            self.wake_writers();
+        }
+    }
+
+    /// How often posts of a running cell were found.
+    pub fn finds(&self) -> u64 {
+        self.finds.load(Ordering::SeqCst)
+    }
+
+    /// Waits until more work may have come than was seen. Statuses of looks are told meanwhile.
+    pub fn next_work<R: Wait + Clock>(&self, rt: &R, seen: u64) -> u64 {
+        for _ in rt.forever() {
+            let mut rings = self.work.wait_unless(rt, seen, &self.has_looks);
+            if rings == seen {
+                let most = match self.micros(rt) {
+                    Some(now) => self.patience(now),
+                    None => 0,
+                };
+                rings = self.work.wait_within(rt, seen, Duration::from_micros(most));
+                self.wake_iopub();
+            }
+            if rings != seen {
+                return rings;
+            }
+        }
+        unreachable!()
     }
 
     /// Waits for that too, but no longer than so long.
@@ -150,15 +315,5 @@ impl Bell {
     /// A subscription was taken, after so many others.
     pub fn count_subscription(&self) -> u64 {
         self.subscriptions.fetch_add(1, Ordering::SeqCst)
-    }
-
-    /// Something was written to a peer.
-    pub fn count_write(&self) {
-        self.writes.fetch_add(1, Ordering::SeqCst);
-    }
-
-    /// How often something was written.
-    pub fn writes(&self) -> u64 {
-        self.writes.load(Ordering::SeqCst)
     }
 }

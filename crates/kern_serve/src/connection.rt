@@ -6,10 +6,11 @@ use crate::bell::{Bell, Place};
 use crate::gates::{InGate, OutGate};
 use crate::host::Host;
 use crate::listeners::Listeners;
-use crate::outlet::CountedOutlet;
+use crate::places::Places;
 use crate::socket::{close, meet};
 use crate::spot::Spot;
 use crate::throttles::Throttles;
+use crate::unsigned::{FREE_BYTES, UnsignedStream};
 use base_streams::std_io::{StdInlet, StdOutlet};
 use base_text::sequence::Bytes;
 use base_text::text::Text;
@@ -25,8 +26,8 @@ use kern_net::pump_out::{OutgoingRoute, pump_out};
 use std::alloc::{AllocError, Global};
 use std::net::TcpStream;
 use std::rt::Clock;
-use std::sync::Wait;
 use std::sync::atomic::{AtomicBool, Ordering};
+use std::sync::{Arc, Wait};
 use std::thread;
 use std::time::Duration;
 use zmtp_peer::handshake::Peer;
@@ -36,8 +37,10 @@ use zmtp_peer::handshake::Peer;
 pub struct Shared {
     pub desk: Desk,
     pub bell: Bell,
-    /// What strangers are held back by.
+    /// What peers wait by that have shown no key.
     pub throttles: Throttles,
+    /// Who is at which place.
+    pub places: Places,
     /// The key of the signatures.
     pub key: Text,
     /// The session's name in the headers of what the kernel sends.
@@ -59,14 +62,14 @@ struct Ends {
     joined: Joined,
     // How often somebody had rung at the place before it joined.
     seen: u64,
-    stream: TcpStream,
+    stream: Arc<TcpStream>,
     is_closed: AtomicBool,
     // Where its writer waits until its reader has begun.
     begun: Spot,
 }
 
 impl Ends {
-    fn new(place: Place, joined: Joined, seen: u64, stream: TcpStream) -> Ends {
+    fn new(place: Place, joined: Joined, seen: u64, stream: Arc<TcpStream>) -> Ends {
         Ends {
             place,
             joined,
@@ -113,8 +116,16 @@ fn read_on<R: Wait + Clock>(
         return pass;
     };
     let bell = &shared.bell;
-    let mut gate = InGate::new(bell, rt, ends.place);
-    let mut from = StdInlet::new(&ends.stream);
+    let mut gate = InGate::new(bell, &shared.places, rt, ends.place);
+    let mut from = StdInlet::new(UnsignedStream {
+        stream: &*ends.stream,
+        rt,
+        throttles: &shared.throttles,
+        channel: ends.place.channel,
+        is_signed: ends.place.channel != Channel::Iopub,
+        patience: u64::MAX,
+        read: FREE_BYTES / 2,
+    });
     let route = IncomingRoute {
         desk: &shared.desk,
         connection: ends.joined.connection,
@@ -130,7 +141,7 @@ fn read_on<R: Wait + Clock>(
         shared.throttles.add_stranger(rt, ends.place.channel);
     }
     ends.is_closed.store(true, Ordering::SeqCst);
-    close(&ends.stream);
+    close(&*ends.stream);
     bell.spot(ends.place).nudge();
     pass
 }
@@ -147,17 +158,13 @@ fn write_on<R: Wait + Clock>(
     ensures { result.turnstile ≡ shared.now.desk }
 {
     if !has_reader(rt, ends) {
-        close(&ends.stream);
+        close(&*ends.stream);
         return pass;
     }
     let bell = &shared.bell;
-    let own = bell.spot(ends.place);
     let joined = ends.joined;
-    let mut gate = OutGate::new(bell, own, &ends.is_closed, joined.from, ends.seen);
-    let mut to = CountedOutlet {
-        outlet: StdOutlet::new(&ends.stream),
-        bell,
-    };
+    let mut gate = OutGate::new(bell, ends.place, &ends.is_closed, joined.from, ends.seen);
+    let mut to = StdOutlet::new(&*ends.stream);
     let route = OutgoingRoute {
         desk: &shared.desk,
         connection: joined.connection,
@@ -176,7 +183,7 @@ fn write_on<R: Wait + Clock>(
             joined.from,
         );
     }
-    close(&ends.stream);
+    close(&*ends.stream);
     bell.end_writer(rt);
     pass
 }
@@ -290,8 +297,12 @@ pub fn serve_connection<R: Host>(
     ensures { AreOf shared.now.desk result }
 {
     let channel = place.channel;
-    let Some(peer) = meet(rt, alloc, &stream, channel) else {
+    let Some(peer) = meet(rt, alloc, &shared.throttles, &stream, channel) else {
         drop(stream);
+        return seats;
+    };
+    let Ok(stream) = Arc::new(alloc, stream) else {
+        drop(peer);
         return seats;
     };
     shared.throttles.admit(rt, channel);
@@ -302,8 +313,12 @@ pub fn serve_connection<R: Host>(
         drop(stream);
         return seats;
     };
+    if let Ok(shown) = Arc::try_clone(&stream) {
+        shared.places.enter(rt, place, shown);
+    }
     let ends = Ends::new(place, joined, seen, stream);
     seats = pump(rt, alloc, shared, peer, ends, seats);
+    shared.places.leave(rt, place);
     leave(rt, shared, &mut seats.first, joined.connection);
     seats
 }

@@ -2,6 +2,7 @@
 ghost use Rattle.std.specs.Prelude.{◌≡◌, ◌≤◌, ◌+◌, ◌<◌, ◌↔◌, IsTrue};
 
 use crate::bell::{Bell, Place};
+use crate::places::Places;
 use crate::spot::Spot;
 use crate::system::unix_seconds;
 use jup_wire::channel::Channel;
@@ -10,23 +11,24 @@ use kern_net::gate::{ReaderGate, WorkerGate, WriterGate};
 use kern_net::pump_out::NUMBERS_OF_A_FETCH;
 use kern_net::tally::{Tally, WorkerTally, one_more};
 use kern_pace::pace::{
-    JOURNAL_LIMIT, RESERVE, SHORTEST_GAP, SLICES_AT_FULL_SPEED, SUBSCRIPTIONS_AT_FULL_SPEED,
-    is_nearly_full, next_gap, pause_at,
+    SHORTEST_GAP, free_slices, is_free_subscription, is_full, is_nearly_full, next_gap,
+    slice_pause, subscription_pause,
 };
 use std::rt::Clock;
 use std::sync::Wait;
 use std::sync::atomic::{AtomicBool, Ordering};
 use std::thread;
-use std::time::{Duration, Instant};
+use std::time::Duration;
 
-/// A reader's gate. Where many subscriptions were taken, it holds further ones back so that the journal lasts.
+/// A reader's gate. If many subscriptions were taken, further ones wait so that the journal lasts.
 #[derive(Drop)]
 pub struct InGate<'a, C: Clock> {
     bell: &'a Bell,
+    places: &'a Places,
     // Where the writer of its connection waits.
     own: &'a Spot,
     clock: &'a C,
-    channel: Channel,
+    place: Place,
     // How many entries there were when something came through it last.
     entries: u64,
     wakes: u64,
@@ -35,12 +37,13 @@ pub struct InGate<'a, C: Clock> {
 
 impl<'a, C: Clock> InGate<'a, C> {
     /// A gate through which nothing has come yet, of a connection at this place.
-    pub fn new(bell: &'a Bell, clock: &'a C, place: Place) -> InGate<'a, C> {
+    pub fn new(bell: &'a Bell, places: &'a Places, clock: &'a C, place: Place) -> InGate<'a, C> {
         InGate {
             bell,
+            places,
             own: bell.spot(place),
             clock,
-            channel: place.channel,
+            place,
             entries: bell.entries(),
             wakes: 0,
             tells: 0,
@@ -59,10 +62,18 @@ impl<'a, C: Clock> InGate<'a, C> {
         ensures { (self.new.wakes ≡ self.old.wakes) × (self.new.tells ≡ self.old.tells) }
     {
         let entries = self.bell.entries();
-        let micros = pause_at(entries, self.entries);
+        let micros = subscription_pause(entries, self.entries);
         self.entries = entries;
-        if self.bell.count_subscription() >= SUBSCRIPTIONS_AT_FULL_SPEED {
+        if !is_free_subscription(self.bell.count_subscription()) {
             thread::sleep(self.clock, Duration::from_micros(micros));
+        }
+    }
+
+    // Counts a call; the first one shows who is at the place.
+    fn count<R: Wait>(&self, rt: &R) {
+        self.bell.count_entries(1);
+        if !self.was_used() {
+            self.places.hear(rt, self.place);
         }
     }
 }
@@ -71,18 +82,23 @@ impl<'a, C: Clock> ReaderGate for InGate<'a, C> {
     ghost polls = { λ g. record { wakes = g.wakes; tells = g.tells } };
 
     fn wake<R: Wait>(&mut self, rt: &R) {
-        self.bell.count_entries(1);
+        self.count(rt);
         self.bell.wake_all();
         self.wakes = one_more(rt, self.wakes);
     }
 
     fn tell<R: Wait>(&mut self, rt: &R) {
-        self.bell.count_entries(1);
-        self.bell.tell(self.own);
-        self.tells = one_more(rt, self.tells);
-        if self.channel == Channel::Iopub {
-            self.hold();
+        self.count(rt);
+        match self.place.channel {
+            Channel::Iopub => {
+                self.bell.tell_subscription();
+                self.hold();
+            }
+            // A debugger's look at the board, mostly.
+            Channel::Control => self.bell.tell_look(self.clock, self.own),
+            Channel::Shell | Channel::Stdin => self.bell.tell(self.own),
         }
+        self.tells = one_more(rt, self.tells);
     }
 
     fn unix_seconds<R: Wait>(&mut self, _rt: &R) -> u64 {
@@ -95,6 +111,7 @@ impl<'a, C: Clock> ReaderGate for InGate<'a, C> {
 #[derive(Drop)]
 pub struct OutGate<'a> {
     bell: &'a Bell,
+    place: Place,
     // Where it waits, and how often somebody had rung there before the last Fetch.
     own: &'a Spot,
     seen: u64,
@@ -111,7 +128,7 @@ impl<'a> OutGate<'a> {
     /// somebody had rung where it waits before that number was told.
     pub fn new(
         bell: &'a Bell,
-        own: &'a Spot,
+        place: Place,
         is_closed: &'a AtomicBool,
         from: u64,
         seen: u64,
@@ -120,7 +137,8 @@ impl<'a> OutGate<'a> {
     {
         OutGate {
             bell,
-            own,
+            place,
+            own: bell.spot(place),
             seen,
             is_closed,
             is_closing: bell.is_closing(),
@@ -155,6 +173,7 @@ impl<'a> WriterGate for OutGate<'a> {
 
     fn idle<R: Wait>(&mut self, rt: &R, _pass: &Pass, next: u64) -> bool {
         self.count(next);
+        self.bell.note_posts(rt, self.place, next);
         let goes_on = !self.is_closing && self.wait_for_posts(rt);
         self.idle.add(rt, goes_on);
         goes_on
@@ -162,24 +181,23 @@ impl<'a> WriterGate for OutGate<'a> {
 }
 
 /// The worker's gate. It waits until there may be work; it says no once the journal is full but for a
-/// reserve, and prints a line before that. It holds a long run back so that the journal lasts, and rings for
-/// its posts.
+/// reserve, and prints a line before that. It makes a long run wait so that the journal lasts, and has a writer
+/// look for its posts.
 #[derive(Drop)]
 pub struct WorkGate<'a, C: Wait + Clock + Print> {
     bell: &'a Bell,
     clock: &'a C,
-    begun: Option<Instant>,
     seen: u64,
     // How many slices may be made at full speed yet.
     free: u64,
-    // How many entries there were before the last slice.
-    entries: u64,
+    // How many slices it had let through at the last pause, and how many by now.
+    paused: u64,
     slices: u64,
-    // When it rang last, in microseconds since it began, how long not to ring again, and how much was
-    // written by then.
-    rung: u128,
+    // When posts were looked for last, in microseconds since it began, how long not to look again, and how often some had
+    // been found by then.
+    looked: u64,
     gap: u64,
-    writes: u64,
+    finds: u64,
     // Whether it has printed that the journal is nearly full.
     has_warned: bool,
     polls: WorkerTally,
@@ -196,14 +214,13 @@ impl<'a, C: Wait + Clock + Print> WorkGate<'a, C> {
         WorkGate {
             bell,
             clock,
-            begun: Instant::now(clock).ok(),
             seen: 0,
-            free: SLICES_AT_FULL_SPEED,
-            entries: 0,
+            free: free_slices(),
+            paused: 0,
             slices: 0,
-            rung: 0,
+            looked: 0,
             gap: SHORTEST_GAP,
-            writes: 0,
+            finds: 0,
             has_warned: false,
             polls: WorkerTally::new(),
         }
@@ -230,16 +247,16 @@ impl<'a, C: Wait + Clock + Print> WorkGate<'a, C> {
             self.has_warned = true;
             let _ = self.clock.println("journal 90 percent full");
         }
-        entries >= u64::from(JOURNAL_LIMIT) - RESERVE
+        is_full(entries)
     }
 
     // Waits so that the journal lasts, unless work comes meanwhile.
     fn hold(&mut self)
         ensures { self.new.polls ≡ self.old.polls }
     {
-        let entries = self.count();
-        let most = Duration::from_micros(pause_at(entries, self.entries));
-        self.entries = entries;
+        let slices = self.slices.saturating_sub(self.paused);
+        let most = Duration::from_micros(slice_pause(slices, self.count()));
+        self.paused = self.slices;
         self.seen = self.bell.next_work_within(self.clock, self.seen, most);
     }
 
@@ -249,33 +266,24 @@ impl<'a, C: Wait + Clock + Print> WorkGate<'a, C> {
     {
         if self.free > 0 {
             self.free -= 1;
-            self.entries = self.count();
+            self.paused = self.slices;
             return;
         }
         self.hold();
     }
 
-    // Rings, if the time for it has come.
-    fn ring(&mut self)
+    // Has a writer look for posts, if the time for it has come.
+    fn look_for_posts(&mut self, now: u64)
         ensures { self.new.polls ≡ self.old.polls }
     {
-        let Some(begun) = &self.begun else {
-            self.bell.wake_writers();
-            return;
-        };
-        let Ok(since) = begun.elapsed(self.clock) else {
-            self.bell.wake_writers();
-            return;
-        };
-        let now = since.as_micros();
-        if now < self.rung.saturating_add(u128::from(self.gap)) {
+        if now < self.looked.saturating_add(self.gap) {
             return;
         }
-        let writes = self.bell.writes();
-        self.gap = next_gap(self.gap, writes != self.writes);
-        self.writes = writes;
-        self.rung = now;
-        self.bell.wake_writers();
+        let finds = self.bell.finds();
+        self.gap = next_gap(self.gap, finds != self.finds);
+        self.finds = finds;
+        self.looked = now;
+        self.bell.look_for_posts();
     }
 }
 
@@ -294,8 +302,8 @@ impl<'a, C: Wait + Clock + Print> WorkerGate for WorkGate<'a, C> {
 
     fn idle<R: Wait>(&mut self, rt: &R) -> bool {
         self.bell.wake_writers();
-        self.seen = self.bell.next_work(rt, self.seen);
-        self.free = SLICES_AT_FULL_SPEED;
+        self.seen = self.bell.next_work(self.clock, self.seen);
+        self.free = free_slices();
         self.gap = SHORTEST_GAP;
         let goes_on = !self.is_full();
         self.polls.add_idle(rt, goes_on);
@@ -303,7 +311,14 @@ impl<'a, C: Wait + Clock + Print> WorkerGate for WorkGate<'a, C> {
     }
 
     fn wake<R: Wait>(&mut self, rt: &R) {
-        self.ring();
+        match self.bell.micros(self.clock) {
+            Some(now) => {
+                // Before the next slice may come a pause.
+                self.bell.tell_statuses(now, slice_pause(1, self.count()));
+                self.look_for_posts(now);
+            }
+            None => self.bell.wake_writers(),
+        }
         self.polls.add_wake(rt);
     }
 

@@ -10,6 +10,7 @@ use crate::fault::ServerFault;
 use crate::gates::WorkGate;
 use crate::host::Host;
 use crate::listeners::Listeners;
+use crate::places::Places;
 use crate::socket::beat;
 use crate::system::new_session;
 use crate::throttles::Throttles;
@@ -82,6 +83,8 @@ enum Task {
     Lane(Place, Seats),
     // Serves one connection of the heartbeat after another.
     Beats,
+    // Lets silent connections of a channel go where others wait.
+    Watch(Channel),
 }
 
 fn perform<R: Host>(rt: &R, alloc: Global, shared: &Shared, task: Task)
@@ -90,6 +93,7 @@ fn perform<R: Host>(rt: &R, alloc: Global, shared: &Shared, task: Task)
     match task {
         Task::Lane(place, seats) => lane(rt, alloc, shared, place, seats),
         Task::Beats => beats(rt, alloc, shared.listeners.heartbeat()),
+        Task::Watch(channel) => shared.places.watch(rt, &shared.listeners, channel),
     }
 }
 
@@ -117,7 +121,7 @@ fn start_task<R: Host>(
     );
     match started {
         Ok(_) => Ok(()),
-        // The library doesn't tell why. That memory is wanting for one of some 80 stacks is the likeliest.
+        // The library doesn't tell why. That there is no memory for one of some 85 stacks is the likeliest.
         Err(_) => Err(ServerFault::OutOfMemory),
     }
 }
@@ -145,7 +149,7 @@ fn start_lanes<R: Host>(
             Task::Lane(place, Seats { first, second }),
         )?;
     }
-    Ok(())
+    start_task(rt, alloc, shared, Task::Watch(channel))
 }
 
 // Starts the threads that serve the heartbeat.
@@ -186,10 +190,13 @@ fn work<R: Host>(rt: &R, shared: &Shared, mut pass: Pass) -> Result<ServerEnd, S
 }
 
 // A desk, its passes, and a bell.
-fn open_desk_and_bell(alloc: Global) -> Result<(Desk, Vec<Pass>, Bell), AllocError>
+fn open_desk_and_bell<C: Clock>(
+    clock: &C,
+    alloc: Global,
+) -> Result<(Desk, Vec<Pass>, Bell), AllocError>
     ensures { IfOk result (λ opened. All (λ p. p.turnstile ≡ opened.0) opened.1.items) }
 {
-    let bell = Bell::new(alloc)?;
+    let bell = Bell::new(clock, alloc)?;
     match open_desk(alloc, JOURNAL_LIMIT, PASSES) {
         Ok((desk, passes)) => Ok((desk, passes, bell)),
         Err(error) => {
@@ -209,12 +216,22 @@ fn open<C: Clock>(
 ) -> Result<(Shared, Vec<Pass>), ServerFault>
     ensures { IfOk result (λ opened. All (λ p. p.turnstile ≡ opened.0.desk) opened.1.items) }
 {
-    match open_desk_and_bell(alloc) {
+    match open_desk_and_bell(clock, alloc) {
         Ok((desk, passes, bell)) => {
+            let Ok(places) = Places::new(clock, alloc) else {
+                drop(desk);
+                drop(passes);
+                drop(bell);
+                drop(listeners);
+                drop(key);
+                drop(session);
+                return Err(ServerFault::OutOfMemory);
+            };
             let shared = Shared {
                 desk,
                 bell,
                 throttles: Throttles::new(clock),
+                places,
                 key,
                 session,
                 listeners,
@@ -248,7 +265,7 @@ fn start<R: Host>(
     passes.pop().ok_or(ServerFault::System)
 }
 
-// Starts all threads, and works.
+// Starts all threads, says that it listens, and works.
 fn run<R: Host>(
     rt: &R,
     alloc: Global,
@@ -259,10 +276,11 @@ fn run<R: Host>(
 {
     let started = start(rt, alloc, shared, &mut passes);
     drop(passes);
-    match started {
-        Ok(pass) => work(rt, shared, pass),
-        Err(fault) => Err(fault),
+    let pass = started?;
+    if rt.println("listening").is_err() {
+        return Err(ServerFault::System);
     }
+    work(rt, shared, pass)
 }
 
 // Serves under a session's name.
@@ -288,7 +306,7 @@ fn serve_as<R: Host>(
     }
 }
 
-/// Serves bound ports until a client asks for a shutdown or the journal is full. By then what was posted has
+/// Serves bound ports until a client asks for a shutdown or the journal is full. Prints `listening` once all threads are there. By then what was posted has
 /// been written to each client that reads, or half a second has passed. The threads that serve connections
 /// aren't joined: the program is to end.
 ///

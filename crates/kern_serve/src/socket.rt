@@ -1,11 +1,17 @@
 //! A socket whose handshake is made.
+use crate::throttles::Throttles;
+use crate::unsigned::UnsignedStream;
 use base_streams::std_io::{StdInlet, StdOutlet};
 use jup_wire::channel::Channel;
+use libc::net as c;
+use libc::types::pollfd;
 use std::alloc::Global;
 use std::io;
 use std::io::Read;
-use std::net::{Shutdown, TcpStream};
+use std::net::{Shutdown, TcpListener, TcpStream};
+use std::os::fd::AsRawFd;
 use std::rt::Clock;
+use std::sync::Wait;
 use std::time::{Duration, Instant};
 use zmtp_peer::handshake::{Peer, handshake};
 use zmtp_peer::heartbeat::heartbeat;
@@ -16,6 +22,16 @@ const PATIENCE_SECONDS: u64 = 10;
 
 // The size of a greeting, in bytes.
 const GREETING_SIZE: usize = 64;
+
+// A connection on which nothing comes for so many seconds is probed, so often, so many seconds apart; and what isn't acknowledged
+// ends it after so many milliseconds. So a peer that vanished is found within two minutes.
+const IDLE_SECONDS: u32 = 60;
+
+const PROBE_SECONDS: u32 = 10;
+
+const PROBES: u32 = 6;
+
+const UNACKNOWLEDGED_MILLIS: u32 = 60_000;
 
 /// Ends reads and writes on a socket, whatever thread waits in one.
 pub fn close(stream: &TcpStream) {
@@ -33,10 +49,44 @@ fn patience() -> Duration {
     Duration::from_secs(PATIENCE_SECONDS)
 }
 
-// A message is sent at once, and a peer that never reads is given up.
+// An option's value as the system reads it.
+fn option_bytes(value: u32) -> [u8; 16] {
+    let mut bytes = [0u8; 16];
+    bytes[..4].copy_from_slice(&value.to_ne_bytes());
+    bytes
+}
+
+// Has the system find peers that vanish, as it has for the options of a connection. One that can't be set is left as it is.
+fn keep_alive(stream: &TcpStream) {
+    let fd = stream.as_raw_fd();
+    let (on, unacknowledged) = (option_bytes(1), option_bytes(UNACKNOWLEDGED_MILLIS));
+    let (idle, probe, probes) = (
+        option_bytes(IDLE_SECONDS),
+        option_bytes(PROBE_SECONDS),
+        option_bytes(PROBES),
+    );
+    let _ = unsafe { c::setsockopt(fd, c::SOL_SOCKET, c::SO_KEEPALIVE, &on, 4) };
+    let _ = unsafe { c::setsockopt(fd, c::IPPROTO_TCP, c::TCP_KEEPIDLE, &idle, 4) };
+    let _ = unsafe { c::setsockopt(fd, c::IPPROTO_TCP, c::TCP_KEEPINTVL, &probe, 4) };
+    let _ = unsafe { c::setsockopt(fd, c::IPPROTO_TCP, c::TCP_KEEPCNT, &probes, 4) };
+    let _ = unsafe { c::setsockopt(fd, c::IPPROTO_TCP, c::TCP_USER_TIMEOUT, &unacknowledged, 4) };
+}
+
+// A message is sent at once; a peer that never reads is given up, and so is one that has vanished.
 fn prepare(stream: &TcpStream) -> io::Result<()> {
+    keep_alive(stream);
     stream.set_nodelay(true)?;
     stream.set_write_timeout(Some(patience()))
+}
+
+/// Waits until a connection waits to be accepted.
+pub fn await_connection(listener: &TcpListener) {
+    let mut fds = [pollfd {
+        fd: listener.as_raw_fd(),
+        events: c::POLLIN,
+        revents: 0,
+    }];
+    let _ = c::poll(&mut fds, -1);
 }
 
 // A socket whose first bytes, more than so many, must come while there is patience; then reads may wait for
@@ -90,8 +140,22 @@ impl<'a, C: Clock> Read for PatientStream<'a, C> {
     }
 }
 
-fn greet<C: Clock>(clock: &C, alloc: Global, stream: &TcpStream, channel: Channel) -> Option<Peer> {
-    let mut from = StdInlet::new(PatientStream::new(stream, clock, usize::MAX));
+fn greet<R: Wait + Clock>(
+    rt: &R,
+    alloc: Global,
+    throttles: &Throttles,
+    stream: &TcpStream,
+    channel: Channel,
+) -> Option<Peer> {
+    let mut from = StdInlet::new(UnsignedStream {
+        stream: PatientStream::new(stream, rt, usize::MAX),
+        rt,
+        throttles,
+        channel,
+        is_signed: false,
+        patience: PATIENCE_SECONDS * 1_000,
+        read: 0,
+    });
     let mut to = StdOutlet::new(stream);
     match handshake(alloc, &mut from, &mut to, role_of(channel)) {
         Ok(peer) => Some(peer),
@@ -101,16 +165,17 @@ fn greet<C: Clock>(clock: &C, alloc: Global, stream: &TcpStream, channel: Channe
 
 /// Makes the handshake on a socket of a channel, for which there are ten seconds. From then on a read may wait
 /// for ever, and a write ten seconds.
-pub fn meet<C: Clock>(
-    clock: &C,
+pub fn meet<R: Wait + Clock>(
+    rt: &R,
     alloc: Global,
+    throttles: &Throttles,
     stream: &TcpStream,
     channel: Channel,
 ) -> Option<Peer> {
     if prepare(stream).is_err() {
         return None;
     }
-    let peer = greet(clock, alloc, stream, channel)?;
+    let peer = greet(rt, alloc, throttles, stream, channel)?;
     if stream.set_read_timeout(None).is_err() {
         drop(peer);
         return None;

@@ -44,6 +44,11 @@ impl Spot {
         }
     }
 
+    /// Whether somebody sleeps here, or is about to.
+    pub fn has_sleeper(&self) -> bool {
+        self.sleepers.load(Ordering::SeqCst) != 0
+    }
+
     /// Wakes those that wait here.
     pub fn ring(&self) {
         self.add(RING);
@@ -73,7 +78,8 @@ impl Spot {
         unreachable!()
     }
 
-    /// Waits for that too, or until it was called off. Who calls it off is to nudge those that wait here.
+    /// Waits until there were more rings than were seen, or until it was called off; so many there are then. Who calls it
+    /// off is to nudge those that wait here.
     pub fn wait_unless<R: Wait>(&self, rt: &R, seen: u64, is_off: &AtomicBool) -> u64 {
         for _ in rt.forever() {
             let word = self.word.load(Ordering::SeqCst);
@@ -85,7 +91,7 @@ impl Spot {
         unreachable!()
     }
 
-    /// Waits as `wait`, but no longer than so long.
+    /// Waits until there were more rings than were seen or somebody nudged, but no longer than so long.
     pub fn wait_within<R: Wait>(&self, rt: &R, seen: u64, most: Duration) -> u64 {
         let word = self.word.load(Ordering::SeqCst);
         if rings_in(word) == seen && !most.is_zero() {

@@ -1,39 +1,52 @@
 //! The throttles of a server's channels, which its lanes share.
-ghost use Rattle.std.specs.Prelude.{◌≤◌, IfSome};
-
+use crate::stopwatch::Stopwatch;
 use jup_wire::channel::Channel;
+use kern_pace::budget::Budget;
 use kern_pace::throttle::Throttle;
 use std::rt::Clock;
 use std::sync::{Mutex, Wait};
 use std::thread;
-use std::time::{Duration, Instant};
+use std::time::Duration;
 
-// As many milliseconds as are told apart: some 30,000 years.
-const LAST_MILLIS: u128 = 1_000_000_000_000_000;
+// What a channel makes peers wait by.
+#[derive(Drop)]
+struct ChannelThrottle {
+    joins: Mutex<Throttle>,
+    bytes: Mutex<Budget>,
+}
 
-/// A throttle for each channel, and when their server began.
+impl ChannelThrottle {
+    fn new() -> ChannelThrottle {
+        ChannelThrottle {
+            joins: Mutex::new(Throttle::new()),
+            bytes: Mutex::new(Budget::new()),
+        }
+    }
+}
+
+/// For each channel what its peers wait by that have shown no key: how they join, and how their bytes are read.
 #[derive(Drop)]
 pub struct Throttles {
-    begun: Option<Instant>,
-    shell: Mutex<Throttle>,
-    iopub: Mutex<Throttle>,
-    stdin: Mutex<Throttle>,
-    control: Mutex<Throttle>,
+    stopwatch: Stopwatch,
+    shell: ChannelThrottle,
+    iopub: ChannelThrottle,
+    stdin: ChannelThrottle,
+    control: ChannelThrottle,
 }
 
 impl Throttles {
     /// Those of a server that begins now.
     pub fn new<C: Clock>(clock: &C) -> Throttles {
         Throttles {
-            begun: Instant::now(clock).ok(),
-            shell: Mutex::new(Throttle::new()),
-            iopub: Mutex::new(Throttle::new()),
-            stdin: Mutex::new(Throttle::new()),
-            control: Mutex::new(Throttle::new()),
+            stopwatch: Stopwatch::new(clock),
+            shell: ChannelThrottle::new(),
+            iopub: ChannelThrottle::new(),
+            stdin: ChannelThrottle::new(),
+            control: ChannelThrottle::new(),
         }
     }
 
-    fn of(&self, channel: Channel) -> &Mutex<Throttle> {
+    fn of(&self, channel: Channel) -> &ChannelThrottle {
         match channel {
             Channel::Shell => &self.shell,
             Channel::Iopub => &self.iopub,
@@ -42,25 +55,12 @@ impl Throttles {
         }
     }
 
-    // Milliseconds since the server began; none where no clock can be read, and nobody is held back then.
-    fn millis<C: Clock>(&self, clock: &C) -> Option<u64>
-        ensures { IfSome result (λ now. now ≤ 1000000000000000) }
-    {
-        let Some(begun) = &self.begun else {
-            return None;
-        };
-        match begun.elapsed(clock) {
-            Ok(since) => Some(since.as_millis().min(LAST_MILLIS) as u64),
-            Err(_) => None,
-        }
-    }
-
     /// Lets a connection of a channel on, once its turn has come.
     pub fn admit<R: Wait + Clock>(&self, rt: &R, channel: Channel) {
-        let Some(now) = self.millis(rt) else {
+        let Some(now) = self.stopwatch.millis(rt) else {
             return;
         };
-        let wait = self.of(channel).lock(rt).admit(now);
+        let wait = self.of(channel).joins.lock(rt).admit(now);
         if wait > 0 {
             thread::sleep(rt, Duration::from_millis(wait));
         }
@@ -68,8 +68,23 @@ impl Throttles {
 
     /// A stranger has left a channel.
     pub fn add_stranger<R: Wait + Clock>(&self, rt: &R, channel: Channel) {
-        if let Some(now) = self.millis(rt) {
-            self.of(channel).lock(rt).add_stranger(now);
+        if let Some(now) = self.stopwatch.millis(rt) {
+            self.of(channel).joins.lock(rt).add_stranger(now);
+        }
+    }
+
+    /// So many bytes were read on a channel that nobody has signed.
+    pub fn spend<R: Wait + Clock>(&self, rt: &R, channel: Channel, bytes: u32) {
+        if let Some(now) = self.stopwatch.millis(rt) {
+            self.of(channel).bytes.lock(rt).spend(now, u64::from(bytes));
+        }
+    }
+
+    /// How long to wait before more of them are read, in milliseconds.
+    pub fn wait_for_bytes<R: Wait + Clock>(&self, rt: &R, channel: Channel) -> u64 {
+        match self.stopwatch.millis(rt) {
+            Some(now) => self.of(channel).bytes.lock(rt).wait(now),
+            None => 0,
         }
     }
 }

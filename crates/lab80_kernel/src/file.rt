@@ -2,6 +2,7 @@
 use crate::line::say;
 use cli_io::status::Status;
 use jup_connection::connection_file::{ConnectionFile, FileFault};
+use std::os::unix::fs::FileTypeExt;
 use std::rt::Files;
 use std::{fs, io};
 
@@ -14,7 +15,18 @@ fn tell_unread(rt: &impl Print, kind: io::ErrorKind) -> Status {
     }
 }
 
+// Whether it is a pipe: to read one waits for ever if nobody writes to it.
+fn is_pipe<R: Files>(rt: &R, file: &str) -> bool {
+    match fs::metadata(rt, file) {
+        Ok(metadata) => metadata.file_type().is_fifo(),
+        Err(_) => false,
+    }
+}
+
 fn read_bytes<R: Files + Print + AllocGlobal>(rt: &R, file: &str) -> Result<Vec<u8>, Status> {
+    if is_pipe(rt, file) {
+        return Err(say(rt, "read failed", Status::Failed));
+    }
     match fs::read(rt, file) {
         Ok(bytes) => Ok(bytes),
         Err(error) => {

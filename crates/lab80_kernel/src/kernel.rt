@@ -21,19 +21,13 @@ fn tell_unbound(rt: &impl Print, kind: io::ErrorKind) -> Status {
     }
 }
 
-// The listeners of a connection file, once it was said that they listen.
+// The listeners of a connection file.
 fn listen<R: Print + Net<Listener = TcpListener, Stream = TcpStream>>(
     rt: &R,
     file: &ConnectionFile,
 ) -> Result<Listeners, Status> {
     match Listeners::bind(rt, file) {
-        Ok(listeners) => match say(rt, "listening", Status::Success) {
-            Status::Success => Ok(listeners),
-            status => {
-                drop(listeners);
-                Err(status)
-            }
-        },
+        Ok(listeners) => Ok(listeners),
         Err(error) => {
             let kind = error.kind();
             drop(error);
