@@ -17,7 +17,7 @@ SECONDS = 90
 SECONDS_OF_A_FILE = 420
 
 # What takes longest begins first.
-FIRST = ("test_patience", "test_hostile")
+FIRST = ("test_patience", "test_vanish", "test_sharing", "test_hostile")
 
 
 class Late(Exception):

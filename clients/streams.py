@@ -4,9 +4,13 @@ Where eight strangers leave a channel within a second, peers that made their han
 lets twenty connections a second join there. So most streams that break after their handshake say a message first that opens and
 that nobody answers. One of four hundred such streams doesn't: of a thousand streams a second on a channel that makes two strangers
 or three, and the kernel takes all as fast as it can.
+
+Bytes that nobody signed, those of handshakes and all of iopub, wait once a channel has read 256,000 of them, but for the first of each
+connection. So most streams that say more of them than these are left out: of two hundred one stays.
 """
 import collections
 import hmac
+import itertools
 import json
 import random
 import re
@@ -73,6 +77,9 @@ VALUES = (
 
 # The share of strangers among streams that break after their handshake.
 STRANGERS = 1 / 400
+
+# More unsigned bytes than these may wait. The share of streams with more that stay.
+FREE_BYTES, LONG = 90, 1 / 200
 
 # How deep a JSON value may be, and beyond.
 DEPTHS = (126, 127, 128, 129, 1000, 5000)
@@ -344,12 +351,31 @@ def ending_of(dice):
     return "close" if chance < 0.05 else "reset" if chance < 0.08 else "hold" if chance < 0.09 else "half"
 
 
+def unsigned(channel, data):
+    """How many bytes of a stream nobody has signed, as far as its handshake can be told."""
+    if channel == "iopub":
+        return len(data)
+    # A wrong greeting ends a connection at once.
+    is_greeted = data[:1] == b"\xff" and data[9:10] == b"\x7f" and data[10:11] >= b"\x03"
+    if channel == "hb" or not is_greeted:
+        return 0
+    at = data.find(b"\x05READY")
+    if at < 0:
+        return len(data)
+    is_long = data[at - 9:at - 8] == b"\x06"
+    return at + (struct.unpack(">Q", data[at - 8:at])[0] if is_long else data[at - 1])
+
+
 def made(seed, number):
     """The stream of this number. Streams go to the five channels in turn."""
-    dice = random.Random(f"{seed} {number}")
     channel = CHANNELS[number % len(CHANNELS)]
-    kind = dice.choice(tuple(KINDS))
-    data, awaits, is_silent = KINDS[kind](dice, number, channel)
+    for attempt in itertools.count():
+        dice = random.Random(f"{seed} {number} {attempt}")
+        kind = dice.choice(tuple(KINDS))
+        data, awaits, is_silent = KINDS[kind](dice, number, channel)
+        most = len(greeting()) + FREE_BYTES
+        if unsigned(channel, data) <= most or dice.random() < LONG:
+            break
     at = dice.randint(0, len(data)) if dice.random() < 0.25 else len(data)
     pieces = tuple(piece for piece in (data[:at], data[at:]) if piece)
     return Stream(kind, channel, pieces, awaits, is_silent, "half" if awaits else ending_of(dice))

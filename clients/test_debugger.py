@@ -1,4 +1,6 @@
 """Debuggers, in the order in which JupyterLab asks; each message is checked against the protocol's schema."""
+import time
+
 from lab80_client import ENDLESS, Lab
 
 # Two routines, of which the first calls the second.
@@ -196,6 +198,11 @@ class Debugger(Lab):
             {"address": "0x0002", "instructionBytes": "CD 06 00", "instruction": "CALL 00006H"},
             {"address": "0x0005", "instructionBytes": "76", "instruction": "HLT"},
         ])
+        # However large an offset is, its answer doesn't take longer.
+        began = time.monotonic()
+        far = {"memoryReference": "0x0100", "instructionOffset": 4_294_967_295, "instructionCount": 1}
+        self.assertEqual(len(self.debug("disassemble", far)["instructions"]), 1)
+        self.assertLess(time.monotonic() - began, 2)
         self.assertEqual([thread["id"] for thread in self.debug("threads")["threads"]], [1])
         self.debug("boardSwitches", {"value": 90})
         devices = self.debug("variables", {"variablesReference": 3})["variables"]

@@ -45,6 +45,13 @@ class Sizes(Lab):
             self.assertTrue(peer.is_ended())
         self.assertEqual(streams(self.execute(HELLO)[1]), "hello, world\n")
 
+    def test_a_long_topic_is_taken(self):
+        """Only what begins with it would be heard, which is nothing; so a shorter one is heard beside it."""
+        with Peer(self.connection, "iopub") as peer:
+            peer.greet()
+            peer.say(message(b"\x01" + b"t" * 300))
+            self.assertTrue(peer.is_served())
+
     def test_a_long_line_is_read_to_its_end(self):
         line = "".join(chr(ord("a") + at % 26) for at in range(60_000))
         number = self.client.execute(ECHOES, allow_stdin=True)

@@ -1,0 +1,267 @@
+"""A board that many share: how fast a cell runs while others look, what a look costs, what peers without the key can take, and who
+is let go."""
+import datetime
+import os
+import tempfile
+import threading
+import time
+import unittest
+
+from jupyter_client import write_connection_file
+from jupyter_client.session import Session
+
+from lab80_client import Lab, PATIENCE, printing, start_alone, streams
+from zmtp import Peer, greeting, message, ready
+
+# As many connections as a channel has places.
+PLACES = 16
+
+# Counts in D and E, 65,536 rounds of three instructions for each count.
+COUNTS = """\
+START:  LXI D,0
+ROUND:  LXI B,0
+NEXT:   DCX B
+        MOV A,B
+        ORA C
+        JNZ NEXT
+        INX D
+        JMP ROUND
+        END START
+"""
+
+# How long a cell takes its first thousand million instructions at full speed, at most, in seconds, and how long its pace is measured.
+FULL_SPEED, MEASURED = 12, 5
+
+LOOK = {"type": "request", "seq": 1, "command": "variables", "arguments": {"variablesReference": 3}}
+
+
+def ask(session, kind, content=None):
+    """A signed request, as it goes over the wire."""
+    return message(*session.serialize(session.msg(kind, content or {})))
+
+
+class Panels:
+    """Front panels: each follows the lamps, two looks a second, and hears iopub."""
+
+    def __init__(self, connection, count):
+        self.is_over, self.wrong, self.looks = threading.Event(), None, 0
+        self.threads = [threading.Thread(target=self.follow, args=(connection, at), daemon=True) for at in range(count)]
+
+    def follow(self, connection, at):
+        session = Session(key=connection["key"].encode())
+        try:
+            with Peer(connection, "control") as control, Peer(connection, "iopub") as iopub:
+                control.greet()
+                iopub.greet().say(message(b"\x01"))
+                iopub.stream.setblocking(False)
+                self.is_over.wait(at / 2 / len(self.threads))
+                while not self.is_over.wait(0.5):
+                    control.say(ask(session, "debug_request", LOOK))
+                    assert b'"debug_reply"' in control.receive_message()[2]
+                    self.looks += 1
+                    self.drain(iopub)
+        except Exception as wrong:
+            self.wrong = wrong
+
+    @staticmethod
+    def drain(peer):
+        try:
+            while peer.stream.recv(65_536):
+                pass
+        except BlockingIOError:
+            pass
+
+    def __enter__(self):
+        for thread in self.threads:
+            thread.start()
+        return self
+
+    def __exit__(self, *_):
+        self.is_over.set()
+        for thread in self.threads:
+            thread.join()
+
+
+class Pace(Lab):
+    seconds = 120
+
+    def count(self):
+        """How far the cell has counted, and when."""
+        found = {it["name"]: int(it["value"].rstrip("H"), 16)
+                 for it in self.debug("variables", {"variablesReference": 1})["variables"] if len(it["name"]) == 1}
+        return found["D"] * 256 + found["E"], time.monotonic()
+
+    def rate(self):
+        """How far it counts in a second."""
+        first, began = self.count()
+        time.sleep(MEASURED)
+        last, ended = self.count()
+        return ((last - first) % 65_536) / (ended - began)
+
+    def test_a_cell_keeps_its_pace_while_sixteen_look(self):
+        number = self.client.execute(COUNTS)
+        self.wait_for("execute_input")
+        time.sleep(FULL_SPEED)
+        alone = self.rate()
+        # One place of control and one of iopub are this client's own.
+        with Panels(self.connection, PLACES - 1) as panels:
+            time.sleep(1)
+            looked_at = self.rate()
+        self.assertIsNone(panels.wrong)
+        self.assertGreater(panels.looks, (PLACES - 1) * MEASURED)
+        self.assertGreater(alone, 0)
+        self.assertGreaterEqual(looked_at, alone / 3, f"{alone:.2f} alone, {looked_at:.2f} while others look")
+        self.control("interrupt")
+        self.assertEqual(self.reply(number)["content"]["ename"], "Interrupted")
+
+    def test_a_hundred_million_instructions_take_seconds(self):
+        began = time.monotonic()
+        cell = "LXI D,340\nROUND: LXI B,0\nNEXT: DCX B\nMOV A,B\nORA C\nJNZ NEXT\nDCX D\nMOV A,D\nORA E\nJNZ ROUND\nHLT\nEND 0\n"
+        self.assertEqual(self.execute(cell)[0]["status"], "ok")
+        self.assertLess(time.monotonic() - began, 8)
+
+    def test_statuses_of_a_look_come_within_a_quarter_of_a_second(self):
+        """Its reply doesn't wait for them. They come while nothing runs, and while a cell runs."""
+        for is_running in (False, True):
+            with self.subTest(is_running=is_running):
+                if is_running:
+                    self.run_endless()
+                request = self.client.session.msg("debug_request", LOOK)
+                began = time.monotonic()
+                self.client.control_channel.send(request)
+                self.answer(self.client.get_control_msg, request["header"]["msg_id"])
+                self.assertLess(time.monotonic() - began, 0.1)
+                self.assertEqual(self.posts(request["header"]["msg_id"]), [])
+                # A busy machine may take somewhat longer.
+                self.assertLess(time.monotonic() - began, 0.5)
+        self.control("interrupt")
+
+    def test_output_comes_while_many_hear_it_and_look(self):
+        others = [self.enterContext(Peer(self.connection, "iopub")).greet() for _ in range(PLACES - 1)]
+        for other in others:
+            self.assertTrue(other.is_served())
+        for text in ("first", "second", "third"):
+            began = time.monotonic()
+            cell = printing(text).replace("HLT\nEND 0\n", "X: JMP X\nEND 0\n")
+            number = self.client.execute(cell)
+            shown = ""
+            while shown != text:
+                shown += self.wait_for("stream")["content"]["text"]
+            self.assertLess(time.monotonic() - began, 2)
+            self.control("interrupt")
+            self.assertEqual(self.reply(number)["content"]["ename"], "Interrupted")
+
+    def test_messages_have_the_date_of_now(self):
+        number = self.client.execute(printing("x"))
+        stream = self.wait_for("stream")
+        for sent in (stream, self.reply(number)):
+            age = datetime.datetime.now(datetime.timezone.utc) - sent["header"]["date"]
+            self.assertLess(abs(age.total_seconds()), 5, sent["msg_type"])
+
+
+class Strangers(unittest.TestCase):
+    """Peers without the key, of a kernel of their own."""
+
+    seconds = 150
+
+    def setUp(self):
+        folder = self.enterContext(tempfile.TemporaryDirectory())
+        self.path, self.connection = write_connection_file(os.path.join(folder, "connection.json"), key=b"key")
+        self.kernel = start_alone(self.path)
+        self.addCleanup(self.kernel.communicate)
+        self.addCleanup(self.kernel.kill)
+
+    def program(self):
+        """The number of the kernel's own process."""
+        return self.kernel.pid
+
+    def memory(self, name="VmRSS"):
+        """What the kernel takes, or the most that it took (VmHWM), in bytes."""
+        with open(f"/proc/{self.program()}/status", encoding="ascii") as file:
+            return next(int(line.split()[1]) * 1024 for line in file if line.startswith(name + ":"))
+
+    def flood(self, channel, said, until):
+        """One peer after another that says this without an end."""
+        while time.monotonic() < until:
+            try:
+                with Peer(self.connection, channel) as peer:
+                    peer.stream.settimeout(max(until - time.monotonic(), 0.1))
+                    while time.monotonic() < until:
+                        peer.say(said)
+            except OSError:
+                pass
+
+    def test_memory_of_peers_without_the_key(self):
+        """A hundred peers subscribe by a mebibyte each, or say that it is their identity, for eight seconds; a client with the key is
+        answered meanwhile, and its first cell, which is long, too."""
+        shake = greeting() + ready(b"SUB")
+        topic = message(b"\x01" + bytes(1_000_000))
+        named = greeting() + ready(b"DEALER", (b"Identity", b"i" * 1_000_000))
+        until = time.monotonic() + 8
+        honest = [self.enterContext(Peer(self.connection, channel)) for channel in ("shell", "control")]
+        honest[1].greet()
+        peers = [("iopub", shake + topic)] * 40 + [("shell", named)] * 20 + [("stdin", named)] * 20 + [("control", named)] * 20
+        threads = [threading.Thread(target=self.flood, args=(*peer, until), daemon=True) for peer in peers]
+        for thread in threads:
+            thread.start()
+        cell = ";" * 1_000 + "\n" + f"{';' * 250}\n" * 3_000 + printing("x")
+        honest[0].greet().say(ask(Session(key=b"key"), "execute_request", {"code": cell}))
+        began = time.monotonic()
+        self.assertIn(b'"execute_reply"', honest[0].receive_message()[2])
+        self.assertLess(time.monotonic() - began, 5)
+        while time.monotonic() < until:
+            began = time.monotonic()
+            self.assertTrue(honest[1].is_served())
+            self.assertLess(time.monotonic() - began, 1)
+            time.sleep(0.1)
+        for thread in threads:
+            thread.join()
+        self.assertLess(self.memory("VmHWM"), 60_000_000)
+        self.assertIsNone(self.kernel.poll())
+
+    def test_a_silent_peer_is_let_go_where_another_waits(self):
+        """And only there: on control one place is free."""
+        peers = [self.enterContext(Peer(self.connection, "shell")).greet() for _ in range(PLACES)]
+        others = [self.enterContext(Peer(self.connection, "control")).greet() for _ in range(PLACES - 1)]
+        self.assertTrue(peers[0].is_served())
+        began = time.monotonic()
+        with Peer(self.connection, "shell") as newcomer:
+            newcomer.stream.settimeout(90)
+            self.assertTrue(newcomer.greet().is_served())
+        self.assertGreater(time.monotonic() - began, 55)
+        # The one that was heard is still there, and so are all but one of the others.
+        self.assertTrue(peers[0].is_served())
+        self.assertEqual(sum(peer.is_ended(0.1) for peer in peers[1:]), 1)
+        with Peer(self.connection, "control") as newcomer:
+            self.assertTrue(newcomer.greet().is_served())
+        for other in others:
+            self.assertTrue(other.is_served())
+
+    def test_strangers_of_iopub_hold_nobody_of_shell_up(self):
+        until = time.monotonic() + 3
+        said = greeting() + ready(b"SUB")
+
+        def come():
+            while time.monotonic() < until:
+                with Peer(self.connection, "iopub") as peer:
+                    peer.say(said)
+                    peer.stream.shutdown(1)
+                    peer.is_ended(PATIENCE)
+
+        threads = [threading.Thread(target=come, daemon=True) for _ in range(8)]
+        for thread in threads:
+            thread.start()
+        time.sleep(1)
+        while time.monotonic() < until:
+            began = time.monotonic()
+            with Peer(self.connection, "shell") as shell:
+                self.assertTrue(shell.greet().is_served())
+            # Those that came before it made two strangers of shell at the most.
+            self.assertLess(time.monotonic() - began, 0.5)
+            time.sleep(0.2)
+        for thread in threads:
+            thread.join()
+
+
+if __name__ == "__main__":
+    unittest.main()
