@@ -32,11 +32,11 @@ use Rattle.kern_net.specs.Calls.{TurnedBy, LastCall}
 use Rattle.kern_net.proofs.CallLemmas.{turned_prefix, last_call}
 use Rattle.kern_net.specs.declared.pump_out.Batch.{Batch}
 use Rattle.kern_net.specs.Streams.{posts_in, window, IsStreamOf}
-use Rattle.kern_net.specs.declared.pump_out.OutgoingRoute.{OutgoingRoute}
+use Rattle.kern_net.specs.Routes.{Target}
 use Rattle.kern_net.specs.Out.{FetchedOn, OneFetch, StopsFetching, Writer, is_whole, WroteFront, WroteAll}
 use Rattle.kern_net.specs.Out.{WroteOut, OutEnds}
 use Rattle.kern_net.specs.Rounds.{Answers, Denied, IsWorn, IsRefused, Cut, IsUnfit, IsFailed, Went, Halted}
-use Rattle.kern_net.specs.Rounds.{IsDenied, IsCut}
+use Rattle.kern_net.specs.Rounds.{IsDenied, IsCut, Sender}
 use Rattle.kern_net.proofs.StreamLemmas.{no_posts, stream-append}
 use Rattle.kern_net.proofs.GrowLemmas.{Grows, posts_grow}
 use Rattle.kern_net.proofs.FetchLemmas.{Gives, gives, reaches}
@@ -52,14 +52,14 @@ window_begins c from k P Y h =
     ]
 
 -- it stays the same where posts come behind
-window_kept : (c from next : ℕ) (P Q : List Post) → Grows P Q → next - from ≤ length (drop (from - 1) P)
+pub window_kept : (c from next : ℕ) (P Q : List Post) → Grows P Q → next - from ≤ length (drop (from - 1) P)
     → window c from next Q ≡ window c from next P
 unfolding window
 window_kept c from next P Q g h =
     ap (λ l. filter (is_to c) (take (next - from) (drop (from - 1) l))) g.whole
     ∙ ap (filter (is_to c)) (window_begins c from (next - from) P g.more h)
 
-length_grows : (from : ℕ) (P Q : List Post) → Grows P Q
+pub length_grows : (from : ℕ) (P Q : List Post) → Grows P Q
     → length (drop (from - 1) P) ≤ length (drop (from - 1) Q)
 length_grows from P Q g =
     let w = ap length g.whole in
@@ -88,52 +88,55 @@ window_none : (c from : ℕ) (P : List Post) → window c from from P ≡ []
 unfolding window
 window_none c from P = let z : from - from ≡ 0 = omega arith in rw z refl
 
-abbrev pub writer : OutletState → PassState Call → Writer
-writer outlet pass = record { outlet = outlet; pass = pass }
+abbrev pub sender : OutletState → PassState Call → Sender
+sender outlet pass = record { outlet = outlet; pass = pass }
+
+abbrev pub writer : OutletState → PassState Call → WriterPolls → Writer
+writer outlet pass polls = record { outlet = outlet; pass = pass; polls = polls }
 
 -- ---- what was told
 
-pub all_none : (route : OutgoingRoute) (a : OutletState) → WroteAll route a a []
-all_none route a = record {
+pub all_none : (target : Target) (a : OutletState) → WroteAll target a a []
+all_none target a = record {
   bytes = [];
-  stream = no_posts route.key.now route.session.now;
+  stream = no_posts target.key target.session;
   took = told_none
       a.taken;
 }
 
-pub all_on : (route : OutgoingRoute) (a b d : OutletState) (xs ys : List Post)
-    → WroteAll route a b xs → WroteAll route b d ys → WroteAll route a d (xs ++ ys)
-all_on route a b d xs ys s t = record {
+pub all_on : (target : Target) (a b d : OutletState) (xs ys : List Post)
+    → WroteAll target a b xs → WroteAll target b d ys → WroteAll target a d (xs ++ ys)
+all_on target a b d xs ys s t = record {
   bytes = s.bytes ++ t.bytes;
-  stream = stream-append route.key.now route.session.now xs ys s.bytes t.bytes s.stream t.stream;
+  stream = stream-append target.key target.session xs ys s.bytes t.bytes s.stream t.stream;
   took = told_on a.taken b.taken d.taken s.bytes t.bytes s.took t.took;
 }
 
-pub all_front : (route : OutgoingRoute) (a b d : OutletState) (xs ys : List Post)
-    → WroteAll route a b xs → WroteFront route b d ys → WroteFront route a d (xs ++ ys)
-all_front route a b d xs ys s t = record {
+pub all_front : (target : Target) (a b d : OutletState) (xs ys : List Post)
+    → WroteAll target a b xs → WroteFront target b d ys → WroteFront target a d (xs ++ ys)
+all_front target a b d xs ys s t = record {
   begun = xs ++ t.begun;
   others = t.others;
   split = ap (λ l. xs ++ l) t.split ∙ sym (append_assoc xs t.begun t.others);
   bytes = s.bytes ++ t.bytes;
-  stream = stream-append route.key.now route.session.now xs t.begun s.bytes t.bytes s.stream t.stream;
+  stream = stream-append target.key target.session xs t.begun s.bytes t.bytes s.stream t.stream;
   front = front_on a.taken b.taken d.taken s.bytes t.bytes s.took t.front;
 }
 
 -- nothing is a front of all
-pub no_front : (route : OutgoingRoute) (a : OutletState) (xs : List Post) → WroteFront route a a xs
-no_front route a xs = record {
+pub no_front : (target : Target) (a : OutletState) (xs : List Post) → WroteFront target a a xs
+no_front target a xs = record {
   begun = [];
   others = xs;
   split = refl;
   bytes = [];
-  stream = no_posts route.key.now route.session.now;
+  stream = no_posts target.key target.session;
   front = front_all a.taken a.taken [] (told_none a.taken);
 }
 
-whole_front : (route : OutgoingRoute) (a b : OutletState) (xs : List Post) → WroteAll route a b xs
-    → WroteFront route a b xs
-whole_front route a b xs s = record {
+whole_front : (target : Target) (a b : OutletState) (xs : List Post) → WroteAll target a b xs
+    → WroteFront target a b xs
+whole_front target a b xs s = record {
   begun = xs;
   others = [];
   split = sym (append-nil xs);
@@ -142,10 +145,10 @@ whole_front route a b xs s = record {
   front = front_all a.taken b.taken s.bytes s.took;
 }
 
-pub front_of : (route : OutgoingRoute) (a b : OutletState) (posts : List Post) (bytes slice : List ℕ)
-    → IsStreamOf route.key.now route.session.now posts bytes → slice ≡ bytes → TookFront a b slice
-    → WroteFront route a b posts
-front_of route a b posts bytes slice s e f =
+pub front_of : (target : Target) (a b : OutletState) (posts : List Post) (bytes slice : List ℕ)
+    → IsStreamOf target.key target.session posts bytes → slice ≡ bytes → TookFront a b slice
+    → WroteFront target a b posts
+front_of target a b posts bytes slice s e f =
     let F : List ℕ → Type 0 = λ l. TookFront a b l in
     record {
       begun = posts;
@@ -158,38 +161,38 @@ front_of route a b posts bytes slice s e f =
 
 -- ---- what was written for the posts below a number
 
-pub record Written (route : OutgoingRoute) (before after : OutletState) (from next : ℕ)
+pub record Written (target : Target) (before after : OutletState) (from next : ℕ)
     (history : List (ℕ × Call)) : Type 0 where
   pub onward : from ≤ next
   pub one : (next ≡ from) ⊎ (1 ≤ from)
   pub within : next - from ≤ length (drop (from - 1) (posts_in history))
-  pub all : WroteAll route before after (window route.connection from next (posts_in history))
+  pub all : WroteAll target before after (window target.connection from next (posts_in history))
 
-pub written_first : (route : OutgoingRoute) (a : OutletState) (from : ℕ)
-    (history : List (ℕ × Call)) → Written route a a from from history
-written_first route a from history =
-    let A : List Post → Type 0 = λ l. WroteAll route a a l in
+pub written_first : (target : Target) (a : OutletState) (from : ℕ)
+    (history : List (ℕ × Call)) → Written target a a from from history
+written_first target a from history =
+    let A : List Post → Type 0 = λ l. WroteAll target a a l in
     record {
       onward = omega arith;
       one = inl refl;
       within = omega arith;
-      all = subst A (sym (window_none route.connection from (posts_in history))) (all_none route a);
+      all = subst A (sym (window_none target.connection from (posts_in history))) (all_none target a);
     }
 
 -- in a longer history
-pub written_kept : (route : OutgoingRoute) (a b : OutletState) (from next : ℕ)
-    (old new : List (ℕ × Call)) → IsPrefix old new → Written route a b from next old
-    → Written route a b from next new
-written_kept route a b from next old new p w =
+pub written_kept : (target : Target) (a b : OutletState) (from next : ℕ)
+    (old new : List (ℕ × Call)) → IsPrefix old new → Written target a b from next old
+    → Written target a b from next new
+written_kept target a b from next old new p w =
     let g = posts_grow old new p in
-    let A : List Post → Type 0 = λ l. WroteAll route a b l in
+    let A : List Post → Type 0 = λ l. WroteAll target a b l in
     let l = length_grows from (posts_in old) (posts_in new) g in
     let h = w.within in
     record {
       onward = w.onward;
       one = w.one;
       within = omega (arith, l, h);
-      all = subst A (sym (window_kept route.connection from next (posts_in old)
+      all = subst A (sym (window_kept target.connection from next (posts_in old)
           (posts_in new) g w.within)) w.all;
     }
 
@@ -212,41 +215,54 @@ from_one from f h (inl e) = subst (λ n. 1 ≤ n) e h
 from_one from f h (inr k) = k
 
 -- the window goes on
-joined : (route : OutgoingRoute) (a b : OutletState) (from f next : ℕ) (history : List (ℕ × Call))
-    (posts : List Post) → Written route a b from f history
-    → Gives route.connection f (posts_in history) posts next
-    → window route.connection from f (posts_in history) ++ posts ≡ window route.connection from next
+joined : (target : Target) (a b : OutletState) (from f next : ℕ) (history : List (ℕ × Call))
+    (posts : List Post) → Written target a b from f history
+    → Gives target.connection f (posts_in history) posts next
+    → window target.connection from f (posts_in history) ++ posts ≡ window target.connection from next
     (posts_in history)
-joined route a b from f next history posts w g =
-    ap (λ l. window route.connection from f (posts_in history) ++ l) g.posts_are
-    ∙ window_joins route.connection from f next (posts_in history)
+joined target a b from f next history posts w g =
+    ap (λ l. window target.connection from f (posts_in history) ++ l) g.posts_are
+    ∙ window_joins target.connection from f next (posts_in history)
     (from_one from f g.one w.one) w.onward g.onward
 
-window_on : (route : OutgoingRoute) (a b d : OutletState) (from f next : ℕ)
-    (history : List (ℕ × Call)) (posts : List Post) → Written route a b from f history
-    → Gives route.connection f (posts_in history) posts next → WroteFront route b d posts
-    → WroteFront route a d (window route.connection from next (posts_in history))
-window_on route a b d from f next history posts w g t =
-    let F : List Post → Type 0 = λ l. WroteFront route a d l in
-    subst F (joined route a b from f next history posts w g)
-    (all_front route a b d (window route.connection from f (posts_in history)) posts w.all t)
+window_on : (target : Target) (a b d : OutletState) (from f next : ℕ)
+    (history : List (ℕ × Call)) (posts : List Post) → Written target a b from f history
+    → Gives target.connection f (posts_in history) posts next → WroteFront target b d posts
+    → WroteFront target a d (window target.connection from next (posts_in history))
+window_on target a b d from f next history posts w g t =
+    let F : List Post → Type 0 = λ l. WroteFront target a d l in
+    subst F (joined target a b from f next history posts w g)
+    (all_front target a b d (window target.connection from f (posts_in history)) posts w.all t)
 
-written_on : (route : OutgoingRoute) (a b d : OutletState) (from f next : ℕ)
-    (history : List (ℕ × Call)) (posts : List Post) → Written route a b from f history
-    → Gives route.connection f (posts_in history) posts next → WroteAll route b d posts
-    → Written route a d from next history
-written_on route a b d from f next history posts w g t =
+goes_on : (target : Target) (a b : OutletState) (from f next : ℕ) (history : List (ℕ × Call))
+    (posts : List Post) → Written target a b from f history
+    → Gives target.connection f (posts_in history) posts next → from ≤ next
+goes_on target a b from f next history posts w g =
+    let o = w.onward in let n = g.onward in omega (arith, o, n)
+
+goes_within : (target : Target) (a b : OutletState) (from f next : ℕ) (history : List (ℕ × Call))
+    (posts : List Post) → Written target a b from f history
+    → Gives target.connection f (posts_in history) posts next
+    → next - from ≤ length (drop (from - 1) (posts_in history))
+goes_within target a b from f next history posts w g =
     let P = posts_in history in
-    let A : List Post → Type 0 = λ l. WroteAll route a d l in
     let one = from_one from f g.one w.one in
     let h = w.within in let k = g.within in let o = w.onward in let n = g.onward in
+    omega (arith, h, k, o, n, one, length-drop (from - 1) P, length-drop (f - 1) P)
+
+written_on : (target : Target) (a b d : OutletState) (from f next : ℕ)
+    (history : List (ℕ × Call)) (posts : List Post) → Written target a b from f history
+    → Gives target.connection f (posts_in history) posts next → WroteAll target b d posts
+    → Written target a d from next history
+written_on target a b d from f next history posts w g t =
+    let A : List Post → Type 0 = λ l. WroteAll target a d l in
     record {
-      onward = omega (arith, o, n);
-      one = inr one;
-      within = omega (arith, h, k, o, n, one, length-drop (from - 1) P, length-drop (f - 1) P);
+      onward = goes_on target a b from f next history posts w g;
+      one = inr (from_one from f g.one w.one);
+      within = goes_within target a b from f next history posts w g;
       all =
-          subst A (joined route a b from f next history posts w g)
-          (all_on route a b d (window route.connection from f P) posts w.all t);
+          subst A (joined target a b from f next history posts w g)
+          (all_on target a b d (window target.connection from f (posts_in history)) posts w.all t);
     }
 
 -- ---- the Fetches
@@ -271,10 +287,10 @@ moved c f v w posts next ended t =
       calls = e.counted;
     }
 
-pub went_calls : (route : OutgoingRoute) (b d : OutletState) (f next : ℕ) (ended : Bool)
-    (v w : PassState Call) → Went route f (writer b v) (writer d w) (next, ended)
-    → w.calls ≡ v.calls ++ Fetch route.connection f ∷ []
-went_calls route b d f next ended v w s = (s.turned.entered refl).counted
+pub went_calls : (target : Target) (b d : OutletState) (f next : ℕ) (ended : Bool)
+    (v w : PassState Call) → Went target f (sender b v) (sender d w) (next, ended)
+    → w.calls ≡ v.calls ++ Fetch target.connection f ∷ []
+went_calls target b d f next ended v w s = (s.turned.entered refl).counted
 
 -- a refusal
 pub denied_by : (c f : ℕ) (v w : PassState Call) (answer : Result Reply KernelFault)
@@ -287,43 +303,114 @@ denied_by c f v w answer (Err e) t (x, is, same) =
 
 -- ---- rounds
 
-pub went_on : (route : OutgoingRoute) (a b d : OutletState) (from f next : ℕ) (ended : Bool)
-    (v w : PassState Call) → Written route a b from f v.seen
-    → Went route f (writer b v) (writer d w) (next, ended)
-    → Written route a d from next w.seen
-went_on route a b d from f next ended v w r s =
-    let k = moved route.connection f v w s.posts next ended s.turned in
-    written_on route a b d from f next w.seen s.posts
-    (written_kept route a b from f v.seen w.seen k.onward r) k.given s.all
+pub went_on : (target : Target) (a b d : OutletState) (from f next : ℕ) (ended : Bool)
+    (v w : PassState Call) → Written target a b from f v.seen
+    → Went target f (sender b v) (sender d w) (next, ended)
+    → Written target a d from next w.seen
+went_on target a b d from f next ended v w r s =
+    let k = moved target.connection f v w s.posts next ended s.turned in
+    written_on target a b d from f next w.seen s.posts
+    (written_kept target a b from f v.seen w.seen k.onward r) k.given s.all
 
-pub went_fetched : (route : OutgoingRoute) (b d : OutletState) (from f next : ℕ) (ended : Bool)
-    (o v w : PassState Call) → FetchedOn route.connection from o v f
-    → Went route f (writer b v) (writer d w) (next, ended) → FetchedOn route.connection from o w next
-went_fetched route b d from f next ended o v w k s = OneFetch v w f next s.posts ended k s.turned
+pub went_fetched : (target : Target) (b d : OutletState) (from f next : ℕ) (ended : Bool)
+    (o v w : PassState Call) → FetchedOn target.connection from o v f
+    → Went target f (sender b v) (sender d w) (next, ended) → FetchedOn target.connection from o w next
+went_fetched target b d from f next ended o v w k s = OneFetch v w f next s.posts ended k s.turned
 
-pub went_longer : (route : OutgoingRoute) (b d : OutletState) (f next : ℕ) (ended : Bool)
-    (v w : PassState Call) → Went route f (writer b v) (writer d w) (next, ended)
+pub went_longer : (target : Target) (b d : OutletState) (f next : ℕ) (ended : Bool)
+    (v w : PassState Call) → Went target f (sender b v) (sender d w) (next, ended)
     → length w.calls ≡ length v.calls + 1
-went_longer route b d f next ended v w s =
-    ap length (went_calls route b d f next ended v w s)
-    ∙ length-append v.calls (Fetch route.connection f ∷ [])
+went_longer target b d f next ended v w s =
+    ap length (went_calls target b d f next ended v w s)
+    ∙ length-append v.calls (Fetch target.connection f ∷ [])
+
+-- ---- how it ends
+
+ends_as : (c next : ℕ) (x : Writer) (e e' : PumpEnd) → e ≡ e' → OutEnds c next x e' → OutEnds c next x e
+ends_as c next x e e' k h = let E : PumpEnd → Type 0 = λ y. OutEnds c next x y in subst E (sym k) h
+
+refused_ends : (c next : ℕ) (x : Writer) (fault : KernelFault)
+    → IsWritable x.outlet × (x.polls.idle.no ≡ 0) → OutEnds c next x (end_by_kernel fault)
+refused_ends c next x fault.OutOfMemory n = n
+refused_ends c next x fault.JournalFull n = n
+refused_ends c next x (fault.Lagged first) n = n
+refused_ends c next x fault.Full n = n
+refused_ends c next x fault.NoConnection n = n
+
+denied_ends : (c f next : ℕ) (v w : PassState Call) (x : Writer) (e : PumpEnd) → x.polls.idle.no ≡ 0
+    → IsWritable x.outlet → Denied c v w f e → OutEnds c next x e
+denied_ends c f next v w x e o n (IsWorn e1 h k) = ends_as c next x e end.Worn h (n, o)
+denied_ends c f next v w x e o n (IsRefused e1 fault h t) =
+    ends_as c next x e (end_by_kernel fault) h (refused_ends c next x fault (n, o))
+
+cut_ends : (target : Target) (b : OutletState) (next : ℕ) (x : Writer) (posts : List Post) (e : PumpEnd)
+    → x.polls.idle.no ≡ 0 → Cut target b x.outlet posts e → OutEnds target.connection next x e
+cut_ends target b next x posts e o (IsUnfit e1 h same n) =
+    ends_as target.connection next x e end.OutOfMemory h (n, o)
+cut_ends target b next x posts e o (IsFailed e1 h front n) =
+    ends_as target.connection next x e end.WriteFailed h (n, o)
+
+-- the Fetch left no post
+fetched_all : (target : Target) (b d : OutletState) (f next : ℕ) (ended : Bool) (v w : PassState Call)
+    → Went target f (sender b v) (sender d w) (next, ended) → next - f < 64
+    → FetchedAll target.connection w next ended
+fetched_all target b d f next ended v w s short =
+    let last = last_call v w (Fetch target.connection f) (Ok (reply.Fetched s.posts next ended)) refl
+    s.turned in
+    record {
+      from = f;
+      posts = s.posts;
+      last = last;
+      all = reaches last.before target.connection f s.posts next ended last.answered short;
+    }
+
+pub went_up : (target : Target) (b d : OutletState) (f next : ℕ) (ended : Bool) (v w : PassState Call)
+    → Went target f (sender b v) (sender d w) (next, ended) → next - f < 64 → HasCaughtUp w next
+went_up target b d f next ended v w s short =
+    (target.connection, ended, fetched_all target b d f next ended v w s short)
+
+pub said_no : (a b : WriterPolls) (r : Bool) → b.idle ≡ with_answer r a.idle → r ≡ false → a.idle.no ≡ 0
+    → b.idle.no ≡ 1
+said_no a b true e n z = absurd cc
+said_no a b false e n z = let y = ap (λ (x : AnswerCounts). x.no) e in omega (arith, y, z)
 
 -- it ended after a whole round
-pub went_done : (route : OutgoingRoute) (a b d : OutletState) (from f next : ℕ) (ended : Bool)
-    (o v w : PassState Call) → Written route a b from f v.seen → FetchedOn route.connection from o v f
-    → Went route f (writer b v) (writer d w) (next, ended)
-    → WroteOut route from (writer a o) (writer d w) end.Ended
-went_done route a b d from f next ended o v w r k s =
-    let t = went_on route a b d from f next ended v w r s in
+went_done : (target : Target) (a b d : OutletState) (p q : WriterPolls) (from f next : ℕ) (ended : Bool)
+    (o v w : PassState Call) → Written target a b from f v.seen → FetchedOn target.connection from o v f
+    → Went target f (sender b v) (sender d w) (next, ended)
+    → OutEnds target.connection next (writer d w q) end.Ended
+    → WroteOut target from (writer a o p) (writer d w q) end.Ended
+went_done target a b d p q from f next ended o v w r k s cause =
+    let t = went_on target a b d from f next ended v w r s in
     record {
       mid = w;
       next = next;
       onward = t.onward;
-      fetched = went_fetched route b d from f next ended o v w k s;
+      within = t.within;
+      fetched = went_fetched target b d from f next ended o v w k s;
       last = refl;
-      front = whole_front route a d (window route.connection from next (posts_in w.seen)) t.all;
+      front = whole_front target a d (window target.connection from next (posts_in w.seen)) t.all;
       whole = λ h. t.all;
+      cause = cause;
     }
+
+-- since a shutdown was seen
+pub went_over : (target : Target) (a b d : OutletState) (p q : WriterPolls) (from f next : ℕ) (ended : Bool)
+    (o v w : PassState Call) → Written target a b from f v.seen → FetchedOn target.connection from o v f
+    → Went target f (sender b v) (sender d w) (next, ended) → IsWritable d → next - f < 64 → q.idle.no ≡ 0
+    → ended ≡ true → WroteOut target from (writer a o p) (writer d w q) end.Ended
+went_over target a b d p q from f next ended o v w r k s good short still shut =
+    went_done target a b d p q from f next ended o v w r k s
+    (good, (ended, fetched_all target b d f next ended v w s short, inr (still, shut)))
+
+-- since the gate has said no
+pub went_closed : (target : Target) (a b d : OutletState) (p q : WriterPolls) (from f next : ℕ) (ended : Bool)
+    (o v w : PassState Call) → Written target a b from f v.seen → FetchedOn target.connection from o v f
+    → Went target f (sender b v) (sender d w) (next, ended) → IsWritable d → next - f < 64 → q.idle.no ≡ 1
+    → WroteOut target from (writer a o p) (writer d w q) end.Ended
+went_closed target a b d p q from f next ended o v w r k s good short closed =
+    went_done target a b d p q from f next ended o v w r k s
+    (good, (ended, fetched_all target b d f next ended v w s short, inl closed))
 
 -- no Fetch came after those that were answered
 stops_cut : (c next : ℕ) (w : PassState Call) (e : PumpEnd) → is_whole e ≡ false → StopsFetching c next w w e
@@ -337,8 +424,8 @@ stops_refused : (c f : ℕ) (v w : PassState Call) (x : KernelFault) → TurnedB
 stops_refused c f v w fault.OutOfMemory t = inr t
 stops_refused c f v w fault.JournalFull t = t
 stops_refused c f v w (fault.Lagged first) t = (first, t)
-stops_refused c f v w fault.Full t = t
-stops_refused c f v w fault.NoConnection t = t
+stops_refused c f v w fault.Full t = (t, refl)
+stops_refused c f v w fault.NoConnection t = (t, refl)
 
 stops_as : (c f : ℕ) (v w : PassState Call) (e e' : PumpEnd) → e ≡ e' → StopsFetching c f v w e'
     → StopsFetching c f v w e
@@ -346,130 +433,76 @@ stops_as c f v w e e' k h =
     let E : PumpEnd → Type 0 = λ x. StopsFetching c f v w x in subst E (sym k) h
 
 -- it ended in a round
-module _ (route : OutgoingRoute) (a b d : OutletState) (from f : ℕ) (o v w : PassState Call)
-    (written : Written route a b from f v.seen) (fetched : FetchedOn route.connection from o v f) where
-  standing : (e : PumpEnd) → IsPrefix v.seen w.seen → StopsFetching route.connection f v w e → d ≡ b
-      → WroteOut route from (writer a o) (writer d w) e
-  standing e p last same =
-      let kept = written_kept route a b from f v.seen w.seen p written in
+module _ (target : Target) (a b d : OutletState) (p q : WriterPolls) (from f : ℕ) (o v w : PassState Call)
+    (written : Written target a b from f v.seen) (fetched : FetchedOn target.connection from o v f)
+    (still : q.idle.no ≡ 0) where
+  standing : (e : PumpEnd) → IsPrefix v.seen w.seen → StopsFetching target.connection f v w e → d ≡ b
+      → OutEnds target.connection f (writer d w q) e → WroteOut target from (writer a o p) (writer d w q) e
+  standing e onward last same cause =
+      let kept = written_kept target a b from f v.seen w.seen onward written in
       let T : OutletState
-      → Type 0 = λ x. WroteAll route a x (window route.connection from f (posts_in w.seen)) in
+      → Type 0 = λ x. WroteAll target a x (window target.connection from f (posts_in w.seen)) in
       let t = subst T (sym same) kept.all in
       record {
         mid = v;
         next = f;
         onward = written.onward;
+        within = kept.within;
         fetched = fetched;
         last = last;
-        front = whole_front route a d (window route.connection from f (posts_in w.seen)) t;
+        front = whole_front target a d (window target.connection from f (posts_in w.seen)) t;
         whole = λ h. t;
+        cause = cause;
       }
 
-  denied : (e : PumpEnd) → Denied route.connection v w f e → d ≡ b
-      → WroteOut route from (writer a o) (writer d w) e
-  denied e (IsWorn e1 h k) same =
+  denied : (e : PumpEnd) → Denied target.connection v w f e → d ≡ b → IsWritable d
+      → WroteOut target from (writer a o p) (writer d w q) e
+  denied e (IsWorn e1 h k) same good =
       standing e ([], append-nil v.seen ∙ sym (ap (λ (x : PassState Call). x.seen) k))
-      (stops_as route.connection f v w e end.Worn h k) same
-  denied e (IsRefused e1 x h t) same =
-      standing e (turned_prefix v w (Fetch route.connection f) (Err x) t)
-      (stops_as route.connection f v w e (end_by_kernel x) h (stops_refused route.connection f v w x t)) same
+      (stops_as target.connection f v w e end.Worn h k) same
+      (denied_ends target.connection f f v w (writer d w q) e still good (IsWorn e1 h k))
+  denied e (IsRefused e1 x h t) same good =
+      standing e (turned_prefix v w (Fetch target.connection f) (Err x) t)
+      (stops_as target.connection f v w e (end_by_kernel x) h
+      (stops_refused target.connection f v w x t)) same
+      (denied_ends target.connection f f v w (writer d w q) e still good (IsRefused e1 x h t))
 
   cut_at : (e : PumpEnd) (posts : List Post) (next : ℕ) (ended : Bool) → is_whole e ≡ false
-      → TurnedBy v (Fetch route.connection f) (Ok (reply.Fetched posts next ended)) w
-      → WroteFront route b d posts
-      → WroteOut route from (writer a o) (writer d w) e
-  cut_at e posts next ended n t front =
-      let k = moved route.connection f v w posts next ended t in
-      let first = written.onward in
-      let then = k.given.onward in
+      → TurnedBy v (Fetch target.connection f) (Ok (reply.Fetched posts next ended)) w
+      → WroteFront target b d posts → OutEnds target.connection next (writer d w q) e
+      → WroteOut target from (writer a o p) (writer d w q) e
+  cut_at e posts next ended n t front cause =
+      let k = moved target.connection f v w posts next ended t in
+      let kept = written_kept target a b from f v.seen w.seen k.onward written in
       record {
         mid = w;
         next = next;
-        onward = omega (arith, first, then);
+        onward = goes_on target a b from f next w.seen posts kept k.given;
+        within = goes_within target a b from f next w.seen posts kept k.given;
         fetched = OneFetch v w f next posts ended fetched t;
-        last = stops_cut route.connection next w e n;
-        front =
-            window_on route a b d from f next w.seen posts
-            (written_kept route a b from f v.seen w.seen k.onward written) k.given front;
+        last = stops_cut target.connection next w e n;
+        front = window_on target a b d from f next w.seen posts kept k.given front;
         whole = λ h. absurd (cc);
+        cause = cause;
       }
 
   cut : (e : PumpEnd) (posts : List Post) (next : ℕ) (ended : Bool)
-      → TurnedBy v (Fetch route.connection f) (Ok (reply.Fetched posts next ended)) w → Cut route b d posts e
-      → WroteOut route from (writer a o) (writer d w) e
+      → TurnedBy v (Fetch target.connection f) (Ok (reply.Fetched posts next ended)) w
+      → Cut target b d posts e → WroteOut target from (writer a o p) (writer d w q) e
   cut e posts next ended t (IsUnfit e1 h same x) =
-      let F : OutletState → Type 0 = λ y. WroteFront route b y posts in
-      cut_at e posts next ended (ap is_whole h) t (subst F (sym same) (no_front route b posts))
-  cut e posts next ended t (IsFailed e1 h front x) = cut_at e posts next ended (ap is_whole h) t front
+      let F : OutletState → Type 0 = λ y. WroteFront target b y posts in
+      cut_at e posts next ended (ap is_whole h) t (subst F (sym same) (no_front target b posts))
+      (cut_ends target b next (writer d w q) posts e still (IsUnfit e1 h same x))
+  cut e posts next ended t (IsFailed e1 h front x) =
+      cut_at e posts next ended (ap is_whole h) t front
+      (cut_ends target b next (writer d w q) posts e still (IsFailed e1 h front x))
 
-  pub halted : (e : PumpEnd) → Halted route f (writer b v) (writer d w) e
-      → WroteOut route from (writer a o) (writer d w) e
-  halted e (IsDenied e1 h same x) = denied e h same
+  pub halted : (e : PumpEnd) → Halted target f (sender b v) (sender d w) e
+      → WroteOut target from (writer a o p) (writer d w q) e
+  halted e (IsDenied e1 h same good) = denied e h same good
   halted e (IsCut e1 posts next ended t h) = cut e posts next ended t h
 
--- ---- how it ends
-
-ends_as : (c : ℕ) (w : PassState Call) (d : OutletState) (g : WriterPolls) (e e' : PumpEnd) → e ≡ e'
-    → OutEnds c (writer d w) g e' → OutEnds c (writer d w) g e
-ends_as c w d g e e' k h = let E : PumpEnd → Type 0 = λ x. OutEnds c (writer d w) g x in subst E (sym k) h
-
-refused_ends : (c : ℕ) (w : PassState Call) (d : OutletState) (g : WriterPolls) (x : KernelFault)
-    → IsWritable d × (g.idle.no ≡ 0) → OutEnds c (writer d w) g (end_by_kernel x)
-refused_ends c w d g fault.OutOfMemory n = n
-refused_ends c w d g fault.JournalFull n = n
-refused_ends c w d g (fault.Lagged first) n = n
-refused_ends c w d g fault.Full n = n
-refused_ends c w d g fault.NoConnection n = n
-
-denied_ends : (c f : ℕ) (v w : PassState Call) (d : OutletState) (g : WriterPolls) (e : PumpEnd)
-    → g.idle.no ≡ 0 → IsWritable d → Denied c v w f e → OutEnds c (writer d w) g e
-denied_ends c f v w d g e o n (IsWorn e1 h k) = ends_as c w d g e end.Worn h (n, o)
-denied_ends c f v w d g e o n (IsRefused e1 x h t) =
-    ends_as c w d g e (end_by_kernel x) h (refused_ends c w d g x (n, o))
-
-cut_ends : (route : OutgoingRoute) (b d : OutletState) (w : PassState Call) (g : WriterPolls)
-    (posts : List Post) (e : PumpEnd) → g.idle.no ≡ 0 → Cut route b d posts e
-    → OutEnds route.connection (writer d w) g e
-cut_ends route b d w g posts e o (IsUnfit e1 h same n) =
-    ends_as route.connection w d g e end.OutOfMemory h (n, o)
-cut_ends route b d w g posts e o (IsFailed e1 h front n) =
-    ends_as route.connection w d g e end.WriteFailed h (n, o)
-
-pub halted_ends : (route : OutgoingRoute) (b d : OutletState) (f : ℕ) (v w : PassState Call)
-    (g : WriterPolls) (e : PumpEnd) → g.idle.no ≡ 0 → Halted route f (writer b v) (writer d w) e
-    → OutEnds route.connection (writer d w) g e
-halted_ends route b d f v w g e o (IsDenied e1 h same n) = denied_ends route.connection f v w d g e o n h
-halted_ends route b d f v w g e o (IsCut e1 posts next ended t h) =
-    cut_ends route b d w g posts e o h
-
--- the Fetch left no post
-fetched_all : (route : OutgoingRoute) (b d : OutletState) (f next : ℕ) (ended : Bool) (v w : PassState Call)
-    → Went route f (writer b v) (writer d w) (next, ended) → next - f < 64 → FetchedAll route.connection w
-fetched_all route b d f next ended v w s short =
-    let last = last_call v w (Fetch route.connection f) (Ok (reply.Fetched s.posts next ended)) refl
-    s.turned in
-    record {
-      from = f;
-      posts = s.posts;
-      next = next;
-      ended = ended;
-      last = last;
-      all = reaches last.before route.connection f s.posts next ended last.answered short;
-    }
-
-pub went_up : (route : OutgoingRoute) (b d : OutletState) (f next : ℕ) (ended : Bool) (v w : PassState Call)
-    → Went route f (writer b v) (writer d w) (next, ended) → next - f < 64 → HasCaughtUp w next
-unfolding fetched_all
-went_up route b d f next ended v w s short =
-    (route.connection, fetched_all route b d f next ended v w s short, refl)
-
--- and a shutdown was seen
-pub went_over : (route : OutgoingRoute) (b d : OutletState) (f next : ℕ) (ended : Bool)
-    (v w : PassState Call) (g : WriterPolls) → g.idle.no ≡ 0 → IsWritable d → ended ≡ true → next - f < 64
-    → Went route f (writer b v) (writer d w) (next, ended) → OutEnds route.connection (writer d w) g end.Ended
-unfolding fetched_all
-went_over route b d f next ended v w g o n e short s =
-    (n, inr (o, (fetched_all route b d f next ended v w s short, e)))
+-- ---- polls and calls
 
 pub said_yes : (a b : WriterPolls) (r : Bool) → b.idle ≡ with_answer r a.idle → r ≡ true
     → (times b.idle ≡ times a.idle + 1) × (b.idle.no ≡ a.idle.no)
@@ -492,8 +525,8 @@ denied_calls c f v w e (IsWorn e1 h k) =
     let l = ap (λ (x : PassState Call). length x.calls) k in omega (arith, l)
 denied_calls c f v w e (IsRefused e1 x h t) = turned_calls v w c f (Err x) (is_entry (Err x)) refl t
 
-pub halted_calls : (route : OutgoingRoute) (b d : OutletState) (f : ℕ) (v w : PassState Call)
-    (e : PumpEnd) → Halted route f (writer b v) (writer d w) e → length v.calls ≤ length w.calls
-halted_calls route b d f v w e (IsDenied e1 h same n) = denied_calls route.connection f v w e h
-halted_calls route b d f v w e (IsCut e1 posts next ended t h) =
-    turned_calls v w route.connection f (Ok (reply.Fetched posts next ended)) true refl t
+pub halted_calls : (target : Target) (b d : OutletState) (f : ℕ) (v w : PassState Call)
+    (e : PumpEnd) → Halted target f (sender b v) (sender d w) e → length v.calls ≤ length w.calls
+halted_calls target b d f v w e (IsDenied e1 h same n) = denied_calls target.connection f v w e h
+halted_calls target b d f v w e (IsCut e1 posts next ended t h) =
+    turned_calls v w target.connection f (Ok (reply.Fetched posts next ended)) true refl t

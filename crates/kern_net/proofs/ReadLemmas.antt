@@ -15,7 +15,7 @@ use Rattle.kern_core.specs.declared.call.Call.{Call}
 use Rattle.kern_net.specs.declared.end.PumpEnd.{PumpEnd}
 use Rattle.kern_net.specs.declared.end.PumpEnd.TheVariants as pump
 use Rattle.kern_net.specs.Submitting.{Submits, NoMore, Submitted, Dropped}
-use Rattle.kern_net.specs.declared.pump_in.IncomingRoute.{IncomingRoute}
+use Rattle.kern_net.specs.Routes.{Source}
 use Rattle.kern_net.specs.ReadEnds.{Reader, IsRefusal, StopsBy, StopsPiece, EndsBy}
 use Rattle.kern_net.specs.ReadEnds.{submits_all}
 use Rattle.kern_net.specs.Reading.{Granted, NoCall, OneMore, Made, SubmittedAll, SubmittedFront, Receiver}
@@ -106,49 +106,49 @@ made_on old mid new x y e p m = record {
 
 -- ---- messages
 
-submits_on : (route : IncomingRoute) (a b : List (List (List ℕ))) (x y : List Call) → Submits route a x
-    → Submits route b y
-    → Submits route (a ++ b) (x ++ y)
-submits_on route a b x y NoMore q = q
-submits_on route a b x y (Submitted frames messages call calls submitted p) q =
-    Submitted frames (messages ++ b) call (calls ++ y) submitted (submits_on route messages b calls y p q)
-submits_on route a b x y (Dropped frames messages calls dropped p) q =
-    Dropped frames (messages ++ b) (calls ++ y) dropped (submits_on route messages b calls y p q)
+submits_on : (source : Source) (a b : List (List (List ℕ))) (x y : List Call) → Submits source a x
+    → Submits source b y
+    → Submits source (a ++ b) (x ++ y)
+submits_on source a b x y NoMore q = q
+submits_on source a b x y (Submitted frames messages call calls submitted p) q =
+    Submitted frames (messages ++ b) call (calls ++ y) submitted (submits_on source messages b calls y p q)
+submits_on source a b x y (Dropped frames messages calls dropped p) q =
+    Dropped frames (messages ++ b) (calls ++ y) dropped (submits_on source messages b calls y p q)
 
-all_none : (route : IncomingRoute) (old : PassState Call) → SubmittedAll route [] old old
-all_none route old =
+all_none : (source : Source) (old : PassState Call) → SubmittedAll source [] old old
+all_none source old =
     record { added = []; submits = NoMore; calls = sym (append-nil old.calls); turns = NoCall }
 
 -- all of these messages, then all of those
-all_on : (route : IncomingRoute) (m n : List (List (List ℕ))) (old mid new : PassState Call)
-    → SubmittedAll route m old mid → SubmittedAll route n mid new → SubmittedAll route (m ++ n) old new
-all_on route m n old mid new p q = record {
+all_on : (source : Source) (m n : List (List (List ℕ))) (old mid new : PassState Call)
+    → SubmittedAll source m old mid → SubmittedAll source n mid new → SubmittedAll source (m ++ n) old new
+all_on source m n old mid new p q = record {
   added = p.added ++ q.added;
-  submits = submits_on route m n p.added q.added p.submits q.submits;
+  submits = submits_on source m n p.added q.added p.submits q.submits;
   calls = calls_on old.calls mid.calls new.calls p.added q.added p.calls q.calls;
   turns = granted_on old mid new p.added q.added p.turns q.turns;
 }
 
 -- or a front of those
-front_on : (route : IncomingRoute) (m n : List (List (List ℕ))) (old mid new : PassState Call) (e : PumpEnd)
-    → SubmittedAll route m old mid → SubmittedFront route n mid new e
-    → SubmittedFront route (m ++ n) old new e
-front_on route m n old mid new e p q = record {
+front_on : (source : Source) (m n : List (List (List ℕ))) (old mid new : PassState Call) (e : PumpEnd)
+    → SubmittedAll source m old mid → SubmittedFront source n mid new e
+    → SubmittedFront source (m ++ n) old new e
+front_on source m n old mid new e p q = record {
   front = m ++ q.front;
   others = q.others;
   messages_are =
       ap (λ (l : List (List (List ℕ))). m ++ l) q.messages_are ∙ sym (append_assoc m q.front q.others);
   added = p.added ++ q.added;
-  submits = submits_on route m q.front p.added q.added p.submits q.submits;
+  submits = submits_on source m q.front p.added q.added p.submits q.submits;
   calls = calls_on old.calls mid.calls new.calls p.added q.added p.calls q.calls;
   made = made_on old mid new p.added q.added e p.turns q.made;
   all = q.all;
 }
 
 -- a front of these messages is one of these and more
-front_before : (route : IncomingRoute) (m n : List (List (List ℕ))) (old new : PassState Call) (e : PumpEnd)
-    → submits_all e ≡ false → SubmittedFront route m old new e → SubmittedFront route (m ++ n) old new e
-front_before route m n old new e no_all p = record {
+front_before : (source : Source) (m n : List (List (List ℕ))) (old new : PassState Call) (e : PumpEnd)
+    → submits_all e ≡ false → SubmittedFront source m old new e → SubmittedFront source (m ++ n) old new e
+front_before source m n old new e no_all p = record {
   front = p.front;
   others = p.others ++ n;
   messages_are = ap (λ (l : List (List (List ℕ))). l ++ n) p.messages_are ∙ append_assoc p.front p.others n;
@@ -159,9 +159,9 @@ front_before route m n old new e no_all p = record {
   all = λ h. absurd cc;
 }
 
-front_whole : (route : IncomingRoute) (m : List (List (List ℕ))) (old new : PassState Call) (e : PumpEnd)
-    → SubmittedAll route m old new → SubmittedFront route m old new e
-front_whole route m old new e p = record {
+front_whole : (source : Source) (m : List (List (List ℕ))) (old new : PassState Call) (e : PumpEnd)
+    → SubmittedAll source m old new → SubmittedFront source m old new e
+front_whole source m old new e p = record {
   front = m;
   others = [];
   messages_are = sym (append-nil m);
@@ -173,50 +173,50 @@ front_whole route m old new e p = record {
 }
 
 -- all but the rest were submitted
-pub record Coming (route : IncomingRoute) (messages rest : List (List (List ℕ))) (old new : PassState Call)
+pub record Coming (source : Source) (messages rest : List (List (List ℕ))) (old new : PassState Call)
     : Type 0 where
   pub done : List (List (List ℕ))
   pub split : messages ≡ done ++ rest
-  pub submitted : SubmittedAll route done old new
+  pub submitted : SubmittedAll source done old new
 
-pub coming_first : (route : IncomingRoute) (messages rest : List (List (List ℕ))) (old : PassState Call)
-    → rest ≡ messages → Coming route messages rest old old
-coming_first route messages rest old e = record { done = []; split = sym e; submitted = all_none route old }
+pub coming_first : (source : Source) (messages rest : List (List (List ℕ))) (old : PassState Call)
+    → rest ≡ messages → Coming source messages rest old old
+coming_first source messages rest old e = record { done = []; split = sym e; submitted = all_none source old }
 
-pub coming_on : (route : IncomingRoute) (messages rest rest' : List (List (List ℕ))) (frames : List (List ℕ))
-    (old mid new : PassState Call) → Coming route messages rest old mid → rest ≡ frames ∷ rest'
-    → SubmittedAll route (frames ∷ []) mid new → Coming route messages rest' old new
-coming_on route messages rest rest' frames old mid new p e q = record {
+pub coming_on : (source : Source) (messages rest rest' : List (List (List ℕ))) (frames : List (List ℕ))
+    (old mid new : PassState Call) → Coming source messages rest old mid → rest ≡ frames ∷ rest'
+    → SubmittedAll source (frames ∷ []) mid new → Coming source messages rest' old new
+coming_on source messages rest rest' frames old mid new p e q = record {
   done = p.done ++ frames ∷ [];
   split =
       p.split ∙ ap (λ (l : List (List (List ℕ))). p.done ++ l) e
       ∙ sym (append_assoc p.done (frames ∷ []) rest');
-  submitted = all_on route p.done (frames ∷ []) old mid new p.submitted q;
+  submitted = all_on source p.done (frames ∷ []) old mid new p.submitted q;
 }
 
-pub coming_refused : (route : IncomingRoute) (messages rest rest' : List (List (List ℕ)))
+pub coming_refused : (source : Source) (messages rest rest' : List (List (List ℕ)))
     (frames : List (List ℕ))
-    (old mid new : PassState Call) (e : PumpEnd) → Coming route messages rest old mid → rest ≡ frames ∷ rest'
-    → StopsBy e mid.calls new → SubmittedFront route (frames ∷ []) mid new e
-    → SubmittedFront route messages old new e
-coming_refused route messages rest rest' frames old mid new e p is stops q =
-    let one = front_on route p.done (frames ∷ []) old mid new e p.submitted q in
+    (old mid new : PassState Call) (e : PumpEnd) → Coming source messages rest old mid → rest ≡ frames ∷ rest'
+    → StopsBy e mid.calls new → SubmittedFront source (frames ∷ []) mid new e
+    → SubmittedFront source messages old new e
+coming_refused source messages rest rest' frames old mid new e p is stops q =
+    let one = front_on source p.done (frames ∷ []) old mid new e p.submitted q in
     let no_all = not_all e mid.calls new stops in
-    let all = front_before route (p.done ++ frames ∷ []) rest' old new e no_all one in
-    let C : List (List (List ℕ)) → Type 0 = λ l. SubmittedFront route l old new e in
+    let all = front_before source (p.done ++ frames ∷ []) rest' old new e no_all one in
+    let C : List (List (List ℕ)) → Type 0 = λ l. SubmittedFront source l old new e in
     subst C (append_assoc p.done (frames ∷ []) rest'
     ∙ sym (p.split ∙ ap (λ (l : List (List (List ℕ))). p.done ++ l) is)) all
 
-pub coming_stops : (route : IncomingRoute) (messages rest : List (List (List ℕ)))
+pub coming_stops : (source : Source) (messages rest : List (List (List ℕ)))
     (old mid new : PassState Call)
-    (e : PumpEnd) → Coming route messages rest old mid → StopsBy e mid.calls new → StopsBy e old.calls new
-coming_stops route messages rest old mid new e p stops =
+    (e : PumpEnd) → Coming source messages rest old mid → StopsBy e mid.calls new → StopsBy e old.calls new
+coming_stops source messages rest old mid new e p stops =
     later e old.calls mid.calls p.submitted.added new p.submitted.calls stops
 
-pub coming_end : (route : IncomingRoute) (messages rest : List (List (List ℕ))) (old new : PassState Call)
-    → Coming route messages rest old new → rest ≡ [] → SubmittedAll route messages old new
-coming_end route messages rest old new p e =
-    let C : List (List (List ℕ)) → Type 0 = λ l. SubmittedAll route l old new in
+pub coming_end : (source : Source) (messages rest : List (List (List ℕ))) (old new : PassState Call)
+    → Coming source messages rest old new → rest ≡ [] → SubmittedAll source messages old new
+coming_end source messages rest old new p e =
+    let C : List (List (List ℕ)) → Type 0 = λ l. SubmittedAll source l old new in
     subst C (sym (p.split ∙ ap (λ (l : List (List (List ℕ))). p.done ++ l) e ∙ append-nil p.done)) p.submitted
 
 -- ---- pieces
@@ -224,40 +224,40 @@ coming_end route messages rest old new p e =
 abbrev pub receiver : DecoderState → PassState Call → Receiver
 receiver decoder pass = record { decoder = decoder; pass = pass }
 
-pub receives_piece : (route : IncomingRoute) (s t : DecoderState) (bytes : List ℕ)
+pub receives_piece : (source : Source) (s t : DecoderState) (bytes : List ℕ)
     (messages : List (List (List ℕ)))
-    (old new : PassState Call) → Completes s bytes messages t → SubmittedAll route messages old new
-    → ReceivedAll route [] bytes (receiver s old) (receiver t new)
-receives_piece route s t bytes messages old new reads submitted =
+    (old new : PassState Call) → Completes s bytes messages t → SubmittedAll source messages old new
+    → ReceivedAll source [] bytes (receiver s old) (receiver t new)
+receives_piece source s t bytes messages old new reads submitted =
     record { messages = messages; reads = reads; submitted = submitted }
 
-receives_whole : (route : IncomingRoute) (held : List (List (List ℕ))) (bytes : List ℕ) (old new : Receiver)
-    (e : PumpEnd) → ReceivedAll route held bytes old new → ReceivedFront route held bytes old new e
-receives_whole route held bytes old new e h = record {
+receives_whole : (source : Source) (held : List (List (List ℕ))) (bytes : List ℕ) (old new : Receiver)
+    (e : PumpEnd) → ReceivedAll source held bytes old new → ReceivedFront source held bytes old new e
+receives_whole source held bytes old new e h = record {
   taken = bytes;
   unread = [];
   messages = h.messages;
   bytes_are = sym (append-nil bytes);
   reads = h.reads;
-  submitted = front_whole route (held ++ h.messages) old.pass new.pass e h.submitted;
+  submitted = front_whole source (held ++ h.messages) old.pass new.pass e h.submitted;
   all = λ _. refl;
 }
 
 -- all was submitted, and the stream is broken after it
-pub receives_broken : (route : IncomingRoute) (s t : DecoderState) (bytes : List ℕ)
+pub receives_broken : (source : Source) (s t : DecoderState) (bytes : List ℕ)
     (messages : List (List (List ℕ)))
     (old new : PassState Call) (e : PumpEnd) → Completes s bytes messages t
-    → SubmittedAll route messages old new
-    → ReceivedFront route [] bytes (receiver s old) (receiver t new) e
-receives_broken route s t bytes messages old new e reads submitted =
-    receives_whole route [] bytes (receiver s old) (receiver t new) e
-    (receives_piece route s t bytes messages old new reads submitted)
+    → SubmittedAll source messages old new
+    → ReceivedFront source [] bytes (receiver s old) (receiver t new) e
+receives_broken source s t bytes messages old new e reads submitted =
+    receives_whole source [] bytes (receiver s old) (receiver t new) e
+    (receives_piece source s t bytes messages old new reads submitted)
 
-receives_front : (route : IncomingRoute) (s t : DecoderState) (held : List (List (List ℕ))) (bytes : List ℕ)
+receives_front : (source : Source) (s t : DecoderState) (held : List (List (List ℕ))) (bytes : List ℕ)
     (messages : List (List (List ℕ))) (old new : PassState Call) (e : PumpEnd) → Completes s bytes messages t
-    → SubmittedFront route (held ++ messages) old new e
-    → ReceivedFront route held bytes (receiver s old) (receiver t new) e
-receives_front route s t held bytes messages old new e reads submitted = record {
+    → SubmittedFront source (held ++ messages) old new e
+    → ReceivedFront source held bytes (receiver s old) (receiver t new) e
+receives_front source s t held bytes messages old new e reads submitted = record {
   taken = bytes;
   unread = [];
   messages = messages;
@@ -267,67 +267,67 @@ receives_front route s t held bytes messages old new e reads submitted = record 
   all = λ _. refl;
 }
 
-pub receives_refused : (route : IncomingRoute) (s t : DecoderState) (bytes : List ℕ)
+pub receives_refused : (source : Source) (s t : DecoderState) (bytes : List ℕ)
     (messages : List (List (List ℕ)))
     (old new : PassState Call) (e : PumpEnd) → Completes s bytes messages t
-    → SubmittedFront route messages old new e
-    → ReceivedFront route [] bytes (receiver s old) (receiver t new) e
-receives_refused route s t bytes messages old new e reads submitted =
-    receives_front route s t [] bytes messages old new e reads submitted
+    → SubmittedFront source messages old new e
+    → ReceivedFront source [] bytes (receiver s old) (receiver t new) e
+receives_refused source s t bytes messages old new e reads submitted =
+    receives_front source s t [] bytes messages old new e reads submitted
 
 -- the piece wasn't taken
-pub receives_not : (route : IncomingRoute) (s t : DecoderState) (bytes : List ℕ) (old : PassState Call)
+pub receives_not : (source : Source) (s t : DecoderState) (bytes : List ℕ) (old : PassState Call)
     → t ≡ s
-    → ReceivedFront route [] bytes (receiver s old) (receiver t old) pump.OutOfMemory
-receives_not route s t bytes old decoder = record {
+    → ReceivedFront source [] bytes (receiver s old) (receiver t old) pump.OutOfMemory
+receives_not source s t bytes old decoder = record {
   taken = [];
   unread = bytes;
   messages = [];
   bytes_are = refl;
   reads = (let C : DecoderState → Type 0 = λ u. Completes s [] [] u in subst C (sym decoder)
       (completes_none s));
-  submitted = submitted_none route [] old;
+  submitted = submitted_none source [] old;
   all = λ h. absurd cc;
 }
 
-receives_held : (route : IncomingRoute) (s : DecoderState) (held : List (List (List ℕ)))
+receives_held : (source : Source) (s : DecoderState) (held : List (List (List ℕ)))
     (old new : PassState Call)
-    → SubmittedAll route held old new → ReceivedAll route held [] (receiver s old) (receiver s new)
-receives_held route s held old new submitted = record {
+    → SubmittedAll source held old new → ReceivedAll source held [] (receiver s old) (receiver s new)
+receives_held source s held old new submitted = record {
   messages = [];
   reads = completes_none s;
   submitted =
-      (let A : List (List (List ℕ)) → Type 0 = λ l. SubmittedAll route l old new in
+      (let A : List (List (List ℕ)) → Type 0 = λ l. SubmittedAll source l old new in
       subst A (sym (append-nil held)) submitted);
 }
 
-front_held : (route : IncomingRoute) (s : DecoderState) (held : List (List (List ℕ)))
+front_held : (source : Source) (s : DecoderState) (held : List (List (List ℕ)))
     (old new : PassState Call)
-    (e : PumpEnd) → SubmittedFront route held old new e
-    → ReceivedFront route held [] (receiver s old) (receiver s new) e
-front_held route s held old new e submitted =
-    let A : List (List (List ℕ)) → Type 0 = λ l. SubmittedFront route l old new e in
-    receives_front route s s held [] [] old new e (completes_none s)
+    (e : PumpEnd) → SubmittedFront source held old new e
+    → ReceivedFront source held [] (receiver s old) (receiver s new) e
+front_held source s held old new e submitted =
+    let A : List (List (List ℕ)) → Type 0 = λ l. SubmittedFront source l old new e in
+    receives_front source s s held [] [] old new e (completes_none s)
     (subst A (sym (append-nil held)) submitted)
 
-receives_on : (route : IncomingRoute) (held : List (List (List ℕ))) (x y : List ℕ) (old mid new : Receiver)
-    → ReceivedAll route held x old mid → ReceivedAll route [] y mid new
-    → ReceivedAll route held (x ++ y) old new
-receives_on route held x y old mid new p q =
-    let A : List (List (List ℕ)) → Type 0 = λ l. SubmittedAll route l old.pass new.pass in
+receives_on : (source : Source) (held : List (List (List ℕ))) (x y : List ℕ) (old mid new : Receiver)
+    → ReceivedAll source held x old mid → ReceivedAll source [] y mid new
+    → ReceivedAll source held (x ++ y) old new
+receives_on source held x y old mid new p q =
+    let A : List (List (List ℕ)) → Type 0 = λ l. SubmittedAll source l old.pass new.pass in
     record {
       messages = p.messages ++ q.messages;
       reads = completes_on old.decoder mid.decoder new.decoder x y p.messages q.messages p.reads q.reads;
       submitted =
           subst A (append_assoc held p.messages q.messages)
-          (all_on route (held ++ p.messages) q.messages old.pass mid.pass new.pass p.submitted q.submitted);
+          (all_on source (held ++ p.messages) q.messages old.pass mid.pass new.pass p.submitted q.submitted);
     }
 
-stops_on : (route : IncomingRoute) (held : List (List (List ℕ))) (x y : List ℕ) (old mid new : Receiver)
-    (e : PumpEnd) → ReceivedAll route held x old mid → ReceivedFront route [] y mid new e
-    → ReceivedFront route held (x ++ y) old new e
-stops_on route held x y old mid new e p q =
-    let A : List (List (List ℕ)) → Type 0 = λ l. SubmittedFront route l old.pass new.pass e in
+stops_on : (source : Source) (held : List (List (List ℕ))) (x y : List ℕ) (old mid new : Receiver)
+    (e : PumpEnd) → ReceivedAll source held x old mid → ReceivedFront source [] y mid new e
+    → ReceivedFront source held (x ++ y) old new e
+stops_on source held x y old mid new e p q =
+    let A : List (List (List ℕ)) → Type 0 = λ l. SubmittedFront source l old.pass new.pass e in
     record {
       taken = x ++ q.taken;
       unread = q.unread;
@@ -337,7 +337,7 @@ stops_on route held x y old mid new e p q =
           q.reads;
       submitted =
           subst A (append_assoc held p.messages q.messages)
-          (front_on route (held ++ p.messages) q.messages old.pass mid.pass new.pass e p.submitted
+          (front_on source (held ++ p.messages) q.messages old.pass mid.pass new.pass e p.submitted
           q.submitted);
       all = q.all;
     }
@@ -348,44 +348,44 @@ abbrev pub reader : InletState → PassState Call → Reader
 reader inlet pass = record { inlet = inlet; pass = pass }
 
 -- all that came in so many reads was submitted
-pub record UnderWay (route : IncomingRoute) (peer : Peer) (from from' : InletState) (old : PassState Call)
+pub record UnderWay (source : Source) (peer : Peer) (from from' : InletState) (old : PassState Call)
     (new : Receiver) (reads : ℕ) : Type 0 where
   pub bytes : List ℕ
   pub gave : Gave from from' bytes
-  pub received : ReceivedAll route peer.messages bytes (receiver peer.decoder old) new
+  pub received : ReceivedAll source peer.messages bytes (receiver peer.decoder old) new
   pub was_read : WasRead from from' reads
   pub within : reads ≤ most_reads
 
 none_read : 0 ≤ most_reads
 none_read = omega arith
 
-pub under_way : (route : IncomingRoute) (peer : Peer) (from : InletState) (t : DecoderState)
+pub under_way : (source : Source) (peer : Peer) (from : InletState) (t : DecoderState)
     (old mid new : PassState Call)
-    → SubmittedAll route peer.messages old mid
-    → ReceivedAll route [] [] (receiver peer.decoder mid) (receiver t new)
-    → UnderWay route peer from from old (receiver t new) 0
-under_way route peer from t old mid new p q = record {
+    → SubmittedAll source peer.messages old mid
+    → ReceivedAll source [] [] (receiver peer.decoder mid) (receiver t new)
+    → UnderWay source peer from from old (receiver t new) 0
+under_way source peer from t old mid new p q = record {
   bytes = [];
   gave = told_none from.given;
   received =
-      receives_on route peer.messages [] [] (receiver peer.decoder old) (receiver peer.decoder mid)
+      receives_on source peer.messages [] [] (receiver peer.decoder old) (receiver peer.decoder mid)
       (receiver t new)
-      (receives_held route peer.decoder peer.messages old mid p) q;
+      (receives_held source peer.decoder peer.messages old mid p) q;
   was_read = counts_none from.reads;
   within = none_read;
 }
 
-pub under_way_on : (route : IncomingRoute) (peer : Peer) (g h k : InletState) (t u : DecoderState) (reads : ℕ)
-    (x : List ℕ) (old mid new : PassState Call) → UnderWay route peer g h old (receiver t mid) reads
+pub under_way_on : (source : Source) (peer : Peer) (g h k : InletState) (t u : DecoderState) (reads : ℕ)
+    (x : List ℕ) (old mid new : PassState Call) → UnderWay source peer g h old (receiver t mid) reads
     → Gave h k x → WasRead h k 1 → reads < 4294967295
-    → ReceivedAll route [] x (receiver t mid) (receiver u new)
-    → UnderWay route peer g k old (receiver u new) (reads + 1)
-under_way_on route peer g h k t u reads x old mid new p told was left q =
+    → ReceivedAll source [] x (receiver t mid) (receiver u new)
+    → UnderWay source peer g k old (receiver u new) (reads + 1)
+under_way_on source peer g h k t u reads x old mid new p told was left q =
     record {
       bytes = p.bytes ++ x;
       gave = told_on g.given h.given k.given p.bytes x p.gave told;
       received =
-          receives_on route peer.messages p.bytes x (receiver peer.decoder old) (receiver t mid)
+          receives_on source peer.messages p.bytes x (receiver peer.decoder old) (receiver t mid)
           (receiver u new)
           p.received q;
       was_read = counts_on g.reads h.reads k.reads reads 1 p.was_read was;
@@ -397,15 +397,15 @@ positive zero some = absurd (some refl)
 positive (suc count) some = omega arith
 
 -- refused in the messages that were held
-pub held_refused : (route : IncomingRoute) (peer : Peer) (from : InletState) (old new : PassState Call)
+pub held_refused : (source : Source) (peer : Peer) (from : InletState) (old new : PassState Call)
     (e : PumpEnd)
-    → IsReadable from → StopsBy e old.calls new → SubmittedFront route peer.messages old new e
-    → ReadOut route peer (reader from old) (reader from new) e
-held_refused route peer from old new e good stops submitted = record {
+    → IsReadable from → StopsBy e old.calls new → SubmittedFront source peer.messages old new e
+    → ReadOut source peer (reader from old) (reader from new) e
+held_refused source peer from old new e good stops submitted = record {
   bytes = [];
   after = peer.decoder;
   gave = told_none from.given;
-  received = front_held route peer.decoder peer.messages old new e submitted;
+  received = front_held source peer.decoder peer.messages old new e submitted;
   reads = 0;
   was_read = counts_none from.reads;
   within = none_read;
@@ -415,18 +415,18 @@ held_refused route peer from old new e good stops submitted = record {
 }
 
 -- stopped at a fault behind READY
-pub stopped_first : (route : IncomingRoute) (peer : Peer) (from : InletState) (t : DecoderState)
-    (old mid new : PassState Call) (e : PumpEnd) → IsReadable from → SubmittedAll route peer.messages old mid
-    → StopsPiece e mid.calls new t → ReceivedFront route [] [] (receiver peer.decoder mid) (receiver t new) e
-    → ReadOut route peer (reader from old) (reader from new) e
-stopped_first route peer from t old mid new e good p stops q = record {
+pub stopped_first : (source : Source) (peer : Peer) (from : InletState) (t : DecoderState)
+    (old mid new : PassState Call) (e : PumpEnd) → IsReadable from → SubmittedAll source peer.messages old mid
+    → StopsPiece e mid.calls new t → ReceivedFront source [] [] (receiver peer.decoder mid) (receiver t new) e
+    → ReadOut source peer (reader from old) (reader from new) e
+stopped_first source peer from t old mid new e good p stops q = record {
   bytes = [];
   after = t;
   gave = told_none from.given;
   received =
-      stops_on route peer.messages [] [] (receiver peer.decoder old) (receiver peer.decoder mid)
+      stops_on source peer.messages [] [] (receiver peer.decoder old) (receiver peer.decoder mid)
       (receiver t new) e
-      (receives_held route peer.decoder peer.messages old mid p) q;
+      (receives_held source peer.decoder peer.messages old mid p) q;
   reads = 0;
   was_read = counts_none from.reads;
   within = none_read;
@@ -436,18 +436,18 @@ stopped_first route peer from t old mid new e good p stops q = record {
 }
 
 -- stopped in a piece
-pub stopped : (route : IncomingRoute) (peer : Peer) (g h k : InletState) (t u : DecoderState) (reads : ℕ)
+pub stopped : (source : Source) (peer : Peer) (g h k : InletState) (t u : DecoderState) (reads : ℕ)
     (x : List ℕ)
-    (old mid new : PassState Call) (e : PumpEnd) → UnderWay route peer g h old (receiver t mid) reads
+    (old mid new : PassState Call) (e : PumpEnd) → UnderWay source peer g h old (receiver t mid) reads
     → Gave h k x → WasRead h k 1 → reads < 4294967295 → IsReadable k → StopsPiece e mid.calls new u
-    → ReceivedFront route [] x (receiver t mid) (receiver u new) e
-    → ReadOut route peer (reader g old) (reader k new) e
-stopped route peer g h k t u reads x old mid new e p told was left good stops q = record {
+    → ReceivedFront source [] x (receiver t mid) (receiver u new) e
+    → ReadOut source peer (reader g old) (reader k new) e
+stopped source peer g h k t u reads x old mid new e p told was left good stops q = record {
   bytes = p.bytes ++ x;
   after = u;
   gave = told_on g.given h.given k.given p.bytes x p.gave told;
   received =
-      stops_on route peer.messages p.bytes x (receiver peer.decoder old) (receiver t mid) (receiver u new) e
+      stops_on source peer.messages p.bytes x (receiver peer.decoder old) (receiver t mid) (receiver u new) e
       p.received q;
   reads = reads + 1;
   was_read = counts_on g.reads h.reads k.reads reads 1 p.was_read was;
@@ -463,16 +463,16 @@ gave_more g h k x p q =
     subst T (append-nil x) (told_on g.given h.given k.given x [] p q)
 
 -- one read more gave nothing, and reading ended so
-ends_there : (route : IncomingRoute) (peer : Peer) (g h k : InletState) (t : DecoderState) (reads : ℕ)
-    (old new : PassState Call) (e : PumpEnd) → UnderWay route peer g h old (receiver t new) reads
+ends_there : (source : Source) (peer : Peer) (g h k : InletState) (t : DecoderState) (reads : ℕ)
+    (old new : PassState Call) (e : PumpEnd) → UnderWay source peer g h old (receiver t new) reads
     → Gave h k [] → WasRead h k 1 → reads < 4294967295
     → EndsBy e (reader g old) (reader k new) t (reads + 1)
-    → ReadOut route peer (reader g old) (reader k new) e
-ends_there route peer g h k t reads old new e p told was left cause = record {
+    → ReadOut source peer (reader g old) (reader k new) e
+ends_there source peer g h k t reads old new e p told was left cause = record {
   bytes = p.bytes;
   after = t;
   gave = gave_more g h k p.bytes p.gave told;
-  received = receives_whole route peer.messages p.bytes (receiver peer.decoder old) (receiver t new) e
+  received = receives_whole source peer.messages p.bytes (receiver peer.decoder old) (receiver t new) e
       p.received;
   reads = reads + 1;
   was_read = counts_on g.reads h.reads k.reads reads 1 p.was_read was;
@@ -480,31 +480,31 @@ ends_there route peer g h k t reads old new e p told was left cause = record {
   cause = cause;
 }
 
-pub ended_there : (route : IncomingRoute) (peer : Peer) (g h k : InletState) (t : DecoderState) (reads : ℕ)
-    (old new : PassState Call) → UnderWay route peer g h old (receiver t new) reads → Gave h k []
+pub ended_there : (source : Source) (peer : Peer) (g h k : InletState) (t : DecoderState) (reads : ℕ)
+    (old new : PassState Call) → UnderWay source peer g h old (receiver t new) reads → Gave h k []
     → WasRead h k 1 → reads < 4294967295 → k.ended ≡ true → k.failed ≡ false
-    → ReadOut route peer (reader g old) (reader k new) pump.PeerEnded
-ended_there route peer g h k t reads old new p told was left end good =
-    ends_there route peer g h k t reads old new pump.PeerEnded p told was left (end, good)
+    → ReadOut source peer (reader g old) (reader k new) pump.PeerEnded
+ended_there source peer g h k t reads old new p told was left end good =
+    ends_there source peer g h k t reads old new pump.PeerEnded p told was left (end, good)
 
-pub failed_there : (route : IncomingRoute) (peer : Peer) (g h k : InletState) (t : DecoderState) (reads : ℕ)
-    (old new : PassState Call) → UnderWay route peer g h old (receiver t new) reads → Gave h k []
+pub failed_there : (source : Source) (peer : Peer) (g h k : InletState) (t : DecoderState) (reads : ℕ)
+    (old new : PassState Call) → UnderWay source peer g h old (receiver t new) reads → Gave h k []
     → WasRead h k 1 → reads < 4294967295 → k.ended ≡ false → k.failed ≡ true
-    → ReadOut route peer (reader g old) (reader k new) pump.ReadFailed
-failed_there route peer g h k t reads old new p told was left on bad =
-    ends_there route peer g h k t reads old new pump.ReadFailed p told was left (on, inl bad)
+    → ReadOut source peer (reader g old) (reader k new) pump.ReadFailed
+failed_there source peer g h k t reads old new p told was left on bad =
+    ends_there source peer g h k t reads old new pump.ReadFailed p told was left (on, inl bad)
 
-pub read_enough : (route : IncomingRoute) (peer : Peer) (g h : InletState) (t : DecoderState) (reads : ℕ)
-    (old new : PassState Call) → UnderWay route peer g h old (receiver t new) reads → 4294967295 ≤ reads
-    → IsReadable h → ReadOut route peer (reader g old) (reader h new) pump.ReadFailed
-read_enough route peer g h t reads old new p enough good =
+pub read_enough : (source : Source) (peer : Peer) (g h : InletState) (t : DecoderState) (reads : ℕ)
+    (old new : PassState Call) → UnderWay source peer g h old (receiver t new) reads → 4294967295 ≤ reads
+    → IsReadable h → ReadOut source peer (reader g old) (reader h new) pump.ReadFailed
+read_enough source peer g h t reads old new p enough good =
     let within = rw most_is at p.within in
     record {
       bytes = p.bytes;
       after = t;
       gave = p.gave;
       received =
-          receives_whole route peer.messages p.bytes (receiver peer.decoder old) (receiver t new)
+          receives_whole source peer.messages p.bytes (receiver peer.decoder old) (receiver t new)
           pump.ReadFailed
           p.received;
       reads = reads;

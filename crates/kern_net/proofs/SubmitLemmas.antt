@@ -19,7 +19,7 @@ use Rattle.kern_core.specs.declared.call.Call.TheVariants.{Arrive, Subscribe}
 use Rattle.kern_core.specs.declared.call.Reply.{Reply}
 use Rattle.kern_net.specs.declared.end.PumpEnd.{PumpEnd}
 use Rattle.kern_net.specs.declared.end.PumpEnd.TheVariants as pump
-use Rattle.kern_net.specs.declared.pump_in.IncomingRoute.{IncomingRoute}
+use Rattle.kern_net.specs.Routes.{Source}
 use Rattle.kern_net.specs.Submitting.{
   IsArrival,
   IsSubscription,
@@ -51,18 +51,18 @@ abbrev pub Refuses : PassState Call → Call → PassState Call → PumpEnd → 
 Refuses old call new e =
     (new.calls ≡ old.calls) ⊎ (IsRefusal e × (new.calls ≡ old.calls ++ call ∷ []))
 
-submitted_one : (route : IncomingRoute) (frames : List (List ℕ)) (call : Call) (old new : PassState Call)
-    → IsSubmission route frames call → Grants old call new → SubmittedAll route (frames ∷ []) old new
-submitted_one route frames call old new submitted (reply, turned) = record {
+submitted_one : (source : Source) (frames : List (List ℕ)) (call : Call) (old new : PassState Call)
+    → IsSubmission source frames call → Grants old call new → SubmittedAll source (frames ∷ []) old new
+submitted_one source frames call old new submitted (reply, turned) = record {
   added = call ∷ [];
   submits = Submitted frames [] call [] submitted NoMore;
   calls = (turned.entered refl).counted;
   turns = OneMore old new [] call reply NoCall turned;
 }
 
-dropped_one : (route : IncomingRoute) (frames : List (List ℕ)) (old : PassState Call) → IsDropped route frames
-    → SubmittedAll route (frames ∷ []) old old
-dropped_one route frames old dropped = record {
+dropped_one : (source : Source) (frames : List (List ℕ)) (old : PassState Call) → IsDropped source frames
+    → SubmittedAll source (frames ∷ []) old old
+dropped_one source frames old dropped = record {
   added = [];
   submits = Dropped frames [] [] dropped NoMore;
   calls = sym (append-nil old.calls);
@@ -70,11 +70,11 @@ dropped_one route frames old dropped = record {
 }
 
 -- nothing was submitted
-submitted_not : (route : IncomingRoute) (messages : List (List (List ℕ))) (old new : PassState Call)
+submitted_not : (source : Source) (messages : List (List (List ℕ))) (old new : PassState Call)
     (e : PumpEnd)
     → submits_all e ≡ false → IsPrefix old.seen new.seen → new.calls ≡ old.calls
-    → SubmittedFront route messages old new e
-submitted_not route messages old new e no_all onward same = record {
+    → SubmittedFront source messages old new e
+submitted_not source messages old new e no_all onward same = record {
   front = [];
   others = messages;
   messages_are = refl;
@@ -86,20 +86,20 @@ submitted_not route messages old new e no_all onward same = record {
 }
 
 -- memory was wanting
-pub submitted_none : (route : IncomingRoute) (messages : List (List (List ℕ))) (old : PassState Call)
-    → SubmittedFront route messages old old pump.OutOfMemory
-submitted_none route messages old =
-    submitted_not route messages old old pump.OutOfMemory refl ([], append-nil old.seen) refl
+pub submitted_none : (source : Source) (messages : List (List (List ℕ))) (old : PassState Call)
+    → SubmittedFront source messages old old pump.OutOfMemory
+submitted_none source messages old =
+    submitted_not source messages old old pump.OutOfMemory refl ([], append-nil old.seen) refl
 
 -- the call wasn't granted
-submitted_refused : (route : IncomingRoute) (frames : List (List ℕ)) (call : Call) (old new : PassState Call)
+submitted_refused : (source : Source) (frames : List (List ℕ)) (call : Call) (old new : PassState Call)
     (e : PumpEnd)
-    → IsSubmission route frames call → submits_all e ≡ false → IsPrefix old.seen new.seen
+    → IsSubmission source frames call → submits_all e ≡ false → IsPrefix old.seen new.seen
     → Refuses old call new e
-    → SubmittedFront route (frames ∷ []) old new e
-submitted_refused route frames call old new e submitted no_all onward (inl same) =
-    submitted_not route (frames ∷ []) old new e no_all onward same
-submitted_refused route frames call old new e submitted no_all onward (inr (refusal, calls)) = record {
+    → SubmittedFront source (frames ∷ []) old new e
+submitted_refused source frames call old new e submitted no_all onward (inl same) =
+    submitted_not source (frames ∷ []) old new e no_all onward same
+submitted_refused source frames call old new e submitted no_all onward (inr (refusal, calls)) = record {
   front = frames ∷ [];
   others = [];
   messages_are = refl;
@@ -113,20 +113,20 @@ submitted_refused route frames call old new e submitted no_all onward (inr (refu
 
 -- ---- subscriptions
 
-subscribed_on : (channel : Channel) (route : IncomingRoute) (frames : List (List ℕ)) (call : Call)
+subscribed_on : (channel : Channel) (source : Source) (frames : List (List ℕ)) (call : Call)
     → channel ≡ Iopub
-    → IsSubscription route frames call → IsSubmissionOn channel route frames call
-subscribed_on Iopub route frames call is s = s
-subscribed_on _ route frames call is s = absurd cc
+    → IsSubscription source frames call → IsSubmissionOn channel source frames call
+subscribed_on Iopub source frames call is s = s
+subscribed_on _ source frames call is s = absurd cc
 
-submitted_subscription : (route : IncomingRoute) (wants : Bool) (prefix : List ℕ) (unix_seconds : ℕ)
-    (frames : List (List ℕ)) (call : Call) → route.channel ≡ Iopub
+submitted_subscription : (source : Source) (wants : Bool) (prefix : List ℕ) (unix_seconds : ℕ)
+    (frames : List (List ℕ)) (call : Call) → source.channel ≡ Iopub
     → unix_seconds ≤ 4102444800 → frames ≡ subscription_frames wants prefix
-    → call ≡ Subscribe route.connection
+    → call ≡ Subscribe source.connection
     (record { wants = wants; prefix = prefix; unix_seconds = unix_seconds })
-    → IsSubmission route frames call
-submitted_subscription route wants prefix unix_seconds frames call iopub in_time frames_are call_is =
-    subscribed_on route.channel route frames call iopub (record {
+    → IsSubmission source frames call
+submitted_subscription source wants prefix unix_seconds frames call iopub in_time frames_are call_is =
+    subscribed_on source.channel source frames call iopub (record {
       wants = wants;
       prefix = prefix;
       unix_seconds = unix_seconds;
@@ -135,42 +135,42 @@ submitted_subscription route wants prefix unix_seconds frames call iopub in_time
       call_is = call_is;
     })
 
-pub subscribed : (route : IncomingRoute) (wants : Bool) (prefix : List ℕ) (unix_seconds : ℕ)
+pub subscribed : (source : Source) (wants : Bool) (prefix : List ℕ) (unix_seconds : ℕ)
     (frames : List (List ℕ))
-    (call : Call) (old new : PassState Call) → route.channel ≡ Iopub
+    (call : Call) (old new : PassState Call) → source.channel ≡ Iopub
     → unix_seconds ≤ 4102444800 → frames ≡ subscription_frames wants prefix
-    → call ≡ Subscribe route.connection
+    → call ≡ Subscribe source.connection
     (record { wants = wants; prefix = prefix; unix_seconds = unix_seconds })
-    → Grants old call new → SubmittedAll route (frames ∷ []) old new
-subscribed route wants prefix unix_seconds frames call old new iopub in_time frames_are call_is turned =
-    submitted_one route frames call old new
-    (submitted_subscription route wants prefix unix_seconds frames call iopub in_time frames_are call_is)
+    → Grants old call new → SubmittedAll source (frames ∷ []) old new
+subscribed source wants prefix unix_seconds frames call old new iopub in_time frames_are call_is turned =
+    submitted_one source frames call old new
+    (submitted_subscription source wants prefix unix_seconds frames call iopub in_time frames_are call_is)
     turned
 
-pub subscription_refused : (route : IncomingRoute) (wants : Bool) (prefix : List ℕ) (unix_seconds : ℕ)
-    (frames : List (List ℕ)) (call : Call) (old new : PassState Call) (e : PumpEnd) → route.channel ≡ Iopub
+pub subscription_refused : (source : Source) (wants : Bool) (prefix : List ℕ) (unix_seconds : ℕ)
+    (frames : List (List ℕ)) (call : Call) (old new : PassState Call) (e : PumpEnd) → source.channel ≡ Iopub
     → unix_seconds ≤ 4102444800 → frames ≡ subscription_frames wants prefix
-    → call ≡ Subscribe route.connection
+    → call ≡ Subscribe source.connection
     (record { wants = wants; prefix = prefix; unix_seconds = unix_seconds })
     → StopsBy e old.calls new → IsPrefix old.seen new.seen → Refuses old call new e
-    → SubmittedFront route (frames ∷ []) old new e
-subscription_refused route wants prefix unix_seconds frames call old new e iopub in_time frames_are call_is
+    → SubmittedFront source (frames ∷ []) old new e
+subscription_refused source wants prefix unix_seconds frames call old new e iopub in_time frames_are call_is
     stops
     onward refused =
-    submitted_refused route frames call old new e
-    (submitted_subscription route wants prefix unix_seconds frames call iopub in_time frames_are call_is)
+    submitted_refused source frames call old new e
+    (submitted_subscription source wants prefix unix_seconds frames call iopub in_time frames_are call_is)
     (not_all e old.calls new stops) onward refused
 
-unsubscribed_on : (channel : Channel) (route : IncomingRoute) (frames : List (List ℕ)) → channel ≡ Iopub
-    → IsNoSubscription frames → IsDroppedOn channel route frames
-unsubscribed_on Iopub route frames is s = s
-unsubscribed_on _ route frames is s = absurd cc
+unsubscribed_on : (channel : Channel) (source : Source) (frames : List (List ℕ)) → channel ≡ Iopub
+    → IsNoSubscription frames → IsDroppedOn channel source frames
+unsubscribed_on Iopub source frames is s = s
+unsubscribed_on _ source frames is s = absurd cc
 
-pub no_subscription : (route : IncomingRoute) (frames : List (List ℕ)) (old : PassState Call)
-    → route.channel ≡ Iopub
-    → IsNoSubscription frames → SubmittedAll route (frames ∷ []) old old
-no_subscription route frames old iopub dropped =
-    dropped_one route frames old (unsubscribed_on route.channel route frames iopub dropped)
+pub no_subscription : (source : Source) (frames : List (List ℕ)) (old : PassState Call)
+    → source.channel ≡ Iopub
+    → IsNoSubscription frames → SubmittedAll source (frames ∷ []) old old
+no_subscription source frames old iopub dropped =
+    dropped_one source frames old (unsubscribed_on source.channel source frames iopub dropped)
 
 -- ---- arrivals
 
@@ -181,25 +181,25 @@ pub refused_message : (key : List ℕ) (frames : List (List ℕ)) (fault : WireF
     → IsUnopened key frames
 refused_message key frames fault not only p h content message = not (only p h content message)
 
-arrived_on : (channel : Channel) (route : IncomingRoute) (frames : List (List ℕ)) (call : Call)
-    → (channel ≡ Iopub → ⊥) → IsArrival route frames call → IsSubmissionOn channel route frames call
-arrived_on Iopub route frames call other arrival = absurd (other refl)
-arrived_on _ route frames call other arrival = arrival
+arrived_on : (channel : Channel) (source : Source) (frames : List (List ℕ)) (call : Call)
+    → (channel ≡ Iopub → ⊥) → IsArrival source frames call → IsSubmissionOn channel source frames call
+arrived_on Iopub source frames call other arrival = absurd (other refl)
+arrived_on _ source frames call other arrival = arrival
 
-dropped_on : (channel : Channel) (route : IncomingRoute) (frames : List (List ℕ)) → (channel ≡ Iopub → ⊥)
-    → IsUnopened route.key.now frames → IsDroppedOn channel route frames
-dropped_on Iopub route frames other unopened = absurd (other refl)
-dropped_on _ route frames other unopened = unopened
+dropped_on : (channel : Channel) (source : Source) (frames : List (List ℕ)) → (channel ≡ Iopub → ⊥)
+    → IsUnopened source.key frames → IsDroppedOn channel source frames
+dropped_on Iopub source frames other unopened = absurd (other refl)
+dropped_on _ source frames other unopened = unopened
 
-submitted_arrival : (route : IncomingRoute) (message : Message) (unix_seconds : ℕ) (frames : List (List ℕ))
+submitted_arrival : (source : Source) (message : Message) (unix_seconds : ℕ) (frames : List (List ℕ))
     (call : Call)
-    → (route.channel ≡ Iopub → ⊥) → unix_seconds ≤ 4102444800
-    → IsMessage route.key.now frames message.parts message.header (view message.content)
-    → call ≡ Arrive route.connection
-    (record { request = request_of route.channel message; unix_seconds = unix_seconds })
-    → IsSubmission route frames call
-submitted_arrival route message unix_seconds frames call other in_time opens call_is =
-    arrived_on route.channel route frames call other (record {
+    → (source.channel ≡ Iopub → ⊥) → unix_seconds ≤ 4102444800
+    → IsMessage source.key frames message.parts message.header (view message.content)
+    → call ≡ Arrive source.connection
+    (record { request = request_of source.channel message; unix_seconds = unix_seconds })
+    → IsSubmission source frames call
+submitted_arrival source message unix_seconds frames call other in_time opens call_is =
+    arrived_on source.channel source frames call other (record {
       message = message;
       unix_seconds = unix_seconds;
       opens = opens;
@@ -207,32 +207,32 @@ submitted_arrival route message unix_seconds frames call other in_time opens cal
       call_is = call_is;
     })
 
-pub arrived : (route : IncomingRoute) (message : Message) (unix_seconds : ℕ) (frames : List (List ℕ))
+pub arrived : (source : Source) (message : Message) (unix_seconds : ℕ) (frames : List (List ℕ))
     (call : Call)
-    (old new : PassState Call) → (route.channel ≡ Iopub → ⊥) → unix_seconds ≤ 4102444800
-    → IsMessage route.key.now frames message.parts message.header (view message.content)
-    → call ≡ Arrive route.connection
-    (record { request = request_of route.channel message; unix_seconds = unix_seconds })
-    → Grants old call new → SubmittedAll route (frames ∷ []) old new
-arrived route message unix_seconds frames call old new other in_time opens call_is turned =
-    submitted_one route frames call old new
-    (submitted_arrival route message unix_seconds frames call other in_time opens call_is) turned
+    (old new : PassState Call) → (source.channel ≡ Iopub → ⊥) → unix_seconds ≤ 4102444800
+    → IsMessage source.key frames message.parts message.header (view message.content)
+    → call ≡ Arrive source.connection
+    (record { request = request_of source.channel message; unix_seconds = unix_seconds })
+    → Grants old call new → SubmittedAll source (frames ∷ []) old new
+arrived source message unix_seconds frames call old new other in_time opens call_is turned =
+    submitted_one source frames call old new
+    (submitted_arrival source message unix_seconds frames call other in_time opens call_is) turned
 
-pub arrival_refused : (route : IncomingRoute) (message : Message) (unix_seconds : ℕ) (frames : List (List ℕ))
+pub arrival_refused : (source : Source) (message : Message) (unix_seconds : ℕ) (frames : List (List ℕ))
     (call : Call)
-    (old new : PassState Call) (e : PumpEnd) → (route.channel ≡ Iopub → ⊥) → unix_seconds ≤ 4102444800
-    → IsMessage route.key.now frames message.parts message.header (view message.content)
-    → call ≡ Arrive route.connection
-    (record { request = request_of route.channel message; unix_seconds = unix_seconds })
+    (old new : PassState Call) (e : PumpEnd) → (source.channel ≡ Iopub → ⊥) → unix_seconds ≤ 4102444800
+    → IsMessage source.key frames message.parts message.header (view message.content)
+    → call ≡ Arrive source.connection
+    (record { request = request_of source.channel message; unix_seconds = unix_seconds })
     → StopsBy e old.calls new → IsPrefix old.seen new.seen → Refuses old call new e
-    → SubmittedFront route (frames ∷ []) old new e
-arrival_refused route message unix_seconds frames call old new e other in_time opens call_is stops onward
+    → SubmittedFront source (frames ∷ []) old new e
+arrival_refused source message unix_seconds frames call old new e other in_time opens call_is stops onward
     refused =
-    submitted_refused route frames call old new e
-    (submitted_arrival route message unix_seconds frames call other in_time opens call_is)
+    submitted_refused source frames call old new e
+    (submitted_arrival source message unix_seconds frames call other in_time opens call_is)
     (not_all e old.calls new stops) onward refused
 
-pub unopened : (route : IncomingRoute) (frames : List (List ℕ)) (old : PassState Call)
-    → (route.channel ≡ Iopub → ⊥) → IsUnopened route.key.now frames → SubmittedAll route (frames ∷ []) old old
-unopened route frames old other none =
-    dropped_one route frames old (dropped_on route.channel route frames other none)
+pub unopened : (source : Source) (frames : List (List ℕ)) (old : PassState Call)
+    → (source.channel ≡ Iopub → ⊥) → IsUnopened source.key frames → SubmittedAll source (frames ∷ []) old old
+unopened source frames old other none =
+    dropped_one source frames old (dropped_on source.channel source frames other none)

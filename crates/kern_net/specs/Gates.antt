@@ -78,16 +78,14 @@ abbrev pub ToldForEach : PassState Call → PassState Call → ReaderPolls → R
 ToldForEach old new a b =
     b.tells + count_by spares_worker old.calls ≡ a.tells + count_by spares_worker new.calls
 
--- The last call of the pass was a Fetch on this connection, and it went on behind the last post that there
--- was.
-pub record FetchedAll (connection : ℕ) (pass : PassState Call) : Type 0 where
+-- The last call of the pass was a Fetch on this connection. It was answered with this number to go on at,
+-- behind the last post that there was, and with whether a shutdown had come.
+pub record FetchedAll (connection : ℕ) (pass : PassState Call) (next : ℕ) (ended : Bool) : Type 0 where
   pub from : ℕ
   pub posts : List Post
-  pub next : ℕ
-  pub ended : Bool
   pub last : LastCall pass (Fetch connection from) (Ok (Fetched posts next ended))
   pub all : length (posts_in last.before) < next
 
 -- and this is where to go on
 abbrev pub HasCaughtUp : PassState Call → ℕ → Type 0
-HasCaughtUp pass next = (connection : ℕ) × (f : FetchedAll connection pass) × (f.next ≡ next)
+HasCaughtUp pass next = (connection : ℕ) × (ended : Bool) × FetchedAll connection pass next ended

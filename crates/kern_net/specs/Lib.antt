@@ -5,6 +5,7 @@ pub mod Out
 pub mod ReadEnds
 pub mod Reading
 pub mod Rounds
+pub mod Routes
 pub mod Streams
 pub mod Submitting
 pub mod Wakes

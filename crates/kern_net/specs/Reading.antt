@@ -10,7 +10,7 @@ use Rattle.zmtp_peer.specs.Receiving.{most_reads}
 use Rattle.kern_core.specs.declared.call.Call.{Call}
 use Rattle.kern_core.specs.declared.call.Reply.{Reply}
 use Rattle.kern_net.specs.declared.end.PumpEnd.{PumpEnd}
-use Rattle.kern_net.specs.declared.pump_in.IncomingRoute.{IncomingRoute}
+use Rattle.kern_net.specs.Routes.{Source}
 use Rattle.kern_net.specs.Submitting.{Submits}
 use Rattle.kern_net.specs.Calls.{TurnedBy}
 use Rattle.kern_net.specs.ReadEnds.{Reader, IsRefusal, StopsBy, StopsPiece, EndsBy, submits_all}
@@ -30,31 +30,31 @@ pub record Made (old new : PassState Call) (added : List Call) (e : PumpEnd) : T
   pub last : (added ≡ granted) ⊎ (IsRefusal e × ((call : Call) × (added ≡ granted ++ call ∷ [])))
 
 -- all that these messages ask for was submitted, and granted
-pub record SubmittedAll (route : IncomingRoute) (messages : Messages) (old new : PassState Call)
+pub record SubmittedAll (source : Source) (messages : Messages) (old new : PassState Call)
     : Type 0 where
   pub added : List Call
-  pub submits : Submits route messages added
+  pub submits : Submits source messages added
   pub calls : new.calls ≡ old.calls ++ added
   pub turns : Granted old new added
 
 -- what a front of these messages asks for was submitted, until this end
-pub record SubmittedFront (route : IncomingRoute) (messages : Messages) (old new : PassState Call)
+pub record SubmittedFront (source : Source) (messages : Messages) (old new : PassState Call)
     (e : PumpEnd) : Type 0 where
   pub front : Messages
   pub others : Messages
   pub messages_are : messages ≡ front ++ others
   pub added : List Call
-  pub submits : Submits route front added
+  pub submits : Submits source front added
   pub calls : new.calls ≡ old.calls ++ added
   pub made : Made old new added e
   pub all : submits_all e ≡ true → others ≡ []
 
 -- what these messages ask for was submitted: all of it where it goes on; else a front, and why it stops there
-abbrev pub SubmittedFor : IncomingRoute → Messages → PassState Call → PassState Call
+abbrev pub SubmittedFor : Source → Messages → PassState Call → PassState Call
     → Result (Unit {0}) PumpEnd → Type 0
-SubmittedFor route messages old new result = MatchResult result
-    (λ _. SubmittedAll route messages old new)
-    (λ e. SubmittedFront route messages old new e × StopsBy e old.calls new)
+SubmittedFor source messages old new result = MatchResult result
+    (λ _. SubmittedAll source messages old new)
+    (λ e. SubmittedFront source messages old new e × StopsBy e old.calls new)
 
 -- the decoder that a peer's bytes are read by, and the pass of the calls that are made for them
 pub record Receiver : Type 0 where
@@ -63,37 +63,37 @@ pub record Receiver : Type 0 where
 
 -- the decoder read these bytes, and what the messages that were held and those in the bytes ask for was
 -- granted
-pub record ReceivedAll (route : IncomingRoute) (held : Messages) (bytes : Bytes) (old new : Receiver)
+pub record ReceivedAll (source : Source) (held : Messages) (bytes : Bytes) (old new : Receiver)
     : Type 0 where
   pub messages : Messages
   pub reads : Completes old.decoder bytes messages new.decoder
-  pub submitted : SubmittedAll route (held ++ messages) old.pass new.pass
+  pub submitted : SubmittedAll source (held ++ messages) old.pass new.pass
 
 -- the decoder read a front of the bytes, and a front of what the messages ask for was submitted, until this
 -- end
-pub record ReceivedFront (route : IncomingRoute) (held : Messages) (bytes : Bytes) (old new : Receiver)
+pub record ReceivedFront (source : Source) (held : Messages) (bytes : Bytes) (old new : Receiver)
     (e : PumpEnd) : Type 0 where
   pub taken : Bytes
   pub unread : Bytes
   pub messages : Messages
   pub bytes_are : bytes ≡ taken ++ unread
   pub reads : Completes old.decoder taken messages new.decoder
-  pub submitted : SubmittedFront route (held ++ messages) old.pass new.pass e
+  pub submitted : SubmittedFront source (held ++ messages) old.pass new.pass e
   pub all : submits_all e ≡ true → unread ≡ []
 
 -- the decoder took this piece, and what its messages ask for was submitted: all of it where it goes on; else
 -- as far as the end says, and why it stops there
-abbrev pub PieceSubmitted : IncomingRoute → Bytes → Receiver → Receiver → Result (Unit {0}) PumpEnd → Type 0
-PieceSubmitted route piece old new result = MatchResult result
-    (λ _. ReceivedAll route [] piece old new)
-    (λ e. ReceivedFront route [] piece old new e × StopsPiece e old.pass.calls new.pass new.decoder)
+abbrev pub PieceSubmitted : Source → Bytes → Receiver → Receiver → Result (Unit {0}) PumpEnd → Type 0
+PieceSubmitted source piece old new result = MatchResult result
+    (λ _. ReceivedAll source [] piece old new)
+    (λ e. ReceivedFront source [] piece old new e × StopsPiece e old.pass.calls new.pass new.decoder)
 
 -- a peer was read from to this end, beginning with the messages that it held
-pub record ReadOut (route : IncomingRoute) (peer : Peer) (old new : Reader) (e : PumpEnd) : Type 0 where
+pub record ReadOut (source : Source) (peer : Peer) (old new : Reader) (e : PumpEnd) : Type 0 where
   pub bytes : Bytes
   pub after : DecoderState
   pub gave : Gave old.inlet new.inlet bytes
-  pub received : ReceivedFront route peer.messages bytes (record { decoder = peer.decoder; pass = old.pass })
+  pub received : ReceivedFront source peer.messages bytes (record { decoder = peer.decoder; pass = old.pass })
       (record { decoder = after; pass = new.pass }) e
   pub reads : ℕ
   pub was_read : WasRead old.inlet new.inlet reads

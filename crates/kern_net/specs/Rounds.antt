@@ -13,8 +13,8 @@ use Rattle.kern_net.specs.declared.end.PumpEnd.TheVariants as end
 use Rattle.kern_net.specs.Ends.{end_by_kernel}
 use Rattle.kern_net.specs.Calls.{TurnedBy}
 use Rattle.kern_net.specs.declared.pump_out.Batch.{Batch}
-use Rattle.kern_net.specs.declared.pump_out.OutgoingRoute.{OutgoingRoute}
-use Rattle.kern_net.specs.Out.{Writer, WroteFront, WroteAll}
+use Rattle.kern_net.specs.Routes.{Target}
+use Rattle.kern_net.specs.Out.{WroteFront, WroteAll}
 
 -- posts, or a refusal
 abbrev pub IsFetchAnswer : Result Reply KernelFault → Type 0
@@ -34,22 +34,27 @@ pub data Denied (connection : ℕ) (old new : PassState Call) (from : ℕ) : Pum
       → TurnedBy old (Fetch connection from) (Err fault) new → Denied connection old new from e
 
 -- memory for the posts was wanting, or the writer failed
-pub data Cut (route : OutgoingRoute) (to to' : OutletState) (posts : List Post) : PumpEnd → Type 0 where
-  IsUnfit : (e : PumpEnd) → e ≡ end.OutOfMemory → to' ≡ to → IsWritable to' → Cut route to to' posts e
-  IsFailed : (e : PumpEnd) → e ≡ end.WriteFailed → WroteFront route to to' posts → to'.failed ≡ true
-      → Cut route to to' posts e
+pub data Cut (target : Target) (to to' : OutletState) (posts : List Post) : PumpEnd → Type 0 where
+  IsUnfit : (e : PumpEnd) → e ≡ end.OutOfMemory → to' ≡ to → IsWritable to' → Cut target to to' posts e
+  IsFailed : (e : PumpEnd) → e ≡ end.WriteFailed → WroteFront target to to' posts → to'.failed ≡ true
+      → Cut target to to' posts e
+
+-- what is written to, and the pass of the calls that fetch
+pub record Sender : Type 0 where
+  pub outlet : OutletState
+  pub pass : PassState Call
 
 -- a Fetch was answered with where to go on and whether a shutdown came, and what it gave is written
-pub record Went (route : OutgoingRoute) (from : ℕ) (old new : Writer) (answer : ℕ × Bool) : Type 0 where
+pub record Went (target : Target) (from : ℕ) (old new : Sender) (answer : ℕ × Bool) : Type 0 where
   pub posts : List Post
-  pub turned : TurnedBy old.pass (Fetch route.connection from) (Ok (reply.Fetched posts answer.0 answer.1))
+  pub turned : TurnedBy old.pass (Fetch target.connection from) (Ok (reply.Fetched posts answer.0 answer.1))
       new.pass
-  pub all : WroteAll route old.outlet new.outlet posts
+  pub all : WroteAll target old.outlet new.outlet posts
 
 -- or it went no further: it was denied, or what it gave isn't all written
-pub data Halted (route : OutgoingRoute) (from : ℕ) (old new : Writer) : PumpEnd → Type 0 where
-  IsDenied : (e : PumpEnd) → Denied route.connection old.pass new.pass from e → new.outlet ≡ old.outlet
-      → IsWritable new.outlet → Halted route from old new e
+pub data Halted (target : Target) (from : ℕ) (old new : Sender) : PumpEnd → Type 0 where
+  IsDenied : (e : PumpEnd) → Denied target.connection old.pass new.pass from e → new.outlet ≡ old.outlet
+      → IsWritable new.outlet → Halted target from old new e
   IsCut : (e : PumpEnd) (posts : List Post) (next : ℕ) (ended : Bool)
-      → TurnedBy old.pass (Fetch route.connection from) (Ok (reply.Fetched posts next ended)) new.pass
-      → Cut route old.outlet new.outlet posts e → Halted route from old new e
+      → TurnedBy old.pass (Fetch target.connection from) (Ok (reply.Fetched posts next ended)) new.pass
+      → Cut target old.outlet new.outlet posts e → Halted target from old new e

@@ -12,16 +12,16 @@ use Rattle.jup_wire.specs.Wire.{IsMessage}
 use Rattle.kern_request.specs.Requests.{request_of}
 use Rattle.kern_core.specs.declared.call.Call.{Call}
 use Rattle.kern_core.specs.declared.call.Call.TheVariants.{Arrive, Subscribe}
-use Rattle.kern_net.specs.declared.pump_in.IncomingRoute.{IncomingRoute}
+use Rattle.kern_net.specs.Routes.{Source}
 
--- the call for a message that opens under the route's key
-pub record IsArrival (route : IncomingRoute) (frames : Frames) (call : Call) : Type 0 where
+-- the call for a message that opens under the source's key
+pub record IsArrival (source : Source) (frames : Frames) (call : Call) : Type 0 where
   pub message : Message
   pub unix_seconds : ℕ
-  pub opens : IsMessage route.key.now frames message.parts message.header (view message.content)
+  pub opens : IsMessage source.key frames message.parts message.header (view message.content)
   pub in_time : unix_seconds ≤ 4102444800
-  pub call_is : call ≡ Arrive route.connection
-      (record { request = request_of route.channel message; unix_seconds = unix_seconds })
+  pub call_is : call ≡ Arrive source.connection
+      (record { request = request_of source.channel message; unix_seconds = unix_seconds })
 
 -- the first byte of a subscription, and of its end
 abbrev pub mark : Bool → ℕ
@@ -33,22 +33,22 @@ abbrev pub subscription_frames : Bool → Bytes → Frames
 subscription_frames wants prefix = (mark wants ∷ prefix) ∷ []
 
 -- the call for these frames
-pub record IsSubscription (route : IncomingRoute) (frames : Frames) (call : Call) : Type 0 where
+pub record IsSubscription (source : Source) (frames : Frames) (call : Call) : Type 0 where
   pub wants : Bool
   pub prefix : Bytes
   pub unix_seconds : ℕ
   pub frames_are : frames ≡ subscription_frames wants prefix
   pub in_time : unix_seconds ≤ 4102444800
-  pub call_is : call ≡ Subscribe route.connection
+  pub call_is : call ≡ Subscribe source.connection
       (record { wants = wants; prefix = prefix; unix_seconds = unix_seconds })
 
 -- what the frames ask for on a channel: on iopub a subscription, on the others a request
-abbrev pub IsSubmissionOn : Channel → IncomingRoute → Frames → Call → Type 0
-IsSubmissionOn Iopub route frames call = IsSubscription route frames call
-IsSubmissionOn _ route frames call = IsArrival route frames call
+abbrev pub IsSubmissionOn : Channel → Source → Frames → Call → Type 0
+IsSubmissionOn Iopub source frames call = IsSubscription source frames call
+IsSubmissionOn _ source frames call = IsArrival source frames call
 
-abbrev pub IsSubmission : IncomingRoute → Frames → Call → Type 0
-IsSubmission route frames call = IsSubmissionOn route.channel route frames call
+abbrev pub IsSubmission : Source → Frames → Call → Type 0
+IsSubmission source frames call = IsSubmissionOn source.channel source frames call
 
 -- the frames are no message under the key
 abbrev pub IsUnopened : Bytes → Frames → Type 0
@@ -58,18 +58,18 @@ IsUnopened key frames = (p : Parts) (h : Header) (content : Data) → IsMessage 
 abbrev pub IsNoSubscription : Frames → Type 0
 IsNoSubscription frames = (wants : Bool) (prefix : Bytes) → frames ≡ subscription_frames wants prefix → ⊥
 
-abbrev pub IsDroppedOn : Channel → IncomingRoute → Frames → Type 0
-IsDroppedOn Iopub route frames = IsNoSubscription frames
-IsDroppedOn _ route frames = IsUnopened route.key.now frames
+abbrev pub IsDroppedOn : Channel → Source → Frames → Type 0
+IsDroppedOn Iopub source frames = IsNoSubscription frames
+IsDroppedOn _ source frames = IsUnopened source.key frames
 
-abbrev pub IsDropped : IncomingRoute → Frames → Type 0
-IsDropped route frames = IsDroppedOn route.channel route frames
+abbrev pub IsDropped : Source → Frames → Type 0
+IsDropped source frames = IsDroppedOn source.channel source frames
 
 -- one call for each message that asks for something, in order, and none for another
-pub data Submits (route : IncomingRoute) : Messages → List Call → Type 0 where
-  NoMore : Submits route [] []
+pub data Submits (source : Source) : Messages → List Call → Type 0 where
+  NoMore : Submits source [] []
   Submitted : (frames : Frames) (messages : Messages) (call : Call) (calls : List Call)
-      → IsSubmission route frames call → Submits route messages calls
-      → Submits route (frames ∷ messages) (call ∷ calls)
+      → IsSubmission source frames call → Submits source messages calls
+      → Submits source (frames ∷ messages) (call ∷ calls)
   Dropped : (frames : Frames) (messages : Messages) (calls : List Call)
-      → IsDropped route frames → Submits route messages calls → Submits route (frames ∷ messages) calls
+      → IsDropped source frames → Submits source messages calls → Submits source (frames ∷ messages) calls

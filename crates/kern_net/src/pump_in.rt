@@ -5,6 +5,7 @@ ghost use Rattle.zmtp_wire.specs.declared.fault.StreamFault.{StreamFault};
 ghost use Rattle.kern_net.specs.declared.end.PumpEnd.TheVariants as pump;
 ghost use Rattle.kern_net.specs.Gates.{WokeForEach, ToldForEach};
 ghost use Rattle.kern_net.specs.Reading.{SubmittedFor, PieceSubmitted, ReadOut};
+ghost use Rattle.kern_net.specs.Routes.{source_of};
 
 use crate::end::PumpEnd;
 use crate::gate::ReaderGate;
@@ -44,7 +45,7 @@ fn submit_all<R: Wait, G: ReaderGate>(
     ensures same { (pass.new.turnstile ≡ route.now.desk.now) × (pass.new.seat ≡ pass.old.seat) }
     ensures woke { WokeForEach pass.old pass.new (G.polls gate.old) (G.polls gate.new) }
     ensures told { ToldForEach pass.old pass.new (G.polls gate.old) (G.polls gate.new) }
-    ensures submitted { SubmittedFor route.now messages pass.old pass.new result }
+    ensures submitted { SubmittedFor (source_of route.now) messages pass.old pass.new result }
 {
     for frames in messages.into_vec() {
         match submit(rt, alloc, pass, gate, route, frames) {
@@ -69,7 +70,8 @@ fn take_piece<R: Wait, G: ReaderGate>(
     ensures same { (pass.new.turnstile ≡ route.now.desk.now) × (pass.new.seat ≡ pass.old.seat) }
     ensures woke { WokeForEach pass.old pass.new (G.polls gate.old) (G.polls gate.new) }
     ensures told { ToldForEach pass.old pass.new (G.polls gate.old) (G.polls gate.new) }
-    ensures submitted { PieceSubmitted route.now piece.now (record { decoder = decoder.old; pass = pass.old })
+    ensures submitted { PieceSubmitted (source_of route.now) piece.now
+        (record { decoder = decoder.old; pass = pass.old })
         (record { decoder = decoder.new; pass = pass.new }) result }
 {
     match feed(alloc, decoder, piece) {
@@ -107,7 +109,7 @@ pub fn pump_in<R: Wait, I: Inlet, G: ReaderGate>(
     ensures same { (pass.new.turnstile ≡ route.now.desk.now) × (pass.new.seat ≡ pass.old.seat) }
     ensures woke { WokeForEach pass.old pass.new (G.polls gate.old) (G.polls gate.new) }
     ensures told { ToldForEach pass.old pass.new (G.polls gate.old) (G.polls gate.new) }
-    ensures read { ReadOut route.now peer (record { inlet = I.state from.old; pass = pass.old })
+    ensures read { ReadOut (source_of route.now) peer (record { inlet = I.state from.old; pass = pass.old })
         (record { inlet = I.state from.new; pass = pass.new }) result }
 {
     let Peer {

@@ -5,8 +5,9 @@ ghost use Rattle.kern_core.specs.declared.call.Call.TheVariants.{Fetch};
 ghost use Rattle.kern_core.specs.declared.call.Reply.TheVariants.{Fetched};
 ghost use Rattle.kern_net.specs.Calls.{TurnedBy};
 ghost use Rattle.kern_net.specs.Gates.{PolledForEach};
-ghost use Rattle.kern_net.specs.Out.{WroteAll, WroteOut, OutEnds};
+ghost use Rattle.kern_net.specs.Out.{WroteAll, WroteOut};
 ghost use Rattle.kern_net.specs.Rounds.{IsFetchAnswer, Answers, Denied, Cut, Went, Halted};
+ghost use Rattle.kern_net.specs.Routes.{target_of};
 
 use crate::end::PumpEnd;
 use crate::gate::WriterGate;
@@ -91,9 +92,9 @@ fn write_posts<W: Outlet>(
     posts: &[Post],
 ) -> Result<(), PumpEnd>
     requires { IsWritable (W.state to.old) }
-    ensures ok { OnOk result (WroteAll route.now (W.state to.old) (W.state to.new) posts.now) }
+    ensures ok { OnOk result (WroteAll (target_of route.now) (W.state to.old) (W.state to.new) posts.now) }
     ensures good { OnOk result (IsWritable (W.state to.new)) }
-    ensures err { IfErr result (Cut route.now (W.state to.old) (W.state to.new) posts.now) }
+    ensures err { IfErr result (Cut (target_of route.now) (W.state to.old) (W.state to.new) posts.now) }
 {
     let Ok(bytes) = stream_of(alloc, posts, route.key, route.session) else {
         return Err(PumpEnd::OutOfMemory);
@@ -117,10 +118,12 @@ fn fetch_on<R: Wait, W: Outlet>(
     requires pass { pass.old.turnstile ≡ route.now.desk.now }
     requires good { IsWritable (W.state to.old) }
     ensures same { (pass.new.turnstile ≡ route.now.desk.now) × (pass.new.seat ≡ pass.old.seat) }
-    ensures ok { IfOk result (Went route.now from (record { outlet = W.state to.old; pass = pass.old })
+    ensures ok { IfOk result (Went (target_of route.now) from
+        (record { outlet = W.state to.old; pass = pass.old })
         (record { outlet = W.state to.new; pass = pass.new })) }
     ensures good { OnOk result (IsWritable (W.state to.new)) }
-    ensures err { IfErr result (Halted route.now from (record { outlet = W.state to.old; pass = pass.old })
+    ensures err { IfErr result (Halted (target_of route.now) from
+        (record { outlet = W.state to.old; pass = pass.old })
         (record { outlet = W.state to.new; pass = pass.new })) }
 {
     match fetch(rt, pass, route, from) {
@@ -152,11 +155,10 @@ pub fn pump_out<R: Wait, W: Outlet, G: WriterGate>(
     requires good { IsWritable (W.state to.old) }
     requires gate { (G.polls gate.old).idle.no ≡ 0 }
     ensures same { (pass.new.turnstile ≡ route.now.desk.now) × (pass.new.seat ≡ pass.old.seat) }
-    ensures wrote { WroteOut route.now from (record { outlet = W.state to.old; pass = pass.old })
-        (record { outlet = W.state to.new; pass = pass.new }) result }
+    ensures wrote { WroteOut (target_of route.now) from
+        (record { outlet = W.state to.old; pass = pass.old; polls = G.polls gate.old })
+        (record { outlet = W.state to.new; pass = pass.new; polls = G.polls gate.new }) result }
     ensures idle { PolledForEach pass.old pass.new (G.polls gate.old) (G.polls gate.new) }
-    ensures ends { OutEnds route.now.connection (record { outlet = W.state to.new; pass = pass.new })
-        (G.polls gate.new) result }
 {
     let mut next = from;
     for _ in rt.forever() {

@@ -1,5 +1,6 @@
 //! Submitting what one message asks for.
-ghost use Rattle.std.specs.Prelude.{◌≡◌, ◌≤◌, ◌⊎◌, ◌++◌, ◌∷◌, [], true, false, OnOk, OnErr, Ok, Err, IfOk, IfErr};
+ghost use Rattle.std.specs.Prelude.{◌≡◌, ◌≤◌, ◌⊎◌, ◌++◌, ◌∷◌, [], true, false, OnOk, OnErr, Ok};
+ghost use Rattle.std.specs.Prelude.{Err, IfOk, IfErr};
 ghost use mathlib.Core.List.{IsPrefix};
 ghost use Rattle.std.specs.Prelude.{IfSome, IfNone};
 ghost use Rattle.serde_json.specs.View.{view};
@@ -13,6 +14,7 @@ ghost use Rattle.kern_net.specs.Gates.{rung, WokeForEach, ToldForEach};
 ghost use Rattle.kern_net.specs.Submitting.{subscription_frames, IsUnopened, IsNoSubscription};
 ghost use Rattle.kern_net.specs.ReadEnds.{IsReaderCall, IsRefusal, StopsBy};
 ghost use Rattle.kern_net.specs.Reading.{SubmittedFor};
+ghost use Rattle.kern_net.specs.Routes.{source_of};
 
 use crate::end::PumpEnd;
 use crate::gate::ReaderGate;
@@ -205,7 +207,7 @@ fn subscribe<R: Wait, G: ReaderGate>(
     ensures same { (pass.new.turnstile ≡ route.now.desk.now) × (pass.new.seat ≡ pass.old.seat) }
     ensures woke { WokeForEach pass.old pass.new (G.polls gate.old) (G.polls gate.new) }
     ensures told { ToldForEach pass.old pass.new (G.polls gate.old) (G.polls gate.new) }
-    ensures submitted { SubmittedFor route.now (frames.now ∷ []) pass.old pass.new result }
+    ensures submitted { SubmittedFor (source_of route.now) (frames.now ∷ []) pass.old pass.new result }
 {
     let Some(Wish { wants, prefix }) = wish_in(frames) else {
         return Ok(());
@@ -234,7 +236,7 @@ fn arrive<R: Wait, G: ReaderGate>(
     ensures same { (pass.new.turnstile ≡ route.now.desk.now) × (pass.new.seat ≡ pass.old.seat) }
     ensures woke { WokeForEach pass.old pass.new (G.polls gate.old) (G.polls gate.new) }
     ensures told { ToldForEach pass.old pass.new (G.polls gate.old) (G.polls gate.new) }
-    ensures submitted { SubmittedFor route.now (frames ∷ []) pass.old pass.new result }
+    ensures submitted { SubmittedFor (source_of route.now) (frames ∷ []) pass.old pass.new result }
 {
     match message_in(alloc, frames, route.key) {
         Ok(Some(message)) => {
@@ -265,7 +267,7 @@ pub(crate) fn submit<R: Wait, G: ReaderGate>(
     ensures same { (pass.new.turnstile ≡ route.now.desk.now) × (pass.new.seat ≡ pass.old.seat) }
     ensures woke { WokeForEach pass.old pass.new (G.polls gate.old) (G.polls gate.new) }
     ensures told { ToldForEach pass.old pass.new (G.polls gate.old) (G.polls gate.new) }
-    ensures submitted { SubmittedFor route.now (frames ∷ []) pass.old pass.new result }
+    ensures submitted { SubmittedFor (source_of route.now) (frames ∷ []) pass.old pass.new result }
 {
     if route.channel == Channel::Iopub {
         return subscribe(rt, alloc, pass, gate, route, &frames);

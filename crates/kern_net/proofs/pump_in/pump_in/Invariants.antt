@@ -3,6 +3,7 @@ use Rattle.base_streams.specs.States.{IsReadable}
 use Rattle.kern_net.specs.Gates.{WokeForEach, ToldForEach}
 use Rattle.kern_net.proofs.ReadLemmas.{UnderWay}
 use Rattle.kern_net.proofs.pump_in.pump_in.Given as goal
+use Rattle.kern_net.specs.Routes.{source_of}
 
 abbrev pub invariant-loop-reads : goal.invariant-loop-reads
 invariant-loop-reads g l = record {
@@ -11,6 +12,6 @@ invariant-loop-reads g l = record {
   woke : WokeForEach l.fn.pass l.pass (g.G.ReaderGate.polls l.fn.gate) (g.G.ReaderGate.polls l.gate);
   told : ToldForEach l.fn.pass l.pass (g.G.ReaderGate.polls l.fn.gate) (g.G.ReaderGate.polls l.gate);
   readable : IsReadable (g.I.Inlet.state l.from);
-  read : UnderWay l.route l.fn.peer (g.I.Inlet.state l.fn.from) (g.I.Inlet.state l.from) l.fn.pass
+  read : UnderWay (source_of l.route) l.fn.peer (g.I.Inlet.state l.fn.from) (g.I.Inlet.state l.from) l.fn.pass
       (record { decoder = l.decoder; pass = l.pass }) l.reads;
 }

@@ -2,6 +2,7 @@ use Rattle.std.proofs.Common.{◌≡◌}
 use Rattle.kern_net.specs.Gates.{WokeForEach, ToldForEach}
 use Rattle.kern_net.proofs.ReadLemmas.{Coming}
 use Rattle.kern_net.proofs.pump_in.submit_all.Given as goal
+use Rattle.kern_net.specs.Routes.{source_of}
 
 abbrev pub invariant-loop-frames : goal.invariant-loop-frames
 invariant-loop-frames g l = record {
@@ -10,5 +11,5 @@ invariant-loop-frames g l = record {
   seat : l.pass.seat ≡ l.fn.pass.seat;
   woke : WokeForEach l.fn.pass l.pass (g.G.ReaderGate.polls l.fn.gate) (g.G.ReaderGate.polls l.gate);
   told : ToldForEach l.fn.pass l.pass (g.G.ReaderGate.polls l.fn.gate) (g.G.ReaderGate.polls l.gate);
-  coming : Coming l.route l.fn.messages l.frames-iterator.rest.items l.fn.pass l.pass;
+  coming : Coming (source_of l.route) l.fn.messages l.frames-iterator.rest.items l.fn.pass l.pass;
 }

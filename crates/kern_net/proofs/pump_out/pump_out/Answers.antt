@@ -1,8 +1,8 @@
 use Rattle.std.proofs.Common.{refl, ◌∙◌, arith}
 use Rattle.kern_net.specs.Out.{NoFetch}
-use Rattle.kern_net.proofs.OutLemmas.{written_first, halted, halted_ends, halted_calls}
-use Rattle.kern_net.proofs.OutLemmas.{went_on, went_fetched, went_longer, went_done, went_over, went_up}
-use Rattle.kern_net.proofs.OutLemmas.{said_yes}
+use Rattle.kern_net.proofs.OutLemmas.{written_first, halted, halted_calls}
+use Rattle.kern_net.proofs.OutLemmas.{went_on, went_fetched, went_longer, went_over, went_closed, went_up}
+use Rattle.kern_net.proofs.OutLemmas.{said_yes, said_no}
 use Rattle.kern_net.proofs.pump_out.pump_out.Goals as goal
 
 pub loop-init : goal.loop-init
@@ -19,7 +19,9 @@ loop-init g c = record {
 pub returns-in-Err-clause-wrote : goal.returns-in-Err-clause-wrote
 returns-in-Err-clause-wrote g c =
     let i = c.loop.invariant in
-    halted _ _ _ _ _ _ _ _ _ i.written i.fetched _ c.in-Err.ensures.err
+    halted _ _ _ _ (g.G.WriterGate.polls c.args.gate.now)
+    (g.G.WriterGate.polls c.loop.gate) _ _ _ _ _ i.written i.fetched
+    i.gate _ c.in-Err.ensures.err
 
 pub returns-in-Err-clause-idle : goal.returns-in-Err-clause-idle
 returns-in-Err-clause-idle g c =
@@ -27,24 +29,25 @@ returns-in-Err-clause-idle g c =
     let h = halted_calls _ _ _ _ _ _ _ c.in-Err.ensures.err in
     omega (arith, a, h)
 
-pub returns-in-Err-clause-ends : goal.returns-in-Err-clause-ends
-returns-in-Err-clause-ends g c =
-    halted_ends _ _ _ _ _ _ (g.G.WriterGate.polls c.loop.gate) _ c.loop.invariant.gate c.in-Err.ensures.err
-
 pub returns-then-ended-clause-wrote : goal.returns-then-ended-clause-wrote
 returns-then-ended-clause-wrote g c =
-    let i = c.loop.invariant in went_done _ _ _ _ _ _ _ _ _ _ _ i.written i.fetched c.in-Ok.ensures.ok
-
-pub returns-then-ended-clause-ends : goal.returns-then-ended-clause-ends
-returns-then-ended-clause-ends g c =
+    let i = c.loop.invariant in
     let moved = c.saturating_sub.ensures in
     let short = c.if-saturating_sub-lt-NUMBERS_OF_A_FETCH.true in
-    went_over _ _ _ _ _ _ _ _ (g.G.WriterGate.polls c.loop.gate) c.loop.invariant.gate c.in-Ok.ensures.good
-    c.if-ended.true (omega (arith, moved, short)) c.in-Ok.ensures.ok
+    went_over _ _ _ _ (g.G.WriterGate.polls c.args.gate.now)
+    (g.G.WriterGate.polls c.loop.gate) _ _ _ _ _ _ _ i.written
+    i.fetched c.in-Ok.ensures.ok c.in-Ok.ensures.good (omega (arith, moved, short)) i.gate c.if-ended.true
 
 pub returns-then-not-idle-clause-wrote : goal.returns-then-not-idle-clause-wrote
 returns-then-not-idle-clause-wrote g c =
-    let i = c.loop.invariant in went_done _ _ _ _ _ _ _ _ _ _ _ i.written i.fetched c.in-Ok.ensures.ok
+    let i = c.loop.invariant in
+    let moved = c.saturating_sub.ensures in
+    let short = c.if-saturating_sub-lt-NUMBERS_OF_A_FETCH.true in
+    went_closed _ _ _ _ (g.G.WriterGate.polls c.args.gate.now)
+    (g.G.WriterGate.polls c.idle.new.self) _ _ _ _ _ _ _
+    i.written i.fetched c.in-Ok.ensures.ok c.in-Ok.ensures.good (omega (arith, moved, short))
+    (said_no (g.G.WriterGate.polls c.loop.gate) (g.G.WriterGate.polls c.idle.new.self) _ c.idle.ensures
+    c.if-not-idle.true i.gate)
 
 pub loop-preserved-else-not-idle : goal.loop-preserved-else-not-idle
 loop-preserved-else-not-idle g c =

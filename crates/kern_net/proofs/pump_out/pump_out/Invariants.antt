@@ -4,6 +4,7 @@ use Rattle.kern_net.specs.Gates.{PolledForEach}
 use Rattle.kern_net.specs.Out.{FetchedOn}
 use Rattle.kern_net.proofs.OutLemmas.{Written}
 use Rattle.kern_net.proofs.pump_out.pump_out.Given as goal
+use Rattle.kern_net.specs.Routes.{target_of}
 
 abbrev pub invariant-loop : goal.invariant-loop
 invariant-loop g l = record {
@@ -11,7 +12,8 @@ invariant-loop g l = record {
   seat : l.pass.seat ≡ l.fn.pass.seat;
   good : IsWritable (g.W.Outlet.state l.to);
   gate : (g.G.WriterGate.polls l.gate).idle.no ≡ 0;
-  written : Written l.route (g.W.Outlet.state l.fn.to) (g.W.Outlet.state l.to) l.from l.next l.pass.seen;
+  written : Written (target_of l.route) (g.W.Outlet.state l.fn.to)
+      (g.W.Outlet.state l.to) l.from l.next l.pass.seen;
   fetched : FetchedOn l.route.connection l.from l.fn.pass l.pass l.next;
   polled : PolledForEach l.fn.pass l.pass (g.G.WriterGate.polls l.fn.gate) (g.G.WriterGate.polls l.gate);
 }
