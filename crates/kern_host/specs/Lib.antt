@@ -1,0 +1,5 @@
+pub mod Guests
+pub mod Hosting
+pub mod Leaves
+pub mod OneHistory
+pub mod Visits

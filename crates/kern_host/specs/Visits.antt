@@ -1,0 +1,188 @@
+-- How a connection was served, in the one history of all calls.
+use Rattle.std.specs.Prelude.{◌≡◌, ◌≤◌, ℕ, List, [], ◌∷◌, ◌++◌, All, Option, Some, None, Result, Ok, Err}
+use Rattle.base_streams.specs.States.{InletState, OutletState}
+use Rattle.zmtp_wire.specs.Wire.{Bytes}
+use Rattle.zmtp_wire.specs.declared.role.Role.{Role}
+use Rattle.zmtp_wire.specs.declared.role.Role.TheVariants.{Pub, Router}
+use Rattle.zmtp_wire.specs.declared.head.Stage.TheVariants.{Traffic}
+use Rattle.zmtp_peer.specs.declared.handshake.Peer.{Peer}
+use Rattle.zmtp_peer.specs.declared.fault.PeerFault.{PeerFault}
+use Rattle.zmtp_peer.specs.Receiving.{Received}
+use Rattle.zmtp_peer.specs.Ends.{NoPeer, Blames}
+use Rattle.zmtp_peer.specs.Sending as hello
+use Rattle.jup_wire.specs.declared.channel.Channel.{Channel}
+use Rattle.jup_wire.specs.declared.channel.Channel.TheVariants.{Iopub}
+use Rattle.lab_turn.specs.History.{PassState, calls_of}
+use Rattle.kern_core.specs.declared.call.Call.{Call}
+use Rattle.kern_core.specs.declared.call.Call.TheVariants.{Join}
+use Rattle.kern_core.specs.declared.call.Reply.TheVariants.{Joined}
+use Rattle.kern_core.specs.declared.fault.KernelFault.{KernelFault}
+use Rattle.kern_core.specs.declared.fault.KernelFault.TheVariants as fault
+use Rattle.kern_desk.specs.Joins.{IsUnjoined}
+use Rattle.kern_net.specs.Streams.{posts_in, window}
+use Rattle.kern_host.specs.declared.end.Ends.{Ends}
+use Rattle.kern_host.specs.declared.end.LeaveFault.{LeaveFault}
+use Rattle.kern_host.specs.declared.end.LeaveFault.TheVariants as leave
+use Rattle.kern_host.specs.declared.end.VisitEnd.{VisitEnd}
+use Rattle.kern_host.specs.declared.end.VisitEnd.TheVariants.{NoHandshake, NoJoin, Served}
+use Rattle.kern_host.specs.declared.guest.Passes.{Passes}
+use Rattle.kern_host.specs.declared.server.Seal.{Seal}
+use Rattle.kern_host.specs.Guests.{GuestState, Line, line_of}
+use Rattle.kern_host.specs.Leaves.{leaving}
+use Rattle.kern_host.specs.OneHistory.{History, Place, Stands, IsFull, IsPartOf, Asks, AskingEnds, Sends}
+use Rattle.kern_host.specs.OneHistory.{SendingEnds, IsFetchOf}
+
+-- what is the same for all connections: the key and the session of the messages, and the most calls that the
+-- journal takes
+pub record House : Type 0 where
+  pub key : Bytes
+  pub session : Bytes
+  pub limit : ℕ
+
+abbrev pub house_of : Seal → ℕ → House
+house_of seal limit = record { key = seal.key.now; session = seal.session.now; limit = limit }
+
+-- a seat, and the calls that it had made before
+pub record Seat : Type 0 where
+  pub number : ℕ
+  pub earlier : List Call
+
+abbrev pub seat_of : PassState Call → Seat
+seat_of pass = record { number = pass.seat; earlier = pass.calls }
+
+-- from where a connection is served: the seats of its reader and of its writer, in a house
+pub record Seats : Type 0 where
+  pub house : House
+  pub reading : Seat
+  pub writing : Seat
+
+abbrev pub seats_of : House → Passes → Seats
+seats_of house passes = record {
+  house = house;
+  reading = seat_of passes.reading;
+  writing = seat_of passes.writing;
+}
+
+abbrev pub reading_at : Seats → History → Place
+reading_at s history = record { history = history; seat = s.reading.number; limit = s.house.limit }
+
+abbrev pub writing_at : Seats → History → Place
+writing_at s history = record { history = history; seat = s.writing.number; limit = s.house.limit }
+
+-- the calls of a seat in the history are those of before, and these
+abbrev pub Adds : Seat → History → List Call → Type 0
+Adds seat history added = calls_of seat.number history ≡ seat.earlier ++ added
+
+-- ---- a peer
+
+-- the side that the kernel is on a channel
+abbrev pub role_on : Channel → Role
+role_on Iopub = Pub
+role_on _ = Router
+
+abbrev pub or_empty : Option Bytes → Bytes
+or_empty (Some identity) = identity
+or_empty None = []
+
+-- the identity that the peer's READY names, or an empty one
+abbrev pub identity_of : Peer → Bytes
+identity_of peer = or_empty peer.decoder.identity
+
+-- the handshake was made with a peer, and left the reader and the writer so
+pub record Meets (l : Line) (inlet : InletState) (outlet : OutletState) (peer : Peer) : Type 0 where
+  pub received : Received l.inlet inlet peer
+  pub role : peer.decoder.role ≡ role_on l.channel
+  pub ready : peer.decoder.stage ≡ Traffic
+  pub wrote : hello.WroteWhole l.outlet outlet (role_on l.channel)
+
+-- no Join was made for want of memory, or it was refused so, or no turn was had
+pub data IsUnjoinedPeer (old : PassState Call) (call : Call) (new : PassState Call) : KernelFault
+    → Type 0 where
+  NoMemory : (f : KernelFault) → f ≡ fault.OutOfMemory → new ≡ old → IsUnjoinedPeer old call new f
+  NotTaken : (f : KernelFault) → IsUnjoined old call new f → IsUnjoinedPeer old call new f
+
+-- ---- a visit
+
+-- no peer came, and nothing was called
+pub record MeetsNobody (s : Seats) (old new : Line) (history : History)
+    (fault : PeerFault) : Type 0 where
+  pub lost : NoPeer (role_on old.channel) old.inlet new.inlet fault
+  pub wrote : hello.WroteFront old.outlet new.outlet (role_on old.channel)
+  pub blames : Blames fault new.inlet new.outlet
+  pub silent : Adds s.reading history [] × Adds s.writing history []
+
+-- What a fault says of a Join that was not taken: no memory or no turn was had for it, or the journal was
+-- full, and it was not made; or it stands in the history, and was refused so there.
+abbrev pub TurnsAway : Seats → History → Call → KernelFault → Type 0
+TurnsAway s history join fault.OutOfMemory = Adds s.reading history []
+TurnsAway s history join fault.JournalFull = Adds s.reading history []
+TurnsAway s history join f =
+    Adds s.reading history (join ∷ []) × Stands (reading_at s history) join (Err f)
+
+-- a peer came, and the kernel took no Join of it
+pub record IsTurnedAway (s : Seats) (old new : Line) (history : History)
+    (fault : KernelFault) : Type 0 where
+  pub peer : Peer
+  pub meets : Meets old new.inlet new.outlet peer
+  pub cause : TurnsAway s history (Join old.channel (identity_of peer)) fault
+  pub silent : Adds s.writing history []
+
+-- where a Leave is wanting, the journal was full, or no turn was had
+abbrev pub LeaveEnds : Place → Result (Unit {0}) LeaveFault → Type 0
+LeaveEnds place (Err leave.JournalFull) = IsFull place
+LeaveEnds place _ = Unit {0}
+
+-- A peer came and joined. The calls of its first seat are its Join, one for each message of its bytes that
+-- asks for something, and its Leave. What it was sent after the handshake are the posts to it, from its Join
+-- on and below the number `next`, and its second seat only fetched them.
+pub record IsServed (s : Seats) (old new : Line) (history : History) (ends : Ends) : Type 0 where
+  pub peer : Peer
+  pub inlet : InletState
+  pub outlet : OutletState
+  pub meets : Meets old inlet outlet peer
+  pub connection : ℕ
+  pub from : ℕ
+  pub joins : Stands (reading_at s history) (Join old.channel (identity_of peer)) (Ok
+      (Joined connection from))
+  pub asked : List Call
+  pub calls : Adds s.reading history (Join old.channel (identity_of peer) ∷
+      (asked ++ leaving connection ends.leave))
+  pub asks : Asks (record { connection = connection; channel = old.channel; key = s.house.key })
+      peer inlet new.inlet asked ends.reading
+  pub next : ℕ
+  pub onward : from ≤ next
+  pub sends : Sends (record { connection = connection; key = s.house.key; session = s.house.session })
+      outlet new.outlet (window connection from next (posts_in history)) ends.writing
+  pub fetched : List Call
+  pub fetches : Adds s.writing history fetched × All (IsFetchOf connection) fetched
+  pub asking_ends : AskingEnds (reading_at s history) asked ends.reading
+  pub sending_ends : SendingEnds (writing_at s history) connection next new.polls ends.writing
+  pub leave_ends : LeaveEnds (reading_at s history) ends.leave
+
+abbrev pub IsVisit : Seats → Line → Line → History → VisitEnd → Type 0
+IsVisit s old new history (NoHandshake fault) = MeetsNobody s old new history fault
+IsVisit s old new history (NoJoin fault) = IsTurnedAway s old new history fault
+IsVisit s old new history (Served ends) = IsServed s old new history ends
+
+-- ---- before the history of all is known
+
+-- A visit left the guest so, and its passes, which are of the same seats. Whatever the history is of which
+-- these passes are a part, the guest was served in it.
+pub record VisitedFrom (house : House) (old new : GuestState) (before after : Passes) : Type 0 where
+  pub reading : (after.reading.turnstile ≡ before.reading.turnstile)
+      × (after.reading.seat ≡ before.reading.seat)
+  pub writing : (after.writing.turnstile ≡ before.writing.turnstile)
+      × (after.writing.seat ≡ before.writing.seat)
+  pub channel : new.channel ≡ old.channel
+  pub end : VisitEnd
+  pub told : new.end ≡ Some end
+  pub visit : (history : History) → IsPartOf after.reading history → IsPartOf after.writing history
+      → IsVisit (seats_of house before) (line_of old) (line_of new) history end
+
+abbrev pub VisitedWith : House → GuestState → GuestState → Option Passes → Option Passes → Type 0
+VisitedWith house old new (Some before) (Some after) = VisitedFrom house old new before after
+VisitedWith house old new _ _ = ⊥
+
+-- the guest was visited
+abbrev pub Visited : House → GuestState → GuestState → Type 0
+Visited house old new = VisitedWith house old new old.passes new.passes

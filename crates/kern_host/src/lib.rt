@@ -1,0 +1,16 @@
+// A kernel with all its connections. `host` runs it from the first call to the last, and its contract is the
+// whole statement: there is one history of all calls, in it each connection asked for what its bytes ask for,
+// and was sent the posts that the stated kernel makes for it there, none left out, and each end has its
+// cause. `visit` serves one connection, from its handshake to its Leave, whatever other threads do at the
+// desk. `laws` say the same of each pump alone.
+#![tactic(auto)]
+
+pub mod end;
+pub mod guest;
+pub mod host;
+pub mod laws;
+mod leaving;
+mod seating;
+pub mod server;
+mod talking;
+pub mod visiting;

@@ -1,0 +1,127 @@
+//! Reading from a connection and writing to it at once.
+ghost use Rattle.std.specs.Prelude.{◌≡◌, IsSome, IfSome};
+ghost use Rattle.base_streams.specs.States.{IsReadable, IsWritable};
+ghost use Rattle.kern_net.specs.Reading.{ReadOut};
+ghost use Rattle.kern_host.specs.Guests.{IsComing};
+ghost use Rattle.kern_net.specs.Out.{WroteOut};
+ghost use Rattle.kern_net.specs.Routes.{source_of, target_of};
+
+use crate::guest::{Guest, Passes};
+use base_streams::ports::{Inlet, Outlet};
+use kern_desk::seated::Pass;
+use kern_net::end::PumpEnd;
+use kern_net::gate::{ReaderGate, WriterGate};
+use kern_net::pump_in::{IncomingRoute, pump_in};
+use kern_net::pump_out::{OutgoingRoute, pump_out};
+use std::alloc::Global;
+use std::sync::Wait;
+use std::thread;
+use std::thread::Threads;
+use zmtp_peer::handshake::Peer;
+
+/// The routes of a connection, and the number of the first post that may be for it.
+#[derive(Clone, Copy)]
+pub(crate) struct Routes<'a> {
+    pub(crate) incoming: IncomingRoute<'a>,
+    pub(crate) outgoing: OutgoingRoute<'a>,
+    pub(crate) from: u64,
+}
+
+// Reads from the peer to the end.
+fn read_on<R: Wait, I: Inlet, G: ReaderGate>(
+    rt: &R,
+    alloc: Global,
+    pass: &mut Pass,
+    gate: &mut G,
+    from: &mut I,
+    peer: &mut Option<Peer>,
+    route: &IncomingRoute<'_>,
+) -> PumpEnd
+    requires own { pass.old.turnstile ≡ route.now.desk.now }
+    requires readable { IsReadable (I.state from.old) }
+    requires some { IsSome peer.old }
+    ensures same { (pass.new.turnstile ≡ route.now.desk.now) × (pass.new.seat ≡ pass.old.seat) }
+    ensures read { IfSome peer.old (λ p. ReadOut (source_of route.now) p
+        (record { inlet = I.state from.old; pass = pass.old })
+        (record { inlet = I.state from.new; pass = pass.new }) result) }
+{
+    let Some(peer) = peer.take() else {
+        unreachable!()
+    };
+    pump_in(rt, alloc, pass, gate, from, peer, route)
+}
+
+/// Reads and writes, each in a thread of its own, until both have ended.
+pub(crate) fn talk<
+    R: Threads + Wait + Sync,
+    I: Inlet + Drop + Send,
+    W: Outlet + Drop + Send,
+    G: ReaderGate + Drop + Send,
+    H: WriterGate + Drop + Send,
+>(
+    rt: &R,
+    alloc: Global,
+    routes: &Routes<'_>,
+    peer: Peer,
+    guest: &mut Guest<I, W, G, H>,
+    passes: &mut Passes,
+) -> (PumpEnd, PumpEnd)
+    requires reading { passes.old.reading.turnstile ≡ routes.now.incoming.desk.now }
+    requires writing { passes.old.writing.turnstile ≡ routes.now.outgoing.desk.now }
+    requires coming { IsComing guest.old }
+    ensures reading { (passes.new.reading.turnstile ≡ passes.old.reading.turnstile)
+        × (passes.new.reading.seat ≡ passes.old.reading.seat) }
+    ensures writing { (passes.new.writing.turnstile ≡ passes.old.writing.turnstile)
+        × (passes.new.writing.seat ≡ passes.old.writing.seat) }
+    ensures channel { guest.new.channel ≡ guest.old.channel }
+    ensures read { ReadOut (source_of routes.now.incoming) peer
+        (record { inlet = guest.old.inlet; pass = passes.old.reading })
+        (record { inlet = guest.new.inlet; pass = passes.new.reading }) result.0 }
+    ensures wrote { WroteOut (target_of routes.now.outgoing) routes.now.from
+        (record { outlet = guest.old.outlet; pass = passes.old.writing; polls = guest.old.writer })
+        (record { outlet = guest.new.outlet; pass = passes.new.writing; polls = guest.new.writer }) result.1 }
+{
+    // The reader takes the peer out of here.
+    let mut held = Some(peer);
+    let peer = &mut held;
+    let (incoming, outgoing) = (&routes.incoming, &routes.outgoing);
+    let first = routes.from;
+    let reading = &mut passes.reading;
+    let writing = &mut passes.writing;
+    let reader = &mut guest.reader;
+    let writer = &mut guest.writer;
+    let from = &mut guest.inlet;
+    let to = &mut guest.outlet;
+    thread::join_mut(
+        rt,
+        &mut || -> PumpEnd
+            requires { (reading.now.turnstile ≡ incoming.now.desk.now) × IsReadable (I.state from.now)
+                × IsSome peer.now }
+            ensures same { (reading.exit.now.turnstile ≡ incoming.entry.now.desk.now)
+                × (reading.exit.now.seat ≡ reading.entry.now.seat) }
+            ensures read { IfSome peer.entry.now (λ p. ReadOut (source_of incoming.entry.now) p
+                (record { inlet = I.state from.entry.now; pass = reading.entry.now })
+                (record { inlet = I.state from.exit.now; pass = reading.exit.now }) result) }
+        { read_on(rt, alloc, reading, reader, from, peer, incoming) },
+        &mut || -> PumpEnd
+            requires { (writing.now.turnstile ≡ outgoing.now.desk.now) × IsWritable (W.state to.now)
+                × ((H.polls writer.now).idle.no ≡ 0) }
+            ensures same { (writing.exit.now.turnstile ≡ outgoing.entry.now.desk.now)
+                × (writing.exit.now.seat ≡ writing.entry.now.seat) }
+            ensures wrote { WroteOut (target_of outgoing.entry.now) first
+                (record {
+                  outlet = W.state to.entry.now;
+                  pass = writing.entry.now;
+                  polls = H.polls
+                      writer.entry.now;
+                })
+                (record {
+                  outlet = W.state to.exit.now;
+                  pass = writing.exit.now;
+                  polls = H.polls
+                      writer.exit.now;
+                })
+                result }
+        { pump_out(rt, alloc, writing, writer, to, outgoing, first) },
+    )
+}

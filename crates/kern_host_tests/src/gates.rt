@@ -1,0 +1,127 @@
+//! The gates of the threads. They wait a little at each poll, and say no only where the test has failed.
+ghost use Rattle.std.specs.Prelude.{◌≡◌};
+ghost use Rattle.kern_net.specs.Gates.{unpolled};
+
+use crate::signals::{Signals, rest};
+use kern_desk::seated::Pass;
+use kern_net::gate::{ReaderGate, WorkerGate, WriterGate};
+use kern_net::tally::{Tally, WorkerTally, one_more};
+use std::rt::Clock;
+use std::sync::Wait;
+
+/// The time at all gates, 2000-02-29T00:00:00Z.
+pub const MOMENT: u64 = 951_782_400;
+
+/// The worker's gate.
+#[derive(Drop)]
+pub struct WorkGate<'a, C: Clock> {
+    polls: WorkerTally,
+    most: u64,
+    clock: &'a C,
+}
+
+impl<'a, C: Clock> WorkGate<'a, C> {
+    /// A gate that wasn't polled yet, and says no once there was nothing to do so often.
+    pub fn new(clock: &'a C, most: u64) -> WorkGate<'a, C>
+        ensures { result.polls ≡ unpolled }
+    {
+        WorkGate {
+            polls: WorkerTally::new(),
+            most,
+            clock,
+        }
+    }
+}
+
+impl<'a, C: Clock> WorkerGate for WorkGate<'a, C> {
+    ghost polls = { λ g. g.polls };
+
+    fn before<R: Wait>(&mut self, rt: &R, _slices: u64) -> bool {
+        self.polls.add_before(rt, true);
+        true
+    }
+
+    fn idle<R: Wait>(&mut self, rt: &R) -> bool {
+        rest(self.clock);
+        let says = self.polls.idle().yes() < self.most;
+        self.polls.add_idle(rt, says);
+        says
+    }
+
+    fn wake<R: Wait>(&mut self, rt: &R) {
+        self.polls.add_wake(rt);
+    }
+
+    fn unix_seconds<R: Wait>(&mut self, _rt: &R) -> u64 {
+        MOMENT
+    }
+}
+
+/// A reader's gate, which tells of each call.
+#[derive(Drop)]
+pub struct InGate<'a> {
+    wakes: u64,
+    tells: u64,
+    signals: &'a Signals,
+}
+
+impl<'a> InGate<'a> {
+    /// A gate that has told nothing.
+    pub fn new(signals: &'a Signals) -> InGate<'a> {
+        InGate {
+            wakes: 0,
+            tells: 0,
+            signals,
+        }
+    }
+}
+
+impl<'a> ReaderGate for InGate<'a> {
+    ghost polls = { λ g. record { wakes = g.wakes; tells = g.tells } };
+
+    fn wake<R: Wait>(&mut self, rt: &R) {
+        self.signals.heard.give(1);
+        self.wakes = one_more(rt, self.wakes);
+    }
+
+    fn tell<R: Wait>(&mut self, rt: &R) {
+        self.signals.heard.give(1);
+        self.tells = one_more(rt, self.tells);
+    }
+
+    fn unix_seconds<R: Wait>(&mut self, _rt: &R) -> u64 {
+        MOMENT
+    }
+}
+
+/// A writer's gate.
+#[derive(Drop)]
+pub struct OutGate<'a, C: Clock> {
+    idle: Tally,
+    most: u64,
+    clock: &'a C,
+}
+
+impl<'a, C: Clock> OutGate<'a, C> {
+    /// A gate that wasn't polled yet, and says no after so many polls.
+    pub fn new(clock: &'a C, most: u64) -> OutGate<'a, C>
+        ensures { result.idle ≡ record { yes = 0; no = 0 } }
+    {
+        OutGate {
+            idle: Tally::new(),
+            most,
+            clock,
+        }
+    }
+}
+
+impl<'a, C: Clock> WriterGate for OutGate<'a, C> {
+    ghost polls = { λ g. record { idle = g.idle } };
+
+    fn idle<R: Wait>(&mut self, rt: &R, _pass: &Pass, _next: u64) -> bool {
+        rest(self.clock);
+        let says = self.idle.yes() < self.most;
+        self.idle.add(rt, says);
+        says
+    }
+}

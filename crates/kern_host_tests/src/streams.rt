@@ -1,0 +1,44 @@
+//! The two ends of a connection.
+
+use crate::bytes::{IDLE, count_of};
+use crate::signals::Signals;
+use base_streams::ports::{Inlet, IoFault, Outlet};
+use std::rt::Clock;
+
+/// A reader that gives nothing before so many calls were heard, and so many requests done.
+#[derive(Drop)]
+pub struct HeldInlet<'a, I: Inlet + Drop, C: Clock> {
+    pub from: I,
+    pub signals: &'a Signals,
+    pub heard: u32,
+    pub done: u32,
+    pub clock: &'a C,
+}
+
+impl<'a, I: Inlet + Drop, C: Clock> Inlet for HeldInlet<'a, I, C> {
+    ghost state = { λ s. I.state s.from };
+
+    fn read(&mut self, buffer: &mut [u8]) -> Result<usize, IoFault> {
+        self.signals.heard.wait_for(self.clock, self.heard);
+        self.signals.done.wait_for(self.clock, self.done);
+        self.from.read(buffer)
+    }
+}
+
+/// A writer that tells which requests are done.
+#[derive(Drop)]
+pub struct ToldOutlet<'a, W: Outlet + Drop> {
+    pub to: W,
+    pub signals: &'a Signals,
+}
+
+impl<'a, W: Outlet + Drop> Outlet for ToldOutlet<'a, W> {
+    ghost state = { λ s. W.state s.to };
+
+    // What is written at once is written whole: the writer below takes any number of bytes.
+    fn write(&mut self, bytes: &[u8]) -> Result<usize, IoFault> {
+        let written = self.to.write(bytes);
+        self.signals.done.give(count_of(bytes, IDLE));
+        written
+    }
+}
