@@ -11,6 +11,7 @@ from jupyter_client import write_connection_file
 from jupyter_client.session import Session
 
 from lab80_client import Lab, PATIENCE, printing, start_alone, streams
+from test_patience import PRINTED, STARS
 from zmtp import Peer, greeting, message, ready
 
 # As many connections as a channel has places.
@@ -150,6 +151,14 @@ class Pace(Lab):
             self.assertLess(time.monotonic() - began, 2)
             self.control("interrupt")
             self.assertEqual(self.reply(number)["content"]["ename"], "Interrupted")
+
+    def test_much_output_comes_to_all_who_hear_it(self):
+        others = [self.new_client() for _ in range(6)]
+        for _ in range(5):
+            number = self.client.execute(STARS)
+            for client in (self.client, *others):
+                self.assertEqual(len(streams(self.posts(number, client))), PRINTED)
+            self.assertEqual(self.reply(number)["content"]["status"], "ok")
 
     def test_messages_have_the_date_of_now(self):
         number = self.client.execute(printing("x"))

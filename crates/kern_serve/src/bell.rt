@@ -75,6 +75,8 @@ pub struct Bell {
     // The place of iopub whose writer looks for posts, counted from 1, and how often posts of a running cell were found.
     scout: AtomicU64,
     finds: AtomicU64,
+    // How many writers of iopub there are.
+    subscribers: AtomicU64,
     is_closing: AtomicBool,
     writers: Mutex<u64>,
     quiet: Condvar,
@@ -112,6 +114,7 @@ impl Bell {
             }),
             scout: AtomicU64::new(0),
             finds: AtomicU64::new(0),
+            subscribers: AtomicU64::new(0),
             is_closing: AtomicBool::new(false),
             writers: Mutex::new(0),
             quiet: Condvar::new(),
@@ -213,19 +216,44 @@ impl Bell {
         }
     }
 
-    /// Has one writer of iopub look whether a running cell has posted something; if all are busy, or there is none, wakes all
-    /// writers. So a cell that posts nothing costs one Fetch, and not one for each writer.
-    pub fn look_for_posts(&self) {
+    // Whether the writer that looked for posts last is still busy with what it found.
+    fn is_scout_busy(&self) -> bool {
+        let last = self.scout.load(Ordering::SeqCst) as usize;
+        match self.iopub.get(last.wrapping_sub(1)) {
+            Some(spot) => !spot.has_sleeper(),
+            None => false,
+        }
+    }
+
+    // A writer of iopub that sleeps, after the one that looked for posts last.
+    fn next_scout(&self) -> Option<(usize, &Spot)> {
         let last = self.scout.load(Ordering::SeqCst) as usize;
         for step in 0..PLACES {
             let number = last.saturating_add(step) % PLACES;
             if let Some(spot) = self.iopub.get(number)
                 && spot.has_sleeper()
             {
-                self.scout.store(number as u64 + 1, Ordering::SeqCst);
-                spot.ring();
-                return;
+                return Some((number, spot));
             }
+        }
+        None
+    }
+
+    /// Has one writer of iopub look whether a running cell has posted something; if the last one is still busy with that, if all
+    /// are busy, or if there is none, wakes all writers. So a cell that posts nothing costs one Fetch, and not one for each
+    /// writer.
+    pub fn look_for_posts(&self) {
+        if !self.is_scout_busy()
+            && let Some((number, spot)) = self.next_scout()
+        {
+            self.scout
+                .store((number as u64).saturating_add(1), Ordering::SeqCst);
+            spot.ring();
+            return;
+        }
+        self.scout.store(0, Ordering::SeqCst);
+        if self.subscribers.load(Ordering::SeqCst) != 0 {
+            self.finds.fetch_add(1, Ordering::SeqCst);
         }
         self.wake_writers();
     }
@@ -279,13 +307,19 @@ impl Bell {
     }
 
     /// A writer begins.
-    pub fn begin_writer<R: Wait>(&self, rt: &R) {
+    pub fn begin_writer<R: Wait>(&self, rt: &R, channel: Channel) {
+        if channel == Channel::Iopub {
+            self.subscribers.fetch_add(1, Ordering::SeqCst);
+        }
         let mut writers = self.writers.lock(rt);
         *writers = writers.wrapping_add(1);
     }
 
     /// A writer has ended.
-    pub fn end_writer<R: Wait>(&self, rt: &R) {
+    pub fn end_writer<R: Wait>(&self, rt: &R, channel: Channel) {
+        if channel == Channel::Iopub {
+            self.subscribers.fetch_sub(1, Ordering::SeqCst);
+        }
         let mut writers = self.writers.lock(rt);
         *writers = writers.wrapping_sub(1);
         drop(writers);

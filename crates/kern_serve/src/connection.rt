@@ -171,7 +171,7 @@ fn write_on<R: Wait + Clock>(
         key: shared.key.as_str().as_bytes(),
         session: shared.session.as_str(),
     };
-    bell.begin_writer(rt);
+    bell.begin_writer(rt, ends.place.channel);
     if gate.wait_for_posts(rt) {
         let _ = pump_out(
             rt,
@@ -184,7 +184,7 @@ fn write_on<R: Wait + Clock>(
         );
     }
     close(&*ends.stream);
-    bell.end_writer(rt);
+    bell.end_writer(rt, ends.place.channel);
     pass
 }
 
