@@ -10,6 +10,7 @@ import urllib.request
 ELEMENT = "element-6066-11e4-a52e-4f735466cecf"
 
 ENTER, SHIFT, HOME, DELETE, ESCAPE = "\ue007", "\ue008", "\ue011", "\ue017", "\ue00c"
+TAB = "\ue004"
 ARROW_DOWN, F5, F6, F10, F11 = "\ue015", "\ue035", "\ue036", "\ue03a", "\ue03b"
 
 

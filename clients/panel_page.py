@@ -1,10 +1,12 @@
 """The front panel's page as somebody uses it: what it shows, and what is pressed and typed there."""
 import os
-import struct
 import time
-import zlib
 
 from browser import wait_until
+from pictures import packed
+
+# Scripts of tests find what the page's modules export by its name.
+PARTS = "with (globalThis.lab80 || {}) {%s\n}"
 
 # A picture is kept as a file in the folder that this names, for the documents.
 PICTURES = os.environ.get("LAB80_PICTURES")
@@ -27,6 +29,12 @@ REGISTERS = """
 FLAGS = """
     const flags = [...document.querySelectorAll('#flags [data-name]')];
     return Object.fromEntries(flags.map(each => [each.dataset.name, each.textContent.split(' ')[1]]));"""
+# Notes the files that the page saves.
+SAVES = """
+    window.saved = [];
+    HTMLAnchorElement.prototype.click = function () {
+        fetch(this.href).then(reply => reply.text()).then(text => window.saved.push([this.download, text]));
+    };"""
 ASK = """
     const [command, given, done] = arguments;
     debug(command, given).then(done, refusal => done(refusal.message));"""
@@ -37,23 +45,6 @@ def keep_picture(browser, name):
     if PICTURES:
         with open(os.path.join(PICTURES, name + ".png"), "wb") as file:
             file.write(packed(browser.screenshot()))
-
-
-def packed(png):
-    """The same picture in a smaller file: its data as one chunk, packed as well as may be."""
-    place, chunks, data = 8, [], b""
-    while place < len(png):
-        size, = struct.unpack(">I", png[place:place + 4])
-        kind, content = png[place + 4:place + 8], png[place + 8:place + 8 + size]
-        if kind == b"IDAT":
-            data += content
-        else:
-            chunks.append((kind, content))
-        place += size + 12
-    chunks.insert(-1, (b"IDAT", zlib.compress(zlib.decompress(data), 9)))
-    return png[:8] + b"".join(
-        struct.pack(">I", len(content)) + kind + content + struct.pack(">I", zlib.crc32(kind + content))
-        for kind, content in chunks)
 
 
 class Page:
@@ -73,14 +64,14 @@ class Page:
         return self.given
 
     def run(self, script, *given):
-        return self.browser.run(script, *given)
+        return self.browser.run(PARTS % script, *given)
 
     def waits(self, is_so, seconds=20):
         return wait_until(is_so, seconds)
 
     def ask(self, command, **given):
         """A debug command on the page's own line: its answer's body, or the refusal's name."""
-        return self.browser.run_later(ASK, command, given)
+        return self.browser.run_later(PARTS % ASK, command, given)
 
     # what is shown
 
@@ -91,7 +82,7 @@ class Page:
         return self.run(TEXTS, selector)
 
     def state(self):
-        return self.text("#state")
+        return self.text("#state-name")
 
     def console(self):
         return self.text("#console")
@@ -140,7 +131,12 @@ class Page:
     # what is waited for
 
     def is_in(self, state):
-        self.waits(lambda: self.state() == state)
+        """Waits for a state; a program that waits for a button runs too."""
+        wanted = (state, "waits for a button") if state == "running" else (state,)
+        try:
+            self.waits(lambda: self.state() in wanted)
+        except TimeoutError:
+            raise TimeoutError(f"it shows {self.state(), self.message()}, and not {state!r}") from None
 
     def stops(self, reason, line):
         """Waits until it shows a stop on a line; in vain, it tells what is shown instead."""
@@ -152,10 +148,17 @@ class Page:
             raise TimeoutError(f"it shows {shown}, and not {wanted}") from None
 
     def prints(self, text):
-        self.waits(lambda: self.console() == text)
+        self.shows(self.console, text)
 
     def says(self, text):
-        self.waits(lambda: self.message() == text)
+        self.shows(self.message, text)
+
+    def shows(self, read, text):
+        """Waits until it shows a text; in vain, it tells what is shown instead."""
+        try:
+            self.waits(lambda: read() == text)
+        except TimeoutError:
+            raise TimeoutError(f"it shows {read()!r}, and not {text!r}") from None
 
     # what is done
 

@@ -1,7 +1,6 @@
 """Pages of Jupyter's servers in a browser: what the tests of the front panel share."""
 import os
 import re
-import shutil
 import tempfile
 import unittest
 
@@ -31,6 +30,7 @@ class Pages(unittest.TestCase):
         self.window = self.browser.window()
         self.browser.size(1250, 1130)
         self.browser.open(self.server.page("lab80", "logo-32x32.png", token=TOKEN))
+        self.browser.run("localStorage.clear(); sessionStorage.clear()")
         self.addCleanup(self.end)
 
     def end(self):
@@ -58,11 +58,6 @@ class NotebookPages(Pages):
     """The same with notebooks in the classic Notebook."""
 
     program = "notebook"
-
-    @classmethod
-    def setUpClass(cls):
-        super().setUpClass()
-        shutil.copytree(os.path.join(HERE, "..", "docs"), os.path.join(cls.folder, "docs"))
 
     def notebook(self, name, cells=()):
         """A notebook with these cells, or a lesson, open in the page with its kernel ready."""

@@ -46,7 +46,7 @@ SHOWING = ("threads", "stackTrace", "scopes", "variables")
 
 def words_of_the_assembler():
     """The one list of words that mean something by themselves, by their kinds."""
-    with open(os.path.join(TOP, "kernelspec/kernel.js"), encoding="utf-8") as file:
+    with open(os.path.join(TOP, "kernelspec/shared.js"), encoding="utf-8") as file:
         listed = re.search(r"const WORDS = \{(.*?)\};", file.read(), re.S)[1]
     return {kind: words.split() for kind, words in re.findall(r'(\w+): "([^"]*)"', listed)}
 

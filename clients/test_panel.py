@@ -106,7 +106,7 @@ class Doors:
         channels = f"/api/kernels/{kernel}/channels"
         upgrade = {"Connection": "Upgrade", "Upgrade": "websocket", "Sec-WebSocket-Version": "13",
                    "Sec-WebSocket-Key": "AAAAAAAAAAAAAAAAAAAAAA=="}
-        for file in ("panel.html", "kernel.js"):
+        for file in ("panel.html", "kernel.js", "shared.js", "panel/main.js", "panel/panel.css"):
             self.assertEqual(self.server.status(f"/kernelspecs/lab80/{file}", {}), 302)
             self.assertEqual(self.server.status(f"/kernelspecs/lab80/{file}", LET_IN), 200)
         self.assertEqual(self.server.status(channels, upgrade), 403)
@@ -124,7 +124,7 @@ class Doors:
         kernel = self.server.start_kernel("lab80")
         page = Page(self.browser, self.server.page("lab80", "panel.html", kernel=kernel, token=TOKEN))
         page.waits(lambda: page.state() in ("connected", "idle"))
-        self.assertTrue(page.run("return location.href").endswith(f"/panel.html?kernel={kernel}"))
+        self.assertRegex(page.run("return location.href"), rf"/panel\.html\?kernel={kernel}&v=[^&]+$")
         self.assertNotIn(TOKEN, page.run("return document.documentElement.outerHTML"))
         page.run("location.reload()")
         page.waits(lambda: page.state() in ("connected", "idle"))
@@ -183,7 +183,10 @@ class Panel(Pages, Doors):
         page.run(COUNT)
         time.sleep(2.5)
         # where the machine is busy there are fewer
-        self.assertIn(len(page.run("return window.sent")), range(1, 6))
+        kinds = page.run("return window.sent.map(each => JSON.parse(each).content.arguments.variablesReference || 0)")
+        self.assertLessEqual({1, 2, 3}, set(kinds))
+        for kind in set(kinds):
+            self.assertIn(kinds.count(kind), range(1, 6), kind)
         page.click("#follow")
         time.sleep(0.3)
         page.run("window.sent = []")
@@ -214,7 +217,7 @@ class Panel(Pages, Doors):
     def test_a_stop_and_steps_by_line(self):
         page = self.stopped(CALLS, 4)
         self.assertTrue(page.is_attached())
-        self.assertEqual(page.at_pc(), "0105CD 0A 01CALL 0010AH")
+        self.assertEqual(page.at_pc(), "0105CD 0A 01CALL TWICE")
         self.assertEqual(page.frames(), ["mainline 4  0105H"])
         for command, line, frames in (("stepIn", 7, 2), ("next", 8, 2), ("stepIn", 10, 3), ("stepOut", 9, 2), ("next", 5, 1)):
             page.command(command)
@@ -267,7 +270,8 @@ class Panel(Pages, Doors):
         page.click("#frames button", 2)
         page.waits(lambda: page.line() == 4)
         self.assertEqual(page.registers()["SP"], "0FFC")
-        self.assertEqual(page.texts("#stack tr")[0], "0FFC010E0E 01")
+        self.assertEqual(page.texts("#stack tr")[:2], ["0FFC010E0E 01back to TWICE, after line 8",
+                                                       "0FFE010808 01back to main, after line 4"])
         self.assertEqual(page.flags(), {"S": "0", "Z": "0", "AC": "0", "P": "1", "CY": "0", "INTE": "off"})
         self.assertEqual(page.text("#registers"), "A0AF06PSW0A06" "B00C01BC0001" "D00E00DE0000" "H00L00HL0000" "SP0FFCPC010F")
         page.command("stepIn")
@@ -286,7 +290,8 @@ class Panel(Pages, Doors):
         page.press(2)
         page.waits(lambda: page.text("#latched") == "Latched: RST 2")
         self.assertEqual([frame.split("line")[0] for frame in page.frames()], ["STAR", "main"])
-        page.picture("panel", height=840)
+        page.choose("#dress", "digits")
+        page.picture("panel", 1300, 1190)
         page.command("stepOut")
         page.waits(lambda: len(page.frames()) == 1)
         page.prints("**")
@@ -316,7 +321,7 @@ class Panel(Pages, Doors):
         page.waits(lambda: page.text("#memory [data-name='0120']") == "05")
         held = page.registers()["C"]
         self.edit(page, "#registers [data-name=C]", "256" + ENTER)
-        page.says("C: that is no value here (BadValue)")
+        page.says("C: that is no value here: 0 to 255, as 12, 5AH, 0FFH (BadValue)")
         page.browser.key(ESCAPE)
         page.waits(lambda: page.registers()["C"] == held)
         page.command("continue")
@@ -414,7 +419,8 @@ class Panel(Pages, Doors):
         page.stops("breakpoint", 4)
         page.command("continue")
         page.is_in("idle")
-        page.command("pause")
+        self.assertTrue(page.run("return document.querySelector('[data-command=pause]').disabled"))
+        page.run("command('pause')")
         page.says("Pause: nothing runs (NotRunning)")
         page.run("command('next')")
         page.says("Over: nothing is stopped (NotStopped)")
@@ -425,6 +431,7 @@ class Panel(Pages, Doors):
         self.server.ask("POST", f"/api/kernels/{self.kernel}/restart", {})
         page.is_in("idle")
         page.waits(lambda: (page.is_attached(), page.breakpoints(), page.frames()) == (False, [], ["Nothing is stopped."]))
+        page.waits(lambda: "A new board: the kernel was started again." in page.console())
         page.run_cell(HELLO)
         page.waits(lambda: page.console().endswith("hello, world\n") and "hello, world" in page.text("#source"))
         page.toggle(5)
@@ -460,11 +467,17 @@ class Panel(Pages, Doors):
 
     def test_late_answers_are_dropped(self):
         page = self.stopped(CALLS, 4)
+        # what the first look is answered is held back until a later one was made
         page.run("""
-            const asks = debug, held = new Promise(done => { window.release = done; });
-            debug = async (...given) => { const found = await asks(...given); await held; return found; };
+            const hears = line.socket.onmessage, held = [];
+            let sent = [];
+            const sends = WebSocket.prototype.send;
+            WebSocket.prototype.send = function (text) { sent.push(JSON.parse(text).header.msg_id); return sends.call(this, text); };
+            window.release = () => { line.socket.onmessage = hears; held.forEach(hears); };
+            line.socket.onmessage = event => sent.includes((JSON.parse(event.data).parent_header || {}).msg_id)
+                ? void held.push(event) : hears(event);
             lookSoon(0);
-            setTimeout(() => { debug = asks; }, 300);""")
+            setTimeout(() => { WebSocket.prototype.send = sends; }, 300);""")
         time.sleep(0.5)
         page.command("next")
         page.stops("step", 5)
@@ -483,9 +496,9 @@ class Panel(Pages, Doors):
     def test_a_stop_that_comes_behind_a_later_answer_tells_its_reason(self):
         page = self.stopped(CALLS, 4)
         page.run("""
-            const hears = hear, held = [];
-            hear = message => message.header.msg_type === "debug_event" ? void held.push(message) : hears(message);
-            window.release = () => { hear = hears; held.forEach(hears); };""")
+            const hears = line.socket.onmessage, held = [];
+            line.socket.onmessage = event => event.data.includes('"debug_event"') ? void held.push(event) : hears(event);
+            window.release = () => { line.socket.onmessage = hears; held.forEach(hears); };""")
         page.command("stepIn")
         time.sleep(0.5)
         page.run("lookSoon(0)")
@@ -509,7 +522,7 @@ class Panel(Pages, Doors):
             board.frames = [{name: html, line: 1, instructionPointerReference: '0x0000'}];
             board.code = [{address: '0x0000', instructionBytes: '00', instruction: html}];
             known.texts.set('other', {text: html});
-            showAll();""", html)
+            emit('looked');""", html)
         page.waits(lambda: page.console().count(html) == 2)
         for selector in ("#message", "#symbols", "#frames", "#code", "#texts"):
             self.assertIn(html, page.text(selector), selector)
@@ -525,7 +538,7 @@ class Panel(Pages, Doors):
         other = self.open_another()
         other.ask("attach")
         other.ask("pause")
-        other.stops("pause", other.line())
+        other.is_in("stopped: pause")
         other.click("#interrupt")
         other.run_cell(HELLO)
         other.is_in("idle")
@@ -617,7 +630,7 @@ class Words(unittest.TestCase):
     """The one list of words that colours cells is the assembler's."""
 
     def test_words_are_the_assemblers(self):
-        with open(os.path.join(HERE, "..", "kernelspec", "kernel.js"), encoding="utf-8") as file:
+        with open(os.path.join(HERE, "..", "kernelspec", "shared.js"), encoding="utf-8") as file:
             list_of_words = re.search(r"const WORDS = \{(.*?)\};", file.read(), re.S)[1]
         coloured = {kind: words.split() for kind, words in re.findall(r'(\w+): "([^"]*)"', list_of_words)}
         self.assertEqual(coloured, self.words_of_the_assembler())

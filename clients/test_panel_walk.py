@@ -1,0 +1,219 @@
+"""The front panel while a program runs, and the ways to walk through one: live values, slow runs, the trace and going back in it."""
+import time
+
+from browser import F6
+from panel_page import SAVES
+from panel_tests import Pages
+from test_panel import CALLS, COPIES
+
+# Counts in B, and lets a button in; then waits for one in a HLT.
+WAITS = """\
+        ORG 8
+        INR B
+        RET
+        ORG 100H
+START:  LXI SP,1000H
+        MVI B,0
+LOOP:   EI
+        HLT
+        JMP LOOP
+        END START
+"""
+
+# An endless count in B.
+COUNTS = "        ORG 100H\nSTART:  MVI B,0\nLOOP:   INR B\n        NOP\n        JMP LOOP\n        END START\n"
+
+
+class Live(Pages):
+    """What is shown while a program runs."""
+
+    def test_registers_code_and_symbols_of_a_running_program(self):
+        page = self.open()
+        page.run_cell("        ORG 200H\nOLD:    HLT\n        END OLD\n")
+        page.is_in("idle")
+        page.run_cell(COUNTS)
+        page.is_in("running")
+        page.waits(lambda: "LOOP0102" in page.texts("#symbols button"))
+        page.waits(lambda: "INR B" in page.text("#code") and page.at_pc())
+        page.waits(lambda: page.text("#memory [data-name='0100']") == "06")
+        seen = set()
+        page.waits(lambda: seen.add(page.registers()["B"]) or len(seen) > 2)
+        self.assertEqual(page.run("return document.querySelectorAll('#values .changed').length"), 0)
+        self.assertFalse(page.run("return document.getElementById('board').classList.contains('old')"))
+        page.click("#follow")
+        self.assertTrue(page.run("return document.getElementById('board').classList.contains('old')"))
+
+    def test_a_program_that_waits_for_a_button_says_so(self):
+        page = self.open()
+        page.run_cell(WAITS)
+        page.waits(lambda: page.state() == "waits for a button")
+        page.press(1)
+        page.waits(lambda: page.registers()["B"] == "01")
+        page.waits(lambda: page.state() == "waits for a button")
+        page.click("#interrupt")
+        page.is_in("idle")
+
+    def test_the_run_that_was_ended_is_said_on_a_line_of_its_own(self):
+        page = self.open()
+        page.run_cell("        MVI A,'!'\n        OUT 1\nLOOP:   JMP LOOP\n        END 0\n")
+        page.prints("!")
+        self.assertEqual(page.text("#interrupt"), "End the run")
+        page.click("#interrupt")
+        page.prints("!\nInterrupted: the run was ended.\n")
+        self.assertEqual(page.texts("#console .error"), ["\nInterrupted: the run was ended.\n"])
+
+    def test_pause_is_offered_where_something_runs(self):
+        page = self.open()
+        page.click("#attached")
+        page.waits(page.is_attached)
+        page.is_in("idle")
+        is_offered = "return !document.querySelector('[data-command=pause]').disabled"
+        self.assertFalse(page.run(is_offered))
+        page.run_cell(COPIES)
+        page.waits(lambda: page.run(is_offered))
+
+    def test_a_page_that_is_opened_late(self):
+        page = self.open()
+        page.is_in("idle")
+        page.run_cell(COUNTS)
+        page.is_in("running")
+        late = self.open_another()
+        late.is_in("running")
+        late.waits(lambda: "INR B" in late.text("#source"))
+        late.click("#interrupt")
+        late.is_in("idle")
+        late.run("location.reload()")
+        late.waits(lambda: late.state() == "idle" and "INR B" in late.text("#source"))
+
+    def test_an_ended_kernel_leads_back_and_a_board_is_started_from_the_list(self):
+        page = self.open()
+        page.is_in("idle")
+        self.server.ask("DELETE", f"/api/kernels/{self.kernel}")
+        page.run("isThere()")
+        page.is_in("the kernel has ended")
+        controls = "return [...document.querySelectorAll('#presses button, .switch')].filter(each => !each.disabled).length"
+        self.assertEqual(page.run(controls), 0)
+        page.browser.click("#to-boards")
+        page.waits(lambda: page.state() == "choose a board")
+        page.browser.click("#start-board")
+        page.is_in("idle")
+        page.run_cell("        MVI A,'x'\n        OUT 1\n        HLT\n        END 0\n")
+        page.prints("x")
+        self.assertEqual(len(self.server.ask("GET", "/api/kernels")), 1)
+
+
+class Walk(Pages):
+    """Runs that stop at once, go slowly, or go to a line."""
+
+    def starts(self, text):
+        page = self.open()
+        page.is_in("idle")
+        page.run("setCell(arguments[0])", text)
+        return page
+
+    def test_a_run_is_stopped_at_its_first_instruction(self):
+        page = self.starts(CALLS.replace("START:  LXI", "START:\n; a comment\n        LXI"))
+        page.click("#run-stopped")
+        page.stops("breakpoint", 4)
+        page.waits(lambda: page.breakpoints() == [])
+        self.assertEqual(page.registers()["PC"], "0100")
+        page.command("continue")
+        page.is_in("idle")
+        # where END names no label any line may be the first
+        page.run("setCell(arguments[0])", CALLS.replace("END START", "END 100H"))
+        page.click("#run-stopped")
+        page.stops("breakpoint", 2)
+        page.waits(lambda: page.breakpoints() == [])
+        page.click("#interrupt")
+        page.is_in("idle")
+        page.run("setCell('; nothing')")
+        page.click("#run-stopped")
+        page.says("Run: the cell has no instruction at which it could be stopped")
+
+    def test_a_slow_run(self):
+        page = self.starts(COUNTS)
+        page.run("document.getElementById('speed').value = 10")
+        page.click("#slowly")
+        page.is_in("runs slowly")
+        begun = time.monotonic()
+        page.waits(lambda: len(page.texts("#trace tbody tr")) >= 10)
+        self.assertGreater(time.monotonic() - begun, 0.7)
+        page.browser.key(F6)
+        page.waits(lambda: page.state() == "stopped: step")
+        # a step that was under way ends
+        time.sleep(0.5)
+        shown = page.registers()["PC"]
+        time.sleep(0.4)
+        self.assertEqual(page.registers()["PC"], shown)
+        self.assertEqual(page.message(), "")
+        # a breakpoint ends it as well
+        page.toggle(3)
+        page.click("#slowly")
+        page.stops("breakpoint", 3)
+
+    def test_to_a_line(self):
+        page = self.starts(CALLS)
+        page.click("#run-stopped")
+        page.stops("breakpoint", 2)
+        self.assertTrue(page.run("return document.getElementById('to-line').disabled"))
+        page.click("#source [data-line='10']")
+        self.assertEqual(page.text("#to-line"), "To line 10")
+        page.click("#to-line")
+        page.stops("breakpoint", 10)
+        page.waits(lambda: page.breakpoints() == [])
+        self.assertEqual(page.frames()[0], "ONEline 10  010FH")
+
+    def test_the_trace_and_going_back(self):
+        page = self.starts(CALLS)
+        page.click("#run-stopped")
+        page.stops("breakpoint", 2)
+        for line in (3, 4, 7, 8):
+            page.command("stepIn")
+            page.stops("step", line)
+        rows = page.texts("#trace tbody tr")
+        self.assertEqual(rows[0], "10100STARTLXI SP,01000H")
+        self.assertEqual(rows[2:], ["30105CALL TWICE7A 00\u219205", "4010ATWICEADD A17SP 1000\u21920FFE",
+                                    "5010BCALL ONE4A 05\u21920A, P 0\u21921"])
+        self.assertEqual(page.text("#states"), "38 states")
+        page.click("#past-before")
+        page.click("#past-before")
+        self.assertEqual((page.text("#past-shown"), page.line()), ("2 stops ago", 4))
+        self.assertEqual((page.registers()["A"], page.registers()["SP"], page.at_pc()), ("05", "1000", "0105CD 0A 01CALL TWICE"))
+        self.assertEqual(page.frames(), ["mainline 4  0105H"])
+        editable = "return document.querySelectorAll('#registers button').length"
+        self.assertEqual(page.run(editable), 0)
+        self.assertTrue(page.run("return document.querySelector('[data-command=stepIn]').disabled"))
+        page.click("#past-after")
+        self.assertEqual((page.text("#past-shown"), page.registers()["SP"]), ("1 stop ago", "0FFE"))
+        page.click("#past-now")
+        self.assertEqual((page.text("#past-shown"), page.line(), page.registers()["A"]), ("", 8, "0A"))
+        page.click("#trace .past", 0)
+        self.assertEqual(page.text("#past-shown"), "4 stops ago")
+        page.click("#past-now")
+        page.run(SAVES)
+        page.click("#trace-save")
+        page.waits(lambda: page.run("return window.saved.length"))
+        name, text = page.run("return window.saved[0]")
+        self.assertEqual((name, text.split("\n")[3]), ("trace.txt", "3\t0105\t\tCALL TWICE\t7\tA 00\u219205"))
+        page.command("continue")
+        page.is_in("idle")
+        page.click("#past-before")
+        page.waits(lambda: page.text("#past-shown") == "1 stop ago")
+        page.click("#trace-clear")
+        self.assertEqual(page.texts("#trace tbody tr"), [])
+
+    def test_the_trace_keeps_five_hundred(self):
+        page = self.starts(CALLS)
+        page.click("#run-stopped")
+        page.stops("breakpoint", 2)
+        page.run("for (let at = 0; at < 600; ++at) { ++board.stops; recordStop(); }")
+        self.assertEqual(len(page.texts("#trace tbody tr")), 500)
+        self.assertTrue(page.texts("#trace tbody tr")[-1].startswith("601"))
+
+    def test_a_screen_reader_hears_a_stop_with_its_line_and_no_lamps(self):
+        page = self.starts(CALLS)
+        page.click("#run-stopped")
+        page.stops("breakpoint", 2)
+        page.waits(lambda: page.text("#state") == "stopped: breakpoint, line 2")
+        quiet = "return [...document.querySelectorAll('output')].every(each => each.getAttribute('aria-live') === 'off')"
+        self.assertTrue(page.run(quiet))

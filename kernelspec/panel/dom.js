@@ -1,0 +1,61 @@
+// Small helpers: elements, numbers as texts, and work done in turn.
+
+export const byId = id => document.getElementById(id);
+
+export const hexadecimal = (number, digits) => number.toString(16).toUpperCase().padStart(digits, "0");
+
+/** The number that the kernel writes as the assembler does: 05AH, 0FFFEH. */
+export const numberOf = text => parseInt(text, 16);
+
+export const addressText = number => hexadecimal(number, 4) + "H";
+
+export const character = byte => byte > 31 && byte < 127 ? String.fromCharCode(byte) : "\u00B7";
+
+/** An element with members and attributes. What it holds is put in as text or as elements, never as HTML. */
+export function make(tag, members = {}, ...children) {
+    const made = document.createElement(tag);
+    for (const [name, value] of Object.entries(members)) {
+        if (name in made) made[name] = value;
+        else made.setAttribute(name, value);
+    }
+    made.append(...children);
+    return made;
+}
+
+/** Returns a function that does its work one after the other, so that no two of them read and write at once. */
+export function turns() {
+    let last = Promise.resolve();
+    return work => (last = last.then(work, work));
+}
+
+/** Asks a question with two answers. Returns whether it was answered by yes. */
+export function ask(text, yes) {
+    const question = byId("question");
+    byId("question-text").textContent = text;
+    byId("question-yes").textContent = yes;
+    question.showModal();
+    return new Promise(done => {
+        question.querySelector("form").onsubmit = event => done(event.submitter.value === "yes");
+        question.oncancel = () => done(false);
+    });
+}
+
+/** What the browser keeps for this page, as JSON; nothing where it keeps nothing. */
+export function readSetting(name, storage = () => localStorage) {
+    try {
+        return JSON.parse(storage().getItem("lab80 " + name));
+    } catch {
+        return null;
+    }
+}
+
+/** Keeps a value, or drops it if it is null. Returns whether the browser took it. */
+export function saveSetting(name, value, storage = () => localStorage) {
+    try {
+        if (value === null) storage().removeItem("lab80 " + name);
+        else storage().setItem("lab80 " + name, JSON.stringify(value));
+        return true;
+    } catch {
+        return false;
+    }
+}

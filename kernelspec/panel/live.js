@@ -1,0 +1,112 @@
+// What is shown while a program runs: lamps twice a second, and with them registers, flags and code, unless many panels look.
+import {board, mayRun, register} from "./board.js";
+import {byId, numberOf} from "./dom.js";
+import {isOpen, line} from "./line.js";
+import {followCode, lookState, noteDevices, tellLook, variables} from "./look.js";
+import {fetchJson} from "./server.js";
+import {emit, on} from "./signals.js";
+
+// At most two looks a second, and none where nothing can change by itself.
+const POLL = 500;
+const HLT = 0x76;
+let isPolling = false;
+
+// Each look costs some of the kernel's journal. So the more panels look at the same board, the more rarely each asks for registers, flags
+// and code. Panels are known by the sessions of their looks, for so many milliseconds after the last.
+const PANEL_STAYS = 5000, PAUSE_FOR_EACH = 200;
+const panels = new Map();
+let nextWhole = 0;
+
+export function notePanel(session) {
+    panels.set(session, performance.now());
+}
+
+function pause() {
+    for (const [session, at] of panels) if (performance.now() - at > PANEL_STAYS) panels.delete(session);
+    return panels.size === 0 ? 0 : PAUSE_FOR_EACH * (panels.size + 1);
+}
+
+async function poll() {
+    if (isPolling || document.hidden || !isOpen() || !byId("follow").checked || !mayRun()) return;
+    isPolling = true;
+    try {
+        const isWhole = performance.now() >= nextWhole;
+        if (isWhole) nextWhole = performance.now() + pause();
+        await (isWhole ? lookLive() : lookAtLamps());
+    } catch (fault) {
+        tellLook(fault);
+    } finally {
+        isPolling = false;
+    }
+}
+
+async function lookAtLamps() {
+    const mine = looking.number, devices = await variables(3);
+    if (mine === looking.number && mayRun()) noteDevices(devices);
+}
+
+async function lookLive() {
+    const mine = lookState.number, before = {...board}, pc = register("PC");
+    const [registers, flags, devices] = await Promise.all([variables(1), variables(2), variables(3)]);
+    if (mine !== lookState.number || !mayRun()) return;
+    noteDevices(devices);
+    Object.assign(board, {registers, flags});
+    const isSame = JSON.stringify(before.registers) === JSON.stringify(registers);
+    // a page that came late: what changes by itself runs
+    if (board.running === undefined && !isSame && before.registers.length > 0) noteRuns(true);
+    const waits = isSame && board.running === true && await isAtHalt(pc);
+    if (mine !== lookState.number || !mayRun()) return;
+    if (waits !== board.waits) {
+        board.waits = waits;
+        emit("state");
+    }
+    await followCode();
+    if (mine === lookState.number && mayRun()) emit("live");
+}
+
+/** Whether interrupts are on and the instruction before PC is HLT, so that the program waits for a button. */
+async function isAtHalt(pc) {
+    const isOn = board.flags.some(each => each.name === "INTE" && each.value === "on");
+    if (!isOn || pc === 0) return false;
+    const [byte] = await variables(5, pc - 1, 1);
+    return byte !== undefined && numberOf(byte.value) === HLT;
+}
+
+export function noteRuns(isRunning) {
+    board.running = isRunning;
+    emit("state");
+}
+
+const isBusy = async () => {
+    const {content} = await fetchJson("api/kernels/" + encodeURIComponent(line.kernel));
+    return content !== null && content.execution_state === "busy";
+};
+
+let wasBusy = false;
+
+/** Asks the server whether the kernel is busy, before this page asks the kernel for anything, which makes it busy for a moment. A
+ *  look of another page does too: so it counts what is said twice. */
+export async function askServer() {
+    wasBusy = await isBusy();
+    if (!wasBusy) return;
+    await new Promise(done => setTimeout(done, 150));
+    wasBusy = await isBusy();
+}
+
+/** Where the server says that the kernel is idle, it may be another page that made it say so. Then two looks tell: if registers
+ *  are the same, nothing runs. */
+async function learnRunning() {
+    if (board.running === undefined && wasBusy) noteRuns(true);
+    wasBusy = false;
+    const mine = line.socket;
+    for (let before = ""; board.running === undefined && mine === line.socket;) {
+        const now = board.registers.length > 0 ? JSON.stringify(board.registers) : "";
+        if (now !== "" && now === before && !document.hidden) return noteRuns(false);
+        before = now;
+        await new Promise(done => setTimeout(done, 1.3 * POLL));
+    }
+}
+
+on("joined", learnRunning);
+
+export const followRuns = () => setInterval(poll, POLL);
