@@ -185,11 +185,23 @@ class Installed(unittest.TestCase):
         self.assertEqual(re.findall(r'"command":"(\w+)"', answered), ["initialize", "disconnect"])
 
     def test_documents_lessons_examples_and_what_editors_need(self):
-        for names in ("README.md", "docs/*.md", "docs/*.png", "lessons/*.ipynb", "examples/*", "editors/**"):
+        for names in ("README.md", "docs/*.md", "docs/*.png", "lessons/*.ipynb", "lessons/card.*", "examples/*", "editors/**"):
             for path in glob.glob(names, root_dir=TOP, recursive=True):
                 held = os.path.join(place.folder + DOCUMENTS, path)
                 if os.path.isfile(os.path.join(TOP, path)):
                     self.assertTrue(filecmp.cmp(os.path.join(TOP, path), held, shallow=False), path)
+
+    def test_the_lessons_come_without_answers(self):
+        held = sorted(os.listdir(place.folder + DOCUMENTS + "/lessons"))
+        students = glob.glob("*.ipynb", root_dir=os.path.join(TOP, "lessons"))
+        self.assertEqual(held, sorted([*students, "card.html", "card.pdf"]))
+
+    def test_the_archive_has_the_answers_and_what_marks(self):
+        archive = os.path.join(os.path.dirname(package), f"lab80-teacher_{version}.tar.gz")
+        names = call("tar", "--list", "--file", archive).split()
+        teachers = glob.glob("*.ipynb", root_dir=os.path.join(TOP, "lessons/teacher"))
+        wanted = ["mark", "teacher/", *(f"teacher/{name}" for name in sorted(teachers))]
+        self.assertEqual(names, [f"lab80-teacher/{name}" for name in wanted])
 
     def test_the_licences_of_what_it_is_built_from(self):
         with open(place.folder + DOCUMENTS + "/copyright", encoding="utf-8") as file:

@@ -1,21 +1,89 @@
-"""Lessons 6 and 8 in the classic Notebook, worked with the front panel as a student does."""
+"""Lessons 1, 10, 11 and 12 in the classic Notebook, worked with the front panel as a student does."""
+import csv
+import os
+import subprocess
+import sys
 import time
 
 from browser import ENTER, wait_until
 from panel_page import keep_picture
-from panel_tests import NotebookPages
+from panel_tests import LESSONS, NotebookPages
+
+PICTURES_SHOWN = """
+    const pictures = [...document.querySelectorAll('.rendered_html img')];
+    return pictures.length > 0 && pictures.every(each => each.complete && each.naturalWidth > 300);"""
+
+CHANGED = "return [...document.querySelectorAll('#registers .changed')].map(each => each.dataset.name)"
+
+NOTE = "return Boolean(Jupyter.notebook.get_cells()[arguments[0]].element[0].querySelector('.lab80-note'))"
+
+DOUBLE = "        ORG 2000H\nDOUBLE: MOV A,C\n        ADD C\n        RET\n"
+
+QUESTION = "        ORG 20H\n        PUSH PSW\n        MVI A,'?'\n        OUT 1\n        POP PSW\n        RET\n"
 
 
 class Lessons(NotebookPages):
-    def test_lesson_6_with_the_panel(self):
-        self.notebook("6-interrupts")
+    def write(self, number, text):
+        """Gives a cell another text."""
+        self.browser.use(self.window)
+        self.browser.run("Jupyter.notebook.get_cells()[arguments[0]].set_text(arguments[1])", number, text)
+
+    def is_loaded(self, number):
+        """Runs a cell that has no start, and waits until that is said below it, which moves all that follows."""
+        self.execute(number)
+        wait_until(lambda: self.browser.run(NOTE, number))
+
+    def shows_pictures(self):
+        """Waits until the notebook shows its pictures, which are in it."""
+        self.browser.use(self.window)
+        wait_until(lambda: self.browser.run(PICTURES_SHOWN))
+
+    def is_right(self, number, answer, lines):
+        """Writes an answer into an exercise and runs it with its judge, which prints these lines and that it is right."""
+        self.write(number, answer)
+        self.execute(number, number + 1)
+        self.shows(number + 1, "\n".join([*lines, "right"]))
+
+    def test_lesson_1_with_the_panel(self):
+        self.notebook("01-registers")
+        self.shows_pictures()
+        page = self.press_button()
+        first, second = self.cell_of("START:  MVI B,5"), self.cell_of("START:  MVI B,0FFH")
+        self.execute(first)
+        page.waits(lambda: page.registers()["B"] == "05")
+        page.picture("lesson-1", 1140, 620)
+        self.execute(second)
+        page.waits(lambda: (page.registers()["B"], page.registers()["C"]) == ("FF", "FF"))
+        self.execute(self.cell_of("JUDGE:  DI"))
+        exercise = self.cell_of("DOUBLE:")
+        self.execute(exercise, exercise + 1)
+        self.shows(exercise + 1, "C=07 gives A=55, not 0E")
+        values = (("07", "0E"), ("00", "00"), ("64", "C8"), ("C8", "90"))
+        self.is_right(exercise, DOUBLE, [f"C={given} gives A={asked}" for given, asked in values])
+        self.is_marked("01-registers", ["right", "not done", "not done"])
+
+    def is_marked(self, name, marks):
+        """Saves the notebook, and marks it as a teacher does."""
+        folder = os.path.join(self.folder, "lessons")
+        before = os.stat(os.path.join(folder, name + ".ipynb")).st_mtime_ns
+        self.browser.run("Jupyter.notebook.save_notebook()")
+        wait_until(lambda: os.stat(os.path.join(folder, name + ".ipynb")).st_mtime_ns != before)
+        wait_until(lambda: not self.browser.run("return Jupyter.notebook.dirty"))
+        words = [sys.executable, "-B", os.path.join(LESSONS, "mark"), "--csv", folder]
+        done = subprocess.run(words, capture_output=True, text=True, timeout=60, check=True)
+        row = next(it for it in csv.DictReader(done.stdout.splitlines()) if it["lesson"] == name)
+        self.assertEqual([row[number] for number in "123"], marks, row)
+
+    def test_lesson_11_with_the_panel(self):
+        self.notebook("11-interrupts")
+        self.shows_pictures()
         page = self.press_button()
         some = self.cell_of("SOMEBODY EQU")
         pressed, waiting, lamps = self.cell_of("; What button 5 does."), self.cell_of("START:", some), self.cell_of("BIT:    RLC")
         self.execute(pressed)
-        self.browser.run("Jupyter.notebook.get_cells()[arguments[0]].set_text('SOMEBODY EQU 1')", some)
+        self.write(some, "SOMEBODY EQU 1")
         self.execute(some, waiting)
-        page.is_in("running")
+        wait_until(lambda: page.state() not in ("idle", "connected"))
         for count in (1, 2, 3):
             page.press(5)
             page.prints("!" * count)
@@ -31,35 +99,63 @@ class Lessons(NotebookPages):
         self.execute(self.cell_of("COPY:   IN 2"))
         page.flip(6)
         page.waits(lambda: page.lamps() == "11100001")
-        page.picture("lesson-6")
+        page.picture("lesson-11")
         page.click("#interrupt")
         page.is_in("idle")
         self.mend(page)
 
     def mend(self, page):
-        """The exercise: where the routine forgets to keep A, and what is printed when it doesn't."""
+        """Where the routine forgets to keep A, what is printed when it doesn't, and the exercise that mends it."""
         wrong = self.cell_of("        RST 4")
-        self.execute(wrong - 1)
+        self.is_loaded(wrong - 1)
         self.margin(wrong, 7)
         wait_until(lambda: self.marks(wrong) == [[7], []])
+        self.execute(wrong)
+        page.stops("breakpoint", 7)
+        page.command("next")
+        page.stops("step", 8)
+        self.assertEqual(page.registers()["A"], "3F")
+        page.waits(lambda: set(page.run(CHANGED)) >= {"A", "PC"})
+        page.command("continue")
+        self.shows(wrong, "A?@")
         self.execute(wrong)
         page.stops("breakpoint", 7)
         for line in (2, 3, 8):
             page.command("stepIn")
             page.stops("step", line)
-        self.assertEqual(page.registers()["A"], "3F")
         page.command("continue")
-        self.shows(wrong, "A?@")
-        # the cell below has the same text, and so the same breakpoint
+        page.is_in("idle")
         self.margin(wrong, 7)
         wait_until(lambda: self.marks(wrong) == [[], []])
-        right = self.cell_of("        RST 4", wrong + 1)
-        self.execute(right - 1, right)
-        self.shows(right, "ABC")
+        self.execute(self.cell_of("JUDGE:  DI"))
+        exercise = self.cell_of("; Prints a question mark.")
+        given = ("A=41 BC=1234 DE=5678", "A=00 BC=0000 DE=FFFF")
+        self.is_right(exercise, QUESTION, [f"{values} ?gives {values} CY=1" for values in given])
 
-    def test_lesson_8_with_the_panel(self):
-        self.notebook("8-debugging")
-        self.execute(self.cell_of("PRINT:"))
+    def test_lesson_12_with_the_panel(self):
+        """The game, with the teacher's routines: the lamps 1, 2, 3 are lit by the switches, and 4 by a press that is taken back."""
+        os.makedirs(os.path.join(self.folder, "lessons", "teacher"), exist_ok=True)
+        self.notebook("teacher/12-project")
+        page = self.press_button()
+        some = self.cell_of("SOMEBODY EQU")
+        for beginning in ("LAMPS:  DB 0", "JUDGE:  DI", "; A := the lamp", "; Does what button B", "; Does button B"):
+            self.execute(self.cell_of(beginning))
+        for bit in (1, 2, 3):
+            page.flip(bit)
+        page.waits(lambda: page.switches() == "00001110")
+        self.write(some, "SOMEBODY EQU 1")
+        self.execute(some, some + 1)
+        for button, lamps in ((None, "00001110"), (4, "00110110"), (4, "00001110")):
+            if button is not None:
+                page.press(button)
+            page.waits(lambda lamps=lamps: page.lamps() == lamps)
+        page.press(2)
+        page.is_in("idle")
+        self.shows(some + 1, "All lamps are out. Presses: 03")
+
+    def test_lesson_10_with_the_panel(self):
+        self.notebook("10-debugging")
+        self.is_loaded(self.cell_of("PRINT:"))
         first = self.cell_of("START:  LXI H,TABLE")
         self.margin(first, 5)
         wait_until(lambda: self.marks(first) == [[5], []])
@@ -85,7 +181,7 @@ class Lessons(NotebookPages):
     def second_bug(self, page):
         """The line that sets CY, and the one that loses it."""
         average = self.cell_of("AVERAGE: MOV A,B")
-        self.execute(average)
+        self.is_loaded(average)
         self.margin(average + 1, 9)
         wait_until(lambda: self.marks(average + 1) == [[9], []])
         self.execute(average + 1)
@@ -139,7 +235,7 @@ class Lessons(NotebookPages):
         page.browser.type(value + ENTER)
 
     def keep_pictures(self, page):
-        page.picture("lesson-8")
+        page.picture("lesson-10")
         page.browser.prefer("dark")
         page.picture("panel-dark")
         page.browser.prefer("light")
