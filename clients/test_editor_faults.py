@@ -323,6 +323,14 @@ time.sleep(60)
 """
 
 
+class Threads(unittest.TestCase):
+    def test_too_little_memory_for_its_reader(self):
+        """It ends, and doesn't wait for what nobody reads: the thread has eight million bytes for its stack."""
+        words = ["sh", "-c", 'ulimit -v 8000; exec "$0"', debugger()]
+        with subprocess.Popen(words, stdin=subprocess.PIPE, stdout=subprocess.PIPE, stderr=subprocess.PIPE) as done:
+            self.assertEqual(done.wait(5), 3)
+
+
 class Clients(Session):
     def test_a_client_that_reads_no_more(self):
         editor = self.editor()
