@@ -41,8 +41,8 @@ async function poll() {
 }
 
 async function lookAtLamps() {
-    const mine = looking.number, devices = await variables(3);
-    if (mine === looking.number && mayRun()) noteDevices(devices);
+    const mine = lookState.number, devices = await variables(3);
+    if (mine === lookState.number && mayRun()) noteDevices(devices);
 }
 
 async function lookLive() {
