@@ -10,6 +10,10 @@ pause most spent rest = min (spent * 10800000000 / rest) most
 abbrev pub slice_pause : ℕ → ℕ → ℕ
 slice_pause slices entries = pause 50000 (min slices 4194304) (max (4194304 - entries) 1)
 
+-- after so many slices that were posted faster than they are read it waits for 250 microseconds each, 50 milliseconds at most
+abbrev pub lag_pause : ℕ → ℕ
+lag_pause slices = min (min slices 4194304 * 250) 50000
+
 -- after so many entries of all who subscribes waits for a second at most
 abbrev pub subscription_pause : ℕ → ℕ → ℕ
 subscription_pause spent entries = pause 1000000 (min spent 4194304) (max (4194304 - entries) 1)

@@ -1,6 +1,6 @@
 //! How long a running cell and who subscribes wait, how often posts of a running cell are looked for, and how full a journal is.
 ghost use Rattle.std.specs.Prelude.{◌≡◌, ◌<◌, ◌≤◌, ◌+◌, ◌*◌, ◌-◌, ◌↔◌, IsTrue, min, max};
-ghost use Rattle.kern_pace.specs.Pacing.{pause, slice_pause, subscription_pause, next_gap};
+ghost use Rattle.kern_pace.specs.Pacing.{pause, slice_pause, lag_pause, subscription_pause, next_gap};
 
 use kern_desk::desks::MOST_ENTRIES;
 
@@ -27,6 +27,9 @@ const LONGEST_PAUSE_OF_A_RUN: u64 = 50_000;
 
 const LONGEST_PAUSE_OF_A_SUBSCRIPTION: u64 = 1_000_000;
 
+// So long a slice may take, in microseconds, if readers lag behind: 4,096 posts, as many as are kept, then take a second.
+const LAGGING_SLICE: u64 = 250;
+
 // How long so many entries may take, in microseconds, in a journal of so many.
 #[tactic(auto, unfolding(crate::specs::Pacing::pause))]
 fn pause(spent: u64, entries: u64, most: u64) -> u64
@@ -42,6 +45,14 @@ pub fn slice_pause(slices: u64, entries: u64) -> u64
     ensures { result ≡ slice_pause slices entries }
 {
     pause(slices, entries, LONGEST_PAUSE_OF_A_RUN)
+}
+
+/// How long the worker waits after so many slices if readers lag behind what they have posted, in microseconds.
+pub fn lag_pause(slices: u64) -> u64
+    ensures { result ≡ lag_pause slices }
+{
+    let limit = u64::from(JOURNAL_LIMIT);
+    (slices.min(limit) * LAGGING_SLICE).min(LONGEST_PAUSE_OF_A_RUN)
 }
 
 /// How long who subscribes waits, in microseconds, if the journal has so many entries, and had so many at the last

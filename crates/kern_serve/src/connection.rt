@@ -2,15 +2,11 @@
 ghost use Rattle.std.specs.Prelude.{◌≡◌};
 ghost use Rattle.kern_serve.specs.Lanes.{AreOf};
 
-use crate::bell::{Bell, Place};
 use crate::gates::{InGate, OutGate};
 use crate::host::Host;
 use crate::listeners::Listeners;
 use crate::places::Places;
 use crate::socket::{close, meet};
-use crate::spot::Spot;
-use crate::throttles::Throttles;
-use crate::unsigned::{FREE_BYTES, UnsignedStream};
 use base_streams::std_io::{StdInlet, StdOutlet};
 use base_text::sequence::Bytes;
 use base_text::text::Text;
@@ -23,6 +19,10 @@ use kern_desk::seated::{Desk, Pass};
 use kern_net::end::PumpEnd;
 use kern_net::pump_in::{IncomingRoute, pump_in};
 use kern_net::pump_out::{OutgoingRoute, pump_out};
+use kern_waits::bell::{Bell, Place};
+use kern_waits::spot::Spot;
+use kern_waits::throttles::Throttles;
+use kern_waits::unsigned::{FREE_BYTES, UnsignedStream};
 use std::alloc::{AllocError, Global};
 use std::net::TcpStream;
 use std::rt::Clock;

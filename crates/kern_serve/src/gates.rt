@@ -1,9 +1,7 @@
 //! The gates of a server: where its threads wait, and what they wake others by.
 ghost use Rattle.std.specs.Prelude.{◌≡◌, ◌≤◌, ◌+◌, ◌<◌, ◌↔◌, IsTrue};
 
-use crate::bell::{Bell, Place};
 use crate::places::Places;
-use crate::spot::Spot;
 use crate::system::unix_seconds;
 use jup_wire::channel::Channel;
 use kern_desk::seated::Pass;
@@ -11,9 +9,11 @@ use kern_net::gate::{ReaderGate, WorkerGate, WriterGate};
 use kern_net::pump_out::NUMBERS_OF_A_FETCH;
 use kern_net::tally::{Tally, WorkerTally, one_more};
 use kern_pace::pace::{
-    SHORTEST_GAP, free_slices, is_free_subscription, is_full, is_nearly_full, next_gap,
+    SHORTEST_GAP, free_slices, is_free_subscription, is_full, is_nearly_full, lag_pause, next_gap,
     slice_pause, subscription_pause,
 };
+use kern_waits::bell::{Bell, Place, Readers};
+use kern_waits::spot::Spot;
 use std::rt::Clock;
 use std::sync::Wait;
 use std::sync::atomic::{AtomicBool, Ordering};
@@ -193,9 +193,10 @@ pub struct WorkGate<'a, C: Wait + Clock + Print> {
     // How many slices it had let through at the last pause, and how many by now.
     paused: u64,
     slices: u64,
-    // When posts were looked for last, in microseconds since it began, how long not to look again, and how often some had
-    // been found by then.
+    // When posts were looked for last, in microseconds since it began, and after how many slices; how long not to look again,
+    // and how often some had been found by then.
     looked: u64,
+    looked_slices: u64,
     gap: u64,
     finds: u64,
     // Whether it has printed that the journal is nearly full.
@@ -219,6 +220,7 @@ impl<'a, C: Wait + Clock + Print> WorkGate<'a, C> {
             paused: 0,
             slices: 0,
             looked: 0,
+            looked_slices: 0,
             gap: SHORTEST_GAP,
             finds: 0,
             has_warned: false,
@@ -283,7 +285,19 @@ impl<'a, C: Wait + Clock + Print> WorkGate<'a, C> {
         self.gap = next_gap(self.gap, finds != self.finds);
         self.finds = finds;
         self.looked = now;
-        self.bell.look_for_posts();
+        let slices = self.slices.saturating_sub(self.looked_slices);
+        self.looked_slices = self.slices;
+        if self.bell.look_for_posts() == Readers::LagBehind {
+            self.wait_for_readers(slices);
+        }
+    }
+
+    // Waits so that posts are read before they are kept no longer, unless work comes meanwhile.
+    fn wait_for_readers(&mut self, slices: u64)
+        ensures { self.new.polls ≡ self.old.polls }
+    {
+        let most = Duration::from_micros(lag_pause(slices));
+        self.seen = self.bell.next_work_within(self.clock, self.seen, most);
     }
 }
 

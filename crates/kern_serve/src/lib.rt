@@ -3,10 +3,9 @@
 // Sixteen connections a channel are served at once, each by a reader and a writer with passes of their
 // own, for good; the thread that calls `serve` is the worker. Further connections wait for a free place.
 // Contracts say that each thread has passes of this kernel alone, and that gates count what they say; the pace is
-// kern_pace's. That threads wake one another is only tested.
+// kern_pace's, and where threads wait kern_waits'. That threads wake one another is only tested.
 #![tactic(auto)]
 
-mod bell;
 mod connection;
 pub mod fault;
 mod gates;
@@ -15,8 +14,4 @@ pub mod listeners;
 mod places;
 pub mod server;
 mod socket;
-mod spot;
-mod stopwatch;
 pub mod system;
-mod throttles;
-mod unsigned;

@@ -1,11 +1,12 @@
 //! Who is at the places of the channels. Where all places of a channel are taken and another connection waits, one is let
 //! go that has been there for a minute and of which no message has opened: it has shown no key.
-use crate::bell::{PLACES, Place};
 use crate::listeners::Listeners;
-use crate::socket::{await_connection, close};
-use crate::spot::Spot;
-use crate::stopwatch::Stopwatch;
+use crate::socket::close;
 use jup_wire::channel::Channel;
+use kern_waits::bell::{PLACES, Place};
+use kern_waits::sockets::await_connection;
+use kern_waits::spot::Spot;
+use kern_waits::stopwatch::Stopwatch;
 use std::alloc::{AllocError, Global};
 use std::net::TcpStream;
 use std::rt::Clock;

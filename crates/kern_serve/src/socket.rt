@@ -1,15 +1,13 @@
 //! A socket whose handshake is made.
-use crate::throttles::Throttles;
-use crate::unsigned::UnsignedStream;
 use base_streams::std_io::{StdInlet, StdOutlet};
 use jup_wire::channel::Channel;
-use libc::net as c;
-use libc::types::pollfd;
+use kern_waits::sockets::keep_alive;
+use kern_waits::throttles::Throttles;
+use kern_waits::unsigned::UnsignedStream;
 use std::alloc::Global;
 use std::io;
 use std::io::Read;
-use std::net::{Shutdown, TcpListener, TcpStream};
-use std::os::fd::AsRawFd;
+use std::net::{Shutdown, TcpStream};
 use std::rt::Clock;
 use std::sync::Wait;
 use std::time::{Duration, Instant};
@@ -22,16 +20,6 @@ const PATIENCE_SECONDS: u64 = 10;
 
 // The size of a greeting, in bytes.
 const GREETING_SIZE: usize = 64;
-
-// A connection on which nothing comes for so many seconds is probed, so often, so many seconds apart; and what isn't acknowledged
-// ends it after so many milliseconds. So a peer that vanished is found within two minutes.
-const IDLE_SECONDS: u32 = 60;
-
-const PROBE_SECONDS: u32 = 10;
-
-const PROBES: u32 = 6;
-
-const UNACKNOWLEDGED_MILLIS: u32 = 60_000;
 
 /// Ends reads and writes on a socket, whatever thread waits in one.
 pub fn close(stream: &TcpStream) {
@@ -49,44 +37,11 @@ fn patience() -> Duration {
     Duration::from_secs(PATIENCE_SECONDS)
 }
 
-// An option's value as the system reads it.
-fn option_bytes(value: u32) -> [u8; 16] {
-    let mut bytes = [0u8; 16];
-    bytes[..4].copy_from_slice(&value.to_ne_bytes());
-    bytes
-}
-
-// Has the system find peers that vanish, as it has for the options of a connection. One that can't be set is left as it is.
-fn keep_alive(stream: &TcpStream) {
-    let fd = stream.as_raw_fd();
-    let (on, unacknowledged) = (option_bytes(1), option_bytes(UNACKNOWLEDGED_MILLIS));
-    let (idle, probe, probes) = (
-        option_bytes(IDLE_SECONDS),
-        option_bytes(PROBE_SECONDS),
-        option_bytes(PROBES),
-    );
-    let _ = unsafe { c::setsockopt(fd, c::SOL_SOCKET, c::SO_KEEPALIVE, &on, 4) };
-    let _ = unsafe { c::setsockopt(fd, c::IPPROTO_TCP, c::TCP_KEEPIDLE, &idle, 4) };
-    let _ = unsafe { c::setsockopt(fd, c::IPPROTO_TCP, c::TCP_KEEPINTVL, &probe, 4) };
-    let _ = unsafe { c::setsockopt(fd, c::IPPROTO_TCP, c::TCP_KEEPCNT, &probes, 4) };
-    let _ = unsafe { c::setsockopt(fd, c::IPPROTO_TCP, c::TCP_USER_TIMEOUT, &unacknowledged, 4) };
-}
-
 // A message is sent at once; a peer that never reads is given up, and so is one that has vanished.
 fn prepare(stream: &TcpStream) -> io::Result<()> {
     keep_alive(stream);
     stream.set_nodelay(true)?;
     stream.set_write_timeout(Some(patience()))
-}
-
-/// Waits until a connection waits to be accepted.
-pub fn await_connection(listener: &TcpListener) {
-    let mut fds = [pollfd {
-        fd: listener.as_raw_fd(),
-        events: c::POLLIN,
-        revents: 0,
-    }];
-    let _ = c::poll(&mut fds, -1);
 }
 
 // A socket whose first bytes, more than so many, must come while there is patience; then reads may wait for

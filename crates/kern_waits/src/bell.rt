@@ -58,6 +58,13 @@ impl Known {
     }
 }
 
+/// Whether the writers of iopub keep up with what a running cell posts.
+#[derive(Clone, Copy, PartialEq, Eq)]
+pub enum Readers {
+    KeepUp,
+    LagBehind,
+}
+
 /// A spot for the worker, and one for the writer of each place. Beside them, counts of what was done, which nobody waits for.
 #[derive(Drop)]
 pub struct Bell {
@@ -241,21 +248,23 @@ impl Bell {
 
     /// Has one writer of iopub look whether a running cell has posted something; if the last one is still busy with that, if all
     /// are busy, or if there is none, wakes all writers. So a cell that posts nothing costs one Fetch, and not one for each
-    /// writer.
-    pub fn look_for_posts(&self) {
+    /// writer. Tells whether the writers keep up.
+    pub fn look_for_posts(&self) -> Readers {
         if !self.is_scout_busy()
             && let Some((number, spot)) = self.next_scout()
         {
             self.scout
                 .store((number as u64).saturating_add(1), Ordering::SeqCst);
             spot.ring();
-            return;
+            return Readers::KeepUp;
         }
         self.scout.store(0, Ordering::SeqCst);
-        if self.subscribers.load(Ordering::SeqCst) != 0 {
-            self.finds.fetch_add(1, Ordering::SeqCst);
-        }
         self.wake_writers();
+        if self.subscribers.load(Ordering::SeqCst) == 0 {
+            return Readers::KeepUp;
+        }
+        self.finds.fetch_add(1, Ordering::SeqCst);
+        Readers::LagBehind
     }
 
     /// A writer has fetched all posts below this number. If it is the one that looks for posts, and a running cell has made

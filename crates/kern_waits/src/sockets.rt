@@ -1,0 +1,48 @@
+//! Calls on sockets that the library of the language lacks.
+use libc::net as c;
+use libc::types::pollfd;
+use std::net::{TcpListener, TcpStream};
+use std::os::fd::AsRawFd;
+
+// A connection on which nothing comes for so many seconds is probed, so often, so many seconds apart; and what isn't acknowledged
+// ends it after so many milliseconds. So a peer that vanished is found within two minutes.
+const IDLE_SECONDS: u32 = 60;
+
+const PROBE_SECONDS: u32 = 10;
+
+const PROBES: u32 = 6;
+
+const UNACKNOWLEDGED_MILLIS: u32 = 60_000;
+
+// An option's value as the system reads it.
+fn option_bytes(value: u32) -> [u8; 16] {
+    let mut bytes = [0u8; 16];
+    bytes[..4].copy_from_slice(&value.to_ne_bytes());
+    bytes
+}
+
+/// Has the system find a peer that vanishes, within two minutes. An option that can't be set is left as it is.
+pub fn keep_alive(stream: &TcpStream) {
+    let fd = stream.as_raw_fd();
+    let (on, unacknowledged) = (option_bytes(1), option_bytes(UNACKNOWLEDGED_MILLIS));
+    let (idle, probe, probes) = (
+        option_bytes(IDLE_SECONDS),
+        option_bytes(PROBE_SECONDS),
+        option_bytes(PROBES),
+    );
+    let _ = unsafe { c::setsockopt(fd, c::SOL_SOCKET, c::SO_KEEPALIVE, &on, 4) };
+    let _ = unsafe { c::setsockopt(fd, c::IPPROTO_TCP, c::TCP_KEEPIDLE, &idle, 4) };
+    let _ = unsafe { c::setsockopt(fd, c::IPPROTO_TCP, c::TCP_KEEPINTVL, &probe, 4) };
+    let _ = unsafe { c::setsockopt(fd, c::IPPROTO_TCP, c::TCP_KEEPCNT, &probes, 4) };
+    let _ = unsafe { c::setsockopt(fd, c::IPPROTO_TCP, c::TCP_USER_TIMEOUT, &unacknowledged, 4) };
+}
+
+/// Waits until a connection waits to be accepted.
+pub fn await_connection(listener: &TcpListener) {
+    let mut fds = [pollfd {
+        fd: listener.as_raw_fd(),
+        events: c::POLLIN,
+        revents: 0,
+    }];
+    let _ = c::poll(&mut fds, -1);
+}
