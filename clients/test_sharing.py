@@ -160,6 +160,15 @@ class Pace(Lab):
                 self.assertEqual(len(streams(self.posts(number, client))), PRINTED)
             self.assertEqual(self.reply(number)["content"]["status"], "ok")
 
+    def test_a_reply_comes_though_output_is_read_slowly(self):
+        """Of posts to others none makes a connection lag behind."""
+        number = self.client.execute("START: OUT 1\nJMP START\nEND START\n")
+        for _ in range(300):
+            self.client.get_iopub_msg(timeout=PATIENCE)
+            time.sleep(0.002)
+        self.control("interrupt")
+        self.assertEqual(self.reply(number)["content"]["ename"], "Interrupted")
+
     def test_messages_have_the_date_of_now(self):
         number = self.client.execute(printing("x"))
         stream = self.wait_for("stream")

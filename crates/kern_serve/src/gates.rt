@@ -197,6 +197,8 @@ pub struct WorkGate<'a, C: Wait + Clock + Print> {
     // and how often some had been found by then.
     looked: u64,
     looked_slices: u64,
+    // How many slices may have been posted that readers lag behind.
+    unread: u64,
     gap: u64,
     finds: u64,
     // Whether it has printed that the journal is nearly full.
@@ -221,6 +223,7 @@ impl<'a, C: Wait + Clock + Print> WorkGate<'a, C> {
             slices: 0,
             looked: 0,
             looked_slices: 0,
+            unread: 0,
             gap: SHORTEST_GAP,
             finds: 0,
             has_warned: false,
@@ -266,6 +269,9 @@ impl<'a, C: Wait + Clock + Print> WorkGate<'a, C> {
     fn pass(&mut self)
         ensures { self.new.polls ≡ self.old.polls }
     {
+        if self.unread > 0 {
+            self.wait_for_readers();
+        }
         if self.free > 0 {
             self.free -= 1;
             self.paused = self.slices;
@@ -288,15 +294,17 @@ impl<'a, C: Wait + Clock + Print> WorkGate<'a, C> {
         let slices = self.slices.saturating_sub(self.looked_slices);
         self.looked_slices = self.slices;
         if self.bell.look_for_posts() == Readers::LagBehind {
-            self.wait_for_readers(slices);
+            self.unread = slices;
         }
     }
 
-    // Waits so that posts are read before they are kept no longer, unless work comes meanwhile.
-    fn wait_for_readers(&mut self, slices: u64)
+    // Waits so that posts are read before they are kept no longer, unless work comes meanwhile. A Slice is to follow, which
+    // finds that work.
+    fn wait_for_readers(&mut self)
         ensures { self.new.polls ≡ self.old.polls }
     {
-        let most = Duration::from_micros(lag_pause(slices));
+        let most = Duration::from_micros(lag_pause(self.unread));
+        self.unread = 0;
         self.seen = self.bell.next_work_within(self.clock, self.seen, most);
     }
 }
@@ -318,6 +326,7 @@ impl<'a, C: Wait + Clock + Print> WorkerGate for WorkGate<'a, C> {
         self.bell.wake_writers();
         self.seen = self.bell.next_work(self.clock, self.seen);
         self.free = free_slices();
+        self.unread = 0;
         self.gap = SHORTEST_GAP;
         let goes_on = !self.is_full();
         self.polls.add_idle(rt, goes_on);
