@@ -1,4 +1,4 @@
-"""The lessons' judges: each answer is right, and without any one of its instructions it isn't."""
+"""The lessons' judges: each answer is right, and without any one of its instructions it isn't, nor without saving a register."""
 import re
 import unittest
 from importlib.machinery import SourceFileLoader
@@ -25,6 +25,14 @@ def without_one(answer):
             yield found[2].strip(), "\n".join(rest)
 
 
+def without_saving(answer):
+    """The answer without pushing and popping a pair, for each that it does both with: that pair, and the text."""
+    for pair in ("PSW", "B", "D", "H"):
+        found = [re.compile(rf"\b{word} {pair}\b") for word in ("PUSH", "POP")]
+        if all(each.search(answer) for each in found):
+            yield f"saving {pair}", re.sub(rf"\b(PUSH|POP) {pair}\b", "NOP", answer)
+
+
 class Judges(unittest.TestCase):
     """A test for each lesson."""
 
@@ -44,10 +52,22 @@ class Judges(unittest.TestCase):
                 if cell.answer is None:
                     board.run(cell.text, 5)
                     continue
-                for left_out, text in without_one(cell.answer):
+                for left_out, text in (*without_one(cell.answer), *without_saving(cell.answer)):
                     if (name, left_out) not in UNSEEN:
                         self.assertFalse(self.is_right(board, tools, text, judge.text), f"{cell.tags} without {left_out}")
                 self.assertTrue(self.is_right(board, tools, cell.answer, judge.text), cell.tags)
+
+    def test_a_routine_without_ret(self):
+        """It runs on through memory that is zero: the run ends, and the judge is as before."""
+        cells = [cell for cell in make.cells(make.source("01-registers")) if cell.is_code()]
+        tools = [cell.text for cell in cells if "tools" in cell.tags]
+        exercise = next(at for at, cell in enumerate(cells) if "exercise-1" in cell.tags)
+        answer, judge = cells[exercise].answer, cells[exercise + 1].text
+        with mark.Board() as board:
+            for text in (*tools, answer.replace("RET", "NOP")):
+                board.run(text, 5)
+            self.assertEqual(board.run(judge, 5), ("C=07 ", "", ""))
+            self.assertTrue(self.is_right(board, [], answer, judge))
 
 
 def lesson(name):

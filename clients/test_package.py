@@ -107,7 +107,8 @@ class Place:
         own = [] if os.geteuid() == 0 else ["--map-root-user"]
         self.folder, self.top = root.folder, ""
         self.words = ["unshare", "--mount", *own, "sh", "-c", OVERLAY, root.folder]
-        self.environment = os.environ | {"JUPYTER_DATA_DIR": os.path.join(folder, "data")}
+        self.runtime = os.path.join(folder, "runtime")
+        self.environment = os.environ | {"JUPYTER_DATA_DIR": os.path.join(folder, "data"), "JUPYTER_RUNTIME_DIR": self.runtime}
         self.environment.pop("JUPYTER_PATH", None)
         if subprocess.run([*self.words, "true"], capture_output=True, check=False).returncode != 0:
             self.rename()
@@ -173,7 +174,7 @@ class Installed(unittest.TestCase):
     def test_a_cell_runs_on_the_kernel(self):
         printed = place.call("/usr/bin/python3", "-B", "-c", CLIENT, text=HELLO)
         self.assertEqual(printed, f"{place.top}{KERNELSPEC}\nhello, world\n{version}\n")
-        self.assertTrue(are_gone(place.top + KERNELSPEC))
+        self.assertTrue(are_gone(place.runtime))
 
     def test_the_kernelspec_has_what_install_puts_there(self):
         put = os.path.join(os.environ["JUPYTER_PATH"], "kernels/lab80")

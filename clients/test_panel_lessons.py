@@ -112,6 +112,7 @@ class Lessons(NotebookPages):
         wait_until(lambda: self.marks(wrong) == [[7], []])
         self.execute(wrong)
         page.stops("breakpoint", 7)
+        page.waits(lambda: page.registers()["A"] == "42")
         page.command("next")
         page.stops("step", 8)
         self.assertEqual(page.registers()["A"], "3F")

@@ -23,8 +23,18 @@ on("anew", () => {
     ended = "";
 });
 
-/** The texts that were loaded, those that came first in front. */
-const loadable = () => [...known.texts.values()].filter(each => !each.fault).map(each => each.text);
+/** The texts that were loaded, in the order in which they ran last, without their starts: so one that was
+ *  loaded again isn't there twice. */
+function loadable() {
+    const found = new Set();
+    for (const {text, fault} of known.texts.values()) {
+        if (fault) continue;
+        const code = withoutStart(text);
+        found.delete(code);
+        found.add(code);
+    }
+    return [...found];
+}
 
 /** A text whose END names no start, so that it is loaded and not run. */
 export function withoutStart(text) {
@@ -37,7 +47,7 @@ export function withoutStart(text) {
 function loadAgain() {
     if (!isOpen()) return;
     const how = {silent: false, store_history: false, allow_stdin: false, stop_on_error: false, user_expressions: {}};
-    for (const text of loadable()) send("shell", "execute_request", {code: withoutStart(text), ...how});
+    for (const code of loadable()) send("shell", "execute_request", {code, ...how});
     byId("anew").hidden = true;
 }
 
