@@ -50,6 +50,12 @@ class Refused(unittest.TestCase):
                 file.write(whole[:size])
             self.assertEqual(serve(self.path), (1, "bad file\n"), size)
 
+    def test_a_pipe_as_a_connection_file(self):
+        """It isn't read: that would wait for ever where nobody writes."""
+        os.remove(self.path)
+        os.mkfifo(self.path)
+        self.assertEqual(serve(self.path), (4, "read failed\n"))
+
     def test_no_connection_file(self):
         os.remove(self.path)
         self.assertEqual(serve(self.path), (4, "no file\n"))

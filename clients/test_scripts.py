@@ -1,4 +1,7 @@
-"""The scripts that work on the sources: ./wrong-bodies judges each body by itself, ./prove proves a function, ./ratchet holds bounds."""
+"""The scripts: ./wrong-bodies judges each body by itself, ./prove proves a function, ./ratchet holds bounds, ./install leaves nothing
+half done."""
+import json
+import os
 import shutil
 import subprocess
 import tempfile
@@ -74,6 +77,51 @@ class Scripts(unittest.TestCase):
         self.assertEqual(status, 1, told)
         self.assertRegex(told, "fn small::once: (not proved|no proof)")
         self.assertEqual(self.run_script("prove", "large")[0], 2)
+
+
+class Install(unittest.TestCase):
+    def setUp(self):
+        self.folder = self.enterContext(tempfile.TemporaryDirectory())
+
+    def install(self, *words, **environment):
+        done = subprocess.run([TOP / "install", *words], cwd=self.folder, stdin=subprocess.DEVNULL, stdout=subprocess.PIPE,
+                              stderr=subprocess.STDOUT, text=True, env=os.environ | environment, timeout=60, check=False)
+        return done.returncode, done.stdout
+
+    def test_places_that_are_none(self):
+        for words, environment, status, told in (
+                ((), {"HOME": "", "JUPYTER_DATA_DIR": "", "XDG_DATA_HOME": ""}, 4, "HOME is empty"),
+                (("--debugger",), {"HOME": ""}, 4, "HOME is empty"),
+                (("--prefix", "a\nb"), {}, 4, "a line feed"),
+                (("--prefix", "-x"), {}, 2, "usage: ./install"),
+                (("--prefix", ""), {}, 2, "usage: ./install")):
+            with self.subTest(words=words):
+                answer = self.install(*words, **environment)
+                self.assertEqual(answer[0], status, answer[1])
+                self.assertIn(told, answer[1])
+                self.assertEqual(os.listdir(self.folder), [])
+
+    def test_a_new_one_takes_the_old_one_s_place_whole(self):
+        kernels = Path(self.folder, "share/jupyter/kernels")
+        self.assertEqual(self.install("--prefix", self.folder)[0], 0)
+        (kernels / "lab80/old").write_text("")
+        self.assertEqual(self.install("--prefix", self.folder)[0], 0)
+        self.assertEqual(os.listdir(kernels), ["lab80"])
+        self.assertFalse((kernels / "lab80/old").exists())
+        spec = json.loads((kernels / "lab80/kernel.json").read_text())
+        self.assertEqual(spec["argv"][1], str(kernels / "lab80/start"))
+
+    def test_a_full_disk_leaves_the_old_one(self):
+        kernels = Path(self.folder, "share/jupyter/kernels")
+        disk = subprocess.run(["mount", "-t", "tmpfs", "-o", "size=2500k", "lab80", self.folder], stderr=subprocess.DEVNULL, check=False)
+        if disk.returncode:
+            self.skipTest("no small disk can be made here")
+        self.addCleanup(subprocess.run, ["umount", self.folder], check=False)
+        self.assertEqual(self.install("--prefix", self.folder)[0], 0)
+        Path(self.folder, "full").write_bytes(bytes(1_000_000))
+        self.assertEqual(self.install("--prefix", self.folder)[0], 4)
+        self.assertEqual(os.listdir(kernels), ["lab80"])
+        self.assertTrue((kernels / "lab80/kernel.json").exists())
 
 
 class Ratchet(unittest.TestCase):
