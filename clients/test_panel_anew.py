@@ -52,7 +52,7 @@ class Anew(Pages):
         self.server.ask("POST", f"/api/kernels/{self.kernel}/restart", {})
         page.waits(lambda: not page.run("return document.getElementById('anew').hidden"))
         self.assertIn(GONE, page.text("#anew-text"))
-        self.assertNotIn("LOOP0102", page.texts("#symbols button"))
+        page.waits(lambda: "LOOP0102" not in page.texts("#symbols button"))
 
     def test_a_restart_says_what_is_gone(self):
         """Also one after the text was loaded again, which then is offered once."""
