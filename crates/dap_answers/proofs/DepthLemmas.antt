@@ -4,8 +4,8 @@ use Rattle.std.proofs.Common.{map, refl, arith}
 use Rattle.std.proofs.lemmas.Bool.Decides.{nat_tests}
 use Rattle.serde_json.specs.Data.{Data, depth, items_depth}
 use Rattle.serde_json.specs.View.{items_of}
-use Rattle.lab_views.specs.declared.shown.StackFrame.{StackFrame}
-use Rattle.lab_views.specs.declared.shown.SourceBreakpoints.{SourceBreakpoints}
+use Rattle.lab_shown.specs.declared.shown.StackFrame.{StackFrame}
+use Rattle.lab_shown.specs.declared.shown.SourceBreakpoints.{SourceBreakpoints}
 use Rattle.dap_answers.specs.declared.answer.DebugState.{DebugState}
 use Rattle.dap_answers.specs.declared.answer.Body.{Body}
 use Rattle.dap_answers.specs.declared.answer.Body.TheVariants as body

@@ -3,8 +3,8 @@ use Rattle.std.proofs.Common.{◌≡◌, ℕ, ◌++◌, Bool, true, false, Optio
 use Rattle.serde_json.specs.Data.{Data}
 use Rattle.serde_json.specs.View.{items_of}
 use Rattle.serde_json.specs.Written.{has_float, items_have_float}
-use Rattle.lab_views.specs.declared.shown.StackFrame.{StackFrame}
-use Rattle.lab_views.specs.declared.shown.SourceBreakpoints.{SourceBreakpoints}
+use Rattle.lab_shown.specs.declared.shown.StackFrame.{StackFrame}
+use Rattle.lab_shown.specs.declared.shown.SourceBreakpoints.{SourceBreakpoints}
 use Rattle.dap_answers.specs.declared.answer.DebugState.{DebugState}
 use Rattle.dap_answers.specs.declared.answer.Body.{Body}
 use Rattle.dap_answers.specs.declared.answer.Body.TheVariants as body

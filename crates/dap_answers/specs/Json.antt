@@ -18,11 +18,11 @@ use Rattle.serde_json.specs.Data.{
   member,
 }
 use Rattle.serde_json.specs.View.{items_of}
-use Rattle.lab_views.specs.declared.shown.Breakpoint.{Breakpoint}
-use Rattle.lab_views.specs.declared.shown.StackFrame.{StackFrame}
-use Rattle.lab_views.specs.declared.shown.Variable.{Variable}
-use Rattle.lab_views.specs.declared.shown.CodeLine.{CodeLine}
-use Rattle.lab_views.specs.declared.shown.SourceBreakpoints.{SourceBreakpoints}
+use Rattle.lab_shown.specs.declared.shown.Breakpoint.{Breakpoint}
+use Rattle.lab_shown.specs.declared.shown.StackFrame.{StackFrame}
+use Rattle.lab_shown.specs.declared.shown.Variable.{Variable}
+use Rattle.lab_shown.specs.declared.shown.CodeLine.{CodeLine}
+use Rattle.lab_shown.specs.declared.shown.SourceBreakpoints.{SourceBreakpoints}
 use Rattle.dap_answers.specs.declared.answer.DebugState.{DebugState}
 use Rattle.dap_answers.specs.declared.answer.Body.{Body}
 use Rattle.dap_answers.specs.declared.answer.Body.TheVariants as body

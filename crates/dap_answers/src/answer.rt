@@ -3,7 +3,7 @@ ghost use Rattle.std.specs.Prelude.{◌≡◌};
 
 use base_text::sequence::Sequence;
 use base_text::text::Text;
-use lab_views::shown::{Breakpoint, CodeLine, SourceBreakpoints, StackFrame, Variable};
+use lab_shown::shown::{Breakpoint, CodeLine, SourceBreakpoints, StackFrame, Variable};
 
 /// The state of debugging (Jupyter messaging, `debugInfo`): whether a frontend is attached, whether
 /// the thread is stopped, and the sources that have breakpoints.

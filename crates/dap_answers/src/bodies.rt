@@ -20,7 +20,7 @@ use crate::answer::{Body, DebugState};
 use crate::cell::{PREFIX, SUFFIX};
 use crate::json::{ToJson, array_of};
 use crate::object::Object;
-use lab_views::shown::StackFrame;
+use lab_shown::shown::StackFrame;
 use serde_json::Value;
 use std::alloc::{AllocError, Global};
 

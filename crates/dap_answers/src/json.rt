@@ -24,7 +24,7 @@ ghost use Rattle.dap_answers.specs.Json.{
 
 use crate::object::Object;
 use base_text::hexadecimal::{push_byte, push_lower_word};
-use lab_views::shown::{Breakpoint, CodeLine, SourceBreakpoints, StackFrame, Variable};
+use lab_shown::shown::{Breakpoint, CodeLine, SourceBreakpoints, StackFrame, Variable};
 use serde_json::Value;
 use std::alloc::{AllocError, Global};
 

@@ -1,6 +1,6 @@
 -- The body of a response that carries what a board answers.
-use Rattle.lab_views.specs.declared.shown.Shown.{Shown}
-use Rattle.lab_views.specs.declared.shown.Shown.TheVariants as shown
+use Rattle.lab_shown.specs.declared.shown.Shown.{Shown}
+use Rattle.lab_shown.specs.declared.shown.Shown.TheVariants as shown
 use Rattle.lab_core.specs.declared.answer.Answer.{Answer}
 use Rattle.lab_core.specs.declared.answer.Answer.TheVariants as answer
 use Rattle.dap_answers.specs.declared.answer.Body.{Body}

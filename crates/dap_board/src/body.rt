@@ -4,7 +4,7 @@ ghost use Rattle.dap_board.specs.Bodies.{shown_body, body_of};
 
 use dap_answers::answer::{Body, DebugState};
 use lab_core::answer::Answer;
-use lab_views::shown::Shown;
+use lab_shown::shown::Shown;
 
 fn shown_body(shown: Shown) -> Body
     ensures { result ≡ shown_body shown }

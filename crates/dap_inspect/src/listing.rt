@@ -8,7 +8,7 @@ use base_text::sequence::{Bytes, Sequence};
 use base_text::text::Text;
 use i80_dis::line::line_at;
 use lab_core::lab::Lab;
-use lab_views::shown::CodeLine;
+use lab_shown::shown::CodeLine;
 use std::alloc::{AllocError, Global};
 
 /// The bytes from an address on, as many as the longest instruction has.

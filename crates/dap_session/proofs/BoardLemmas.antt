@@ -4,7 +4,7 @@ use Rattle.std.proofs.Common.{Result, Ok, Err, if◌then◌else◌, refl, sym, a
 use Rattle.base_text.specs.Bytes.{Bytes, Text}
 use Rattle.asm_syntax.specs.Outcome.{◌>>=◌}
 use Rattle.lab_views.specs.declared.view.View.{View}
-use Rattle.lab_views.specs.declared.shown.Shown.{Shown}
+use Rattle.lab_shown.specs.declared.shown.Shown.{Shown}
 use Rattle.lab_views.specs.declared.fault.ViewFault.{ViewFault}
 use Rattle.lab_views.specs.Views.{shown}
 use Rattle.lab_poke.specs.Places.{place_named}

@@ -3,7 +3,7 @@ use base_text::sequence::Sequence;
 use base_text::text::Text;
 use dap_answers::answer::{Body, DebugState, Event, Outcome, Response, StopReason};
 use dap_answers::sending::{event, response};
-use lab_views::shown::{Breakpoint, CodeLine, SourceBreakpoints, StackFrame, Variable};
+use lab_shown::shown::{Breakpoint, CodeLine, SourceBreakpoints, StackFrame, Variable};
 use serde_json::Value;
 use std::alloc::{AllocError, Global};
 

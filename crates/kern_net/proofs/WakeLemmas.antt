@@ -7,7 +7,7 @@ use Rattle.std.specs.List.{starts_with}
 use Rattle.std.proofs.lemmas.List.Elements.{All-nil, All-cons, All-append}
 use Rattle.jup_wire.specs.declared.channel.Channel.TheVariants.{Iopub}
 use Rattle.lab_views.specs.declared.fault.ViewFault.{ViewFault}
-use Rattle.lab_views.specs.declared.shown.Shown.{Shown}
+use Rattle.lab_shown.specs.declared.shown.Shown.{Shown}
 use Rattle.lab_views.specs.declared.view.View.TheVariants as view
 use Rattle.lab_views.specs.Views.{shown}
 use Rattle.lab_core.specs.declared.fault.EventFault.{EventFault}

@@ -24,7 +24,7 @@ use Rattle.lab_core.specs.declared.run_state.RunState.{RunState}
 use Rattle.lab_core.specs.declared.run_state.RunState.TheVariants.{NoRun, Running, Stopped}
 use Rattle.lab_core.specs.declared.answer.Answer.{Answer}
 use Rattle.lab_core.specs.declared.answer.Answer.TheVariants.{Dumped, Breakpoints}
-use Rattle.lab_views.specs.declared.shown.Breakpoint.{Breakpoint}
+use Rattle.lab_shown.specs.declared.shown.Breakpoint.{Breakpoint}
 use Rattle.lab_core.specs.declared.fault.EventFault.{EventFault}
 use Rattle.lab_core.specs.Board.{Board}
 use Rattle.lab_core.specs.Events.{Gives, GivesSlice, SlicesRun, while_attached, while_running, stopped}

@@ -20,7 +20,7 @@ use Rattle.lab_sources.specs.declared.sources.Source.{Source}
 use Rattle.lab_sources.specs.declared.sources.SourceFault.{SourceFault}
 use Rattle.lab_sources.specs.Sources.{place_of, number_at, kept_at, source_at, line_count}
 use Rattle.lab_breaks.specs.Breakpoints.{with_lines}
-use Rattle.lab_views.specs.declared.shown.Shown.{Shown}
+use Rattle.lab_shown.specs.declared.shown.Shown.{Shown}
 use Rattle.lab_views.specs.declared.fault.ViewFault.{ViewFault}
 use Rattle.lab_views.specs.Parts.{Parts}
 use Rattle.lab_views.specs.Views.{shown}
@@ -30,7 +30,7 @@ use Rattle.lab_core.specs.declared.fault.EventFault.{EventFault}
 use Rattle.lab_core.specs.declared.fault.EventFault.TheVariants.{NotRunning, NotStopped, NotAttached}
 use Rattle.lab_core.specs.declared.fault.EventFault.TheVariants.{NoSource, Busy, Latched, Vector, Assembly}
 use Rattle.lab_core.specs.declared.event.StepRequest.{StepRequest}
-use Rattle.lab_views.specs.declared.shown.Breakpoint.{Breakpoint}
+use Rattle.lab_shown.specs.declared.shown.Breakpoint.{Breakpoint}
 use Rattle.lab_core.specs.declared.answer.SliceOutcome.{SliceOutcome}
 use Rattle.lab_core.specs.declared.answer.Answer.{Answer}
 use Rattle.lab_core.specs.declared.answer.Answer.TheVariants as answer

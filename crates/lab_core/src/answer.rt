@@ -3,7 +3,7 @@ use crate::fault::EventFault;
 use base_text::sequence::Sequence;
 use base_text::text::Text;
 use i80_devs::traffic::Traffic;
-use lab_views::shown::{Breakpoint, Shown};
+use lab_shown::shown::{Breakpoint, Shown};
 
 /// Where a debugger stops a run.
 #[derive(Clone, Copy)]

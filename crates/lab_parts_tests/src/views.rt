@@ -18,7 +18,7 @@ use lab_test_kit::cells::symbols;
 use lab_test_kit::told::put_shown;
 use lab_views::fault::ViewFault;
 use lab_views::parts::Parts;
-use lab_views::shown::Shown;
+use lab_shown::shown::Shown;
 use lab_views::views::{after_instructions, show};
 use std::alloc::{AllocError, Global};
 use std::process::Abort;

@@ -3,7 +3,7 @@ use Rattle.std.specs.Prelude.{◌≡◌, ◌≤◌, ◌<◌, ◌+◌, ℕ, List,
 use Rattle.std.specs.Prelude.{if◌then◌else◌}
 use Rattle.std.specs.Str.{bytes_eq}
 use Rattle.i80_exec.specs.State.{MachineState}
-use Rattle.lab_views.specs.declared.shown.Variable.{Variable}
+use Rattle.lab_shown.specs.declared.shown.Variable.{Variable}
 use Rattle.lab_views.specs.declared.fault.ViewFault.{ViewFault}
 use Rattle.lab_views.specs.Numbers.{asked_for}
 use Rattle.lab_views.specs.Parts.{Parts}

@@ -4,7 +4,7 @@ use i80_exec::registers::Interrupts;
 use lab_core::answer::{Answer, End, SliceOutcome, Stop};
 use lab_core::fault::EventFault;
 use lab_core::lab::Lab;
-use lab_views::shown::{Breakpoint, CodeLine, Shown, SourceBreakpoints, StackFrame, Variable};
+use lab_shown::shown::{Breakpoint, CodeLine, Shown, SourceBreakpoints, StackFrame, Variable};
 use std::alloc::AllocError;
 
 fn put_frame(told: &mut String, frame: &StackFrame) -> Result<(), AllocError> {

@@ -3,7 +3,7 @@ use Rattle.std.specs.Prelude.{ℕ, zero, suc, ◌+◌, List, [], ◌∷◌, take
 use Rattle.i80_exec.specs.State.{MachineState, byte_at, wrapped}
 use Rattle.i80_dis.specs.Shown.{first_shown}
 use Rattle.i80_dis.specs.Text.{text_of}
-use Rattle.lab_views.specs.declared.shown.CodeLine.{CodeLine}
+use Rattle.lab_shown.specs.declared.shown.CodeLine.{CodeLine}
 
 -- the bytes from an address on, as many as the longest instruction has
 abbrev pub bytes_at : MachineState → ℕ → List ℕ

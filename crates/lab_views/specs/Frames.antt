@@ -11,7 +11,7 @@ use Rattle.lab_frames.specs.declared.frame.Frame.{Frame}
 use Rattle.lab_image.specs.declared.origin.Origin.{Origin}
 use Rattle.lab_image.specs.Loads.{origin_of}
 use Rattle.lab_sources.specs.declared.sources.Source.{Source}
-use Rattle.lab_views.specs.declared.shown.StackFrame.{StackFrame}
+use Rattle.lab_shown.specs.declared.shown.StackFrame.{StackFrame}
 use Rattle.lab_views.specs.Parts.{Parts}
 
 -- ---- names of routines

@@ -3,7 +3,7 @@ use Rattle.std.specs.Prelude.{ℕ, List, Option, option_map}
 use Rattle.std.specs.List.{filter_map}
 use Rattle.lab_sources.specs.declared.sources.Source.{Source}
 use Rattle.lab_breaks.specs.declared.lists.BreakpointList.{BreakpointList}
-use Rattle.lab_views.specs.declared.shown.SourceBreakpoints.{SourceBreakpoints}
+use Rattle.lab_shown.specs.declared.shown.SourceBreakpoints.{SourceBreakpoints}
 use Rattle.lab_views.specs.Frames.{path_of}
 
 abbrev pub with_path : List ℕ → BreakpointList → SourceBreakpoints

@@ -12,7 +12,7 @@ use Rattle.i80_devs.specs.Past.{PanelState, panel_after}
 use Rattle.i80_dis.specs.Text.{byte_text, word_text}
 use Rattle.asm_build.specs.declared.symbols.Symbol.{Symbol}
 use Rattle.asm_build.specs.Reading.{Entries}
-use Rattle.lab_views.specs.declared.shown.Variable.{Variable}
+use Rattle.lab_shown.specs.declared.shown.Variable.{Variable}
 use Rattle.lab_views.specs.declared.fault.ViewFault.{ViewFault}
 use Rattle.lab_views.specs.declared.fault.ViewFault.TheVariants.{BadReference}
 use Rattle.lab_views.specs.Numbers.{asked_for, page}

@@ -4,10 +4,10 @@ use Rattle.std.specs.Prelude.{if◌then◌else◌}
 use Rattle.lab_sources.specs.Sources.{source_at}
 use Rattle.lab_views.specs.declared.view.View.{View}
 use Rattle.lab_views.specs.declared.view.View.TheVariants as view
-use Rattle.lab_views.specs.declared.shown.Shown.{Shown}
-use Rattle.lab_views.specs.declared.shown.Shown.TheVariants.{Frames, Scopes, Variables, Code}
-use Rattle.lab_views.specs.declared.shown.Shown.TheVariants.{Source as SourceText, Info}
-use Rattle.lab_views.specs.declared.shown.Variable.{Variable}
+use Rattle.lab_shown.specs.declared.shown.Shown.{Shown}
+use Rattle.lab_shown.specs.declared.shown.Shown.TheVariants.{Frames, Scopes, Variables, Code}
+use Rattle.lab_shown.specs.declared.shown.Shown.TheVariants.{Source as SourceText, Info}
+use Rattle.lab_shown.specs.declared.shown.Variable.{Variable}
 use Rattle.lab_views.specs.declared.fault.ViewFault.{ViewFault}
 use Rattle.lab_views.specs.declared.fault.ViewFault.TheVariants.{OutOfMemory, NotStopped, BadFrame}
 use Rattle.lab_views.specs.declared.fault.ViewFault.TheVariants.{BadReference, NoSource}

@@ -2,7 +2,7 @@
 ghost use Rattle.std.specs.Prelude.{◌≡◌, IfOk};
 ghost use Rattle.lab_views.specs.Code as code;
 
-use crate::shown::CodeLine;
+use lab_shown::shown::CodeLine;
 use base_text::sequence::{Bytes, Sequence};
 use base_text::text::Text;
 use i80_dis::line::line_at;

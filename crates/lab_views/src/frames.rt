@@ -10,7 +10,7 @@ ghost use Rattle.lab_views.specs.Frames as frames;
 
 use crate::numbers::{asked_for, end_of};
 use crate::parts::Parts;
-use crate::shown::StackFrame;
+use lab_shown::shown::StackFrame;
 use asm_build::symbols::{Symbol, SymbolKind, Symbols};
 use base_text::hexadecimal::push_word;
 use base_text::sequence::Sequence;

@@ -4,7 +4,7 @@ ghost use Rattle.std.specs.List.{cons_option};
 ghost use Rattle.lab_views.specs.Info as info;
 
 use crate::frames::path_of;
-use crate::shown::SourceBreakpoints;
+use lab_shown::shown::SourceBreakpoints;
 use base_text::sequence::Sequence;
 use lab_breaks::lists::BreakpointList;
 use lab_sources::sources::Sources;

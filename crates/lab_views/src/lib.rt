@@ -10,7 +10,6 @@ mod frames;
 mod info;
 mod numbers;
 pub mod parts;
-pub mod shown;
 mod variables;
 pub mod view;
 pub mod views;

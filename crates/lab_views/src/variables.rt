@@ -8,7 +8,7 @@ ghost use Rattle.lab_views.specs.Variables as variables;
 
 use crate::frames::symbol_at;
 use crate::numbers::{asked_for, end_of};
-use crate::shown::Variable;
+use lab_shown::shown::Variable;
 use asm_build::symbols::Symbols;
 use base_text::hexadecimal;
 use base_text::sequence::Sequence;

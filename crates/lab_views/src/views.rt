@@ -21,7 +21,7 @@ use crate::fault::ViewFault;
 use crate::frames::{frame_count, frames};
 use crate::info::breakpoints;
 use crate::parts::Parts;
-use crate::shown::{Shown, Variable};
+use lab_shown::shown::{Shown, Variable};
 use crate::view::View;
 use crate::{code, variables};
 use base_text::sequence::Sequence;

@@ -14,7 +14,7 @@ use crate::run_state::RunState;
 use base_text::sequence::Sequence;
 use lab_sources::lines::line_count;
 use lab_views::parts::Parts;
-use lab_views::shown::Breakpoint;
+use lab_shown::shown::Breakpoint;
 use lab_views::view::View;
 use lab_views::views::show;
 use std::alloc::{AllocError, Global};
