@@ -12,6 +12,7 @@ ghost use Rattle.std.specs.Prelude.{
   length,
   OnOk,
   OnErr,
+  IfOk,
   IfSome,
   IsSome,
   Err,
@@ -113,6 +114,18 @@ impl Devices {
             operations: Vec::new(alloc),
             alloc,
         }
+    }
+
+    /// Devices on which the same was done, with no port operations and no room for any.
+    pub fn copy(&self) -> Result<Devices, AllocError>
+        ensures { IfOk result (λ d. d ≡ record { panel = self.now.panel; operations = []; spare = 0 }) }
+    {
+        let panel = self.panel.copy()?;
+        Ok(Devices {
+            panel,
+            operations: Vec::new(self.alloc),
+            alloc: self.alloc,
+        })
     }
 
     /// Types bytes at the console: they wait as input.

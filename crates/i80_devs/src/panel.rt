@@ -1,5 +1,5 @@
 //! What the answers of the devices rest on.
-ghost use Rattle.std.specs.Prelude.{◌≡◌, ◌≤◌, ◌+◌, ◌++◌, [], drop, length, OnOk, OnErr, IfSome};
+ghost use Rattle.std.specs.Prelude.{◌≡◌, ◌≤◌, ◌+◌, ◌++◌, [], drop, length, OnOk, OnErr, IfOk, IfSome};
 ghost use Rattle.i80_devs.specs.Past.{first_or_zero, one_if_any};
 
 use std::alloc::{AllocError, Global};
@@ -44,6 +44,19 @@ impl Panel {
             lamps: 0,
             latched: None,
         }
+    }
+
+    /// The same panel once more.
+    pub fn copy(&self) -> Result<Panel, AllocError>
+        ensures { IfOk result (λ panel. panel ≡ self.now) }
+    {
+        let waiting = self.waiting.clone()?;
+        Ok(Panel {
+            waiting,
+            switches: self.switches,
+            lamps: self.lamps,
+            latched: self.latched,
+        })
     }
 
     pub fn type_bytes(&mut self, bytes: &[u8]) -> Result<(), AllocError>

@@ -120,6 +120,18 @@ impl Machine {
         })
     }
 
+    /// The same machine once more, with a memory of its own.
+    pub fn copy(&self) -> Result<Machine, AllocError>
+        ensures { IfOk result (λ m. m ≡ self.now) }
+    {
+        let memory = self.memory.clone()?;
+        Ok(Machine {
+            regs: self.regs,
+            memory,
+            board: self.board,
+        })
+    }
+
     /// The byte at an address.
     #[inline]
     pub fn peek(&self, address: u16) -> u8

@@ -7,3 +7,4 @@ pub mod LawLemmas
 pub mod GivenLemmas
 pub mod BurstLemmas
 pub mod FollowLemmas
+pub mod MomentLemmas

@@ -7,3 +7,4 @@ pub mod Events
 pub mod SliceEnds
 pub mod Labs
 pub mod Memory
+pub mod Moments

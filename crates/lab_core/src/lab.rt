@@ -5,6 +5,7 @@ mod burst;
 mod debug;
 mod events;
 mod load;
+pub mod moments;
 mod poke;
 mod slice;
 mod steps;

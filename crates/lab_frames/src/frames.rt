@@ -63,6 +63,15 @@ impl Frames {
         Ok(Frames { frames })
     }
 
+    /// The same frames once more, with room for all that can be live together.
+    pub fn copy(&self, alloc: Global) -> Result<Frames, AllocError>
+        ensures { IfOk result (λ frames. frames ≡ self.now) }
+    {
+        let mut frames = Vec::with_capacity(alloc, ROOM)?;
+        frames.extend_from_slice(self.frames.as_slice())?;
+        Ok(Frames { frames })
+    }
+
     /// One more step, which answered so, with PC at `site` before it and SP at `sp` after it:
     /// the frames that it ends go, and the one that it makes comes.
     /// Answers how many of the frames before it are left.

@@ -1,0 +1,85 @@
+//! Moments of a run, to which it can be put back.
+ghost use Rattle.std.specs.Prelude.{◌≡◌, IfOk, OnOk, OnErr};
+ghost use Rattle.lab_core.specs.Board.{Board};
+ghost use Rattle.lab_core.specs.Labs.{StandsFor};
+ghost use Rattle.lab_core.specs.Moments.{IsMomentOf, put_back, held};
+
+use crate::lab::Lab;
+use crate::run_state::RunState;
+use i80_devs::devices::Devices;
+use i80_exec::machine::Machine;
+use lab_frames::frames::Frames;
+use std::alloc::AllocError;
+use std::marker::Model;
+
+/// What a run changes of a board, at one moment: the machine, the devices and the live frames.
+#[derive(Drop)]
+pub struct Moment {
+    machine: Machine,
+    devices: Devices,
+    frames: Frames,
+    is_halted: bool,
+}
+
+impl Model for Moment {
+    ghost use Rattle.lab_core.specs.Moments.{MomentState};
+
+    ghost Value = { MomentState };
+
+    ghost view = { λ m. record {
+      machine = m.machine;
+      devices = m.devices;
+      frames = m.frames;
+      is_halted = m.is_halted;
+    } };
+}
+
+impl Lab {
+    /// What the run has of the board now.
+    pub fn moment(&self) -> Result<Moment, AllocError>
+        ensures { (b : Board) → StandsFor self.now b → IfOk result (λ moment. IsMomentOf moment b) }
+    {
+        let machine = self.machine.copy()?;
+        let devices = self.context.devices.copy()?;
+        let frames = self.context.frames.copy(self.alloc)?;
+        Ok(Moment {
+            machine,
+            devices,
+            frames,
+            is_halted: self.context.is_halted,
+        })
+    }
+
+    /// Puts the run back to this moment, from which it goes on unwatched. Breakpoints and texts stay.
+    pub fn put_back(&mut self, moment: &Moment) -> Result<(), AllocError>
+        ensures ok { (then now : Board) → IsMomentOf moment.now then → StandsFor self.old now
+            → OnOk result (StandsFor self.new (put_back then now)) }
+        ensures err { OnErr result (self.new ≡ self.old) }
+    {
+        // All is made before anything changes.
+        let machine = moment.machine.copy()?;
+        let devices = moment.devices.copy()?;
+        let frames = moment.frames.copy(self.alloc)?;
+        self.machine = machine;
+        self.context.devices = devices;
+        self.context.frames = frames;
+        self.context.is_halted = moment.is_halted;
+        self.context.is_attached = false;
+        self.context.is_resumed = true;
+        self.context.has_moved = false;
+        self.context.request = None;
+        self.run_state = RunState::Running;
+        Ok(())
+    }
+
+    /// Stops the run where it is, watched.
+    pub fn hold(&mut self)
+        ensures { (b : Board) → StandsFor self.old b → StandsFor self.new (held b) }
+    {
+        self.context.is_attached = true;
+        self.context.is_resumed = true;
+        self.context.has_moved = false;
+        self.context.request = None;
+        self.run_state = RunState::Stopped;
+    }
+}
