@@ -61,7 +61,8 @@ pub closing_quote-doubled : (cs rest : List ℕ) → Stops is_quote rest
     → closing_quote (doubled cs ++ (39 ∷ rest)) ≡ Some (length (doubled cs))
 closing_quote-doubled [] [] stops = refl
 closing_quote-doubled [] (b ∷ rest) stops = rw stops refl
-closing_quote-doubled (c ∷ cs) rest stops = closing_step c cs rest (eqb c 39) refl (closing_quote-doubled cs rest stops)
+closing_quote-doubled (c ∷ cs) rest stops =
+    closing_step c cs rest (eqb c 39) refl (closing_quote-doubled cs rest stops)
 
 -- what is before a closing quote: a string's characters, each quote doubled, and the closing quote after them
 pub record Closed (bytes : List ℕ) (n : ℕ) : Type 0 where

@@ -8,8 +8,8 @@ pub record SinkState : Type 0 where
   pub calls : ℕ
   pub failed : Bool
 
--- what a reader has given and has left, the most that it gives a call, the calls that are still to succeed, and
--- how often it was read, where that is counted
+-- what a reader has given and has left, the most that it gives a call, the calls that are still to succeed,
+-- and how often it was read, where that is counted
 pub record SourceState : Type 0 where
   pub given : List ℕ
   pub left : List ℕ

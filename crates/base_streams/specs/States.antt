@@ -1,8 +1,8 @@
 -- What is known of a reader and of a writer.
 use Rattle.std.specs.Prelude.{◌≡◌, ℕ, Bool, false, List, Option}
 
--- A reader: the bytes that it has given and those that it has still to give, where they are known; how often it
--- was read, where that is counted; whether a read has come to the end, and whether one has failed.
+-- A reader: the bytes that it has given and those that it has still to give, where they are known; how often
+-- it was read, where that is counted; whether a read has come to the end, and whether one has failed.
 pub record InletState : Type 0 where
   pub given : Option (List ℕ)
   pub left : Option (List ℕ)

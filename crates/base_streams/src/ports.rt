@@ -13,8 +13,8 @@ pub struct IoFault;
 
 /// What gives bytes.
 pub trait Inlet {
-    /// What it has given and has still to give, how often it was read, whether it has ended, and whether it has
-    /// failed.
+    /// What it has given and has still to give, how often it was read, whether it has ended, and whether it
+    /// has failed.
     ghost state: { Self → InletState };
 
     /// Reads at most as many bytes as there is room for, to the front of the buffer, and reports how

@@ -1,5 +1,5 @@
-//! Four endless workloads as cells: those of `bench/core`, byte for byte, and a jump to itself; at their end a
-//! HLT that isn't reached.
+//! Four endless workloads as cells: those of `bench/core`, byte for byte, and a jump to itself; at their end
+//! a HLT that isn't reached.
 
 /// Two nested counters, counted down.
 static LOOP: &str = "\

@@ -45,8 +45,8 @@ fn rounds_by<P: Print>(
     Ok(())
 }
 
-/// Does so many rounds of so many units of the work of this name on one kernel, and prints after each how much it
-/// gave: who times the lines sees how the rate changes as the journal grows.
+/// Does so many rounds of so many units of the work of this name on one kernel, and prints after each how
+/// much it gave: who times the lines sees how the rate changes as the journal grows.
 pub fn rounds<P: Print>(rt: &P, alloc: Global, word: &str, units: u64, count: u64) -> Result<()> {
     let Some(work) = Work::from_name(word) else {
         bail!("there is no such work");
@@ -57,7 +57,8 @@ pub fn rounds<P: Print>(rt: &P, alloc: Global, word: &str, units: u64, count: u6
     done
 }
 
-/// Does so many units of the work of this name, after so many others. How many frames, posts or slices they gave.
+/// Does so many units of the work of this name, after so many others. How many frames, posts or slices they
+/// gave.
 pub fn work(alloc: Global, word: &str, before: u64, count: u64) -> Result<u64> {
     match Work::from_name(word) {
         Some(work) => Ok(make(alloc, work, before, count)?),

@@ -1,8 +1,8 @@
 // Does what is timed of lab80's parts, and prints what it came to: `bench WORD SIZE COUNT` so much of a work,
 // `bench core WORKLOAD COUNT` so many instructions on the machine, `bench plain WORKLOAD COUNT` and `bench
-// attached WORKLOAD COUNT` on a board, without a debugger and with one; `bench rounds WORD UNITS COUNT` so many
-// rounds of so many units on one kernel, with a line after each. The scripts in bench/ time it.
-// With no word it does a little of each, which the gate compares.
+// attached WORKLOAD COUNT` on a board, without a debugger and with one; `bench rounds WORD UNITS COUNT` so
+// many rounds of so many units on one kernel, with a line after each. The scripts in bench/ time it. With no
+// word it does a little of each, which the gate compares.
 #![tactic(auto)]
 
 mod assembler;

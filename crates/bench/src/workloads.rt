@@ -1,5 +1,5 @@
-//! Endless workloads on the machine: three that `bench/core` times beside a plain switch interpreter in C, and a jump to itself, as
-//! `bench/kernel` has it in a cell.
+//! Endless workloads on the machine: three that `bench/core` times beside a plain switch interpreter in C,
+//! and a jump to itself, as `bench/kernel` has it in a cell.
 ghost use Rattle.std.specs.Prelude.{◌≤◌};
 
 use crate::slot::Slot;
@@ -78,8 +78,8 @@ fn machine_full_of(alloc: Global, opcode: u8) -> Result<Machine, AllocError> {
     Ok(machine)
 }
 
-/// Repeats each opcode but HLT so often on a machine of its own, and then so often on another: `bench/opcodes` counts the
-/// instructions of each run.
+/// Repeats each opcode but HLT so often on a machine of its own, and then so often on another:
+/// `bench/opcodes` counts the instructions of each run.
 pub fn repeat_all(alloc: Global, few: u64, many: u64) -> Result<u64, AllocError> {
     for opcode in 0..=u8::MAX {
         if opcode != HLT {

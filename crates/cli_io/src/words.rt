@@ -8,8 +8,8 @@ use std::{env, io};
 /// What standard error says where a program doesn't know the words.
 const USAGE: &str = "usage: lab80 step | asm | dis ORIGIN | kernel FILE | term FILE";
 
-/// The words after the program's name. Words that aren't UTF-8 are none that a program knows: then the usage is
-/// shown. The error is the status with which the program ends.
+/// The words after the program's name. Words that aren't UTF-8 are none that a program knows: then the usage
+/// is shown. The error is the status with which the program ends.
 pub fn read_words(rt: &(impl Env + AllocGlobal + Eprint)) -> Result<Vec<String>, Status>
     ensures { IfErr result (λ status. (status ≡ Status.OutOfMemory) ⊎ (status ≡ Status.Usage)) }
 {

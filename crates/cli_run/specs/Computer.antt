@@ -55,7 +55,8 @@ abbrev pub end_of : Bool → Stepped → MachineState → Option Ending
 end_of is_last last m =
     if (is_halt last) then (Some (halted_in m.regs.interrupts)) else
     (if is_last then (Some ending.Limit) else
-    (if (is_undefined (row_on m.board (byte_at m m.regs.pc))) then (Some (ending.Undefined (byte_at m m.regs.pc)))
+    (if (is_undefined (row_on m.board (byte_at m m.regs.pc))) then
+    (Some (ending.Undefined (byte_at m m.regs.pc)))
     else None))
 
 -- the same after k of at most limit steps

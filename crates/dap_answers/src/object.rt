@@ -1,14 +1,15 @@
 //! JSON objects as they are written.
 ghost use Rattle.std.specs.Prelude.{◌≡◌, IfOk};
-ghost use Rattle.serde_json.specs.Data.{boolean, number, unsigned, string, array, no_items, object, no_members};
+ghost use Rattle.serde_json.specs.Data.{boolean, number, unsigned, string, array, no_items, object};
+ghost use Rattle.serde_json.specs.Data.{no_members};
 ghost use Rattle.serde_json.specs.View.{view};
 ghost use Rattle.dap_answers.specs.Object.{members_of, IsWith, IsObject};
 
 use serde_json::{Map, Value};
 use std::alloc::{AllocError, Global};
 
-/// An object that is written member by member, in any order. Where memory runs out for one, only `finish` says
-/// so: an object is one expression, with one place at which it fails.
+/// An object that is written member by member, in any order. Where memory runs out for one, only `finish`
+/// says so: an object is one expression, with one place at which it fails.
 #[derive(Drop)]
 pub struct Object {
     alloc: Global,

@@ -58,7 +58,8 @@ pub past_sent : (old new : DebuggerState) (inputs : List Input) (bytes more : Li
 past_sent old new inputs bytes more p session told sent is = record {
   session = subst (λ v. StandsFor v (played inputs opened).state) (sym session) p.session;
   before = p.before ++ old.told;
-  messages = p.messages ∙ (sym (append-nil (p.before ++ old.told)) ∙ ap (λ m. (p.before ++ old.told) ++ m) (sym told));
+  messages = p.messages ∙ (sym (append-nil (p.before ++ old.told))
+      ∙ ap (λ m. (p.before ++ old.told) ++ m) (sym told));
   count = (let c = p.count in omega (arith, sent, c, length-append p.before old.told));
   wrote = ap (λ b. b ++ more) p.wrote ∙ (ap (λ b. sent_bytes 0 p.before ++ b) (is
       ∙ ap (λ n. sent_bytes n old.told) (p.count ∙ omega arith))

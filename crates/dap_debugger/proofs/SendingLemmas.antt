@@ -41,7 +41,8 @@ sent_bytes-append sent (m ∷ a) b =
     (sent_bytes (sent + length (m ∷ a)) b))
 
 -- how far writing of lists has come
-pub record HasPutLists (number sent : ℕ) (rest lists : List (List Message)) (out before : List ℕ) : Type 0 where
+pub record HasPutLists (number sent : ℕ) (rest lists : List (List Message))
+    (out before : List ℕ) : Type 0 where
   pub count : number + length (joined rest) ≡ sent + length (joined lists)
   pub bytes : out ++ sent_bytes number (joined rest) ≡ before ++ sent_bytes sent (joined lists)
 

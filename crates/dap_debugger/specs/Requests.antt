@@ -7,7 +7,8 @@ use Rattle.serde_json.specs.Read.{read}
 use Rattle.dap_editor.specs.declared.request.EditorRequest.{EditorRequest}
 use Rattle.dap_editor.specs.Reading.{editor_request, unreadable}
 
--- the value of a body that is one JSON text in UTF-8 (RFC 8259), with arrays and objects nested at most 127 deep
+-- the value of a body that is one JSON text in UTF-8 (RFC 8259), with arrays and objects nested at most 127
+-- deep
 unfoldable pub json_of : Bytes → Option Data
 json_of body = if is_utf8 body then read body else None
 

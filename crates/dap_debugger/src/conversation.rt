@@ -101,8 +101,8 @@ fn round<S: BodySource, F: ProgramFiles, W: Outlet>(
     Ok(())
 }
 
-/// Talks with an editor, up to an end: each body is answered, a program that runs goes on by a slice between two
-/// bodies, and what is told is written at once.
+/// Talks with an editor, up to an end: each body is answered, a program that runs goes on by a slice between
+/// two bodies, and what is told is written at once.
 pub fn converse<R: Wait, S: BodySource, F: ProgramFiles, W: Outlet>(
     rt: &R,
     alloc: Global,

@@ -46,8 +46,8 @@ impl Debugger {
         })
     }
 
-    /// Answers a request, where this was found at the path that it needs (`wanted_file`). Out of memory changes nothing; but
-    /// of the bytes of a `writeMemory` some may be written then, from the first on.
+    /// Answers a request, where this was found at the path that it needs (`wanted_file`). Out of memory
+    /// changes nothing; but of the bytes of a `writeMemory` some may be written then, from the first on.
     pub fn answer(
         &mut self,
         alloc: Global,
@@ -100,7 +100,8 @@ impl Debugger {
     /// The path whose text a request needs.
     pub fn wanted_file<'a>(&'a self, request: &'a EditorRequest) -> Option<&'a str>
         ensures { (inputs : List Input) (bytes : Bytes) → Past self.now inputs bytes
-            → option_map (λ path. path.now) result ≡ wanted_file request.now.asked (played inputs opened).state }
+            → option_map (λ path. path.now) result
+            ≡ wanted_file request.now.asked (played inputs opened).state }
     {
         self.session.wanted_file(request)
     }

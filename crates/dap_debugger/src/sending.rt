@@ -55,8 +55,8 @@ fn put_messages(
     Ok(number)
 }
 
-/// Writes the messages of lists, numbered on from so many, and gives how many there are now. After an error some of
-/// them may have been written; no number is above 2^64 - 1.
+/// Writes the messages of lists, numbered on from so many, and gives how many there are now. After an error
+/// some of them may have been written; no number is above 2^64 - 1.
 pub fn put_all(
     alloc: Global,
     sent: u64,

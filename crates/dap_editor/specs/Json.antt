@@ -1,5 +1,5 @@
--- The JSON of what an editor is told (Debug Adapter Protocol, "Base Protocol", "Events", "Requests", "Types"),
--- beside what dap_answers has. The members of an object stand in the order of their keys' bytes.
+-- The JSON of what an editor is told (Debug Adapter Protocol, "Base Protocol", "Events", "Requests",
+-- "Types"), beside what dap_answers has. The members of an object stand in the order of their keys' bytes.
 use Rattle.std.specs.Prelude.{
   ℕ,
   ◌==◌,

@@ -20,4 +20,5 @@ line_begun (Some o) =
 
 -- the line of the statement that begins at the value of a name
 abbrev pub line_of_label : Board → Text → Option SourceLine
-line_of_label b name = option_and_then (λ address. line_begun (origin_of b.loads address)) (symbol_value b name)
+line_of_label b name = option_and_then (λ address. line_begun (origin_of b.loads address))
+    (symbol_value b name)

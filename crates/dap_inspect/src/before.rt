@@ -6,7 +6,8 @@ ghost use Rattle.dap_inspect.specs.Instructions as instructions;
 
 use lab_core::lab::Lab;
 
-/// Whether a statement was loaded that begins at this start, and the line of code there ends right before the address.
+/// Whether a statement was loaded that begins at this start, and the line of code there ends right before the
+/// address.
 fn ends_before(lab: &Lab, address: u16, start: u16) -> bool
     ensures { (b : Board) → StandsFor lab.now b → result ≡ instructions.ends_before b address start }
 {
@@ -37,8 +38,9 @@ fn instruction_before(lab: &Lab, address: u16) -> u16
 
 /// The address so many instructions before one, at most 65,536 of them. Addresses wrap.
 ///
-/// Code can't be read backwards: the instruction before an address is the nearest one that a loaded statement begins
-/// and that ends right before it, as the code view shows it on this memory; where there is none, it is the byte before.
+/// Code can't be read backwards: the instruction before an address is the nearest one that a loaded statement
+/// begins and that ends right before it, as the code view shows it on this memory; where there is none, it is
+/// the byte before.
 pub fn before_instructions(lab: &Lab, address: u16, count: u32) -> u16
     requires { count ≤ 65536 }
     ensures { (b : Board) → StandsFor lab.now b → result ≡ instructions.before_instructions b address count }

@@ -121,14 +121,14 @@ fn evaluate_trimmed(alloc: Global, lab: &Lab, text: &str) -> Result<Text, Evalua
     }
 }
 
-/// What an expression is worth, as a scope shows it: `0hhH` for the registers A, B, C, D, E, H and L and for M,
-/// which is the byte at HL, and `0hhhhH` for SP, PC and any other value. In either case of letters, a register's name
-/// alone is the register, whatever symbol is named so; any other expression is one of the assembler, in
-/// which names are the symbols that are kept, and `$` is PC.
+/// What an expression is worth, as a scope shows it: `0hhH` for the registers A, B, C, D, E, H and L and for
+/// M, which is the byte at HL, and `0hhhhH` for SP, PC and any other value. In either case of letters, a
+/// register's name alone is the register, whatever symbol is named so; any other expression is one of the
+/// assembler, in which names are the symbols that are kept, and `$` is PC.
 ///
-/// White space at the ends is passed over. What has no value is refused with `NoExpression`: an empty text, a comment,
-/// a text with LF or CR; and what the assembler refuses with `Assembly` (8080/8085 Assembly Language Programming
-/// Manual, chapter 2).
+/// White space at the ends is passed over. What has no value is refused with `NoExpression`: an empty text, a
+/// comment, a text with LF or CR; and what the assembler refuses with `Assembly` (8080/8085 Assembly Language
+/// Programming Manual, chapter 2).
 #[tactic(auto, unfolding(crate::specs::Expressions::evaluated))]
 pub fn evaluate(alloc: Global, lab: &Lab, expression: &str) -> Result<Text, EvaluateFault>
     ensures { (b : Board) → StandsFor lab.now b → result ≢ Err EvaluateFault.OutOfMemory

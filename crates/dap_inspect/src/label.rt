@@ -34,10 +34,11 @@ fn line_begun(origin: Option<Origin>) -> Option<SourceLine>
     }
 }
 
-/// The line of the statement that begins at the value of a symbol that is kept, where one begins there. The name is taken
-/// in either case. Breakpoints have their lines in 32 bits, and a longer one isn't found.
+/// The line of the statement that begins at the value of a symbol that is kept, where one begins there. The
+/// name is taken in either case. Breakpoints have their lines in 32 bits, and a longer one isn't found.
 pub fn line_of_label(alloc: Global, lab: &Lab, name: &str) -> Result<Option<SourceLine>, AllocError>
-    ensures { (b : Board) → StandsFor lab.now b → IfOk result (λ line. line ≡ labels.line_of_label b name.now) }
+    ensures { (b : Board) → StandsFor lab.now b
+        → IfOk result (λ line. line ≡ labels.line_of_label b name.now) }
 {
     let name = name.to_ascii_uppercase(alloc)?;
     match lab.symbols().get(name.as_str()) {

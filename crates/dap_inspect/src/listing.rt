@@ -23,7 +23,8 @@ fn bytes_at(lab: &Lab, address: u16) -> [u8; 3]
 }
 
 fn code_line(alloc: Global, lab: &Lab, address: u16) -> Result<CodeLine, AllocError>
-    ensures { (b : Board) → StandsFor lab.now b → IfOk result (λ line. line ≡ code.line_at b.machine address) }
+    ensures { (b : Board) → StandsFor lab.now b
+        → IfOk result (λ line. line ≡ code.line_at b.machine address) }
 {
     let all = bytes_at(lab, address);
     let line = line_at(alloc, &all, address)?;
@@ -43,7 +44,8 @@ pub fn code_lines(
     address: u16,
     count: u16,
 ) -> Result<Sequence<CodeLine>, AllocError>
-    ensures { (b : Board) → StandsFor lab.now b → IfOk result (λ lines. lines ≡ code.lines_from b.machine address count) }
+    ensures { (b : Board) → StandsFor lab.now b
+        → IfOk result (λ lines. lines ≡ code.lines_from b.machine address count) }
 {
     let mut next = address;
     let mut lines = Sequence::new(alloc);

@@ -58,7 +58,8 @@ fn value_at(lab: &Lab, place: Place) -> u16
 
 /// What a place holds, as it is shown.
 pub(crate) fn shown_at(alloc: Global, lab: &Lab, place: Place) -> Result<Text, AllocError>
-    ensures { (b : Board) → StandsFor lab.now b → IfOk result (λ text. text ≡ registers.shown_at b.machine place) }
+    ensures { (b : Board) → StandsFor lab.now b
+        → IfOk result (λ text. text ≡ registers.shown_at b.machine place) }
 {
     text_of(alloc, place, value_at(lab, place))
 }

@@ -1,5 +1,6 @@
 //! Breakpoints with their numbers.
-ghost use Rattle.std.specs.Prelude.{◌≡◌, ◌<◌, ◌≤◌, ◌+◌, ◌++◌, ◌∷◌, [], length, IfOk, OnOk, OnErr, option_to_list};
+ghost use Rattle.std.specs.Prelude.{◌≡◌, ◌<◌, ◌≤◌, ◌+◌, ◌++◌, ◌∷◌, [], length, IfOk, OnOk, OnErr};
+ghost use Rattle.std.specs.Prelude.{option_to_list};
 ghost use Rattle.dap_points.specs.Placed.{id_at, line_point, line_points, label_point, verified_line};
 ghost use Rattle.dap_points.specs.Placed.{wanted_lines, room_behind};
 

@@ -20,8 +20,8 @@ pub struct SourceLines {
     pub lines: Sequence<u32>,
 }
 
-/// The breakpoints that are kept: the lines of each source, and labels. A source whose lines are taken away keeps its
-/// place.
+/// The breakpoints that are kept: the lines of each source, and labels. A source whose lines are taken away
+/// keeps its place.
 #[derive(Drop)]
 pub struct Points {
     lists: Vec<SourceLines>,

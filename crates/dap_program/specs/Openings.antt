@@ -29,6 +29,7 @@ abbrev pub first_events : Occasion → List EditorEvent
 first_events Launch = event.Initialized ∷ []
 first_events Restart = []
 
-abbrev pub opening_events : Occasion → List PlacedBreakpoint → List PlacedBreakpoint → Follow → List EditorEvent
+abbrev pub opening_events : Occasion → List PlacedBreakpoint → List PlacedBreakpoint → Follow
+    → List EditorEvent
 opening_events occasion lines labels follow =
     first_events occasion ++ (changed_events lines ++ (changed_events labels ++ events_of follow))

@@ -33,7 +33,8 @@ fn label_points(
     names: &[Text],
 ) -> Result<Sequence<PlacedBreakpoint>, AllocError>
     requires { length names.now ≤ 256 }
-    ensures { (b : Board) → StandsFor lab.now b → IfOk result (λ points. points ≡ label_points b room 0 names.now) }
+    ensures { (b : Board) → StandsFor lab.now b
+        → IfOk result (λ points. points ≡ label_points b room 0 names.now) }
 {
     let mut points = Sequence::new(alloc);
     let mut index = 0;

@@ -90,7 +90,8 @@ pub fn failure(
     fault: LoadFault,
 ) -> Result<Sequence<Message>, AllocError>
     ensures { IfOk result (λ messages. messages
-        ≡ turn_messages caller (EditorOutcome.Refused (load_refusal fault)) (option_to_list (load_event path.now fault))) }
+        ≡ turn_messages caller (EditorOutcome.Refused (load_refusal fault))
+        (option_to_list (load_event path.now fault))) }
 {
     let mut messages = Messages::new(alloc)?;
     let text = load_refusal(alloc, fault)?;

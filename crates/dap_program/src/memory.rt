@@ -39,11 +39,12 @@ fn write_byte(alloc: Global, lab: &mut Lab, address: u16, byte: u8) -> Result<()
     change(lab, event)
 }
 
-/// Writes bytes from an address on, one after the other, as changes by hand of a stopped run's memory. Each takes
-/// memory: where that is wanting, those before it stay written.
+/// Writes bytes from an address on, one after the other, as changes by hand of a stopped run's memory. Each
+/// takes memory: where that is wanting, those before it stay written.
 pub fn write_bytes(alloc: Global, lab: &mut Lab, start: u16, bytes: &[u8]) -> Result<(), AllocError>
     requires { start + length bytes.now ≤ 65536 }
-    ensures ok { (b : Board) → StandsFor lab.old b → OnOk result (StandsFor lab.new (written start bytes.now b)) }
+    ensures ok { (b : Board) → StandsFor lab.old b
+        → OnOk result (StandsFor lab.new (written start bytes.now b)) }
     ensures err { (b : Board) → StandsFor lab.old b → OnErr result (WritesSome start bytes.now b lab.new) }
 {
     let mut address = u32::from(start);

@@ -94,8 +94,8 @@ fn accepted(caller: Caller) -> Message
     })
 }
 
-/// What is told of a launch or a restart: the answer, then `initialized` where it asks for the configuration, then the
-/// breakpoints that are verified now, and what follows.
+/// What is told of a launch or a restart: the answer, then `initialized` where it asks for the configuration,
+/// then the breakpoints that are verified now, and what follows.
 pub fn opening_messages(
     alloc: Global,
     caller: Caller,

@@ -1,5 +1,6 @@
 //! Slices of a run.
-ghost use Rattle.std.specs.Prelude.{◌≡◌, ◌<◌, ◌≤◌, ◌+◌, ◌++◌, length, IfOk, OnErr, vec_capacity, vec_len, codes};
+ghost use Rattle.std.specs.Prelude.{◌≡◌, ◌<◌, ◌≤◌, ◌+◌, ◌++◌, length, IfOk, OnErr, vec_capacity};
+ghost use Rattle.std.specs.Prelude.{vec_len, codes};
 ghost use Rattle.base_text.specs.Hexadecimal.{upper_digit, upper_byte};
 ghost use Rattle.lab_core.specs.declared.run_state.RunState.TheVariants.{Running};
 ghost use Rattle.lab_core.specs.Board.{Board};
@@ -219,8 +220,8 @@ impl SliceKit {
 
 // ---- the slice
 
-/// At most 4,096 steps of the run on a board, and what is told of them. Where there is no run that goes on, that is
-/// answered as out of memory is. Both leave the board as it was.
+/// At most 4,096 steps of the run on a board, and what is told of them. Where there is no run that goes on,
+/// that is answered as out of memory is. Both leave the board as it was.
 pub fn make_slice(alloc: Global, lab: &mut Lab) -> Result<Slice, AllocError>
     requires { Stands lab.old }
     ensures made { (b : Board) → StandsFor lab.old b → b.run ≡ Running

@@ -75,7 +75,8 @@ fn read_through<R: Wait, I: Inlet>(
     StreamEnd::ReadFailed
 }
 
-/// Reads an editor's stream to its end, puts the bodies of its messages into the inbox, and says why no more come.
+/// Reads an editor's stream to its end, puts the bodies of its messages into the inbox, and says why no more
+/// come.
 pub fn read_all<R: Wait, I: Inlet>(rt: &R, alloc: Global, inbox: &Inbox, inlet: &mut I) {
     let end = match new_buffer(alloc) {
         Ok(mut buffer) => read_through(rt, alloc, inbox, inlet, &mut buffer),

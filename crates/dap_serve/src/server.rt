@@ -46,8 +46,8 @@ fn start_reader<R: Host, I: Inlet + Send + Drop + 'static>(
     }
 }
 
-/// Serves one editor, up to the end of its stream or a disconnect. The thread that reads isn't joined, since it may
-/// wait for bytes: the program is to end.
+/// Serves one editor, up to the end of its stream or a disconnect. The thread that reads isn't joined, since
+/// it may wait for bytes: the program is to end.
 pub fn serve<R: Host, I: Inlet + Send + Drop + 'static, W: Write + Drop>(
     rt: &R,
     alloc: Global,

@@ -1,5 +1,6 @@
 -- What events leave as it was: a board's run, and whether a debugger is attached.
-use Rattle.std.proofs.Common.{◌≡◌, ◌∙◌, ℕ, zero, suc, ◌+◌, List, [], ◌∷◌, Bool, true, false, Option, Some, None}
+use Rattle.std.proofs.Common.{◌≡◌, ◌∙◌, ℕ, zero, suc, ◌+◌, List, [], ◌∷◌, Bool, true, false, Option}
+use Rattle.std.proofs.Common.{Some, None}
 use Rattle.std.proofs.Common.{Result, Ok, Err, if◌then◌else◌, refl, sym, ap, subst}
 use Rattle.base_text.specs.Bytes.{Bytes, Text}
 use Rattle.asm_syntax.specs.Outcome.{◌>>=◌}
@@ -18,7 +19,8 @@ use Rattle.lab_core.specs.declared.fault.EventFault.TheVariants.{Vector, Latched
 use Rattle.lab_core.specs.declared.run_state.RunState.{RunState}
 use Rattle.lab_core.specs.declared.run_state.RunState.TheVariants.{NoRun, Running, Stopped}
 use Rattle.lab_core.specs.Board.{Board}
-use Rattle.lab_core.specs.Events.{Given, given, without_run, with_run, while_stopped, while_running, while_attached}
+use Rattle.lab_core.specs.Events.{Given, given, without_run, with_run, while_stopped, while_running}
+use Rattle.lab_core.specs.Events.{while_attached}
 use Rattle.lab_core.specs.Events.{with_source, with_breakpoints, or_poke, or_source, or_assembly, assembled}
 use Rattle.lab_core.specs.Events.{as_answer, parts_of, started, stopped, ended}
 use Rattle.lab_core.specs.Slices.{after_steps}
@@ -168,7 +170,8 @@ begins Running start b is = absurd cc
 begins Stopped start b is = absurd cc
 
 pauses : (a : Bool) (b : Board) → a ≡ true
-    → (board_after b (while_attached a (while_running Running (Ok (answer.Accepted, stopped b))))).run ≡ Stopped
+    → (board_after b (while_attached a (while_running Running (Ok (answer.Accepted, stopped b))))).run
+    ≡ Stopped
 pauses true b is = refl
 pauses false b is = absurd cc
 
@@ -234,7 +237,8 @@ loaded_start : (o : Option ℕ) (l : Launch) (b : Board) → b.run ≡ NoRun →
 loaded_start None l b none attached = tt
 loaded_start (Some start) l b none attached = (none, attached)
 
-loaded_so : (g : Given) (l : Launch) (b : Board) → KeepsRun b g → b.run ≡ NoRun → b.is_attached ≡ l.is_debugged
+loaded_so : (g : Given) (l : Launch) (b : Board) → KeepsRun b g → b.run ≡ NoRun
+    → b.is_attached ≡ l.is_debugged
     → IsLoaded l (loaded_by g)
 loaded_so (Ok (a, b')) l b kept none attached =
     loaded_start (start_of a) l b' (kept.run ∙ none) (kept.is_attached ∙ attached)

@@ -37,7 +37,8 @@ use Rattle.dap_program.specs.Openings.{changed_events, first_events, opening_eve
 use Rattle.dap_program.specs.Messages.{told, events_of}
 use Rattle.lab_slice.specs.Slices.{slice_end}
 use Rattle.lab_slice.specs.Console.{written_to_console}
-use Rattle.dap_program.specs.Slices.{slice_events, console_events, line_events, outcome_events, run_end_events}
+use Rattle.dap_program.specs.Slices.{slice_events, console_events, line_events, outcome_events}
+use Rattle.dap_program.specs.Slices.{run_end_events}
 use Rattle.dap_program.proofs.SliceLemmas.{told-append}
 use Rattle.dap_session.specs.declared.file.FileText.{FileText}
 use Rattle.dap_session.specs.declared.settings.Program.{Program}
@@ -49,7 +50,8 @@ use Rattle.dap_session.specs.Launches.{program_of, program_lines, program_labels
 use Rattle.dap_session.specs.Launches.{by_text, loading, loading_as, launching_over, restarting_of}
 use Rattle.dap_session.specs.Requests.{objection, asking, asking_unless, replying, turn}
 use Rattle.dap_session.specs.Slices.{Input, request, slice, caller_of, slicing, sliced, step, played}
-use Rattle.dap_session.specs.Laws.{caller_in, callers_answered, request_in, callers_asking, stdout_in, console_of}
+use Rattle.dap_session.specs.Laws.{caller_in, callers_answered, request_in, callers_asking, stdout_in}
+use Rattle.dap_session.specs.Laws.{console_of}
 use Rattle.dap_session.specs.Laws.{written_in, written_by, all_written}
 
 -- ---- responses
@@ -97,7 +99,8 @@ shown-append first second =
 abbrev IsSilent : List EditorEvent → Type 0
 IsSilent es = shown es ≡ []
 
-silent-append : (first second : List EditorEvent) → IsSilent first → IsSilent second → IsSilent (first ++ second)
+silent-append : (first second : List EditorEvent) → IsSilent first → IsSilent second
+    → IsSilent (first ++ second)
 silent-append first second one two =
     shown-append first second ∙ (ap (λ xs. xs ++ shown second) one ∙ two)
 
@@ -121,11 +124,13 @@ silent_first Restart = refl
 silent_opening : (o : Occasion) (lines labels : List PlacedBreakpoint) (f : Follow)
     → IsSilent (opening_events o lines labels f)
 silent_opening o lines labels f =
-    silent-append (first_events o) (changed_events lines ++ (changed_events labels ++ events_of f)) (silent_first o)
+    silent-append (first_events o) (changed_events lines ++ (changed_events labels ++ events_of f))
+    (silent_first o)
     (silent-append (changed_events lines) (changed_events labels ++ events_of f) (silent_changed lines)
     (silent-append (changed_events labels) (events_of f) (silent_changed labels) (silent_follow f)))
 
-silent_refused : (path : Text) (f : EventFault) → IsSilent (option_to_list (load_event path (fault.Refused f)))
+silent_refused : (path : Text) (f : EventFault)
+    → IsSilent (option_to_list (load_event path (fault.Refused f)))
 silent_refused path (refused.Assembly (asm.At line column kind)) = refl
 silent_refused path (refused.Assembly asm.OutOfMemory) = refl
 silent_refused path _ = refl
@@ -135,7 +140,8 @@ silent_load path fault.OutOfMemory = refl
 silent_load path fault.NoStart = refl
 silent_load path (fault.Refused f) = silent_refused path f
 
-silent_loading : (r : Result (Board × ℕ) LoadFault) (o : Occasion) (l : LaunchOf) (text : Text) (s : SessionState)
+silent_loading : (r : Result (Board × ℕ) LoadFault) (o : Occasion) (l : LaunchOf) (text : Text)
+    (s : SessionState)
     → IsSilent (loading_as r o l text s).events
 silent_loading (Ok (b, start)) o l text s =
     let p = program_of l start text in
@@ -238,7 +244,8 @@ kept_value (Ok text) s = refl
 kept_value (Err f) s = refl
 
 kept_unless : (o : Option Text) (expression : Text) (found : Option FileText) (s : SessionState)
-    → (asking_unless o (asked.Editor (editor.Evaluate expression context.Other)) found s).state.board ≡ s.board
+    → (asking_unless o (asked.Editor (editor.Evaluate expression context.Other)) found s).state.board
+    ≡ s.board
 kept_unless (Some text) expression found s = refl
 kept_unless None expression found s = kept_value (evaluated s.board expression) s
 

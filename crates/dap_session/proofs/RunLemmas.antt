@@ -1,5 +1,6 @@
 -- Which states a session comes to, and what an editor is told on the way.
-use Rattle.std.proofs.Common.{◌≡◌, ℕ, zero, suc, ◌∙◌, ◌+◌, List, [], ◌++◌, Bool, true, false, not, ◌&&◌, Option}
+use Rattle.std.proofs.Common.{◌≡◌, ℕ, zero, suc, ◌∙◌, ◌+◌, List, [], ◌++◌, Bool, true, false, not, ◌&&◌}
+use Rattle.std.proofs.Common.{Option}
 use Rattle.std.proofs.Common.{Some, None, option_map, if◌then◌else◌, refl, sym, ap, subst, true≢false, fold}
 use Rattle.std.proofs.Common.{zero-add}
 use Rattle.std.proofs.lemmas.List.Sums.{fold-append, sum_by-append}
@@ -44,7 +45,8 @@ seen_board b s kept = λ i. record {
 
 -- ---- the states that are reached
 
--- a run is there while the program has begun and isn't over, which it doesn't before the configuration is done
+-- a run is there while the program has begun and isn't over, which it doesn't before the configuration is
+-- done
 abbrev pub PhaseFits : Phase → RunState → Bool → Type 0
 PhaseFits phase.Loaded run is_configured = run ≡ NoRun
 PhaseFits phase.Begun run is_configured = (has_run run ≡ true) × (is_configured ≡ true)
@@ -65,7 +67,8 @@ no_run run none has = true≢false (sym has ∙ ap has_run none)
 pub both : {A : Type 0} (b : Bool) → b ≡ true → b ≡ false → A
 both b yes_it_is no_it_is = absurd (true≢false (sym yes_it_is ∙ no_it_is))
 
-idle_phase : (h : Phase) (run : RunState) (c : Bool) → PhaseFits h run c → not (is_over h) ≡ false → run ≡ NoRun
+idle_phase : (h : Phase) (run : RunState) (c : Bool) → PhaseFits h run c → not (is_over h) ≡ false
+    → run ≡ NoRun
 idle_phase phase.Loaded run c fits dead = fits
 idle_phase phase.Begun run c fits dead = absurd (true≢false dead)
 idle_phase phase.Over run c fits dead = fits
@@ -121,7 +124,8 @@ begun_program (Some p) run a c fits = begun_phase p.phase run c fits.1
 pub begun_runs : (v : Seen) → IsReached v → has_run v.run ≡ has_begun v.program
 begun_runs v reached = begun_program v.program v.run v.is_attached v.is_configured reached
 
-on_phase : (h : Phase) (run r : RunState) (c : Bool) → PhaseFits h run c → has_run run ≡ true → has_run r ≡ true
+on_phase : (h : Phase) (run r : RunState) (c : Bool) → PhaseFits h run c → has_run run ≡ true
+    → has_run r ≡ true
     → PhaseFits h r c
 on_phase phase.Loaded run r c fits had has = absurd (no_run run fits had)
 on_phase phase.Begun run r c fits had has = (has, fits.1)

@@ -20,7 +20,8 @@ use Rattle.dap_session.specs.Turns.{Replied, turn_of, refusing}
 use Rattle.dap_session.specs.Memory.{is_stopped, address_at, writing_from, writing}
 use Rattle.dap_session.specs.Launches.{beginning, beginning_in, beginning_where, started}
 use Rattle.dap_session.specs.Slices.{Told, told_in}
-use Rattle.dap_session.specs.Stands.{SessionFields, StandsFor, Stands, Tells, Takes, TakesFor, IsLeft, WritesFirst}
+use Rattle.dap_session.specs.Stands.{SessionFields, StandsFor, Stands, Tells, Takes, TakesFor, IsLeft}
+use Rattle.dap_session.specs.Stands.{WritesFirst}
 
 -- ---- want of memory
 
@@ -36,22 +37,28 @@ pub refused_write : (address : ℕ) (offset : Shift) (bytes text : Bytes) (c : C
     (r : Result (List Message) AllocError)
     → ((xs : Bytes) (s : SessionState) → StandsFor old s → writing address offset xs s ≡ refusing text s)
     → Takes (λ s. told_in c (turn_of (refusing text s))) old r new
-    → TakesFor (write_command address offset bytes) (λ s. told_in c (turn_of (writing address offset bytes s))) old r
+    → TakesFor (write_command address offset bytes)
+    (λ s. told_in c (turn_of (writing address offset bytes s))) old r
     new
 refused_write address offset bytes text c old new r same takes = (
   λ s stands.
       let P : Replied → Type 0 = λ t. IfOk r (λ messages. Tells (told_in c (turn_of t)) messages new) in
       subst P (sym (same bytes s stands)) (takes.0 s stands),
   on_err r (λ kept s stands.
-      let P : Replied → Type 0 = λ t. StandsFor new t.state in
-      (0, subst P (sym (same (take 0 bytes) s stands)) (subst (λ v. StandsFor v s) (sym kept) stands))) takes.1,
+      let P : Replied → Type 0 = λ t. StandsFor new t.state in (
+        0,
+        subst P (sym (same (take 0 bytes) s stands))
+            (subst (λ v. StandsFor v s) (sym kept) stands),
+      )) takes.1,
 )
 
-pub unstopped : (address : ℕ) (offset : Shift) (bytes : Bytes) (s : SessionState) → is_stopped s.board.run ≡ false
+pub unstopped : (address : ℕ) (offset : Shift) (bytes : Bytes) (s : SessionState)
+    → is_stopped s.board.run ≡ false
     → writing address offset bytes s ≡ refusing (board_refusal NotStopped) s
 unstopped address offset bytes s e = rw e refl
 
-pub nowhere : (address : ℕ) (offset : Shift) (bytes : Bytes) (s : SessionState) → is_stopped s.board.run ≡ true
+pub nowhere : (address : ℕ) (offset : Shift) (bytes : Bytes) (s : SessionState)
+    → is_stopped s.board.run ≡ true
     → address_at address offset ≡ None
     → writing address offset bytes s ≡ refusing (codes "there is no such address") s
 nowhere address offset bytes s e f = rw (e, f) refl
@@ -73,11 +80,13 @@ taken_twice (suc m) (suc n) (x ∷ xs) = ap (λ rest. x ∷ rest) (taken_twice m
 -- a write that is done, or of which some bytes are written
 pub done_write : (address start : ℕ) (offset : Shift) (bytes : Bytes) (c : Caller) (old new : SessionFields)
     (r : Result (List Message) AllocError)
-    → ((s : SessionState) → StandsFor old s → is_stopped s.board.run ≡ true) → address_at address offset ≡ Some start
+    → ((s : SessionState) → StandsFor old s → is_stopped s.board.run ≡ true)
+    → address_at address offset ≡ Some start
     → ((s : SessionState) → StandsFor old s → IfOk r (λ messages.
     Tells (told_in c (turn_of (writing_from (Some start) bytes s))) messages new))
     → ((s : SessionState) → StandsFor old s → OnErr r (WritesFirst start (take (65536 - start) bytes) s new))
-    → TakesFor (write_command address offset bytes) (λ s. told_in c (turn_of (writing address offset bytes s))) old r
+    → TakesFor (write_command address offset bytes)
+    (λ s. told_in c (turn_of (writing address offset bytes s))) old r
     new
 done_write address start offset bytes c old new (Ok messages) stopped at made err = (
   λ s stands.

@@ -1,5 +1,6 @@
 -- What is told of stops and of ends where a program begins.
-use Rattle.std.proofs.Common.{◌≡◌, ◌∙◌, ℕ, List, [], ◌∷◌, ◌++◌, Bool, true, false, not, Option, Some, None, Result}
+use Rattle.std.proofs.Common.{◌≡◌, ◌∙◌, ℕ, List, [], ◌∷◌, ◌++◌, Bool, true, false, not, Option, Some}
+use Rattle.std.proofs.Common.{None, Result}
 use Rattle.std.proofs.Common.{Ok, Err, option_to_list, if◌then◌else◌, refl, sym, ap, subst, inl, inr, fold}
 use Rattle.std.proofs.lemmas.Bool.{cases_Bool, and_parts}
 use Rattle.base_text.specs.Bytes.{Text}
@@ -30,13 +31,16 @@ use Rattle.dap_session.specs.declared.settings.Phase.TheVariants as phase
 use Rattle.dap_session.specs.declared.settings.Program.{Program}
 use Rattle.dap_session.specs.States.{SessionState, with_board, with_program, in_phase, is_over, is_live}
 use Rattle.dap_session.specs.Turns.{Turn}
-use Rattle.dap_session.specs.Launches.{pauses, going_follow, begun_follow, installing, beginning, beginning_in}
-use Rattle.dap_session.specs.Launches.{beginning_where, program_of, program_lines, program_labels, program_board}
+use Rattle.dap_session.specs.Launches.{pauses, going_follow, begun_follow, installing, beginning}
+use Rattle.dap_session.specs.Launches.{beginning_in}
+use Rattle.dap_session.specs.Launches.{beginning_where, program_of, program_lines, program_labels}
+use Rattle.dap_session.specs.Launches.{program_board}
 use Rattle.dap_session.specs.Launches.{started_follow, loading_as, text_in, by_text, loading, launching_over}
 use Rattle.dap_session.specs.Launches.{restarting_of}
 use Rattle.dap_session.specs.Requests.{configured}
 use Rattle.dap_session.specs.Laws.{Shown, unstopped, shown_after, shown_for, ends_told, has_run}
-use Rattle.dap_session.proofs.BoardLemmas.{kept_armed, run_started, begun_run, begun_attached, IsLoaded, is_loaded}
+use Rattle.dap_session.proofs.BoardLemmas.{kept_armed, run_started, begun_run, begun_attached, IsLoaded}
+use Rattle.dap_session.proofs.BoardLemmas.{is_loaded}
 use Rattle.dap_session.proofs.RunLemmas.{Seen, seen, PhaseFits, ProgramFits, IsReached, both, idle, waiting}
 use Rattle.dap_session.proofs.RunLemmas.{Follows, Goes, none_ended, none_living, still, IsCalm, calm_follows}
 use Rattle.dap_session.proofs.RunLemmas.{calm_still}
@@ -63,7 +67,8 @@ record GoesOn (d : Shown) (f : Follow) : Type 0 where
   pub ends : ends_told (told (events_of f)) ≡ 0
 
 begun_shown : (q : Bool) (f : Follow) (d : Shown) → GoesOn d f
-    → fold shown_after d (told (events_of (if q then follow.Stopped Entry else f))) ≡ shown_for (run_started q)
+    → fold shown_after d (told (events_of (if q then follow.Stopped Entry else f)))
+    ≡ shown_for (run_started q)
 begun_shown true f d goes = refl
 begun_shown false f d goes = goes.stops
 
@@ -75,7 +80,8 @@ begun_ends false f d goes = goes.ends
 begins : (q : Bool) (f : Follow) (p : Program) (b : Board) (c : Bool) (v : Seen) → b.run ≡ NoRun
     → b.is_attached ≡ p.launch.is_debugged → (q ≡ true → p.launch.is_debugged ≡ true) → c ≡ true
     → GoesOn (shown_for v.run) f
-    → Follows v (told (events_of (if q then follow.Stopped Entry else f))) (begun_seen p (begun p.start q b) c)
+    → Follows v (told (events_of (if q then follow.Stopped Entry else f)))
+    (begun_seen p (begun p.start q b) c)
 begins q f p b c v none attached debugs done goes =
     let run : (begun p.start q b).run ≡ run_started q =
     begun_run q p.start b none (λ is. attached ∙ debugs is) in
@@ -113,7 +119,8 @@ goes_in phase.Loaded p s is on attached none =
     let live : is_live s.settings.program ≡ true = ap is_live on ∙ ap (λ x. not (is_over x)) is in
     record {
       follows =
-          begins (pauses p.launch) follow.Nothing p s.board true (seen s) none attached (debugged p.launch) refl
+          begins (pauses p.launch) follow.Nothing p s.board true (seen s) none attached
+          (debugged p.launch) refl
           (record { stops = ap shown_for none; ends = refl });
       quiet = λ dead. both (is_live s.settings.program) live dead;
     }
@@ -138,7 +145,8 @@ calm_point p es calm = record { stops = λ d. calm.stops d; ends = calm.ends }
 calm_changed : (points : List PlacedBreakpoint) → IsCalm (changed_events points)
 calm_changed [] = calm_none
 calm_changed (p ∷ points) = elim (cases_Bool p.is_verified) [
-  | inl so ↦ rw so (calm_point (record p { is_verified = true }) (changed_events points) (calm_changed points))
+  | inl so ↦ rw so (calm_point (record p { is_verified = true }) (changed_events points)
+      (calm_changed points))
   | inr other ↦ rw other (calm_changed points)
 ]
 
@@ -208,7 +216,8 @@ follows_loaded (Err f) o l text s reached is goes =
     calm_still (option_to_list (load_event l.program f)) (seen s) reached (calm_load l.program f)
 
 follows_text : (t : Result Text Text) (o : Occasion) (l : LaunchOf) (s : SessionState) → IsReached (seen s)
-    → GoesOn (shown_for s.board.run) (going_follow o) → FollowsTurn s (by_text t s (λ text. loading o l text s))
+    → GoesOn (shown_for s.board.run) (going_follow o)
+    → FollowsTurn s (by_text t s (λ text. loading o l text s))
 follows_text (Ok text) o l s reached goes =
     follows_loaded (loaded l text) o l text s reached (is_loaded l text) goes
 follows_text (Err message) o l s reached goes = (still s s reached refl).follows

@@ -1,5 +1,6 @@
 -- What requests and slices tell of stops and of ends.
-use Rattle.std.proofs.Common.{◌≡◌, ◌∙◌, ℕ, List, [], ◌∷◌, ◌++◌, Bool, true, false, not, ◌&&◌, Option, Some, None}
+use Rattle.std.proofs.Common.{◌≡◌, ◌∙◌, ℕ, List, [], ◌∷◌, ◌++◌, Bool, true, false, not, ◌&&◌, Option}
+use Rattle.std.proofs.Common.{Some, None}
 use Rattle.std.proofs.Common.{Ok, refl, sym, ap, subst, inl, inr, true≢false, fold, filter_map}
 use Rattle.std.proofs.lemmas.Bool.{cases_Bool, and_parts}
 use Rattle.std.proofs.lemmas.List.Sums.{fold-append}
@@ -34,24 +35,30 @@ use Rattle.dap_program.specs.Messages.{told}
 use Rattle.dap_program.specs.Slices.{console_events, line_events, outcome_events, run_end_events}
 use Rattle.dap_session.specs.declared.file.FileText.{FileText}
 use Rattle.dap_session.specs.States.{SessionState, opened, with_board, is_live, is_running, wants_slice}
-use Rattle.dap_session.specs.Requests.{initialized, commanding, editing, objection, asking, asking_unless, turn}
+use Rattle.dap_session.specs.Requests.{initialized, commanding, editing, objection, asking}
+use Rattle.dap_session.specs.Requests.{asking_unless, turn}
 use Rattle.dap_session.specs.Slices.{Input, request, slice, settings_after, slicing, sliced, step, played}
-use Rattle.dap_session.specs.Laws.{Shown, unstopped, shown_after, shown_by, shown_for, ends_told, ends_between}
+use Rattle.dap_session.specs.Laws.{Shown, unstopped, shown_after, shown_by, shown_for, ends_told}
+use Rattle.dap_session.specs.Laws.{ends_between}
 use Rattle.dap_session.specs.Laws.{has_run, has_begun, events_in, asks_to_load, loads}
-use Rattle.dap_session.proofs.BoardLemmas.{SameRun, kept_without, kept_dump, kept_poke, kept_press, kept_steps}
-use Rattle.dap_session.proofs.RunLemmas.{seen, seen_board, IsReached, idle, lively, begun_runs, with_run, over_seen}
+use Rattle.dap_session.proofs.BoardLemmas.{SameRun, kept_without, kept_dump, kept_poke, kept_press}
+use Rattle.dap_session.proofs.BoardLemmas.{kept_steps}
+use Rattle.dap_session.proofs.RunLemmas.{seen, seen_board, IsReached, idle, lively, begun_runs}
+use Rattle.dap_session.proofs.RunLemmas.{with_run, over_seen}
 use Rattle.dap_session.proofs.RunLemmas.{Follows, still, runs_on, ends_live, IsCalm, calm_follows}
 use Rattle.dap_session.proofs.TurnLemmas.{GoesBy, goes_either, goes_board, goes_shown, goes_evaluating}
 use Rattle.dap_session.proofs.TurnLemmas.{goes_lines, goes_functions, goes_writing, goes_paused}
 use Rattle.dap_session.proofs.TurnLemmas.{goes_resumed, goes_resetting, goes_terminating}
-use Rattle.dap_session.proofs.StartLemmas.{goes_where, calm_none, FollowsTurn, follows_launch, follows_restart}
+use Rattle.dap_session.proofs.StartLemmas.{goes_where, calm_none, FollowsTurn, follows_launch}
+use Rattle.dap_session.proofs.StartLemmas.{follows_restart}
 
 -- ---- the requests that load nothing
 
 goes_command : (c : DapCommand) (s : SessionState) → IsReached (seen s) → GoesBy s (commanding c s)
 unfolding performed
 goes_command command.Initialize s reached =
-    goes_either s.settings.is_initialized s _ _ (still s s reached refl) (still s (initialized s) reached refl)
+    goes_either s.settings.is_initialized s _ _ (still s s reached refl)
+    (still s (initialized s) reached refl)
 goes_command command.Attach s reached = still s s reached refl
 goes_command command.Disconnect s reached = still s _ reached refl
 goes_command command.ConfigurationDone s reached = goes_where s.settings.program s refl reached
@@ -107,7 +114,8 @@ follows_asking (asked.Board c) found s reached = (goes_command c s reached).foll
 follows_asking (asked.Faulty f) found s reached = (still s s reached refl).follows
 follows_asking (asked.Editor c) found s reached = (goes_editing c s reached).follows
 
-follows_unless : (o : Option Text) (a : Asked) (found : Option FileText) (s : SessionState) → IsReached (seen s)
+follows_unless : (o : Option Text) (a : Asked) (found : Option FileText) (s : SessionState)
+    → IsReached (seen s)
     → FollowsTurn s (asking_unless o a found s)
 follows_unless (Some text) a found s reached = (still s s reached refl).follows
 follows_unless None a found s reached = follows_asking a found s reached
@@ -180,7 +188,8 @@ follows_slicing : (p : ℕ × SliceOutcome) (s : SessionState) → IsReached (se
 follows_slicing (k, ending) s reached has =
     let written = filter_map written_to_console (traffic_of k s.board) in
     let asks = list_any wants_line (traffic_of k s.board) in
-    calm_follows (console_events written) (line_events asks ++ outcome_events ending) _ _ (calm_console written)
+    calm_follows (console_events written) (line_events asks ++ outcome_events ending) _ _
+    (calm_console written)
     (calm_follows (line_events asks) (outcome_events ending) _ _ (calm_line asks)
     (follows_outcome ending (after_steps k s.board) s (kept_steps k s.board) reached has))
 
@@ -237,7 +246,8 @@ stops_from (input ∷ inputs) s reached =
     let rest = played inputs first.state in
     let follows = follows_step input s reached in
     fold-append shown_after (shown_for s.board.run) first.messages rest.messages
-    ∙ (ap (λ d. fold shown_after d rest.messages) follows.stops ∙ stops_from inputs first.state follows.reached)
+    ∙ (ap (λ d. fold shown_after d rest.messages) follows.stops
+    ∙ stops_from inputs first.state follows.reached)
 
 reached_opened : (inputs : List Input) → IsReached (seen (played inputs opened).state)
 reached_opened inputs = reached_from inputs opened refl

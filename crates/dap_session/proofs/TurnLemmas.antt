@@ -37,9 +37,11 @@ use Rattle.dap_session.specs.Evaluations.{by_word, evaluating}
 use Rattle.dap_session.specs.Memory.{is_stopped, address_at, writing_from, writing}
 use Rattle.dap_session.specs.Requests.{board_done, resetting, terminating}
 use Rattle.dap_session.specs.Laws.{has_run}
-use Rattle.dap_session.proofs.BoardLemmas.{KeepsRun, kept_press, kept_show, kept_where, kept_labels, kept_written}
+use Rattle.dap_session.proofs.BoardLemmas.{KeepsRun, kept_press, kept_show, kept_where, kept_labels}
+use Rattle.dap_session.proofs.BoardLemmas.{kept_written}
 use Rattle.dap_session.proofs.BoardLemmas.{run_interrupted, still_attached}
-use Rattle.dap_session.proofs.RunLemmas.{seen, seen_board, IsReached, both, lively, over_seen, Goes, still, runs_on}
+use Rattle.dap_session.proofs.RunLemmas.{seen, seen_board, IsReached, both, lively, over_seen, Goes}
+use Rattle.dap_session.proofs.RunLemmas.{still, runs_on}
 use Rattle.dap_session.proofs.RunLemmas.{goes_over}
 
 abbrev pub GoesBy : SessionState → Replied → Type 0
@@ -79,7 +81,8 @@ goes_press : (o : Option ℕ) (expression : Text) (s : SessionState) → IsReach
 unfolding performed
 goes_press None expression s reached = still s s reached refl
 goes_press (Some vector) expression s reached =
-    goes_word_done (λ _. body.Empty) (given (event.Press vector) s.board) s reached (kept_press vector s.board)
+    goes_word_done (λ _. body.Empty) (given (event.Press vector) s.board) s reached
+    (kept_press vector s.board)
 
 goes_type : (text expression : Text) (s : SessionState) → IsReached (seen s)
     → GoesBy s (word_done (performed (command.BoardType text) s.board) s)
@@ -88,7 +91,8 @@ goes_type text expression s reached =
     goes_word_done (λ _. body.Empty) (given (event.Typed (latin_bytes text)) s.board) s reached
     (record { run = refl; is_attached = refl })
 
-goes_value : (r : Result Text EvaluateFault) (s : SessionState) → IsReached (seen s) → GoesBy s (value_told r s)
+goes_value : (r : Result Text EvaluateFault) (s : SessionState) → IsReached (seen s)
+    → GoesBy s (value_told r s)
 goes_value (Ok text) s reached = still s s reached refl
 goes_value (Err f) s reached = still s s reached refl
 
@@ -123,7 +127,8 @@ goes_written : (o : Option ℕ) (bytes : Bytes) (s : SessionState) → IsReached
 goes_written None bytes s reached = still s s reached refl
 goes_written (Some start) bytes s reached =
     let all = take (65536 - start) bytes in
-    still s (with_board (written start all s.board) s) reached (seen_board _ s (kept_written all start s.board))
+    still s (with_board (written start all s.board) s) reached
+    (seen_board _ s (kept_written all start s.board))
 
 pub goes_writing : (address : ℕ) (offset : Shift) (bytes : Bytes) (s : SessionState) → IsReached (seen s)
     → GoesBy s (writing address offset bytes s)

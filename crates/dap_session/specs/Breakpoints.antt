@@ -30,7 +30,8 @@ armed_where (Some program) lines names b = armed program.launch.program lines na
 
 abbrev pub lines_armed : Text → List ℕ → SessionState → SessionState
 lines_armed path lines s =
-    with_board (armed_where (is_launched_as path s.settings.program) lines (take 256 s.settings.points.functions) s.board)
+    with_board (armed_where (is_launched_as path s.settings.program) lines
+    (take 256 s.settings.points.functions) s.board)
     s
 
 abbrev pub lines_set : Option Program → Text → List ℕ → SessionState → Replied

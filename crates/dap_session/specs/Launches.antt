@@ -97,7 +97,10 @@ installing occasion p b s =
 -- ---- or it isn't
 
 abbrev pub failing : Text → LoadFault → SessionState → Turn
-failing path f s = record (turn_of (refusing (load_refusal f) s)) { events = option_to_list (load_event path f) }
+failing path f s = record (turn_of (refusing (load_refusal f) s)) {
+  events =
+      option_to_list (load_event path f);
+}
 
 abbrev pub loading_as : Result (Board × ℕ) LoadFault → Occasion → LaunchOf → Text → SessionState → Turn
 loading_as (Ok (b, start)) occasion l text s = installing occasion (program_of l start text) b s

@@ -162,7 +162,8 @@ objection a s =
 abbrev pub asking : Asked → Option FileText → SessionState → Turn
 asking (asked.Editor (editor.Launch l)) found s = launching l found s
 asking (asked.Editor editor.Restart) found s = restarting found s
-asking (asked.Editor (editor.WriteMemory address offset bytes)) found s = turn_of (writing address offset bytes s)
+asking (asked.Editor (editor.WriteMemory address offset bytes)) found s =
+    turn_of (writing address offset bytes s)
 asking other found s = turn_of (replying other s)
 
 abbrev pub asking_unless : Option Text → Asked → Option FileText → SessionState → Turn

@@ -38,7 +38,8 @@ pub record Replies (r : Replied) (reply : Reply) (new : SessionFields) : Type 0 
   pub stands : StandsFor new r.state
 
 -- so from whatever state the session stood for; out of memory leaves it as it was
-abbrev pub Answers : (SessionState → Replied) → SessionFields → Result Reply AllocError → SessionFields → Type 0
+abbrev pub Answers : (SessionState → Replied) → SessionFields → Result Reply AllocError → SessionFields
+    → Type 0
 Answers f old result new =
     ((s : SessionState) → StandsFor old s → IfOk result (λ reply. Replies (f s) reply new))
     × OnErr result (new ≡ old)
@@ -47,26 +48,30 @@ Answers f old result new =
 abbrev pub Tells : Told → List Message → SessionFields → Type 0
 Tells t messages new = (messages ≡ t.messages) × StandsFor new t.state
 
--- What want of memory leaves: the session as it was; but of bytes that were to be written some may be, from the
--- first on, as if no others had been asked for.
+-- What want of memory leaves: the session as it was; but of bytes that were to be written some may be, from
+-- the first on, as if no others had been asked for.
 abbrev pub IsLeft : Asked → SessionFields → SessionFields → Type 0
 IsLeft (asked.Editor (editor.WriteMemory address offset bytes)) old new =
-    (s : SessionState) → StandsFor old s → (k : ℕ) × StandsFor new (writing address offset (take k bytes) s).state
+    (s : SessionState) → StandsFor old s → (k : ℕ)
+    × StandsFor new (writing address offset (take k bytes) s).state
 IsLeft other old new = new ≡ old
 
-abbrev pub TakesFor : Asked → (SessionState → Told) → SessionFields → Result (List Message) AllocError → SessionFields
+abbrev pub TakesFor : Asked → (SessionState → Told) → SessionFields → Result (List Message) AllocError
+    → SessionFields
     → Type 0
 TakesFor a f old result new =
     ((s : SessionState) → StandsFor old s → IfOk result (λ messages. Tells (f s) messages new))
     × OnErr result (IsLeft a old new)
 
-abbrev pub Takes : (SessionState → Told) → SessionFields → Result (List Message) AllocError → SessionFields → Type 0
+abbrev pub Takes : (SessionState → Told) → SessionFields → Result (List Message) AllocError → SessionFields
+    → Type 0
 Takes f old result new =
     ((s : SessionState) → StandsFor old s → IfOk result (λ messages. Tells (f s) messages new))
     × OnErr result (new ≡ old)
 
 -- these are the breakpoints at labels, and the session's board stops at them
-pub record LabelsPlaced (names : List Text) (s : SessionState) (points : List PlacedBreakpoint) (new : SessionFields)
+pub record LabelsPlaced (names : List Text) (s : SessionState) (points : List PlacedBreakpoint)
+    (new : SessionFields)
     : Type 0 where
   pub placed : points ≡ labels_behind (program_lines s.settings.program s.settings.points) names s.board
   pub stands : StandsFor new (with_board (labels_armed s.settings.program names s.settings.points s.board) s)

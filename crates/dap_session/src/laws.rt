@@ -45,8 +45,9 @@ pub fn stops_are_told()
         → shown_by (played inputs opened).messages ≡ shown_for (played inputs opened).state.board.run }
 {}
 
-/// A run is on the board exactly while a program has begun and isn't over. Without a live program nothing but a launch or
-/// a restart tells more than its response. Where a live program ends `terminated` goes out once, and nowhere else.
+/// A run is on the board exactly while a program has begun and isn't over. Without a live program nothing but
+/// a launch or a restart tells more than its response. Where a live program ends `terminated` goes out once,
+/// and nowhere else.
 pub fn end_is_told()
     ensures run { (inputs : List Input) → let s = (played inputs opened).state in
         has_run s.board.run ≡ has_begun s.settings.program }

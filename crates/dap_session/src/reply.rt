@@ -15,7 +15,8 @@ pub struct Reply {
 }
 
 pub(crate) fn refuse(alloc: Global, text: &str) -> Result<Reply, AllocError>
-    ensures { IfOk result (λ reply. reply ≡ record { outcome = EditorOutcome.Refused text.now; follow = Follow.Nothing }) }
+    ensures { IfOk result (λ reply. reply
+        ≡ record { outcome = EditorOutcome.Refused text.now; follow = Follow.Nothing }) }
 {
     let outcome = refused(alloc, text)?;
     Ok(Reply {
@@ -35,7 +36,10 @@ pub(crate) fn succeed(body: EditorBody, follow: Follow) -> Reply
 
 /// Done, with no more to say.
 pub(crate) fn accept(follow: Follow) -> Reply
-    ensures { result ≡ record { outcome = EditorOutcome.Success (EditorBody.Board Body.Empty); follow = follow } }
+    ensures { result ≡ record {
+      outcome = EditorOutcome.Success (EditorBody.Board Body.Empty);
+      follow = follow;
+    } }
 {
     succeed(EditorBody::Board(Body::Empty), follow)
 }

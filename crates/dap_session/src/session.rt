@@ -45,9 +45,9 @@ impl Session {
         Ok(Session { state })
     }
 
-    /// Answers a request, where this was found at the path that it needs (`wanted_file`): its response and the
-    /// events behind it. Out of memory leaves the session as it was; but of the bytes of a `writeMemory` some may be
-    /// written then, from the first on.
+    /// Answers a request, where this was found at the path that it needs (`wanted_file`): its response and
+    /// the events behind it. Out of memory leaves the session as it was; but of the bytes of a `writeMemory`
+    /// some may be written then, from the first on.
     pub fn take(
         &mut self,
         alloc: Global,
@@ -75,8 +75,8 @@ impl Session {
         self.state.run(alloc)
     }
 
-    /// Whether a slice has something to do: a run goes on, and the last slice since the last request didn't find that
-    /// it waits for a button.
+    /// Whether a slice has something to do: a run goes on, and the last slice since the last request didn't
+    /// find that it waits for a button.
     pub fn wants_slice(&self) -> bool
         ensures { (s : SessionState) → StandsFor self.now s → result ≡ wants_slice s }
     {

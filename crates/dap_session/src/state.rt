@@ -72,7 +72,8 @@ impl State {
         asked: &Asked,
         file: &Option<FileText>,
     ) -> Result<Sequence<Message>, AllocError>
-        ensures { TakesFor asked.now (λ s. told_in caller (turn asked.now file.now s)) self.old result self.new }
+        ensures { TakesFor asked.now (λ s. told_in caller
+            (turn asked.now file.now s)) self.old result self.new }
     {
         let messages = self.answer_unless(alloc, caller, asked, file)?;
         self.settings.waits = false;
@@ -88,7 +89,8 @@ impl State {
         asked: &Asked,
         file: &Option<FileText>,
     ) -> Result<Sequence<Message>, AllocError>
-        ensures { TakesFor asked.now (λ s. told_in caller (asking_unless (objection asked.now s) asked.now file.now s))
+        ensures { TakesFor asked.now (λ s. told_in caller
+            (asking_unless (objection asked.now s) asked.now file.now s))
             self.old result self.new }
     {
         match self.objection(asked) {
@@ -129,7 +131,8 @@ impl State {
         file: &Option<FileText>,
     ) -> Result<Sequence<Message>, AllocError>
         requires { is_bounded asked.now ≡ true }
-        ensures { TakesFor asked.now (λ s. told_in caller (asking asked.now file.now s)) self.old result self.new }
+        ensures { TakesFor asked.now (λ s. told_in caller
+            (asking asked.now file.now s)) self.old result self.new }
     {
         match asked {
             Asked::Editor(EditorCommand::Launch(launch)) => self.launch(

@@ -70,8 +70,8 @@ fn type_word(alloc: Global, line: &str) -> Result<Word, AllocError>
     }))
 }
 
-/// What a line of the prompt is: `switches N`, `press N` with a number from 0 to 255 as the assembler reads it,
-/// `type TEXT`, which types the text and a LF, or else an expression.
+/// What a line of the prompt is: `switches N`, `press N` with a number from 0 to 255 as the assembler reads
+/// it, `type TEXT`, which types the text and a LF, or else an expression.
 pub(crate) fn word_of(alloc: Global, text: &str) -> Result<Word, AllocError>
     ensures word { IfOk result (λ word. word ≡ word_of text.now) }
     ensures fits { IfOk result WordFits }

@@ -93,8 +93,8 @@ fn answer(
     session.take(alloc, request, found)
 }
 
-// What goes out for `slice`, or for a request with this number: its command, its arguments, and behind ` < ` the name of
-// the program that is found.
+// What goes out for `slice`, or for a request with this number: its command, its arguments, and behind ` < `
+// the name of the program that is found.
 fn play(
     alloc: Global,
     session: &mut Session,

@@ -171,8 +171,8 @@ fn reads_bare_commands(rt: HostRuntime) -> Result<(), Fail> {
     Ok(())
 }
 
-// Commands with arguments, a line each, and what is read behind the command's name. A step is by line where nothing else is
-// said; other arguments may be left out where they are here, and others aren't looked at.
+// Commands with arguments, a line each, and what is read behind the command's name. A step is by line where
+// nothing else is said; other arguments may be left out where they are here, and others aren't looked at.
 const COMMANDS: &str = r#"next {} -> line
 next {"granularity":"line"} -> line
 next {"granularity":"statement"} -> line

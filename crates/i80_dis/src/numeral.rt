@@ -1,5 +1,5 @@
-//! Numbers as a listing writes them (8080/8085 Assembly Language Programming Manual, chapter 3): in upper-case
-//! hexadecimal that begins with the digit 0 and ends with H.
+//! Numbers as a listing writes them (8080/8085 Assembly Language Programming Manual, chapter 3): in
+//! upper-case hexadecimal that begins with the digit 0 and ends with H.
 ghost use Rattle.std.specs.Prelude.{◌≡◌, ◌++◌, OnOk, string_bytes};
 ghost use Rattle.i80_dis.specs.Text.{byte_text, word_text};
 

@@ -1,7 +1,10 @@
 -- The interrupt state before an instruction, where EI was the last one and where it wasn't.
 use Rattle.std.proofs.Common.{◌≡◌, ℕ, ◌+◌, Bool, true, false, if◌then◌else◌, refl, sym, ap, subst, ◌∙◌}
 use Rattle.i80_rows.specs.declared.instruction.Instr.{Instr}
-use Rattle.i80_rows.specs.declared.instruction.Instr.TheVariants.{Nop, Lxi, Stax, Ldax, Inx, Dcx, Dad, Inr, Dcr, Mvi, Mov, MovFromM, MovToM, Alu, AluImmediate, JumpIf, CallIf, RetIf, Push, Pop}
+use Rattle.i80_rows.specs.declared.instruction.Instr.TheVariants.{Nop, Lxi, Stax, Ldax, Inx, Dcx, Dad}
+use Rattle.i80_rows.specs.declared.instruction.Instr.TheVariants.{Inr, Dcr, Mvi, Mov, MovFromM, MovToM}
+use Rattle.i80_rows.specs.declared.instruction.Instr.TheVariants.{Alu, AluImmediate, JumpIf, CallIf}
+use Rattle.i80_rows.specs.declared.instruction.Instr.TheVariants.{RetIf, Push, Pop}
 use Rattle.i80_rows.specs.declared.instruction.Reg.{Reg}
 use Rattle.i80_rows.specs.declared.instruction.Reg.TheVariants as reg
 use Rattle.i80_rows.specs.declared.instruction.Pair.{Pair}
@@ -138,7 +141,8 @@ to_reg_over reg.L m j k x = refl
 to_reg_over reg.M m j k x = refl
 to_reg_over reg.A m j k x = refl
 
-get_pair_over : (p : Pair) (m : MachineState) (j : Interrupts) → get_pair (with_interrupts m j) p ≡ get_pair m p
+get_pair_over : (p : Pair) (m : MachineState) (j : Interrupts)
+    → get_pair (with_interrupts m j) p ≡ get_pair m p
 get_pair_over pair.B m j = refl
 get_pair_over pair.D m j = refl
 get_pair_over pair.H m j = refl
@@ -190,7 +194,8 @@ jump_over true m j k address = refl
 jump_over false m j k address = refl
 
 call_over : (holds : Bool) (m : MachineState) (j k : Interrupts) (address : ℕ)
-    → with_interrupts_to k (if holds then called (with_interrupts m j) address else done (with_interrupts m j))
+    → with_interrupts_to k (if holds then called (with_interrupts m j) address else done
+    (with_interrupts m j))
     ≡ with_interrupts_to k (if holds then called m address else done m)
 call_over true m j k address = refl
 call_over false m j k address = refl

@@ -54,7 +54,8 @@ row-nothing (Word f) input m opcode is =
     absurd (not_defined (effect (f (word_at m (m.regs.pc + 1))) input (with_pc m (wrapped (m.regs.pc + 3))))
     opcode is (effect-defined (f (word_at m (m.regs.pc + 1))) input (with_pc m (wrapped (m.regs.pc + 3)))))
 
-pub row-some : (r : Row) (input : ℕ → ℕ) (m : MachineState) → Defines (by_row r input m) → is_undefined r ≡ false
+pub row-some : (r : Row) (input : ℕ → ℕ) (m : MachineState) → Defines (by_row r input m)
+    → is_undefined r ≡ false
 row-some Undefined input m defined = absurd defined
 row-some _ input m defined = refl
 

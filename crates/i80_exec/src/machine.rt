@@ -209,7 +209,8 @@ impl Machine {
     }
 
     #[inline(always)]
-    /// Does the instruction at PC, by the table of the board. An opcode that is undefined there changes nothing.
+    /// Does the instruction at PC, by the table of the board. An opcode that is undefined there changes
+    /// nothing.
     pub fn step<P: Ports>(&mut self, ports: &mut P) -> Stepped
         requires { 1 ≤ P.spare ports.old }
         ensures { let outcome = instruction (P.answer (P.state ports.old)) self.old in
@@ -260,7 +261,8 @@ impl Machine {
         answer
     }
 
-    /// The same where EI wasn't the last instruction, told by its kind: so a loop of steps needn't look whether it was.
+    /// The same where EI wasn't the last instruction, told by its kind: so a loop of steps needn't look
+    /// whether it was.
     #[inline(always)]
     pub fn step_settled<P: Ports>(&mut self, ports: &mut P) -> Kind
         requires settled { is_arming self.old.regs.interrupts ≡ false }
@@ -515,9 +517,9 @@ impl Machine {
         requires settled { is_arming self.old.regs.interrupts ≡ false }
         ensures { self.new ≡ exchanged self.old }
     {
-        // The compiler doesn't know that these are 0, so it sees no exchange. For one among the values of a loop it moves two or
-        // more of them at each step, whichever arm that is: D and E, or H and L, by the order in which it copies them. `step`
-        // tells it the third, and so adds only the others there.
+        // The compiler doesn't know that these are 0, so it sees no exchange. For one among the values of a
+        // loop it moves two or more of them at each step, whichever arm that is: D and E, or H and L, by the
+        // order in which it copies them. `step` tells it the third, and so adds only the others there.
         let low = (self.memory.len() % 256) as u8;
         let high = (self.memory.len() / 4_294_967_296 % 256) as u8;
         let arming = self.is_arming() as u8;

@@ -41,8 +41,8 @@ pub enum Stepped {
     Undefined { opcode: u8 },
 }
 
-/// What a step did, in one byte: less than `Stepped` where the machine tells the rest, and more for a loop of steps, which
-/// needn't look again after a quiet one.
+/// What a step did, in one byte: less than `Stepped` where the machine tells the rest, and more for a loop of
+/// steps, which needn't look again after a quiet one.
 #[derive(Clone, Copy, PartialEq, Eq)]
 pub enum Kind {
     /// Done, with SP as it was.

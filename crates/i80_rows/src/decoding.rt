@@ -24,8 +24,8 @@ pub fn decode(bytes: &[u8]) -> Result<(Instr, u8), DecodeFault>
     decode_on(bytes, Board::Strict)
 }
 
-/// The instruction that the bytes begin with on a board. With `Board::Aliases` none of the 256 opcodes is undefined,
-/// and twelve instructions have a second encoding, which `encode` never writes.
+/// The instruction that the bytes begin with on a board. With `Board::Aliases` none of the 256 opcodes is
+/// undefined, and twelve instructions have a second encoding, which `encode` never writes.
 pub fn decode_on(bytes: &[u8], board: Board) -> Result<(Instr, u8), DecodeFault>
     ensures table { result ≡ read_on board bytes.now }
     // On a strict board it is what `decode` reads.

@@ -206,8 +206,8 @@ fn fault_unsigned(alloc: Global, header: &str, content: &str) -> Result<Option<W
     fault_in(alloc, "", texts.as_slice())
 }
 
-// Headers and contents of messages with no signature, and their fault. Of a key that comes twice the last value
-// counts.
+// Headers and contents of messages with no signature, and their fault. Of a key that comes twice the last
+// value counts.
 const UNSIGNED: [(&str, &str, Option<WireFault>); 12] = [
     (HEADER, "1e400", Some(WireFault::Json)),
     (HEADER, "\"\\ud800\"", Some(WireFault::Json)),

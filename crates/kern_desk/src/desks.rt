@@ -49,7 +49,8 @@ pub fn open_desk(alloc: Global, limit: u32, seats: u32) -> Result<(Desk, Vec<Pas
     }
 }
 
-/// The kernel with its seats, from a desk with all its passes; None where one is missing, and the desk is gone.
+/// The kernel with its seats, from a desk with all its passes; None where one is missing, and the desk is
+/// gone.
 pub fn close_desk(desk: Desk, passes: Vec<Pass>) -> Option<Seated>
     requires { All (λ p. p.turnstile ≡ desk) passes.items }
     ensures history { IfSome result (λ seated. IsHistoryOf desk passes.items seated.entries) }

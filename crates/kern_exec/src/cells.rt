@@ -130,7 +130,8 @@ fn load_event(alloc: Global, code: &Text) -> Result<Event, AllocError>
 /// Loads a cell under its path, and says what that comes to. Out of memory leaves the board as it was.
 pub fn load(alloc: Global, lab: &mut Lab, code: &Text) -> Result<Loading, AllocError>
     ensures loaded { (b : Board) → StandsFor lab.old b → IfOk result (λ loading.
-        (loading ≡ loading_of (cell_given code.now b)) × StandsFor lab.new (board_after b (cell_given code.now b))) }
+        (loading ≡ loading_of (cell_given code.now b))
+        × StandsFor lab.new (board_after b (cell_given code.now b))) }
     ensures err { OnErr result (lab.new ≡ lab.old) }
 {
     let event = load_event(alloc, code)?;

@@ -34,7 +34,8 @@ pub fn end_kit(
     execution: &Execution,
     count: u64,
 ) -> Result<EndKit, AllocError>
-    ensures { IfOk result (λ kit. kit ≡ end_kit_of peers.now (record { execution = execution.now; count = count })) }
+    ensures { IfOk result (λ kit. kit ≡ end_kit_of peers.now
+        (record { execution = execution.now; count = count })) }
 {
     let error = published_under(alloc, peers, &execution.header, "error")?;
     let reply = address(
@@ -122,8 +123,10 @@ fn push_cut(letters: &mut Letters, kit: Option<EndKit>, cause: Cause)
 #[tactic(auto, using(crate::proofs::KitLemmas::grouped))]
 pub fn cut_letters(enclosed: BusyIdle, kit: Option<EndKit>, cause: Cause, reply: Letter) -> Letters
     requires { length enclosed.letters ≤ 1 }
-    ensures { (connections : Connections) (cut : Option Current) → kit ≡ option_map (end_kit_of connections) cut
-        → result ≡ enclosed.letters ++ ((cut_letters connections cut cause ++ reply ∷ []) ++ enclosed.idle ∷ []) }
+    ensures { (connections : Connections) (cut : Option Current)
+        → kit ≡ option_map (end_kit_of connections) cut
+        → result ≡ enclosed.letters ++ ((cut_letters connections cut cause ++ reply ∷ [])
+        ++ enclosed.idle ∷ []) }
 {
     let BusyIdle { mut letters, idle } = enclosed;
     push_cut(&mut letters, kit, cause);

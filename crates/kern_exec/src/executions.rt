@@ -2,7 +2,8 @@
 ghost use Rattle.std.specs.Prelude.{◌≡◌, ◌<◌, ◌+◌, ◌^◌, [], ◌∷◌, List, length, drop, nat_lt, IfOk, None};
 ghost use Rattle.std.specs.Prelude.{option_map, MatchOption};
 ghost use Rattle.kern_exec.specs.declared.execution.Execution.{Execution};
-ghost use Rattle.kern_exec.specs.Executions.{nothing, queued, taken, begun, ended, count_with, under_way, start_of};
+ghost use Rattle.kern_exec.specs.Executions.{nothing, queued, taken, begun, ended, count_with};
+ghost use Rattle.kern_exec.specs.Executions.{under_way, start_of};
 
 use crate::execution::{Current, Execution};
 use crate::loading::Loading;
@@ -102,7 +103,8 @@ impl Executions {
 
     /// The first that waits.
     pub fn first(&self) -> Option<&Execution>
-        ensures { MatchOption result (self.now.queue ≡ []) (λ x. self.now.queue ≡ x.now ∷ drop 1 self.now.queue) }
+        ensures { MatchOption result (self.now.queue ≡ [])
+            (λ x. self.now.queue ≡ x.now ∷ drop 1 self.now.queue) }
     {
         self.queue.front()
     }

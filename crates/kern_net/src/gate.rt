@@ -57,8 +57,8 @@ pub trait WriterGate {
     /// How often `idle` has answered yes and no.
     ghost polls: { Self → WriterPolls };
 
-    /// Waits until something may have been posted, and tells whether to go on. By the pass all was fetched that
-    /// was posted below this number, and then there was no other post.
+    /// Waits until something may have been posted, and tells whether to go on. By the pass all was fetched
+    /// that was posted below this number, and then there was no other post.
     fn idle<R: Wait>(&mut self, rt: &R, pass: &Pass, next: u64) -> bool
         requires { HasCaughtUp pass.now next }
         ensures { (polls self.new).idle ≡ with_answer result (polls self.old).idle };

@@ -61,8 +61,8 @@ fn asks_for_work(body: &RequestBody) -> bool
     }
 }
 
-/// Whether a call may give the worker something to do. One that doesn't posts to its own connection and on iopub
-/// alone.
+/// Whether a call may give the worker something to do. One that doesn't posts to its own connection and on
+/// iopub alone.
 #[tactic(auto, using(crate::proofs::WakeLemmas::gives_none))]
 pub(crate) fn gives_work(call: &Call) -> bool
     ensures means { result ≡ concerns_worker call.now }

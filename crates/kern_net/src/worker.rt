@@ -2,7 +2,8 @@
 ghost use Rattle.std.specs.Prelude.{◌≡◌, ◌+◌, length, Some, IsSome, IfOk, IfErr, OnOk};
 ghost use Rattle.kern_net.specs.declared.worker.Progress.TheVariants as progress;
 ghost use Rattle.kern_net.specs.Gates.{unpolled, IsOpen};
-ghost use Rattle.kern_net.specs.Work.{progress_of, untaken, OneSlice, SawShutdown, SliceEnds, Sliced, WorkEnds};
+ghost use Rattle.kern_net.specs.Work.{progress_of, untaken, OneSlice, SawShutdown, SliceEnds, Sliced};
+ghost use Rattle.kern_net.specs.Work.{WorkEnds};
 
 use crate::end::PumpEnd;
 use crate::gate::WorkerGate;

@@ -186,8 +186,8 @@ fn no_connection(rt: HostRuntime) {
     expect_at(&rt, is_called, "other calls", 0, 0);
 }
 
-// After a shutdown the writer writes what is left by one Fetch and ends, and the worker ends after one slice. Neither
-// gate is polled by `idle`. The replies have 478 and 238 bytes, behind the 94 of the handshake.
+// After a shutdown the writer writes what is left by one Fetch and ends, and the worker ends after one slice.
+// Neither gate is polled by `idle`. The replies have 478 and 238 bytes, behind the 94 of the handshake.
 #[test]
 fn shut_down(rt: HostRuntime) {
     let mut table = open_table(&rt, rt.alloc(), MOST_ENTRIES);

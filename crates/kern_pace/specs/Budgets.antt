@@ -1,5 +1,5 @@
--- How fast a channel takes bytes that nobody signed: 256,000 at once, and then 4,000 a second. Moments are milliseconds since
--- the server began.
+-- How fast a channel takes bytes that nobody signed: 256,000 at once, and then 4,000 a second. Moments are
+-- milliseconds since the server began.
 use Rattle.std.specs.Prelude.{ℕ, ◌+◌, ◌-◌, ◌*◌, ◌/◌, min, max}
 
 -- how many bytes were owed at which moment

@@ -1,4 +1,5 @@
-//! How long a running cell and who subscribes wait, how often posts of a running cell are looked for, and how full a journal is.
+//! How long a running cell and who subscribes wait, how often posts of a running cell are looked for, and how
+//! full a journal is.
 ghost use Rattle.std.specs.Prelude.{◌≡◌, ◌<◌, ◌≤◌, ◌+◌, ◌*◌, ◌-◌, ◌↔◌, IsTrue, min, max};
 ghost use Rattle.kern_pace.specs.Pacing.{pause, slice_pause, lag_pause, subscription_pause, next_gap};
 
@@ -27,7 +28,8 @@ const LONGEST_PAUSE_OF_A_RUN: u64 = 50_000;
 
 const LONGEST_PAUSE_OF_A_SUBSCRIPTION: u64 = 1_000_000;
 
-// So long a slice may take, in microseconds, if readers lag behind: 4,096 posts, as many as are kept, then take a second.
+// So long a slice may take, in microseconds, if readers lag behind: 4,096 posts, as many as are kept, then
+// take a second.
 const LAGGING_SLICE: u64 = 250;
 
 // How long so many entries may take, in microseconds, in a journal of so many.
@@ -47,7 +49,8 @@ pub fn slice_pause(slices: u64, entries: u64) -> u64
     pause(slices, entries, LONGEST_PAUSE_OF_A_RUN)
 }
 
-/// How long the worker waits after so many slices if readers lag behind what they have posted, in microseconds.
+/// How long the worker waits after so many slices if readers lag behind what they have posted, in
+/// microseconds.
 pub fn lag_pause(slices: u64) -> u64
     ensures { result ≡ lag_pause slices }
 {
@@ -55,8 +58,8 @@ pub fn lag_pause(slices: u64) -> u64
     (slices.min(limit) * LAGGING_SLICE).min(LONGEST_PAUSE_OF_A_RUN)
 }
 
-/// How long who subscribes waits, in microseconds, if the journal has so many entries, and had so many at the last
-/// subscription on this connection.
+/// How long who subscribes waits, in microseconds, if the journal has so many entries, and had so many at the
+/// last subscription on this connection.
 pub fn subscription_pause(entries: u64, before: u64) -> u64
     ensures { result ≡ subscription_pause (entries - before) entries }
 {
@@ -94,8 +97,8 @@ pub fn next_gap(gap: u64, has_found: bool) -> u64
     (2 * gap).min(LONGEST_GAP)
 }
 
-/// Whether no more slices are made in a journal of so many entries: what is left, 32,768, is for the writers, which fetch
-/// what was posted.
+/// Whether no more slices are made in a journal of so many entries: what is left, 32,768, is for the writers,
+/// which fetch what was posted.
 pub fn is_full(entries: u64) -> bool
     ensures { IsTrue result ↔ (4194304 ≤ entries + 32768) }
 {

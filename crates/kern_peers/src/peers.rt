@@ -1,5 +1,6 @@
 //! The connections that are there.
-ghost use Rattle.std.specs.Prelude.{◌≡◌, ◌<◌, ◌+◌, ◌^◌, ◌++◌, ◌∷◌, [], IfOk, OnOk, OnErr, option_map, count_by};
+ghost use Rattle.std.specs.Prelude.{◌≡◌, ◌<◌, ◌+◌, ◌^◌, ◌++◌, ◌∷◌, [], IfOk, OnOk, OnErr, option_map};
+ghost use Rattle.std.specs.Prelude.{count_by};
 ghost use Rattle.std.specs.List.{list_any, find, position};
 ghost use Rattle.std.specs.Str.{bytes_eq};
 ghost use Rattle.jup_wire.specs.declared.channel.Channel.TheVariants.{Stdin};

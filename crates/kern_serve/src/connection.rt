@@ -265,8 +265,8 @@ fn join_peer<R: Wait>(
     }
 }
 
-// Leaves, but where the kernel takes no more calls. Where memory is wanting for the entry it tries again, so that
-// no place and no identity stay taken by nobody.
+// Leaves, but where the kernel takes no more calls. Where memory is wanting for the entry it tries again, so
+// that no place and no identity stay taken by nobody.
 fn leave<R: Wait + Clock>(rt: &R, shared: &Shared, pass: &mut Pass, connection: u32)
     requires { pass.old.turnstile ≡ shared.now.desk }
     ensures { pass.new.turnstile ≡ shared.now.desk }

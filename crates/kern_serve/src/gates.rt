@@ -181,8 +181,8 @@ impl<'a> WriterGate for OutGate<'a> {
 }
 
 /// The worker's gate. It waits until there may be work; it says no once the journal is full but for a
-/// reserve, and prints a line before that. It makes a long run wait so that the journal lasts, and has a writer
-/// look for its posts.
+/// reserve, and prints a line before that. It makes a long run wait so that the journal lasts, and has a
+/// writer look for its posts.
 #[derive(Drop)]
 pub struct WorkGate<'a, C: Wait + Clock + Print> {
     bell: &'a Bell,
@@ -193,8 +193,8 @@ pub struct WorkGate<'a, C: Wait + Clock + Print> {
     // How many slices it had let through at the last pause, and how many by now.
     paused: u64,
     slices: u64,
-    // When posts were looked for last, in microseconds since it began, and after how many slices; how long not to look again,
-    // and how often some had been found by then.
+    // When posts were looked for last, in microseconds since it began, and after how many slices; how long
+    // not to look again, and how often some had been found by then.
     looked: u64,
     looked_slices: u64,
     // How many slices may have been posted that readers lag behind.
@@ -298,8 +298,8 @@ impl<'a, C: Wait + Clock + Print> WorkGate<'a, C> {
         }
     }
 
-    // Waits so that posts are read before they are kept no longer, unless work comes meanwhile. A Slice is to follow, which
-    // finds that work.
+    // Waits so that posts are read before they are kept no longer, unless work comes meanwhile. A Slice is to
+    // follow, which finds that work.
     fn wait_for_readers(&mut self)
         ensures { self.new.polls ≡ self.old.polls }
     {

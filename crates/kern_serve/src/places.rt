@@ -1,5 +1,6 @@
-//! Who is at the places of the channels. Where all places of a channel are taken and another connection waits, one is let
-//! go that has been there for a minute and of which no message has opened: it has shown no key.
+//! Who is at the places of the channels. Where all places of a channel are taken and another connection
+//! waits, one is let go that has been there for a minute and of which no message has opened: it has shown no
+//! key.
 use crate::listeners::Listeners;
 use crate::socket::close;
 use jup_wire::channel::Channel;
@@ -52,8 +53,8 @@ fn is_full(guests: &[Option<Guest>]) -> bool {
     guests.iter().all(|guest| guest.is_some())
 }
 
-// The socket of the one that came last of those that have been silent for a minute: who holds all places came after those
-// that found one.
+// The socket of the one that came last of those that have been silent for a minute: who holds all places came
+// after those that found one.
 fn newest_silent(guests: &[Option<Guest>], now: u64) -> Option<&TcpStream> {
     let mut found: Option<&Guest> = None;
     for guest in guests.iter().flatten() {
@@ -159,8 +160,8 @@ impl Places {
         }
     }
 
-    /// Lets silent connections of a channel go, each where all places are taken and another connection waits, for good. While
-    /// a place is free it sleeps.
+    /// Lets silent connections of a channel go, each where all places are taken and another connection waits,
+    /// for good. While a place is free it sleeps.
     pub fn watch<R: Wait + Clock>(&self, rt: &R, listeners: &Listeners, channel: Channel) {
         let mut seen = 0;
         for _ in rt.forever() {

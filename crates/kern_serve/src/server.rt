@@ -306,9 +306,9 @@ fn serve_as<R: Host>(
     }
 }
 
-/// Serves bound ports until a client asks for a shutdown or the journal is full. Prints `listening` once all threads are there. By then what was posted has
-/// been written to each client that reads, or half a second has passed. The threads that serve connections
-/// aren't joined: the program is to end.
+/// Serves bound ports until a client asks for a shutdown or the journal is full. Prints `listening` once all
+/// threads are there. By then what was posted has been written to each client that reads, or half a second
+/// has passed. The threads that serve connections aren't joined: the program is to end.
 ///
 /// A connection that breaks the protocol, doesn't make its handshake within ten seconds, or doesn't read for
 /// ten seconds, ends alone.

@@ -118,8 +118,8 @@ fn greet<R: Wait + Clock>(
     }
 }
 
-/// Makes the handshake on a socket of a channel, for which there are ten seconds. From then on a read may wait
-/// for ever, and a write ten seconds.
+/// Makes the handshake on a socket of a channel, for which there are ten seconds. From then on a read may
+/// wait for ever, and a write ten seconds.
 pub fn meet<R: Wait + Clock>(
     rt: &R,
     alloc: Global,

@@ -23,7 +23,8 @@ pub enum Action {
     Subscribe(u32),
     /// A connection asks.
     Ask(u32, Question),
-    /// A message comes on a connection of this channel: its type, and its content as JSON in which `'` stands for `"`.
+    /// A message comes on a connection of this channel: its type, and its content as JSON in which `'` stands
+    /// for `"`.
     Send(u32, Channel, &'static str, &'static str),
     Slice,
     Fetch(u32, u64),
@@ -158,8 +159,8 @@ fn debug(command: DapCommand) -> RequestBody {
     RequestBody::Debug(DapRequest { seq: 1, command })
 }
 
-/// Whether a call is this one. A Join, a Leave and a Fetch have no moment; of one with an identity, and of what is
-/// sent, this isn't told.
+/// Whether a call is this one. A Join, a Leave and a Fetch have no moment; of one with an identity, and of
+/// what is sent, this isn't told.
 pub fn is_call(call: &Call, action: Action, unix_seconds: u64) -> bool {
     match (call, action) {
         (Call::Join { channel, .. }, Action::Join(wanted)) => *channel == wanted,

@@ -18,8 +18,8 @@ const SLICES_BEFORE: u64 = 2;
 // How often the writer's gate lets it look for posts, a millisecond apart.
 const MOST_LOOKS: u64 = 30_000;
 
-/// The worker's gate: it holds the first slice of the program until the pause is answered, and ends the work where
-/// there is nothing to do.
+/// The worker's gate: it holds the first slice of the program until the pause is answered, and ends the work
+/// where there is nothing to do.
 #[derive(Drop)]
 pub struct WorkGate<'a, C: Clock> {
     signals: &'a Signals,

@@ -12,8 +12,8 @@ use std::time::Duration;
 pub const PLACES: usize = 16;
 
 // Each time that so many calls told only some, all are woken. A writer to which nothing was posted goes on
-// then, past posts to others: else those from which it is to go on would at last be kept no longer (a call makes
-// at most eight, and 4,096 are kept). And the worker looks how full the journal is.
+// then, past posts to others: else those from which it is to go on would at last be kept no longer (a call
+// makes at most eight, and 4,096 are kept). And the worker looks how full the journal is.
 const TELLS_OF_A_ROUND: u64 = 256;
 
 // How many posts a request makes that gives the worker nothing to do: busy, its reply and idle.
@@ -40,8 +40,8 @@ struct Known {
 }
 
 impl Known {
-    // Takes note of the number of the next post, after so many requests. Whether a running cell may have made posts: requests
-    // make three each, and if fewer posts came twice, some of them made fewer.
+    // Takes note of the number of the next post, after so many requests. Whether a running cell may have made
+    // posts: requests make three each, and if fewer posts came twice, some of them made fewer.
     fn has_more(&mut self, next: u64, requests: u64) -> bool {
         let posts = next.saturating_sub(self.next);
         let expected = requests
@@ -65,7 +65,8 @@ pub enum Readers {
     LagBehind,
 }
 
-/// A spot for the worker, and one for the writer of each place. Beside them, counts of what was done, which nobody waits for.
+/// A spot for the worker, and one for the writer of each place. Beside them, counts of what was done, which
+/// nobody waits for.
 #[derive(Drop)]
 pub struct Bell {
     work: Spot,
@@ -79,7 +80,8 @@ pub struct Bell {
     // The requests that gave the worker nothing to do, whose posts are known.
     requests: AtomicU64,
     known: Mutex<Known>,
-    // The place of iopub whose writer looks for posts, counted from 1, and how often posts of a running cell were found.
+    // The place of iopub whose writer looks for posts, counted from 1, and how often posts of a running cell
+    // were found.
     scout: AtomicU64,
     finds: AtomicU64,
     // How many writers of iopub there are.
@@ -180,7 +182,8 @@ impl Bell {
         self.count_tell();
     }
 
-    /// Wakes the writer that waits at this spot and those of iopub, after a request that gave the worker nothing to do.
+    /// Wakes the writer that waits at this spot and those of iopub, after a request that gave the worker
+    /// nothing to do.
     pub fn tell(&self, own: &Spot) {
         self.requests.fetch_add(1, Ordering::SeqCst);
         own.ring();
@@ -188,8 +191,8 @@ impl Bell {
         self.count_tell();
     }
 
-    /// Wakes the writer that waits at this spot, for the reply to such a request that is a look at the board. Its statuses
-    /// wait for what iopub is told next, a quarter of a second at most.
+    /// Wakes the writer that waits at this spot, for the reply to such a request that is a look at the board.
+    /// Its statuses wait for what iopub is told next, a quarter of a second at most.
     pub fn tell_look<C: Clock>(&self, clock: &C, own: &Spot) {
         self.requests.fetch_add(1, Ordering::SeqCst);
         own.ring();
@@ -246,9 +249,9 @@ impl Bell {
         None
     }
 
-    /// Has one writer of iopub look whether a running cell has posted something; if the last one is still busy with that, if all
-    /// are busy, or if there is none, wakes all writers. So a cell that posts nothing costs one Fetch, and not one for each
-    /// writer. Tells whether the writers keep up.
+    /// Has one writer of iopub look whether a running cell has posted something; if the last one is still
+    /// busy with that, if all are busy, or if there is none, wakes all writers. So a cell that posts nothing
+    /// costs one Fetch, and not one for each writer. Tells whether the writers keep up.
     pub fn look_for_posts(&self) -> Readers {
         if !self.is_scout_busy()
             && let Some((number, spot)) = self.next_scout()
@@ -267,8 +270,8 @@ impl Bell {
         Readers::LagBehind
     }
 
-    /// A writer has fetched all posts below this number. If it is the one that looks for posts, and a running cell has made
-    /// some, all writers are woken.
+    /// A writer has fetched all posts below this number. If it is the one that looks for posts, and a running
+    /// cell has made some, all writers are woken.
     pub fn note_posts<R: Wait>(&self, rt: &R, place: Place, next: u64) {
         let number = (place.number as u64).saturating_add(1);
         if place.channel != Channel::Iopub || self.scout.load(Ordering::SeqCst) != number {

@@ -4,8 +4,9 @@ use libc::types::pollfd;
 use std::net::{TcpListener, TcpStream};
 use std::os::fd::AsRawFd;
 
-// A connection on which nothing comes for so many seconds is probed, so often, so many seconds apart; and what isn't acknowledged
-// ends it after so many milliseconds. So a peer that vanished is found within two minutes.
+// A connection on which nothing comes for so many seconds is probed, so often, so many seconds apart; and
+// what isn't acknowledged ends it after so many milliseconds. So a peer that vanished is found within two
+// minutes.
 const IDLE_SECONDS: u32 = 60;
 
 const PROBE_SECONDS: u32 = 10;
@@ -21,7 +22,8 @@ fn option_bytes(value: u32) -> [u8; 16] {
     bytes
 }
 
-/// Has the system find a peer that vanishes, within two minutes. An option that can't be set is left as it is.
+/// Has the system find a peer that vanishes, within two minutes. An option that can't be set is left as it
+/// is.
 pub fn keep_alive(stream: &TcpStream) {
     let fd = stream.as_raw_fd();
     let (on, unacknowledged) = (option_bytes(1), option_bytes(UNACKNOWLEDGED_MILLIS));

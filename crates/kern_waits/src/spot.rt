@@ -78,8 +78,8 @@ impl Spot {
         unreachable!()
     }
 
-    /// Waits until there were more rings than were seen, or until it was called off; so many there are then. Who calls it
-    /// off is to nudge those that wait here.
+    /// Waits until there were more rings than were seen, or until it was called off; so many there are then.
+    /// Who calls it off is to nudge those that wait here.
     pub fn wait_unless<R: Wait>(&self, rt: &R, seen: u64, is_off: &AtomicBool) -> u64 {
         for _ in rt.forever() {
             let word = self.word.load(Ordering::SeqCst);

@@ -24,7 +24,8 @@ impl ChannelThrottle {
     }
 }
 
-/// For each channel what its peers wait by that have shown no key: how they join, and how their bytes are read.
+/// For each channel what its peers wait by that have shown no key: how they join, and how their bytes are
+/// read.
 #[derive(Drop)]
 pub struct Throttles {
     stopwatch: Stopwatch,

@@ -1,5 +1,5 @@
-//! Reading bytes that nobody has signed: those of a handshake, and on iopub all. What the kernel keeps of them it keeps for
-//! good, so they are read no faster than their channel's budget allows.
+//! Reading bytes that nobody has signed: those of a handshake, and on iopub all. What the kernel keeps of
+//! them it keeps for good, so they are read no faster than their channel's budget allows.
 use crate::throttles::Throttles;
 use jup_wire::channel::Channel;
 use std::io::Read;
@@ -8,7 +8,8 @@ use std::sync::Wait;
 use std::time::Duration;
 use std::{io, thread};
 
-/// So many bytes of a connection neither wait nor count: an honest client's handshake and its first subscriptions have fewer.
+/// So many bytes of a connection neither wait nor count: an honest client's handshake and its first
+/// subscriptions have fewer.
 pub const FREE_BYTES: usize = 192;
 
 // Then so many are read at a time, so that a connection owes little when it is to wait.
@@ -17,8 +18,8 @@ const PIECE: usize = 4_096;
 // The longest sleep before it is asked again how long to wait.
 const SLEEP_MILLIS: u64 = 500;
 
-/// A reader whose bytes, if they are unsigned, wait for the budget of their channel, each read for so many milliseconds at
-/// most. So many were read without waiting.
+/// A reader whose bytes, if they are unsigned, wait for the budget of their channel, each read for so many
+/// milliseconds at most. So many were read without waiting.
 #[derive(Drop)]
 pub struct UnsignedStream<'a, S: Read + Drop, R: Wait + Clock> {
     pub stream: S,

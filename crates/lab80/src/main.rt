@@ -1,6 +1,7 @@
-// lab80, an Intel 8080 laboratory: `lab80 asm` assembles and runs a cell, `lab80 dis` lists bytes as assembler
-// text. What each word does stands in cli_engines, with its contract; this file calls it with the streams of
-// the system. The word `step` is that of the program lab80_step, `kernel` and `term` are those of lab80_kernel.
+// lab80, an Intel 8080 laboratory: `lab80 asm` assembles and runs a cell, `lab80 dis` lists bytes as
+// assembler text. What each word does stands in cli_engines, with its contract; this file calls it with the
+// streams of the system. The word `step` is that of the program lab80_step, `kernel` and `term` are those of
+// lab80_kernel.
 #![tactic(auto)]
 
 use base_streams::std_io::{StdInlet, StdOutlet};

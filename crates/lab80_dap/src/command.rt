@@ -40,7 +40,8 @@ fn collect(rt: &(impl Env + AllocGlobal)) -> io::Result<Vec<String>> {
     Ok(env::args(rt)?.skip(1).collect(rt.alloc())?)
 }
 
-/// What the words after the program's name ask for, if they are words that it knows. Those that aren't UTF-8 are none.
+/// What the words after the program's name ask for, if they are words that it knows. Those that aren't UTF-8
+/// are none.
 pub fn read_command(rt: &(impl Env + AllocGlobal)) -> Result<Option<Command>, Status> {
     match collect(rt) {
         Ok(words) => Ok(command_of(&words)),

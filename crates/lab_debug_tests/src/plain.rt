@@ -1,4 +1,5 @@
-//! Chance runs of steps and changes by hand: the live frames, against those that are found by the rule over all entries.
+//! Chance runs of steps and changes by hand: the live frames, against those that are found by the rule over
+//! all entries.
 ghost use Rattle.std.specs.Prelude.{IfOk};
 ghost use Rattle.lab_core.specs.Events.{Fits};
 
@@ -180,8 +181,8 @@ fn begin(lab: &mut Lab) -> bool {
 /// How many steps of a run are looked at, from its beginning.
 const LENGTH: usize = 48;
 
-// Makes a change or a step, in a new run where the last one ended or had all of its steps. Gives whether the frames
-// are those of the rule.
+// Makes a change or a step, in a new run where the last one ended or had all of its steps. Gives whether the
+// frames are those of the rule.
 fn go_on(
     alloc: Global,
     lab: &mut Lab,

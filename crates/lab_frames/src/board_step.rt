@@ -60,8 +60,8 @@ fn accept(machine: &mut Machine, devices: &mut Devices) -> Option<Stepped>
     Some(answer)
 }
 
-// Takes the request that was accepted. It is a cold function, so that the way to it is laid out apart from the
-// usual one.
+// Takes the request that was accepted. It is a cold function, so that the way to it is laid out apart from
+// the usual one.
 #[cold]
 #[inline(never)]
 fn take_request(devices: &mut Devices)

@@ -77,8 +77,8 @@ impl Frames {
     /// Answers how many of the frames before it are left.
     #[inline]
     pub fn advance(&mut self, answer: Stepped, site: u16, sp: u16) -> usize
-        // It holds of each instruction and each accepted request (proofs/StepLemmas.antt). Where SP was before the
-        // step doesn't matter: SP may have been changed by hand, and live slots may lie below it.
+        // It holds of each instruction and each accepted request (proofs/StepLemmas.antt). Where SP was
+        // before the step doesn't matter: SP may have been changed by hand, and live slots may lie below it.
         requires calls { CallsAt answer sp }
         ensures live { Advances answer site sp self.old self.new }
         ensures frames { self.new ≡ survivors answer sp self.old ++ made_by answer site }
@@ -118,8 +118,8 @@ impl Frames {
         self.frames.last().copied()
     }
 
-    /// One above the newest slot, or 65536 where no frame is live. A step that neither calls nor returns and leaves SP
-    /// below this ends no frame.
+    /// One above the newest slot, or 65536 where no frame is live. A step that neither calls nor returns and
+    /// leaves SP below this ends no frame.
     #[inline]
     pub fn reach(&self) -> u32
         ensures reach { result ≡ reach_of (slice_get (reverse self.now) 0) }
@@ -166,9 +166,9 @@ fn returns_from_above(answer: Stepped, slot: u16) -> bool
     }
 }
 
-// Since slots fall, the frames that a step ends are the newest ones: those below SP after it, and those that a call
-// covers. A return ends the frame of its slot too. That one lies among frames that stay only where SP was changed
-// by hand and wraps: a return from FFFEh or FFFFh leaves SP at 0 or 1.
+// Since slots fall, the frames that a step ends are the newest ones: those below SP after it, and those that
+// a call covers. A return ends the frame of its slot too. That one lies among frames that stay only where SP
+// was changed by hand and wraps: a return from FFFEh or FFFFh leaves SP at 0 or 1.
 #[inline]
 fn drop_ended(frames: &mut Vec<Frame>, answer: Stepped, sp: u16)
     requires falls { Falls 65536 frames.old.items }
@@ -188,8 +188,8 @@ fn drop_ended(frames: &mut Vec<Frame>, answer: Stepped, sp: u16)
     }
 }
 
-// The same, wherever the frames that are ended lie. It stands apart, so that the usual way is one comparison with the
-// newest slot.
+// The same, wherever the frames that are ended lie. It stands apart, so that the usual way is one comparison
+// with the newest slot.
 #[cold]
 #[inline(never)]
 fn drop_among(frames: &mut Vec<Frame>, answer: Stepped, sp: u16)

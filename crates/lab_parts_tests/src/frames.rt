@@ -119,8 +119,9 @@ fn frame_at(slot: u16) -> Frame {
     Frame { slot, ..OUTER }
 }
 
-// Two live frames, the older one first; the step after SP was changed by hand: where it returns from, if it does, and
-// SP after it; how many of the two are left, and the frames that are live then, the innermost first.
+// Two live frames, the older one first; the step after SP was changed by hand: where it returns from, if it
+// does, and SP after it; how many of the two are left, and the frames that are live then, the innermost
+// first.
 type Changed = ([u16; 2], (Option<u16>, u16), (usize, &'static [u16]));
 
 const CHANGED: [Changed; 9] = [

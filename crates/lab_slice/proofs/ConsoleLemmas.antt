@@ -7,5 +7,6 @@ use Rattle.i80_exec.specs.declared.ports.PortOperation.{PortOperation}
 use Rattle.lab_slice.specs.Console.{written_to_console as written}
 
 pub written_more : (xs : List PortOperation) (i : ℕ) (d : PortOperation) → i < length xs
-    → filter_map written (take (i + 1) xs) ≡ filter_map written (take i xs) ++ filter_map written (get_or xs i d ∷ [])
+    → filter_map written (take (i + 1) xs)
+    ≡ filter_map written (take i xs) ++ filter_map written (get_or xs i d ∷ [])
 written_more xs i d h = rw (take_more xs i d h) (filter_map-append written (take i xs) (get_or xs i d ∷ []))

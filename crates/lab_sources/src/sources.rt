@@ -1,5 +1,6 @@
 //! The texts that are kept.
-ghost use Rattle.std.specs.Prelude.{◌≡◌, ◌<◌, ◌+◌, ◌++◌, ◌∷◌, [], length, IfOk, IfSome, option_map, slice_get};
+ghost use Rattle.std.specs.Prelude.{◌≡◌, ◌<◌, ◌+◌, ◌++◌, ◌∷◌, [], length, IfOk, IfSome, option_map};
+ghost use Rattle.std.specs.Prelude.{slice_get};
 ghost use Rattle.lab_sources.specs.Sources.{source_at};
 
 use base_text::text::Text;

@@ -103,7 +103,8 @@ pub fn set_breakpoints(
     Ok(Some(Event::SetBreakpoints { path, lines }))
 }
 
-/// The event of a step; none, where it is a look, more than one event, or has more lines than a source may have.
+/// The event of a step; none, where it is a look, more than one event, or has more lines than a source may
+/// have.
 pub fn event_of(alloc: Global, step: Step) -> Result<Option<Event>, AllocError>
     ensures { IfOk result (λ event. IfSome event (λ event. Fits event)) }
 {

@@ -12,8 +12,9 @@ use lab_test_kit::script::{is_done, load_text, poke, set_breakpoints};
 use std::alloc::{AllocError, Global};
 use std::rt::HostRuntime;
 
-/// A program that starts at 0, the lines with a breakpoint, the values that SP is given by hand (a debugger is attached
-/// where there are any of either), and how many steps lie between changes of SP and between presses of the request button.
+/// A program that starts at 0, the lines with a breakpoint, the values that SP is given by hand (a debugger
+/// is attached where there are any of either), and how many steps lie between changes of SP and between
+/// presses of the request button.
 #[derive(Clone, Copy)]
 struct Program {
     about: &'static str,
@@ -186,7 +187,8 @@ fn put_frames(kept: &mut Vec<u32>, frames: &Frames) -> Result<(), AllocError> {
     Ok(())
 }
 
-// So many steps in slices of at most n, or until a reason comes; it is kept with its place. Whether the run goes on.
+// So many steps in slices of at most n, or until a reason comes; it is kept with its place. Whether the run
+// goes on.
 fn stretch(lab: &mut Lab, n: u16, count: u32, kept: &mut Vec<u32>) -> Result<bool, AllocError>
     requires some { 1 ≤ n }
     requires few { n ≤ 4096 }

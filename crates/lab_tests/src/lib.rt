@@ -1,6 +1,6 @@
 // The tests of the board, apart from its crates: a crate is proved once more with the tests that stand in it.
-// Boards over a few events and over many, on which undefined opcodes act and on which they don't; runs in slices of
-// several lengths against the same runs step by step.
+// Boards over a few events and over many, on which undefined opcodes act and on which they don't; runs in
+// slices of several lengths against the same runs step by step.
 #![tactic(auto)]
 
 #[cfg(test)]

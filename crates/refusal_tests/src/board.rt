@@ -148,8 +148,8 @@ fn run_events(
     told
 }
 
-// Does events in turn on a new board. Where they stop, the board must be as after those before, and then the others
-// follow.
+// Does events in turn on a new board. Where they stop, the board must be as after those before, and then the
+// others follow.
 fn make(rt: &impl Print, alloc: Global, lab: &mut Lab, events: &[Event]) -> Result<()>
     requires { All Fits events.now }
 {

@@ -71,8 +71,8 @@ fn attempt<R: Wait + Print>(
     told
 }
 
-// Makes a turn, and once more where the kernel had no memory for its call: it was passed on, or this one would wait
-// for ever.
+// Makes a turn, and once more where the kernel had no memory for its call: it was passed on, or this one
+// would wait for ever.
 fn make<R: Wait + Print>(
     rt: &R,
     alloc: Global,

@@ -17,7 +17,8 @@ fn has_entries(kernel: &Kernel, count: usize) -> bool {
     is_last && kernel.entry(count).is_none()
 }
 
-// Tells what a call answered, and the frames of the posts that it gave; false where there was no memory for it.
+// Tells what a call answered, and the frames of the posts that it gave; false where there was no memory for
+// it.
 fn tell_whole(rt: &impl Print, alloc: Global, answer: &Result<Reply, KernelFault>) -> Result<bool> {
     if matches!(answer, Err(KernelFault::OutOfMemory)) {
         return Ok(false);

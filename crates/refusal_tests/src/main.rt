@@ -1,8 +1,8 @@
 // Five runs of the workspace's parts, each told whole: `refusal_tests assembler`, `board`, `kernel`,
-// `requests` or `desk`. Where a call has no memory, a line `out of memory: CALL` tells it, the value is held against
-// what it was before, and the same call is made once more. So whichever one allocation is refused, the same is printed
-// but for one such line at most: refusals/run refuses each in turn.
-// No contract is claimed here but that events fit and passes stay with their desk.
+// `requests` or `desk`. Where a call has no memory, a line `out of memory: CALL` tells it, the value is held
+// against what it was before, and the same call is made once more. So whichever one allocation is refused,
+// the same is printed but for one such line at most: refusals/run refuses each in turn. No contract is
+// claimed here but that events fit and passes stay with their desk.
 #![tactic(auto)]
 
 mod again;

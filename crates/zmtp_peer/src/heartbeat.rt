@@ -58,7 +58,8 @@ fn echo_piece<W: Outlet>(
     piece: &[u8],
 ) -> Result<(), PeerFault>
     requires { IsWritable (W.state to.old) }
-    ensures ok { OnOk result (EchoedPiece piece.now decoder.old decoder.new (W.state to.old) (W.state to.new)) }
+    ensures ok { OnOk result (EchoedPiece piece.now decoder.old decoder.new (W.state to.old)
+        (W.state to.new)) }
     ensures good { OnOk result (IsWritable (W.state to.new)) }
     // Whatever the reader is, it isn't to blame.
     ensures err { IfErr result (λ fault. (from : InletState) → LostPiece piece.now

@@ -1,5 +1,5 @@
-//! Handshakes and heartbeats whose reads and writes move a byte each and are all interrupted once: they go as if none
-//! were, and a failure behind an interruption is one.
+//! Handshakes and heartbeats whose reads and writes move a byte each and are all interrupted once: they go as
+//! if none were, and a failure behind an interruption is one.
 
 use crate::framing::{DEALER, GREETING, OUR_GREETING, bytes_of};
 use crate::peers::{PING, REP, REQ, ROUTER};

@@ -2,7 +2,8 @@
 ghost use Rattle.std.specs.Prelude.{◌≡◌, ◌≤◌, length, true, IfOk, OnOk, OnErr, option_map};
 ghost use Rattle.lab_core.specs.Board.{Board};
 ghost use Rattle.lab_core.specs.Labs.{StandsFor as LabStandsFor};
-ghost use Rattle.dap_session.specs.Breakpoints.{is_launched_as, line_count_of, armed_where, lines_armed, lines_set};
+ghost use Rattle.dap_session.specs.Breakpoints.{is_launched_as, line_count_of, armed_where, lines_armed};
+ghost use Rattle.dap_session.specs.Breakpoints.{lines_set};
 ghost use Rattle.dap_session.specs.Breakpoints.{setting_lines, setting_functions};
 ghost use Rattle.dap_session.specs.States.{SessionState, with_points};
 ghost use Rattle.dap_points.specs.Points.{number_of, has_place, with_lines};
@@ -177,7 +178,8 @@ impl State {
         names: &[Text],
     ) -> Result<Sequence<PlacedBreakpoint>, AllocError>
         requires { length names.now ≤ 256 }
-        ensures ok { (s : SessionState) → StandsFor self.old s → IfOk result (λ points. LabelsPlaced names.now s points self.new) }
+        ensures ok { (s : SessionState) → StandsFor self.old s
+            → IfOk result (λ points. LabelsPlaced names.now s points self.new) }
         ensures err { OnErr result (self.new ≡ self.old) }
     {
         match &self.settings.program {

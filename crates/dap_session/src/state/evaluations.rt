@@ -21,7 +21,8 @@ use std::alloc::{AllocError, Global};
 
 // Why an expression has no value; that memory was wanting is no reason.
 fn refuse_expression(alloc: Global, fault: EvaluateFault) -> Result<Reply, AllocError>
-    ensures refused { IfOk result (λ reply. reply ≡ record { outcome = EditorOutcome.Refused (message_of fault); follow = Follow.Nothing }) }
+    ensures refused { IfOk result (λ reply. reply
+        ≡ record { outcome = EditorOutcome.Refused (message_of fault); follow = Follow.Nothing }) }
     ensures other { IfOk result (λ _. fault ≢ EvaluateFault.OutOfMemory) }
 {
     if matches!(fault, EvaluateFault::OutOfMemory) {

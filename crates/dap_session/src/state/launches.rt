@@ -4,8 +4,10 @@ ghost use Rattle.lab_core.specs.Board.{Board};
 ghost use Rattle.lab_core.specs.Labs.{StandsFor as LabStandsFor};
 ghost use Rattle.dap_session.specs.declared.settings.Program.{Program as ProgramOf};
 ghost use Rattle.dap_session.specs.Launches as launches;
-ghost use Rattle.dap_session.specs.Launches.{pauses, beginning_where, program_lines, program_labels, program_board};
-ghost use Rattle.dap_session.specs.Launches.{started_follow, installing, text_in, loading, launching, restarting};
+ghost use Rattle.dap_session.specs.Launches.{pauses, beginning_where, program_lines, program_labels};
+ghost use Rattle.dap_session.specs.Launches.{program_board};
+ghost use Rattle.dap_session.specs.Launches.{started_follow, installing, text_in, loading, launching};
+ghost use Rattle.dap_session.specs.Launches.{restarting};
 ghost use Rattle.dap_session.specs.Slices.{told_by, told_in};
 ghost use Rattle.dap_session.specs.States.{SessionState, with_board, with_program};
 ghost use Rattle.dap_session.specs.Stands.{StandsFor, Replies, Tells, Takes};
@@ -51,7 +53,8 @@ fn begun_follow(occasion: Occasion, launch: &Launch) -> Follow
 
 // What was found at a program's path, or why that is no text.
 fn text_in(file: &Option<FileText>) -> Result<&Text, &'static str>
-    ensures { MatchResult result (λ text. text_in file.now ≡ Ok text.now) (λ message. text_in file.now ≡ Err message.now) }
+    ensures { MatchResult result (λ text. text_in file.now ≡ Ok text.now)
+        (λ message. text_in file.now ≡ Err message.now) }
 {
     match file {
         None => Err("no file"),
@@ -279,7 +282,8 @@ impl State {
     ) -> Result<Sequence<Message>, AllocError>
         ensures installed { (s : SessionState) (b : Board) → StandsFor self.old s → LabStandsFor lab b
             → program.phase ≡ Phase.Loaded
-            → IfOk result (λ messages. Tells (told_in caller (installing occasion program b s)) messages self.new) }
+            → IfOk result (λ messages. Tells
+            (told_in caller (installing occasion program b s)) messages self.new) }
         ensures err { OnErr result (self.new ≡ self.old) }
     {
         let messages = self.opening_messages(alloc, caller, occasion, &program, &lab)?;

@@ -108,7 +108,8 @@ fn follow_of(command: &DapCommand) -> Follow
 
 // Why a board doesn't do what it is asked for; that memory was wanting is no reason.
 pub(super) fn refuse_for(alloc: Global, fault: EventFault) -> Result<Reply, AllocError>
-    ensures refused { IfOk result (λ reply. reply ≡ record { outcome = EditorOutcome.Refused (board_refusal fault); follow = Follow.Nothing }) }
+    ensures refused { IfOk result (λ reply. reply
+        ≡ record { outcome = EditorOutcome.Refused (board_refusal fault); follow = Follow.Nothing }) }
     ensures other { IfOk result (λ _. fault ≢ EventFault.OutOfMemory) }
 {
     if matches!(fault, EventFault::OutOfMemory) {

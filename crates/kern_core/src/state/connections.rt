@@ -101,7 +101,8 @@ impl KernelState {
 
     // The status to a connection that has just subscribed.
     fn status_to(&self, connection: u32) -> Result<Letter, AllocError>
-        ensures { (s : KernelStateOf) → StandsFor self.now s → IfOk result (λ letter. letter ≡ status_to connection s) }
+        ensures { (s : KernelStateOf) → StandsFor self.now s
+            → IfOk result (λ letter. letter ≡ status_to connection s) }
     {
         let to = Sequence::from(vec![in self.alloc; connection]?);
         let parent = Bytes::copy_of(self.alloc, b"{}")?;

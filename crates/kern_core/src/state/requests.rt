@@ -1,5 +1,6 @@
 //! Requests, but for those of a debugger.
-ghost use Rattle.std.specs.Prelude.{◌≡◌, ◌<◌, ◌≤◌, ◌+◌, ◌∷◌, ◌++◌, [], length, IfOk, OnOk, OnErr, if◌then◌else◌};
+ghost use Rattle.std.specs.Prelude.{◌≡◌, ◌<◌, ◌≤◌, ◌+◌, ◌∷◌, ◌++◌, [], length, IfOk, OnOk, OnErr};
+ghost use Rattle.std.specs.Prelude.{if◌then◌else◌};
 ghost use Rattle.std.specs.Prelude.{option_map};
 ghost use Rattle.kern_post.specs.declared.content.Ending.TheVariants.{Failed};
 ghost use Rattle.kern_exec.specs.Letters.{enclosed as enclosed_of};
@@ -8,7 +9,8 @@ ghost use Rattle.kern_exec.specs.Ends.{error_letters};
 ghost use Rattle.kern_exec.specs.Kits.{IsEnclosed, end_kit_of};
 ghost use Rattle.kern_exec.specs.Boards.{is_run};
 ghost use Rattle.kern_core.specs.Requests.{reply_to, replying, full_letters, executing, cut_of, cut_letters};
-ghost use Rattle.kern_core.specs.Requests.{interrupting, shutting, typing, closing, passing, unanswered, other};
+ghost use Rattle.kern_core.specs.Requests.{interrupting, shutting, typing, closing, passing, unanswered};
+ghost use Rattle.kern_core.specs.Requests.{other};
 ghost use Rattle.kern_core.specs.Requests.{arriving, with_board, cut_work};
 ghost use Rattle.lab_core.specs.Events.{reset as reset_of};
 ghost use Rattle.kern_core.specs.States.{KernelState as KernelStateOf, after, posting};
@@ -85,7 +87,8 @@ impl KernelState {
 
     // One letter between busy and idle.
     fn enclosed_one(&self, header: &Bytes, letter: Letter) -> Result<Letters, AllocError>
-        ensures { IfOk result (λ letters. letters ≡ enclosed_of self.now.connections header.now (letter ∷ [])) }
+        ensures { IfOk result (λ letters. letters
+            ≡ enclosed_of self.now.connections header.now (letter ∷ [])) }
     {
         match enclose(self.alloc, &self.peers, header) {
             Ok(frame) => {
@@ -357,7 +360,10 @@ impl KernelState {
 
     // The execution under way has ended, where there was a run.
     pub(super) fn end_where(&mut self, had_run: bool)
-        ensures { self.new ≡ record self.old { work = if had_run then ended self.old.work else self.old.work } }
+        ensures { self.new ≡ record self.old {
+          work =
+              if had_run then ended self.old.work else self.old.work;
+        } }
     {
         if had_run {
             self.executions.end();
@@ -394,7 +400,8 @@ impl KernelState {
     ) -> Result<(), AllocError>
         requires { HasRoom self.old }
         ensures ok { (s : KernelStateOf) → StandsFor self.old s → OnOk result (StandsFor self.new
-            (after (posting Reply.Arrived unix_seconds letters (with_board (reset_of s.board) (cut_work s) s)))) }
+            (after (posting Reply.Arrived unix_seconds letters
+            (with_board (reset_of s.board) (cut_work s) s)))) }
         ensures grows { Grows self.old self.new }
         ensures err { OnErr result (self.new ≡ self.old) }
     {

@@ -1,5 +1,6 @@
 //! Slices: the next piece of the run, its start, or the next cell.
-ghost use Rattle.std.specs.Prelude.{◌≡◌, ◌<◌, ◌≤◌, ◌+◌, [], ◌∷◌, List, length, vec_capacity, IfOk, IfSome, Ok};
+ghost use Rattle.std.specs.Prelude.{◌≡◌, ◌<◌, ◌≤◌, ◌+◌, [], ◌∷◌, List, length, vec_capacity, IfOk};
+ghost use Rattle.std.specs.Prelude.{IfSome, Ok};
 ghost use Rattle.lab_core.specs.declared.run_state.RunState.TheVariants.{NoRun, Running};
 ghost use Rattle.kern_post.specs.Posts.{Keeps, posted};
 ghost use Rattle.kern_post.specs.declared.post.Post.{Post};
@@ -142,7 +143,8 @@ impl KernelState {
         requires room { HasRoom self.old }
         requires text { IfSome kit (λ k. length traffic.now ≤ vec_capacity k.text) }
         requires empty { IfSome kit (λ k. (k.text.items ≡ []) × (k.letters ≡ [])) }
-        ensures posts { (s : KernelStateOf) → IsKitOf s.connections s.work.current kit → Keeps s.posts self.old.store
+        ensures posts { (s : KernelStateOf) → IsKitOf s.connections s.work.current kit
+            → Keeps s.posts self.old.store
             → Keeps (posted unix_seconds (slice_letters_of s.connections s.work.current traffic.now outcome) s.posts)
             self.new.store }
         ensures rest { self.new ≡ record self.old { store = self.new.store } }

@@ -5,7 +5,8 @@ use Rattle.dap_inspect.proofs.before.before_instructions.Goals as goal
 
 pub loop-preserved : goal.loop-preserved
 loop-preserved c = λ b s.
-    ap (λ a. before_instructions b a (c.args.count - (c.loop.counter + 1))) (c.instruction_before-first.ensures b s)
+    ap (λ a. before_instructions b a (c.args.count - (c.loop.counter + 1)))
+    (c.instruction_before-first.ensures b s)
     ∙ sym (before-next b c.loop.first c.args.count c.loop.counter c.loop-test.true)
     ∙ c.loop.invariant b s
 

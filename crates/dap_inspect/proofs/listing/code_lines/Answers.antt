@@ -10,7 +10,8 @@ loop-preserved c = λ b s.
     let m = b.machine in
     let next = lines_from-next m c.loop.next c.args.count c.loop.counter c.loop-test.true in
     let left : lines_from m c.loop.next (c.args.count - c.loop.counter)
-    ≡ c.in_ok-line.line ∷ lines_from m c.after_instructions-next.result (c.args.count - (c.loop.counter + 1)) =
+    ≡ c.in_ok-line.line ∷ lines_from m c.after_instructions-next.result
+    (c.args.count - (c.loop.counter + 1)) =
     rw (c.in_ok-line.ensures b s, c.after_instructions-next.ensures b s, after_one m c.loop.next) next in
     made_more _ _ _ _ _ _ c.in_ok-push.ensures.ok left (c.loop.invariant b s)
 

@@ -15,7 +15,8 @@ loop-byte-preserved c =
     record {
       stands = λ b stands.
           let P : ℕ → Type 0 =
-          λ address. StandsFor lab (after (poke_of address (get_or bytes i 0)) (written start (take i bytes) b)) in
+          λ address. StandsFor lab (after (poke_of address (get_or bytes i 0))
+          (written start (take i bytes) b)) in
           subst (λ w. StandsFor lab w) (sym (written_more start bytes i 0 b c.loop-byte-test.true))
           (subst P inv.place (c.in_ok-write_byte.ensures.ok _ (inv.stands b stands)));
       place = let p = inv.place in omega (arith, p);

@@ -12,6 +12,7 @@ returns-clause-ok c inputs bytes past =
     let stands = subst (λ (d : DebuggerState). StandsFor d.session s) (sym c.self.view_is) past.session in
     past_more c.args.self.now _ inputs bytes (asks c.args.request c.args.file) c.in_ok-messages.messages
     c.self.inside.told.items c.push_reserved.new.self.items past (c.in_ok-messages.ensures.0 s stands)
-    (ap (λ (d : DebuggerState). d.sent) c.self.view_is) (ap (λ (d : DebuggerState). d.told) (sym c.self.view_is))
+    (ap (λ (d : DebuggerState). d.sent) c.self.view_is)
+    (ap (λ (d : DebuggerState). d.told) (sym c.self.view_is))
     (c.push_reserved.ensures.items
     ∙ ap (λ l. l ++ c.in_ok-messages.messages ∷ []) c.in_ok-reserve.ensures.items) refl

@@ -11,11 +11,13 @@ returns-in-Some c =
     let asked = c.args.asked.now in
     let file = c.args.file.now in
     let new = c.refuse.new.self in
-    takes_for asked (λ s. told_in c.args.caller (asking_unless (objection asked s) asked file s)) c.args.self.now new
+    takes_for asked (λ s. told_in c.args.caller
+    (asking_unless (objection asked s) asked file s)) c.args.self.now new
     c.refuse.result (
       λ s stands.
           let P : Option Text → Type 0 =
-          λ o. IfOk c.refuse.result (λ messages. Tells (told_in c.args.caller (asking_unless o asked file s)) messages
+          λ o. IfOk c.refuse.result (λ messages. Tells
+          (told_in c.args.caller (asking_unless o asked file s)) messages
           new) in
           subst P (c.in-Some.ensures.objection s stands) (c.refuse.ensures.0 s stands),
       c.refuse.ensures.1,

@@ -21,7 +21,8 @@ returns c = (
       record {
         outcome =
             ap (λ (r : Reply). r.outcome) c.succeed.ensures
-            ∙ ap (λ (found : List PlacedBreakpoint). Success (Breakpoints found)) (c.in_ok-points.ensures s stands);
+            ∙ ap (λ (found : List PlacedBreakpoint). Success (Breakpoints found))
+            (c.in_ok-points.ensures s stands);
         follow = ap (λ (r : Reply). r.follow) c.succeed.ensures;
         stands =
             subst (λ p. P p c.args.lines.now) path
@@ -33,4 +34,5 @@ returns c = (
 pub keep_lines-requires : goal.keep_lines-requires
 keep_lines-requires c =
     ap (λ (v : SessionFields). has_place c.in_ok-kept_path.kept_path v.settings.points.lists) c.arm_lines.ensures.rest
-    ∙ (ap (λ p. has_place p c.args.self.now.settings.points.lists) c.in_ok-kept_path.ensures ∙ c.requires.place)
+    ∙ (ap (λ p. has_place p c.args.self.now.settings.points.lists) c.in_ok-kept_path.ensures
+    ∙ c.requires.place)

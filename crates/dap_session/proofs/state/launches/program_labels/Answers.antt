@@ -12,4 +12,5 @@ returns c = λ b stands.
     let P : List ℕ → List (List ℕ) → Type 0 =
     λ ls names. IfOk c.labels_behind.result (λ found. found ≡ labels_behind ls names b) in
     subst (λ ls. P ls (take 256 points.functions)) lines
-    (subst (λ names. P c.lines_at.result.now names) c.functions.ensures.labels (c.labels_behind.ensures b stands))
+    (subst (λ names. P c.lines_at.result.now names) c.functions.ensures.labels
+    (c.labels_behind.ensures b stands))
