@@ -35,8 +35,8 @@ abbrev pub is_halt : Stepped → Bool
 is_halt stepped.Halted = true
 is_halt _ = false
 
--- What a step of this kind answered, which left the machine so: a call leaves SP at its slot and PC at its target, a
--- return SP two above its slot, and an undefined opcode changes nothing.
+-- What a step of this kind answered, which left the machine so: a call leaves SP at its slot and PC at its
+-- target, a return SP two above its slot, and an undefined opcode changes nothing.
 abbrev pub answer_of : Kind → MachineState → Stepped
 answer_of kind.Quiet m = stepped.Done
 answer_of kind.Moved m = stepped.Done
@@ -121,6 +121,10 @@ pub record IsWithoutPort (o : Outcome) (after : MachineState) (answer : Stepped)
   pub after_is : after ≡ o.after
   pub operation_is : o.operation ≡ None
   pub answer_is : answer ≡ o.answer
+
+-- what is left and the step's kind are those of this row's instruction, which asks no port
+abbrev pub Executes : Row → MachineState → MachineState → Kind → Type 0
+Executes r old new kind = IsWithoutPort (by_row r (λ _. 0) old) new (answer_of kind new)
 
 abbrev pub operation_list : Option PortOperation → List PortOperation
 operation_list None = []

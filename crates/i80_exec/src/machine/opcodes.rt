@@ -39,7 +39,7 @@ ghost use Rattle.i80_exec.specs.Step.{
   answer_of,
   is_arming,
   IsOutcome,
-  IsWithoutPort,
+  Executes,
   Performs,
   Settles,
 };
@@ -247,7 +247,7 @@ impl Machine {
         requires opcode { opcode ≡ byte_at self.old self.old.regs.pc }
         requires settled { is_arming self.old.regs.interrupts ≡ false }
         requires undefined { is_undefined (row opcode) ≡ true }
-        ensures outcome { IsWithoutPort (by_row (alias_row opcode) (λ _. 0) self.old) self.new (answer_of result self.new) }
+        ensures outcome { Executes (alias_row opcode) self.old self.new result }
         ensures settles { Settles result self.old self.new }
     {
         let m = self;
@@ -307,7 +307,7 @@ impl Machine {
         requires settled { is_arming self.old.regs.interrupts ≡ false }
         requires spare { 1 ≤ P.spare ports.old }
         ensures outcome { let outcome = by_row (row opcode) (P.answer (P.state ports.old)) self.old in
-            (IsWithoutPort (by_row (row opcode) (λ _. 0) self.old) self.new (answer_of result self.new) × (ports.new ≡ ports.old))
+            (Executes (row opcode) self.old self.new result × (ports.new ≡ ports.old))
             ⊎ (IsOutcome outcome self.new (answer_of result self.new)
             × Performs outcome.operation P.after (P.operations ports.old) (P.operations ports.new)
             (P.state ports.old) (P.state ports.new) (P.spare ports.old) (P.spare ports.new)) }
@@ -350,7 +350,8 @@ impl Machine {
         self.word_at(self.regs.pc.wrapping_add(1))
     }
 
-    /// Sets PC past an instruction of this size. What it does to the interrupt state is nothing, since that is settled.
+    /// Sets PC past an instruction of this size. What it does to the interrupt state is nothing, since that
+    /// is settled.
     #[inline(always)]
     fn advance(&mut self, size: u8)
         requires settled { is_arming self.old.regs.interrupts ≡ false }
@@ -532,7 +533,7 @@ impl Machine {
     #[inline(always)]
     fn jump_if(&mut self, cond: Cond) -> Kind
         requires settled { is_arming self.old.regs.interrupts ≡ false }
-        ensures outcome { IsWithoutPort (by_row (Word (JumpIf cond)) (λ _. 0) self.old) self.new (answer_of result self.new) }
+        ensures outcome { Executes (Word (JumpIf cond)) self.old self.new result }
         ensures settles { Settles result self.old self.new }
     {
         let target = self.operand_word();
@@ -546,7 +547,7 @@ impl Machine {
     #[inline(always)]
     fn call_if(&mut self, cond: Cond) -> Kind
         requires settled { is_arming self.old.regs.interrupts ≡ false }
-        ensures outcome { IsWithoutPort (by_row (Word (CallIf cond)) (λ _. 0) self.old) self.new (answer_of result self.new) }
+        ensures outcome { Executes (Word (CallIf cond)) self.old self.new result }
         ensures settles { Settles result self.old self.new }
     {
         let target = self.operand_word();
@@ -561,7 +562,7 @@ impl Machine {
     #[inline(always)]
     fn ret_if(&mut self, cond: Cond) -> Kind
         requires settled { is_arming self.old.regs.interrupts ≡ false }
-        ensures outcome { IsWithoutPort (by_row (Alone (RetIf cond)) (λ _. 0) self.old) self.new (answer_of result self.new) }
+        ensures outcome { Executes (Alone (RetIf cond)) self.old self.new result }
         ensures settles { Settles result self.old self.new }
     {
         self.advance(1);
@@ -578,7 +579,7 @@ impl Machine {
         requires opcode { opcode ≡ byte_at self.old self.old.regs.pc }
         requires settled { is_arming self.old.regs.interrupts ≡ false }
         requires high { opcode < 32 }
-        ensures outcome { IsWithoutPort (by_row (row opcode) (λ _. 0) self.old) self.new (answer_of result self.new) }
+        ensures outcome { Executes (row opcode) self.old self.new result }
         ensures settles { Settles result self.old self.new }
     {
         let m = self;
@@ -625,7 +626,7 @@ impl Machine {
         requires settled { is_arming self.old.regs.interrupts ≡ false }
         requires low { 32 ≤ opcode }
         requires high { opcode < 64 }
-        ensures outcome { IsWithoutPort (by_row (row opcode) (λ _. 0) self.old) self.new (answer_of result self.new) }
+        ensures outcome { Executes (row opcode) self.old self.new result }
         ensures settles { Settles result self.old self.new }
     {
         let m = self;
@@ -700,7 +701,7 @@ impl Machine {
         requires settled { is_arming self.old.regs.interrupts ≡ false }
         requires low { 64 ≤ opcode }
         requires high { opcode < 128 }
-        ensures outcome { IsWithoutPort (by_row (row opcode) (λ _. 0) self.old) self.new (answer_of result self.new) }
+        ensures outcome { Executes (row opcode) self.old self.new result }
         ensures settles { Settles result self.old self.new }
     {
         self.advance(1);
@@ -721,7 +722,7 @@ impl Machine {
         requires settled { is_arming self.old.regs.interrupts ≡ false }
         requires low { 128 ≤ opcode }
         requires high { opcode < 192 }
-        ensures outcome { IsWithoutPort (by_row (row opcode) (λ _. 0) self.old) self.new (answer_of result self.new) }
+        ensures outcome { Executes (row opcode) self.old self.new result }
         ensures settles { Settles result self.old self.new }
     {
         self.advance(1);
@@ -744,7 +745,7 @@ impl Machine {
         requires high { opcode < 224 }
         requires output { opcode ≢ 211 }
         requires input { opcode ≢ 219 }
-        ensures outcome { IsWithoutPort (by_row (row opcode) (λ _. 0) self.old) self.new (answer_of result self.new) }
+        ensures outcome { Executes (row opcode) self.old self.new result }
         ensures settles { Settles result self.old self.new }
     {
         let m = self;
@@ -789,7 +790,7 @@ impl Machine {
         requires settled { is_arming self.old.regs.interrupts ≡ false }
         requires low { 224 ≤ opcode }
         requires high { opcode < 256 }
-        ensures outcome { IsWithoutPort (by_row (row opcode) (λ _. 0) self.old) self.new (answer_of result self.new) }
+        ensures outcome { Executes (row opcode) self.old self.new result }
         ensures settles { Settles result self.old self.new }
     {
         let m = self;
@@ -849,8 +850,8 @@ fn reg_at(code: u8) -> Reg
     }
 }
 
-// It is inlined: a call in the loop that makes the steps, however cold, would take from it all registers that a
-// call doesn't keep.
+// It is inlined: a call in the loop that makes the steps, however cold, would take from it all registers that
+// a call doesn't keep.
 #[inline(always)]
 fn has_aliases(board: Board) -> bool
     ensures { result ≡ acts board }
