@@ -5,3 +5,9 @@ pub mod Spans
 pub mod Scan
 pub mod Spelled
 pub mod Strings
+pub mod Climbs
+pub mod Meaning
+pub mod Operands
+pub mod Shapes
+pub mod Trees
+pub mod OperandReadings

@@ -3,3 +3,9 @@ pub mod Numbers
 pub mod Spelling
 pub mod Texts
 pub mod Tokens
+pub mod Climb
+pub mod Commas
+pub mod Operators
+pub mod Reading
+pub mod Shape
+pub mod Words

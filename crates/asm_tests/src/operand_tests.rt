@@ -2,11 +2,11 @@
 use asm_expr::env::Env;
 use asm_expr::evaluation::{ExprFault, value};
 use asm_expr::expression::{Binary, Unary};
-use asm_operand::commas::{next_operand, pair, register, single, text};
-use asm_operand::expression::expression;
-use asm_operand::shape::is_expression;
-use asm_operand::strings::string_bytes;
-use asm_operand::words::misplaced_word;
+use asm_lex::commas::{next_operand, pair, register, single, text};
+use asm_lex::expression::expression;
+use asm_lex::shape::is_expression;
+use asm_lex::strings::string_bytes;
+use asm_lex::words::misplaced_word;
 use asm_syntax::fault::{FaultKind, LineFault};
 use asm_syntax::keyword::{Keyword, Mnemonic, RegisterWord};
 use asm_syntax::token::{Placed, Token, Word};

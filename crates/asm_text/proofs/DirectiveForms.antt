@@ -17,12 +17,12 @@ use Rattle.asm_syntax.specs.declared.statement.Data.TheVariants as datum
 use Rattle.asm_syntax.specs.declared.statement.Operand.{Operand}
 use Rattle.asm_syntax.specs.Lexemes.{Lexeme, Piece, Text}
 use Rattle.asm_syntax.specs.Outcome.{Fault, ◌>>=◌}
-use Rattle.asm_operand.specs.Climb.{expression, first_column}
-use Rattle.asm_operand.specs.Commas.{is_comma, onto_first, operands_of, split_commas, text_in, text_of}
-use Rattle.asm_operand.specs.Operators.{number_of}
-use Rattle.asm_operand.specs.Reading.{Reads}
-use Rattle.asm_operand.specs.Shape.{is_expression, shape}
-use Rattle.asm_operand.proofs.Meaning.{expression_is, shape_is}
+use Rattle.asm_lex.specs.Climb.{expression, first_column}
+use Rattle.asm_lex.specs.Commas.{is_comma, onto_first, operands_of, split_commas, text_in, text_of}
+use Rattle.asm_lex.specs.Operators.{number_of}
+use Rattle.asm_lex.specs.Reading.{Reads}
+use Rattle.asm_lex.specs.Shape.{is_expression, shape}
+use Rattle.asm_lex.proofs.Meaning.{expression_is, shape_is}
 use Rattle.asm_text.specs.Faults.{IsDeep}
 use Rattle.asm_text.specs.Forms.{is_data, data_by, data_at, each_of, some_operands, end_of}
 use Rattle.asm_text.specs.Forms.{only_expression, directive_of}

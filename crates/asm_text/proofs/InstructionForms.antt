@@ -16,9 +16,9 @@ use Rattle.asm_syntax.specs.declared.statement.Operand.{Operand}
 use Rattle.i80_rows.specs.declared.instruction.WordOperation.TheVariants.{Lxi}
 use Rattle.asm_syntax.specs.Lexemes.{Piece}
 use Rattle.asm_syntax.specs.Outcome.{Fault, ◌>>=◌}
-use Rattle.asm_operand.specs.Climb.{expression, first_column}
-use Rattle.asm_operand.specs.Commas.{register_of, pair, split_commas}
-use Rattle.asm_operand.specs.Reading.{Reads}
+use Rattle.asm_lex.specs.Climb.{expression, first_column}
+use Rattle.asm_lex.specs.Commas.{register_of, pair, split_commas}
+use Rattle.asm_lex.specs.Reading.{Reads}
 use Rattle.asm_text.specs.Faults.{IsDeep}
 use Rattle.asm_text.specs.Forms.{fitting, named_by, two_operands, move_of, move_between, instruction_of}
 use Rattle.asm_text.specs.Forms.{register_instruction, pair_instruction, index_instruction, stack_instruction}

@@ -15,8 +15,8 @@ use Rattle.asm_syntax.specs.declared.statement.Operation.{Operation}
 use Rattle.asm_syntax.specs.Lexemes.{Lexeme, Piece, Name, Keyword, Overlong}
 use Rattle.asm_syntax.specs.Outcome.{Fault, ComesBefore, ◌>>=◌}
 use Rattle.asm_syntax.proofs.FirstFaults.{fault_is}
-use Rattle.asm_operand.specs.Commas.{split_commas}
-use Rattle.asm_operand.specs.Words.{misplaced_from, misplaced_word}
+use Rattle.asm_lex.specs.Commas.{split_commas}
+use Rattle.asm_lex.specs.Words.{misplaced_from, misplaced_word}
 use Rattle.asm_text.specs.declared.lines.Definition.{Definition}
 use Rattle.asm_text.specs.Fields.{Field, Empty, Defines, Does, field_by, field_of}
 use Rattle.asm_text.specs.Faults.{IsNoName, IsNoOperation, IsMisplaced, StandsAfter, rank}

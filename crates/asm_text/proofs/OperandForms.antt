@@ -12,12 +12,12 @@ use Rattle.asm_syntax.specs.declared.keyword.RegisterWord.{RegisterWord}
 use Rattle.asm_syntax.specs.declared.statement.Operand.{Operand}
 use Rattle.asm_syntax.specs.Lexemes.{Lexeme, Piece, Keyword}
 use Rattle.asm_syntax.specs.Outcome.{Fault, ◌>>=◌}
-use Rattle.asm_operand.specs.Climb.{expression, first_column}
-use Rattle.asm_operand.specs.Commas.{register_in, register_of, single, split_commas}
-use Rattle.asm_operand.specs.Reading.{Reads, within_depth}
-use Rattle.asm_operand.specs.Shape.{is_expression, shape}
-use Rattle.asm_operand.proofs.Meaning.{expression_is, shape_is, no_expression}
-use Rattle.asm_operand.proofs.Operands.{operands_step}
+use Rattle.asm_lex.specs.Climb.{expression, first_column}
+use Rattle.asm_lex.specs.Commas.{register_in, register_of, single, split_commas}
+use Rattle.asm_lex.specs.Reading.{Reads, within_depth}
+use Rattle.asm_lex.specs.Shape.{is_expression, shape}
+use Rattle.asm_lex.proofs.Meaning.{expression_is, shape_is, no_expression}
+use Rattle.asm_lex.proofs.Operands.{operands_step}
 use Rattle.asm_text.specs.Faults.{IsDeep}
 use Rattle.asm_text.specs.Forms.{fitting, named_by, no_operand, only_expression, only_named}
 use Rattle.asm_text.specs.Grammar.{Names, Tells, Only}

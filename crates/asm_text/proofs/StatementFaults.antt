@@ -16,7 +16,7 @@ use Rattle.asm_syntax.proofs.FirstFaults.{fault_is}
 use Rattle.asm_lex.specs.Spelling.{SpellsUpTo, IsToken, Begins}
 use Rattle.asm_lex.specs.Tokens.{tokens_of}
 use Rattle.asm_lex.proofs.Readings.{tokens_spelled, fault_broken}
-use Rattle.asm_operand.specs.Operators.{is_sign}
+use Rattle.asm_lex.specs.Operators.{is_sign}
 use Rattle.asm_text.specs.declared.lines.Definition.{Definition}
 use Rattle.asm_text.specs.Fields.{Field, Empty, Defines, Does, field_by, field_of, label_field}
 use Rattle.asm_text.specs.Faults.{IsNoName, StandsAfter, StandsIn, StandsOn, rank, IsFirst, WrongLabel}

@@ -4,8 +4,8 @@ use Rattle.std.proofs.Common.{refl, sym, ap, ◌∙◌}
 use Rattle.std.proofs.Common.{Option, Some, None, arith, subst}
 use Rattle.std.proofs.lemmas.Bool.{false≢true}
 use Rattle.asm_syntax.specs.Lexemes.{Piece}
-use Rattle.asm_operand.specs.Commas.{is_comma}
-use Rattle.asm_operand.specs.Words.{leads, is_misplaced, misplaced_from, misplaced_word}
+use Rattle.asm_lex.specs.Commas.{is_comma}
+use Rattle.asm_lex.specs.Words.{leads, is_misplaced, misplaced_from, misplaced_word}
 use Rattle.asm_text.specs.Faults.{IsMisplaced, ends_with}
 use Rattle.asm_text.proofs.DirectiveForms.{Rises}
 

@@ -10,10 +10,10 @@ use Rattle.asm_syntax.specs.declared.statement.Operand.{Operand}
 use Rattle.asm_syntax.specs.Lexemes.{Lexeme, Piece, Name, Keyword, Overlong}
 use Rattle.asm_syntax.specs.Outcome.{Fault, ComesBefore}
 use Rattle.asm_lex.specs.Spelling.{Spells, Breaks}
-use Rattle.asm_operand.specs.Climb.{first_column}
-use Rattle.asm_operand.specs.Commas.{is_comma}
-use Rattle.asm_operand.specs.Reading.{Reads}
-use Rattle.asm_operand.specs.Words.{leads, is_misplaced}
+use Rattle.asm_lex.specs.Climb.{first_column}
+use Rattle.asm_lex.specs.Commas.{is_comma}
+use Rattle.asm_lex.specs.Reading.{Reads}
+use Rattle.asm_lex.specs.Words.{leads, is_misplaced}
 use Rattle.asm_text.specs.Fields.{Field, Empty, Defines, Does, operands_in, operand_pieces}
 use Rattle.asm_text.specs.Fields.{label_of, operation_of}
 use Rattle.asm_text.specs.Grammar.{Only, Tells, ActionSays}

@@ -3,8 +3,8 @@
 use Rattle.std.specs.Prelude.{ℕ, List, [], ◌∷◌, Option, Some, None, if◌then◌else◌}
 use Rattle.asm_syntax.specs.Ascii.{colon}
 use Rattle.asm_syntax.specs.Lexemes.{Piece}
-use Rattle.asm_operand.specs.Operators.{is_sign}
-use Rattle.asm_operand.specs.Commas.{split_commas}
+use Rattle.asm_lex.specs.Operators.{is_sign}
+use Rattle.asm_lex.specs.Commas.{split_commas}
 use Rattle.asm_text.specs.declared.lines.Definition.{Definition}
 use Rattle.asm_text.specs.Lines.{definition_in}
 

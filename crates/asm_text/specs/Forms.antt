@@ -35,9 +35,9 @@ use Rattle.asm_syntax.specs.declared.statement.Action.{Action}
 use Rattle.asm_syntax.specs.declared.statement.Action.TheVariants as action
 use Rattle.asm_syntax.specs.Lexemes.{Piece}
 use Rattle.asm_syntax.specs.Outcome.{Fault, ◌>>=◌}
-use Rattle.asm_operand.specs.Commas.{split_commas, single, pair, register_of, text_of}
-use Rattle.asm_operand.specs.Shape.{is_expression}
-use Rattle.asm_operand.specs.Climb.{expression}
+use Rattle.asm_lex.specs.Commas.{split_commas, single, pair, register_of, text_of}
+use Rattle.asm_lex.specs.Shape.{is_expression}
+use Rattle.asm_lex.specs.Climb.{expression}
 use Rattle.asm_text.specs.Registers as word
 
 -- a value that fits, or the fault of an operation at this column

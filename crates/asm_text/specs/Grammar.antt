@@ -26,8 +26,8 @@ use Rattle.asm_syntax.specs.declared.statement.Statement.{Statement}
 use Rattle.i80_rows.specs.declared.instruction.WordOperation.TheVariants.{Lxi}
 use Rattle.asm_syntax.specs.Lexemes.{Lexeme, Piece, Name, Keyword, Text}
 use Rattle.asm_lex.specs.Spelling.{Spells}
-use Rattle.asm_operand.specs.Climb.{first_column}
-use Rattle.asm_operand.specs.Reading.{Reads}
+use Rattle.asm_lex.specs.Climb.{first_column}
+use Rattle.asm_lex.specs.Reading.{Reads}
 use Rattle.asm_text.specs.Fields.{Field, Empty, Defines, Does, operands_in, label_of, operation_of}
 use Rattle.asm_text.specs.Forms.{register_instruction, pair_instruction, index_instruction}
 use Rattle.asm_text.specs.Forms.{stack_instruction, move_between}

@@ -18,8 +18,8 @@ use Rattle.asm_syntax.specs.Lexemes as lexeme
 use Rattle.asm_syntax.specs.Lexemes.{Lexeme, Piece}
 use Rattle.asm_syntax.specs.Outcome.{Fault, ◌>>=◌}
 use Rattle.asm_lex.specs.Tokens.{tokens_of}
-use Rattle.asm_operand.specs.Operators.{is_sign}
-use Rattle.asm_operand.specs.Words.{misplaced_word}
+use Rattle.asm_lex.specs.Operators.{is_sign}
+use Rattle.asm_lex.specs.Words.{misplaced_word}
 use Rattle.asm_text.specs.declared.lines.Definition.{Definition}
 use Rattle.asm_text.specs.declared.lines.Definition.TheVariants as definition
 use Rattle.asm_text.specs.Forms.{instruction_of, directive_of, only_expression}

@@ -6,8 +6,8 @@ ghost use Rattle.asm_text.specs.Forms.{no_operand, one_operand, two_operands, on
 ghost use Rattle.asm_text.specs.Forms.{only_named};
 
 use crate::registers::{Named, fit, named_operand};
-use asm_operand::commas::{pair, single};
-use asm_operand::expression::expression;
+use asm_lex::commas::{pair, single};
+use asm_lex::expression::expression;
 use asm_syntax::fault::{FaultKind, LineFault};
 use asm_syntax::statement::Operand;
 use asm_syntax::token::Placed;

@@ -8,7 +8,7 @@ ghost use Rattle.asm_text.specs.Forms.{stack_instruction, instruction_of};
 
 use crate::forms::{no_operand, only_expression, only_named, two_operands};
 use crate::registers::{fit, named_operand, register_of};
-use asm_operand::expression::expression;
+use asm_lex::expression::expression;
 use asm_syntax::fault::LineFault;
 use asm_syntax::keyword::{
     IndexOperation, Mnemonic, PairOperation, RegisterOperation, StackOperation,

@@ -6,7 +6,7 @@ ghost use Rattle.asm_syntax.specs.declared.keyword.RegisterWord.{RegisterWord};
 ghost use Rattle.asm_text.specs.Registers.{reg_of, register_of, pair_of, index_of, stack_of};
 ghost use Rattle.asm_text.specs.Forms.{fitting, named_by};
 
-use asm_operand::commas::register;
+use asm_lex::commas::register;
 use asm_syntax::fault::{FaultKind, LineFault};
 use asm_syntax::keyword::RegisterWord;
 use asm_syntax::token::Placed;

@@ -4,10 +4,10 @@ use Rattle.std.specs.Str.{bytes_eq}
 use Rattle.base_text.specs.Bytes.{Text}
 use Rattle.i80_rows.specs.declared.instruction.Pair.TheVariants as pair
 use Rattle.i80_exec.specs.State.{MachineState, byte_at, get_pair}
-use Rattle.lab_poke.specs.declared.place.Place.{Place}
-use Rattle.lab_poke.specs.declared.place.Place.TheVariants as place
-use Rattle.lab_poke.specs.Places.{register_named}
-use Rattle.lab_poke.specs.Values.{text_at}
+use Rattle.lab_views.specs.declared.place.Place.{Place}
+use Rattle.lab_views.specs.declared.place.Place.TheVariants as place
+use Rattle.lab_views.specs.Places.{register_named}
+use Rattle.lab_views.specs.Values.{text_at}
 
 -- the place of a name in upper case: that of a register, or for M the byte at HL
 abbrev pub place_named : MachineState → Text → Option Place

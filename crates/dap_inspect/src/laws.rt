@@ -1,8 +1,8 @@
 //! Laws of the definitions.
 ghost use Rattle.std.specs.Prelude.{◌≡◌, ℕ, List, Some, true};
 ghost use Rattle.base_text.specs.Bytes.{Text};
-ghost use Rattle.lab_breaks.specs.declared.lists.BreakpointList.{BreakpointList};
-ghost use Rattle.lab_breaks.specs.Breakpoints.{has_breakpoint, is_met};
+ghost use Rattle.lab_image.specs.declared.lists.BreakpointList.{BreakpointList};
+ghost use Rattle.lab_image.specs.Breakpoints.{has_breakpoint, is_met};
 ghost use Rattle.lab_core.specs.Board.{Board};
 ghost use Rattle.dap_inspect.specs.declared.label.SourceLine.{SourceLine};
 ghost use Rattle.dap_inspect.specs.Labels.{symbol_value, line_of_label};

@@ -2,7 +2,7 @@
 ghost use Rattle.std.specs.Prelude.{◌≡◌, ◌+◌, ◌*◌, ◌≤◌, IfOk};
 ghost use Rattle.i80_rows.specs.declared.instruction.Pair.TheVariants as pair;
 ghost use Rattle.i80_exec.specs.State.{get_pair};
-ghost use Rattle.lab_poke.specs.Values.{largest_at};
+ghost use Rattle.lab_views.specs.Values.{largest_at};
 ghost use Rattle.lab_core.specs.Board.{Board};
 ghost use Rattle.lab_core.specs.Labs.{StandsFor};
 ghost use Rattle.dap_inspect.specs.Registers as registers;
@@ -10,8 +10,8 @@ ghost use Rattle.dap_inspect.specs.Registers as registers;
 use base_text::text::Text;
 use i80_exec::registers::Registers;
 use lab_core::lab::Lab;
-use lab_poke::place::{Place, place_of};
-use lab_poke::value::text_of;
+use lab_views::place::{Place, place_of};
+use lab_views::value::text_of;
 use std::alloc::{AllocError, Global};
 
 /// The scope that shows the registers.

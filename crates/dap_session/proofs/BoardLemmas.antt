@@ -8,9 +8,9 @@ use Rattle.lab_views.specs.declared.view.View.{View}
 use Rattle.lab_shown.specs.declared.shown.Shown.{Shown}
 use Rattle.lab_views.specs.declared.fault.ViewFault.{ViewFault}
 use Rattle.lab_views.specs.Views.{shown}
-use Rattle.lab_poke.specs.Places.{place_named}
-use Rattle.lab_poke.specs.Values.{value_spelled}
-use Rattle.lab_sources.specs.Sources.{place_of, source_at}
+use Rattle.lab_views.specs.Places.{place_named}
+use Rattle.lab_views.specs.Values.{value_spelled}
+use Rattle.lab_image.specs.Sources.{place_of, source_at}
 use Rattle.lab_core.specs.declared.answer.Answer.TheVariants as answer
 use Rattle.lab_core.specs.declared.event.Event.{Event}
 use Rattle.lab_core.specs.declared.event.Event.TheVariants as event

@@ -3,7 +3,7 @@ use Rattle.std.specs.Prelude.{ℕ, List, take, Bool, ◌&&◌, Option, Some, Non
 use Rattle.std.specs.Prelude.{Ok, Err, codes, option_to_list, if◌then◌else◌}
 use Rattle.base_text.specs.Bytes.{Text}
 use Rattle.lab_core.specs.Board.{Board}
-use Rattle.lab_sources.specs.Sources.{line_count}
+use Rattle.lab_image.specs.Sources.{line_count}
 use Rattle.dap_editor.specs.declared.message.EditorStop.TheVariants.{Entry}
 use Rattle.dap_editor.specs.declared.message.PlacedBreakpoint.{PlacedBreakpoint}
 use Rattle.dap_editor.specs.declared.request.Launch.{Launch as LaunchOf}

@@ -4,8 +4,8 @@ ghost use Rattle.dap_session.specs.Evaluations.{behind, byte_spelled, byte_word,
 
 use base_text::text::Text;
 use dap_talk::command::DapCommand;
-use lab_poke::place::Place;
-use lab_poke::value::value_of;
+use lab_views::place::Place;
+use lab_views::value::value_of;
 use std::alloc::{AllocError, Global};
 
 /// What a line of the prompt is.

@@ -22,10 +22,10 @@ use Rattle.asm_syntax.specs.declared.statement.Action.TheVariants as action
 use Rattle.asm_syntax.specs.declared.statement.Statement.{Statement}
 use Rattle.asm_syntax.specs.Lexemes.{Keyword, Number, Sign, Piece}
 use Rattle.asm_lex.specs.Tokens.{tokens_of}
-use Rattle.asm_operand.specs.Climb.{made, operand_at, chain, expr_at, expression}
-use Rattle.asm_operand.specs.Commas.{operands_of}
-use Rattle.asm_operand.specs.Shape.{shape}
-use Rattle.asm_operand.specs.Words.{misplaced_from}
+use Rattle.asm_lex.specs.Climb.{made, operand_at, chain, expr_at, expression}
+use Rattle.asm_lex.specs.Commas.{operands_of}
+use Rattle.asm_lex.specs.Shape.{shape}
+use Rattle.asm_lex.specs.Words.{misplaced_from}
 use Rattle.asm_text.specs.Forms.{register_instruction, pair_instruction, index_instruction, stack_instruction}
 use Rattle.asm_text.specs.Forms.{move_between, instruction_of, each_of, directive_of}
 use Rattle.asm_text.specs.Lines.{label_at, action_of, operation_at, line_of}

@@ -1,5 +1,5 @@
 //! Connection files as Jupyter messaging 5.4 describes them, each member in turn missing or wrong.
-use jup_connection::connection_file::{ConnectionFile, FileFault};
+use jup_wire::connection_file::{ConnectionFile, FileFault};
 use std::alloc::Global;
 use std::net::Ipv4Addr;
 use std::process::Abort;

@@ -4,3 +4,5 @@ pub mod WireLemmas
 pub mod VerdictLemmas
 pub mod SealLemmas
 pub mod PartLemmas
+pub mod DateLemmas
+pub mod AddressLemmas

@@ -5,3 +5,5 @@ pub mod Wire
 pub mod Fault
 pub mod Seal
 pub mod Header
+pub mod Dates
+pub mod ConnectionFiles

@@ -9,7 +9,7 @@ use Rattle.base_streams.specs.Told.{Gave}
 use Rattle.lab_turn.specs.History.{PassState, TurnstileState, IsHistoryOf, calls_of}
 use Rattle.kern_core.specs.declared.call.Call.{Call}
 use Rattle.zmtp_wire.specs.Stream.{DecoderState}
-use Rattle.zmtp_peer.specs.declared.handshake.Peer.{Peer}
+use Rattle.zmtp_wire.specs.declared.handshake.Peer.{Peer}
 use Rattle.kern_core.specs.declared.fault.KernelFault.{KernelFault}
 use Rattle.kern_net.specs.declared.end.PumpEnd.{PumpEnd}
 use Rattle.kern_net.specs.declared.end.PumpEnd.TheVariants as end

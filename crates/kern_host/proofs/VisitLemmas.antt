@@ -8,9 +8,9 @@ use Rattle.base_streams.specs.States.{InletState, OutletState}
 use Rattle.zmtp_wire.specs.Wire.{Bytes}
 use Rattle.zmtp_wire.specs.declared.role.Role.{Role}
 use Rattle.zmtp_wire.specs.declared.head.Stage.TheVariants.{Traffic}
-use Rattle.zmtp_peer.specs.declared.handshake.Peer.{Peer}
-use Rattle.zmtp_peer.specs.Receiving.{Received}
-use Rattle.zmtp_peer.specs.Sending as hello
+use Rattle.zmtp_wire.specs.declared.handshake.Peer.{Peer}
+use Rattle.zmtp_wire.specs.Receiving.{Received}
+use Rattle.zmtp_wire.specs.Sending as hello
 use Rattle.jup_wire.specs.declared.channel.Channel.{Channel}
 use Rattle.lab_turn.specs.History.{PassState, calls_of}
 use Rattle.lab_turn.proofs.HistoryLemmas.{prefix_self, prefix_trans}

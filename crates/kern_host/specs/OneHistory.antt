@@ -6,8 +6,8 @@ use Rattle.base_streams.specs.States.{InletState, OutletState, IsReadable, IsWri
 use Rattle.base_streams.specs.Told.{Gave, WasRead}
 use Rattle.zmtp_wire.specs.Wire.{Bytes, Messages}
 use Rattle.zmtp_wire.specs.Stream.{DecoderState, Completes}
-use Rattle.zmtp_peer.specs.declared.handshake.Peer.{Peer}
-use Rattle.zmtp_peer.specs.Receiving.{most_reads}
+use Rattle.zmtp_wire.specs.declared.handshake.Peer.{Peer}
+use Rattle.zmtp_wire.specs.Receiving.{most_reads}
 use Rattle.lab_turn.specs.History.{PassState, calls_of}
 use Rattle.kern_post.specs.declared.post.Post.{Post}
 use Rattle.kern_core.specs.declared.call.Call.{Call}

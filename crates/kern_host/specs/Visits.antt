@@ -5,11 +5,11 @@ use Rattle.zmtp_wire.specs.Wire.{Bytes}
 use Rattle.zmtp_wire.specs.declared.role.Role.{Role}
 use Rattle.zmtp_wire.specs.declared.role.Role.TheVariants.{Pub, Router}
 use Rattle.zmtp_wire.specs.declared.head.Stage.TheVariants.{Traffic}
-use Rattle.zmtp_peer.specs.declared.handshake.Peer.{Peer}
-use Rattle.zmtp_peer.specs.declared.fault.PeerFault.{PeerFault}
-use Rattle.zmtp_peer.specs.Receiving.{Received}
-use Rattle.zmtp_peer.specs.Ends.{NoPeer, Blames}
-use Rattle.zmtp_peer.specs.Sending as hello
+use Rattle.zmtp_wire.specs.declared.handshake.Peer.{Peer}
+use Rattle.zmtp_wire.specs.declared.peer_fault.PeerFault.{PeerFault}
+use Rattle.zmtp_wire.specs.Receiving.{Received}
+use Rattle.zmtp_wire.specs.Ends.{NoPeer, Blames}
+use Rattle.zmtp_wire.specs.Sending as hello
 use Rattle.jup_wire.specs.declared.channel.Channel.{Channel}
 use Rattle.jup_wire.specs.declared.channel.Channel.TheVariants.{Iopub}
 use Rattle.lab_turn.specs.History.{PassState, calls_of}

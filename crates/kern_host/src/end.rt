@@ -2,7 +2,7 @@
 
 use kern_core::fault::KernelFault;
 use kern_net::end::PumpEnd;
-use zmtp_peer::fault::PeerFault;
+use zmtp_wire::peer_fault::PeerFault;
 
 /// Why no Leave was made.
 #[derive(Clone, Copy, PartialEq, Eq)]

@@ -17,7 +17,7 @@ use std::alloc::Global;
 use std::sync::Wait;
 use std::thread;
 use std::thread::Threads;
-use zmtp_peer::handshake::Peer;
+use zmtp_wire::handshake::Peer;
 
 /// The routes of a connection, and the number of the first post that may be for it.
 #[derive(Clone, Copy)]

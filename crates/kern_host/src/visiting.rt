@@ -29,7 +29,7 @@ use std::alloc::{AllocError, Global};
 use std::rt::Clock;
 use std::sync::Wait;
 use std::thread::Threads;
-use zmtp_peer::handshake::{Peer, handshake};
+use zmtp_wire::handshake::{Peer, handshake};
 use zmtp_wire::role::Role;
 
 // The side that the kernel is on a channel.

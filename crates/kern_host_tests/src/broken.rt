@@ -14,7 +14,7 @@ use std::process::Abort;
 use std::rt::Clock;
 use std::sync::Wait;
 use std::thread::Threads;
-use zmtp_peer::fault::PeerFault;
+use zmtp_wire::peer_fault::PeerFault;
 
 // How often a gate is polled before it says no.
 const POLLS: u64 = 2;

@@ -13,8 +13,8 @@ use Rattle.lab_turn.specs.History.{PassState}
 use Rattle.base_streams.specs.States.{OutletState, IsWritable}
 use Rattle.base_streams.specs.Told.{TookFront}
 use Rattle.base_streams.proofs.TellLemmas.{told_on}
-use Rattle.zmtp_peer.proofs.ReceivingLemmas.{told_none}
-use Rattle.zmtp_peer.proofs.SendingLemmas.{front_all, front_on}
+use Rattle.zmtp_wire.proofs.ReceivingLemmas.{told_none}
+use Rattle.zmtp_wire.proofs.SendingLemmas.{front_all, front_on}
 use Rattle.kern_post.specs.declared.post.Post.{Post}
 use Rattle.kern_post.specs.Posts.{is_to}
 use Rattle.kern_core.specs.declared.call.Call.{Call}

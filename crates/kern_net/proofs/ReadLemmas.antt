@@ -6,10 +6,10 @@ use Rattle.base_streams.specs.States.{InletState, IsReadable}
 use Rattle.base_streams.specs.Told.{Gave, WasRead}
 use Rattle.base_streams.proofs.TellLemmas.{told_on, counts_on, counts_none}
 use Rattle.zmtp_wire.specs.Stream.{DecoderState, StandsFor, Completes}
-use Rattle.zmtp_peer.specs.declared.handshake.Peer.{Peer}
-use Rattle.zmtp_peer.proofs.EchoLemmas.{completes_none}
-use Rattle.zmtp_peer.proofs.ReceivingLemmas.{told_none, most_at, most_below, most_is}
-use Rattle.zmtp_peer.specs.Receiving.{most_reads}
+use Rattle.zmtp_wire.specs.declared.handshake.Peer.{Peer}
+use Rattle.zmtp_wire.proofs.EchoLemmas.{completes_none}
+use Rattle.zmtp_wire.proofs.ReceivingLemmas.{told_none, most_at, most_below, most_is}
+use Rattle.zmtp_wire.specs.Receiving.{most_reads}
 use Rattle.lab_turn.specs.History.{PassState}
 use Rattle.kern_core.specs.declared.call.Call.{Call}
 use Rattle.kern_net.specs.declared.end.PumpEnd.{PumpEnd}

@@ -1,8 +1,8 @@
 -- How a peer's fault, or a call's, ends a thread's work.
 use Rattle.kern_core.specs.declared.fault.KernelFault.{KernelFault}
 use Rattle.kern_core.specs.declared.fault.KernelFault.TheVariants as fault
-use Rattle.zmtp_peer.specs.declared.fault.PeerFault.{PeerFault}
-use Rattle.zmtp_peer.specs.declared.fault.PeerFault.TheVariants as peer
+use Rattle.zmtp_wire.specs.declared.peer_fault.PeerFault.{PeerFault}
+use Rattle.zmtp_wire.specs.declared.peer_fault.PeerFault.TheVariants as peer
 use Rattle.kern_net.specs.declared.end.PumpEnd.{PumpEnd}
 use Rattle.kern_net.specs.declared.end.PumpEnd.TheVariants as end
 

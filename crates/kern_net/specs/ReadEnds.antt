@@ -4,7 +4,7 @@ use Rattle.std.specs.Prelude.{Err}
 use Rattle.base_streams.specs.States.{InletState, IsReadable}
 use Rattle.lab_turn.specs.History.{PassState}
 use Rattle.zmtp_wire.specs.Stream.{DecoderState}
-use Rattle.zmtp_peer.specs.Receiving.{most_reads}
+use Rattle.zmtp_wire.specs.Receiving.{most_reads}
 use Rattle.kern_core.specs.declared.call.Call.{Call}
 use Rattle.kern_core.specs.declared.call.Call.TheVariants.{Subscribe, Arrive}
 use Rattle.kern_core.specs.declared.call.Reply.{Reply}

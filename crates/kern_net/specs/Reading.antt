@@ -5,8 +5,8 @@ use mathlib.Core.List.{IsPrefix}
 use Rattle.base_streams.specs.Told.{Gave, WasRead}
 use Rattle.lab_turn.specs.History.{PassState}
 use Rattle.zmtp_wire.specs.Stream.{DecoderState, Completes}
-use Rattle.zmtp_peer.specs.declared.handshake.Peer.{Peer}
-use Rattle.zmtp_peer.specs.Receiving.{most_reads}
+use Rattle.zmtp_wire.specs.declared.handshake.Peer.{Peer}
+use Rattle.zmtp_wire.specs.Receiving.{most_reads}
 use Rattle.kern_core.specs.declared.call.Call.{Call}
 use Rattle.kern_core.specs.declared.call.Reply.{Reply}
 use Rattle.kern_net.specs.declared.end.PumpEnd.{PumpEnd}

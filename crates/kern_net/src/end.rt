@@ -1,8 +1,8 @@
 //! How the worker or a pump ends.
 
 use kern_core::fault::KernelFault;
-use zmtp_peer::fault::PeerFault;
 use zmtp_wire::fault::StreamFault;
+use zmtp_wire::peer_fault::PeerFault;
 
 /// How the worker or a pump ends.
 #[derive(Clone, Copy, PartialEq, Eq)]

@@ -15,9 +15,9 @@ use jup_wire::channel::Channel;
 use kern_desk::seated::{Desk, Pass};
 use std::alloc::Global;
 use std::sync::Wait;
-use zmtp_peer::feeding::{Fed, feed};
-use zmtp_peer::handshake::Peer;
 use zmtp_wire::decoder::Decoder;
+use zmtp_wire::feeding::{Fed, feed};
+use zmtp_wire::handshake::Peer;
 use zmtp_wire::messages::Messages;
 
 /// Where messages come from, how they are signed, and at which desk their calls are made.

@@ -15,8 +15,8 @@ use kern_net::end::PumpEnd;
 use std::alloc::Global;
 use std::process::Abort;
 use std::sync::Wait;
-use zmtp_peer::fault::PeerFault;
 use zmtp_wire::fault::StreamFault;
+use zmtp_wire::peer_fault::PeerFault;
 
 // A client and what it writes, how the conversation goes, how many bytes are written, and the calls in the
 // journal: J for a Join, U for a Subscribe, A for an Arrive, F for a Fetch.

@@ -16,7 +16,7 @@ use kern_net::end::PumpEnd;
 use std::alloc::Global;
 use std::process::Abort;
 use std::sync::Wait;
-use zmtp_peer::fault::PeerFault;
+use zmtp_wire::peer_fault::PeerFault;
 
 // How many entries the journal may have, how often `before` and `idle` say yes, how the worker ends, what
 // they have said then, how often yes and no, and the calls in the journal: S for a Slice.

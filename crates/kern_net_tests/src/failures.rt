@@ -10,7 +10,7 @@ use kern_net::end::PumpEnd;
 use std::alloc::Global;
 use std::process::Abort;
 use std::sync::Wait;
-use zmtp_peer::fault::PeerFault;
+use zmtp_wire::peer_fault::PeerFault;
 
 const UNREAD: Course = Course::Unmet(PeerFault::ReadFailed);
 

@@ -17,7 +17,7 @@ use kern_net::worker::worker;
 use std::alloc::Global;
 use std::process::Abort;
 use std::sync::Wait;
-use zmtp_peer::handshake::Peer;
+use zmtp_wire::handshake::Peer;
 
 // What stands for a call in the text of a journal.
 fn letter_of(call: &Call) -> u8 {

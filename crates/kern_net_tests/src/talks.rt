@@ -10,8 +10,8 @@ use kern_net::end::PumpEnd;
 use std::alloc::Global;
 use std::process::Abort;
 use std::sync::Wait;
-use zmtp_peer::fault::PeerFault;
-use zmtp_peer::handshake::handshake;
+use zmtp_wire::handshake::handshake;
+use zmtp_wire::peer_fault::PeerFault;
 use zmtp_wire::role::Role;
 
 /// How much a reader and a writer move a call, and after how many calls they fail.

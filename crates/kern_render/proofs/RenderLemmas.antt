@@ -8,10 +8,10 @@ use Rattle.jup_wire.proofs.PartLemmas.{same_parts, text_is}
 use Rattle.kern_post.specs.declared.post.Post.{Post}
 use Rattle.kern_render.specs.Json.{content_json}
 use Rattle.kern_render.proofs.FloatLemmas.{content_has_no_float}
-use Rattle.jup_date.specs.Dates.{IsDate, last_moment}
+use Rattle.jup_wire.specs.Dates.{IsDate, last_moment}
 use Rattle.kern_render.specs.Rendering.{post_header, parts_of, rendered, IsRendered}
 use Rattle.kern_render.specs.Drafts.{IsDraftOf}
-use Rattle.jup_date.proofs.DateLemmas.{one_date}
+use Rattle.jup_wire.proofs.DateLemmas.{one_date}
 
 pub sealed_is_rendered : (key date session : List ℕ) (post : Post) (draft : Draft) (frames : List (List ℕ))
     → IsDate (min post.unix_seconds last_moment) date → IsDraftOf date session post draft

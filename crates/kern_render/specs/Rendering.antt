@@ -12,7 +12,7 @@ use Rattle.kern_post.specs.declared.post.Head.TheVariants.{Topic, Identities}
 use Rattle.kern_post.specs.declared.post.Post.{Post}
 use Rattle.kern_post.specs.Topics.{topic_of}
 use Rattle.kern_render.specs.Json.{content_json}
-use Rattle.jup_date.specs.Dates.{IsDate, last_moment}
+use Rattle.jup_wire.specs.Dates.{IsDate, last_moment}
 
 -- the header of the post's message
 abbrev pub post_header : Text → Text → ℕ → Content → Data

@@ -1,13 +1,13 @@
 //! The frames of posts.
 ghost use Rattle.std.specs.Prelude.{◌≡◌, [], ◌∷◌, IfOk, min};
-ghost use Rattle.jup_date.specs.Dates.{IsDate, last_moment};
+ghost use Rattle.jup_wire.specs.Dates.{IsDate, last_moment};
 ghost use Rattle.kern_render.specs.Rendering.{head_frames, IsRendered};
 ghost use Rattle.kern_render.specs.Drafts.{IsDraftOf};
 
 use crate::content::content_json;
 use base_text::sequence::{Bytes, Frames};
 use base_text::text::Text;
-use jup_date::date::{LAST_MOMENT, date_text};
+use jup_wire::date::{LAST_MOMENT, date_text};
 use jup_wire::header::{empty_object, header_json};
 use jup_wire::sealing::{Draft, seal_message};
 use kern_post::content::Content;

@@ -30,7 +30,7 @@ use std::sync::atomic::{AtomicBool, Ordering};
 use std::sync::{Arc, Wait};
 use std::thread;
 use std::time::Duration;
-use zmtp_peer::handshake::Peer;
+use zmtp_wire::handshake::Peer;
 
 /// What the threads of a server share.
 #[derive(Drop)]

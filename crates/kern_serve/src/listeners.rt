@@ -1,7 +1,7 @@
 //! The ports of a server.
 use crate::host::TcpNet;
-use jup_connection::connection_file::ConnectionFile;
 use jup_wire::channel::Channel;
+use jup_wire::connection_file::ConnectionFile;
 use std::io;
 use std::net::{Ipv4Addr, TcpListener};
 

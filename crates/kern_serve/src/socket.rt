@@ -11,8 +11,8 @@ use std::net::{Shutdown, TcpStream};
 use std::rt::Clock;
 use std::sync::Wait;
 use std::time::{Duration, Instant};
-use zmtp_peer::handshake::{Peer, handshake};
-use zmtp_peer::heartbeat::heartbeat;
+use zmtp_wire::handshake::{Peer, handshake};
+use zmtp_wire::heartbeat::heartbeat;
 use zmtp_wire::role::Role;
 
 // How long a handshake may take, and how long a write may wait.

@@ -20,7 +20,7 @@ use std::rt::Clock;
 use std::sync::Wait;
 use std::thread;
 use std::thread::Threads;
-use zmtp_peer::handshake::{Peer, handshake};
+use zmtp_wire::handshake::{Peer, handshake};
 use zmtp_wire::role::Role;
 
 // A program that never ends, on shell; and a debugger on control.

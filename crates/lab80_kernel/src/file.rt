@@ -1,7 +1,7 @@
 //! Connection files on disk.
 use crate::line::say;
 use cli_io::status::Status;
-use jup_connection::connection_file::{ConnectionFile, FileFault};
+use jup_wire::connection_file::{ConnectionFile, FileFault};
 use std::os::unix::fs::FileTypeExt;
 use std::rt::Files;
 use std::{fs, io};

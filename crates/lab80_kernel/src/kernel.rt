@@ -2,7 +2,7 @@
 use crate::file::read_file;
 use crate::line::say;
 use cli_io::status::Status;
-use jup_connection::connection_file::ConnectionFile;
+use jup_wire::connection_file::ConnectionFile;
 use kern_serve::fault::ServerFault;
 use kern_serve::listeners::Listeners;
 use kern_serve::server::{ServerEnd, serve};

@@ -6,7 +6,7 @@ use crate::line::say;
 use base_streams::std_io::{StdInlet, StdOutlet};
 use cli_io::reading::read_all;
 use cli_io::status::Status;
-use jup_connection::connection_file::ConnectionFile;
+use jup_wire::connection_file::ConnectionFile;
 use kern_serve::fault::ServerFault;
 use kern_serve::system::{new_session, unix_seconds};
 use lab_term::cell::Cell;

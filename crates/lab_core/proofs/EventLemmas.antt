@@ -6,10 +6,10 @@ use Rattle.std.specs.Prelude.{nat_lt}
 use Rattle.std.proofs.lemmas.Bool.Decides.{nat_tests}
 use Rattle.i80_exec.specs.State.{MachineState, stored, loaded}
 use Rattle.i80_devs.specs.Past.{Press, panel_after}
-use Rattle.lab_poke.specs.declared.place.Place.{Place}
-use Rattle.lab_poke.specs.Places.{place_named}
-use Rattle.lab_poke.specs.Values.{value_spelled, text_at}
-use Rattle.lab_poke.specs.Changes.{machine_with}
+use Rattle.lab_views.specs.declared.place.Place.{Place}
+use Rattle.lab_views.specs.Places.{place_named}
+use Rattle.lab_views.specs.Values.{value_spelled, text_at}
+use Rattle.lab_views.specs.Changes.{machine_with}
 use Rattle.lab_core.specs.declared.run_state.RunState.TheVariants.{NoRun, Running, Stopped}
 use Rattle.lab_core.specs.declared.answer.Answer.{Answer}
 use Rattle.lab_core.specs.declared.answer.Answer.TheVariants.{Accepted, Poked}

@@ -14,12 +14,12 @@ use Rattle.asm_build.specs.Reading.{Entries}
 use Rattle.asm_build.specs.Meaning.{Meaning}
 use Rattle.lab_image.specs.declared.spans.Span.{Span}
 use Rattle.lab_image.specs.Loads as origins
-use Rattle.lab_breaks.specs.Breakpoints.{BreakpointState}
-use Rattle.lab_breaks.specs.Breakpoints as breakpoints
+use Rattle.lab_image.specs.Breakpoints.{BreakpointState}
+use Rattle.lab_image.specs.Breakpoints as breakpoints
 use Rattle.i80_exec.specs.declared.ports.PortOperation.{PortOperation}
-use Rattle.lab_sources.specs.declared.sources.Source.{Source}
-use Rattle.lab_sources.specs.Sources.{place_of, kept_at, source_at}
-use Rattle.lab_breaks.specs.Breakpoints.{with_lines}
+use Rattle.lab_image.specs.declared.sources.Source.{Source}
+use Rattle.lab_image.specs.Sources.{place_of, kept_at, source_at}
+use Rattle.lab_image.specs.Breakpoints.{with_lines}
 use Rattle.lab_core.specs.declared.run_state.RunState.{RunState}
 use Rattle.lab_core.specs.declared.run_state.RunState.TheVariants.{NoRun, Running, Stopped}
 use Rattle.lab_core.specs.declared.answer.Answer.{Answer}

@@ -21,7 +21,7 @@ use Rattle.asm_text.proofs.FirstFaults.{text_says, text_faulted}
 use Rattle.asm_build.specs.Reading.{Entries}
 use Rattle.asm_build.specs.Meaning.{Meaning, built_of}
 use Rattle.asm_build.proofs.CellFaults.{judged}
-use Rattle.lab_sources.specs.declared.sources.Source.{Source}
+use Rattle.lab_image.specs.declared.sources.Source.{Source}
 use Rattle.lab_core.specs.Cells.{TextGives}
 use Rattle.lab_core.specs.SliceEnds.{or_goes_on, slice_from, sliced_at}
 use Rattle.lab_core.specs.Events.{Given, Gives, SlicesRun, Loads, Applies, Runs, while_running, without_run}

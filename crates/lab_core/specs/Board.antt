@@ -7,11 +7,11 @@ use Rattle.asm_build.specs.Reading.{Entries}
 use Rattle.lab_frames.specs.Live.{BoardStep, Instruction, Acceptance, Change, Entry, Step}
 use Rattle.lab_frames.specs.Steps.{accepted, outcome, operations}
 use Rattle.lab_image.specs.Loads.{Load}
-use Rattle.lab_breaks.specs.declared.lists.BreakpointList.{BreakpointList}
+use Rattle.lab_image.specs.declared.lists.BreakpointList.{BreakpointList}
 use Rattle.lab_core.specs.declared.run_state.RunState.{RunState}
 use Rattle.lab_core.specs.declared.run_state.RunState.TheVariants.{NoRun}
 use Rattle.lab_core.specs.declared.event.StepRequest.{StepRequest}
-use Rattle.lab_sources.specs.declared.sources.Source.{Source}
+use Rattle.lab_image.specs.declared.sources.Source.{Source}
 
 pub record Board : Type 0 where
   pub machine : MachineState

@@ -10,16 +10,16 @@ use Rattle.asm_text.specs.Statements.{statements_of}
 use Rattle.asm_build.specs.Reading.{Entries}
 use Rattle.asm_build.specs.Meaning.{Meaning, built_of}
 use Rattle.lab_frames.specs.Live.{live, Poke}
-use Rattle.lab_poke.specs.declared.fault.PokeFault.{PokeFault}
-use Rattle.lab_poke.specs.Places.{place_named}
-use Rattle.lab_poke.specs.Values.{value_spelled, text_at}
-use Rattle.lab_poke.specs.Changes.{machine_with}
+use Rattle.lab_views.specs.declared.poke_fault.PokeFault.{PokeFault}
+use Rattle.lab_views.specs.Places.{place_named}
+use Rattle.lab_views.specs.Values.{value_spelled, text_at}
+use Rattle.lab_views.specs.Changes.{machine_with}
 use Rattle.lab_core.specs.declared.run_state.RunState.{RunState}
 use Rattle.lab_core.specs.declared.run_state.RunState.TheVariants.{NoRun, Running, Stopped}
-use Rattle.lab_sources.specs.declared.sources.Source.{Source}
-use Rattle.lab_sources.specs.declared.sources.SourceFault.{SourceFault}
-use Rattle.lab_sources.specs.Sources.{place_of, number_at, kept_at, source_at, line_count}
-use Rattle.lab_breaks.specs.Breakpoints.{with_lines}
+use Rattle.lab_image.specs.declared.sources.Source.{Source}
+use Rattle.lab_image.specs.declared.sources.SourceFault.{SourceFault}
+use Rattle.lab_image.specs.Sources.{place_of, number_at, kept_at, source_at, line_count}
+use Rattle.lab_image.specs.Breakpoints.{with_lines}
 use Rattle.lab_shown.specs.declared.shown.Shown.{Shown}
 use Rattle.lab_views.specs.declared.fault.ViewFault.{ViewFault}
 use Rattle.lab_views.specs.Parts.{Parts}

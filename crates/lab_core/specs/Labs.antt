@@ -18,13 +18,13 @@ use Rattle.lab_frames.specs.Frames.{AtLeast, LeavesOldest}
 use Rattle.lab_frames.specs.Frames as frames
 use Rattle.lab_image.specs.Loads as origins
 use Rattle.lab_image.specs.declared.spans.Span.{Span}
-use Rattle.lab_breaks.specs.Breakpoints.{BreakpointState}
-use Rattle.lab_breaks.specs.Breakpoints as breakpoints
+use Rattle.lab_image.specs.Breakpoints.{BreakpointState}
+use Rattle.lab_image.specs.Breakpoints as breakpoints
 use Rattle.lab_core.specs.declared.lab.Context.{Context}
 use Rattle.lab_core.specs.declared.run_state.RunState.{RunState}
 use Rattle.lab_core.specs.declared.run_state.RunState.TheVariants.{Stopped}
 use Rattle.lab_core.specs.declared.event.StepRequest.{StepRequest}
-use Rattle.lab_sources.specs.declared.sources.Source.{Source}
+use Rattle.lab_image.specs.declared.sources.Source.{Source}
 use Rattle.lab_core.specs.declared.event.Event.{Event}
 use Rattle.lab_core.specs.declared.answer.Answer.{Answer}
 use Rattle.lab_core.specs.declared.fault.EventFault.{EventFault}

@@ -1,6 +1,6 @@
 -- Where an event may be answered with out of memory.
 use Rattle.std.specs.Prelude.{◌≡◌, Ok, None, IsOk, IsSome}
-use Rattle.lab_sources.specs.Sources.{place_of, source_at}
+use Rattle.lab_image.specs.Sources.{place_of, source_at}
 use Rattle.lab_views.specs.Views.{shown}
 use Rattle.lab_core.specs.declared.run_state.RunState.TheVariants.{NoRun, Running}
 use Rattle.lab_core.specs.declared.event.Event.{Event}

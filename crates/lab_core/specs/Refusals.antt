@@ -3,12 +3,12 @@ use Rattle.i80_devs.specs.declared.devices.PressFault.{PressFault}
 use Rattle.i80_devs.specs.declared.devices.PressFault.TheVariants as press
 use Rattle.asm_syntax.specs.declared.fault.AsmFault.{AsmFault}
 use Rattle.asm_syntax.specs.declared.fault.AsmFault.TheVariants as asm
-use Rattle.lab_sources.specs.declared.sources.SourceFault.{SourceFault}
-use Rattle.lab_sources.specs.declared.sources.SourceFault.TheVariants as source
+use Rattle.lab_image.specs.declared.sources.SourceFault.{SourceFault}
+use Rattle.lab_image.specs.declared.sources.SourceFault.TheVariants as source
 use Rattle.lab_views.specs.declared.fault.ViewFault.{ViewFault}
 use Rattle.lab_views.specs.declared.fault.ViewFault.TheVariants as view
-use Rattle.lab_poke.specs.declared.fault.PokeFault.{PokeFault}
-use Rattle.lab_poke.specs.declared.fault.PokeFault.TheVariants as poke
+use Rattle.lab_views.specs.declared.poke_fault.PokeFault.{PokeFault}
+use Rattle.lab_views.specs.declared.poke_fault.PokeFault.TheVariants as poke
 use Rattle.lab_core.specs.declared.fault.EventFault.{EventFault}
 use Rattle.lab_core.specs.declared.fault.EventFault.TheVariants as fault
 

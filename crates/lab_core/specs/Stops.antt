@@ -6,7 +6,7 @@ use Rattle.lab_frames.specs.declared.frame.Frame.{Frame}
 use Rattle.lab_frames.specs.Live.{Entry, Step, Poke, ended_by, live, stays}
 use Rattle.lab_image.specs.declared.origin.Origin.{Origin}
 use Rattle.lab_image.specs.Loads.{origin_of}
-use Rattle.lab_breaks.specs.Breakpoints.{is_met}
+use Rattle.lab_image.specs.Breakpoints.{is_met}
 use Rattle.lab_core.specs.declared.answer.SliceOutcome.{SliceOutcome}
 use Rattle.lab_core.specs.declared.answer.SliceOutcome.TheVariants as outcome
 use Rattle.lab_core.specs.declared.answer.Stop.TheVariants as stop

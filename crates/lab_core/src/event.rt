@@ -57,7 +57,7 @@ pub enum Event {
     /// Lets a stopped run go on until the Step is complete.
     Step(StepRequest),
     /// Puts a value at a place of a stopped run's machine: a register, by the name under which the scope Registers
-    /// (1) shows it, or a byte of memory (5), by its address. Names and values are those of `lab_poke`. This is no
+    /// (1) shows it, or a byte of memory (5), by its address. Names and values are those of `lab_views::place`. This is no
     /// step of the run: it ends no live frame, and a wait goes on.
     Poke {
         reference: u32,

@@ -2,9 +2,9 @@
 
 use asm_syntax::fault::AsmFault;
 use i80_devs::devices::PressFault;
-use lab_poke::fault::PokeFault;
-use lab_sources::sources::SourceFault;
+use lab_image::sources::SourceFault;
 use lab_views::fault::ViewFault;
+use lab_views::poke_fault::PokeFault;
 use std::alloc::AllocError;
 use std::fmt;
 use thiserror::Error;

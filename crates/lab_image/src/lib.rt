@@ -1,11 +1,16 @@
-// Loading what a cell gives into the machine, and the origin of each address.
-// A load writes the bytes in order and nothing else of the machine; out of memory changes nothing.
-// The origin of an address is that of the last row that covers it, among the rows of all loads.
-// The code keeps sorted spans of addresses in place of the rows. A look-up halves them, a walk over
-// the first addresses of all statements goes over them once, and neither takes memory.
+// What is loaded: texts, the bytes that a cell gives, the origin of each address, and breakpoints by line.
+// A load writes its bytes in order and nothing else of the machine; if memory is out, nothing changes.
+// The origin of an address is that of the last row of all loads that covers it; the rows are kept as spans.
+// A text is kept once for its path, its number never changes, and at most 1,024 are kept.
+// A breakpoint is met at the first byte of each statement on its line; a step looks up one byte for it.
 #![tactic(auto)]
 
+mod address_set;
+pub mod breakpoints;
+pub mod lines;
+pub mod lists;
 pub mod mapped;
 pub mod origin;
 pub mod origins;
+pub mod sources;
 mod spans;

@@ -1,8 +1,8 @@
 //! Breakpoints over a few loads, against a plain look-up of every address.
 use crate::origins::{LoadParts, load_all};
 use i80_exec::machine::Machine;
-use lab_breaks::breakpoints::Breakpoints;
-use lab_breaks::lists::BreakpointList;
+use lab_image::breakpoints::Breakpoints;
+use lab_image::lists::BreakpointList;
 use lab_image::origins::Origins;
 use std::alloc::{AllocError, Global};
 

@@ -5,8 +5,8 @@ use Rattle.std.proofs.Common.{not, ◌+◌, ◌<◌}
 use Rattle.base_streams.specs.States.{InletState, OutletState, IsWritable}
 use Rattle.base_streams.specs.Told.{Gave, Took, TookFront, WasRead}
 use Rattle.base_streams.proofs.TellLemmas.{told_on, counts_on}
-use Rattle.zmtp_peer.proofs.ReceivingLemmas.{told_none, most_below}
-use Rattle.zmtp_peer.proofs.SendingLemmas.{front_all, front_on}
+use Rattle.zmtp_wire.proofs.ReceivingLemmas.{told_none, most_below}
+use Rattle.zmtp_wire.proofs.SendingLemmas.{front_all, front_on}
 use Rattle.lab_term.specs.declared.fault.TermFault.{TermFault}
 use Rattle.lab_term.specs.declared.fault.TermFault.TheVariants.{OutOfMemory, WriteFailed, Wire}
 use Rattle.lab_term.specs.declared.fault.WireCause.TheVariants.{Message}
@@ -16,13 +16,13 @@ use Rattle.lab_term.specs.Events.{is_idle, is_status, text_of, shown, printed, h
 use Rattle.zmtp_wire.specs.Stream.{DecoderState, StandsFor, Completes}
 use Rattle.zmtp_wire.specs.Writing.{message_bytes}
 use Rattle.zmtp_wire.specs.declared.role.Role.TheVariants.{Dealer, Sub}
-use Rattle.zmtp_peer.specs.Sending.{WroteWhole}
+use Rattle.zmtp_wire.specs.Sending.{WroteWhole}
 use Rattle.lab_term.specs.declared.cell.Cell.{Cell}
 use Rattle.lab_term.specs.Connections.{Ports, Client}
 use Rattle.lab_term.specs.Running.{Followed, Requested, Began, Ran, parent_of, printing, subscription}
 use Rattle.lab_term.specs.Running.{went_well}
-use Rattle.zmtp_peer.specs.declared.handshake.Peer.{Peer}
-use Rattle.zmtp_peer.specs.Receiving.{Received}
+use Rattle.zmtp_wire.specs.declared.handshake.Peer.{Peer}
+use Rattle.zmtp_wire.specs.Receiving.{Received}
 use Rattle.lab_term.specs.declared.subscriber.Subscriber.{Subscriber}
 use Rattle.lab_term.specs.Reading.{Holds, Waited}
 use Rattle.lab_term.specs.Courses.{Parent, HasNo, EndsIn, EndsInStatus, StopsAt, StopsIn, Passes, Takes}

@@ -5,7 +5,7 @@ use Rattle.jup_wire.specs.declared.sealing.Draft.{Draft}
 use Rattle.jup_wire.specs.Header.{empty_object}
 use Rattle.jup_wire.specs.Seal.{IsSealed, frames_of, signature_frame}
 use Rattle.jup_wire.proofs.PartLemmas.{same_parts, text_is}
-use Rattle.jup_date.specs.Dates.{IsDate}
+use Rattle.jup_wire.specs.Dates.{IsDate}
 use Rattle.lab_term.specs.Requests.{request_header, request_content, request_parts, request_frames, IsDraftOf}
 use Rattle.lab_term.specs.Requests.{IsRequest}
 use Rattle.lab_term.specs.declared.cell.Cell.{Cell}

@@ -8,14 +8,14 @@ use Rattle.base_streams.proofs.TellLemmas.{told_on}
 use Rattle.zmtp_wire.specs.declared.role.Role.{Role}
 use Rattle.zmtp_wire.specs.declared.role.Role.TheVariants.{Dealer, Sub}
 use Rattle.zmtp_wire.specs.Writing.{message_bytes}
-use Rattle.zmtp_peer.specs.declared.fault.PeerFault.{PeerFault}
-use Rattle.zmtp_peer.specs.declared.fault.PeerFault.TheVariants as peer
-use Rattle.zmtp_peer.specs.declared.handshake.Peer.{Peer}
-use Rattle.zmtp_peer.specs.Ends.{Blames, NoPeer}
-use Rattle.zmtp_peer.specs.Receiving.{Received, most_reads}
-use Rattle.zmtp_peer.specs.Sending.{WroteWhole}
-use Rattle.zmtp_peer.proofs.ReceivingLemmas.{most_at, most_is, told_none}
-use Rattle.zmtp_peer.proofs.SendingLemmas.{front_all, front_on}
+use Rattle.zmtp_wire.specs.declared.peer_fault.PeerFault.{PeerFault}
+use Rattle.zmtp_wire.specs.declared.peer_fault.PeerFault.TheVariants as peer
+use Rattle.zmtp_wire.specs.declared.handshake.Peer.{Peer}
+use Rattle.zmtp_wire.specs.Ends.{Blames, NoPeer}
+use Rattle.zmtp_wire.specs.Receiving.{Received, most_reads}
+use Rattle.zmtp_wire.specs.Sending.{WroteWhole}
+use Rattle.zmtp_wire.proofs.ReceivingLemmas.{most_at, most_is, told_none}
+use Rattle.zmtp_wire.proofs.SendingLemmas.{front_all, front_on}
 use Rattle.lab_term.specs.declared.fault.TermFault.{TermFault}
 use Rattle.lab_term.specs.declared.fault.TermFault.TheVariants.{OutOfMemory, Ended, ReadFailed, WriteFailed}
 use Rattle.lab_term.specs.declared.fault.TermFault.TheVariants.{Wire}

@@ -7,11 +7,11 @@ use Rattle.zmtp_wire.specs.declared.role.Role.{Role}
 use Rattle.zmtp_wire.specs.declared.role.Role.TheVariants.{Dealer, Sub}
 use Rattle.zmtp_wire.specs.Wire.{Bytes, Frames, Messages}
 use Rattle.jup_wire.specs.declared.message.WireFault.{WireFault}
-use Rattle.zmtp_peer.specs.declared.fault.PeerFault.{PeerFault}
-use Rattle.zmtp_peer.specs.declared.fault.PeerFault.TheVariants as peer
-use Rattle.zmtp_peer.specs.Ends.{Blames, NoPeer}
-use Rattle.zmtp_peer.specs.Receiving.{Received, most_reads}
-use Rattle.zmtp_peer.specs.declared.handshake.Peer.{Peer}
+use Rattle.zmtp_wire.specs.declared.peer_fault.PeerFault.{PeerFault}
+use Rattle.zmtp_wire.specs.declared.peer_fault.PeerFault.TheVariants as peer
+use Rattle.zmtp_wire.specs.Ends.{Blames, NoPeer}
+use Rattle.zmtp_wire.specs.Receiving.{Received, most_reads}
+use Rattle.zmtp_wire.specs.declared.handshake.Peer.{Peer}
 use Rattle.lab_term.specs.declared.fault.TermFault.{TermFault}
 use Rattle.lab_term.specs.declared.fault.TermFault.TheVariants.{OutOfMemory, Ended, ReadFailed, WriteFailed}
 use Rattle.lab_term.specs.declared.fault.TermFault.TheVariants.{Wire}

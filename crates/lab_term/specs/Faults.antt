@@ -1,8 +1,8 @@
 -- Why a cell wasn't run to its end.
 use Rattle.std.specs.Prelude.{Option, Some, None, codes}
 use Rattle.base_text.specs.Bytes.{Text}
-use Rattle.zmtp_peer.specs.declared.fault.PeerFault.{PeerFault}
-use Rattle.zmtp_peer.specs.declared.fault.PeerFault.TheVariants as peer
+use Rattle.zmtp_wire.specs.declared.peer_fault.PeerFault.{PeerFault}
+use Rattle.zmtp_wire.specs.declared.peer_fault.PeerFault.TheVariants as peer
 use Rattle.lab_term.specs.declared.fault.TermFault.{TermFault}
 use Rattle.lab_term.specs.declared.fault.TermFault.TheVariants as term
 use Rattle.lab_term.specs.declared.fault.WireCause.TheVariants.{Stream}

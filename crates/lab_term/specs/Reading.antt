@@ -2,7 +2,7 @@
 use Rattle.std.specs.Prelude.{◌≡◌, ◌⊎◌, true, false, List, [], ◌++◌, Some}
 use Rattle.base_streams.specs.States.{InletState, IsReadable}
 use Rattle.base_streams.specs.Told.{Gave}
-use Rattle.zmtp_peer.specs.Receiving.{Received}
+use Rattle.zmtp_wire.specs.Receiving.{Received}
 use Rattle.zmtp_wire.specs.Wire.{Bytes, Messages}
 use Rattle.lab_term.specs.Courses.{EndsInStatus}
 use Rattle.lab_term.specs.Events.{Notice, AreNotices}

@@ -9,7 +9,7 @@ use Rattle.jup_wire.specs.declared.message.Parts.{Parts}
 use Rattle.jup_wire.specs.declared.sealing.Draft.{Draft}
 use Rattle.jup_wire.specs.Header.{empty_object, header_json}
 use Rattle.jup_wire.specs.Seal.{frames_of, signature_frame}
-use Rattle.jup_date.specs.Dates.{IsDate}
+use Rattle.jup_wire.specs.Dates.{IsDate}
 use Rattle.lab_term.specs.declared.cell.Cell.{Cell}
 
 -- a client sends one request in its session

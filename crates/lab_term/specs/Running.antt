@@ -6,9 +6,9 @@ use Rattle.base_streams.specs.Told.{Took}
 use Rattle.zmtp_wire.specs.declared.role.Role.{Role}
 use Rattle.zmtp_wire.specs.declared.role.Role.TheVariants.{Dealer, Sub}
 use Rattle.zmtp_wire.specs.Writing.{message_bytes}
-use Rattle.zmtp_peer.specs.Receiving.{Received}
-use Rattle.zmtp_peer.specs.declared.handshake.Peer.{Peer}
-use Rattle.zmtp_peer.specs.Sending.{WroteWhole}
+use Rattle.zmtp_wire.specs.Receiving.{Received}
+use Rattle.zmtp_wire.specs.declared.handshake.Peer.{Peer}
+use Rattle.zmtp_wire.specs.Sending.{WroteWhole}
 use Rattle.lab_term.specs.declared.cell.Cell.{Cell}
 use Rattle.lab_term.specs.Connections.{Ports, Client}
 use Rattle.lab_term.specs.Events.{Notice, AreNotices, printed, has_error}

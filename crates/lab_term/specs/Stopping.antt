@@ -7,9 +7,9 @@ use Rattle.zmtp_wire.specs.declared.role.Role.{Role}
 use Rattle.zmtp_wire.specs.declared.role.Role.TheVariants.{Dealer, Sub}
 use Rattle.zmtp_wire.specs.Stream.{DecoderState, StandsFor}
 use Rattle.zmtp_wire.specs.Writing.{message_bytes}
-use Rattle.zmtp_peer.specs.Receiving.{Received}
-use Rattle.zmtp_peer.specs.declared.handshake.Peer.{Peer}
-use Rattle.zmtp_peer.specs.Sending.{WroteFront, WroteWhole}
+use Rattle.zmtp_wire.specs.Receiving.{Received}
+use Rattle.zmtp_wire.specs.declared.handshake.Peer.{Peer}
+use Rattle.zmtp_wire.specs.Sending.{WroteFront, WroteWhole}
 use Rattle.lab_term.specs.declared.fault.TermFault.{TermFault}
 use Rattle.lab_term.specs.declared.fault.TermFault.TheVariants.{OutOfMemory, Ended}
 use Rattle.lab_term.specs.declared.fault.TermFault.TheVariants.{Wire}

@@ -1,12 +1,12 @@
 //! A cell, and the request that runs it.
 ghost use Rattle.std.specs.Prelude.{◌≡◌, ◌≤◌, [], slice_index_or, IfOk};
 ghost use Rattle.serde_json.specs.View.{view};
-ghost use Rattle.jup_date.specs.Dates.{last_moment};
+ghost use Rattle.jup_wire.specs.Dates.{last_moment};
 ghost use Rattle.lab_term.specs.Requests.{request_content, request_frames, IsDraftOf, IsRequest};
 
 use base_text::sequence::{Bytes, Frames};
 use base_text::text::Text;
-use jup_date::date::date_text;
+use jup_wire::date::date_text;
 use jup_wire::header::{empty_object, header_json};
 use jup_wire::sealing::{Draft, seal_message};
 use serde_json::{Value, json};

@@ -5,8 +5,8 @@ ghost use Rattle.lab_term.specs.Faults.{term_fault_of};
 use jup_wire::message::WireFault;
 use std::fmt;
 use thiserror::Error;
-use zmtp_peer::fault::PeerFault;
 use zmtp_wire::fault::StreamFault;
+use zmtp_wire::peer_fault::PeerFault;
 
 /// What is wrong with what came.
 #[derive(Clone, Copy, PartialEq, Eq, Error)]

@@ -4,7 +4,7 @@ ghost use Rattle.base_streams.specs.States.{InletState, IsReadable};
 ghost use Rattle.base_streams.specs.Told.{Gave, WasRead};
 ghost use Rattle.zmtp_wire.specs.Wire.{Messages};
 ghost use Rattle.lab_term.specs.declared.subscriber.Subscriber.{Subscriber};
-ghost use Rattle.zmtp_peer.specs.Receiving.{Received};
+ghost use Rattle.zmtp_wire.specs.Receiving.{Received};
 ghost use Rattle.lab_term.specs.Causes.{IsBroken};
 ghost use Rattle.lab_term.specs.Reading.{Holds, Starves, Unreceived};
 ghost use Rattle.lab_term.specs.declared.fault.TermFault.{TermFault};
@@ -14,10 +14,10 @@ use base_streams::ports::Inlet;
 use base_text::sequence::Frames;
 use std::alloc::Global;
 use std::collections::VecDeque;
-use zmtp_peer::feeding::{Fed, feed};
-use zmtp_peer::handshake::Peer;
 use zmtp_wire::decoder::Decoder;
 use zmtp_wire::fault::StreamFault;
+use zmtp_wire::feeding::{Fed, feed};
+use zmtp_wire::handshake::Peer;
 
 /// How much is read at once, in bytes.
 const PIECE_SIZE: usize = 8192;

@@ -7,7 +7,7 @@ use Rattle.std.proofs.lemmas.Option.{slice_get_within, get_or_from_slice_get}
 use Rattle.std.proofs.lemmas.List.{take_more, drop_more, drop_all, get_or-drop, length-drop, append-nil}
 use Rattle.std.proofs.lemmas.List.{append_assoc}
 use Rattle.std.proofs.lemmas.List.Elements.{filter_map-append}
-use Rattle.lab_views.specs.Numbers.{page}
+use Rattle.lab_views.specs.Paging.{page}
 
 -- what is made and what is left stay together, when the first of what is left is made
 pub made_more : {A : Type 0} (made made' left left' all : List A) (x : A) → made' ≡ made ++ x ∷ []

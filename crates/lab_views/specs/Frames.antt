@@ -10,7 +10,7 @@ use Rattle.asm_build.specs.Reading.{Entries}
 use Rattle.lab_frames.specs.declared.frame.Frame.{Frame}
 use Rattle.lab_image.specs.declared.origin.Origin.{Origin}
 use Rattle.lab_image.specs.Loads.{origin_of}
-use Rattle.lab_sources.specs.declared.sources.Source.{Source}
+use Rattle.lab_image.specs.declared.sources.Source.{Source}
 use Rattle.lab_shown.specs.declared.shown.StackFrame.{StackFrame}
 use Rattle.lab_views.specs.Parts.{Parts}
 

@@ -1,8 +1,8 @@
 -- The breakpoints, by the paths of their sources.
 use Rattle.std.specs.Prelude.{ℕ, List, Option, option_map}
 use Rattle.std.specs.List.{filter_map}
-use Rattle.lab_sources.specs.declared.sources.Source.{Source}
-use Rattle.lab_breaks.specs.declared.lists.BreakpointList.{BreakpointList}
+use Rattle.lab_image.specs.declared.sources.Source.{Source}
+use Rattle.lab_image.specs.declared.lists.BreakpointList.{BreakpointList}
 use Rattle.lab_shown.specs.declared.shown.SourceBreakpoints.{SourceBreakpoints}
 use Rattle.lab_views.specs.Frames.{path_of}
 

@@ -1,7 +1,11 @@
 pub mod Parts
-pub mod Numbers
+pub mod Paging
 pub mod Frames
 pub mod Variables
 pub mod Code
 pub mod Info
 pub mod Views
+pub mod Places
+pub mod Values
+pub mod Changes
+pub mod Law

@@ -7,8 +7,8 @@ use Rattle.asm_build.specs.Reading.{Entries}
 use Rattle.lab_frames.specs.declared.frame.Frame.{Frame}
 use Rattle.lab_image.specs.Loads.{Load}
 use Rattle.lab_image.specs.Loads as origins
-use Rattle.lab_sources.specs.declared.sources.Source.{Source}
-use Rattle.lab_breaks.specs.declared.lists.BreakpointList.{BreakpointList}
+use Rattle.lab_image.specs.declared.sources.Source.{Source}
+use Rattle.lab_image.specs.declared.lists.BreakpointList.{BreakpointList}
 use Rattle.lab_views.specs.declared.parts.Parts.{Parts as PartsSeen}
 
 pub record Parts : Type 0 where

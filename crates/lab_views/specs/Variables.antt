@@ -15,7 +15,7 @@ use Rattle.asm_build.specs.Reading.{Entries}
 use Rattle.lab_shown.specs.declared.shown.Variable.{Variable}
 use Rattle.lab_views.specs.declared.fault.ViewFault.{ViewFault}
 use Rattle.lab_views.specs.declared.fault.ViewFault.TheVariants.{BadReference}
-use Rattle.lab_views.specs.Numbers.{asked_for, page}
+use Rattle.lab_views.specs.Paging.{asked_for, page}
 use Rattle.lab_views.specs.Parts.{Parts}
 
 abbrev pub variable : List ℕ → List ℕ → Variable

@@ -1,7 +1,7 @@
 -- What each view of a board shows, or why it is refused.
 use Rattle.std.specs.Prelude.{◌≡◌, ℕ, ◌&&◌, nat_le, min, List, Option, Some, None, Result, Ok, Err, IsOk}
 use Rattle.std.specs.Prelude.{if◌then◌else◌}
-use Rattle.lab_sources.specs.Sources.{source_at}
+use Rattle.lab_image.specs.Sources.{source_at}
 use Rattle.lab_views.specs.declared.view.View.{View}
 use Rattle.lab_views.specs.declared.view.View.TheVariants as view
 use Rattle.lab_shown.specs.declared.shown.Shown.{Shown}
@@ -11,7 +11,7 @@ use Rattle.lab_shown.specs.declared.shown.Variable.{Variable}
 use Rattle.lab_views.specs.declared.fault.ViewFault.{ViewFault}
 use Rattle.lab_views.specs.declared.fault.ViewFault.TheVariants.{OutOfMemory, NotStopped, BadFrame}
 use Rattle.lab_views.specs.declared.fault.ViewFault.TheVariants.{BadReference, NoSource}
-use Rattle.lab_views.specs.Numbers.{asked_for, page}
+use Rattle.lab_views.specs.Paging.{asked_for, page}
 use Rattle.lab_views.specs.Parts.{Parts}
 use Rattle.lab_views.specs.Frames.{all_frames, frame_count}
 use Rattle.lab_views.specs.Variables.{variables_of}

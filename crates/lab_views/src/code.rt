@@ -2,12 +2,12 @@
 ghost use Rattle.std.specs.Prelude.{◌≡◌, IfOk};
 ghost use Rattle.lab_views.specs.Code as code;
 
-use lab_shown::shown::CodeLine;
 use base_text::sequence::{Bytes, Sequence};
 use base_text::text::Text;
 use i80_dis::line::line_at;
 use i80_exec::machine::Machine;
 use i80_rows::decoding::decode;
+use lab_shown::shown::CodeLine;
 use std::alloc::{AllocError, Global};
 
 /// The bytes from an address on, as many as the longest instruction has.

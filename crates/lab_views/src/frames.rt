@@ -4,18 +4,18 @@ ghost use Rattle.std.specs.Prelude.{option_map, unwrap_or, slice_get, IfOk, Some
 ghost use Rattle.base_text.specs.Hexadecimal.{upper_word};
 ghost use Rattle.i80_devs.specs.Past.{Operation};
 ghost use Rattle.lab_image.specs.Loads.{Load, StandsFor};
-ghost use Rattle.lab_views.specs.Numbers.{asked_for, page};
+ghost use Rattle.lab_views.specs.Paging.{asked_for, page};
 ghost use Rattle.lab_views.specs.Parts.{parts_with};
 ghost use Rattle.lab_views.specs.Frames as frames;
 
-use crate::numbers::{asked_for, end_of};
+use crate::paging::{asked_for, end_of};
 use crate::parts::Parts;
-use lab_shown::shown::StackFrame;
 use asm_build::symbols::{Symbol, SymbolKind, Symbols};
 use base_text::hexadecimal::push_word;
 use base_text::sequence::Sequence;
 use base_text::text::Text;
-use lab_sources::sources::Sources;
+use lab_image::sources::Sources;
+use lab_shown::shown::StackFrame;
 use std::alloc::{AllocError, Global};
 
 /// The most frames of an answer.

@@ -4,10 +4,10 @@ ghost use Rattle.std.specs.List.{cons_option};
 ghost use Rattle.lab_views.specs.Info as info;
 
 use crate::frames::path_of;
-use lab_shown::shown::SourceBreakpoints;
 use base_text::sequence::Sequence;
-use lab_breaks::lists::BreakpointList;
-use lab_sources::sources::Sources;
+use lab_image::lists::BreakpointList;
+use lab_image::sources::Sources;
+use lab_shown::shown::SourceBreakpoints;
 use std::alloc::{AllocError, Global};
 
 /// Adds the breakpoints of a list, if its source is kept.

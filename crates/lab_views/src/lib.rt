@@ -1,15 +1,21 @@
-// What a board shows: the frames of its run, its variables, its code, its texts and its breakpoints.
-// `show` answers a view as a stated function of the board's parts, from any representation of them.
-// Nothing changes. Out of memory is answered only where the view isn't refused.
-// `after_instructions` takes no memory; it counts instructions as `Code` shows them, a line for each.
+// What a board shows: the frames of its run, its variables, its code, its texts and its breakpoints; and the
+// places of a machine that can be changed by hand, which are those that Registers and Memory show.
+// `show` returns a view as a function of the board's parts, from any representation of them.
+// `place_of` finds a place by its name in a scope, `put` changes that place alone: `laws` says that its row then
+// shows the value, and all other rows what they showed. Only what is shown as text allocates.
 #![tactic(auto)]
 
+pub mod change;
 mod code;
 pub mod fault;
 mod frames;
 mod info;
-mod numbers;
+pub mod laws;
+mod paging;
 pub mod parts;
+pub mod place;
+pub mod poke_fault;
+pub mod value;
 mod variables;
 pub mod view;
 pub mod views;

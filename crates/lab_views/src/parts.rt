@@ -3,10 +3,10 @@
 use asm_build::symbols::Symbols;
 use i80_devs::devices::Devices;
 use i80_exec::machine::Machine;
-use lab_breaks::lists::BreakpointList;
 use lab_frames::frames::Frames;
+use lab_image::lists::BreakpointList;
 use lab_image::origins::Origins;
-use lab_sources::sources::Sources;
+use lab_image::sources::Sources;
 
 /// The parts of a board.
 #[derive(Clone, Copy)]

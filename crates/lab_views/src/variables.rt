@@ -3,12 +3,11 @@ ghost use Rattle.std.specs.Prelude.{◌≡◌, ◌∷◌, ◌++◌, [], List, If
 ghost use Rattle.std.specs.Fmt.{decimal};
 ghost use Rattle.i80_dis.specs.Text.{byte_text, word_text};
 ghost use Rattle.i80_devs.specs.Past.{Operation, StandsFor, panel_after};
-ghost use Rattle.lab_views.specs.Numbers.{asked_for, page};
+ghost use Rattle.lab_views.specs.Paging.{asked_for, page};
 ghost use Rattle.lab_views.specs.Variables as variables;
 
 use crate::frames::symbol_at;
-use crate::numbers::{asked_for, end_of};
-use lab_shown::shown::Variable;
+use crate::paging::{asked_for, end_of};
 use asm_build::symbols::Symbols;
 use base_text::hexadecimal;
 use base_text::sequence::Sequence;
@@ -18,6 +17,7 @@ use i80_dis::numeral;
 use i80_exec::machine::Machine;
 use i80_exec::registers::{Interrupts, Registers};
 use i80_rows::memory::MEMORY_SIZE;
+use lab_shown::shown::Variable;
 use std::alloc::{AllocError, Global};
 
 /// The most variables of an answer, and how many symbols are the usual count.

@@ -21,12 +21,12 @@ use crate::fault::ViewFault;
 use crate::frames::{frame_count, frames};
 use crate::info::breakpoints;
 use crate::parts::Parts;
-use lab_shown::shown::{Shown, Variable};
 use crate::view::View;
 use crate::{code, variables};
 use base_text::sequence::Sequence;
 use base_text::text::Text;
 use i80_exec::machine::Machine;
+use lab_shown::shown::{Shown, Variable};
 use std::alloc::{AllocError, Global};
 
 /// The most lines of disassembly of an answer.

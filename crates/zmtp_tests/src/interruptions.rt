@@ -10,9 +10,9 @@ use std::io;
 use std::io::{ErrorKind, Write};
 use std::process::Abort;
 use std::test::Fail;
-use zmtp_peer::fault::PeerFault;
-use zmtp_peer::handshake::handshake;
-use zmtp_peer::heartbeat::heartbeat;
+use zmtp_wire::handshake::handshake;
+use zmtp_wire::heartbeat::heartbeat;
+use zmtp_wire::peer_fault::PeerFault;
 use zmtp_wire::role::Role;
 
 // A writer that takes one byte at a time, is interrupted before each, and fails once it has so many.

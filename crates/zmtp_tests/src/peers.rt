@@ -6,10 +6,10 @@ use base_streams::memory::{Sink, Source};
 use std::alloc::Global;
 use std::process::Abort;
 use std::test::Fail;
-use zmtp_peer::fault::PeerFault;
-use zmtp_peer::handshake::{Peer, handshake};
-use zmtp_peer::heartbeat::heartbeat;
 use zmtp_wire::fault::StreamFault;
+use zmtp_wire::handshake::{Peer, handshake};
+use zmtp_wire::heartbeat::heartbeat;
+use zmtp_wire::peer_fault::PeerFault;
 use zmtp_wire::role::Role;
 
 pub(crate) const REQ: &str = "04190552454144590B536F636B65742D5479706500000003524551";

@@ -6,3 +6,7 @@ pub mod ProgressLemmas
 pub mod ReadingLemmas
 pub mod StreamLemmas
 pub mod WritingLemmas
+pub mod EchoLemmas
+pub mod QuietLemmas
+pub mod ReceivingLemmas
+pub mod SendingLemmas

@@ -8,3 +8,7 @@ pub mod Roles
 pub mod Stream
 pub mod Writing
 pub mod Wire
+pub mod Beating
+pub mod Ends
+pub mod Receiving
+pub mod Sending

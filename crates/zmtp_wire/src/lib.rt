@@ -1,16 +1,22 @@
-// ZMTP 3.0 (RFC 23) over any byte stream: one side's reading, and what it writes, for the NULL mechanism.
-// `Decoder::feed` takes the bytes as they come, however they are cut, and gives the messages that they
-// complete. What it gives is what a grammar of whole items says of all bytes so far, and that grammar has one
-// reading. A fault comes at the first byte that decides it, after the messages before it, and stays for good.
-// A side keeps the bytes of the item that has begun and the frames of the message that has, and no more.
+// ZMTP 3.0 (RFC 23) with the NULL mechanism: one side's reading and writing, its handshake and its heartbeat.
+// `Decoder::feed` takes the bytes as they come, however they are cut, and returns the messages that they
+// complete: those that a grammar of whole items says, which has one reading. A fault comes at the first byte
+// that decides it. `handshake` writes the greeting before it reads, and loses no message that came with the
+// peer's READY. `heartbeat` sends each message back as it came. A fault names what caused it.
 #![tactic(auto)]
 
 mod command;
 pub mod decoder;
 pub mod fault;
+pub mod feeding;
+pub mod handshake;
 mod head;
+pub mod heartbeat;
 pub mod laws;
 pub mod messages;
+pub mod peer_fault;
 mod progress;
+mod receiving;
 pub mod role;
+mod sending;
 pub mod writing;

@@ -29,7 +29,7 @@ use dap_program::load::{LoadFault, Loaded, load};
 use dap_program::messages::{Caller, Follow};
 use dap_program::opening::{Occasion, opening_messages};
 use lab_core::lab::Lab;
-use lab_sources::lines::line_count;
+use lab_image::lines::line_count;
 use std::alloc::{AllocError, Global};
 
 fn pauses(launch: &Launch) -> bool

@@ -3,7 +3,7 @@ ghost use Rattle.std.specs.Prelude.{◌≡◌, ◌<◌, Err, OnOk, OnErr};
 ghost use Rattle.asm_syntax.specs.Outcome.{Gives};
 ghost use Rattle.asm_build.specs.Meaning.{meaning_in};
 ghost use Rattle.lab_core.specs.Board.{Board};
-ghost use Rattle.lab_sources.specs.Sources.{number_at};
+ghost use Rattle.lab_image.specs.Sources.{number_at};
 ghost use Rattle.lab_core.specs.Events.{assembled, with_built, with_cell, given};
 ghost use Rattle.lab_core.specs.Labs.{StandsFor, AppliesTo, Does};
 ghost use Rattle.lab_core.specs.Memory.{MayLackMemory};
@@ -17,7 +17,7 @@ use asm_build::built::Built;
 use asm_build::cell::build;
 use asm_syntax::fault::AsmFault;
 use asm_text::statements::statements;
-use lab_sources::sources::Source;
+use lab_image::sources::Source;
 use std::alloc::AllocError;
 
 impl Lab {

@@ -8,9 +8,9 @@ use crate::event::Event;
 use crate::fault::EventFault;
 use crate::lab::Lab;
 use crate::run_state::RunState;
-use lab_poke::change::put;
-use lab_poke::place::place_of;
-use lab_poke::value::{text_of, value_of};
+use lab_views::change::put;
+use lab_views::place::place_of;
+use lab_views::value::{text_of, value_of};
 
 impl Lab {
     pub(super) fn poke(

@@ -1,7 +1,7 @@
 use Rattle.std.proofs.Common.{◌≡◌}
 use Rattle.std.specs.List.{list_all}
 use Rattle.asm_syntax.specs.Lexemes.{pieces_of}
-use Rattle.asm_operand.specs.Commas.{operands_of, operands_after}
+use Rattle.asm_lex.specs.Commas.{operands_of, operands_after}
 use Rattle.asm_text.proofs.Operands.{pieces_left, count_left}
 use Rattle.asm_text.proofs.directives.all_fit.Given as goal
 

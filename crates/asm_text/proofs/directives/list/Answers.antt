@@ -1,7 +1,7 @@
 use Rattle.std.proofs.Common.{sym, ap, ◌∙◌, Ok}
 use Rattle.std.proofs.lemmas.Result.{err_from_is_err_and}
 use Rattle.asm_syntax.specs.Lexemes.{pieces_of}
-use Rattle.asm_operand.specs.Commas.{operands_of}
+use Rattle.asm_lex.specs.Commas.{operands_of}
 use Rattle.asm_text.specs.Forms.{each_of}
 use Rattle.asm_text.proofs.Operands.{each_goes, each_fails, each_done}
 use Rattle.asm_text.proofs.directives.list.Goals as goal

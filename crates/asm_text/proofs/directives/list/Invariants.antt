@@ -1,6 +1,6 @@
 use Rattle.std.proofs.Common.{◌≡◌}
 use Rattle.asm_syntax.specs.Lexemes.{pieces_of}
-use Rattle.asm_operand.specs.Commas.{operands_of, operands_after}
+use Rattle.asm_lex.specs.Commas.{operands_of, operands_after}
 use Rattle.asm_text.specs.Forms.{each_of}
 use Rattle.asm_text.proofs.Operands.{joined, pieces_left, count_left}
 use Rattle.asm_text.proofs.directives.list.Given as goal

@@ -1,5 +1,5 @@
 use Rattle.std.proofs.Common.{ℕ, List, sym, subst}
-use Rattle.jup_date.specs.Dates.{IsDate}
+use Rattle.jup_wire.specs.Dates.{IsDate}
 use Rattle.lab_term.proofs.RequestLemmas.{request_is}
 use Rattle.lab_term.proofs.cell.request_of.Goals as goal
 

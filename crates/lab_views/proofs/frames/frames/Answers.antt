@@ -1,6 +1,6 @@
 use Rattle.std.proofs.Common.{◌≡◌, ◌∙◌, ◌+◌, ◌∷◌, [], ◌++◌, length, reverse, sym, ap}
 use Rattle.std.proofs.lemmas.List.{length-reverse}
-use Rattle.lab_views.specs.Numbers.{asked_for}
+use Rattle.lab_views.specs.Paging.{asked_for}
 use Rattle.lab_views.specs.Parts.{parts_with}
 use Rattle.lab_views.specs.Frames.{all_frames}
 use Rattle.lab_views.proofs.ListLemmas.{page_more, page_done}

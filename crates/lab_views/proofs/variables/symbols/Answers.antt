@@ -3,7 +3,7 @@ use Rattle.std.specs.Prelude.{option_map}
 use Rattle.std.proofs.lemmas.Option.{slice_get-map}
 use Rattle.std.proofs.lemmas.List.{length-map}
 use Rattle.asm_build.specs.declared.symbols.Symbol.{Symbol}
-use Rattle.lab_views.specs.Numbers.{asked_for}
+use Rattle.lab_views.specs.Paging.{asked_for}
 use Rattle.lab_views.specs.Variables.{symbol_variable, symbol_variables}
 use Rattle.lab_views.proofs.ListLemmas.{page_more, page_done}
 use Rattle.lab_views.proofs.variables.symbols.Goals as goal

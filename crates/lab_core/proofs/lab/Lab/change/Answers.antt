@@ -1,6 +1,6 @@
 use Rattle.std.proofs.Common.{◌≡◌, ◌∙◌, sym, ap, subst}
 use Rattle.i80_exec.specs.State.{MachineState}
-use Rattle.lab_poke.specs.Changes.{machine_with}
+use Rattle.lab_views.specs.Changes.{machine_with}
 use Rattle.lab_core.specs.declared.run_state.RunState.TheVariants.{Stopped}
 use Rattle.lab_core.specs.Events.{changed_to}
 use Rattle.lab_core.specs.Labs.{LabState, StandsFor}

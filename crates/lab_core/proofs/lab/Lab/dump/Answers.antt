@@ -1,6 +1,6 @@
 use Rattle.std.proofs.Common.{◌≡◌, ◌∙◌, ◌++◌, ◌∷◌, [], None, Ok, refl, sym, subst}
-use Rattle.lab_sources.specs.declared.sources.Source.{Source}
-use Rattle.lab_sources.specs.Sources.{place_of}
+use Rattle.lab_image.specs.declared.sources.Source.{Source}
+use Rattle.lab_image.specs.Sources.{place_of}
 use Rattle.lab_core.specs.Labs.{LabState, StandsFor}
 use Rattle.lab_core.proofs.LabLemmas.{gives_dumped, stands_dumped}
 use Rattle.lab_core.proofs.lab.Lab.dump.Goals as goal

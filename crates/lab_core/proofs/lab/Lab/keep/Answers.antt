@@ -1,5 +1,5 @@
 use Rattle.std.proofs.Common.{◌≡◌, ◌∙◌, List, [], ◌∷◌, ◌++◌, length, sym, ap, subst}
-use Rattle.lab_sources.specs.declared.sources.Source.{Source}
+use Rattle.lab_image.specs.declared.sources.Source.{Source}
 use Rattle.asm_build.specs.Meaning.{meaning_in}
 use Rattle.lab_core.specs.Events.{with_cell}
 use Rattle.lab_core.specs.Labs.{LabState, StandsFor}

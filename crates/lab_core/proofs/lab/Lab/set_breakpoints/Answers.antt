@@ -1,6 +1,6 @@
 use Rattle.std.proofs.Common.{◌≡◌, Some, sym, subst}
-use Rattle.lab_sources.specs.Sources.{source_at}
-use Rattle.lab_breaks.specs.Breakpoints.{with_lines}
+use Rattle.lab_image.specs.Sources.{source_at}
+use Rattle.lab_image.specs.Breakpoints.{with_lines}
 use Rattle.lab_core.specs.Labs.{LabState, StandsFor}
 use Rattle.lab_core.proofs.LabLemmas.{gives_breakpoints, stands_listed}
 use Rattle.lab_core.proofs.lab.Lab.set_breakpoints.Goals as goal

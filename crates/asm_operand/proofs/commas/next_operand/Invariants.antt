@@ -1,8 +1,0 @@
-use Rattle.std.proofs.Common.{◌≡◌}
-use Rattle.asm_syntax.specs.Lexemes.{pieces_of}
-use Rattle.asm_operand.specs.Commas.{next_operand}
-use Rattle.asm_operand.proofs.Operands.{front_is}
-use Rattle.asm_operand.proofs.commas.next_operand.Given as goal
-
-abbrev pub invariant-loop-i : goal.invariant-loop-i
-invariant-loop-i l = front_is l.tokens l.i ≡ next_operand (pieces_of l.tokens)

@@ -1,5 +1,0 @@
-use Rattle.jup_date.proofs.DateLemmas.{one_date}
-use Rattle.jup_date.proofs.laws.has_one_date.Goals as goal
-
-pub returns : goal.returns
-returns c = one_date

@@ -1,3 +1,0 @@
-pub mod AddressLemmas
-pub mod ListLemmas
-pub mod MarkLemmas

@@ -1,0 +1,75 @@
+//! A set of addresses.
+ghost use Rattle.std.specs.Prelude.{◌≡◌, ◌==◌, ◌||◌, ℕ, false, length, IfOk};
+ghost use Rattle.lab_image.specs.Addresses.{IsEmpty};
+
+use std::alloc::{AllocError, Global};
+use std::marker::Model;
+
+/// How many addresses there are.
+const ADDRESS_COUNT: usize = 65_536;
+
+/// A set of addresses: whether each is in it. One byte for each is looked up faster than one bit, which matters since
+/// a slice looks after each step.
+#[derive(Drop)]
+pub(crate) struct AddressSet {
+    members: Vec<bool>,
+}
+
+impl Model for AddressSet {
+    ghost use Rattle.std.specs.Prelude.{◌≡◌, List, Bool, length};
+
+    ghost Value = { List Bool };
+
+    ghost view = { λ s. s.members.items };
+
+    ghost invariant = { λ s. length s.members.items ≡ 65536 };
+}
+
+impl AddressSet {
+    ghost use Rattle.lab_image.specs.Addresses.{has};
+
+    /// No address.
+    pub(crate) fn new(alloc: Global) -> Result<AddressSet, AllocError>
+        ensures { IfOk result (λ set. (a : ℕ) → has set a ≡ false) }
+    {
+        let members = none(alloc, ADDRESS_COUNT)?;
+        Ok(AddressSet { members })
+    }
+
+    /// Whether an address is in the set.
+    #[inline(always)]
+    pub(crate) fn contains(&self, address: u16) -> bool
+        ensures { result ≡ has self.now address }
+    {
+        self.members[usize::from(address)]
+    }
+
+    /// Adds an address.
+    pub(crate) fn insert(&mut self, address: u16)
+        ensures { (a : ℕ) → has self.new a ≡ (has self.old a || address == a) }
+    {
+        self.members[usize::from(address)] = true;
+    }
+
+    /// Takes out each address.
+    pub(crate) fn clear(&mut self)
+        ensures { (a : ℕ) → has self.new a ≡ false }
+    {
+        take_out(&mut self.members);
+    }
+}
+
+// A set of so many addresses, with none in it.
+fn none(alloc: Global, count: usize) -> Result<Vec<bool>, AllocError>
+    ensures count { IfOk result (λ members. length members.items ≡ count) }
+    ensures empty { IfOk result (λ members. IsEmpty members.items) }
+{
+    vec![in alloc; false; count]
+}
+
+// Takes out each.
+fn take_out(members: &mut [bool])
+    ensures { IsEmpty members.new }
+{
+    members.fill(false);
+}

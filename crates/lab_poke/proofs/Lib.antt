@@ -1,3 +1,0 @@
-pub mod NameLemmas
-pub mod RowLemmas
-pub mod ValueLemmas

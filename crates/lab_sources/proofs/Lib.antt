@@ -1,2 +1,0 @@
-pub mod SourceLemmas
-pub mod LineLemmas

@@ -1,0 +1,64 @@
+//! The places that can be changed by hand.
+ghost use Rattle.std.specs.Prelude.{◌≡◌};
+ghost use Rattle.lab_views.specs.Places.{place_named, register_named, byte_named};
+
+use crate::poke_fault::PokeFault;
+use base_text::hexadecimal::read_word;
+
+/// A place that can be changed by hand.
+#[derive(Clone, Copy)]
+pub enum Place {
+    A,
+    B,
+    C,
+    D,
+    E,
+    H,
+    L,
+    Sp,
+    Pc,
+    /// The byte at an address.
+    Memory(u16),
+}
+
+fn register_of(name: &str) -> Option<Place>
+    ensures { result ≡ register_named name.now }
+{
+    match name.as_bytes() {
+        b"A" => Some(Place::A),
+        b"B" => Some(Place::B),
+        b"C" => Some(Place::C),
+        b"D" => Some(Place::D),
+        b"E" => Some(Place::E),
+        b"H" => Some(Place::H),
+        b"L" => Some(Place::L),
+        b"SP" => Some(Place::Sp),
+        b"PC" => Some(Place::Pc),
+        _ => None,
+    }
+}
+
+fn byte_of(name: &str) -> Option<Place>
+    ensures { result ≡ byte_named name.now }
+{
+    match read_word(name.as_bytes()) {
+        Some(address) => Some(Place::Memory(address)),
+        None => None,
+    }
+}
+
+/// The place of a name in a scope, which the view of its variables has as its reference: 1, where a register
+/// has the name under which it is shown; or 5, where a byte of memory has its address as four hexadecimal
+/// digits, in either case.
+///
+/// Any other scope is refused with `BadReference`, and in these two any other name with `UnknownName`.
+pub fn place_of(reference: u32, name: &str) -> Result<Place, PokeFault>
+    ensures { result ≡ place_named reference name.now }
+{
+    let place = match reference {
+        1 => register_of(name),
+        5 => byte_of(name),
+        _ => return Err(PokeFault::BadReference),
+    };
+    place.ok_or(PokeFault::UnknownName)
+}

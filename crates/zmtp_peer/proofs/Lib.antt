@@ -1,4 +1,0 @@
-pub mod EchoLemmas
-pub mod QuietLemmas
-pub mod ReceivingLemmas
-pub mod SendingLemmas

@@ -1,4 +1,0 @@
-pub mod Beating
-pub mod Ends
-pub mod Receiving
-pub mod Sending

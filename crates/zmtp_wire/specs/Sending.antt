@@ -1,0 +1,50 @@
+-- What is written to a peer (RFC 23).
+use Rattle.std.specs.Prelude.{◌≡◌, ◌++◌, Result, MatchResult, flat_map}
+use Rattle.zmtp_wire.specs.declared.role.Role.{Role}
+use Rattle.zmtp_wire.specs.declared.role.Role.TheVariants.{Rep}
+use Rattle.zmtp_wire.specs.declared.head.Stage.TheVariants.{Traffic}
+use Rattle.zmtp_wire.specs.Stream.{DecoderState}
+use Rattle.zmtp_wire.specs.Wire.{Bytes, Messages}
+use Rattle.zmtp_wire.specs.Writing.{written_greeting, IsReadyOf, message_bytes}
+use Rattle.base_streams.specs.States.{OutletState, IsWritable}
+use Rattle.base_streams.specs.Told.{Took, TookFront}
+use Rattle.zmtp_wire.specs.declared.peer_fault.PeerFault.{PeerFault}
+use Rattle.zmtp_wire.specs.Ends.{EndsReading, Refuses}
+
+-- what a side of this role writes before any message: its greeting, and its READY
+pub record IsHandshakeOf (bytes : Bytes) (role : Role) : Type 0 where
+  pub ready : Bytes
+  pub is_ready : IsReadyOf ready role
+  pub spelled : bytes ≡ written_greeting ++ ready
+
+-- these bytes were written where it goes on; else a front of them, and the fault says why
+abbrev pub Writes : Bytes → OutletState → OutletState → Result (Unit {0}) PeerFault → Type 0
+Writes bytes old new result = MatchResult result
+    (λ _. Took old new bytes × IsWritable new)
+    (λ fault. TookFront old new bytes × Refuses fault new)
+
+-- a front of the role's handshake was written
+pub record WroteFront (old new : OutletState) (role : Role) : Type 0 where
+  pub handshake : Bytes
+  pub is : IsHandshakeOf handshake role
+  pub front : TookFront old new handshake
+
+-- the role's handshake was written whole
+pub record WroteWhole (old new : OutletState) (role : Role) : Type 0 where
+  pub handshake : Bytes
+  pub is : IsHandshakeOf handshake role
+  pub took : Took old new handshake
+
+-- messages as they are written, one after the other
+abbrev pub messages_bytes : Messages → Bytes
+messages_bytes messages = flat_map message_bytes messages
+
+-- a front of the handshake and these messages was written; all of it where the peer was accepted and
+-- reading came to this end
+pub record Echoes (old new : OutletState) (decoder : DecoderState) (messages : Messages)
+    (fault : PeerFault) : Type 0 where
+  pub handshake : Bytes
+  pub is : IsHandshakeOf handshake Rep
+  pub front : TookFront old new (handshake ++ messages_bytes messages)
+  pub whole : EndsReading fault → decoder.stage ≡ Traffic
+      → Took old new (handshake ++ messages_bytes messages)

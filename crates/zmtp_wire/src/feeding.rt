@@ -1,0 +1,35 @@
+//! What a piece of a stream completes, and what broke the stream after it.
+ghost use Rattle.std.specs.Prelude.{◌≡◌, IfOk, OnErr};
+ghost use Rattle.zmtp_wire.specs.Stream.{Completes};
+
+use crate::decoder::Decoder;
+use crate::fault::{FeedFault, StreamFault};
+use crate::messages::Messages;
+use std::alloc::{AllocError, Global};
+
+/// What a piece completes, and what is wrong with the stream after it, if something is.
+#[derive(Drop)]
+pub struct Fed {
+    pub messages: Messages,
+    pub broken: Option<StreamFault>,
+}
+
+/// Feeds a piece to a side. A stream that breaks still gives the messages before its fault. On an error
+/// the side is as it was.
+pub fn feed(alloc: Global, decoder: &mut Decoder, piece: &[u8]) -> Result<Fed, AllocError>
+    ensures completes { IfOk result (λ fed. Completes decoder.old piece.now fed.messages decoder.new) }
+    ensures broken { IfOk result (λ fed. fed.broken ≡ decoder.new.fault) }
+    ensures err { OnErr result (decoder.new ≡ decoder.old) }
+{
+    match decoder.feed(alloc, piece) {
+        Ok(messages) => Ok(Fed {
+            messages,
+            broken: None,
+        }),
+        Err(FeedFault::OutOfMemory) => Err(AllocError),
+        Err(FeedFault::Broken { before, cause }) => Ok(Fed {
+            messages: before,
+            broken: Some(cause),
+        }),
+    }
+}
