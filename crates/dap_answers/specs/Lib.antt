@@ -1,3 +1,4 @@
 pub mod Json
 pub mod Object
 pub mod Murmur
+pub mod Refusals

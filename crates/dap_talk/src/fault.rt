@@ -1,10 +1,7 @@
 //! Why a request is refused.
-ghost use Rattle.std.specs.Prelude.{◌≡◌, IfOk};
-ghost use Rattle.dap_talk.specs.Fault.{message_of, refused};
+ghost use Rattle.std.specs.Prelude.{◌≡◌};
+ghost use Rattle.dap_talk.specs.Fault.{message_of};
 
-use base_text::text::Text;
-use dap_answers::answer::{Outcome, Response};
-use std::alloc::{AllocError, Global};
 use std::fmt;
 use thiserror::Error;
 
@@ -46,25 +43,5 @@ impl DapFault<'_> {
             DapFault::Command { .. } => "Command",
             DapFault::Arguments { .. } => "Arguments",
         }
-    }
-
-    /// The response that refuses the request. Where the request's number and command aren't known
-    /// they are 0 and empty.
-    pub fn to_response(&self, alloc: Global) -> Result<Response, AllocError>
-        ensures { IfOk result (λ r. r ≡ refused self.now) }
-    {
-        let (request_seq, command) = match self {
-            DapFault::OutOfMemory | DapFault::NotRequest => (0, ""),
-            DapFault::Command { seq, command } | DapFault::Arguments { seq, command } => {
-                (*seq, *command)
-            }
-        };
-        let command = Text::copy_of(alloc, command)?;
-        let message = Text::copy_of(alloc, self.message())?;
-        Ok(Response {
-            request_seq,
-            command,
-            outcome: Outcome::Refused(message),
-        })
     }
 }

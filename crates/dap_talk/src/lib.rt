@@ -3,7 +3,7 @@
 // request, or the first fault that stands. Refusing takes no memory; only what a request carries
 // does.
 // `member_at` and `text_at` are what stands at a key of a JSON value.
-// `DapFault::to_response` is the response that refuses a request.
+// A fault borrows from the request what the response that refuses it repeats.
 #![tactic(auto)]
 
 pub mod arguments;

@@ -1,5 +1,6 @@
 //! Requests as frontends write them: what each is read as, and why others are refused.
 use base_text::text::Text;
+use dap_answers::refusal;
 use dap_answers::sending::response;
 use dap_talk::command::{CommandName, DapCommand, DapRequest, Granularity};
 use dap_talk::fault::DapFault;
@@ -564,7 +565,7 @@ fn refusal_of(alloc: Global, fault: &DapFault<'_>) -> Result<String, AllocError>
     if !is_its_message(alloc, fault)? {
         return String::from_str(alloc, "another text than its message");
     }
-    let answer = fault.to_response(alloc)?;
+    let answer = refusal::refusal_of(alloc, fault)?;
     let value = response(alloc, 3, &answer);
     drop(answer);
     text_of(alloc, value?)

@@ -2,7 +2,7 @@
 use Rattle.std.proofs.Common.{◌≡◌, ◌≢◌, Err, refl}
 use Rattle.dap_talk.specs.declared.fault.DapFault.{DapFault}
 use Rattle.dap_talk.specs.declared.fault.DapFault.TheVariants as fault
-use Rattle.dap_talk.specs.Fault.{refused}
+use Rattle.dap_answers.specs.Refusals.{refused}
 use Rattle.dap_talk.specs.Reading.{Reading, Answers}
 use Rattle.kern_request.specs.declared.request.RequestBody.TheVariants.{BadDebug}
 use Rattle.kern_request.specs.Requests.{debug_body}

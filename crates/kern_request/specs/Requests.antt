@@ -22,7 +22,7 @@ use Rattle.base_text.specs.Latin.{latin_bytes}
 use Rattle.jup_wire.specs.declared.channel.Channel.{Channel}
 use Rattle.jup_wire.specs.declared.message.Message.{Message}
 use Rattle.dap_talk.specs.Argument.{whole, text_at, member_at}
-use Rattle.dap_talk.specs.Fault.{refusal}
+use Rattle.dap_answers.specs.Refusals.{refusal}
 use Rattle.dap_talk.specs.Reading.{Reading, not_request, unknown_command, bad_arguments, request, reading}
 use Rattle.kern_request.specs.declared.request.RequestBody.{RequestBody}
 use Rattle.kern_request.specs.declared.request.RequestBody.TheVariants as body

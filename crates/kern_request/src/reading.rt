@@ -22,6 +22,7 @@ use crate::message_type::MessageType;
 use crate::request::{ExecuteRequest, NeedyRequest, Request, RequestBody};
 use base_text::latin::to_bytes;
 use base_text::text::Text;
+use dap_answers::refusal::refusal_of;
 use dap_talk::fault::DapFault;
 use dap_talk::members::text_at;
 use dap_talk::reading::read_request;
@@ -114,7 +115,7 @@ fn debug(alloc: Global, content: &Value) -> Result<RequestBody, AllocError>
         Ok(request) => Ok(RequestBody::Debug(request)),
         Err(DapFault::OutOfMemory) => Err(AllocError),
         Err(fault) => {
-            let response = fault.to_response(alloc)?;
+            let response = refusal_of(alloc, &fault)?;
             Ok(RequestBody::BadDebug(response))
         }
     }
