@@ -7,7 +7,7 @@ from pathlib import Path
 TOP = Path(__file__).resolve().parent.parent
 sys.path.insert(0, str(TOP))
 
-from workspace import height, own_uses, uses  # noqa: E402
+from workspace import own_uses, uses  # noqa: E402
 
 DOCUMENTS = [TOP / "README.md", *sorted((TOP / "docs").glob("*.md"))]
 
@@ -17,26 +17,26 @@ def is_drawn(crate):
     return not crate.endswith(("_tests", "_kit")) and crate != "bench"
 
 
-def drawn_rows():
-    """The rows of ARCHITECTURE's drawing: each crate's number."""
+def drawn_layers():
+    """ARCHITECTURE's drawing from below: each layer's crates, in their order."""
     text = (TOP / "docs/ARCHITECTURE.md").read_text()
     drawing = text.split("## Layers", 1)[1].split("\n## ", 1)[0]
-    rows = {}
-    for line in drawing.split("\n"):
-        found = re.match(r"    +(\d+)  (.*)", line)
-        for crate in found[2].split() if found else ():
-            rows[crate] = int(found[1])
-    return rows
+    layers = []
+    for line in re.findall(r"^    (.*)", drawing, re.MULTILINE):
+        if not line.startswith(" "):
+            layers.insert(0, [])
+            line = line.split(maxsplit=1)[1]
+        layers[0] += line.split()
+    return layers
 
 
 class Documents(unittest.TestCase):
-    def test_layers_are_those_of_the_workspace(self):
-        rows = drawn_rows()
-        self.assertEqual(set(rows), {it for it in uses() if is_drawn(it)})
-        for crate, row in rows.items():
-            self.assertEqual(row, height(crate), crate)
+    def test_a_crate_stands_on_layers_below_and_on_those_before_it(self):
+        drawn = [crate for layer in drawn_layers() for crate in layer]
+        self.assertEqual(sorted(drawn), sorted(filter(is_drawn, uses())))
+        for at, crate in enumerate(drawn):
             for other in own_uses(crate):
-                self.assertLess(rows[other], row, f"{crate} stands on {other}")
+                self.assertIn(other, drawn[:at], f"{crate} stands on {other}")
 
     def test_crates_that_head_a_paragraph_are_there(self):
         for document in DOCUMENTS:
