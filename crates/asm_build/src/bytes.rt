@@ -9,7 +9,7 @@ ghost use Rattle.asm_build.specs.Meaning.{instruction_bytes, datum_bytes, word_b
 ghost use Rattle.asm_build.specs.Meaning.{bytes_of, start_of};
 ghost use Rattle.asm_build.specs.State.{appended};
 
-use crate::layout::at;
+use crate::faults::at;
 use asm_expr::env::Env;
 use asm_expr::evaluation::{ExprFault, value};
 use asm_syntax::fault::{FaultKind, LineFault};

@@ -15,10 +15,11 @@ ghost use Rattle.asm_build.specs.Layout.{is_among, Adds, Notes, needs, uses, che
 ghost use Rattle.asm_build.specs.Layout.{check_defined};
 ghost use Rattle.asm_build.specs.Layout.{check_definition, early, within, assembled, laid_out};
 ghost use Rattle.asm_build.specs.Layout.{layout};
-ghost use Rattle.asm_build.specs.State.{placed, past_in, past_of, lines_of, with_line_definition};
+ghost use Rattle.asm_build.specs.State.{past_in, past_of, lines_of, with_line_definition};
 ghost use Rattle.asm_build.specs.State.{Advances, Stands};
 
 use crate::bytes::number_or;
+use crate::faults::{at, on_line};
 use crate::laid::Laid;
 use crate::look_up::EarlyNames;
 use crate::name_set::NameSet;
@@ -60,22 +61,6 @@ impl Drop for Layout<'_> {
             has_ended: _,
         } = self;
     }
-}
-
-// A fault on its line.
-pub(crate) fn on_line(line: usize, fault: LineFault) -> AsmFault
-    ensures { result ≡ placed line fault }
-{
-    match fault {
-        LineFault::OutOfMemory => AsmFault::OutOfMemory,
-        LineFault::At { column, kind } => AsmFault::At { line, column, kind },
-    }
-}
-
-pub(crate) fn at(column: usize, kind: FaultKind) -> LineFault
-    ensures { result ≡ LineFault.At column kind }
-{
-    LineFault::At { column, kind }
 }
 
 // Whether an operand names it.

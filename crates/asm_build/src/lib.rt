@@ -9,6 +9,7 @@
 pub mod built;
 mod bytes;
 pub mod cell;
+mod faults;
 mod image;
 pub mod laid;
 pub mod laws;

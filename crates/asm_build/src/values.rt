@@ -7,9 +7,10 @@ ghost use Rattle.asm_build.specs.State.{lines_of, late_in, output_in};
 
 use crate::built::Row;
 use crate::bytes::{bytes_of, start_of};
+use crate::faults::{at, on_line};
 use crate::image::Image;
 use crate::laid::Laid;
-use crate::layout::{Layout, at, given_as, on_line};
+use crate::layout::{Layout, given_as};
 use crate::look_up::LateNames;
 use crate::statements::definition_of;
 use crate::symbols::Symbols;

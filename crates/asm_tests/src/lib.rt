@@ -1,15 +1,10 @@
 // The tests of the assembler's crates, from values of expressions and tokens of a line to cells over earlier
-// cells' symbols, and of i80_dis: lines of all opcodes against a table that was made without it, and listings
-// that are assembled again.
+// cells' symbols.
 // They stand here, above the crates that they test, so that each of those is proved once: a crate is
 // proved again with each test that stands in it. Everything is tested through public functions.
 // What `asm` prints of whole cells is tested by the clients.
 #![tactic(auto)]
 
-#[cfg(test)]
-mod listing_tests;
-#[cfg(test)]
-mod opcode_lines;
 #[cfg(test)]
 mod operand_tests;
 #[cfg(test)]

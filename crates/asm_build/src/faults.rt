@@ -1,0 +1,22 @@
+//! Where faults stand.
+ghost use Rattle.std.specs.Prelude.{◌≡◌};
+ghost use Rattle.asm_build.specs.State.{placed};
+
+use asm_syntax::fault::{AsmFault, FaultKind, LineFault};
+
+/// A fault on its line.
+pub(crate) fn on_line(line: usize, fault: LineFault) -> AsmFault
+    ensures { result ≡ placed line fault }
+{
+    match fault {
+        LineFault::OutOfMemory => AsmFault::OutOfMemory,
+        LineFault::At { column, kind } => AsmFault::At { line, column, kind },
+    }
+}
+
+/// A fault at a column.
+pub(crate) fn at(column: usize, kind: FaultKind) -> LineFault
+    ensures { result ≡ LineFault.At column kind }
+{
+    LineFault::At { column, kind }
+}
