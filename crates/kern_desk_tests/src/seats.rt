@@ -13,7 +13,7 @@ use kern_desk::seated::{Desk, Pass, Seated};
 use kern_post::content::Content;
 use kern_post::post::Post;
 use kern_test_kit::actions::{Action, Question, call_of};
-use lab_turn::fault::CloseFault;
+use lab_turn::turnstile::CloseFault;
 use std::alloc::Global;
 use std::process::Abort;
 use std::sync::Wait;

@@ -2,8 +2,8 @@
 use Rattle.std.specs.Prelude.{ℕ}
 use Rattle.zmtp_wire.specs.Wire.{Bytes}
 use Rattle.jup_wire.specs.declared.channel.Channel.{Channel}
-use Rattle.kern_net.specs.declared.pump_in.IncomingRoute.{IncomingRoute}
-use Rattle.kern_net.specs.declared.pump_out.OutgoingRoute.{OutgoingRoute}
+use Rattle.kern_net.specs.declared.routes.IncomingRoute.{IncomingRoute}
+use Rattle.kern_net.specs.declared.routes.OutgoingRoute.{OutgoingRoute}
 
 -- where messages come from: the connection's number and channel, and the key that they open under
 pub record Source : Type 0 where

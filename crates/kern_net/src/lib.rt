@@ -12,6 +12,7 @@ pub mod end;
 pub mod gate;
 pub mod pump_in;
 pub mod pump_out;
+pub mod routes;
 pub mod stream;
 mod submitting;
 pub mod tally;

@@ -9,28 +9,16 @@ ghost use Rattle.kern_net.specs.Routes.{source_of};
 
 use crate::end::PumpEnd;
 use crate::gate::ReaderGate;
+use crate::routes::IncomingRoute;
 use crate::submitting::submit;
 use base_streams::ports::Inlet;
-use jup_wire::channel::Channel;
-use kern_desk::seated::{Desk, Pass};
+use kern_desk::seated::Pass;
 use std::alloc::Global;
 use std::sync::Wait;
 use zmtp_wire::decoder::Decoder;
 use zmtp_wire::feeding::{Fed, feed};
 use zmtp_wire::handshake::Peer;
 use zmtp_wire::messages::Messages;
-
-/// Where messages come from, how they are signed, and at which desk their calls are made.
-#[derive(Clone, Copy)]
-pub struct IncomingRoute<'a> {
-    pub desk: &'a Desk,
-    /// The connection's number, as its Join was answered.
-    pub connection: u32,
-    /// The channel of its Join.
-    pub channel: Channel,
-    /// With an empty key no signature is checked.
-    pub key: &'a [u8],
-}
 
 #[tactic(auto, using(crate::proofs::ReadLemmas::coming_first, crate::proofs::ReadLemmas::coming_on, crate::proofs::ReadLemmas::coming_refused, crate::proofs::ReadLemmas::coming_end))]
 fn submit_all<R: Wait, G: ReaderGate>(

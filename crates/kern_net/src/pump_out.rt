@@ -11,28 +11,17 @@ ghost use Rattle.kern_net.specs.Routes.{target_of};
 
 use crate::end::PumpEnd;
 use crate::gate::WriterGate;
+use crate::routes::OutgoingRoute;
 use crate::stream::stream_of;
 use base_streams::ports::Outlet;
 use base_streams::writing::write_all;
 use kern_core::call::{Call, Reply};
 use kern_core::fault::KernelFault;
-use kern_desk::seated::{Desk, Pass};
+use kern_desk::seated::Pass;
 use kern_post::post::{Post, Posts};
 use kern_post::store::FETCHED_AT_ONCE;
 use std::alloc::Global;
 use std::sync::Wait;
-
-/// At which desk posts are fetched, which of them go out, and how they are sealed.
-#[derive(Clone, Copy)]
-pub struct OutgoingRoute<'a> {
-    pub desk: &'a Desk,
-    /// The connection's number, as its Join answered it.
-    pub connection: u32,
-    /// The key of the signatures; an empty one leaves them empty.
-    pub key: &'a [u8],
-    /// The session's name in the headers.
-    pub session: &'a str,
-}
 
 /// How far a Fetch goes that leaves posts.
 pub const NUMBERS_OF_A_FETCH: u64 = FETCHED_AT_ONCE as u64;

@@ -18,7 +18,7 @@ ghost use Rattle.kern_net.specs.Routes.{source_of};
 
 use crate::end::PumpEnd;
 use crate::gate::ReaderGate;
-use crate::pump_in::IncomingRoute;
+use crate::routes::IncomingRoute;
 use crate::wakes::gives_work;
 use base_text::sequence::{Bytes, Frames};
 use jup_wire::channel::Channel;

@@ -4,7 +4,7 @@ ghost use Rattle.std.specs.Prelude.{IsErr, IsSome, OnOk, OnErr, Some, ◌∷◌,
 ghost use Rattle.lab_turn.specs.History.{TurnstileState, FreshFrom, Turned, IsHistoryOf};
 ghost use Rattle.lab_turn.specs.Turns.{Gathered, IsIdle, maker_at};
 
-use crate::fault::{CloseFault, OpenFault, TurnFault};
+use crate::fault::TurnFault;
 use crate::journaled::Journaled;
 use crate::pass::Pass;
 use crate::queue::take_turn;
@@ -16,6 +16,26 @@ use std::fmt;
 use std::marker::Model;
 use std::snapshot::Snapshot;
 use std::sync::{Mutex, Wait};
+use thiserror::Error;
+
+/// Why a turnstile is not opened.
+#[derive(Debug, Drop, Error)]
+pub enum OpenFault<J> {
+    /// The value comes back.
+    #[error("out of memory")]
+    OutOfMemory(J),
+}
+
+/// Why a turnstile is not closed.
+#[derive(Debug, Drop, Error)]
+pub enum CloseFault<J: Journaled> {
+    /// All that was handed in comes back.
+    #[error("a pass of the turnstile is missing")]
+    MissingPass {
+        turnstile: Turnstile<J>,
+        passes: Vec<Pass<J>>,
+    },
+}
 
 /// A journaled value that the holders of its passes take turns on, from any thread.
 ///

@@ -2,9 +2,9 @@
 ghost use Rattle.std.specs.Prelude.{◌≡◌, IfSome};
 
 use super::*;
-use lab_turn::fault::{CloseFault, OpenFault, TurnFault};
+use lab_turn::fault::TurnFault;
 use lab_turn::pass::Pass;
-use lab_turn::turnstile::Turnstile;
+use lab_turn::turnstile::{CloseFault, OpenFault, Turnstile};
 use std::process::Abort;
 use std::sync::Wait;
 use std::test::Fail;

@@ -12,8 +12,7 @@ use kern_desk::desks::{MOST_ENTRIES, close_desk};
 use kern_desk::seated::{Desk, Pass, Seated};
 use kern_test_kit::actions::Action::{Fetch, Join, Send, Slice, Subscribe};
 use kern_test_kit::actions::{Action, call_of};
-use lab_turn::fault::OpenFault;
-use lab_turn::turnstile::Turnstile;
+use lab_turn::turnstile::{OpenFault, Turnstile};
 use std::alloc::Global;
 use std::sync::Wait;
 
