@@ -23,7 +23,7 @@ use std::rt::Clock;
 use std::sync::Wait;
 use std::thread::Threads;
 
-// One hears all, two ask once that is so, one is a stranger, and the last shuts the kernel down once the
+// One hears all, two ask once that is so, one is no peer, and the last shuts the kernel down once the
 // three requests of the others are done.
 const SCRIPTS: [Script; 5] = [
     Script {
@@ -155,7 +155,7 @@ fn is_handshake_and(bytes: &[u8], channel: Channel, others: &[u8]) -> bool {
     behind(rest, ready) == Some(others)
 }
 
-// What a guest was sent is what the journal's calls give once more; the stranger got a greeting.
+// What a guest was sent is what the journal's calls give once more; the one that is no peer got a greeting.
 fn check_guest<R: Abort>(rt: &R, alloc: Global, seated: &Seated, place: usize, bytes: &[u8]) {
     let Some(script) = SCRIPTS.get(place) else {
         return;

@@ -1,1 +1,1 @@
-pub mod StrangerLemmas
+pub mod ThrottleLemmas

@@ -1,3 +1,3 @@
 pub mod Budgets
 pub mod Pacing
-pub mod Strangers
+pub mod Unauthenticated

@@ -1,11 +1,11 @@
-//! How a channel holds connections back where many strangers come: peers that left without a message that
-//! opens. Moments are milliseconds since the server began.
+//! How a channel throttles connections while many unauthenticated peers come, which are peers that left
+//! without a message that opens. Moments are milliseconds since the server began.
 ghost use Rattle.std.specs.Prelude.{◌≡◌, ◌≤◌, ◌↔◌, ⊤, IsTrue, replicate};
-ghost use Rattle.kern_pace.specs.Strangers.{with_stranger, IsCrowded, HasTurn};
+ghost use Rattle.kern_pace.specs.Unauthenticated.{with_unauthenticated, IsCrowded, HasTurn};
 
 use std::marker::Model;
 
-// So many strangers within a second are a crowd.
+// So many unauthenticated peers within a second are a crowd.
 const CROWD: usize = 8;
 
 const SECOND: u64 = 1_000;
@@ -13,10 +13,10 @@ const SECOND: u64 = 1_000;
 // The time from one turn to the next.
 const GAP: u64 = 50;
 
-// As long as sixteen turns: a channel has so many places.
+// As long as sixteen turns: a channel has so many slots.
 const LONGEST_WAIT: u64 = 800;
 
-/// The strangers and the turns of a channel.
+/// The unauthenticated peers and the turns of a channel.
 #[derive(Drop)]
 pub struct Throttle {
     until: [u64; CROWD],
@@ -24,7 +24,7 @@ pub struct Throttle {
 }
 
 impl Model for Throttle {
-    ghost use Rattle.kern_pace.specs.Strangers.{ThrottleState};
+    ghost use Rattle.kern_pace.specs.Unauthenticated.{ThrottleState};
 
     ghost Value = { ThrottleState };
 
@@ -42,17 +42,17 @@ impl Throttle {
         }
     }
 
-    /// A stranger has left.
-    #[tactic(auto, using(crate::proofs::StrangerLemmas::first_last))]
-    pub fn add_stranger(&mut self, now: u64)
+    /// An unauthenticated peer has left.
+    #[tactic(auto, using(crate::proofs::ThrottleLemmas::first_last))]
+    pub fn add_unauthenticated(&mut self, now: u64)
         requires { now ≤ 1000000000000000 }
-        ensures { self.new ≡ with_stranger now self.old }
+        ensures { self.new ≡ with_unauthenticated now self.old }
     {
         self.until[0] = now + SECOND;
         self.until.rotate_left(1);
     }
 
-    // Whether eight strangers have left within a second.
+    // Whether eight unauthenticated peers have left within a second.
     fn is_crowded(&self, now: u64) -> bool
         ensures { IsTrue result ↔ IsCrowded now self.now }
     {

@@ -1,11 +1,11 @@
 //! One connection, from its handshake to its Leave.
 ghost use Rattle.std.specs.Prelude.{◌≡◌};
-ghost use Rattle.kern_serve.specs.Lanes.{AreOf};
+ghost use Rattle.kern_serve.specs.Passes.{AreOf};
 
 use crate::gates::{InGate, OutGate};
 use crate::host::Host;
 use crate::listeners::Listeners;
-use crate::places::Places;
+use crate::slots::Slots;
 use crate::socket::{close, meet};
 use base_streams::std_io::{StdInlet, StdOutlet};
 use base_text::sequence::Bytes;
@@ -20,10 +20,10 @@ use kern_net::end::PumpEnd;
 use kern_net::pump_in::pump_in;
 use kern_net::pump_out::pump_out;
 use kern_net::routes::{IncomingRoute, OutgoingRoute};
-use kern_waits::bell::{Bell, Place};
-use kern_waits::spot::Spot;
+use kern_waits::event_count::EventCount;
 use kern_waits::throttles::Throttles;
 use kern_waits::unsigned::{FREE_BYTES, UnsignedStream};
+use kern_waits::wakeups::{Slot, Wakeups};
 use std::alloc::{AllocError, Global};
 use std::net::TcpStream;
 use std::rt::Clock;
@@ -37,11 +37,11 @@ use zmtp_wire::handshake::Peer;
 #[derive(Drop)]
 pub struct Shared {
     pub desk: Desk,
-    pub bell: Bell,
+    pub wakeups: Wakeups,
     /// What peers wait by that have shown no key.
     pub throttles: Throttles,
-    /// Who is at which place.
-    pub places: Places,
+    /// Which connection has which slot.
+    pub slots: Slots,
     /// The key of the signatures.
     pub key: Text,
     /// The session's name in the headers of what the kernel sends.
@@ -49,35 +49,35 @@ pub struct Shared {
     pub listeners: Listeners,
 }
 
-/// The two passes that a lane has for good.
+/// The two passes of a connection thread, the reader's and the writer's.
 #[derive(Drop)]
-pub struct Seats {
+pub struct PassPair {
     pub first: Pass,
     pub second: Pass,
 }
 
-// The two ends of a connection: its place, how it joined, its socket, and whether its reader has closed it.
+// A connection: its slot, how it joined, its socket, and whether its reader has closed it.
 #[derive(Drop)]
-struct Ends {
-    place: Place,
+struct Connection {
+    slot: Slot,
     joined: Joined,
-    // How often somebody had rung at the place before it joined.
+    // What the writer's event count was before it joined.
     seen: u64,
     stream: Arc<TcpStream>,
     is_closed: AtomicBool,
     // Where its writer waits until its reader has begun.
-    begun: Spot,
+    begun: EventCount,
 }
 
-impl Ends {
-    fn new(place: Place, joined: Joined, seen: u64, stream: Arc<TcpStream>) -> Ends {
-        Ends {
-            place,
+impl Connection {
+    fn new(slot: Slot, joined: Joined, seen: u64, stream: Arc<TcpStream>) -> Connection {
+        Connection {
+            slot,
             joined,
             seen,
             stream,
             is_closed: AtomicBool::new(false),
-            begun: Spot::new(),
+            begun: EventCount::new(),
         }
     }
 }
@@ -89,10 +89,10 @@ const LOOK_MILLIS: u64 = 10;
 
 // Whether the reader begins. Where no thread can be had, it is to go last, once the writer has ended; but by
 // the reader alone it is known that a peer has gone.
-fn has_reader<R: Wait>(rt: &R, ends: &Ends) -> bool {
+fn has_reader<R: Wait>(rt: &R, connection: &Connection) -> bool {
     for _ in 0..LOOKS {
         let most = Duration::from_millis(LOOK_MILLIS);
-        if ends.begun.wait_within(rt, 0, most) != 0 {
+        if connection.begun.wait_timeout(rt, 0, most) != 0 {
             return true;
         }
     }
@@ -100,50 +100,52 @@ fn has_reader<R: Wait>(rt: &R, ends: &Ends) -> bool {
 }
 
 // Reads until the end, and then closes both halves: but a full journal leaves its writer what was posted. A
-// peer of which nothing was taken was a stranger.
+// peer of which nothing was accepted was unauthenticated.
 fn read_on<R: Wait + Clock>(
     rt: &R,
     alloc: Global,
     shared: &Shared,
     mut pass: Pass,
     peer: &mut Option<Peer>,
-    ends: &Ends,
+    connection: &Connection,
 ) -> Pass
     requires { pass.turnstile ≡ shared.now.desk }
     ensures { result.turnstile ≡ shared.now.desk }
 {
-    ends.begun.ring();
+    connection.begun.notify();
     let Some(peer) = peer.take() else {
         return pass;
     };
-    let bell = &shared.bell;
-    let mut gate = InGate::new(bell, &shared.places, rt, ends.place);
+    let wakeups = &shared.wakeups;
+    let mut gate = InGate::new(wakeups, &shared.slots, rt, connection.slot);
     let mut from = StdInlet::new(UnsignedStream {
-        stream: &*ends.stream,
+        stream: &*connection.stream,
         rt,
         throttles: &shared.throttles,
-        channel: ends.place.channel,
-        is_signed: ends.place.channel != Channel::Iopub,
+        channel: connection.slot.channel,
+        is_signed: connection.slot.channel != Channel::Iopub,
         patience: u64::MAX,
         read: FREE_BYTES / 2,
     });
     let route = IncomingRoute {
         desk: &shared.desk,
-        connection: ends.joined.connection,
-        channel: ends.place.channel,
+        connection: connection.joined.connection,
+        channel: connection.slot.channel,
         key: shared.key.as_str().as_bytes(),
     };
     let end = pump_in(rt, alloc, &mut pass, &mut gate, &mut from, peer, &route);
     if end == PumpEnd::JournalFull {
-        bell.wake_all();
+        wakeups.wake_all();
         return pass;
     }
     if !gate.was_used() {
-        shared.throttles.add_stranger(rt, ends.place.channel);
+        shared
+            .throttles
+            .add_unauthenticated(rt, connection.slot.channel);
     }
-    ends.is_closed.store(true, Ordering::SeqCst);
-    close(&*ends.stream);
-    bell.spot(ends.place).nudge();
+    connection.is_closed.store(true, Ordering::SeqCst);
+    close(&*connection.stream);
+    wakeups.event_count(connection.slot).wake();
     pass
 }
 
@@ -153,26 +155,32 @@ fn write_on<R: Wait + Clock>(
     alloc: Global,
     shared: &Shared,
     mut pass: Pass,
-    ends: &Ends,
+    connection: &Connection,
 ) -> Pass
     requires { pass.turnstile ≡ shared.now.desk }
     ensures { result.turnstile ≡ shared.now.desk }
 {
-    if !has_reader(rt, ends) {
-        close(&*ends.stream);
+    if !has_reader(rt, connection) {
+        close(&*connection.stream);
         return pass;
     }
-    let bell = &shared.bell;
-    let joined = ends.joined;
-    let mut gate = OutGate::new(bell, ends.place, &ends.is_closed, joined.from, ends.seen);
-    let mut to = StdOutlet::new(&*ends.stream);
+    let wakeups = &shared.wakeups;
+    let joined = connection.joined;
+    let mut gate = OutGate::new(
+        wakeups,
+        connection.slot,
+        &connection.is_closed,
+        joined.from,
+        connection.seen,
+    );
+    let mut to = StdOutlet::new(&*connection.stream);
     let route = OutgoingRoute {
         desk: &shared.desk,
         connection: joined.connection,
         key: shared.key.as_str().as_bytes(),
         session: shared.session.as_str(),
     };
-    bell.begin_writer(rt, ends.place.channel);
+    wakeups.add_writer(rt, connection.slot.channel);
     if gate.wait_for_posts(rt) {
         let _ = pump_out(
             rt,
@@ -184,8 +192,8 @@ fn write_on<R: Wait + Clock>(
             joined.from,
         );
     }
-    close(&*ends.stream);
-    bell.end_writer(rt, ends.place.channel);
+    close(&*connection.stream);
+    wakeups.remove_writer(rt, connection.slot.channel);
     pass
 }
 
@@ -195,13 +203,13 @@ fn pump<R: Host>(
     alloc: Global,
     shared: &Shared,
     peer: Peer,
-    ends: Ends,
-    seats: Seats,
-) -> Seats
-    requires { AreOf shared.now.desk seats }
+    connection: Connection,
+    passes: PassPair,
+) -> PassPair
+    requires { AreOf shared.now.desk passes }
     ensures { AreOf shared.now.desk result }
 {
-    let Seats { first, second } = seats;
+    let PassPair { first, second } = passes;
     // The reader takes the peer out of here.
     let mut peer = Some(peer);
     let (first, second) = thread::join(
@@ -209,13 +217,13 @@ fn pump<R: Host>(
         || -> Pass
             requires { first.turnstile ≡ shared.now.desk }
             ensures { result.turnstile ≡ shared.entry.now.desk }
-        { read_on(rt, alloc, shared, first, &mut peer, &ends) },
+        { read_on(rt, alloc, shared, first, &mut peer, &connection) },
         || -> Pass
             requires { second.turnstile ≡ shared.now.desk }
             ensures { result.turnstile ≡ shared.entry.now.desk }
-        { write_on(rt, alloc, shared, second, &ends) },
+        { write_on(rt, alloc, shared, second, &connection) },
     );
-    Seats { first, second }
+    PassPair { first, second }
 }
 
 // The identity of a peer, or an empty one.
@@ -237,11 +245,11 @@ fn join_as<R: Wait>(
     requires { pass.old.turnstile ≡ shared.now.desk }
     ensures { pass.new.turnstile ≡ shared.now.desk }
 {
-    shared.bell.count_entries(1);
+    shared.wakeups.count_entries(1);
     match join(rt, &shared.desk, pass, channel, identity) {
         Ok(joined) => Some(joined),
         Err(KernelFault::JournalFull) => {
-            shared.bell.wake_all();
+            shared.wakeups.wake_all();
             None
         }
         Err(_) => None,
@@ -267,12 +275,12 @@ fn join_peer<R: Wait>(
 }
 
 // Leaves, but where the kernel takes no more calls. Where memory is wanting for the entry it tries again, so
-// that no place and no identity stay taken by nobody.
+// that no slot and no identity stay taken by nobody.
 fn leave<R: Wait + Clock>(rt: &R, shared: &Shared, pass: &mut Pass, connection: u32)
     requires { pass.old.turnstile ≡ shared.now.desk }
     ensures { pass.new.turnstile ≡ shared.now.desk }
 {
-    shared.bell.count_entries(1);
+    shared.wakeups.count_entries(1);
     for _ in rt.forever() {
         let answer = shared.desk.turn(rt, pass, Call::Leave { connection });
         let wants_memory = matches!(&answer, Ok(Err(KernelFault::OutOfMemory)));
@@ -284,42 +292,42 @@ fn leave<R: Wait + Clock>(rt: &R, shared: &Shared, pass: &mut Pass, connection: 
     }
 }
 
-/// Serves a connection at a place until it ends, and gives its passes back. One that makes no handshake
-/// or for which the kernel has no place is closed. Where many strangers come it waits for its turn to join.
+/// Serves a connection in a slot until it ends, and returns its passes. One that makes no handshake, or for
+/// which the kernel has no room, is closed. If many unauthenticated peers come it waits for its turn to join.
 pub fn serve_connection<R: Host>(
     rt: &R,
     alloc: Global,
     shared: &Shared,
-    place: Place,
+    slot: Slot,
     stream: TcpStream,
-    mut seats: Seats,
-) -> Seats
-    requires { AreOf shared.now.desk seats }
+    mut passes: PassPair,
+) -> PassPair
+    requires { AreOf shared.now.desk passes }
     ensures { AreOf shared.now.desk result }
 {
-    let channel = place.channel;
+    let channel = slot.channel;
     let Some(peer) = meet(rt, alloc, &shared.throttles, &stream, channel) else {
         drop(stream);
-        return seats;
+        return passes;
     };
     let Ok(stream) = Arc::new(alloc, stream) else {
         drop(peer);
-        return seats;
+        return passes;
     };
     shared.throttles.admit(rt, channel);
-    let seen = shared.bell.spot(place).rings();
-    let Some(joined) = join_peer(rt, alloc, shared, &mut seats.first, channel, &peer) else {
-        shared.throttles.add_stranger(rt, channel);
+    let seen = shared.wakeups.event_count(slot).count();
+    let Some(joined) = join_peer(rt, alloc, shared, &mut passes.first, channel, &peer) else {
+        shared.throttles.add_unauthenticated(rt, channel);
         drop(peer);
         drop(stream);
-        return seats;
+        return passes;
     };
     if let Ok(shown) = Arc::try_clone(&stream) {
-        shared.places.enter(rt, place, shown);
+        shared.slots.enter(rt, slot, shown);
     }
-    let ends = Ends::new(place, joined, seen, stream);
-    seats = pump(rt, alloc, shared, peer, ends, seats);
-    shared.places.leave(rt, place);
-    leave(rt, shared, &mut seats.first, joined.connection);
-    seats
+    let connection = Connection::new(slot, joined, seen, stream);
+    passes = pump(rt, alloc, shared, peer, connection, passes);
+    shared.slots.leave(rt, slot);
+    leave(rt, shared, &mut passes.first, joined.connection);
+    passes
 }

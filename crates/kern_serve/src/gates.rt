@@ -1,7 +1,7 @@
 //! The gates of a server: where its threads wait, and what they wake others by.
 ghost use Rattle.std.specs.Prelude.{◌≡◌, ◌≤◌, ◌+◌, ◌<◌, ◌↔◌, IsTrue};
 
-use crate::places::Places;
+use crate::slots::Slots;
 use crate::system::unix_seconds;
 use jup_wire::channel::Channel;
 use kern_desk::seated::Pass;
@@ -12,8 +12,8 @@ use kern_pace::pace::{
     SHORTEST_GAP, free_slices, is_free_subscription, is_full, is_nearly_full, lag_pause, next_gap,
     slice_pause, subscription_pause,
 };
-use kern_waits::bell::{Bell, Place, Readers};
-use kern_waits::spot::Spot;
+use kern_waits::event_count::EventCount;
+use kern_waits::wakeups::{Readers, Slot, Wakeups};
 use std::rt::Clock;
 use std::sync::Wait;
 use std::sync::atomic::{AtomicBool, Ordering};
@@ -23,12 +23,12 @@ use std::time::Duration;
 /// A reader's gate. If many subscriptions were taken, further ones wait so that the journal lasts.
 #[derive(Drop)]
 pub struct InGate<'a, C: Clock> {
-    bell: &'a Bell,
-    places: &'a Places,
+    wakeups: &'a Wakeups,
+    slots: &'a Slots,
     // Where the writer of its connection waits.
-    own: &'a Spot,
+    own: &'a EventCount,
     clock: &'a C,
-    place: Place,
+    slot: Slot,
     // How many entries there were when something came through it last.
     entries: u64,
     wakes: u64,
@@ -36,15 +36,15 @@ pub struct InGate<'a, C: Clock> {
 }
 
 impl<'a, C: Clock> InGate<'a, C> {
-    /// A gate through which nothing has come yet, of a connection at this place.
-    pub fn new(bell: &'a Bell, places: &'a Places, clock: &'a C, place: Place) -> InGate<'a, C> {
+    /// A gate through which nothing has come yet, of the connection in this slot.
+    pub fn new(wakeups: &'a Wakeups, slots: &'a Slots, clock: &'a C, slot: Slot) -> InGate<'a, C> {
         InGate {
-            bell,
-            places,
-            own: bell.spot(place),
+            wakeups,
+            slots,
+            own: wakeups.event_count(slot),
             clock,
-            place,
-            entries: bell.entries(),
+            slot,
+            entries: wakeups.entries(),
             wakes: 0,
             tells: 0,
         }
@@ -61,19 +61,19 @@ impl<'a, C: Clock> InGate<'a, C> {
     fn hold(&mut self)
         ensures { (self.new.wakes ≡ self.old.wakes) × (self.new.tells ≡ self.old.tells) }
     {
-        let entries = self.bell.entries();
+        let entries = self.wakeups.entries();
         let micros = subscription_pause(entries, self.entries);
         self.entries = entries;
-        if !is_free_subscription(self.bell.count_subscription()) {
+        if !is_free_subscription(self.wakeups.count_subscription()) {
             thread::sleep(self.clock, Duration::from_micros(micros));
         }
     }
 
-    // Counts a call; the first one shows who is at the place.
+    // Counts a call; the first one shows that the peer has the key.
     fn count<R: Wait>(&self, rt: &R) {
-        self.bell.count_entries(1);
+        self.wakeups.count_entries(1);
         if !self.was_used() {
-            self.places.hear(rt, self.place);
+            self.slots.hear(rt, self.slot);
         }
     }
 }
@@ -83,20 +83,20 @@ impl<'a, C: Clock> ReaderGate for InGate<'a, C> {
 
     fn wake<R: Wait>(&mut self, rt: &R) {
         self.count(rt);
-        self.bell.wake_all();
+        self.wakeups.wake_all();
         self.wakes = one_more(rt, self.wakes);
     }
 
     fn tell<R: Wait>(&mut self, rt: &R) {
         self.count(rt);
-        match self.place.channel {
+        match self.slot.channel {
             Channel::Iopub => {
-                self.bell.tell_subscription();
+                self.wakeups.after_subscription();
                 self.hold();
             }
             // A debugger's look at the board, mostly.
-            Channel::Control => self.bell.tell_look(self.clock, self.own),
-            Channel::Shell | Channel::Stdin => self.bell.tell(self.own),
+            Channel::Control => self.wakeups.after_look(self.clock, self.own),
+            Channel::Shell | Channel::Stdin => self.wakeups.after_request(self.own),
         }
         self.tells = one_more(rt, self.tells);
     }
@@ -110,10 +110,10 @@ impl<'a, C: Clock> ReaderGate for InGate<'a, C> {
 /// or once all is written that was posted before the worker ended.
 #[derive(Drop)]
 pub struct OutGate<'a> {
-    bell: &'a Bell,
-    place: Place,
+    wakeups: &'a Wakeups,
+    slot: Slot,
     // Where it waits, and how often somebody had rung there before the last Fetch.
-    own: &'a Spot,
+    own: &'a EventCount,
     seen: u64,
     is_closed: &'a AtomicBool,
     // Whether the worker had ended before the last Fetch.
@@ -127,8 +127,8 @@ impl<'a> OutGate<'a> {
     /// The gate of a writer that makes no Fetch yet, the first of which is to begin at this number. So often
     /// somebody had rung where it waits before that number was told.
     pub fn new(
-        bell: &'a Bell,
-        place: Place,
+        wakeups: &'a Wakeups,
+        slot: Slot,
         is_closed: &'a AtomicBool,
         from: u64,
         seen: u64,
@@ -136,12 +136,12 @@ impl<'a> OutGate<'a> {
         ensures { result.idle ≡ record { yes = 0; no = 0 } }
     {
         OutGate {
-            bell,
-            place,
-            own: bell.spot(place),
+            wakeups,
+            slot,
+            own: wakeups.event_count(slot),
             seen,
             is_closed,
-            is_closing: bell.is_closing(),
+            is_closing: wakeups.is_closing(),
             next: from,
             idle: Tally::new(),
         }
@@ -152,7 +152,7 @@ impl<'a> OutGate<'a> {
         ensures { self.new.idle ≡ self.old.idle }
     {
         let moved = next.saturating_sub(self.next);
-        self.bell.count_entries(moved / NUMBERS_OF_A_FETCH + 1);
+        self.wakeups.count_entries(moved / NUMBERS_OF_A_FETCH + 1);
         self.next = next;
     }
 
@@ -162,7 +162,7 @@ impl<'a> OutGate<'a> {
     {
         if !self.is_closing {
             self.seen = self.own.wait_unless(rt, self.seen, self.is_closed);
-            self.is_closing = self.bell.is_closing();
+            self.is_closing = self.wakeups.is_closing();
         }
         !self.is_closed.load(Ordering::SeqCst)
     }
@@ -173,7 +173,7 @@ impl<'a> WriterGate for OutGate<'a> {
 
     fn idle<R: Wait>(&mut self, rt: &R, _pass: &Pass, next: u64) -> bool {
         self.count(next);
-        self.bell.note_posts(rt, self.place, next);
+        self.wakeups.note_posts(rt, self.slot, next);
         let goes_on = !self.is_closing && self.wait_for_posts(rt);
         self.idle.add(rt, goes_on);
         goes_on
@@ -185,7 +185,7 @@ impl<'a> WriterGate for OutGate<'a> {
 /// writer look for its posts.
 #[derive(Drop)]
 pub struct WorkGate<'a, C: Wait + Clock + Print> {
-    bell: &'a Bell,
+    wakeups: &'a Wakeups,
     clock: &'a C,
     seen: u64,
     // How many slices may be made at full speed yet.
@@ -211,11 +211,11 @@ impl<'a, C: Wait + Clock + Print> WorkGate<'a, C> {
     ghost use Rattle.kern_net.specs.Gates.{unpolled, noes};
 
     /// A gate that wasn't polled yet.
-    pub fn new(bell: &'a Bell, clock: &'a C) -> WorkGate<'a, C>
+    pub fn new(wakeups: &'a Wakeups, clock: &'a C) -> WorkGate<'a, C>
         ensures { result.polls ≡ unpolled }
     {
         WorkGate {
-            bell,
+            wakeups,
             clock,
             seen: 0,
             free: free_slices(),
@@ -240,7 +240,7 @@ impl<'a, C: Wait + Clock + Print> WorkGate<'a, C> {
 
     // How many entries there may be by now.
     fn count(&self) -> u64 {
-        self.slices.saturating_add(self.bell.entries())
+        self.slices.saturating_add(self.wakeups.entries())
     }
 
     // Whether the rest of the journal is for the writers. Where it is nearly full, it says so once.
@@ -262,7 +262,9 @@ impl<'a, C: Wait + Clock + Print> WorkGate<'a, C> {
         let slices = self.slices.saturating_sub(self.paused);
         let most = Duration::from_micros(slice_pause(slices, self.count()));
         self.paused = self.slices;
-        self.seen = self.bell.next_work_within(self.clock, self.seen, most);
+        self.seen = self
+            .wakeups
+            .wait_for_work_timeout(self.clock, self.seen, most);
     }
 
     // Lets the next slice through.
@@ -287,13 +289,13 @@ impl<'a, C: Wait + Clock + Print> WorkGate<'a, C> {
         if now < self.looked.saturating_add(self.gap) {
             return;
         }
-        let finds = self.bell.finds();
+        let finds = self.wakeups.finds();
         self.gap = next_gap(self.gap, finds != self.finds);
         self.finds = finds;
         self.looked = now;
         let slices = self.slices.saturating_sub(self.looked_slices);
         self.looked_slices = self.slices;
-        if self.bell.look_for_posts() == Readers::LagBehind {
+        if self.wakeups.look_for_posts() == Readers::LagBehind {
             self.unread = slices;
         }
     }
@@ -305,7 +307,9 @@ impl<'a, C: Wait + Clock + Print> WorkGate<'a, C> {
     {
         let most = Duration::from_micros(lag_pause(self.unread));
         self.unread = 0;
-        self.seen = self.bell.next_work_within(self.clock, self.seen, most);
+        self.seen = self
+            .wakeups
+            .wait_for_work_timeout(self.clock, self.seen, most);
     }
 }
 
@@ -323,8 +327,8 @@ impl<'a, C: Wait + Clock + Print> WorkerGate for WorkGate<'a, C> {
     }
 
     fn idle<R: Wait>(&mut self, rt: &R) -> bool {
-        self.bell.wake_writers();
-        self.seen = self.bell.next_work(self.clock, self.seen);
+        self.wakeups.wake_writers();
+        self.seen = self.wakeups.wait_for_work(self.clock, self.seen);
         self.free = free_slices();
         self.unread = 0;
         self.gap = SHORTEST_GAP;
@@ -334,13 +338,14 @@ impl<'a, C: Wait + Clock + Print> WorkerGate for WorkGate<'a, C> {
     }
 
     fn wake<R: Wait>(&mut self, rt: &R) {
-        match self.bell.micros(self.clock) {
+        match self.wakeups.micros(self.clock) {
             Some(now) => {
                 // Before the next slice may come a pause.
-                self.bell.tell_statuses(now, slice_pause(1, self.count()));
+                self.wakeups
+                    .flush_statuses(now, slice_pause(1, self.count()));
                 self.look_for_posts(now);
             }
-            None => self.bell.wake_writers(),
+            None => self.wakeups.wake_writers(),
         }
         self.polls.add_wake(rt);
     }

@@ -2,15 +2,15 @@
 ghost use Rattle.std.specs.Prelude.{◌≡◌, All, IfOk};
 ghost use Rattle.std.specs.Arc.{arc_value};
 ghost use Rattle.kern_serve.specs.Ends.{served};
-ghost use Rattle.kern_serve.specs.Lanes.{AreOf, IsOf};
+ghost use Rattle.kern_serve.specs.Passes.{AreOf, IsOf};
 
-use crate::connection::{Seats, Shared, serve_connection};
+use crate::connection::{PassPair, Shared, serve_connection};
 use crate::fault::ServerFault;
 use crate::gates::WorkGate;
 use crate::host::Host;
 use crate::listeners::Listeners;
-use crate::places::Places;
-use crate::socket::beat;
+use crate::slots::Slots;
+use crate::socket::serve_heartbeat;
 use crate::system::new_session;
 use base_text::text::Text;
 use jup_wire::channel::Channel;
@@ -20,8 +20,8 @@ use kern_desk::seated::{Desk, Pass};
 use kern_net::end::PumpEnd;
 use kern_net::worker::worker;
 use kern_pace::pace::JOURNAL_LIMIT;
-use kern_waits::bell::{Bell, PLACES, Place};
 use kern_waits::throttles::Throttles;
+use kern_waits::wakeups::{SLOTS, Slot, Wakeups};
 use std::alloc::{AllocError, Global};
 use std::net::{TcpListener, TcpStream};
 use std::random::RandomSource;
@@ -39,7 +39,7 @@ pub enum ServerEnd {
     JournalFull,
 }
 
-// Two passes for each place of four channels, and the worker's.
+// Two passes for each slot of four channels, and the worker's.
 const PASSES: u32 = 129;
 
 // How long the writers have to write what was posted, once the worker has ended.
@@ -48,15 +48,15 @@ const FAREWELL_MILLIS: u64 = 400;
 // How long to wait after a connection couldn't be accepted, as where too many files are open.
 const RETRY_MILLIS: u64 = 50;
 
-// Serves one connection after another at a place.
-fn lane<R: Host>(rt: &R, alloc: Global, shared: &Shared, place: Place, mut seats: Seats)
-    requires { AreOf shared.now.desk seats }
+// Serves one connection after another in a slot.
+fn serve_slot<R: Host>(rt: &R, alloc: Global, shared: &Shared, slot: Slot, mut passes: PassPair)
+    requires { AreOf shared.now.desk passes }
 {
-    let listener = shared.listeners.of(place.channel);
+    let listener = shared.listeners.of(slot.channel);
     for _ in rt.forever() {
         match listener.accept() {
             Ok((stream, _)) => {
-                seats = serve_connection(rt, alloc, shared, place, stream, seats);
+                passes = serve_connection(rt, alloc, shared, slot, stream, passes);
             }
             Err(_) => thread::sleep(rt, Duration::from_millis(RETRY_MILLIS)),
         }
@@ -64,11 +64,11 @@ fn lane<R: Host>(rt: &R, alloc: Global, shared: &Shared, place: Place, mut seats
 }
 
 // Serves one connection of the heartbeat after another.
-fn beats<R: Wait + Clock>(rt: &R, alloc: Global, listener: &TcpListener) {
+fn serve_heartbeats<R: Wait + Clock>(rt: &R, alloc: Global, listener: &TcpListener) {
     for _ in rt.forever() {
         match listener.accept() {
             Ok((stream, _)) => {
-                let _ = beat(rt, alloc, &stream);
+                let _ = serve_heartbeat(rt, alloc, &stream);
                 drop(stream);
             }
             Err(_) => thread::sleep(rt, Duration::from_millis(RETRY_MILLIS)),
@@ -79,21 +79,21 @@ fn beats<R: Wait + Clock>(rt: &R, alloc: Global, listener: &TcpListener) {
 // What a thread of the server does for good.
 #[derive(Drop)]
 enum Task {
-    // Serves one connection after another at a place.
-    Lane(Place, Seats),
+    // Serves one connection after another in a slot.
+    Connections(Slot, PassPair),
     // Serves one connection of the heartbeat after another.
-    Beats,
+    Heartbeat,
     // Lets silent connections of a channel go where others wait.
-    Watch(Channel),
+    EvictSilent(Channel),
 }
 
 fn perform<R: Host>(rt: &R, alloc: Global, shared: &Shared, task: Task)
     requires { IsOf shared.now.desk task }
 {
     match task {
-        Task::Lane(place, seats) => lane(rt, alloc, shared, place, seats),
-        Task::Beats => beats(rt, alloc, shared.listeners.heartbeat()),
-        Task::Watch(channel) => shared.places.watch(rt, &shared.listeners, channel),
+        Task::Connections(slot, passes) => serve_slot(rt, alloc, shared, slot, passes),
+        Task::Heartbeat => serve_heartbeats(rt, alloc, shared.listeners.heartbeat()),
+        Task::EvictSilent(channel) => shared.slots.evict_silent(rt, &shared.listeners, channel),
     }
 }
 
@@ -126,8 +126,8 @@ fn start_task<R: Host>(
     }
 }
 
-// Starts the lanes of a channel, each with two of the passes.
-fn start_lanes<R: Host>(
+// Starts the connection threads of a channel, each with two of the passes.
+fn start_connections<R: Host>(
     rt: &R,
     alloc: Global,
     shared: &Arc<Shared>,
@@ -137,25 +137,29 @@ fn start_lanes<R: Host>(
     requires { All (λ p. p.turnstile ≡ (arc_value shared.now).desk) passes.old.items }
     ensures { All (λ p. p.turnstile ≡ (arc_value shared.now).desk) passes.new.items }
 {
-    for number in 0..PLACES {
+    for number in 0..SLOTS {
         let (Some(first), Some(second)) = (passes.pop(), passes.pop()) else {
             return Err(ServerFault::System);
         };
-        let place = Place { channel, number };
+        let slot = Slot { channel, number };
         start_task(
             rt,
             alloc,
             shared,
-            Task::Lane(place, Seats { first, second }),
+            Task::Connections(slot, PassPair { first, second }),
         )?;
     }
-    start_task(rt, alloc, shared, Task::Watch(channel))
+    start_task(rt, alloc, shared, Task::EvictSilent(channel))
 }
 
 // Starts the threads that serve the heartbeat.
-fn start_beats<R: Host>(rt: &R, alloc: Global, shared: &Arc<Shared>) -> Result<(), ServerFault> {
-    for _ in 0..PLACES {
-        start_task(rt, alloc, shared, Task::Beats)?;
+fn start_heartbeats<R: Host>(
+    rt: &R,
+    alloc: Global,
+    shared: &Arc<Shared>,
+) -> Result<(), ServerFault> {
+    for _ in 0..SLOTS {
+        start_task(rt, alloc, shared, Task::Heartbeat)?;
     }
     Ok(())
 }
@@ -181,26 +185,26 @@ fn end_of(end: PumpEnd, is_closed: bool) -> Result<ServerEnd, ServerFault>
 fn work<R: Host>(rt: &R, shared: &Shared, mut pass: Pass) -> Result<ServerEnd, ServerFault>
     requires { pass.turnstile ≡ shared.now.desk }
 {
-    let mut gate = WorkGate::new(&shared.bell, rt);
+    let mut gate = WorkGate::new(&shared.wakeups, rt);
     let end = worker(rt, &shared.desk, &mut pass, &mut gate);
     shared
-        .bell
-        .finish(rt, Duration::from_millis(FAREWELL_MILLIS));
+        .wakeups
+        .close(rt, Duration::from_millis(FAREWELL_MILLIS));
     end_of(end, gate.is_closed())
 }
 
-// A desk, its passes, and a bell.
-fn open_desk_and_bell<C: Clock>(
+// A desk, its passes, and the wakeups of its threads.
+fn open_desk_and_wakeups<C: Clock>(
     clock: &C,
     alloc: Global,
-) -> Result<(Desk, Vec<Pass>, Bell), AllocError>
+) -> Result<(Desk, Vec<Pass>, Wakeups), AllocError>
     ensures { IfOk result (λ opened. All (λ p. p.turnstile ≡ opened.0) opened.1.items) }
 {
-    let bell = Bell::new(clock, alloc)?;
+    let wakeups = Wakeups::new(clock, alloc)?;
     match open_desk(alloc, JOURNAL_LIMIT, PASSES) {
-        Ok((desk, passes)) => Ok((desk, passes, bell)),
+        Ok((desk, passes)) => Ok((desk, passes, wakeups)),
         Err(error) => {
-            drop(bell);
+            drop(wakeups);
             Err(error)
         }
     }
@@ -216,12 +220,12 @@ fn open<C: Clock>(
 ) -> Result<(Shared, Vec<Pass>), ServerFault>
     ensures { IfOk result (λ opened. All (λ p. p.turnstile ≡ opened.0.desk) opened.1.items) }
 {
-    match open_desk_and_bell(clock, alloc) {
-        Ok((desk, passes, bell)) => {
-            let Ok(places) = Places::new(clock, alloc) else {
+    match open_desk_and_wakeups(clock, alloc) {
+        Ok((desk, passes, wakeups)) => {
+            let Ok(slots) = Slots::new(clock, alloc) else {
                 drop(desk);
                 drop(passes);
-                drop(bell);
+                drop(wakeups);
                 drop(listeners);
                 drop(key);
                 drop(session);
@@ -229,9 +233,9 @@ fn open<C: Clock>(
             };
             let shared = Shared {
                 desk,
-                bell,
+                wakeups,
                 throttles: Throttles::new(clock),
-                places,
+                slots,
                 key,
                 session,
                 listeners,
@@ -257,11 +261,11 @@ fn start<R: Host>(
     requires { All (λ p. p.turnstile ≡ (arc_value shared.now).desk) passes.old.items }
     ensures { IfOk result (λ pass. pass.turnstile ≡ (arc_value shared.now).desk) }
 {
-    start_lanes(rt, alloc, shared, Channel::Shell, passes)?;
-    start_lanes(rt, alloc, shared, Channel::Iopub, passes)?;
-    start_lanes(rt, alloc, shared, Channel::Stdin, passes)?;
-    start_lanes(rt, alloc, shared, Channel::Control, passes)?;
-    start_beats(rt, alloc, shared)?;
+    start_connections(rt, alloc, shared, Channel::Shell, passes)?;
+    start_connections(rt, alloc, shared, Channel::Iopub, passes)?;
+    start_connections(rt, alloc, shared, Channel::Stdin, passes)?;
+    start_connections(rt, alloc, shared, Channel::Control, passes)?;
+    start_heartbeats(rt, alloc, shared)?;
     passes.pop().ok_or(ServerFault::System)
 }
 

@@ -139,7 +139,7 @@ pub fn meet<R: Wait + Clock>(
 }
 
 /// Serves a socket of the heartbeat until it ends. More than a greeting must come within ten seconds.
-pub fn beat<C: Clock>(clock: &C, alloc: Global, stream: &TcpStream) -> io::Result<()> {
+pub fn serve_heartbeat<C: Clock>(clock: &C, alloc: Global, stream: &TcpStream) -> io::Result<()> {
     prepare(stream)?;
     let mut from = StdInlet::new(PatientStream::new(stream, clock, GREETING_SIZE));
     let mut to = StdOutlet::new(stream);

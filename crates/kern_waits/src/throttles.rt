@@ -1,4 +1,4 @@
-//! The throttles of a server's channels, which its lanes share.
+//! The throttles of a server's channels, which all its connection threads share.
 use crate::stopwatch::Stopwatch;
 use jup_wire::channel::Channel;
 use kern_pace::budget::Budget;
@@ -67,10 +67,10 @@ impl Throttles {
         }
     }
 
-    /// A stranger has left a channel.
-    pub fn add_stranger<R: Wait + Clock>(&self, rt: &R, channel: Channel) {
+    /// An unauthenticated peer has left a channel.
+    pub fn add_unauthenticated<R: Wait + Clock>(&self, rt: &R, channel: Channel) {
         if let Some(now) = self.stopwatch.millis(rt) {
-            self.of(channel).joins.lock(rt).add_stranger(now);
+            self.of(channel).joins.lock(rt).add_unauthenticated(now);
         }
     }
 

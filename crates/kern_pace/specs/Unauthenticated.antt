@@ -1,15 +1,16 @@
--- How a channel holds connections back where many strangers come: peers that left without a message that
--- opens. Moments are milliseconds since the server began.
+-- How a channel throttles connections while many unauthenticated peers come, which are peers that left
+-- without a message that opens. Moments are milliseconds since the server began.
 use Rattle.std.specs.Prelude.{◌≡◌, ℕ, ◌+◌, ◌-◌, ◌<◌, min, List, ◌∷◌, [], ◌++◌, drop, All}
 
--- until when each of the last eight strangers counts, and when the next turn begins at the earliest
+-- until when each of the last eight unauthenticated peers counts, and when the next turn begins at the
+-- earliest
 pub record ThrottleState : Type 0 where
   pub until : List ℕ
   pub next : ℕ
 
--- a stranger that left now counts for a second, in place of the first of the last eight
-abbrev pub with_stranger : ℕ → ThrottleState → ThrottleState
-with_stranger now s = record s { until = drop 1 s.until ++ (now + 1000) ∷ [] }
+-- an unauthenticated peer that left now counts for a second, in place of the first of the last eight
+abbrev pub with_unauthenticated : ℕ → ThrottleState → ThrottleState
+with_unauthenticated now s = record s { until = drop 1 s.until ++ (now + 1000) ∷ [] }
 
 -- all of the last eight still count
 abbrev pub IsCrowded : ℕ → ThrottleState → Type 0
