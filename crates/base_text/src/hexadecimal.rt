@@ -1,13 +1,7 @@
 //! Digits of base 16, in either case when they are read.
 ghost use Rattle.std.specs.Prelude.{◌≡◌, ◌<◌, ◌++◌, IfSome, OnOk, string_bytes};
-ghost use Rattle.base_text.specs.Hexadecimal.{
-  digit_value,
-  word_spelled,
-  upper_byte,
-  upper_word,
-  lower_byte,
-  lower_word,
-};
+ghost use Rattle.base_text.specs.Hexadecimal.{digit_value, word_spelled, upper_byte, upper_word};
+ghost use Rattle.base_text.specs.Hexadecimal.{lower_byte, lower_word};
 
 use std::alloc::AllocError;
 

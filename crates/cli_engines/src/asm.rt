@@ -7,17 +7,8 @@ ghost use Rattle.cli_io.specs.Report.{IsReport, ReportsInput};
 ghost use Rattle.cli_io.specs.Streams.{BlamesReader};
 ghost use Rattle.cli_io.specs.TextState.{IsText};
 ghost use Rattle.asm_syntax.specs.Faults.{fault_name};
-ghost use Rattle.cli_engines.specs.AsmText.{
-  start_text,
-  built_text,
-  begun_at,
-  fault_line,
-  cell_of,
-  cell_text,
-  cell_status,
-  asm_text,
-  asm_status,
-};
+ghost use Rattle.cli_engines.specs.AsmText.{start_text, built_text, begun_at, fault_line, cell_of};
+ghost use Rattle.cli_engines.specs.AsmText.{cell_text, cell_status, asm_text, asm_status};
 ghost use Rattle.cli_run.specs.Runner.{StandsFor};
 
 use crate::image::{push_image, store_image};

@@ -2,15 +2,8 @@
 ghost use Rattle.std.specs.Prelude.{◌≡◌, ◌<◌, ◌≤◌, ◌+◌, ◌++◌, ◌∷◌, List, ℕ, OnOk, IfOk, length, drop, take};
 ghost use Rattle.std.specs.Prelude.{string_bytes};
 ghost use Rattle.i80_exec.specs.State.{loaded};
-ghost use Rattle.cli_engines.specs.Image.{
-  filled,
-  cells_of,
-  leading,
-  spaced,
-  image_line,
-  lines_from,
-  image_text,
-};
+ghost use Rattle.cli_engines.specs.Image.{filled, cells_of, leading, spaced, image_line};
+ghost use Rattle.cli_engines.specs.Image.{lines_from, image_text};
 
 use base_text::hexadecimal::push_word;
 use cli_run::printing::push_field;

@@ -2,19 +2,9 @@
 ghost use Rattle.std.specs.Prelude.{◌≡◌, [], ◌∷◌, IfOk, true, codes};
 ghost use Rattle.serde_json.specs.Data.{array, item, no_items, string, boolean};
 ghost use Rattle.serde_json.specs.View.{view};
-ghost use Rattle.dap_answers.specs.Json.{
-  object_of,
-  one_list,
-  thread_json,
-  scope_json,
-  scope_of,
-  threads_json,
-  capabilities_json,
-  debug_state_json,
-  stopped_threads,
-  stack_trace_json,
-  body_json,
-};
+ghost use Rattle.dap_answers.specs.Json.{object_of, one_list, thread_json, scope_json, scope_of};
+ghost use Rattle.dap_answers.specs.Json.{threads_json, capabilities_json, debug_state_json};
+ghost use Rattle.dap_answers.specs.Json.{stopped_threads, stack_trace_json, body_json};
 
 use crate::answer::{Body, DebugState};
 use crate::cell::{PREFIX, SUFFIX};

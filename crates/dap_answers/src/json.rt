@@ -4,23 +4,10 @@ ghost use Rattle.serde_json.specs.Data.{Data, string};
 ghost use Rattle.serde_json.specs.View.{view};
 ghost use Rattle.base_text.specs.Hexadecimal.{upper_byte};
 ghost use Rattle.dap_answers.specs.Object.{HasMembers};
-ghost use Rattle.dap_answers.specs.Json.{
-  space,
-  reference,
-  spaced_bytes,
-  members_from,
-  object_of,
-  list_of,
-  source_json,
-  line_json,
-  breakpoint_json,
-  bare_frame,
-  source_members,
-  frame_json,
-  variable_json,
-  instruction_json,
-  source_breakpoints_json,
-};
+ghost use Rattle.dap_answers.specs.Json.{space, reference, spaced_bytes, members_from, object_of};
+ghost use Rattle.dap_answers.specs.Json.{list_of, source_json, line_json, breakpoint_json};
+ghost use Rattle.dap_answers.specs.Json.{bare_frame, source_members, frame_json, variable_json};
+ghost use Rattle.dap_answers.specs.Json.{instruction_json, source_breakpoints_json};
 
 use crate::object::Object;
 use base_text::hexadecimal::{push_byte, push_lower_word};

@@ -2,18 +2,9 @@
 ghost use Rattle.std.specs.Prelude.{◌≡◌, IfOk};
 ghost use Rattle.serde_json.specs.View.{view};
 ghost use Rattle.dap_answers.specs.Object.{HasMembers};
-ghost use Rattle.dap_answers.specs.Json.{
-  members_from,
-  stopped_json,
-  continued_json,
-  bare_event,
-  event_with_body,
-  bare_response,
-  success_json,
-  refusal_json,
-  response_json,
-  event_json,
-};
+ghost use Rattle.dap_answers.specs.Json.{members_from, stopped_json, continued_json, bare_event};
+ghost use Rattle.dap_answers.specs.Json.{event_with_body, bare_response, success_json};
+ghost use Rattle.dap_answers.specs.Json.{refusal_json, response_json, event_json};
 
 use crate::answer::{Body, Event, Outcome, Response, StopReason};
 use crate::bodies::body_json;

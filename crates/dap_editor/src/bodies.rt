@@ -4,18 +4,9 @@ ghost use Rattle.serde_json.specs.Data.{string};
 ghost use Rattle.serde_json.specs.View.{view};
 ghost use Rattle.dap_answers.specs.Object.{HasMembers};
 ghost use Rattle.dap_answers.specs.Json.{members_from, list_of, one_list, reference};
-ghost use Rattle.dap_editor.specs.Json.{
-  placed_json,
-  last_part,
-  source_json,
-  base64_text,
-  data_members,
-  capabilities_json,
-  evaluation_json,
-  memory_json,
-  written_json,
-  editor_body_json,
-};
+ghost use Rattle.dap_editor.specs.Json.{placed_json, last_part, source_json, base64_text};
+ghost use Rattle.dap_editor.specs.Json.{data_members, capabilities_json, evaluation_json};
+ghost use Rattle.dap_editor.specs.Json.{memory_json, written_json, editor_body_json};
 
 use crate::message::{EditorBody, PlacedBreakpoint};
 use base_text::text::Text;

@@ -4,16 +4,8 @@ ghost use Rattle.serde_json.specs.View.{view};
 ghost use Rattle.dap_answers.specs.Json.{object_of};
 ghost use Rattle.dap_answers.specs.Object.{HasMembers};
 ghost use Rattle.dap_answers.specs.Json.{members_from};
-ghost use Rattle.dap_editor.specs.Json.{
-  entry_json,
-  stopped_json,
-  bare_output,
-  placed_output,
-  output_json,
-  changed_json,
-  exited_json,
-  editor_event_json,
-};
+ghost use Rattle.dap_editor.specs.Json.{entry_json, stopped_json, bare_output, placed_output};
+ghost use Rattle.dap_editor.specs.Json.{output_json, changed_json, exited_json, editor_event_json};
 
 use crate::bodies::source;
 use crate::message::{EditorEvent, EditorStop, OutputCategory, PlacedBreakpoint, SourcePlace};

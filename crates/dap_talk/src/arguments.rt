@@ -3,27 +3,10 @@ ghost use Rattle.std.specs.Prelude.{◌≡◌, ◌<◌, IfOk, IfSome, IsSome, is
 ghost use Rattle.serde_json.specs.Find.{as_array};
 ghost use Rattle.serde_json.specs.View.{view, items_view};
 ghost use Rattle.dap_talk.specs.declared.arguments.ArgumentFault.TheVariants.{OutOfMemory};
-ghost use Rattle.dap_talk.specs.Argument.{
-  number,
-  text,
-  truth,
-  source,
-  address,
-  found_number,
-  found_text,
-  found_truth,
-  found_lines,
-  found_granularity,
-  whole_between,
-  is_plain,
-  line_of,
-  lines_of,
-  at_most_256,
-  address_of,
-  argument_at,
-  found,
-  required,
-};
+ghost use Rattle.dap_talk.specs.Argument.{number, text, truth, source, address, found_number};
+ghost use Rattle.dap_talk.specs.Argument.{found_text, found_truth, found_lines, found_granularity};
+ghost use Rattle.dap_talk.specs.Argument.{whole_between, is_plain, line_of, lines_of, at_most_256};
+ghost use Rattle.dap_talk.specs.Argument.{address_of, argument_at, found, required};
 ghost use Rattle.dap_talk.specs.Table.{byte, count_to_256, number_or_0, breakpoints_or_none};
 ghost use Rattle.dap_talk.specs.Table.{granularity_or_line};
 

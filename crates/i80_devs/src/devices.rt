@@ -1,22 +1,6 @@
 //! The devices: a console (ports 0, 1 and 3), switches and lamps (port 2), and a request button.
-ghost use Rattle.std.specs.Prelude.{
-  ◌≡◌,
-  ◌+◌,
-  ◌≤◌,
-  ◌<◌,
-  ◌++◌,
-  ◌∷◌,
-  ◌↔◌,
-  [],
-  List,
-  length,
-  OnOk,
-  OnErr,
-  IfOk,
-  IfSome,
-  IsSome,
-  Err,
-};
+ghost use Rattle.std.specs.Prelude.{◌≡◌, ◌+◌, ◌≤◌, ◌<◌, ◌++◌, ◌∷◌, ◌↔◌, [], List, length, OnOk};
+ghost use Rattle.std.specs.Prelude.{OnErr, IfOk, IfSome, IsSome, Err};
 
 use crate::panel::Panel;
 use crate::traffic::Traffic;
@@ -91,17 +75,8 @@ impl Ports for Devices {
 }
 
 impl Devices {
-    ghost use Rattle.i80_devs.specs.Past.{
-      panel_after,
-      Operation,
-      Typed,
-      Switches,
-      Press,
-      Taken,
-      StandsFor,
-      Appends,
-      SamePorts,
-    };
+    ghost use Rattle.i80_devs.specs.Past.{panel_after, Operation, Typed, Switches, Press, Taken};
+    ghost use Rattle.i80_devs.specs.Past.{StandsFor, Appends, SamePorts};
 
     /// Devices to which nothing was done: no input, switches and lamps 0, no request.
     pub fn new(alloc: Global) -> Devices

@@ -1,66 +1,16 @@
 //! The processor and its memory, what its instructions are made of, and one step at a time.
-ghost use Rattle.std.specs.Prelude.{
-  ◌≡◌,
-  ◌+◌,
-  ◌*◌,
-  ◌≤◌,
-  ◌++◌,
-  List,
-  ℕ,
-  length,
-  replicate,
-  IfOk,
-  IfSome,
-  IfNone,
-  Some,
-  None,
-  true,
-  false,
-};
+ghost use Rattle.std.specs.Prelude.{◌≡◌, ◌+◌, ◌*◌, ◌≤◌, ◌++◌, List, ℕ, length, replicate, IfOk};
+ghost use Rattle.std.specs.Prelude.{IfSome, IfNone, Some, None, true, false};
 ghost use Rattle.i80_rows.specs.declared.arithmetic.AluResult.{AluResult};
 ghost use Rattle.i80_rows.specs.declared.instruction.Instr.TheVariants.{Xthl};
-ghost use Rattle.i80_exec.specs.State.{
-  byte_at,
-  stored,
-  word_at,
-  stored_word,
-  get_pair,
-  put_pair,
-  get_stack_pair,
-  put_stack_pair,
-  with_regs,
-  with_board,
-  with_pc,
-  with_a,
-  with_flags,
-  with_interrupts,
-  power_on,
-};
-ghost use Rattle.i80_exec.specs.Effect.{
-  effect,
-  to_a,
-  operated,
-  holds,
-  added_to_hl,
-  pushed,
-  popped,
-  called,
-  returned,
-  exchanged,
-};
-ghost use Rattle.i80_exec.specs.Step.{
-  instruction,
-  acceptance,
-  operation_list,
-  state_after,
-  answer_of,
-  is_arming,
-  settled,
-  armed_again,
-  IsOutcome,
-  Performs,
-  Settles,
-};
+ghost use Rattle.i80_exec.specs.State.{byte_at, stored, word_at, stored_word, get_pair, put_pair};
+ghost use Rattle.i80_exec.specs.State.{get_stack_pair, put_stack_pair, with_regs, with_board};
+ghost use Rattle.i80_exec.specs.State.{with_pc, with_a, with_flags, with_interrupts, power_on};
+ghost use Rattle.i80_exec.specs.Effect.{effect, to_a, operated, holds, added_to_hl, pushed};
+ghost use Rattle.i80_exec.specs.Effect.{popped, called, returned, exchanged};
+ghost use Rattle.i80_exec.specs.Step.{instruction, acceptance, operation_list, state_after};
+ghost use Rattle.i80_exec.specs.Step.{answer_of, is_arming, settled, armed_again, IsOutcome};
+ghost use Rattle.i80_exec.specs.Step.{Performs, Settles};
 
 mod opcodes;
 
@@ -209,8 +159,7 @@ impl Machine {
     }
 
     #[inline(always)]
-    /// Does the instruction at PC, by the table of the board. An opcode that is undefined there changes
-    /// nothing.
+    /// Does the instruction at PC, by the board's table. An undefined opcode changes nothing.
     pub fn step<P: Ports>(&mut self, ports: &mut P) -> Stepped
         requires { 1 ≤ P.spare ports.old }
         ensures { let outcome = instruction (P.answer (P.state ports.old)) self.old in
@@ -261,8 +210,7 @@ impl Machine {
         answer
     }
 
-    /// The same where EI wasn't the last instruction, told by its kind: so a loop of steps needn't look
-    /// whether it was.
+    /// The same if EI wasn't the last instruction, and returns the step's kind.
     #[inline(always)]
     pub fn step_settled<P: Ports>(&mut self, ports: &mut P) -> Kind
         requires settled { is_arming self.old.regs.interrupts ≡ false }

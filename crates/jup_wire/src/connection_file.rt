@@ -3,20 +3,9 @@ ghost use Rattle.std.specs.Prelude.{◌≡◌, ◌↔◌, Some, None, IsTrue, If
 ghost use Rattle.std.specs.Prelude.{option_map};
 ghost use Rattle.std.specs.declared.net.ipv4_addr.Ipv4Addr.{Ipv4Addr};
 ghost use Rattle.serde_json.specs.View.{view};
-ghost use Rattle.jup_wire.specs.ConnectionFiles.{
-  HasValue,
-  HasNoValue,
-  text_at,
-  port_at,
-  a_port,
-  HasAddress,
-  IsConnectionFile,
-  Reads,
-  IsNone,
-  IsRefused,
-  FieldFault,
-  JsonFault,
-};
+ghost use Rattle.jup_wire.specs.ConnectionFiles.{HasValue, HasNoValue, text_at, port_at, a_port};
+ghost use Rattle.jup_wire.specs.ConnectionFiles.{HasAddress, IsConnectionFile, Reads, IsNone};
+ghost use Rattle.jup_wire.specs.ConnectionFiles.{IsRefused, FieldFault, JsonFault};
 
 use base_text::text::Text;
 use serde_json::Value;

@@ -1,29 +1,7 @@
 //! Opening: from frames to a message.
-ghost use Rattle.std.specs.Prelude.{
-  ◌≡◌,
-  ◌≢◌,
-  ◌<◌,
-  ◌≤◌,
-  ◌+◌,
-  ◌↔◌,
-  ◌++◌,
-  ◌∷◌,
-  ◌⊎◌,
-  [],
-  Some,
-  None,
-  length,
-  vec_len,
-  IsTrue,
-  IfOk,
-  IfErr,
-  IfSome,
-  IfNone,
-  IsSome,
-  OnOk,
-  IsErrAnd,
-  MatchResult,
-};
+ghost use Rattle.std.specs.Prelude.{◌≡◌, ◌≢◌, ◌<◌, ◌≤◌, ◌+◌, ◌↔◌, ◌++◌, ◌∷◌, ◌⊎◌, [], Some, None};
+ghost use Rattle.std.specs.Prelude.{length, vec_len, IsTrue, IfOk, IfErr, IfSome, IfNone, IsSome};
+ghost use Rattle.std.specs.Prelude.{OnOk, IsErrAnd, MatchResult};
 ghost use Rattle.base_text.specs.Bytes.{Bytes, Frames};
 ghost use Rattle.serde_json.specs.Data.{Data};
 ghost use Rattle.serde_json.specs.View.{view};

@@ -123,10 +123,8 @@ fn push_cut(letters: &mut Letters, kit: Option<EndKit>, cause: Cause)
 #[tactic(auto, using(crate::proofs::KitLemmas::grouped))]
 pub fn cut_letters(enclosed: BusyIdle, kit: Option<EndKit>, cause: Cause, reply: Letter) -> Letters
     requires { length enclosed.letters ≤ 1 }
-    ensures { (connections : Connections) (cut : Option Current)
-        → kit ≡ option_map (end_kit_of connections) cut
-        → result ≡ enclosed.letters ++ ((cut_letters connections cut cause ++ reply ∷ [])
-        ++ enclosed.idle ∷ []) }
+    ensures { (peers : Connections) (cut : Option Current) → kit ≡ option_map (end_kit_of peers) cut
+        → result ≡ enclosed.letters ++ ((cut_letters peers cut cause ++ reply ∷ []) ++ enclosed.idle ∷ []) }
 {
     let BusyIdle { mut letters, idle } = enclosed;
     push_cut(&mut letters, kit, cause);

@@ -4,25 +4,10 @@ ghost use Rattle.std.specs.Prelude.{count_by};
 ghost use Rattle.std.specs.List.{list_any, find, position};
 ghost use Rattle.std.specs.Str.{bytes_eq};
 ghost use Rattle.jup_wire.specs.declared.channel.Channel.TheVariants.{Stdin};
-ghost use Rattle.kern_peers.specs.Connections.{
-  no_connections,
-  is_empty,
-  is_number,
-  is_on,
-  is_same,
-  is_taken,
-  has_no_place,
-  peer_at,
-  stdin_of,
-  begins,
-  is_subscribed,
-  subscribers,
-  joined_by,
-  without,
-  without_first,
-  subscribed_by,
-  cancelled,
-};
+ghost use Rattle.kern_peers.specs.Connections.{no_connections, is_empty, is_number, is_on};
+ghost use Rattle.kern_peers.specs.Connections.{is_same, is_taken, has_no_place, peer_at, stdin_of};
+ghost use Rattle.kern_peers.specs.Connections.{begins, is_subscribed, subscribers, joined_by};
+ghost use Rattle.kern_peers.specs.Connections.{without, without_first, subscribed_by, cancelled};
 
 use crate::peer::Peer;
 use base_text::sequence::{Bytes, Sequence};

@@ -1,14 +1,8 @@
 //! The content of what frontends are told unasked, and of what one is asked.
 ghost use Rattle.std.specs.Prelude.{◌≡◌, IfOk};
 ghost use Rattle.serde_json.specs.View.{view};
-ghost use Rattle.kern_render.specs.Json.{
-  state_text,
-  status_json,
-  execute_input_json,
-  stream_json,
-  input_request_json,
-  comm_close_json,
-};
+ghost use Rattle.kern_render.specs.Json.{state_text, status_json, execute_input_json, stream_json};
+ghost use Rattle.kern_render.specs.Json.{input_request_json, comm_close_json};
 
 use base_text::latin::to_text;
 use dap_answers::object::Object;

@@ -1,30 +1,9 @@
 //! The live frames, kept as a stack that each step pops and pushes.
-ghost use Rattle.std.specs.Prelude.{
-  ◌≡◌,
-  ℕ,
-  ◌+◌,
-  ◌<◌,
-  ◌≤◌,
-  ◌++◌,
-  [],
-  length,
-  reverse,
-  IfOk,
-  slice_get,
-  vec_len,
-  vec_capacity,
-};
+ghost use Rattle.std.specs.Prelude.{◌≡◌, ℕ, ◌+◌, ◌<◌, ◌≤◌, ◌++◌, [], length, reverse, IfOk};
+ghost use Rattle.std.specs.Prelude.{slice_get, vec_len, vec_capacity};
 ghost use Rattle.lab_frames.specs.Live.{made_by, ended_by};
-ghost use Rattle.lab_frames.specs.Frames.{
-  survivors,
-  Advances,
-  LeavesOldest,
-  Falls,
-  AtLeast,
-  CallsAt,
-  is_from_above,
-  reach_of,
-};
+ghost use Rattle.lab_frames.specs.Frames.{survivors, Advances, LeavesOldest, Falls, AtLeast};
+ghost use Rattle.lab_frames.specs.Frames.{CallsAt, is_from_above, reach_of};
 
 use crate::frame::Frame;
 use i80_exec::registers::Stepped;

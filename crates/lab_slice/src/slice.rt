@@ -18,9 +18,8 @@ pub const STEPS: u16 = 4096;
 /// Makes a slice of the run: the port operations of its steps, and how it ended. A board without a run that
 /// goes on gives the same error as one that runs out of memory.
 pub fn run_slice(lab: &mut Lab) -> Result<(Traffic, SliceOutcome), AllocError>
-    ensures made { (b : Board) → StandsFor lab.old b → b.run ≡ Running → IfOk result (λ made.
-        (made.0 ≡ traffic_of (slice_end b).0 b)
-        × ((made.1 ≡ (slice_end b).1) × StandsFor lab.new (after_slice b))) }
+    ensures made { (b : Board) → StandsFor lab.old b → b.run ≡ Running → IfOk result (λ s.
+        (s.0 ≡ traffic_of (slice_end b).0 b) × ((s.1 ≡ (slice_end b).1) × StandsFor lab.new (after_slice b))) }
     ensures few { (b : Board) → StandsFor lab.old b → IfOk result (λ made. length made.0 ≤ 4096) }
     ensures err { (b : Board) → StandsFor lab.old b → OnErr result (lab.new ≡ lab.old) }
 {

@@ -6,16 +6,8 @@ ghost use Rattle.lab_image.specs.Loads.{Load};
 ghost use Rattle.lab_image.specs.Loads as origins;
 ghost use Rattle.lab_views.specs.Parts.{Parts as BoardParts, StandsFor, parts_with};
 ghost use Rattle.lab_views.specs.Code as code;
-ghost use Rattle.lab_views.specs.Views.{
-  Answers,
-  frames_shown,
-  scopes_shown,
-  variables_shown,
-  code_shown,
-  source_shown,
-  info_shown,
-  shown,
-};
+ghost use Rattle.lab_views.specs.Views.{Answers, frames_shown, scopes_shown, variables_shown};
+ghost use Rattle.lab_views.specs.Views.{code_shown, source_shown, info_shown, shown};
 
 use crate::fault::ViewFault;
 use crate::frames::{frame_count, frames};

@@ -2,47 +2,16 @@
 ghost use Rattle.std.specs.Prelude.{◌≡◌, ◌≢◌, ◌+◌, ◌*◌, ◌<◌, ◌≤◌, ◌⊎◌, None, true, false};
 ghost use Rattle.i80_rows.specs.Rows.{row, is_undefined, Alone, Byte, Word};
 ghost use Rattle.i80_rows.specs.AliasRows.{acts, alias_row};
-ghost use Rattle.i80_rows.specs.declared.instruction.Instr.TheVariants.{
-  Nop,
-  Lxi,
-  Inx,
-  Dcx,
-  Dad,
-  Inr,
-  Dcr,
-  Mvi,
-  Rotate,
-  AluImmediate,
-  JumpIf,
-  CallIf,
-  RetIf,
-  Push,
-  Pop,
-};
-ghost use Rattle.i80_exec.specs.State.{
-  wrapped,
-  byte_at,
-  word_at,
-  stored,
-  get,
-  put,
-  get_pair,
-  with_pc,
-  with_interrupts,
-};
+ghost use Rattle.i80_rows.specs.declared.instruction.Instr.TheVariants.{Nop, Lxi, Inx, Dcx, Dad};
+ghost use Rattle.i80_rows.specs.declared.instruction.Instr.TheVariants.{Inr, Dcr, Mvi, Rotate};
+ghost use Rattle.i80_rows.specs.declared.instruction.Instr.TheVariants.{AluImmediate, JumpIf};
+ghost use Rattle.i80_rows.specs.declared.instruction.Instr.TheVariants.{CallIf, RetIf, Push, Pop};
+ghost use Rattle.i80_exec.specs.State.{wrapped, byte_at, word_at, stored, get, put, get_pair};
+ghost use Rattle.i80_exec.specs.State.{with_pc, with_interrupts};
 ghost use Rattle.i80_exec.specs.Effect.{operated, to_reg};
 ghost use Rattle.i80_exec.specs.Opcodes.{reg_at, operation_at};
-ghost use Rattle.i80_exec.specs.Step.{
-  by_row,
-  by_opcode,
-  interrupts_after,
-  answer_of,
-  is_arming,
-  IsOutcome,
-  Executes,
-  Performs,
-  Settles,
-};
+ghost use Rattle.i80_exec.specs.Step.{by_row, by_opcode, interrupts_after, answer_of, is_arming};
+ghost use Rattle.i80_exec.specs.Step.{IsOutcome, Executes, Performs, Settles};
 
 use crate::machine::Machine;
 use crate::ports::Ports;
@@ -350,8 +319,7 @@ impl Machine {
         self.word_at(self.regs.pc.wrapping_add(1))
     }
 
-    /// Sets PC past an instruction of this size. What it does to the interrupt state is nothing, since that
-    /// is settled.
+    /// Sets PC past an instruction of this size. The interrupt state, which is settled, stays.
     #[inline(always)]
     fn advance(&mut self, size: u8)
         requires settled { is_arming self.old.regs.interrupts ≡ false }
