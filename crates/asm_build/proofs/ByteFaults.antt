@@ -21,8 +21,7 @@ use Rattle.asm_build.specs.Meaning.{Output, at_address, overlaps, with_bytes, pu
 use Rattle.asm_build.specs.Meaning.{with_operation, with_line}
 use Rattle.asm_build.specs.Refusals.{Part, TheDefinition, TheOperand, TheOperation, bytes_given, GivesByte}
 use Rattle.asm_build.specs.Refusals.{WrongInValues, StandsOn}
-use Rattle.asm_build.proofs.DefinitionFaults.{none_some, some_is, Follows, one_true}
-use Rattle.asm_build.proofs.DefinitionFaults.{first_true, second_true}
+use Rattle.asm_build.proofs.DefinitionFaults.{none_some, some_is, Follows, one_true, first_true, second_true}
 use Rattle.asm_build.proofs.OperandFaults.{FirstWrong, NoneWrong, Given, ActionVerdict, given_by}
 use Rattle.asm_build.proofs.OperandFaults.{action_judged}
 

@@ -21,11 +21,9 @@ use Rattle.asm_build.specs.declared.symbols.Symbol.{Symbol}
 use Rattle.asm_build.specs.Statements.{on_action, definition_of, is_set, early_in}
 use Rattle.asm_build.specs.Reading.{Entries, Lines, symbol_at, last_definition, last_set, or_else, only_set}
 use Rattle.asm_build.specs.Reading.{defined_on}
-use Rattle.asm_build.specs.Layout.{past, is_among, is_late}
-use Rattle.asm_build.specs.Layout.{check_defined, check_definition}
-use Rattle.asm_build.specs.Refusals.{Part, TheDefinition, IsTwice, early_names}
-use Rattle.asm_build.specs.Refusals.{late_names, IsNamed, WrongDefinition}
-use Rattle.asm_build.specs.Refusals.{WrongInLayout, rank}
+use Rattle.asm_build.specs.Layout.{past, is_among, is_late, check_defined, check_definition}
+use Rattle.asm_build.specs.Refusals.{Part, TheDefinition, IsTwice, early_names, late_names, IsNamed}
+use Rattle.asm_build.specs.Refusals.{WrongDefinition, WrongInLayout, rank}
 
 pub no_more : {A : Type 0} (x : A) → None ≡ Some x → ⊥
 no_more x h = cc

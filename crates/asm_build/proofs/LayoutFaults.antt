@@ -16,16 +16,12 @@ use Rattle.asm_syntax.specs.declared.statement.Statement.{Statement}
 use Rattle.asm_syntax.specs.Outcome.{Fault, ComesBefore, ◌>>=◌}
 use Rattle.asm_syntax.proofs.FirstFaults.{fault_is}
 use Rattle.asm_build.specs.declared.laid.Laid.{Laid}
-use Rattle.asm_build.specs.Statements.{on_action, definition_of, early_in}
-use Rattle.asm_build.specs.Statements.{length_of}
-use Rattle.asm_build.specs.Reading.{Entries, Lines}
-use Rattle.asm_build.specs.Reading.{early_value, place_after}
-use Rattle.asm_build.specs.Reading.{parts_after, has_ended, is_selected, Fits}
-use Rattle.asm_build.specs.Layout.{past}
-use Rattle.asm_build.specs.Layout.{check_definition, or_fault, early, within, assembled}
-use Rattle.asm_build.specs.Layout.{laid_out, laid_after}
-use Rattle.asm_build.specs.Refusals.{Part, TheDefinition, TheOperand, TheOperation}
-use Rattle.asm_build.specs.Refusals.{WrongEarly, IsPastEnd}
+use Rattle.asm_build.specs.Statements.{on_action, definition_of, early_in, length_of}
+use Rattle.asm_build.specs.Reading.{Entries, Lines, early_value, place_after, parts_after, has_ended}
+use Rattle.asm_build.specs.Reading.{is_selected, Fits}
+use Rattle.asm_build.specs.Layout.{past, check_definition, or_fault, early, within, assembled, laid_out}
+use Rattle.asm_build.specs.Layout.{laid_after}
+use Rattle.asm_build.specs.Refusals.{Part, TheDefinition, TheOperand, TheOperation, WrongEarly, IsPastEnd}
 use Rattle.asm_build.specs.Refusals.{WrongInLayout, StandsAfter, rank}
 use Rattle.asm_build.proofs.ReadingLemmas.{row, done, early_is, one_row}
 use Rattle.asm_build.proofs.DefinitionFaults.{some_is, none_some, ok_err, Follows}

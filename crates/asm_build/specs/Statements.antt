@@ -1,7 +1,6 @@
 -- What a statement says by itself (8080/8085 Assembly Language Programming Manual, chapters 2
 -- and 4).
-use Rattle.std.specs.Prelude.{ℕ, ◌*◌, List, [], ◌∷◌, length, sum, map, Bool, true, false, Option, Some}
-use Rattle.std.specs.Prelude.{None}
+use Rattle.std.specs.Prelude.{ℕ, ◌*◌, List, [], ◌∷◌, length, sum, map, Bool, true, false, Option, Some, None}
 use Rattle.std.specs.Option.{option_map_or}
 use Rattle.std.specs.List.{flat_map}
 use Rattle.asm_expr.specs.Tree.{names_of}

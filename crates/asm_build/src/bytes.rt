@@ -4,9 +4,8 @@ ghost use Rattle.i80_rows.specs.Encoding.{encoding_of};
 ghost use Rattle.asm_expr.specs.Value.{value_of};
 ghost use Rattle.asm_syntax.specs.Outcome.{Fault, LineGives};
 ghost use Rattle.asm_build.specs.Layout.{or_fault};
-ghost use Rattle.asm_build.specs.Meaning.{as_byte, vector, number, byte, restart};
-ghost use Rattle.asm_build.specs.Meaning.{instruction_bytes, datum_bytes, word_bytes, all_bytes};
-ghost use Rattle.asm_build.specs.Meaning.{bytes_of, start_of};
+ghost use Rattle.asm_build.specs.Meaning.{as_byte, vector, number, byte, restart, instruction_bytes};
+ghost use Rattle.asm_build.specs.Meaning.{datum_bytes, word_bytes, all_bytes, bytes_of, start_of};
 ghost use Rattle.asm_build.specs.State.{appended};
 
 use crate::faults::at;

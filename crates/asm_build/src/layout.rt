@@ -11,12 +11,9 @@ ghost use Rattle.asm_build.specs.Statements.{operands_in_instruction, length_of}
 ghost use Rattle.asm_build.specs.Reading.{given_as, next_place, parts_around, parts_past};
 ghost use Rattle.asm_build.specs.Reading.{is_selected, symbol_at};
 ghost use Rattle.asm_build.specs.Meaning.{definitions};
-ghost use Rattle.asm_build.specs.Layout.{is_among, Adds, Notes, needs, uses, check_first};
-ghost use Rattle.asm_build.specs.Layout.{check_defined};
-ghost use Rattle.asm_build.specs.Layout.{check_definition, early, within, assembled, laid_out};
-ghost use Rattle.asm_build.specs.Layout.{layout};
-ghost use Rattle.asm_build.specs.State.{past_in, past_of, lines_of, with_line_definition};
-ghost use Rattle.asm_build.specs.State.{Advances, Stands};
+ghost use Rattle.asm_build.specs.Layout.{is_among, Adds, Notes, needs, uses, check_first, check_defined};
+ghost use Rattle.asm_build.specs.Layout.{check_definition, early, within, assembled, laid_out, layout};
+ghost use Rattle.asm_build.specs.State.{past_in, past_of, lines_of, with_line_definition, Advances, Stands};
 
 use crate::bytes::number_or;
 use crate::faults::{at, on_line};

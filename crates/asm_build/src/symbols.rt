@@ -1,7 +1,6 @@
 //! Symbols: names with what they stand for (8080/8085 Assembly Language Programming Manual,
 //! chapter 2, "Symbols and symbol tables").
-ghost use Rattle.std.specs.Prelude.{◌≡◌, [], length, option_map, slice_get, fold, OnOk, OnErr};
-ghost use Rattle.std.specs.Prelude.{IfOk};
+ghost use Rattle.std.specs.Prelude.{◌≡◌, [], length, option_map, slice_get, fold, OnOk, OnErr, IfOk};
 
 use indexmap::IndexMap;
 use std::alloc::{AllocError, Global};

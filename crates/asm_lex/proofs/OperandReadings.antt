@@ -14,8 +14,7 @@ use Rattle.asm_expr.specs.declared.expression.Unary.TheVariants as unary
 use Rattle.asm_expr.specs.declared.expression.Binary.TheVariants as binary
 use Rattle.asm_lex.specs.declared.shape.Place.{Place}
 use Rattle.asm_lex.specs.declared.shape.Place.TheVariants.{BeforeOperand, AfterOperand}
-use Rattle.asm_lex.specs.Operators.{prefix_strength, infix_strength, is_sign, prefix_of, infix_of}
-use Rattle.asm_lex.specs.Operators.{atom_in}
+use Rattle.asm_lex.specs.Operators.{prefix_strength, infix_strength, is_sign, prefix_of, infix_of, atom_in}
 use Rattle.asm_lex.specs.Reading.{Spells, weakest_left, weakest_right, IsProper}
 use Rattle.asm_lex.specs.Shape.{shape, next_place}
 use Rattle.asm_lex.specs.Climb.{infix_at}

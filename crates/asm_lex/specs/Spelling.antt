@@ -6,8 +6,7 @@ use Rattle.std.specs.Char.{to_ascii_uppercase, is_ascii_digit, is_ascii_alphanum
 use Rattle.asm_syntax.specs.declared.fault.FaultKind.{FaultKind}
 use Rattle.asm_syntax.specs.declared.fault.FaultKind.TheVariants as kind
 use Rattle.asm_syntax.specs.Ascii.{space, quote, semicolon}
-use Rattle.asm_syntax.specs.Lexemes.{Lexeme, Name, Keyword, Overlong, Number, Text, Sign}
-use Rattle.asm_syntax.specs.Lexemes.{Piece, word_lexeme}
+use Rattle.asm_syntax.specs.Lexemes.{Lexeme, Name, Keyword, Overlong, Number, Text, Sign, Piece, word_lexeme}
 use Rattle.asm_syntax.specs.Outcome.{Fault}
 use Rattle.asm_lex.specs.Characters.{is_blank, is_word_part, is_printed}
 use Rattle.asm_lex.specs.Numbers.{number_of}

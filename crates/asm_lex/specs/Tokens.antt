@@ -7,8 +7,7 @@ use Rattle.asm_syntax.specs.declared.fault.FaultKind.{FaultKind}
 use Rattle.asm_syntax.specs.declared.fault.FaultKind.TheVariants as kind
 use Rattle.asm_syntax.specs.declared.token.Token.{Token}
 use Rattle.asm_syntax.specs.Ascii.{quote, semicolon}
-use Rattle.asm_syntax.specs.Lexemes.{Lexeme, Number, Text, Sign, Piece}
-use Rattle.asm_syntax.specs.Lexemes.{word_lexeme, lexeme_of, characters_of}
+use Rattle.asm_syntax.specs.Lexemes.{Lexeme, Number, Text, Sign, Piece, word_lexeme, lexeme_of, characters_of}
 use Rattle.asm_syntax.specs.Outcome.{Fault, ◌>>=◌}
 use Rattle.asm_lex.specs.Characters.{is_blank, is_word_part, is_printed}
 use Rattle.asm_lex.specs.Numbers.{number_of}

@@ -1,8 +1,7 @@
 //! Words that can't stand where they do.
 ghost use Rattle.std.specs.Prelude.{◌≡◌};
 ghost use Rattle.asm_syntax.specs.Lexemes.{lexeme_of, pieces_of};
-ghost use Rattle.asm_lex.specs.Words.{ends_operand, leads, keyword_misplaced, is_misplaced};
-ghost use Rattle.asm_lex.specs.Words.{misplaced_word};
+ghost use Rattle.asm_lex.specs.Words.{ends_operand, leads, keyword_misplaced, is_misplaced, misplaced_word};
 
 use crate::operators::is_sign;
 use asm_syntax::keyword::Keyword;

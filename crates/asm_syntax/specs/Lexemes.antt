@@ -1,6 +1,5 @@
 -- What tokens say: names in upper case, keywords, numbers, the characters of strings, signs.
-use Rattle.std.specs.Prelude.{ℕ, List, [], ◌∷◌, Option, Some, None, if◌then◌else◌, nat_lt, ◌==◌}
-use Rattle.std.specs.Prelude.{length, map}
+use Rattle.std.specs.Prelude.{ℕ, List, [], ◌∷◌, Option, Some, None, if◌then◌else◌, nat_lt, ◌==◌, length, map}
 use Rattle.std.specs.Char.{to_ascii_uppercase}
 use Rattle.asm_syntax.specs.declared.token.Token.{Token}
 use Rattle.asm_syntax.specs.declared.token.Token.TheVariants as token

@@ -1,7 +1,6 @@
 -- What is known of lines once they were read: what they say, or which fault comes first.
-use Rattle.std.proofs.Common.{◌≡◌, ℕ, ◌+◌, ◌<◌, ◌≤◌, ◌⊎◌, inl, inr, List, [], ◌∷◌, Bool, true, false}
-use Rattle.std.proofs.Common.{refl, sym, ap, ◌∙◌}
-use Rattle.std.proofs.Common.{Option, Some, None, Result, Ok, Err, arith, subst, length}
+use Rattle.std.proofs.Common.{◌≡◌, ℕ, ◌+◌, ◌<◌, ◌≤◌, ◌⊎◌, inl, inr, List, [], ◌∷◌, Bool, true, false, refl}
+use Rattle.std.proofs.Common.{sym, ap, ◌∙◌, Option, Some, None, Result, Ok, Err, arith, subst, length}
 use Rattle.std.specs.Prelude.{if◌then◌else◌, nat_lt, ◌||◌, MatchBool}
 use Rattle.std.proofs.lemmas.Bool.Decides.{nat_tests}
 use Rattle.std.specs.Str.Lines.{lines}
@@ -16,9 +15,8 @@ use Rattle.asm_syntax.specs.Lexemes.{Lexeme, Piece, Name, Keyword, Overlong}
 use Rattle.asm_syntax.specs.Outcome.{Fault, CellFault, ComesBefore, ◌>>=◌, at_line}
 use Rattle.asm_lex.specs.Spelling.{IsWrong}
 use Rattle.asm_text.specs.declared.open_if.OpenIf.{OpenIf}
-use Rattle.asm_text.specs.Cells.{LinesSay, Ends, LineFault, left_open, Unmatched}
-use Rattle.asm_text.specs.Cells.{Unclosed, IfFault, IsTooLong, StandsInText, stage, order}
-use Rattle.asm_text.specs.Cells.{IsFaultOf}
+use Rattle.asm_text.specs.Cells.{LinesSay, Ends, LineFault, left_open, Unmatched, Unclosed, IfFault}
+use Rattle.asm_text.specs.Cells.{IsTooLong, StandsInText, stage, order, IsFaultOf}
 use Rattle.asm_text.specs.Conditionals.{with_else, at_if, at_else, open_after_action, open_after, all_closed}
 use Rattle.asm_text.specs.Faults.{IsNoName, StandsAfter, StandsIn, StandsOn, WrongLabel, rank}
 use Rattle.asm_text.specs.Fields.{Field, Empty, Defines, Does, label_of, operation_of}

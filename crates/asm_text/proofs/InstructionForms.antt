@@ -24,9 +24,8 @@ use Rattle.asm_text.specs.Forms.{fitting, named_by, two_operands, move_of, move_
 use Rattle.asm_text.specs.Forms.{register_instruction, pair_instruction, index_instruction, stack_instruction}
 use Rattle.asm_text.specs.Grammar.{Names, Tells, Both, InstructionSays}
 use Rattle.asm_text.specs.Registers as word
-use Rattle.asm_text.proofs.OperandForms.{Judged, judged, shallow, named, names, no_tree, none_some}
-use Rattle.asm_text.proofs.OperandForms.{some_same, Verdict}
-use Rattle.asm_text.proofs.OperandForms.{not_deep, same_column, one_expression, one_named, none}
+use Rattle.asm_text.proofs.OperandForms.{Judged, judged, shallow, named, names, no_tree, none_some, some_same}
+use Rattle.asm_text.proofs.OperandForms.{Verdict, not_deep, same_column, one_expression, one_named, none}
 
 -- ---- a register or pair, then an expression
 

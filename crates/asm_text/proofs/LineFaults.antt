@@ -1,7 +1,6 @@
 -- What is known of a line's pieces once they were read: what they say, or which fault comes first.
-use Rattle.std.proofs.Common.{◌≡◌, ℕ, ◌+◌, ◌<◌, ◌≤◌, ◌⊎◌, inl, inr, List, [], ◌∷◌, Bool, true, false}
-use Rattle.std.proofs.Common.{refl, sym, ap, ◌∙◌}
-use Rattle.std.proofs.Common.{Option, Some, None, Result, Ok, Err, arith}
+use Rattle.std.proofs.Common.{◌≡◌, ℕ, ◌+◌, ◌<◌, ◌≤◌, ◌⊎◌, inl, inr, List, [], ◌∷◌, Bool, true, false, refl}
+use Rattle.std.proofs.Common.{sym, ap, ◌∙◌, Option, Some, None, Result, Ok, Err, arith}
 use Rattle.std.specs.Prelude.{nat_lt}
 use Rattle.std.proofs.lemmas.Bool.Decides.{nat_tests}
 use Rattle.asm_syntax.specs.declared.fault.FaultKind.{FaultKind}
@@ -23,9 +22,8 @@ use Rattle.asm_text.specs.Faults.{IsNoName, IsNoOperation, IsMisplaced, StandsAf
 use Rattle.asm_text.specs.Faults.{IsFirst, order_in_line}
 use Rattle.asm_text.specs.Forms.{instruction_of, directive_of}
 use Rattle.asm_text.specs.Grammar.{ActionSays, OperationSays, NameSays, Only, Tells}
-use Rattle.asm_text.specs.Lines.{unless_misplaced, definition_in}
-use Rattle.asm_text.specs.Lines.{defined_by, only_operand, definition_at, action_of, plain_at, operation_by}
-use Rattle.asm_text.specs.Lines.{operation_at}
+use Rattle.asm_text.specs.Lines.{unless_misplaced, definition_in, defined_by, only_operand, definition_at}
+use Rattle.asm_text.specs.Lines.{action_of, plain_at, operation_by, operation_at}
 use Rattle.asm_text.proofs.OperandForms.{Verdict, one_expression}
 use Rattle.asm_text.proofs.InstructionForms.{instructed}
 use Rattle.asm_text.proofs.DirectiveForms.{Rises, in_order, directed}

@@ -1,7 +1,6 @@
 -- Statements, one line after the other.
-use Rattle.std.proofs.Common.{◌≡◌, ℕ, ◌+◌, ◌<◌, ◌≤◌, List, [], ◌∷◌, ◌++◌, true, false, length}
-use Rattle.std.proofs.Common.{get_or, drop, drop-cons, Result, Ok, Err, refl, sym, ap, ◌∙◌, add-one}
-use Rattle.std.proofs.Common.{append_assoc}
+use Rattle.std.proofs.Common.{◌≡◌, ℕ, ◌+◌, ◌<◌, ◌≤◌, List, [], ◌∷◌, ◌++◌, true, false, length, get_or, drop}
+use Rattle.std.proofs.Common.{drop-cons, Result, Ok, Err, refl, sym, ap, ◌∙◌, add-one, append_assoc}
 use Rattle.std.proofs.lemmas.List.{drop_all, append-nil}
 use denote.Ref.{Bor}
 use Rattle.asm_syntax.specs.declared.fault.AsmFault.{AsmFault}

@@ -1,9 +1,8 @@
 -- What the lines of a text say, what is wrong with it, and which of several faults is told (8080/8085
 -- Assembly Language Programming Manual, chapters 2 and 4). END ends the text wherever it stands, also
 -- in a part that an IF leaves out.
-use Rattle.std.specs.Prelude.{◌≡◌, ◌<◌, ◌≤◌, ◌⊎◌, ℕ, ◌+◌, List, [], ◌∷◌, true, false, Option, Some}
-use Rattle.std.specs.Prelude.{None, length}
-use Rattle.std.specs.Prelude.{MatchBool}
+use Rattle.std.specs.Prelude.{◌≡◌, ◌<◌, ◌≤◌, ◌⊎◌, ℕ, ◌+◌, List, [], ◌∷◌, true, false, Option, Some, None}
+use Rattle.std.specs.Prelude.{length, MatchBool}
 use Rattle.std.specs.Str.Lines.{lines}
 use Rattle.asm_syntax.specs.declared.fault.FaultKind.{FaultKind}
 use Rattle.asm_syntax.specs.declared.fault.FaultKind.TheVariants as kind

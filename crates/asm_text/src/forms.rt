@@ -2,8 +2,7 @@
 ghost use Rattle.std.specs.Prelude.{◌≡◌};
 ghost use Rattle.asm_syntax.specs.Lexemes.{pieces_of};
 ghost use Rattle.asm_syntax.specs.Outcome.{LineGives};
-ghost use Rattle.asm_text.specs.Forms.{no_operand, one_operand, two_operands, only_expression};
-ghost use Rattle.asm_text.specs.Forms.{only_named};
+ghost use Rattle.asm_text.specs.Forms.{no_operand, one_operand, two_operands, only_expression, only_named};
 
 use crate::registers::{Named, fit, named_operand};
 use asm_lex::commas::{pair, single};

@@ -1,6 +1,5 @@
 -- What was found in all that a reader had.
-use Rattle.std.specs.Prelude.{◌≡◌, ◌≤◌, ◌⊎◌, ℕ, List, length, true, IfSome}
-use Rattle.std.specs.Prelude.{Result, Ok, Err, MatchResult}
+use Rattle.std.specs.Prelude.{◌≡◌, ◌≤◌, ◌⊎◌, ℕ, List, length, true, IfSome, Result, Ok, Err, MatchResult}
 use Rattle.std.specs.Global.{Vec}
 use Rattle.base_streams.specs.States.{InletState}
 use Rattle.cli_io.specs.HexInput.{input_of, BadHex, PastEnd, Bytes}

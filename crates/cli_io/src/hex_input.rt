@@ -1,6 +1,5 @@
 //! Hexadecimal text that comes in pieces.
-ghost use Rattle.std.specs.Prelude.{◌≡◌, ◌<◌, ◌∷◌, [], List, ℕ, Some, OnOk, IsErrOf};
-ghost use Rattle.std.specs.Prelude.{IfOk, All};
+ghost use Rattle.std.specs.Prelude.{◌≡◌, ◌<◌, ◌∷◌, [], List, ℕ, Some, OnOk, IsErrOf, IfOk, All};
 ghost use Rattle.cli_io.specs.HexInput.{digit_value, input_of, paired};
 ghost use Rattle.cli_io.specs.HexState.{kept_more};
 

@@ -1,8 +1,7 @@
 //! Registers and endings as text: hexadecimal digits are upper case and of fixed width.
 ghost use Rattle.std.specs.Prelude.{◌≡◌, ◌++◌, OnOk, string_bytes, codes};
 ghost use Rattle.i80_rows.specs.FlagValues.{flag_byte};
-ghost use Rattle.base_text.specs.Hexadecimal.{upper_byte};
-ghost use Rattle.base_text.specs.Hexadecimal.{upper_word};
+ghost use Rattle.base_text.specs.Hexadecimal.{upper_byte, upper_word};
 ghost use Rattle.cli_io.specs.Report.{line};
 ghost use Rattle.cli_run.specs.Printed.{field, register_line};
 ghost use Rattle.cli_run.specs.RunText.{word_of};

@@ -4,10 +4,9 @@ ghost use Rattle.serde_json.specs.Find.{as_str, as_bool, as_array};
 ghost use Rattle.serde_json.specs.View.{view, items_view};
 ghost use Rattle.dap_talk.specs.Argument.{whole_between, at_most_256};
 ghost use Rattle.dap_editor.specs.Answer.{Answers};
-ghost use Rattle.dap_editor.specs.Argument.{required, optional, address, IsBackWithin};
-ghost use Rattle.dap_editor.specs.Argument.{shift_within, shift, context, is_unconditional};
-ghost use Rattle.dap_editor.specs.Argument.{function_of, functions_of, breakpoints, functions};
-ghost use Rattle.dap_editor.specs.Argument.{bytes_of, base64};
+ghost use Rattle.dap_editor.specs.Argument.{required, optional, address, IsBackWithin, shift_within, shift};
+ghost use Rattle.dap_editor.specs.Argument.{context, is_unconditional, function_of, functions_of};
+ghost use Rattle.dap_editor.specs.Argument.{breakpoints, functions, bytes_of, base64};
 ghost use Rattle.dap_editor.specs.Table.{byte, any_number, offset, memory_reference};
 
 use crate::request::{EvaluateContext, Shift};

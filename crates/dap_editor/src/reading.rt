@@ -3,12 +3,10 @@ ghost use Rattle.std.specs.Prelude.{◌≡◌, IfOk, IfSome, OnErr, IsSome, Some
 ghost use Rattle.serde_json.specs.View.{view};
 ghost use Rattle.dap_talk.specs.Reading.{envelope_of, envelope_with, reading};
 ghost use Rattle.dap_editor.specs.Answer.{Answers};
-ghost use Rattle.dap_editor.specs.Table.{named, asked};
-ghost use Rattle.dap_editor.specs.Table.{launch_asked, evaluate_asked, read_memory_asked};
+ghost use Rattle.dap_editor.specs.Table.{named, asked, launch_asked, evaluate_asked, read_memory_asked};
 ghost use Rattle.dap_editor.specs.Table.{write_memory_asked, disassemble_asked};
-ghost use Rattle.dap_editor.specs.Reading.{has_null_arguments, bare_request, asked_of_board};
-ghost use Rattle.dap_editor.specs.Reading.{asked_of_editor, asked_by, unreadable, editor_request};
-ghost use Rattle.dap_editor.specs.Reading.{IsCommandBounded, IsBounded};
+ghost use Rattle.dap_editor.specs.Reading.{has_null_arguments, bare_request, asked_of_board, asked_of_editor};
+ghost use Rattle.dap_editor.specs.Reading.{asked_by, unreadable, editor_request, IsCommandBounded, IsBounded};
 
 use crate::arguments::{
     byte_or_0, bytes_at, context_or_other, count_at, functions_at, memory_reference, number_at,

@@ -1,7 +1,6 @@
 -- Breakpoints with their numbers, and the lines of a board's list (Debug Adapter Protocol, "Breakpoint").
 use Rattle.std.specs.Prelude.{ℕ, ◌+◌, ◌*◌, ◌-◌, List, [], ◌∷◌, ◌++◌, length, nat_lt, nat_le, Bool, ◌&&◌}
-use Rattle.std.specs.Prelude.{is_some}
-use Rattle.std.specs.Prelude.{Option, Some, None, option_to_list, if◌then◌else◌}
+use Rattle.std.specs.Prelude.{is_some, Option, Some, None, option_to_list, if◌then◌else◌}
 use Rattle.std.specs.List.{filter_map}
 use Rattle.dap_editor.specs.declared.message.PlacedBreakpoint.{PlacedBreakpoint}
 

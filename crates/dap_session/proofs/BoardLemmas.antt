@@ -1,7 +1,6 @@
 -- What events leave as it was: a board's run, and whether a debugger is attached.
-use Rattle.std.proofs.Common.{◌≡◌, ◌∙◌, ℕ, zero, suc, ◌+◌, List, [], ◌∷◌, Bool, true, false, Option}
-use Rattle.std.proofs.Common.{Some, None}
-use Rattle.std.proofs.Common.{Result, Ok, Err, if◌then◌else◌, refl, sym, ap, subst}
+use Rattle.std.proofs.Common.{◌≡◌, ◌∙◌, ℕ, zero, suc, ◌+◌, List, [], ◌∷◌, Bool, true, false, Option, Some}
+use Rattle.std.proofs.Common.{None, Result, Ok, Err, if◌then◌else◌, refl, sym, ap, subst}
 use Rattle.base_text.specs.Bytes.{Bytes, Text}
 use Rattle.asm_syntax.specs.Outcome.{◌>>=◌}
 use Rattle.lab_views.specs.declared.view.View.{View}
@@ -20,9 +19,8 @@ use Rattle.lab_core.specs.declared.run_state.RunState.{RunState}
 use Rattle.lab_core.specs.declared.run_state.RunState.TheVariants.{NoRun, Running, Stopped}
 use Rattle.lab_core.specs.Board.{Board}
 use Rattle.lab_core.specs.Events.{Given, given, without_run, with_run, while_stopped, while_running}
-use Rattle.lab_core.specs.Events.{while_attached}
-use Rattle.lab_core.specs.Events.{with_source, with_breakpoints, or_poke, or_source, or_assembly, assembled}
-use Rattle.lab_core.specs.Events.{as_answer, parts_of, started, stopped, ended}
+use Rattle.lab_core.specs.Events.{while_attached, with_source, with_breakpoints, or_poke, or_source}
+use Rattle.lab_core.specs.Events.{or_assembly, assembled, as_answer, parts_of, started, stopped, ended}
 use Rattle.lab_core.specs.Slices.{after_steps}
 use Rattle.dap_editor.specs.declared.request.Launch.{Launch}
 use Rattle.dap_program.specs.declared.load.LoadFault.{LoadFault}

@@ -45,14 +45,12 @@ use Rattle.dap_session.specs.declared.settings.Program.{Program}
 use Rattle.dap_session.specs.States.{SessionState, wants_slice}
 use Rattle.dap_session.specs.Evaluations.{value_told}
 use Rattle.dap_session.specs.Memory.{writing}
-use Rattle.dap_session.specs.Launches.{text_in}
-use Rattle.dap_session.specs.Launches.{program_of, program_lines, program_labels, started_follow}
+use Rattle.dap_session.specs.Launches.{text_in, program_of, program_lines, program_labels, started_follow}
 use Rattle.dap_session.specs.Launches.{by_text, loading, loading_as, launching_over, restarting_of}
 use Rattle.dap_session.specs.Requests.{objection, asking, asking_unless, replying, turn}
 use Rattle.dap_session.specs.Slices.{Input, request, slice, caller_of, slicing, sliced, step, played}
 use Rattle.dap_session.specs.Laws.{caller_in, callers_answered, request_in, callers_asking, stdout_in}
-use Rattle.dap_session.specs.Laws.{console_of}
-use Rattle.dap_session.specs.Laws.{written_in, written_by, all_written}
+use Rattle.dap_session.specs.Laws.{console_of, written_in, written_by, all_written}
 
 -- ---- responses
 

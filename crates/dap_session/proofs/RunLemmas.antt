@@ -1,8 +1,7 @@
 -- Which states a session comes to, and what an editor is told on the way.
 use Rattle.std.proofs.Common.{◌≡◌, ℕ, zero, suc, ◌∙◌, ◌+◌, List, [], ◌++◌, Bool, true, false, not, ◌&&◌}
-use Rattle.std.proofs.Common.{Option}
-use Rattle.std.proofs.Common.{Some, None, option_map, if◌then◌else◌, refl, sym, ap, subst, true≢false, fold}
-use Rattle.std.proofs.Common.{zero-add}
+use Rattle.std.proofs.Common.{Option, Some, None, option_map, if◌then◌else◌, refl, sym, ap, subst, true≢false}
+use Rattle.std.proofs.Common.{fold, zero-add}
 use Rattle.std.proofs.lemmas.List.Sums.{fold-append, sum_by-append}
 use Rattle.lab_core.specs.declared.run_state.RunState.{RunState}
 use Rattle.lab_core.specs.declared.run_state.RunState.TheVariants.{NoRun}

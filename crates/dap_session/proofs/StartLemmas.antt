@@ -32,11 +32,9 @@ use Rattle.dap_session.specs.declared.settings.Program.{Program}
 use Rattle.dap_session.specs.States.{SessionState, with_board, with_program, in_phase, is_over, is_live}
 use Rattle.dap_session.specs.Turns.{Turn}
 use Rattle.dap_session.specs.Launches.{pauses, going_follow, begun_follow, installing, beginning}
-use Rattle.dap_session.specs.Launches.{beginning_in}
-use Rattle.dap_session.specs.Launches.{beginning_where, program_of, program_lines, program_labels}
-use Rattle.dap_session.specs.Launches.{program_board}
-use Rattle.dap_session.specs.Launches.{started_follow, loading_as, text_in, by_text, loading, launching_over}
-use Rattle.dap_session.specs.Launches.{restarting_of}
+use Rattle.dap_session.specs.Launches.{beginning_in, beginning_where, program_of, program_lines}
+use Rattle.dap_session.specs.Launches.{program_labels, program_board, started_follow, loading_as, text_in}
+use Rattle.dap_session.specs.Launches.{by_text, loading, launching_over, restarting_of}
 use Rattle.dap_session.specs.Requests.{configured}
 use Rattle.dap_session.specs.Laws.{Shown, unstopped, shown_after, shown_for, ends_told, has_run}
 use Rattle.dap_session.proofs.BoardLemmas.{kept_armed, run_started, begun_run, begun_attached, IsLoaded}

@@ -1,7 +1,6 @@
 -- What requests and slices tell of stops and of ends.
-use Rattle.std.proofs.Common.{◌≡◌, ◌∙◌, ℕ, List, [], ◌∷◌, ◌++◌, Bool, true, false, not, ◌&&◌, Option}
-use Rattle.std.proofs.Common.{Some, None}
-use Rattle.std.proofs.Common.{Ok, refl, sym, ap, subst, inl, inr, true≢false, fold, filter_map}
+use Rattle.std.proofs.Common.{◌≡◌, ◌∙◌, ℕ, List, [], ◌∷◌, ◌++◌, Bool, true, false, not, ◌&&◌, Option, Some}
+use Rattle.std.proofs.Common.{None, Ok, refl, sym, ap, subst, inl, inr, true≢false, fold, filter_map}
 use Rattle.std.proofs.lemmas.Bool.{cases_Bool, and_parts}
 use Rattle.std.proofs.lemmas.List.Sums.{fold-append}
 use Rattle.std.specs.List.{list_any}
@@ -39,13 +38,11 @@ use Rattle.dap_session.specs.Requests.{initialized, commanding, editing, objecti
 use Rattle.dap_session.specs.Requests.{asking_unless, turn}
 use Rattle.dap_session.specs.Slices.{Input, request, slice, settings_after, slicing, sliced, step, played}
 use Rattle.dap_session.specs.Laws.{Shown, unstopped, shown_after, shown_by, shown_for, ends_told}
-use Rattle.dap_session.specs.Laws.{ends_between}
-use Rattle.dap_session.specs.Laws.{has_run, has_begun, events_in, asks_to_load, loads}
+use Rattle.dap_session.specs.Laws.{ends_between, has_run, has_begun, events_in, asks_to_load, loads}
 use Rattle.dap_session.proofs.BoardLemmas.{SameRun, kept_without, kept_dump, kept_poke, kept_press}
 use Rattle.dap_session.proofs.BoardLemmas.{kept_steps}
-use Rattle.dap_session.proofs.RunLemmas.{seen, seen_board, IsReached, idle, lively, begun_runs}
-use Rattle.dap_session.proofs.RunLemmas.{with_run, over_seen}
-use Rattle.dap_session.proofs.RunLemmas.{Follows, still, runs_on, ends_live, IsCalm, calm_follows}
+use Rattle.dap_session.proofs.RunLemmas.{seen, seen_board, IsReached, idle, lively, begun_runs, with_run}
+use Rattle.dap_session.proofs.RunLemmas.{over_seen, Follows, still, runs_on, ends_live, IsCalm, calm_follows}
 use Rattle.dap_session.proofs.TurnLemmas.{GoesBy, goes_either, goes_board, goes_shown, goes_evaluating}
 use Rattle.dap_session.proofs.TurnLemmas.{goes_lines, goes_functions, goes_writing, goes_paused}
 use Rattle.dap_session.proofs.TurnLemmas.{goes_resumed, goes_resetting, goes_terminating}

@@ -38,11 +38,9 @@ use Rattle.dap_session.specs.Memory.{is_stopped, address_at, writing_from, writi
 use Rattle.dap_session.specs.Requests.{board_done, resetting, terminating}
 use Rattle.dap_session.specs.Laws.{has_run}
 use Rattle.dap_session.proofs.BoardLemmas.{KeepsRun, kept_press, kept_show, kept_where, kept_labels}
-use Rattle.dap_session.proofs.BoardLemmas.{kept_written}
-use Rattle.dap_session.proofs.BoardLemmas.{run_interrupted, still_attached}
-use Rattle.dap_session.proofs.RunLemmas.{seen, seen_board, IsReached, both, lively, over_seen, Goes}
-use Rattle.dap_session.proofs.RunLemmas.{still, runs_on}
-use Rattle.dap_session.proofs.RunLemmas.{goes_over}
+use Rattle.dap_session.proofs.BoardLemmas.{kept_written, run_interrupted, still_attached}
+use Rattle.dap_session.proofs.RunLemmas.{seen, seen_board, IsReached, both, lively, over_seen, Goes, still}
+use Rattle.dap_session.proofs.RunLemmas.{runs_on, goes_over}
 
 abbrev pub GoesBy : SessionState → Replied → Type 0
 GoesBy s r = Goes s (events_of r.follow) r.state

@@ -1,7 +1,6 @@
 -- Memory and code (Debug Adapter Protocol, `readMemory`, `writeMemory` and `disassemble`).
-use Rattle.std.specs.Prelude.{ℕ, ◌+◌, ◌-◌, ◌%◌, [], length, take, nat_le, Bool, true, false, Option}
-use Rattle.std.specs.Prelude.{Some, None}
-use Rattle.std.specs.Prelude.{codes, if◌then◌else◌}
+use Rattle.std.specs.Prelude.{ℕ, ◌+◌, ◌-◌, ◌%◌, [], length, take, nat_le, Bool, true, false, Option, Some}
+use Rattle.std.specs.Prelude.{None, codes, if◌then◌else◌}
 use Rattle.base_text.specs.Bytes.{Bytes}
 use Rattle.i80_exec.specs.State.{MachineState, wrapped}
 use Rattle.lab_views.specs.Code.{lines_from, after_instructions}

@@ -3,8 +3,7 @@ use Rattle.std.proofs.Common.{ap, subst, append_assoc, if◌then◌else◌}
 use Rattle.std.specs.List.{list_all}
 use Rattle.std.proofs.lemmas.List.{append-nil}
 use Rattle.dap_stream.specs.Header.{line_end, colon, is_name_byte, is_value_byte, Field, IsLine, IsLines}
-use Rattle.dap_stream.specs.Header.{Ends}
-use Rattle.dap_stream.specs.Header.{Next, IsHeader, is_length_name, lengths}
+use Rattle.dap_stream.specs.Header.{Ends, Next, IsHeader, is_length_name, lengths}
 use Rattle.dap_stream.specs.Faults.{CanBe}
 use Rattle.dap_stream.proofs.SpanLemmas.{same_split}
 

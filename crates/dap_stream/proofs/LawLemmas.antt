@@ -1,19 +1,15 @@
-use Rattle.std.proofs.Common.{◌≡◌, ℕ, ◌<◌, ◌≤◌, Option, Some, None, List, [], ◌∷◌, ◌++◌, length}
-use Rattle.std.proofs.Common.{take, drop, true, refl, arith, sym, ◌∙◌, ap, subst, append_assoc}
-use Rattle.std.proofs.Common.{length-append}
+use Rattle.std.proofs.Common.{◌≡◌, ℕ, ◌<◌, ◌≤◌, Option, Some, None, List, [], ◌∷◌, ◌++◌, length, take, drop}
+use Rattle.std.proofs.Common.{true, refl, arith, sym, ◌∙◌, ap, subst, append_assoc, length-append}
 use Rattle.std.specs.List.{list_all}
 use Rattle.std.proofs.lemmas.List.{append-nil, nil_from_length}
 use Rattle.std.proofs.Math.Seq.{drop-append_seam, take-append_seam}
 use Rattle.dap_stream.specs.declared.fault.StreamFault.{StreamFault}
 use Rattle.dap_stream.specs.Header.{line_end, colon, is_name_byte, is_value_byte, Field, IsLine, IsLines}
-use Rattle.dap_stream.specs.Header.{Ends}
-use Rattle.dap_stream.specs.Header.{Next, IsHeader, IsLength, IsAllowed, SaysOnce, IsHeaderOf, lengths}
+use Rattle.dap_stream.specs.Header.{Ends, Next, IsHeader, IsLength, IsAllowed, SaysOnce, IsHeaderOf, lengths}
 use Rattle.dap_stream.specs.Faults.{CanBe, Any, AtMostOne, Single, IsNumber, Numbered, Small, Sized, Begins}
-use Rattle.dap_stream.specs.Faults.{Lacks}
-use Rattle.dap_stream.specs.Faults.{NoHeader, Twice, NoNumber, TooLarge, Missing}
+use Rattle.dap_stream.specs.Faults.{Lacks, NoHeader, Twice, NoNumber, TooLarge, Missing}
 use Rattle.dap_stream.specs.Stream.{IsMessage, Reads, Stays, Goes, IsPartial, InHeader, InBody, IsFault}
-use Rattle.dap_stream.specs.Stream.{InLine}
-use Rattle.dap_stream.specs.Stream.{InSize, DecoderState, StandsFor, EndsIn}
+use Rattle.dap_stream.specs.Stream.{InLine, InSize, DecoderState, StandsFor, EndsIn}
 use Rattle.dap_stream.specs.Reading.{EndsAt}
 use Rattle.dap_stream.proofs.SpanLemmas.{same_split}
 use Rattle.dap_stream.proofs.HeaderLemmas.{shape, Shape, Empty, Full}

@@ -1,6 +1,5 @@
 use Rattle.std.proofs.Common.{◌≡◌, ℕ, ◌+◌, ◌-◌, ◌*◌, ◌<◌, ◌≤◌, Bool, true, false, inl, inr, Result, Ok, Err}
-use Rattle.std.proofs.Common.{List}
-use Rattle.std.proofs.Common.{[], ◌∷◌, ◌++◌, length, refl, arith, sym, ◌∙◌, ap, subst, append_assoc}
+use Rattle.std.proofs.Common.{List, [], ◌∷◌, ◌++◌, length, refl, arith, sym, ◌∙◌, ap, subst, append_assoc}
 use Rattle.std.proofs.Common.{length-append}
 use Rattle.std.specs.List.{list_all}
 use Rattle.std.specs.Char.{is_ascii_digit, digit_value}
@@ -12,8 +11,7 @@ use Rattle.dap_stream.specs.declared.fault.StreamFault.{StreamFault}
 use Rattle.dap_stream.specs.Header.{is_blank, IsLength, IsAllowed}
 use Rattle.dap_stream.specs.Spans.{StopsAt}
 use Rattle.dap_stream.specs.Lengths.{CanSay, LacksSize, NoNumber, TooLarge, BreaksLength, AreDigits}
-use Rattle.dap_stream.specs.Lengths.{IsNoDigit}
-use Rattle.dap_stream.specs.Lengths.{BreaksDigits, AtByte, AtSize, BrokenDigits, DigitsSay}
+use Rattle.dap_stream.specs.Lengths.{IsNoDigit, BreaksDigits, AtByte, AtSize, BrokenDigits, DigitsSay}
 use Rattle.dap_stream.proofs.SpanLemmas.{same_split, passes_parts, both}
 use Rattle.dap_stream.proofs.FrontLemmas.{says_blanks, says_size}
 

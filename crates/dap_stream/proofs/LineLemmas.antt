@@ -16,10 +16,8 @@ use Rattle.dap_stream.specs.Lengths.{LacksSize, NoNumber as NoSize, TooLarge as 
 use Rattle.dap_stream.specs.Lines.{IsFront, EndsLine, WantsDigits, IsBroken, Passes}
 use Rattle.dap_stream.proofs.SpanLemmas.{same_split, inside, passes_push, passes_parts, passes_weaker}
 use Rattle.dap_stream.proofs.HeaderLemmas.{at_name, AtName, AtEnd, AtColon, at_field, never, ever}
-use Rattle.dap_stream.proofs.HeaderLemmas.{short_header}
-use Rattle.dap_stream.proofs.HeaderLemmas.{empty_header}
-use Rattle.dap_stream.proofs.FrontLemmas.{begins_after, begins_name, begins_end, begins_return}
-use Rattle.dap_stream.proofs.FrontLemmas.{begins_length}
+use Rattle.dap_stream.proofs.HeaderLemmas.{short_header, empty_header}
+use Rattle.dap_stream.proofs.FrontLemmas.{begins_after, begins_name, begins_end, begins_return, begins_length}
 use Rattle.dap_stream.proofs.FrontLemmas.{says_blanks, line_is, blank_value}
 
 -- a fault at a byte of what follows whole lines

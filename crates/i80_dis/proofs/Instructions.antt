@@ -57,9 +57,8 @@ use Rattle.i80_dis.proofs.Words.{pair_named, index_named, stack_named, register_
 use Rattle.i80_dis.proofs.Words.{operation_means, immediate_means, rotation_means, jump_means, call_means}
 use Rattle.i80_dis.proofs.Words.{return_means}
 use Rattle.i80_dis.proofs.Printed.{IsShort, IsPrinted, word_printed, number_printed, byte_printed}
-use Rattle.i80_dis.proofs.Printed.{address_printed, weaker, behind}
-use Rattle.i80_dis.proofs.Printed.{behind_two, none_read, one_read, two_read, none_short, one_short}
-use Rattle.i80_dis.proofs.Printed.{two_short}
+use Rattle.i80_dis.proofs.Printed.{address_printed, weaker, behind, behind_two, none_read, one_read, two_read}
+use Rattle.i80_dis.proofs.Printed.{none_short, one_short, two_short}
 use Rattle.i80_dis.proofs.Forms.{number_at, Says, Spelled, NameSays, alone_says, register_says, pair_says}
 use Rattle.i80_dis.proofs.Forms.{index_says, stack_says, byte_says, word_says, restart_says, move_says}
 use Rattle.i80_dis.proofs.Forms.{immediate_says, load_says, datum_says}

@@ -4,8 +4,7 @@ use Rattle.std.proofs.Common.{cond, Some, None, refl, ap, ◌∙◌, arith, eqb}
 use Rattle.std.specs.Prelude.{◌&&◌, nat_lt}
 use Rattle.std.specs.List.{list_all}
 use Rattle.std.proofs.lemmas.Bool.{and_parts, eqb-true, cases_lt, lt-ltb}
-use Rattle.std.specs.Char.{is_ascii_digit, is_ascii_alphanumeric}
-use Rattle.std.specs.Char.{digit_value}
+use Rattle.std.specs.Char.{is_ascii_digit, is_ascii_alphanumeric, digit_value}
 use Rattle.asm_lex.specs.Numbers.{spelled, number_of}
 use Rattle.asm_lex.specs.Spelling.{Begins}
 use Rattle.i80_rows.specs.declared.instruction.Vector.{Vector}

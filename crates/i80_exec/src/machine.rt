@@ -8,9 +8,8 @@ ghost use Rattle.i80_exec.specs.State.{get_stack_pair, put_stack_pair, with_regs
 ghost use Rattle.i80_exec.specs.State.{with_pc, with_a, with_flags, with_interrupts, power_on};
 ghost use Rattle.i80_exec.specs.Effect.{effect, to_a, operated, holds, added_to_hl, pushed};
 ghost use Rattle.i80_exec.specs.Effect.{popped, called, returned, exchanged};
-ghost use Rattle.i80_exec.specs.Step.{instruction, acceptance, operation_list, state_after};
-ghost use Rattle.i80_exec.specs.Step.{answer_of, is_arming, settled, armed_again, IsOutcome};
-ghost use Rattle.i80_exec.specs.Step.{Performs, Settles};
+ghost use Rattle.i80_exec.specs.Step.{instruction, acceptance, operation_list, state_after, answer_of};
+ghost use Rattle.i80_exec.specs.Step.{is_arming, settled, armed_again, IsOutcome, Performs, Settles};
 
 mod opcodes;
 

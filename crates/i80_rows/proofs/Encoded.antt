@@ -1,11 +1,10 @@
 -- The encoding in numbers encodes its instruction by the table of 256 rows.
 use Rattle.std.proofs.Common.{◌≡◌, ℕ, ◌+◌, ◌*◌, ◌/◌, ◌%◌, [], ◌∷◌, refl, ap, arith}
 use Rattle.i80_rows.specs.declared.instruction.Instr.{Instr}
-use Rattle.i80_rows.specs.declared.instruction.Instr.TheVariants.{Lxi, Stax, Ldax, Shld, Lhld, Sta, Lda}
-use Rattle.i80_rows.specs.declared.instruction.Instr.TheVariants.{Inx, Dcx, Dad, Inr, Dcr, Mvi, Rotate}
-use Rattle.i80_rows.specs.declared.instruction.Instr.TheVariants.{Mov, MovFromM, MovToM}
-use Rattle.i80_rows.specs.declared.instruction.Instr.TheVariants.{Alu, AluImmediate, Jmp, JumpIf, Call}
-use Rattle.i80_rows.specs.declared.instruction.Instr.TheVariants.{CallIf, RetIf, Rst, Push, Pop}
+use Rattle.i80_rows.specs.declared.instruction.Instr.TheVariants.{Lxi, Stax, Ldax, Shld, Lhld, Sta, Lda, Inx}
+use Rattle.i80_rows.specs.declared.instruction.Instr.TheVariants.{Dcx, Dad, Inr, Dcr, Mvi, Rotate, Mov}
+use Rattle.i80_rows.specs.declared.instruction.Instr.TheVariants.{MovFromM, MovToM, Alu, AluImmediate, Jmp}
+use Rattle.i80_rows.specs.declared.instruction.Instr.TheVariants.{JumpIf, Call, CallIf, RetIf, Rst, Push, Pop}
 use Rattle.i80_rows.specs.declared.instruction.Reg.{Reg}
 use Rattle.i80_rows.specs.declared.instruction.Register.{Register}
 use Rattle.i80_rows.specs.declared.instruction.Register.TheVariants as register

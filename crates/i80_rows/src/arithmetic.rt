@@ -1,9 +1,8 @@
 //! The arithmetic and logic of the accumulator, with the flags that each operation sets
 //! (8080 User's Manual, chapter 4, "Arithmetic Group" and "Logical Group").
 ghost use Rattle.std.specs.Prelude.{◌≡◌};
-ghost use Rattle.i80_rows.specs.Arithmetic.{with_flags, sum, difference, increment, decrement};
-ghost use Rattle.i80_rows.specs.Arithmetic.{adjusted, conjunction, exclusive, inclusive, rotated};
-ghost use Rattle.i80_rows.specs.Arithmetic.{turned};
+ghost use Rattle.i80_rows.specs.Arithmetic.{with_flags, sum, difference, increment, decrement, adjusted};
+ghost use Rattle.i80_rows.specs.Arithmetic.{conjunction, exclusive, inclusive, rotated, turned};
 
 use crate::flags::Flags;
 use crate::instruction::Rotation;

@@ -1,8 +1,7 @@
 //! Writing an instruction as bytes, opcode first and words low byte first.
 ghost use Rattle.std.specs.Prelude.{◌≡◌, ◌<◌, ◌≤◌, ◌∷◌, [], length};
 ghost use Rattle.i80_rows.specs.Codes.{reg_of, reg_code, pair_code, stack_pair_code, cond_code};
-ghost use Rattle.i80_rows.specs.Codes.{operation_code, rotation_code, vector_code};
-ghost use Rattle.i80_rows.specs.Codes.{index_pair_code};
+ghost use Rattle.i80_rows.specs.Codes.{operation_code, rotation_code, vector_code, index_pair_code};
 ghost use Rattle.i80_rows.specs.Encoding.{Encodes, with_word, encoding_of};
 
 use crate::instruction::{

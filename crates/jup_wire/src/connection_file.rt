@@ -1,6 +1,5 @@
 //! Connection files and how they are read.
-ghost use Rattle.std.specs.Prelude.{◌≡◌, ◌↔◌, Some, None, IsTrue, IfOk, IfErr, IfSome, IfNone};
-ghost use Rattle.std.specs.Prelude.{option_map};
+ghost use Rattle.std.specs.Prelude.{◌≡◌, ◌↔◌, Some, None, IsTrue, IfOk, IfErr, IfSome, IfNone, option_map};
 ghost use Rattle.std.specs.declared.net.ipv4_addr.Ipv4Addr.{Ipv4Addr};
 ghost use Rattle.serde_json.specs.View.{view};
 ghost use Rattle.jup_wire.specs.ConnectionFiles.{HasValue, HasNoValue, text_at, port_at, a_port};

@@ -1,6 +1,5 @@
 -- What executions ask of the board.
-use Rattle.std.specs.Prelude.{ℕ, Bool, true, false, Some, Ok, Err}
-use Rattle.std.specs.Prelude.{if◌then◌else◌}
+use Rattle.std.specs.Prelude.{ℕ, Bool, true, false, Some, Ok, Err, if◌then◌else◌}
 use Rattle.base_text.specs.Bytes.{Text}
 use Rattle.lab_core.specs.declared.run_state.RunState.{RunState}
 use Rattle.lab_core.specs.declared.run_state.RunState.TheVariants.{NoRun, Running, Stopped}

@@ -1,7 +1,6 @@
 -- What was asked for, in the one history.
-use Rattle.std.proofs.Common.{◌≡◌, ℕ, ◌≤◌, List, [], ◌∷◌, ◌++◌, length, refl, sym, ap, ◌∙◌, subst}
-use Rattle.std.proofs.Common.{Contains, arith}
-use Rattle.std.proofs.Common.{Err, length-append}
+use Rattle.std.proofs.Common.{◌≡◌, ℕ, ◌≤◌, List, [], ◌∷◌, ◌++◌, length, refl, sym, ap, ◌∙◌, subst, Contains}
+use Rattle.std.proofs.Common.{arith, Err, length-append}
 use Rattle.std.proofs.lemmas.List.{append_cancel_left}
 use Rattle.std.proofs.lemmas.List.Elements.{All-contains}
 use mathlib.Core.List.{IsPrefix}
@@ -17,8 +16,7 @@ use Rattle.kern_net.specs.Routes.{Source}
 use Rattle.kern_net.specs.ReadEnds.{Reader, EndsBy, LastAnswer}
 use Rattle.kern_net.specs.Reading.{ReadOut}
 use Rattle.kern_host.specs.OneHistory.{History, IsPartOf, Place, place_of, Asks, AsksIn, AskingEnds}
-use Rattle.kern_host.specs.OneHistory.{InletEnds}
-use Rattle.kern_host.specs.OneHistory.{LastIsRefused, IsFull}
+use Rattle.kern_host.specs.OneHistory.{InletEnds, LastIsRefused, IsFull}
 
 pub is_part : (turnstile : TurnstileState) (passes : List (PassState Call)) (pass : PassState Call)
     (history : History) → IsHistoryOf turnstile passes history → Contains passes pass

@@ -1,7 +1,6 @@
 -- What was sent, in the one history.
-use Rattle.std.proofs.Common.{◌≡◌, ℕ, inl, inr, Bool, true, false, List, [], ◌∷◌, ◌++◌, zero, suc}
-use Rattle.std.proofs.Common.{Result, Ok, Err, refl, arith, sym, ap, ◌∙◌, subst, All, append-nil}
-use Rattle.std.proofs.Common.{append_assoc}
+use Rattle.std.proofs.Common.{◌≡◌, ℕ, inl, inr, Bool, true, false, List, [], ◌∷◌, ◌++◌, zero, suc, Result, Ok}
+use Rattle.std.proofs.Common.{Err, refl, arith, sym, ap, ◌∙◌, subst, All, append-nil, append_assoc}
 use Rattle.std.proofs.lemmas.List.Elements.{All-append}
 use mathlib.Core.List.{IsPrefix}
 use Rattle.lab_turn.specs.History.{PassState}
@@ -20,15 +19,13 @@ use Rattle.kern_net.specs.Routes.{Target}
 use Rattle.kern_net.specs.Calls.{TurnedBy}
 use Rattle.kern_net.specs.Gates.{WriterPolls}
 use Rattle.kern_net.specs.Streams.{posts_in, window}
-use Rattle.kern_net.specs.Out.{Writer, FetchedOn, NoFetch, OneFetch, StopsFetching, WroteFront}
-use Rattle.kern_net.specs.Out.{WroteAll, WroteOut}
-use Rattle.kern_net.specs.Out.{OutEnds, EndsAll}
+use Rattle.kern_net.specs.Out.{Writer, FetchedOn, NoFetch, OneFetch, StopsFetching, WroteFront, WroteAll}
+use Rattle.kern_net.specs.Out.{WroteOut, OutEnds, EndsAll}
 use Rattle.kern_net.proofs.CallLemmas.{entry_calls, no_entry_calls}
 use Rattle.kern_net.proofs.GrowLemmas.{posts_grow}
 use Rattle.kern_net.proofs.OutLemmas.{window_kept}
 use Rattle.kern_host.specs.OneHistory.{History, IsPartOf, Place, place_of, Stands, Sends, SendsIn}
-use Rattle.kern_host.specs.OneHistory.{SendingEnds}
-use Rattle.kern_host.specs.OneHistory.{OutletEnds, FetchesAll, IsFetchOf}
+use Rattle.kern_host.specs.OneHistory.{SendingEnds, OutletEnds, FetchesAll, IsFetchOf}
 use Rattle.kern_host.proofs.AskedLemmas.{IsAt, part_at, full_there}
 
 -- ---- nothing but Fetches

@@ -1,7 +1,6 @@
 -- One visit, in the one history.
-use Rattle.std.proofs.Common.{◌≡◌, ℕ, true, false, List, [], ◌∷◌, ◌++◌, Result}
-use Rattle.std.proofs.Common.{Ok, Err, IfErr, Option, Some, None}
-use Rattle.std.proofs.Common.{refl, sym, ap, ◌∙◌, ◌≤◌, subst, length, append-nil, append_assoc}
+use Rattle.std.proofs.Common.{◌≡◌, ℕ, true, false, List, [], ◌∷◌, ◌++◌, Result, Ok, Err, IfErr, Option, Some}
+use Rattle.std.proofs.Common.{None, refl, sym, ap, ◌∙◌, ◌≤◌, subst, length, append-nil, append_assoc}
 use Rattle.std.proofs.lemmas.Bool.{false≢true}
 use mathlib.Core.List.{IsPrefix}
 use Rattle.base_streams.specs.States.{InletState, OutletState}
@@ -37,8 +36,7 @@ use Rattle.kern_host.specs.declared.guest.Passes.{Passes}
 use Rattle.kern_host.specs.Guests.{GuestState, Line, line_of}
 use Rattle.kern_host.specs.Leaves.{leaving, HasLeft, KeepsFrom}
 use Rattle.kern_host.specs.OneHistory.{History, IsPartOf, Place, Stands}
-use Rattle.kern_host.specs.Visits.{House, seats_of, reading_at, writing_at, role_on}
-use Rattle.kern_host.specs.Visits.{identity_of, Meets}
+use Rattle.kern_host.specs.Visits.{House, seats_of, reading_at, writing_at, role_on, identity_of, Meets}
 use Rattle.kern_host.specs.Visits.{TurnsAway, IsTurnedAway, IsVisit, Visited, VisitedWith}
 use Rattle.kern_host.specs.declared.end.VisitEnd.{VisitEnd}
 use Rattle.kern_host.specs.Visits.{IsUnjoinedPeer, NoMemory, NotTaken, LeaveEnds, IsServed, Adds, seat_of}

@@ -1,6 +1,5 @@
 //! Guests take the passes of their seats, and give them back.
-ghost use Rattle.std.specs.Prelude.{◌≡◌, ◌+◌, ◌*◌, ◌<◌, ◌≤◌, ◌++◌, All, length};
-ghost use Rattle.std.specs.Prelude.{vec_capacity};
+ghost use Rattle.std.specs.Prelude.{◌≡◌, ◌+◌, ◌*◌, ◌<◌, ◌≤◌, ◌++◌, All, length, vec_capacity};
 ghost use Rattle.lab_turn.specs.History.{FreshFrom, fresh_pass};
 ghost use Rattle.kern_host.specs.Guests.{AreOf, passes_in, without_passes};
 ghost use Rattle.kern_host.specs.Hosting.{AtEach, HasBoth, seated_at};

@@ -1,8 +1,7 @@
 -- What a Fetch is answered.
 use Rattle.std.proofs.Common.{◌≡◌, ℕ, ◌+◌, ◌-◌, ◌<◌, ◌≤◌, Bool, true, false, if◌then◌else◌, List, length}
-use Rattle.std.proofs.Common.{take}
-use Rattle.std.proofs.Common.{drop, Option, Some, None, Result, Ok, Err, refl, arith, sym, ap, ◌∙◌, subst}
-use Rattle.std.proofs.Common.{take-append-drop}
+use Rattle.std.proofs.Common.{take, drop, Option, Some, None, Result, Ok, Err, refl, arith, sym, ap, ◌∙◌}
+use Rattle.std.proofs.Common.{subst, take-append-drop}
 use Rattle.std.specs.Prelude.{nat_lt, min, max}
 use Rattle.std.specs.List.{filter}
 use Rattle.std.proofs.Math.Nat.{le-max_left}

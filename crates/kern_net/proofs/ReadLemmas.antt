@@ -1,7 +1,6 @@
 -- From messages to pieces, and from pieces to a whole stream.
-use Rattle.std.proofs.Common.{◌≡◌, ◌∙◌, ◌≤◌, ◌<◌, ◌+◌, ◌⊎◌, zero, suc, inl, inr, ℕ, true, false, List}
-use Rattle.std.proofs.Common.{[], ◌∷◌, ◌++◌, refl, sym, ap, subst, append_assoc, append-nil}
-use Rattle.std.proofs.Common.{arith}
+use Rattle.std.proofs.Common.{◌≡◌, ◌∙◌, ◌≤◌, ◌<◌, ◌+◌, ◌⊎◌, zero, suc, inl, inr, ℕ, true, false, List, []}
+use Rattle.std.proofs.Common.{◌∷◌, ◌++◌, refl, sym, ap, subst, append_assoc, append-nil, arith}
 use Rattle.base_streams.specs.States.{InletState, IsReadable}
 use Rattle.base_streams.specs.Told.{Gave, WasRead}
 use Rattle.base_streams.proofs.TellLemmas.{told_on, counts_on, counts_none}
@@ -16,11 +15,9 @@ use Rattle.kern_net.specs.declared.end.PumpEnd.{PumpEnd}
 use Rattle.kern_net.specs.declared.end.PumpEnd.TheVariants as pump
 use Rattle.kern_net.specs.Submitting.{Submits, NoMore, Submitted, Dropped}
 use Rattle.kern_net.specs.Routes.{Source}
-use Rattle.kern_net.specs.ReadEnds.{Reader, IsRefusal, StopsBy, StopsPiece, EndsBy}
-use Rattle.kern_net.specs.ReadEnds.{submits_all}
+use Rattle.kern_net.specs.ReadEnds.{Reader, IsRefusal, StopsBy, StopsPiece, EndsBy, submits_all}
 use Rattle.kern_net.specs.Reading.{Granted, NoCall, OneMore, Made, SubmittedAll, SubmittedFront, Receiver}
-use Rattle.kern_net.specs.Reading.{ReceivedAll}
-use Rattle.kern_net.specs.Reading.{ReceivedFront, ReadOut}
+use Rattle.kern_net.specs.Reading.{ReceivedAll, ReceivedFront, ReadOut}
 use Rattle.kern_net.proofs.SubmitLemmas.{submitted_none, not_all}
 use Rattle.kern_net.proofs.CallLemmas.{calls_on}
 

@@ -1,6 +1,5 @@
 -- How often others were woken, and told.
-use Rattle.std.proofs.Common.{◌≡◌, ◌∙◌, ◌+◌, Bool, true, false, List, [], ◌∷◌, ◌++◌, Result, refl, ap}
-use Rattle.std.proofs.Common.{arith}
+use Rattle.std.proofs.Common.{◌≡◌, ◌∙◌, ◌+◌, Bool, true, false, List, [], ◌∷◌, ◌++◌, Result, refl, ap, arith}
 use Rattle.std.specs.Prelude.{cond, count_by, not}
 use Rattle.std.proofs.lemmas.List.Sums.{sum_by_push}
 use Rattle.lab_turn.specs.History.{PassState}

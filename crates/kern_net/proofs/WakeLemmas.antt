@@ -1,7 +1,6 @@
 -- What calls leave alone that give the worker nothing to do.
-use Rattle.std.proofs.Common.{◌≡◌, inl, inr, ℕ, Bool, true, false, List, [], ◌∷◌, ◌++◌, Option, Some}
-use Rattle.std.proofs.Common.{None, sym, ap, subst}
-use Rattle.std.proofs.Common.{Result, Ok, Err, refl, not, codes, All}
+use Rattle.std.proofs.Common.{◌≡◌, inl, inr, ℕ, Bool, true, false, List, [], ◌∷◌, ◌++◌, Option, Some, None}
+use Rattle.std.proofs.Common.{sym, ap, subst, Result, Ok, Err, refl, not, codes, All}
 use Rattle.std.specs.Prelude.{◌==◌, option_to_list, if◌then◌else◌}
 use Rattle.std.specs.List.{starts_with}
 use Rattle.std.proofs.lemmas.List.Elements.{All-nil, All-cons, All-append}
@@ -44,13 +43,11 @@ use Rattle.kern_core.specs.declared.fault.KernelFault.TheVariants.{Full, NoConne
 use Rattle.kern_core.specs.States.{KernelState, Turn, refused, posting}
 use Rattle.kern_core.specs.Connections.{by_peer, unsubscribed, new_subscription, first_status, status_to}
 use Rattle.kern_core.specs.Connections.{subscribing}
-use Rattle.kern_core.specs.Requests.{plain_reply, reply_to, refusing, answering, performing}
-use Rattle.kern_core.specs.Requests.{debugging}
+use Rattle.kern_core.specs.Requests.{plain_reply, reply_to, refusing, answering, performing, debugging}
 use Rattle.kern_core.specs.Requests.{debug_reply, is_bounded, is_reset, after_letter, cut_letters, closing}
 use Rattle.kern_core.specs.Requests.{ended_by, work_by, cut_work, performed_letters, response_to}
 use Rattle.kern_post.specs.declared.content.Cause.TheVariants as cause
-use Rattle.kern_core.specs.Requests.{passing}
-use Rattle.kern_core.specs.Requests.{unanswered, other, by_reply, arriving}
+use Rattle.kern_core.specs.Requests.{passing, unanswered, other, by_reply, arriving}
 use Rattle.kern_core.specs.Turns.{turn}
 use Rattle.kern_net.specs.Wakes.{steers, spared_by, concerns_worker, GoesTo, LeavesWork, GivesNone}
 use Rattle.kern_net.proofs.ChoiceLemmas.{either}

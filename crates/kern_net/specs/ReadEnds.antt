@@ -1,6 +1,5 @@
 -- Why reading from a connection ends.
-use Rattle.std.specs.Prelude.{◌≡◌, ◌⊎◌, ℕ, Bool, true, false, List, [], ◌∷◌, ◌++◌, length, Some, Result}
-use Rattle.std.specs.Prelude.{Err}
+use Rattle.std.specs.Prelude.{◌≡◌, ◌⊎◌, ℕ, Bool, true, false, List, [], ◌∷◌, ◌++◌, length, Some, Result, Err}
 use Rattle.base_streams.specs.States.{InletState, IsReadable}
 use Rattle.lab_turn.specs.History.{PassState}
 use Rattle.zmtp_wire.specs.Stream.{DecoderState}

@@ -2,8 +2,7 @@
 ghost use Rattle.std.specs.Prelude.{◌≡◌, ◌++◌, IfOk, codes, decimal, string_bytes};
 ghost use Rattle.base_text.specs.Hexadecimal.{upper_byte, upper_word};
 ghost use Rattle.serde_json.specs.View.{view};
-ghost use Rattle.kern_render.specs.Causes.{ename_of, evalue_of, fault_text, error_line};
-ghost use Rattle.kern_render.specs.Causes.{traceback_of};
+ghost use Rattle.kern_render.specs.Causes.{ename_of, evalue_of, fault_text, error_line, traceback_of};
 
 use asm_syntax::fault::AsmFault;
 use base_text::hexadecimal::{push_byte, push_word};

@@ -3,9 +3,8 @@ ghost use Rattle.std.specs.Prelude.{◌≡◌, IfOk};
 ghost use Rattle.serde_json.specs.View.{view};
 ghost use Rattle.kern_post.specs.declared.content.Ending.TheVariants.{Done};
 ghost use Rattle.kern_render.specs.Json.{language_json, kernel_info_json, execute_reply_json};
-ghost use Rattle.kern_render.specs.Json.{is_complete_json, complete_json, inspect_json};
-ghost use Rattle.kern_render.specs.Json.{history_json, comm_info_json, shutdown_json};
-ghost use Rattle.kern_render.specs.Json.{interrupt_json};
+ghost use Rattle.kern_render.specs.Json.{is_complete_json, complete_json, inspect_json, history_json};
+ghost use Rattle.kern_render.specs.Json.{comm_info_json, shutdown_json, interrupt_json};
 
 use crate::errors::failed_execution;
 use dap_answers::object::Object;

@@ -3,10 +3,9 @@ ghost use Rattle.std.specs.Prelude.{◌≡◌, IfOk};
 ghost use Rattle.serde_json.specs.View.{view};
 ghost use Rattle.dap_talk.specs.Reading.{reading};
 ghost use Rattle.kern_request.specs.declared.request.NeedyRequest.{NeedyRequest};
-ghost use Rattle.kern_request.specs.Requests.{needed, execute_body, is_complete_body};
-ghost use Rattle.kern_request.specs.Requests.{complete_body, comm_open_body, shutdown_body};
-ghost use Rattle.kern_request.specs.Requests.{input_reply_body, debug_body, body_by_type, body_of};
-ghost use Rattle.kern_request.specs.Requests.{request_of};
+ghost use Rattle.kern_request.specs.Requests.{needed, execute_body, is_complete_body, complete_body};
+ghost use Rattle.kern_request.specs.Requests.{comm_open_body, shutdown_body, input_reply_body, debug_body};
+ghost use Rattle.kern_request.specs.Requests.{body_by_type, body_of, request_of};
 
 use crate::content::{truth_or, whole_at};
 use crate::message_type::MessageType;

@@ -87,8 +87,7 @@ const LOOKS: u32 = 100;
 
 const LOOK_MILLIS: u64 = 10;
 
-// Whether the reader begins. Where no thread can be had, it is to go last, once the writer has ended; but by
-// the reader alone it is known that a peer has gone.
+// Whether the reader begins. Without a thread it would begin after the writer has ended, which waits for it.
 fn has_reader<R: Wait>(rt: &R, connection: &Connection) -> bool {
     for _ in 0..LOOKS {
         let most = Duration::from_millis(LOOK_MILLIS);

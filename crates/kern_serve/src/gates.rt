@@ -180,9 +180,8 @@ impl<'a> WriterGate for OutGate<'a> {
     }
 }
 
-/// The worker's gate. It waits until there may be work; it says no once the journal is full but for a
-/// reserve, and prints a line before that. It makes a long run wait so that the journal lasts, and has a
-/// writer look for its posts.
+/// The worker's gate. It waits until there may be work, and says no once the journal is full but for a reserve,
+/// of which it warns. It makes a long run wait so that the journal lasts, and has a writer look for its posts.
 #[derive(Drop)]
 pub struct WorkGate<'a, C: Wait + Clock + Print> {
     wakeups: &'a Wakeups,
@@ -300,8 +299,7 @@ impl<'a, C: Wait + Clock + Print> WorkGate<'a, C> {
         }
     }
 
-    // Waits so that posts are read before they are kept no longer, unless work comes meanwhile. A Slice is to
-    // follow, which finds that work.
+    // Waits so that posts are read before they are dropped, unless work comes, which the next Slice finds.
     fn wait_for_readers(&mut self)
         ensures { self.new.polls ≡ self.old.polls }
     {

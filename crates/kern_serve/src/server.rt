@@ -314,8 +314,7 @@ fn serve_as<R: Host>(
 /// threads are there. By then what was posted has been written to each client that reads, or half a second
 /// has passed. The threads that serve connections aren't joined: the program is to end.
 ///
-/// A connection that breaks the protocol, doesn't make its handshake within ten seconds, or doesn't read for
-/// ten seconds, ends alone.
+/// A connection that breaks the protocol, or doesn't make its handshake or read for ten seconds, ends alone.
 pub fn serve<R: Host + RandomSource>(
     rt: &R,
     alloc: Global,

@@ -52,8 +52,7 @@ fn is_full(occupants: &[Option<Occupant>]) -> bool {
     occupants.iter().all(|occupant| occupant.is_some())
 }
 
-// The socket of the newest connection that has been silent for a minute: those that hold all slots came after
-// the ones that found one.
+// The socket of the newest connection that has been silent for a minute: those that take all slots come last.
 fn newest_silent(occupants: &[Option<Occupant>], now: u64) -> Option<&TcpStream> {
     let mut found: Option<&Occupant> = None;
     for occupant in occupants.iter().flatten() {

@@ -44,8 +44,7 @@ fn prepare(stream: &TcpStream) -> io::Result<()> {
     stream.set_write_timeout(Some(patience()))
 }
 
-// A socket whose first bytes, more than so many, must come while there is patience; then reads may wait for
-// ever.
+// A socket whose first bytes, more than so many, must come in time; later reads may wait for ever.
 #[derive(Drop)]
 struct PatientStream<'a, C: Clock> {
     stream: &'a TcpStream,

@@ -1,6 +1,5 @@
 -- What an answer tells of SP, for every instruction and acceptance of the machine.
-use Rattle.std.proofs.Common.{◌≡◌, ℕ, ◌+◌, ◌*◌, List, Some, refl, sym, subst, inl, inr}
-use Rattle.std.proofs.Common.{◌⊎◌}
+use Rattle.std.proofs.Common.{◌≡◌, ℕ, ◌+◌, ◌*◌, List, Some, refl, sym, subst, inl, inr, ◌⊎◌}
 use Rattle.std.proofs.lemmas.Bool.{cond_both}
 use Rattle.i80_rows.specs.declared.instruction.Instr.{Instr}
 use Rattle.i80_rows.specs.declared.instruction.Instr.TheVariants.{Hlt, JumpIf, Call, CallIf, Ret, RetIf, Rst}

@@ -1,7 +1,6 @@
 -- How a cell goes, message by message.
-use Rattle.std.proofs.Common.{◌≡◌, ℕ, Bool, true, false, ◌&&◌, ◌||◌, if◌then◌else◌, List, [], ◌∷◌, ◌++◌}
-use Rattle.std.proofs.Common.{refl, sym, ap, ◌∙◌, subst, append-nil, append_assoc}
-use Rattle.std.proofs.Common.{not, ◌+◌, ◌<◌}
+use Rattle.std.proofs.Common.{◌≡◌, ℕ, Bool, true, false, ◌&&◌, ◌||◌, if◌then◌else◌, List, [], ◌∷◌, ◌++◌, refl}
+use Rattle.std.proofs.Common.{sym, ap, ◌∙◌, subst, append-nil, append_assoc, not, ◌+◌, ◌<◌}
 use Rattle.base_streams.specs.States.{InletState, OutletState, IsWritable}
 use Rattle.base_streams.specs.Told.{Gave, Took, TookFront, WasRead}
 use Rattle.base_streams.proofs.TellLemmas.{told_on, counts_on}

@@ -1,7 +1,6 @@
 -- How far a cell came, and why it went no further.
-use Rattle.std.proofs.Common.{◌≡◌, ℕ, Bool, true, List, [], ◌∷◌, ◌++◌, Result, Ok, Err, IfErr}
-use Rattle.std.proofs.Common.{◌⊎◌, inl, inr, ⊎_elim, refl, sym, ap, ◌∙◌, subst, append-nil, append_assoc}
-use Rattle.std.proofs.Common.{arith, ◌≤◌}
+use Rattle.std.proofs.Common.{◌≡◌, ℕ, Bool, true, List, [], ◌∷◌, ◌++◌, Result, Ok, Err, IfErr, ◌⊎◌, inl, inr}
+use Rattle.std.proofs.Common.{⊎_elim, refl, sym, ap, ◌∙◌, subst, append-nil, append_assoc, arith, ◌≤◌}
 use Rattle.base_streams.specs.States.{InletState, OutletState, IsReadable}
 use Rattle.base_streams.specs.Told.{Took, TookFront, WasRead}
 use Rattle.base_streams.proofs.TellLemmas.{told_on}

@@ -5,8 +5,7 @@ use Rattle.zmtp_wire.specs.Wire.{Bytes, Frames, Messages}
 use Rattle.base_streams.specs.States.{OutletState, IsWritable}
 use Rattle.base_streams.specs.Told.{Took, TookFront}
 use Rattle.lab_term.specs.declared.fault.TermFault.{TermFault}
-use Rattle.lab_term.specs.declared.fault.TermFault.TheVariants.{OutOfMemory, WriteFailed}
-use Rattle.lab_term.specs.declared.fault.TermFault.TheVariants.{Wire}
+use Rattle.lab_term.specs.declared.fault.TermFault.TheVariants.{OutOfMemory, WriteFailed, Wire}
 use Rattle.lab_term.specs.declared.fault.WireCause.TheVariants.{Message}
 use Rattle.lab_term.specs.declared.follow.Course.{Course}
 use Rattle.lab_term.specs.Events.{Notice, IsNotice, IsUnopened, AreNotices, is_of, is_error, is_status, shown}

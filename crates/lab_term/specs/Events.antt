@@ -14,8 +14,7 @@ use Rattle.jup_wire.specs.Json.{text_at}
 use Rattle.jup_wire.specs.Wire.{IsMessage, IsRefused}
 use Rattle.lab_term.specs.declared.event.Event.{Event}
 use Rattle.lab_term.specs.declared.fault.TermFault.{TermFault}
-use Rattle.lab_term.specs.declared.fault.TermFault.TheVariants.{OutOfMemory}
-use Rattle.lab_term.specs.declared.fault.TermFault.TheVariants.{Wire}
+use Rattle.lab_term.specs.declared.fault.TermFault.TheVariants.{OutOfMemory, Wire}
 use Rattle.lab_term.specs.declared.fault.WireCause.TheVariants.{Message}
 
 -- a message on iopub: its type, the header of the request that it belongs to, its content

@@ -11,8 +11,7 @@ use Rattle.zmtp_wire.specs.Receiving.{Received}
 use Rattle.zmtp_wire.specs.declared.handshake.Peer.{Peer}
 use Rattle.zmtp_wire.specs.Sending.{WroteFront, WroteWhole}
 use Rattle.lab_term.specs.declared.fault.TermFault.{TermFault}
-use Rattle.lab_term.specs.declared.fault.TermFault.TheVariants.{OutOfMemory, Ended}
-use Rattle.lab_term.specs.declared.fault.TermFault.TheVariants.{Wire}
+use Rattle.lab_term.specs.declared.fault.TermFault.TheVariants.{OutOfMemory, Ended, Wire}
 use Rattle.lab_term.specs.declared.fault.WireCause.TheVariants.{Stream}
 use Rattle.lab_term.specs.Connections.{Ports, Client}
 use Rattle.lab_term.specs.Events.{Notice, AreNotices, ends, printed}

@@ -1,6 +1,5 @@
 //! The contents of commands: names, properties, READY.
-ghost use Rattle.std.specs.Prelude.{◌≡◌, List, [], ◌∷◌, length, option_copied};
-ghost use Rattle.std.specs.Prelude.{IfSome, IfNone, IfOk, IfErr};
+ghost use Rattle.std.specs.Prelude.{◌≡◌, List, [], ◌∷◌, length, option_copied, IfSome, IfNone, IfOk, IfErr};
 ghost use Rattle.std.specs.Bool.{OnTrue, OnFalse};
 ghost use Rattle.zmtp_wire.specs.Wire.{Bytes};
 ghost use Rattle.zmtp_wire.specs.Framing.{number_from};

@@ -3,8 +3,7 @@ ghost use Rattle.std.specs.Prelude.{◌≡◌, ◌≤◌, length, true, IfOk, On
 ghost use Rattle.lab_core.specs.Board.{Board};
 ghost use Rattle.lab_core.specs.Labs.{StandsFor as LabStandsFor};
 ghost use Rattle.dap_session.specs.Breakpoints.{is_launched_as, line_count_of, armed_where, lines_armed};
-ghost use Rattle.dap_session.specs.Breakpoints.{lines_set};
-ghost use Rattle.dap_session.specs.Breakpoints.{setting_lines, setting_functions};
+ghost use Rattle.dap_session.specs.Breakpoints.{lines_set, setting_lines, setting_functions};
 ghost use Rattle.dap_session.specs.States.{SessionState, with_points};
 ghost use Rattle.dap_points.specs.Points.{number_of, has_place, with_lines};
 ghost use Rattle.dap_points.specs.Placed.{line_points};

@@ -2,8 +2,7 @@
 ghost use Rattle.std.specs.Prelude.{◌≡◌, ◌+◌, ◌-◌, ◌≤◌, length, take, true, Some, IfOk, OnOk, OnErr};
 ghost use Rattle.dap_program.specs.Memory.{written};
 ghost use Rattle.dap_session.specs.Memory.{address_at, wrapped_at, first_line, memory_at, is_stopped};
-ghost use Rattle.dap_session.specs.Memory.{writing_from};
-ghost use Rattle.dap_session.specs.Memory.{writing};
+ghost use Rattle.dap_session.specs.Memory.{writing_from, writing};
 ghost use Rattle.dap_session.specs.Requests as requests;
 ghost use Rattle.dap_session.specs.Requests.{reading, disassembling};
 ghost use Rattle.dap_session.specs.States.{SessionState, with_board};

@@ -2,9 +2,8 @@
 ghost use Rattle.std.specs.Prelude.{◌≡◌, ◌≢◌, ◌+◌, ◌*◌, ◌<◌, ◌≤◌, ◌⊎◌, None, true, false};
 ghost use Rattle.i80_rows.specs.Rows.{row, is_undefined, Alone, Byte, Word};
 ghost use Rattle.i80_rows.specs.AliasRows.{acts, alias_row};
-ghost use Rattle.i80_rows.specs.declared.instruction.Instr.TheVariants.{Nop, Lxi, Inx, Dcx, Dad};
-ghost use Rattle.i80_rows.specs.declared.instruction.Instr.TheVariants.{Inr, Dcr, Mvi, Rotate};
-ghost use Rattle.i80_rows.specs.declared.instruction.Instr.TheVariants.{AluImmediate, JumpIf};
+ghost use Rattle.i80_rows.specs.declared.instruction.Instr.TheVariants.{Nop, Lxi, Inx, Dcx, Dad, Inr, Dcr};
+ghost use Rattle.i80_rows.specs.declared.instruction.Instr.TheVariants.{Mvi, Rotate, AluImmediate, JumpIf};
 ghost use Rattle.i80_rows.specs.declared.instruction.Instr.TheVariants.{CallIf, RetIf, Push, Pop};
 ghost use Rattle.i80_exec.specs.State.{wrapped, byte_at, word_at, stored, get, put, get_pair};
 ghost use Rattle.i80_exec.specs.State.{with_pc, with_interrupts};

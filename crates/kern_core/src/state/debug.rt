@@ -1,12 +1,10 @@
 //! Requests of a debugger.
-ghost use Rattle.std.specs.Prelude.{◌≡◌, ◌<◌, ◌≤◌, ◌+◌, ◌++◌, ◌∷◌, length, true, false, option_to_list};
-ghost use Rattle.std.specs.Prelude.{None, Err};
-ghost use Rattle.std.specs.Prelude.{IfOk, IsOk, IsErr, IsTrue, codes};
+ghost use Rattle.std.specs.Prelude.{◌≡◌, ◌<◌, ◌≤◌, ◌+◌, ◌++◌, ◌∷◌, length, true, false, option_to_list, None};
+ghost use Rattle.std.specs.Prelude.{Err, IfOk, IsOk, IsErr, IsTrue, codes};
 ghost use Rattle.dap_board.specs.Commands.{IsPerformable};
 ghost use Rattle.dap_board.specs.Names.{event_after};
 ghost use Rattle.kern_core.specs.Requests.{is_reset, after_letter, is_bounded, refusing, performing};
-ghost use Rattle.kern_core.specs.Requests.{debugging};
-ghost use Rattle.kern_core.specs.Requests.{debug_reply, performed_letters};
+ghost use Rattle.kern_core.specs.Requests.{debugging, debug_reply, performed_letters};
 ghost use Rattle.kern_core.specs.Debugging.{IsDebugKit, Tells};
 ghost use Rattle.kern_core.specs.States.{KernelState as KernelStateOf};
 ghost use Rattle.kern_core.specs.Stands.{StandsFor, Takes, HasRoom};

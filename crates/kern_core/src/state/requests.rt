@@ -1,7 +1,6 @@
 //! Requests, but for those of a debugger.
 ghost use Rattle.std.specs.Prelude.{◌≡◌, ◌<◌, ◌≤◌, ◌+◌, ◌∷◌, ◌++◌, [], length, IfOk, OnOk, OnErr};
-ghost use Rattle.std.specs.Prelude.{if◌then◌else◌};
-ghost use Rattle.std.specs.Prelude.{option_map};
+ghost use Rattle.std.specs.Prelude.{if◌then◌else◌, option_map};
 ghost use Rattle.kern_post.specs.declared.content.Ending.TheVariants.{Failed};
 ghost use Rattle.kern_exec.specs.Letters.{enclosed as enclosed_of};
 ghost use Rattle.kern_exec.specs.Executions.{ended};
@@ -10,8 +9,7 @@ ghost use Rattle.kern_exec.specs.Kits.{IsEnclosed, end_kit_of};
 ghost use Rattle.kern_exec.specs.Boards.{is_run};
 ghost use Rattle.kern_core.specs.Requests.{reply_to, replying, full_letters, executing, cut_of, cut_letters};
 ghost use Rattle.kern_core.specs.Requests.{interrupting, shutting, typing, closing, passing, unanswered};
-ghost use Rattle.kern_core.specs.Requests.{other};
-ghost use Rattle.kern_core.specs.Requests.{arriving, with_board, cut_work};
+ghost use Rattle.kern_core.specs.Requests.{other, arriving, with_board, cut_work};
 ghost use Rattle.lab_core.specs.Events.{reset as reset_of};
 ghost use Rattle.kern_core.specs.States.{KernelState as KernelStateOf, after, posting};
 ghost use Rattle.kern_core.specs.Stands.{StandsFor, Takes, HasRoom, Grows};

@@ -1,8 +1,7 @@
 use Rattle.std.proofs.Common.{refl, ◌∙◌, arith}
 use Rattle.kern_net.specs.Out.{NoFetch}
-use Rattle.kern_net.proofs.OutLemmas.{written_first, halted, halted_calls}
-use Rattle.kern_net.proofs.OutLemmas.{went_on, went_fetched, went_longer, went_over, went_closed, went_up}
-use Rattle.kern_net.proofs.OutLemmas.{said_yes, said_no}
+use Rattle.kern_net.proofs.OutLemmas.{written_first, halted, halted_calls, went_on, went_fetched, went_longer}
+use Rattle.kern_net.proofs.OutLemmas.{went_over, went_closed, went_up, said_yes, said_no}
 use Rattle.kern_net.proofs.pump_out.pump_out.Goals as goal
 
 pub loop-init : goal.loop-init

@@ -1,5 +1,4 @@
-use Rattle.std.proofs.Common.{ℕ, get_or, refl, sym, ap, arith, take, drop, ◌-◌, ◌+◌, ◌≡◌}
-use Rattle.std.proofs.Common.{◌<◌, length, List}
+use Rattle.std.proofs.Common.{ℕ, get_or, refl, sym, ap, arith, take, drop, ◌-◌, ◌+◌, ◌≡◌, ◌<◌, length, List}
 use Rattle.zmtp_wire.specs.Progress.{got_in}
 use Rattle.zmtp_wire.proofs.FramingLemmas.{Next, next_of}
 use Rattle.zmtp_wire.proofs.StreamLemmas.{opened}
