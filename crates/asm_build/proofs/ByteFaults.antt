@@ -17,7 +17,7 @@ use Rattle.asm_build.specs.declared.laid.Laid.{Laid}
 use Rattle.asm_build.specs.Images.{has}
 use Rattle.asm_build.specs.Statements.{late_in}
 use Rattle.asm_build.specs.Reading.{Entries, Lines, late_value}
-use Rattle.asm_build.specs.Meaning.{Output, at_address, overlaps, with_bytes, put, bytes_of, start_of}
+use Rattle.asm_build.specs.Meaning.{Output, at_address, overlaps, with_bytes, put_bytes, bytes_of, start_of}
 use Rattle.asm_build.specs.Meaning.{with_operation, with_line}
 use Rattle.asm_build.specs.Refusals.{Part, TheDefinition, TheOperand, TheOperation, bytes_given, GivesByte}
 use Rattle.asm_build.specs.Refusals.{WrongInValues, StandsOn}
@@ -235,7 +235,7 @@ module _ (kept : Entries) (all ps : Lines) (p : Statement × Laid) (o : Operatio
             ∙ if_passes (has out.image) bs p.1.place i.0 (omega (arith, lt, long))
             (ap (has out.image) (sym i.2) ∙ there))
 
-    put_judged : LineVerdict kept all ps p (put o.column out line here bs start)
+    put_judged : LineVerdict kept all ps p (put_bytes o.column out line here bs start)
     put_judged = by (overlaps out.image (at_address here bs)) refl
       where
         by : (b : Bool) → overlaps out.image (at_address here bs) ≡ b
@@ -246,7 +246,7 @@ module _ (kept : Entries) (all ps : Lines) (p : Statement × Laid) (o : Operatio
 
   given_judged : (out : Output) (line : ℕ) → IsImageOf out.image ps → (r : Result Given Fault)
       → ActionVerdict names here o.action r
-      → LineVerdict kept all ps p (r >>= λ x. put o.column out line here x.0 x.1)
+      → LineVerdict kept all ps p (r >>= λ x. put_bytes o.column out line here x.0 x.1)
   given_judged out line was (Ok x) v = put_judged x.0 x.1 v.0 v.1 out line was
   given_judged out line was (Err f) v = operand_wrong f v
 
@@ -271,7 +271,7 @@ operation_judged kept all ps p (Some o) is on out line was =
     let here = p.1.place % 65536 in
     subst (LineVerdict kept all ps p)
     (regroup (bytes_of names here o.action) (start_of names here out.start o.action)
-    (λ bs start. put o.column out line here bs start))
+    (λ bs start. put_bytes o.column out line here bs start))
     (given_judged kept all ps p o is on out line was (given_by names here out.start o.action)
     (action_judged names here out.start o.action))
 

@@ -19,7 +19,7 @@ use Rattle.asm_build.specs.declared.laid.Laid.{Laid}
 use Rattle.asm_build.specs.Statements.{on_action, definition_of, early_in, length_of}
 use Rattle.asm_build.specs.Reading.{Entries, Lines, early_value, place_after, parts_after, has_ended}
 use Rattle.asm_build.specs.Reading.{is_selected, Fits}
-use Rattle.asm_build.specs.Layout.{past, check_definition, or_fault, early, within, assembled, laid_out}
+use Rattle.asm_build.specs.Layout.{past, check_definition, or_fault, early, within, lay_statement, laid_out}
 use Rattle.asm_build.specs.Layout.{laid_after}
 use Rattle.asm_build.specs.Refusals.{Part, TheDefinition, TheOperand, TheOperation, WrongEarly, IsPastEnd}
 use Rattle.asm_build.specs.Refusals.{WrongInLayout, StandsAfter, rank}
@@ -223,7 +223,8 @@ module _ (kept : Entries) (earlier : Lines) (s : Statement) (on : On kept earlie
       (operand_judged kept earlier s (on_action early_in None s) refl)
   with_definition (Err f) d = at_definition f d
 
-  assembled_judged : StatementVerdict kept earlier s (assembled (past kept earlier) (place_after earlier) s)
+  assembled_judged : StatementVerdict kept earlier s
+      (lay_statement (past kept earlier) (place_after earlier) s)
   assembled_judged =
       with_definition (check_definition (past kept earlier) (on_action early_in None s) (definition_of s))
       (definition_judged kept earlier s (definition_of s) refl)

@@ -6,7 +6,7 @@ use Rattle.std.proofs.Math.Seq.{take-suc, take-suc-set}
 use Rattle.std.proofs.Math.ListN.{length-set}
 use Rattle.std.proofs.lemmas.List.{take_all, reverse-append}
 use Rattle.std.proofs.lemmas.List.Folds.{list_all-append}
-use Rattle.asm_build.specs.Reading.{switched, outer}
+use Rattle.asm_build.specs.Reading.{switch_innermost, outer}
 
 last_first : (xs : List Bool) (n : ℕ) → length xs ≡ suc n
     → reverse xs ≡ get_or xs n false ∷ reverse (take n xs)
@@ -18,14 +18,14 @@ pub outer_reverse : (xs : List Bool) (n : ℕ) → length xs ≡ suc n → rever
 outer_reverse xs n e = sym (ap outer (last_first xs n e))
 
 pub switched_reverse : (xs : List Bool) (n : ℕ) (b : Bool) → length xs ≡ suc n → b ≡ get_or xs n false
-    → reverse (set xs n (not b)) ≡ switched (reverse xs)
+    → reverse (set xs n (not b)) ≡ switch_innermost (reverse xs)
 switched_reverse xs n b e is =
     let now : length (set xs n (not b)) ≡ suc n = length-set xs n (not b) ∙ e in
     ap reverse (sym (take_all (suc n) (set xs n (not b)) (omega (arith, now)))
     ∙ take-suc-set xs n (not b) (omega (arith, e)))
     ∙ reverse-append (take n xs) (not b ∷ [])
     ∙ ap (λ c. not c ∷ reverse (take n xs)) is
-    ∙ sym (ap switched (last_first xs n e))
+    ∙ sym (ap switch_innermost (last_first xs n e))
 
 swapped : (a b : Bool) → (a && (b && true)) ≡ (b && a)
 swapped true true = refl

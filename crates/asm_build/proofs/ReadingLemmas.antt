@@ -15,7 +15,7 @@ use Rattle.asm_build.specs.declared.built.Built.{Built}
 use Rattle.asm_build.specs.Statements.{on_action, definition_of, early_in}
 use Rattle.asm_build.specs.Reading.{Entries, Lines, early_value, place_after, parts_after, has_ended}
 use Rattle.asm_build.specs.Reading.{is_selected, EarlyIs, ValueIs, Fits, Reads, IsReading}
-use Rattle.asm_build.specs.Layout.{past, check_definition, or_fault, early, within, assembled, laid_out}
+use Rattle.asm_build.specs.Layout.{past, check_definition, or_fault, early, within, lay_statement, laid_out}
 use Rattle.asm_build.specs.Layout.{laid_after, layout}
 use Rattle.asm_build.specs.Meaning.{Meaning, meaning_of, built_of, meaning_in, IsMeaning, IsOnlyMeaning}
 
@@ -52,7 +52,7 @@ Stood kept earlier s p r =
     (r.place ≡ p) × (r.is_assembled ≡ true) × EarlyIs kept earlier r (on_action early_in None s)
 
 stood : (kept : Entries) (earlier : Lines) (s : Statement) (p : ℕ) (r : Laid)
-    → assembled (past kept earlier) p s ≡ Ok r → Stood kept earlier s p r
+    → lay_statement (past kept earlier) p s ≡ Ok r → Stood kept earlier s p r
 stood kept earlier s p r e =
     let before = past kept earlier in
     let o = on_action early_in None s in

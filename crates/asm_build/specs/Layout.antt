@@ -119,8 +119,8 @@ within place value (Some o) =
 -- ---- the round
 
 -- how an assembled statement is laid out
-abbrev pub assembled : Past → ℕ → Statement → Result Laid Fault
-assembled before place s = do
+abbrev pub lay_statement : Past → ℕ → Statement → Result Laid Fault
+lay_statement before place s = do
   checked ← check_definition before (on_action early_in None s) (definition_of s)
   v ← early before (place % 65536) (on_action early_in None s)
   fits ← within place v s.operation
@@ -129,7 +129,7 @@ assembled before place s = do
 -- how a statement is laid out: one that isn't assembled only stands at its place
 abbrev pub laid_out : Past → ℕ → Bool → Statement → Result Laid Fault
 laid_out before place selected s =
-    if selected then assembled before place s
+    if selected then lay_statement before place s
     else Ok (record { place = place; is_assembled = false; value = 0 })
 
 -- how a statement is laid out after these lines

@@ -153,8 +153,8 @@ with_bytes out line address bytes start = record {
 }
 
 -- the same, where no byte overlaps
-abbrev pub put : ℕ → Output → ℕ → ℕ → List ℕ → Option ℕ → Result Output Fault
-put column out line address bytes start =
+abbrev pub put_bytes : ℕ → Output → ℕ → ℕ → List ℕ → Option ℕ → Result Output Fault
+put_bytes column out line address bytes start =
     if overlaps out.image (at_address address bytes)
     then Err (column, fault.Overlap) else Ok (with_bytes out line address bytes start)
 
@@ -165,7 +165,7 @@ with_operation names out line here None = Ok out
 with_operation names out line here (Some o) = do
   bytes ← bytes_of names here o.action
   start ← start_of names here out.start o.action
-  put o.column out line here bytes start
+  put_bytes o.column out line here bytes start
 
 -- what there is with a line
 abbrev pub with_line : (List ℕ → Option ℕ) → Output → ℕ → Statement × Laid → Result Output Fault

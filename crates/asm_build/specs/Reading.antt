@@ -104,9 +104,9 @@ place_after (p ∷ ps) = next_place p
 -- ---- parts: for each open IF whether its selected part stands here, the innermost first
 
 -- an ELSE switches the innermost IF to its other part
-abbrev pub switched : List Bool → List Bool
-switched [] = []
-switched (b ∷ bs) = not b ∷ bs
+abbrev pub switch_innermost : List Bool → List Bool
+switch_innermost [] = []
+switch_innermost (b ∷ bs) = not b ∷ bs
 
 -- the parts round the innermost IF
 abbrev pub outer : List Bool → List Bool
@@ -116,7 +116,7 @@ outer (b ∷ bs) = bs
 -- the parts after an action
 abbrev pub parts_past : List Bool → ℕ → Action → List Bool
 parts_past parts value (action.If o) = not (value == 0) ∷ parts
-parts_past parts value action.Else = switched parts
+parts_past parts value action.Else = switch_innermost parts
 parts_past parts value action.EndIf = outer parts
 parts_past parts value _ = parts
 

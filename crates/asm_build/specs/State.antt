@@ -51,9 +51,9 @@ pub record Advances (old new : Layout) (s : Statement) (r : Laid) : Type 0 where
   pub rows : new.rows.items ≡ old.rows.items ++ r ∷ []
 
 -- a line's fault in its cell
-abbrev pub placed : ℕ → LineFault → AsmFault
-placed n line.OutOfMemory = asm.OutOfMemory
-placed n (line.At column kind) = asm.At n column kind
+abbrev pub fault_on_line : ℕ → LineFault → AsmFault
+fault_on_line n line.OutOfMemory = asm.OutOfMemory
+fault_on_line n (line.At column kind) = asm.At n column kind
 
 -- a layout is what is known after these lines
 pub record Stands (earlier : Lines) (l : Layout) : Type 0 where
@@ -65,8 +65,8 @@ pub record Stands (earlier : Lines) (l : Layout) : Type 0 where
   pub ended : l.has_ended ≡ has_ended earlier
 
 -- bytes after those that are there
-abbrev pub appended : List ℕ → Result (List ℕ) Fault → Result (List ℕ) Fault
-appended front r = do
+abbrev pub append_to : List ℕ → Result (List ℕ) Fault → Result (List ℕ) Fault
+append_to front r = do
   bs ← r
   Ok (front ++ bs)
 

@@ -6,7 +6,7 @@ ghost use Rattle.asm_syntax.specs.Outcome.{Fault, LineGives};
 ghost use Rattle.asm_build.specs.Layout.{or_fault};
 ghost use Rattle.asm_build.specs.Meaning.{as_byte, vector, number, byte, restart, instruction_bytes};
 ghost use Rattle.asm_build.specs.Meaning.{datum_bytes, word_bytes, all_bytes, bytes_of, start_of};
-ghost use Rattle.asm_build.specs.State.{appended};
+ghost use Rattle.asm_build.specs.State.{append_to};
 
 use crate::faults::at;
 use asm_expr::env::Env;
@@ -117,7 +117,7 @@ trait Given {
     // Puts its bytes after those that are there.
     fn put<E: Env>(&self, names: &E, here: u16, front: &mut Vec<u8>) -> Result<(), LineFault>
         ensures { LineGives (λ _. front.new.items) result
-            (appended front.old.items (bytes (E.values names.now) here self.now)) };
+            (append_to front.old.items (bytes (E.values names.now) here self.now)) };
 }
 
 impl Given for Data {

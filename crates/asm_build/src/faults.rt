@@ -1,12 +1,12 @@
 //! Where faults stand.
 ghost use Rattle.std.specs.Prelude.{◌≡◌};
-ghost use Rattle.asm_build.specs.State.{placed};
+ghost use Rattle.asm_build.specs.State.{fault_on_line};
 
 use asm_syntax::fault::{AsmFault, FaultKind, LineFault};
 
 /// A fault on its line.
 pub(crate) fn on_line(line: usize, fault: LineFault) -> AsmFault
-    ensures { result ≡ placed line fault }
+    ensures { result ≡ fault_on_line line fault }
 {
     match fault {
         LineFault::OutOfMemory => AsmFault::OutOfMemory,

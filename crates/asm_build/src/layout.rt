@@ -12,7 +12,7 @@ ghost use Rattle.asm_build.specs.Reading.{given_as, next_place, parts_around, pa
 ghost use Rattle.asm_build.specs.Reading.{is_selected, symbol_at};
 ghost use Rattle.asm_build.specs.Meaning.{definitions};
 ghost use Rattle.asm_build.specs.Layout.{is_among, Adds, Notes, needs, uses, check_first, check_defined};
-ghost use Rattle.asm_build.specs.Layout.{check_definition, early, within, assembled, laid_out, layout};
+ghost use Rattle.asm_build.specs.Layout.{check_definition, early, within, lay_statement, laid_out, layout};
 ghost use Rattle.asm_build.specs.State.{past_in, past_of, lines_of, with_line_definition, Advances, Stands};
 
 use crate::bytes::number_or;
@@ -373,7 +373,7 @@ impl<'a> Layout<'a> {
     ) -> Result<Laid, LineFault>
         requires { self.now.place ≤ 65536 }
         ensures exact { LineGives (λ r. r) result
-            (assembled (past_of kept.now self.now) self.now.place statement.now) }
+            (lay_statement (past_of kept.now self.now) self.now.place statement.now) }
         ensures small { IfOk result (λ r. next_place (statement.now, r) ≤ 65536) }
     {
         let operand = early_operand(statement);

@@ -1,7 +1,7 @@
 //! The open IFs around a statement.
 ghost use Rattle.std.specs.Prelude.{◌≡◌, [], ◌∷◌, OnOk};
 ghost use Rattle.std.specs.List.{list_all};
-ghost use Rattle.asm_build.specs.Reading.{switched, outer};
+ghost use Rattle.asm_build.specs.Reading.{switch_innermost, outer};
 
 use std::alloc::{AllocError, Global};
 use std::marker::Model;
@@ -39,7 +39,7 @@ impl Parts {
 
     // An ELSE switches the innermost IF to its other part.
     pub(crate) fn switch(&mut self)
-        ensures { self.new ≡ switched self.old }
+        ensures { self.new ≡ switch_innermost self.old }
     {
         let open = self.selected.len();
         if open > 0 {

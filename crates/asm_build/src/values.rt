@@ -2,7 +2,7 @@
 ghost use Rattle.std.specs.Prelude.{◌≡◌, ℕ, List, [], Some, None, length, IfOk, OnOk};
 ghost use Rattle.asm_syntax.specs.Outcome.{Gives, LineGives, at_line};
 ghost use Rattle.asm_build.specs.Reading.{symbol_at, or_else, only_set, defined_on};
-ghost use Rattle.asm_build.specs.Meaning.{put, with_operation, with_line, output_of, definitions};
+ghost use Rattle.asm_build.specs.Meaning.{put_bytes, with_operation, with_line, output_of, definitions};
 ghost use Rattle.asm_build.specs.State.{lines_of, late_in, output_in};
 
 use crate::built::Row;
@@ -70,7 +70,7 @@ impl Values {
         start: Option<u16>,
     ) -> Result<(), LineFault>
         ensures { LineGives (λ _. output_in self.new) result
-            (put column (output_in self.old) line address bytes.now start) }
+            (put_bytes column (output_in self.old) line address bytes.now start) }
     {
         if self.image.overlaps(address, bytes) {
             return Err(at(column, FaultKind::Overlap));

@@ -77,8 +77,8 @@ value_of values here tree =
     else Err Undefined
 
 -- what two parts that were evaluated by themselves give together
-abbrev pub joined : (ℕ → ℕ → Option ℕ) → Result ℕ ExprFault → Result ℕ ExprFault → Result ℕ ExprFault
-joined f (Ok x) (Ok y) = or_divisor (f x y)
-joined f (Err Undefined) y = Err Undefined
-joined f x (Err Undefined) = Err Undefined
-joined f _ _ = Err Divisor
+abbrev pub combine : (ℕ → ℕ → Option ℕ) → Result ℕ ExprFault → Result ℕ ExprFault → Result ℕ ExprFault
+combine f (Ok x) (Ok y) = or_divisor (f x y)
+combine f (Err Undefined) y = Err Undefined
+combine f x (Err Undefined) = Err Undefined
+combine f _ _ = Err Divisor

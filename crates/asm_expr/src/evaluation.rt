@@ -1,7 +1,7 @@
 //! What an expression is worth.
 ghost use Rattle.std.specs.Prelude.{◌≡◌};
 ghost use Rattle.asm_expr.specs.Tree.{tree_of};
-ghost use Rattle.asm_expr.specs.Value.{value_of, unary_of, binary_of, joined};
+ghost use Rattle.asm_expr.specs.Value.{value_of, unary_of, binary_of, combine};
 
 use crate::env::Env;
 use crate::expression::{Atom, Binary, Expr, Node, Unary};
@@ -58,7 +58,7 @@ fn unary(op: Unary, x: u16) -> u16
 }
 
 fn both(op: Binary, x: Result<u16, ExprFault>, y: Result<u16, ExprFault>) -> Result<u16, ExprFault>
-    ensures { result ≡ joined (binary_of op) x y }
+    ensures { result ≡ combine (binary_of op) x y }
 {
     match (x, y) {
         (Ok(x), Ok(y)) => binary(op, x, y).ok_or(ExprFault::Divisor),

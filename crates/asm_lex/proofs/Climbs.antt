@@ -9,7 +9,7 @@ use Rattle.asm_syntax.specs.declared.fault.LineFault.{LineFault}
 use Rattle.asm_syntax.specs.declared.fault.LineFault.TheVariants as line
 use Rattle.asm_syntax.specs.Outcome.{Fault, LineFails}
 use Rattle.asm_lex.specs.Operators.{infix_strength}
-use Rattle.asm_lex.specs.Climb.{Found, made, infix_at, operand_at, chain, expr_at}
+use Rattle.asm_lex.specs.Climb.{Found, tree_or_nesting, infix_at, operand_at, chain, expr_at}
 
 pub chain_begins : (first n level : ℕ) (ls rest : List Lexeme) (a : Tree) → n ≢ 0
     → operand_at first (expr_at first (n - 1)) ls ≡ Ok (a, rest)
@@ -45,7 +45,7 @@ chain_right_faults first expr (suc count) level a ls rest op e some h right = rw
 pub chain_made_faults : (first : ℕ) (expr : ℕ → List Lexeme → Found) (count level : ℕ) (a b : Tree)
     (ls rest after : List Lexeme) (op : Binary) (e : Fault)
     → count ≢ 0 → infix_at level ls ≡ Some (op, rest) → expr (infix_strength op + 1) rest ≡ Ok (b, after)
-    → made first (Infix op a b) ≡ Err e → chain first expr count level a ls ≡ Err e
+    → tree_or_nesting first (Infix op a b) ≡ Err e → chain first expr count level a ls ≡ Err e
 unfolding chain
 chain_made_faults first expr zero level a b ls rest after op e some h right m = absurd (some refl)
 chain_made_faults first expr (suc count) level a b ls rest after op e some h right m = rw (h, right, m) refl
@@ -53,7 +53,7 @@ chain_made_faults first expr (suc count) level a b ls rest after op e some h rig
 pub chain_goes_on : (first : ℕ) (expr : ℕ → List Lexeme → Found) (count level : ℕ) (a b t : Tree)
     (ls rest after : List Lexeme) (op : Binary)
     → count ≢ 0 → infix_at level ls ≡ Some (op, rest) → expr (infix_strength op + 1) rest ≡ Ok (b, after)
-    → made first (Infix op a b) ≡ Ok t
+    → tree_or_nesting first (Infix op a b) ≡ Ok t
     → chain first expr count level a ls ≡ chain first expr (count - 1) level t after
 unfolding chain
 chain_goes_on first expr zero level a b t ls rest after op some h right m = absurd (some refl)

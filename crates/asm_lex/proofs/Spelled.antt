@@ -11,7 +11,8 @@ use Rattle.asm_lex.specs.Characters.{is_blank, is_word_part, is_printed}
 use Rattle.asm_lex.specs.Numbers.{number_of}
 use Rattle.asm_lex.specs.Texts.{closing_quote}
 use Rattle.asm_lex.specs.Tokens.{number_read, value_read, word_read, text_read, token_at, tokens_from}
-use Rattle.asm_lex.specs.Spelling.{IsWord, IsDigits, doubled, IsString, is_sign, IsToken, SpellsUpTo, IsTail}
+use Rattle.asm_lex.specs.Spelling.{IsWord, IsDigits, with_quotes_doubled, IsString, is_sign, IsToken}
+use Rattle.asm_lex.specs.Spelling.{SpellsUpTo, IsTail}
 use Rattle.asm_lex.proofs.Spans.{span_is, drop_front, differs}
 use Rattle.asm_lex.proofs.Scan.{with_front, skips, rest_at}
 use Rattle.asm_lex.proofs.Strings.{string_is_read}
@@ -126,16 +127,17 @@ good_number n (b ∷ bs) rest h e = record {
 
 good_string : (cs text rest : List ℕ) → IsString cs text rest → Good (Text cs) text rest
 good_string cs text rest h =
-    let inner : text ++ rest ≡ 39 ∷ ((doubled cs ++ 39 ∷ []) ++ rest) = ap (λ t. t ++ rest) h.quoted in
+    let inner : text ++ rest ≡ 39 ∷ ((with_quotes_doubled cs ++ 39 ∷ []) ++ rest) =
+    ap (λ t. t ++ rest) h.quoted in
     record {
       first = 39;
-      others = doubled cs ++ 39 ∷ [];
+      others = with_quotes_doubled cs ++ 39 ∷ [];
       is = h.quoted;
       blank = refl;
       comment = refl;
       reads =
-          ap token_at inner ∙ text_first ((doubled cs ++ 39 ∷ []) ++ rest)
-          ∙ string_is_read ((doubled cs ++ 39 ∷ []) ++ rest) cs text rest (sym inner) h;
+          ap token_at inner ∙ text_first ((with_quotes_doubled cs ++ 39 ∷ []) ++ rest)
+          ∙ string_is_read ((with_quotes_doubled cs ++ 39 ∷ []) ++ rest) cs text rest (sym inner) h;
     }
 
 good_sign : (s : ℕ) (text rest : List ℕ) → text ≡ s ∷ [] → is_sign s ≡ true → Good (Sign s) text rest

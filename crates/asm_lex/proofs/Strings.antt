@@ -11,31 +11,31 @@ use Rattle.asm_syntax.specs.Lexemes.{characters_of, Text}
 use Rattle.asm_lex.specs.Characters.{is_printed}
 use Rattle.asm_lex.specs.Texts.{moved_by, closing_quote, is_text}
 use Rattle.asm_lex.specs.Tokens.{text_read}
-use Rattle.asm_lex.specs.Spelling.{Stops, is_quote, doubled, IsString}
+use Rattle.asm_lex.specs.Spelling.{Stops, is_quote, with_quotes_doubled, IsString}
 
 other_first : (c : ℕ) (t : List ℕ) → eqb c 39 ≡ false → characters_of (c ∷ t) ≡ c ∷ characters_of t
 other_first c [] e = refl
 other_first c (d ∷ t) e = rw e refl
 
-doubled_step : (c : ℕ) (cs : List ℕ) (v : Bool) → eqb c 39 ≡ v → characters_of (doubled cs) ≡ cs
-    → characters_of (doubled (c ∷ cs)) ≡ c ∷ cs
+doubled_step : (c : ℕ) (cs : List ℕ) (v : Bool) → eqb c 39 ≡ v → characters_of (with_quotes_doubled cs) ≡ cs
+    → characters_of (with_quotes_doubled (c ∷ cs)) ≡ c ∷ cs
 doubled_step c cs true e h = rw e (ap (λ t. 39 ∷ t) h ∙ ap (λ k. k ∷ cs) (sym (eqb-true c 39 e)))
-doubled_step c cs false e h = rw e (other_first c (doubled cs) e ∙ ap (λ t. c ∷ t) h)
+doubled_step c cs false e h = rw e (other_first c (with_quotes_doubled cs) e ∙ ap (λ t. c ∷ t) h)
 
 -- the characters of what stands between a string's quotes are the string's
-pub characters_of-doubled : (cs : List ℕ) → characters_of (doubled cs) ≡ cs
+pub characters_of-doubled : (cs : List ℕ) → characters_of (with_quotes_doubled cs) ≡ cs
 characters_of-doubled [] = refl
 characters_of-doubled (c ∷ cs) = doubled_step c cs (eqb c 39) refl (characters_of-doubled cs)
 
 printed_step : (c : ℕ) (cs : List ℕ) (v : Bool) → eqb c 39 ≡ v
-    → list_all is_printed (doubled cs) ≡ list_all is_printed cs
-    → list_all is_printed (doubled (c ∷ cs)) ≡ list_all is_printed (c ∷ cs)
+    → list_all is_printed (with_quotes_doubled cs) ≡ list_all is_printed cs
+    → list_all is_printed (with_quotes_doubled (c ∷ cs)) ≡ list_all is_printed (c ∷ cs)
 printed_step c cs true e h =
     let is : c ≡ 39 = eqb-true c 39 e in
     rw (e, is, h) refl
 printed_step c cs false e h = rw (e, h) refl
 
-pub printed-doubled : (cs : List ℕ) → list_all is_printed (doubled cs) ≡ list_all is_printed cs
+pub printed-doubled : (cs : List ℕ) → list_all is_printed (with_quotes_doubled cs) ≡ list_all is_printed cs
 printed-doubled [] = refl
 printed-doubled (c ∷ cs) = printed_step c cs (eqb c 39) refl (printed-doubled cs)
 
@@ -48,17 +48,18 @@ other_closing c [] n e h = absurd cc
 other_closing c (d ∷ t) n e h = rw e (moved_is 1 n (suc n) (closing_quote (d ∷ t)) h (omega arith))
 
 closing_step : (c : ℕ) (cs rest : List ℕ) (v : Bool) → eqb c 39 ≡ v
-    → closing_quote (doubled cs ++ (39 ∷ rest)) ≡ Some (length (doubled cs))
-    → closing_quote (doubled (c ∷ cs) ++ (39 ∷ rest)) ≡ Some (length (doubled (c ∷ cs)))
+    → closing_quote (with_quotes_doubled cs ++ (39 ∷ rest)) ≡ Some (length (with_quotes_doubled cs))
+    → closing_quote (with_quotes_doubled (c ∷ cs) ++ (39 ∷ rest))
+    ≡ Some (length (with_quotes_doubled (c ∷ cs)))
 closing_step c cs rest true e h =
-    rw (e, e) (moved_is 2 (length (doubled cs)) (suc (suc (length (doubled cs))))
-    (closing_quote (doubled cs ++ (39 ∷ rest))) h (omega arith))
+    rw (e, e) (moved_is 2 (length (with_quotes_doubled cs)) (suc (suc (length (with_quotes_doubled cs))))
+    (closing_quote (with_quotes_doubled cs ++ (39 ∷ rest))) h (omega arith))
 closing_step c cs rest false e h =
-    rw e (other_closing c (doubled cs ++ (39 ∷ rest)) (length (doubled cs)) e h)
+    rw e (other_closing c (with_quotes_doubled cs ++ (39 ∷ rest)) (length (with_quotes_doubled cs)) e h)
 
 -- the quote after a string's characters closes it
 pub closing_quote-doubled : (cs rest : List ℕ) → Stops is_quote rest
-    → closing_quote (doubled cs ++ (39 ∷ rest)) ≡ Some (length (doubled cs))
+    → closing_quote (with_quotes_doubled cs ++ (39 ∷ rest)) ≡ Some (length (with_quotes_doubled cs))
 closing_quote-doubled [] [] stops = refl
 closing_quote-doubled [] (b ∷ rest) stops = rw stops refl
 closing_quote-doubled (c ∷ cs) rest stops =
@@ -68,9 +69,9 @@ closing_quote-doubled (c ∷ cs) rest stops =
 pub record Closed (bytes : List ℕ) (n : ℕ) : Type 0 where
   pub cs : List ℕ
   pub rest : List ℕ
-  pub splits : bytes ≡ doubled cs ++ (39 ∷ rest)
+  pub splits : bytes ≡ with_quotes_doubled cs ++ (39 ∷ rest)
   pub ends : Stops is_quote rest
-  pub len : n ≡ length (doubled cs)
+  pub len : n ≡ length (with_quotes_doubled cs)
 
 moved_some : (k n : ℕ) (o : Option ℕ) → moved_by k o ≡ Some n → (m : ℕ) × (o ≡ Some m) × (n ≡ k + m)
 moved_some k n None h = absurd cc
@@ -135,12 +136,14 @@ closed (b ∷ c ∷ rest) n h =
 
 string_reads : (cs more : List ℕ) → Stops is_quote more → list_all is_printed cs ≡ true → 0 < length cs
     → length cs ≤ 128
-    → text_read (doubled cs ++ (39 ∷ more)) (closing_quote (doubled cs ++ (39 ∷ more)))
-    ≡ Ok (Text cs, length (doubled cs) + 2)
+    → text_read (with_quotes_doubled cs ++ (39 ∷ more))
+    (closing_quote (with_quotes_doubled cs ++ (39 ∷ more)))
+    ≡ Ok (Text cs, length (with_quotes_doubled cs) + 2)
 string_reads cs more ends printed some most =
-    let taken : take (length (doubled cs)) (doubled cs ++ (39 ∷ more)) ≡ doubled cs =
-    take-append_seam (doubled cs) (39 ∷ more) in
-    let all : list_all is_printed (doubled cs) ≡ true = printed-doubled cs ∙ printed in
+    let taken : take (length (with_quotes_doubled cs)) (with_quotes_doubled cs ++ (39 ∷ more))
+    ≡ with_quotes_doubled cs =
+    take-append_seam (with_quotes_doubled cs) (39 ∷ more) in
+    let all : list_all is_printed (with_quotes_doubled cs) ≡ true = printed-doubled cs ∙ printed in
     let a : nat_lt 0 (length cs) ≡ true = lt-ltb 0 (length cs) some in
     let b : nat_le (length cs) 128 ≡ true = le-leb (length cs) 128 most in
     rw (closing_quote-doubled cs more ends, taken, all, characters_of-doubled cs, a, b) refl
@@ -149,10 +152,11 @@ string_reads cs more ends printed some most =
 pub string_is_read : (bytes cs text rest : List ℕ) → 39 ∷ bytes ≡ text ++ rest → IsString cs text rest
     → text_read bytes (closing_quote bytes) ≡ Ok (Text cs, length text)
 string_is_read bytes cs text rest splits s =
-    let inner : bytes ≡ doubled cs ++ (39 ∷ rest) =
-    ap (drop 1) (splits ∙ ap (λ t. t ++ rest) s.quoted) ∙ append_assoc (doubled cs) (39 ∷ []) rest in
-    let len : length text ≡ length (doubled cs) + 2 =
-    ap length s.quoted ∙ omega (arith, length-append (doubled cs) (39 ∷ [])) in
+    let inner : bytes ≡ with_quotes_doubled cs ++ (39 ∷ rest) =
+    ap (drop 1) (splits ∙ ap (λ t. t ++ rest) s.quoted)
+    ∙ append_assoc (with_quotes_doubled cs) (39 ∷ []) rest in
+    let len : length text ≡ length (with_quotes_doubled cs) + 2 =
+    ap length s.quoted ∙ omega (arith, length-append (with_quotes_doubled cs) (39 ∷ [])) in
     rw (inner, len) (string_reads cs rest s.ends s.printed s.some s.most)
 
 -- at a quote a string stands, or none
@@ -163,8 +167,8 @@ pub data AtQuote (bytes : List ℕ) : Type 0 where
 checked : (bytes : List ℕ) (n : ℕ) (v : Bool) → closing_quote bytes ≡ Some n → is_text (take n bytes) ≡ v
     → Closed bytes n → AtQuote bytes
 checked bytes n true e f r =
-    let inner : take n bytes ≡ doubled r.cs =
-    rw (r.splits, r.len) (take-append_seam (doubled r.cs) (39 ∷ r.rest)) in
+    let inner : take n bytes ≡ with_quotes_doubled r.cs =
+    rw (r.splits, r.len) (take-append_seam (with_quotes_doubled r.cs) (39 ∷ r.rest)) in
     let is : characters_of (take n bytes) ≡ r.cs = ap characters_of inner ∙ characters_of-doubled r.cs in
     let all =
     and_parts (list_all is_printed (take n bytes))
@@ -178,8 +182,8 @@ checked bytes n true e f r =
     rw (← is) (leb-true (length (characters_of (take n bytes))) 128 bounds.1) in
     let printed : list_all is_printed r.cs ≡ true =
     sym (printed-doubled r.cs) ∙ ap (list_all is_printed) (sym inner) ∙ all.0 in
-    string r.cs (39 ∷ (doubled r.cs ++ 39 ∷ [])) r.rest
-    (ap (λ t. 39 ∷ t) (r.splits ∙ sym (append_assoc (doubled r.cs) (39 ∷ []) r.rest)))
+    string r.cs (39 ∷ (with_quotes_doubled r.cs ++ 39 ∷ [])) r.rest
+    (ap (λ t. 39 ∷ t) (r.splits ∙ sym (append_assoc (with_quotes_doubled r.cs) (39 ∷ []) r.rest)))
     (record { quoted = refl; ends = r.ends; printed = printed; some = some; most = most })
 checked bytes n false e f r = none (rw (e, f) refl)
 

@@ -12,7 +12,7 @@ use Rattle.asm_syntax.specs.declared.fault.FaultKind.TheVariants as kind
 use Rattle.asm_syntax.specs.Lexemes.{Lexeme, Sign}
 use Rattle.asm_lex.specs.Operators.{prefix_strength, infix_strength, prefix_of, infix_of}
 use Rattle.asm_lex.specs.Reading.{Spells, weakest_left, weakest_right, IsProper}
-use Rattle.asm_lex.specs.Climb.{made, closed, infix_at, operand_at, chain, expr_at}
+use Rattle.asm_lex.specs.Climb.{tree_or_nesting, after_parenthesis, infix_at, operand_at, chain, expr_at}
 use Rattle.asm_lex.proofs.Climbs.{chain_stops, chain_right_faults, chain_made_faults, chain_goes_on}
 
 -- the strength of the operator between operands at the front, 0 if there is none
@@ -50,12 +50,12 @@ depth_some (Prefix op a) = omega arith
 depth_some (Infix op a b) = omega arith
 depth_some (Parens a) = omega arith
 
-made_fits : (first : ℕ) (t : Tree) → depth_of t ≤ 64 → made first t ≡ Ok t
-unfolding made
+made_fits : (first : ℕ) (t : Tree) → depth_of t ≤ 64 → tree_or_nesting first t ≡ Ok t
+unfolding tree_or_nesting
 made_fits first t h = let fits : nat_le (depth_of t) 64 ≡ true = grind (arith, nat_tests) in rw fits refl
 
-made_faults : (first : ℕ) (t : Tree) → 64 < depth_of t → made first t ≡ Err (first, kind.Nesting)
-unfolding made
+made_faults : (first : ℕ) (t : Tree) → 64 < depth_of t → tree_or_nesting first t ≡ Err (first, kind.Nesting)
+unfolding tree_or_nesting
 made_faults first t h = let deep : nat_le (depth_of t) 64 ≡ false = grind (arith, nat_tests) in rw deep refl
 
 fits_or_not : (d : ℕ) → (d ≤ 64) ⊎ (64 < d)
@@ -99,7 +99,7 @@ prefix_case first n level op a l ls rest small e (inl x) = by (fits_or_not (dept
 
 parens_case : (first n level : ℕ) (a : Tree) (ls rest : List Lexeme) → suc n ≤ 64
     → Found_whole first n 0 a ls (Sign 41 ∷ rest) → Begins first n level (Parens a) (Sign 40 ∷ ls) rest
-unfolding expr_at operand_at closed
+unfolding expr_at operand_at after_parenthesis
 parens_case first n level a ls rest small (inr x) = inr (omega arith, rw x.1 refl)
 parens_case first n level a ls rest small (inl x) = by (fits_or_not (depth_of a + 1))
   where

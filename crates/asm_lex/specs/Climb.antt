@@ -24,24 +24,24 @@ abbrev pub Found : Type 0
 Found = Result (Tree × List Lexeme) Fault
 
 -- a tree, if it isn't too deep. `first` is the column at which the operand begins
-unfoldable pub made : ℕ → Tree → Result Tree Fault
-made first t = if nat_le (depth_of t) 64 then Ok t else Err (first, kind.Nesting)
+unfoldable pub tree_or_nesting : ℕ → Tree → Result Tree Fault
+tree_or_nesting first t = if nat_le (depth_of t) 64 then Ok t else Err (first, kind.Nesting)
 
 -- what stands in parentheses, after which the closing one must be
-unfoldable pub closed : ℕ → Tree → List Lexeme → Found
-closed first a [] = Err (first, kind.Operands)
-closed first a (l ∷ rest) =
+unfoldable pub after_parenthesis : ℕ → Tree → List Lexeme → Found
+after_parenthesis first a [] = Err (first, kind.Operands)
+after_parenthesis first a (l ∷ rest) =
     if is_sign close_parenthesis l
     then (do
-      t ← made first (Parens a)
+      t ← tree_or_nesting first (Parens a)
       Ok (t, rest))
     else Err (first, kind.Operands)
 
 -- a prefix operator takes what stronger operators join after it
-abbrev pub prefixed : ℕ → (ℕ → List Lexeme → Found) → Unary → List Lexeme → Found
-prefixed first expr op rest = do
+abbrev pub prefix_operation : ℕ → (ℕ → List Lexeme → Found) → Unary → List Lexeme → Found
+prefix_operation first expr op rest = do
   a ← expr (prefix_strength op + 1) rest
-  t ← made first (Prefix op a.0)
+  t ← tree_or_nesting first (Prefix op a.0)
   Ok (t, a.1)
 
 -- an atom, or no operand at all
@@ -51,12 +51,12 @@ atom_or_none first (Some t) rest = Ok (t, rest)
 
 -- an operand by its first lexeme, which is a prefix operator or none
 abbrev pub operand_by : ℕ → (ℕ → List Lexeme → Found) → Option Unary → Lexeme → List Lexeme → Found
-operand_by first expr (Some op) l rest = prefixed first expr op rest
+operand_by first expr (Some op) l rest = prefix_operation first expr op rest
 operand_by first expr None l rest =
     if is_sign open_parenthesis l
     then (do
       a ← expr 0 rest
-      closed first a.0 a.1)
+      after_parenthesis first a.0 a.1)
     else atom_or_none first (atom_in l) rest
 
 -- an operand, where `expr level` reads what is inside of one
@@ -79,19 +79,19 @@ infix_at level (l ∷ rest) = with_rest (strong level (infix_of l))
     with_rest (Some op) = Some (op, rest)
 
 -- an operator and its right operand, which holds stronger ones only, then `next` with the tree
-abbrev pub joined : ℕ → (ℕ → List Lexeme → Found) → Tree → List Lexeme
+abbrev pub infix_operation : ℕ → (ℕ → List Lexeme → Found) → Tree → List Lexeme
     → (Tree → List Lexeme → Found) → Option (Binary × List Lexeme) → Found
-joined first expr a ls next None = Ok (a, ls)
-joined first expr a ls next (Some x) = do
+infix_operation first expr a ls next None = Ok (a, ls)
+infix_operation first expr a ls next (Some x) = do
   b ← expr (infix_strength x.0 + 1) x.1
-  t ← made first (Infix x.0 a b.0)
+  t ← tree_or_nesting first (Infix x.0 a b.0)
   next t b.1
 
 -- operators at least as strong as the level, joined to the left, fewer than `count` of them
 unfoldable pub chain : ℕ → (ℕ → List Lexeme → Found) → ℕ → ℕ → Tree → List Lexeme → Found
 chain first expr zero level a ls = Err (first, kind.Nesting)
 chain first expr (suc count) level a ls =
-    joined first expr a ls (chain first expr count level) (infix_at level ls)
+    infix_operation first expr a ls (chain first expr count level) (infix_at level ls)
 
 -- the expression at the front whose operators are at least as strong as the level, in which at most
 -- `n` expressions stand one inside of the other
@@ -126,5 +126,5 @@ fault_at column maker.OutOfMemory = line.OutOfMemory
 fault_at column maker.Nesting = line.At column kind.Nesting
 
 -- an expression and the tokens after it
-abbrev pub found : Tree × Bor (List Placed) → Tree × List Lexeme
-found x = (x.0, symbols (pieces_of x.1.now))
+abbrev pub expression_and_rest : Tree × Bor (List Placed) → Tree × List Lexeme
+expression_and_rest x = (x.0, symbols (pieces_of x.1.now))

@@ -7,14 +7,14 @@ use Rattle.std.specs.Char.{digit_value, to_ascii_uppercase}
 use Rattle.asm_syntax.specs.Ascii.{letter_b, letter_d, letter_h, letter_o, letter_q}
 
 -- the number that digits spell after a number
-abbrev pub spelled : ℕ → ℕ → List ℕ → ℕ
-spelled base n ds = fold (λ m d. m * base + digit_value d) n ds
+abbrev pub with_digits : ℕ → ℕ → List ℕ → ℕ
+with_digits base n ds = fold (λ m d. m * base + digit_value d) n ds
 
 -- the number that digits spell, if each is one of the base's and the number is below 65,536
 abbrev pub in_base : ℕ → List ℕ → Option ℕ
 in_base base ds =
-    if list_all (λ d. nat_lt (digit_value d) base) ds && nat_lt (spelled base 0 ds) 65536
-    then Some (spelled base 0 ds)
+    if list_all (λ d. nat_lt (digit_value d) base) ds && nat_lt (with_digits base 0 ds) 65536
+    then Some (with_digits base 0 ds)
     else None
 
 -- by the last character: H 16, D 10, O and Q 8, B 2, and else 10 with no letter

@@ -42,13 +42,13 @@ abbrev pub is_quote : ℕ → Bool
 is_quote b = b == quote
 
 -- characters with each quote doubled
-abbrev pub doubled : List ℕ → List ℕ
-doubled [] = []
-doubled (c ∷ cs) = (if is_quote c then quote ∷ [] else []) ++ (c ∷ doubled cs)
+abbrev pub with_quotes_doubled : List ℕ → List ℕ
+with_quotes_doubled [] = []
+with_quotes_doubled (c ∷ cs) = (if is_quote c then quote ∷ [] else []) ++ (c ∷ with_quotes_doubled cs)
 
 -- from 1 to 128 characters between quotes
 pub record IsString (cs text rest : List ℕ) : Type 0 where
-  pub quoted : text ≡ quote ∷ (doubled cs ++ quote ∷ [])
+  pub quoted : text ≡ quote ∷ (with_quotes_doubled cs ++ quote ∷ [])
   pub ends : Stops is_quote rest
   pub printed : list_all is_printed cs ≡ true
   pub some : 0 < length cs

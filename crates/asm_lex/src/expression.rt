@@ -4,7 +4,8 @@ ghost use Rattle.asm_expr.specs.Tree.{Prefix, Infix, Parens};
 ghost use Rattle.asm_syntax.specs.Lexemes.{pieces_of};
 ghost use Rattle.asm_syntax.specs.Outcome.{LineGives};
 ghost use Rattle.asm_lex.specs.Operators.{symbols};
-ghost use Rattle.asm_lex.specs.Climb.{fault_at, found, made, closed, operand_at, infix_at, expr_at};
+ghost use Rattle.asm_lex.specs.Climb.{fault_at, expression_and_rest, tree_or_nesting, after_parenthesis};
+ghost use Rattle.asm_lex.specs.Climb.{operand_at, infix_at, expr_at};
 ghost use Rattle.asm_lex.specs.Climb.{first_column, expression};
 ghost use Rattle.asm_syntax.specs.declared.fault.LineFault.TheVariants as line;
 ghost use Rattle.asm_syntax.specs.declared.fault.FaultKind.TheVariants as kind;
@@ -34,9 +35,9 @@ fn fault_at(column: usize, fault: TreeFault) -> LineFault
     }
 }
 
-#[tactic(auto, unfolding(crate::specs::Climb::made))]
+#[tactic(auto, unfolding(crate::specs::Climb::tree_or_nesting))]
 fn infix(alloc: Global, first: usize, operator: Binary, a: Expr, b: Expr) -> Result<Expr, LineFault>
-    ensures { LineGives (λ e. e) result (made first (Infix operator a b)) }
+    ensures { LineGives (λ e. e) result (tree_or_nesting first (Infix operator a b)) }
 {
     match Expr::infix(alloc, operator, a, b) {
         Ok(expr) => {
@@ -47,9 +48,9 @@ fn infix(alloc: Global, first: usize, operator: Binary, a: Expr, b: Expr) -> Res
     }
 }
 
-#[tactic(auto, unfolding(crate::specs::Climb::made))]
+#[tactic(auto, unfolding(crate::specs::Climb::tree_or_nesting))]
 fn prefix(alloc: Global, first: usize, operator: Unary, a: Expr) -> Result<Expr, LineFault>
-    ensures { LineGives (λ e. e) result (made first (Prefix operator a)) }
+    ensures { LineGives (λ e. e) result (tree_or_nesting first (Prefix operator a)) }
 {
     match Expr::prefix(alloc, operator, a) {
         Ok(expr) => {
@@ -60,9 +61,9 @@ fn prefix(alloc: Global, first: usize, operator: Unary, a: Expr) -> Result<Expr,
     }
 }
 
-#[tactic(auto, unfolding(crate::specs::Climb::made))]
+#[tactic(auto, unfolding(crate::specs::Climb::tree_or_nesting))]
 fn parens(alloc: Global, first: usize, a: Expr) -> Result<Expr, LineFault>
-    ensures { LineGives (λ e. e) result (made first (Parens a)) }
+    ensures { LineGives (λ e. e) result (tree_or_nesting first (Parens a)) }
 {
     match Expr::parens(alloc, a) {
         Ok(expr) => {
@@ -105,14 +106,15 @@ fn infix_at<'a>(level: u8, tokens: &'a [Placed<'a>]) -> Option<(Binary, &'a [Pla
 }
 
 // What stands in parentheses, where the closing one is at the front.
-#[tactic(auto, unfolding(crate::specs::Climb::closed))]
+#[tactic(auto, unfolding(crate::specs::Climb::after_parenthesis))]
 fn close<'a>(
     alloc: Global,
     first: usize,
     a: Expr,
     tokens: &'a [Placed<'a>],
 ) -> Result<(Expr, &'a [Placed<'a>]), LineFault>
-    ensures { LineGives found result (closed first a (symbols (pieces_of tokens.now))) }
+    ensures { LineGives expression_and_rest result
+        (after_parenthesis first a (symbols (pieces_of tokens.now))) }
 {
     let Some((piece, rest)) = tokens.split_first() else {
         return Err(shape_fault(first));
@@ -132,7 +134,7 @@ fn operand_at<'a>(
     tokens: &'a [Placed<'a>],
 ) -> Result<(Expr, &'a [Placed<'a>]), LineFault>
     requires { n ≤ 64 }
-    ensures { LineGives found result
+    ensures { LineGives expression_and_rest result
         (operand_at first (expr_at first n) (symbols (pieces_of tokens.now))) }
 {
     let Some((piece, rest)) = tokens.split_first() else {
@@ -167,7 +169,7 @@ fn expr_at<'a>(
 ) -> Result<(Expr, &'a [Placed<'a>]), LineFault>
     requires small { n ≤ 64 }
     requires strong { level ≤ 8 }
-    ensures { LineGives found result (expr_at first n level (symbols (pieces_of tokens.now))) }
+    ensures { LineGives expression_and_rest result (expr_at first n level (symbols (pieces_of tokens.now))) }
 {
     if n == 0 {
         return Err(too_deep(first));

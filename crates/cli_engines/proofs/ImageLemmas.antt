@@ -5,11 +5,11 @@ use Rattle.std.proofs.Common.{min, refl, ap, sym, ◌∙◌, arith, append_assoc
 use Rattle.std.proofs.Math.ListN.{length-set, length-replicate}
 use Rattle.std.proofs.Math.Seq.{take-nil}
 use Rattle.std.proofs.lemmas.List.{take_min, drop_all}
-use Rattle.cli_engines.specs.Image.{filled, cells_of, leading, spaced, image_line, lines_from}
+use Rattle.cli_engines.specs.Image.{fill, cells_of, leading, spaced_bytes, image_line, lines_from}
 use Rattle.base_text.specs.Hexadecimal.{upper_word}
 
 pub length-filled : (image : List (ℕ × ℕ)) (cells : List (Option ℕ))
-    → length (filled image cells) ≡ length cells
+    → length (fill image cells) ≡ length cells
 length-filled [] cells = refl
 length-filled (p ∷ ps) cells =
     length-filled ps (slice_set cells p.0 (Some p.1)) ∙ length-set cells p.0 (Some p.1)
@@ -22,13 +22,13 @@ length-cells_of image =
 -- cells that are made of none have no byte
 pub cells_made : (image : List (ℕ × ℕ)) (none made : List (Option ℕ)) (n : ℕ) → none ≡ [] → n ≡ 0
     → made ≡ take 65536 none ++ replicate (65536 - n) None
-    → (length made ≡ 65536) × (filled image made ≡ cells_of image)
+    → (length made ≡ 65536) × (fill image made ≡ cells_of image)
 unfolding cells_of
 cells_made image none made n empty zero_is made_is =
     let all : made ≡ replicate 65536 None =
     made_is ∙ (rw (empty, zero_is) (ap (λ (xs : List (Option ℕ)). xs ++ replicate 65536 None)
     (take-nil 65536))) in
-    (ap length all ∙ length-replicate {A = Option ℕ} 65536 None, ap (filled image) all)
+    (ap length all ∙ length-replicate {A = Option ℕ} 65536 None, ap (fill image) all)
 
 -- a cell that stands on a line already
 pub lines_printed : (address printed : ℕ) (cells : List (Option ℕ)) → 0 < printed → 0 < length cells
@@ -65,14 +65,14 @@ lines_begun address zero (Some byte ∷ cells) p l n = refl
 pub line_added : (text : List ℕ) (address printed : ℕ) (cells front : List (Option ℕ)) → printed ≤ 0
     → 0 < length cells → is_some (get_or cells 0 None) ≡ true
     → front ≡ take (min (length cells) 16) cells
-    → text ++ upper_word address ++ codes ":" ++ spaced (leading front) ++ 10 ∷ []
+    → text ++ upper_word address ++ codes ":" ++ spaced_bytes (leading front) ++ 10 ∷ []
     ++ lines_from (address + 1) (length (leading front) - 1) (drop 1 cells)
     ≡ text ++ lines_from address printed cells
 line_added text address printed cells front p l some front_is =
     let whole : take 16 cells ≡ front =
     sym (front_is ∙ ap (λ (n : ℕ). take n cells) (min_swapped (length cells)) ∙ take_min 16 cells) in
     rw (lines_begun address printed cells p l some, whole)
-    (joined text (upper_word address) (codes ":") (spaced (leading front)) (10 ∷ [])
+    (joined text (upper_word address) (codes ":") (spaced_bytes (leading front)) (10 ∷ [])
     (lines_from (address + 1) (length (leading front) - 1) (drop 1 cells)))
   where
     joined : (t a b c d e : List ℕ) → t ++ a ++ b ++ c ++ d ++ e ≡ t ++ (a ++ b ++ c ++ d ++ e)

@@ -6,13 +6,13 @@ use Rattle.cli_io.specs.Report.{line}
 use Rattle.cli_run.specs.Printed.{field}
 
 -- cells, of which each has the byte of its address, if there is one
-abbrev pub filled : List (ℕ × ℕ) → List (Option ℕ) → List (Option ℕ)
-filled [] cells = cells
-filled (p ∷ ps) cells = filled ps (slice_set cells p.0 (Some p.1))
+abbrev pub fill : List (ℕ × ℕ) → List (Option ℕ) → List (Option ℕ)
+fill [] cells = cells
+fill (p ∷ ps) cells = fill ps (slice_set cells p.0 (Some p.1))
 
 -- a cell for each of the 65,536 addresses
 unfoldable pub cells_of : List (ℕ × ℕ) → List (Option ℕ)
-cells_of image = filled image (replicate 65536 None)
+cells_of image = fill image (replicate 65536 None)
 
 -- the bytes up to the first cell that has none
 abbrev pub leading : List (Option ℕ) → List ℕ
@@ -21,12 +21,12 @@ leading (None ∷ cells) = []
 leading (Some byte ∷ cells) = byte ∷ leading cells
 
 -- each byte after a blank
-abbrev pub spaced : List ℕ → List ℕ
-spaced [] = []
-spaced (byte ∷ bytes) = field (codes " ") byte ++ spaced bytes
+abbrev pub spaced_bytes : List ℕ → List ℕ
+spaced_bytes [] = []
+spaced_bytes (byte ∷ bytes) = field (codes " ") byte ++ spaced_bytes bytes
 
 abbrev pub image_line : ℕ → List ℕ → List ℕ
-image_line address bytes = line (upper_word address ++ codes ":" ++ spaced bytes)
+image_line address bytes = line (upper_word address ++ codes ":" ++ spaced_bytes bytes)
 
 -- The lines of the cells from an address on, of which the first `printed` stand on a line already: a
 -- line begins at each byte that isn't printed yet, and has the bytes from there on, at most 16.

@@ -2,7 +2,7 @@
 ghost use Rattle.std.specs.Prelude.{◌≡◌, ◌<◌, ◌≤◌, ◌+◌, ◌++◌, ◌∷◌, List, ℕ, OnOk, IfOk, length, drop, take};
 ghost use Rattle.std.specs.Prelude.{string_bytes};
 ghost use Rattle.i80_exec.specs.State.{loaded};
-ghost use Rattle.cli_engines.specs.Image.{filled, cells_of, leading, spaced, image_line};
+ghost use Rattle.cli_engines.specs.Image.{fill, cells_of, leading, spaced_bytes, image_line};
 ghost use Rattle.cli_engines.specs.Image.{lines_from, image_text};
 
 use base_text::hexadecimal::push_word;
@@ -86,7 +86,7 @@ fn push_cell(
 /// Adds the bytes up to the first cell that has none, and reports how many they are.
 fn push_bytes(text: &mut String, cells: &[Option<u8>]) -> Result<usize, AllocError>
     ensures text { OnOk result
-        (string_bytes text.new ≡ string_bytes text.old ++ spaced (leading cells.now)) }
+        (string_bytes text.new ≡ string_bytes text.old ++ spaced_bytes (leading cells.now)) }
     ensures count { IfOk result (λ count. count ≡ length (leading cells.now)) }
 {
     let mut count = 0;

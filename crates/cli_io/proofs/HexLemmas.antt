@@ -9,7 +9,8 @@ use Rattle.std.proofs.Math.Seq.{take-nil}
 use Rattle.std.proofs.lemmas.List.Elements.{filter-append}
 use Rattle.std.proofs.lemmas.List.Folds.{list_all-append}
 use Rattle.std.proofs.lemmas.List.{map-append, length-map, length-take, take_all}
-use Rattle.cli_io.specs.HexInput.{characters, is_blank, is_hex_digit, digit_value, paired, BadHex, PastEnd}
+use Rattle.cli_io.specs.HexInput.{characters, is_blank, is_hex_digit, digit_value, byte_pairs, BadHex}
+use Rattle.cli_io.specs.HexInput.{PastEnd}
 use Rattle.cli_io.specs.HexInput.{Bytes, input_of}
 use Rattle.cli_io.specs.HexState.{HexState, most_digits, state_of, kept_more, StandsFor, Reads, IsBad}
 
@@ -128,7 +129,7 @@ found_long h text s odd long =
     rw (s.all_digits, even, past) refl
 
 pub found_bytes : (h : HexState) (text : List ℕ) → StandsFor h text → h.is_odd ≡ false → h.is_long ≡ false
-    → input_of text ≡ Bytes (paired h.digits)
+    → input_of text ≡ Bytes (byte_pairs h.digits)
 unfolding most_digits
 found_bytes h text s odd long =
     let even : (length (characters text) % 2 == 1) ≡ false =
@@ -157,7 +158,7 @@ bad_at piece i within bad =
 -- these bytes are made of the digits before the rest
 pub record IsPaired (digits bytes rest : List ℕ) : Type 0 where
   pub small : All (λ d. d < 16) rest
-  pub whole : bytes ++ paired rest ≡ paired digits
+  pub whole : bytes ++ byte_pairs rest ≡ byte_pairs digits
 
 -- one pair more is made into a byte
 pub paired_more : (digits bytes rest : List ℕ) → IsPaired digits bytes rest → 2 ≤ length rest
@@ -166,12 +167,12 @@ paired_more digits bytes [] p long = absurd (omega arith)
 paired_more digits bytes (high ∷ []) p long = absurd (omega arith)
 paired_more digits bytes (high ∷ (low ∷ rest)) p long = record {
   small = λ k d lt. p.small (suc (suc k)) d (omega arith);
-  whole = append_assoc bytes ((16 * high + low) ∷ []) (paired rest) ∙ p.whole;
+  whole = append_assoc bytes ((16 * high + low) ∷ []) (byte_pairs rest) ∙ p.whole;
 }
 
 -- a rest without a pair makes no byte
 pub paired_all : (digits bytes rest : List ℕ) → IsPaired digits bytes rest → length rest < 2
-    → bytes ≡ paired digits
+    → bytes ≡ byte_pairs digits
 paired_all digits bytes [] p short = sym (append-nil bytes) ∙ p.whole
 paired_all digits bytes (digit ∷ []) p short = sym (append-nil bytes) ∙ p.whole
 paired_all digits bytes (high ∷ (low ∷ rest)) p short = absurd (omega arith)

@@ -21,8 +21,8 @@ abbrev pub AnswersInput : (List ℕ → Status) → (List ℕ → List ℕ) → 
 AnswersInput status_of text_of result reader old new =
     IfSome reader.left (λ input. Answers (status_of input) (text_of input) result old new)
 
-abbrev pub answered : Bool → Status
-answered is_refused = if is_refused then Refused else Success
+abbrev pub answer_status : Bool → Status
+answer_status is_refused = if is_refused then Refused else Success
 
 abbrev pub IsFailure : Status → Type 0
 IsFailure OutOfMemory = Unit {0}

@@ -20,10 +20,10 @@ abbrev pub characters : List ℕ → List ℕ
 characters text = filter (λ c. not (is_blank c)) text
 
 -- two digits make a byte, the high one first
-abbrev pub paired : List ℕ → List ℕ
-paired [] = []
-paired (high ∷ []) = []
-paired (high ∷ (low ∷ rest)) = (16 * high + low) ∷ paired rest
+abbrev pub byte_pairs : List ℕ → List ℕ
+byte_pairs [] = []
+byte_pairs (high ∷ []) = []
+byte_pairs (high ∷ (low ∷ rest)) = (16 * high + low) ∷ byte_pairs rest
 
 -- refused for a wrong character or an odd number of digits, refused for more bytes than memory has, or bytes
 pub data Input : Type 0 where
@@ -37,4 +37,4 @@ input_of text =
     if (not (list_all is_hex_digit digits)) then BadHex else
     (if (length digits % 2 == 1) then BadHex else
     (if (nat_lt 65536 (length digits / 2)) then PastEnd else
-    (Bytes (paired (map digit_value digits)))))
+    (Bytes (byte_pairs (map digit_value digits)))))

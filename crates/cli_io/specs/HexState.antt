@@ -3,7 +3,7 @@ use Rattle.std.specs.Prelude.{◌≡◌, ℕ, ◌%◌, List, [], ◌∷◌, ◌+
 use Rattle.std.specs.Prelude.{nat_lt, map, length, take}
 use Rattle.std.specs.List.{list_all}
 use Rattle.std.specs.Prelude.{Result, Ok, Err}
-use Rattle.cli_io.specs.HexInput.{characters, is_hex_digit, digit_value, paired, Input, BadHex, PastEnd}
+use Rattle.cli_io.specs.HexInput.{characters, is_hex_digit, digit_value, byte_pairs, Input, BadHex, PastEnd}
 use Rattle.cli_io.specs.HexInput.{Bytes}
 use Rattle.cli_io.specs.declared.hex_input.HexFault.{HexFault}
 use Rattle.cli_io.specs.declared.hex_input.HexFault.TheVariants as fault
@@ -48,7 +48,7 @@ kept_more h value = record {
 
 -- the digits' values that were found, or the fault, are those of the input
 abbrev pub Finds : {X : Type 0} → (X → List ℕ) → Result X HexFault → Input → Type 0
-Finds view (Ok digits) input = input ≡ Bytes (paired (view digits))
+Finds view (Ok digits) input = input ≡ Bytes (byte_pairs (view digits))
 Finds view (Err fault.BadHex) input = input ≡ BadHex
 Finds view (Err fault.PastEnd) input = input ≡ PastEnd
 Finds view (Err fault.OutOfMemory) input = ⊥

@@ -2,7 +2,7 @@
 use Rattle.std.specs.Prelude.{◌≡◌, ℕ, List, [], ◌∷◌, ◌++◌, IfSome, Result, IfOk, codes, string_bytes}
 use Rattle.base_streams.specs.States.{InletState}
 use Rattle.cli_io.specs.declared.status.Status.{Status}
-use Rattle.cli_io.specs.Engine.{answered}
+use Rattle.cli_io.specs.Engine.{answer_status}
 use Rattle.cli_io.specs.HexInput.{Input, BadHex, PastEnd, Bytes}
 use Rattle.cli_io.specs.declared.hex_input.HexFault.{HexFault}
 use Rattle.cli_io.specs.declared.hex_input.HexFault.TheVariants as fault
@@ -12,7 +12,7 @@ use Rattle.cli_io.specs.declared.report.Report.{Report}
 use Rattle.cli_io.specs.declared.status.Status.TheVariants.{Refused, OutOfMemory, Failed}
 
 pub record IsReport (report : Report) (status : Status) (text : List ℕ) : Type 0 where
-  pub status_is : answered report.is_refused ≡ status
+  pub status_is : answer_status report.is_refused ≡ status
   pub text_is : string_bytes report.text ≡ text
 
 -- for every input that the reader has left: the report, if there is one, has the input's status and text

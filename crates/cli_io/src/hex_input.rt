@@ -1,6 +1,6 @@
 //! Hexadecimal text that comes in pieces.
 ghost use Rattle.std.specs.Prelude.{◌≡◌, ◌<◌, ◌∷◌, [], List, ℕ, Some, OnOk, IsErrOf, IfOk, All};
-ghost use Rattle.cli_io.specs.HexInput.{digit_value, input_of, paired};
+ghost use Rattle.cli_io.specs.HexInput.{digit_value, input_of, byte_pairs};
 ghost use Rattle.cli_io.specs.HexState.{kept_more};
 
 use crate::intake::{Intake, IntakeFault};
@@ -167,7 +167,7 @@ impl HexInput {
 /// makes no byte.
 pub fn pair_digits(alloc: Global, digits: &[u8]) -> Result<Vec<u8>, AllocError>
     requires { All (λ d. d < 16) digits.now }
-    ensures { IfOk result (λ bytes. bytes.items ≡ paired digits.now) }
+    ensures { IfOk result (λ bytes. bytes.items ≡ byte_pairs digits.now) }
 {
     let mut bytes = Vec::new(alloc);
     let mut rest = digits;

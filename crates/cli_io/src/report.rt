@@ -1,7 +1,7 @@
 //! What an engine has to say, and its way to the writer.
 ghost use Rattle.std.specs.Prelude.{◌≡◌, ◌⊎◌, true, IfOk, IfErr, string_bytes};
 ghost use Rattle.std.specs.Io.KnownBytes.{Keeps};
-ghost use Rattle.cli_io.specs.Engine.{Answers, answered, IfFailed};
+ghost use Rattle.cli_io.specs.Engine.{Answers, answer_status, IfFailed};
 ghost use Rattle.cli_io.specs.Report.{IsReport, Refuses, RefusesText, IsToldBy, IsToldByText};
 
 use crate::reading::{HexFault, TextFault};
@@ -56,7 +56,7 @@ pub fn text_refusal(alloc: Global, fault: TextFault) -> Result<Report, Status>
 
 /// Writes the report's text, and answers its status where that went well.
 pub fn deliver<W: Outlet>(writer: &mut W, report: &Report) -> Status
-    ensures answers { Answers (answered report.now.is_refused) (string_bytes report.now.text) result
+    ensures answers { Answers (answer_status report.now.is_refused) (string_bytes report.now.text) result
         (W.state writer.old) (W.state writer.new) }
     ensures blame { IfFailed result
         ((W.state writer.new).failed ≡ true)

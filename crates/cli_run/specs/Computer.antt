@@ -29,8 +29,8 @@ abbrev pub fresh : MachineState → Computer
 fresh m = record { machine = m; past = []; last = stepped.Done }
 
 -- a computer after power-on, with these bytes stored from address 0 on
-abbrev pub programmed : List ℕ → Computer
-programmed bytes = fresh (stored_from 0 bytes power_on)
+abbrev pub computer_with : List ℕ → Computer
+computer_with bytes = fresh (stored_from 0 bytes power_on)
 
 -- one instruction, whose IN is answered by the past
 abbrev pub next : Computer → Computer

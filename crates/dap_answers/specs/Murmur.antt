@@ -28,8 +28,8 @@ low_first (byte ∷ bytes) = byte + 256 * low_first bytes
 abbrev pub xor_shifted : ℕ → ℕ → ℕ
 xor_shifted bits n = bit_xor n (n / 2 ^ bits)
 
-unfoldable pub mixed : ℕ → ℕ
-mixed k = times_m (xor_shifted 24 (times_m k))
+unfoldable pub mix_word : ℕ → ℕ
+mix_word k = times_m (xor_shifted 24 (times_m k))
 
 -- after the hash so far: four bytes at a time, and then the one, two or three that are left
 abbrev pub hash_from : ℕ → Bytes → ℕ
@@ -38,14 +38,14 @@ hash_from h (a ∷ []) = times_m (bit_xor h (low_first (a ∷ [])))
 hash_from h (a ∷ b ∷ []) = times_m (bit_xor h (low_first (a ∷ b ∷ [])))
 hash_from h (a ∷ b ∷ c ∷ []) = times_m (bit_xor h (low_first (a ∷ b ∷ c ∷ [])))
 hash_from h (a ∷ b ∷ c ∷ d ∷ bytes) =
-    hash_from (bit_xor (times_m h) (mixed (low_first (a ∷ b ∷ c ∷ d ∷ [])))) bytes
+    hash_from (bit_xor (times_m h) (mix_word (low_first (a ∷ b ∷ c ∷ d ∷ [])))) bytes
 
-unfoldable pub finished : ℕ → ℕ
-finished h = xor_shifted 15 (times_m (xor_shifted 13 h))
+unfoldable pub final_mix : ℕ → ℕ
+final_mix h = xor_shifted 15 (times_m (xor_shifted 13 h))
 
 -- it begins with the length, under the seed 0
 abbrev pub murmur2 : Bytes → ℕ
-murmur2 bytes = finished (hash_from (length bytes % (2 ^ 32)) bytes)
+murmur2 bytes = final_mix (hash_from (length bytes % (2 ^ 32)) bytes)
 
 abbrev pub cell_path : Text → Text
 cell_path code = codes "/tmp/i8080_lab/" ++ (decimal (murmur2 code) ++ codes ".asm")

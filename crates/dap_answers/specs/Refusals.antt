@@ -11,8 +11,8 @@ refusal seq command message =
     record { request_seq = seq; command = command; outcome = Refused message }
 
 -- it repeats the request's number and command, where they are known
-abbrev pub refused : DapFault → Response
-refused OutOfMemory = refusal 0 [] (codes "OutOfMemory")
-refused NotRequest = refusal 0 [] (codes "NotRequest")
-refused (Command seq command) = refusal seq command.now (codes "Command")
-refused (Arguments seq command) = refusal seq command.now (codes "Arguments")
+abbrev pub response_to : DapFault → Response
+response_to OutOfMemory = refusal 0 [] (codes "OutOfMemory")
+response_to NotRequest = refusal 0 [] (codes "NotRequest")
+response_to (Command seq command) = refusal seq command.now (codes "Command")
+response_to (Arguments seq command) = refusal seq command.now (codes "Arguments")

@@ -1,6 +1,6 @@
 //! The path under which a frontend knows a cell's text.
 ghost use Rattle.std.specs.Prelude.{◌≡◌, ◌<◌, length, IfOk};
-ghost use Rattle.dap_answers.specs.Murmur.{times_m, mixed, low_first, hash_from, finished, murmur2};
+ghost use Rattle.dap_answers.specs.Murmur.{times_m, mix_word, low_first, hash_from, final_mix, murmur2};
 ghost use Rattle.dap_answers.specs.Murmur.{cell_path};
 
 use base_text::text::Text;
@@ -20,17 +20,17 @@ fn times_m(n: u32) -> u32
     n.wrapping_mul(M)
 }
 
-#[tactic(auto, unfolding(crate::specs::Murmur::mixed))]
+#[tactic(auto, unfolding(crate::specs::Murmur::mix_word))]
 fn mix(k: u32) -> u32
-    ensures { result ≡ mixed k }
+    ensures { result ≡ mix_word k }
 {
     let k = times_m(k);
     times_m(k ^ (k >> 24))
 }
 
-#[tactic(auto, unfolding(crate::specs::Murmur::finished))]
+#[tactic(auto, unfolding(crate::specs::Murmur::final_mix))]
 fn finalize(h: u32) -> u32
-    ensures { result ≡ finished h }
+    ensures { result ≡ final_mix h }
 {
     let h = times_m(h ^ (h >> 13));
     h ^ (h >> 15)

@@ -1,6 +1,6 @@
 //! The responses to requests that are refused.
 ghost use Rattle.std.specs.Prelude.{◌≡◌, IfOk};
-ghost use Rattle.dap_answers.specs.Refusals.{refused};
+ghost use Rattle.dap_answers.specs.Refusals.{response_to};
 
 use crate::answer::{Outcome, Response};
 use base_text::text::Text;
@@ -9,7 +9,7 @@ use std::alloc::{AllocError, Global};
 
 /// The response that refuses a request. If the request's number and command aren't known they are 0 and empty.
 pub fn refusal_of(alloc: Global, fault: &DapFault<'_>) -> Result<Response, AllocError>
-    ensures { IfOk result (λ response. response ≡ refused fault.now) }
+    ensures { IfOk result (λ response. response ≡ response_to fault.now) }
 {
     let (request_seq, command) = match fault {
         DapFault::OutOfMemory | DapFault::NotRequest => (0, ""),

@@ -44,12 +44,12 @@ with_body to_body (Ok (answer, b)) = Ok (to_body answer, b)
 with_body to_body (Err fault) = Err fault
 
 -- the event is done, and the body carries its answer
-abbrev pub answered : Event → Board → Performed
-answered event b = with_body body_of (given event b)
+abbrev pub event_result : Event → Board → Performed
+event_result event b = with_body body_of (given event b)
 
 -- the event is done, and the body is this one
-abbrev pub done : Event → Body → Board → Performed
-done event body b = with_body (λ _. body) (given event b)
+abbrev pub event_with_body : Event → Body → Board → Performed
+event_with_body event body b = with_body (λ _. body) (given event b)
 
 abbrev pub step_kind : StepKind → BoardStepKind
 step_kind Over = board_kind.Over
@@ -72,9 +72,9 @@ abbrev pub first_line : MachineState → ℕ → ℕ → ℕ → ℕ
 first_line m address offset instruction_offset =
     after_instructions m (wrapped (address + offset)) instruction_offset
 
-abbrev pub disassembled : ℕ → ℕ → ℕ → ℕ → Board → Performed
-disassembled address offset instruction_offset count b =
-    answered (event.Show (view.Code (first_line b.machine address offset instruction_offset) count)) b
+abbrev pub code_lines_result : ℕ → ℕ → ℕ → ℕ → Board → Performed
+code_lines_result address offset instruction_offset count b =
+    event_result (event.Show (view.Code (first_line b.machine address offset instruction_offset) count)) b
 
 -- the board on which the undefined opcodes act, or on which they don't
 abbrev pub board_with : Bool → BoardOption
@@ -82,37 +82,38 @@ board_with true = Aliases
 board_with false = Strict
 
 -- a cell's text is kept under the path by which a frontend knows it
-abbrev pub dumped : Text → Board → Performed
-dumped code b = done (event.Dump (cell_path code) code) (body.SourcePath (cell_path code)) b
+abbrev pub cell_dump : Text → Board → Performed
+cell_dump code b = event_with_body (event.Dump (cell_path code) code) (body.SourcePath (cell_path code)) b
 
 -- what a command makes of a board: the body of its response and the board after it, or why it is refused
-unfoldable pub performed : DapCommand → Board → Performed
-performed command.Initialize b = Ok (body.Capabilities, b)
-performed command.Attach b = done event.Attach body.Empty b
-performed command.Disconnect b = done event.Detach body.Empty b
-performed command.ConfigurationDone b = Ok (body.Empty, b)
-performed (command.SetBreakpoints path lines) b = answered (event.SetBreakpoints path lines) b
-performed command.Threads b = Ok (body.Threads, b)
-performed (command.StackTrace start levels) b = answered (event.Show (view.Frames start levels)) b
-performed (command.Scopes frame) b = answered (event.Show (view.Scopes frame)) b
-performed (command.Variables reference start count) b =
-    answered (event.Show (view.Variables reference start count)) b
-performed command.Continue b = done event.Resume body.Continued b
-performed (command.Step kind granularity) b =
-    done (event.Step (step_request kind granularity)) body.Empty b
-performed command.Pause b = done event.Pause body.Empty b
-performed (command.Disassemble address offset instruction_offset count) b =
-    disassembled address offset instruction_offset count b
-performed (command.Source path) b = answered (event.Show (view.Source path)) b
-performed (command.DumpCell code) b = dumped code b
-performed command.DebugInfo b = answered (event.Show view.Info) b
-performed command.InspectVariables b = answered (event.Show (view.Variables 1 0 0)) b
-performed (command.SetVariable reference name value) b = answered (event.Poke reference name value) b
-performed (command.BoardSwitches value) b = done (event.Switches value) body.Empty b
-performed (command.BoardPress vector) b = done (event.Press vector) body.Empty b
-performed (command.BoardType text) b = done (event.Typed (latin_bytes text)) body.Empty b
-performed command.BoardReset b = done event.Reset body.Empty b
-performed (command.BoardAliases aliases) b = done (event.SetBoard (board_with aliases)) body.Empty b
+unfoldable pub command_result : DapCommand → Board → Performed
+command_result command.Initialize b = Ok (body.Capabilities, b)
+command_result command.Attach b = event_with_body event.Attach body.Empty b
+command_result command.Disconnect b = event_with_body event.Detach body.Empty b
+command_result command.ConfigurationDone b = Ok (body.Empty, b)
+command_result (command.SetBreakpoints path lines) b = event_result (event.SetBreakpoints path lines) b
+command_result command.Threads b = Ok (body.Threads, b)
+command_result (command.StackTrace start levels) b = event_result (event.Show (view.Frames start levels)) b
+command_result (command.Scopes frame) b = event_result (event.Show (view.Scopes frame)) b
+command_result (command.Variables reference start count) b =
+    event_result (event.Show (view.Variables reference start count)) b
+command_result command.Continue b = event_with_body event.Resume body.Continued b
+command_result (command.Step kind granularity) b =
+    event_with_body (event.Step (step_request kind granularity)) body.Empty b
+command_result command.Pause b = event_with_body event.Pause body.Empty b
+command_result (command.Disassemble address offset instruction_offset count) b =
+    code_lines_result address offset instruction_offset count b
+command_result (command.Source path) b = event_result (event.Show (view.Source path)) b
+command_result (command.DumpCell code) b = cell_dump code b
+command_result command.DebugInfo b = event_result (event.Show view.Info) b
+command_result command.InspectVariables b = event_result (event.Show (view.Variables 1 0 0)) b
+command_result (command.SetVariable reference name value) b = event_result (event.Poke reference name value) b
+command_result (command.BoardSwitches value) b = event_with_body (event.Switches value) body.Empty b
+command_result (command.BoardPress vector) b = event_with_body (event.Press vector) body.Empty b
+command_result (command.BoardType text) b = event_with_body (event.Typed (latin_bytes text)) body.Empty b
+command_result command.BoardReset b = event_with_body event.Reset body.Empty b
+command_result (command.BoardAliases aliases) b =
+    event_with_body (event.SetBoard (board_with aliases)) body.Empty b
 
 -- no list of lines is longer than a board takes
 abbrev pub IsPerformable : DapCommand → Type 0

@@ -1,6 +1,6 @@
 //! Events of a board, each with the body of a response.
 ghost use Rattle.lab_core.specs.Events.{Fits};
-ghost use Rattle.dap_board.specs.Commands.{answered, done, Performs};
+ghost use Rattle.dap_board.specs.Commands.{event_result, event_with_body, Performs};
 
 use crate::body::body_of;
 use dap_answers::answer::Body;
@@ -11,7 +11,7 @@ use lab_core::lab::Lab;
 /// Does an event, and gives the body that carries its answer.
 pub fn answer_to(lab: &mut Lab, event: &Event) -> Result<Body, EventFault>
     requires { Fits event.now }
-    ensures { Performs (answered event.now) lab.old result lab.new }
+    ensures { Performs (event_result event.now) lab.old result lab.new }
 {
     let answer = lab.apply(event)?;
     Ok(body_of(answer))
@@ -20,7 +20,7 @@ pub fn answer_to(lab: &mut Lab, event: &Event) -> Result<Body, EventFault>
 /// Does an event, and gives this body.
 pub fn apply_for(lab: &mut Lab, event: &Event, body: Body) -> Result<Body, EventFault>
     requires { Fits event.now }
-    ensures { Performs (done event.now body) lab.old result lab.new }
+    ensures { Performs (event_with_body event.now body) lab.old result lab.new }
 {
     match lab.apply(event) {
         Ok(_) => Ok(body),

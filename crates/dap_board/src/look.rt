@@ -1,7 +1,7 @@
 //! The commands that look at a board and change nothing.
 ghost use Rattle.std.specs.Prelude.{◌≡◌, ◌+◌};
 ghost use Rattle.i80_exec.specs.State.{wrapped};
-ghost use Rattle.dap_board.specs.Commands.{performed, answered, disassembled, Performs, IsLook};
+ghost use Rattle.dap_board.specs.Commands.{command_result, event_result, code_lines_result, Performs, IsLook};
 
 use crate::event::answer_to;
 use crate::far::after_instructions;
@@ -18,26 +18,27 @@ const REGISTERS: u32 = 1;
 
 /// What a view shows.
 fn show(lab: &mut Lab, view: View) -> Result<Body, EventFault>
-    ensures { Performs (answered (Event.Show view)) lab.old result lab.new }
+    ensures { Performs (event_result (Event.Show view)) lab.old result lab.new }
 {
     answer_to(lab, &Event::Show(view))
 }
 
 fn source(lab: &mut Lab, path: &Text) -> Result<Body, EventFault>
-    ensures { Performs (answered (Event.Show (View.Source path.now))) lab.old result lab.new }
+    ensures { Performs (event_result (Event.Show (View.Source path.now))) lab.old result lab.new }
 {
     let path = path.clone()?;
     show(lab, View::Source(path))
 }
 
 fn stack_trace(lab: &mut Lab, start: u32, levels: u32) -> Result<Body, EventFault>
-    ensures { Performs (answered (Event.Show (View.Frames start levels))) lab.old result lab.new }
+    ensures { Performs (event_result (Event.Show (View.Frames start levels))) lab.old result lab.new }
 {
     show(lab, View::Frames { start, levels })
 }
 
 fn variables(lab: &mut Lab, reference: u32, start: u32, count: u32) -> Result<Body, EventFault>
-    ensures { Performs (answered (Event.Show (View.Variables reference start count))) lab.old result lab.new }
+    ensures { Performs (event_result (Event.Show
+        (View.Variables reference start count))) lab.old result lab.new }
 {
     show(
         lab,
@@ -63,7 +64,7 @@ fn disassemble(
     instruction_offset: u32,
     count: u16,
 ) -> Result<Body, EventFault>
-    ensures { Performs (disassembled address offset instruction_offset count) lab.old result lab.new }
+    ensures { Performs (code_lines_result address offset instruction_offset count) lab.old result lab.new }
 {
     let first = after_instructions(lab, address_after(address, offset), instruction_offset);
     show(
@@ -76,10 +77,10 @@ fn disassemble(
 }
 
 /// The body of a command that looks at the board, or why the board refuses it.
-#[tactic(auto, using(crate::proofs::CommandLemmas::of_known), unfolding(crate::specs::Commands::performed))]
+#[tactic(auto, using(crate::proofs::CommandLemmas::of_known), unfolding(crate::specs::Commands::command_result,))]
 pub fn look(lab: &mut Lab, command: &DapCommand) -> Result<Body, EventFault>
     requires { IsLook command.now }
-    ensures { Performs (performed command.now) lab.old result lab.new }
+    ensures { Performs (command_result command.now) lab.old result lab.new }
 {
     match command {
         DapCommand::StackTrace {

@@ -1,7 +1,8 @@
 //! Debug commands, each carried out on a board.
 ghost use Rattle.std.specs.Prelude.{◌≡◌, ◌≤◌, length};
 ghost use Rattle.base_text.specs.Latin.{latin_bytes};
-ghost use Rattle.dap_board.specs.Commands.{performed, answered, done, dumped, step_request, board_with};
+ghost use Rattle.dap_board.specs.Commands.{command_result, event_result, event_with_body, cell_dump};
+ghost use Rattle.dap_board.specs.Commands.{step_request, board_with};
 ghost use Rattle.dap_board.specs.Commands.{Performs, IsPerformable};
 
 use crate::event::{answer_to, apply_for};
@@ -21,7 +22,7 @@ use std::alloc::Global;
 
 fn set_breakpoints(lab: &mut Lab, path: &Text, lines: &Sequence<u32>) -> Result<Body, EventFault>
     requires { length lines.now ≤ 256 }
-    ensures { Performs (answered (Event.SetBreakpoints path.now lines.now)) lab.old result lab.new }
+    ensures { Performs (event_result (Event.SetBreakpoints path.now lines.now)) lab.old result lab.new }
 {
     let path = path.clone()?;
     let lines = lines.clone()?;
@@ -29,7 +30,8 @@ fn set_breakpoints(lab: &mut Lab, path: &Text, lines: &Sequence<u32>) -> Result<
 }
 
 fn step(lab: &mut Lab, kind: StepKind, granularity: Granularity) -> Result<Body, EventFault>
-    ensures { Performs (done (Event.Step (step_request kind granularity)) Body.Empty) lab.old result lab.new }
+    ensures { Performs (event_with_body (Event.Step
+        (step_request kind granularity)) Body.Empty) lab.old result lab.new }
 {
     let request = step_request(kind, granularity);
     apply_for(lab, &Event::Step(request), Body::Empty)
@@ -38,7 +40,7 @@ fn step(lab: &mut Lab, kind: StepKind, granularity: Granularity) -> Result<Body,
 /// Keeps a cell's text under the path by which a frontend knows it, and answers the path. The copies
 /// are made first, so that want of memory can't come once the text is kept.
 fn dump_cell(alloc: Global, lab: &mut Lab, code: &Text) -> Result<Body, EventFault>
-    ensures { Performs (dumped code.now) lab.old result lab.new }
+    ensures { Performs (cell_dump code.now) lab.old result lab.new }
 {
     let path = cell_path(alloc, code.as_str())?;
     let text = code.clone()?;
@@ -53,7 +55,7 @@ fn set_variable(
     name: &Text,
     value: &Text,
 ) -> Result<Body, EventFault>
-    ensures { Performs (answered (Event.Poke reference name.now value.now)) lab.old result lab.new }
+    ensures { Performs (event_result (Event.Poke reference name.now value.now)) lab.old result lab.new }
 {
     let name = name.clone()?;
     let value = value.clone()?;
@@ -77,7 +79,8 @@ fn board_with_aliases(aliases: bool) -> Board
 
 /// Types a text at the console: each character as its byte in ISO 8859-1, `?` where it has none.
 fn type_text(alloc: Global, lab: &mut Lab, text: &Text) -> Result<Body, EventFault>
-    ensures { Performs (done (Event.Typed (latin_bytes text.now)) Body.Empty) lab.old result lab.new }
+    ensures { Performs (event_with_body (Event.Typed
+        (latin_bytes text.now)) Body.Empty) lab.old result lab.new }
 {
     let bytes = to_bytes(alloc, text.as_str())?;
     apply_for(lab, &Event::Typed(bytes), Body::Empty)
@@ -86,10 +89,10 @@ fn type_text(alloc: Global, lab: &mut Lab, text: &Text) -> Result<Body, EventFau
 /// Carries out a command on a board (Debug Adapter Protocol, "Requests"; Jupyter messaging, "Debug
 /// request"): the body of its response, or why the board refuses it. Where memory is wanting the board
 /// is as it was too.
-#[tactic(auto, using(crate::proofs::CommandLemmas::of_known), unfolding(crate::specs::Commands::performed))]
+#[tactic(auto, using(crate::proofs::CommandLemmas::of_known), unfolding(crate::specs::Commands::command_result,))]
 pub fn perform(alloc: Global, lab: &mut Lab, command: &DapCommand) -> Result<Body, EventFault>
     requires { IsPerformable command.now }
-    ensures { Performs (performed command.now) lab.old result lab.new }
+    ensures { Performs (command_result command.now) lab.old result lab.new }
 {
     match command {
         DapCommand::Initialize => Ok(Body::Capabilities),

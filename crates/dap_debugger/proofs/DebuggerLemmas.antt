@@ -5,7 +5,7 @@ use Rattle.dap_editor.specs.declared.message.Message.{Message}
 use Rattle.dap_session.specs.States.{SessionState, opened}
 use Rattle.dap_session.specs.Slices.{Input, step, played}
 use Rattle.dap_session.specs.Stands.{StandsFor, Tells}
-use Rattle.dap_debugger.specs.Sending.{sent_bytes, joined}
+use Rattle.dap_debugger.specs.Sending.{sent_bytes, concat_messages}
 use Rattle.dap_debugger.specs.Debuggers.{DebuggerState, Past}
 use Rattle.dap_debugger.proofs.SendingLemmas.{sent_bytes-append}
 
@@ -26,21 +26,23 @@ played_state [] input s = refl
 played_state (i ∷ inputs) input s = played_state inputs input (step i s).state
 
 joined_push : (lists : List (List Message)) (messages : List Message)
-    → joined (lists ++ messages ∷ []) ≡ joined lists ++ messages
+    → concat_messages (lists ++ messages ∷ []) ≡ concat_messages lists ++ messages
 joined_push [] messages = append-nil messages
 joined_push (list ∷ lists) messages =
-    ap (λ m. list ++ m) (joined_push lists messages) ∙ sym (append_assoc list (joined lists) messages)
+    ap (λ m. list ++ m) (joined_push lists messages)
+    ∙ sym (append_assoc list (concat_messages lists) messages)
 
 -- a debugger that was told one thing more
 pub past_more : (old new : DebuggerState) (inputs : List Input) (bytes : List ℕ) (input : Input)
     (messages : List Message) (lists all : List (List Message)) → Past old inputs bytes
     → Tells (step input (played inputs opened).state) messages new.session → new.sent ≡ old.sent
-    → old.told ≡ joined lists → all ≡ lists ++ messages ∷ [] → new.told ≡ joined all
+    → old.told ≡ concat_messages lists → all ≡ lists ++ messages ∷ [] → new.told ≡ concat_messages all
     → Past new (inputs ++ input ∷ []) bytes
 past_more old new inputs bytes input messages lists all p tells sent old_is all_is new_is =
     let before = (played inputs opened).messages in
     let told : new.told ≡ old.told ++ messages =
-    new_is ∙ (ap joined all_is ∙ (joined_push lists messages ∙ ap (λ m. m ++ messages) (sym old_is))) in
+    new_is ∙ (ap concat_messages all_is ∙
+    (joined_push lists messages ∙ ap (λ m. m ++ messages) (sym old_is))) in
     record {
       session = subst (StandsFor new.session) (sym (played_state inputs input opened)) tells.1;
       before = p.before;

@@ -3,7 +3,7 @@ use Rattle.std.proofs.Common.{append_assoc, length-append}
 use Rattle.std.proofs.lemmas.List.{append-nil, nil_from_length}
 use Rattle.dap_stream.specs.Writing.{message_bytes}
 use Rattle.dap_editor.specs.declared.message.Message.{Message}
-use Rattle.dap_debugger.specs.Sending.{text_of, sent_bytes, joined}
+use Rattle.dap_debugger.specs.Sending.{text_of, sent_bytes, concat_messages}
 
 -- how far writing has come
 pub record HasPut (number sent : ℕ) (rest messages : List Message) (out before : List ℕ) : Type 0 where
@@ -43,27 +43,29 @@ sent_bytes-append sent (m ∷ a) b =
 -- how far writing of lists has come
 pub record HasPutLists (number sent : ℕ) (rest lists : List (List Message))
     (out before : List ℕ) : Type 0 where
-  pub count : number + length (joined rest) ≡ sent + length (joined lists)
-  pub bytes : out ++ sent_bytes number (joined rest) ≡ before ++ sent_bytes sent (joined lists)
+  pub count : number + length (concat_messages rest) ≡ sent + length (concat_messages lists)
+  pub bytes : out ++ sent_bytes number (concat_messages rest)
+      ≡ before ++ sent_bytes sent (concat_messages lists)
 
 pub lists_more : (number next sent : ℕ) (messages : List Message) (rest others lists : List (List Message))
     (out before new : List ℕ) → rest ≡ messages ∷ others → next ≡ number + length messages
     → new ≡ out ++ sent_bytes number messages → HasPutLists number sent rest lists out before
     → HasPutLists next sent others lists new before
 lists_more number next sent messages rest others lists out before new e n is h =
-    let k : joined rest ≡ messages ++ joined others = ap joined e in
+    let k : concat_messages rest ≡ messages ++ concat_messages others = ap concat_messages e in
     let l = ap length k in
     let c = h.count in
     record {
-      count = omega (arith, n, l, c, length-append messages (joined others));
-      bytes = ap (λ b. b ++ sent_bytes next (joined others)) is
-          ∙ (append_assoc out (sent_bytes number messages) (sent_bytes next (joined others))
-          ∙ (ap (λ m. out ++ (sent_bytes number messages ++ sent_bytes m (joined others))) n
-          ∙ (ap (λ b. out ++ b) (sym (sent_bytes-append number messages (joined others)))
+      count = omega (arith, n, l, c, length-append messages (concat_messages others));
+      bytes = ap (λ b. b ++ sent_bytes next (concat_messages others)) is
+          ∙ (append_assoc out (sent_bytes number messages) (sent_bytes next (concat_messages others))
+          ∙ (ap (λ m. out ++ (sent_bytes number messages ++ sent_bytes m (concat_messages others))) n
+          ∙ (ap (λ b. out ++ b) (sym (sent_bytes-append number messages (concat_messages others)))
           ∙ (ap (λ m. out ++ sent_bytes number m) (sym k) ∙ h.bytes))));
     }
 
 pub lists_all : (number sent : ℕ) (rest lists : List (List Message)) (out before : List ℕ) → length rest ≡ 0
-    → HasPutLists number sent rest lists out before → out ≡ before ++ sent_bytes sent (joined lists)
+    → HasPutLists number sent rest lists out before → out ≡ before ++ sent_bytes sent (concat_messages lists)
 lists_all number sent rest lists out before none h =
-    sym (ap (λ l. out ++ sent_bytes number (joined l)) (nil_from_length rest none) ∙ append-nil out) ∙ h.bytes
+    sym (ap (λ l. out ++ sent_bytes number (concat_messages l)) (nil_from_length rest none)
+    ∙ append-nil out) ∙ h.bytes

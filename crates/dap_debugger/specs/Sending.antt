@@ -17,6 +17,6 @@ sent_bytes sent (message ∷ messages) =
     message_bytes (text_of (sent + 1) message) ++ sent_bytes (sent + 1) messages
 
 -- lists one after another
-abbrev pub joined : List (List Message) → List Message
-joined [] = []
-joined (messages ∷ lists) = messages ++ joined lists
+abbrev pub concat_messages : List (List Message) → List Message
+concat_messages [] = []
+concat_messages (messages ∷ lists) = messages ++ concat_messages lists

@@ -24,11 +24,11 @@ pub struct Debugger {
 
 impl Model for Debugger {
     ghost use Rattle.dap_debugger.specs.Debuggers.{DebuggerState};
-    ghost use Rattle.dap_debugger.specs.Sending.{joined};
+    ghost use Rattle.dap_debugger.specs.Sending.{concat_messages};
 
     ghost Value = { DebuggerState };
 
-    ghost view = { λ d. record { session = d.session; sent = d.sent; told = joined d.told.items } };
+    ghost view = { λ d. record { session = d.session; sent = d.sent; told = concat_messages d.told.items } };
 }
 
 impl Debugger {

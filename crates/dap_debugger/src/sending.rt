@@ -1,7 +1,7 @@
 //! Messages as the bytes that go out.
 ghost use Rattle.std.specs.Prelude.{◌≡◌, ◌+◌, ◌++◌, length, IfOk, OnOk, string_bytes};
 ghost use Rattle.dap_stream.specs.Writing.{message_bytes};
-ghost use Rattle.dap_debugger.specs.Sending.{text_of, sent_bytes, joined};
+ghost use Rattle.dap_debugger.specs.Sending.{text_of, sent_bytes, concat_messages};
 
 use base_text::sequence::Sequence;
 use dap_editor::json::message_json;
@@ -63,8 +63,9 @@ pub fn put_all(
     lists: &[Sequence<Message>],
     out: &mut Vec<u8>,
 ) -> Result<u64, AllocError>
-    ensures count { IfOk result (λ now. now ≡ sent + length (joined lists.now)) }
-    ensures bytes { OnOk result (out.new.items ≡ out.old.items ++ sent_bytes sent (joined lists.now)) }
+    ensures count { IfOk result (λ now. now ≡ sent + length (concat_messages lists.now)) }
+    ensures bytes { OnOk result (out.new.items
+        ≡ out.old.items ++ sent_bytes sent (concat_messages lists.now)) }
 {
     let mut number = sent;
     let mut rest = lists;

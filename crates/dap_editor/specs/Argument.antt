@@ -38,8 +38,8 @@ use Rattle.dap_editor.specs.declared.request.EvaluateContext.TheVariants.{Repl, 
 -- ---- where they stand
 
 -- what the argument at a key is as one of a kind
-abbrev pub required : {T : Type 0} → Text → (Data → Option T) → Data → Option T
-required key kind request = option_and_then (option_and_then kind) (argument_at key request)
+abbrev pub required_argument : {T : Type 0} → Text → (Data → Option T) → Data → Option T
+required_argument key kind request = option_and_then (option_and_then kind) (argument_at key request)
 
 abbrev pub kind_or : {T : Type 0} → (Data → Option T) → T → Option Data → Option T
 kind_or kind absent None = Some absent

@@ -29,7 +29,7 @@ use Rattle.dap_editor.specs.declared.request.Asked.{Asked}
 use Rattle.dap_editor.specs.declared.request.Asked.TheVariants.{Board, Editor, Faulty}
 use Rattle.dap_editor.specs.declared.request.EditorRequest.{EditorRequest}
 use Rattle.dap_editor.specs.Argument.{IsBackWithin}
-use Rattle.dap_editor.specs.Table.{named, asked}
+use Rattle.dap_editor.specs.Table.{command_named, command_asked}
 
 -- ---- arguments that are `null`
 
@@ -62,7 +62,7 @@ asked_of_editor None = Faulty Arguments
 asked_of_editor (Some c) = Editor c
 
 abbrev pub asked_by : Option EditorName → Data → Asked
-asked_by (Some name) d = asked_of_editor (asked name d)
+asked_by (Some name) d = asked_of_editor (command_asked name d)
 asked_by None d = asked_of_board (reading d)
 
 -- ---- the request
@@ -72,7 +72,7 @@ abbrev pub unreadable : EditorRequest
 unreadable = record { seq = 0; command = []; asked = Faulty NotRequest }
 
 abbrev pub request_of : Envelope → Data → EditorRequest
-request_of e d = record { seq = e.seq; command = e.command; asked = asked_by (named e.command) d }
+request_of e d = record { seq = e.seq; command = e.command; asked = asked_by (command_named e.command) d }
 
 abbrev pub request_in : Data → Option Envelope → EditorRequest
 request_in d None = unreadable

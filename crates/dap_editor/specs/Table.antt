@@ -31,19 +31,19 @@ use Rattle.dap_editor.specs.declared.request.Shift.TheVariants.{Forward, Back}
 use Rattle.dap_editor.specs.declared.request.EvaluateContext.TheVariants.{Other}
 use Rattle.dap_editor.specs.declared.request.EditorCommand.{EditorCommand}
 use Rattle.dap_editor.specs.declared.request.EditorCommand.TheVariants as command
-use Rattle.dap_editor.specs.Argument.{required, optional, address, shift, context, functions, base64}
+use Rattle.dap_editor.specs.Argument.{required_argument, optional, address, shift, context, functions, base64}
 
-abbrev pub spelled : EditorName → Text
-spelled name.Launch = codes "launch"
-spelled name.Restart = codes "restart"
-spelled name.Terminate = codes "terminate"
-spelled name.SetFunctionBreakpoints = codes "setFunctionBreakpoints"
-spelled name.SetExceptionBreakpoints = codes "setExceptionBreakpoints"
-spelled name.Evaluate = codes "evaluate"
-spelled name.ReadMemory = codes "readMemory"
-spelled name.WriteMemory = codes "writeMemory"
-spelled name.Disassemble = codes "disassemble"
-spelled name.LoadedSources = codes "loadedSources"
+abbrev pub spelling_of : EditorName → Text
+spelling_of name.Launch = codes "launch"
+spelling_of name.Restart = codes "restart"
+spelling_of name.Terminate = codes "terminate"
+spelling_of name.SetFunctionBreakpoints = codes "setFunctionBreakpoints"
+spelling_of name.SetExceptionBreakpoints = codes "setExceptionBreakpoints"
+spelling_of name.Evaluate = codes "evaluate"
+spelling_of name.ReadMemory = codes "readMemory"
+spelling_of name.WriteMemory = codes "writeMemory"
+spelling_of name.Disassemble = codes "disassemble"
+spelling_of name.LoadedSources = codes "loadedSources"
 
 -- ---- what each asks for
 
@@ -63,11 +63,11 @@ abbrev pub offset : Data → Option Shift
 offset = optional (codes "offset") (shift 4294967295) (Forward 0)
 
 abbrev pub memory_reference : Data → Option ℕ
-memory_reference = required (codes "memoryReference") address
+memory_reference = required_argument (codes "memoryReference") address
 
 abbrev pub launch_asked : Data → Option EditorCommand
 launch_asked d =
-    required (codes "program") as_str d then_with λ program.
+    required_argument (codes "program") as_str d then_with λ program.
     optional (codes "stopOnEntry") as_bool false d then_with λ stops_on_entry.
     optional (codes "noDebug") as_bool false d then_with λ only_runs.
     optional (codes "aliases") as_bool false d then_with λ has_aliases.
@@ -82,7 +82,7 @@ launch_asked d =
 
 abbrev pub evaluate_asked : Data → Option EditorCommand
 evaluate_asked d =
-    required (codes "expression") as_str d then_with λ expression.
+    required_argument (codes "expression") as_str d then_with λ expression.
     optional (codes "context") context Other d then_with λ where_shown.
     Some (command.Evaluate expression where_shown)
 
@@ -90,14 +90,14 @@ abbrev pub read_memory_asked : Data → Option EditorCommand
 read_memory_asked d =
     memory_reference d then_with λ from.
     offset d then_with λ bytes.
-    required (codes "count") any_number d then_with λ count.
+    required_argument (codes "count") any_number d then_with λ count.
     Some (command.ReadMemory from bytes count)
 
 abbrev pub write_memory_asked : Data → Option EditorCommand
 write_memory_asked d =
     memory_reference d then_with λ to.
     offset d then_with λ bytes.
-    required (codes "data") base64 d then_with λ content.
+    required_argument (codes "data") base64 d then_with λ content.
     Some (command.WriteMemory to bytes content)
 
 abbrev pub disassemble_asked : Data → Option EditorCommand
@@ -105,22 +105,22 @@ disassemble_asked d =
     memory_reference d then_with λ from.
     offset d then_with λ bytes.
     optional (codes "instructionOffset") (shift 65536) (Forward 0) d then_with λ instructions.
-    required (codes "instructionCount") (whole_between 1 1024) d then_with λ count.
+    required_argument (codes "instructionCount") (whole_between 1 1024) d then_with λ count.
     Some (command.Disassemble from bytes instructions count)
 
 -- what a request asks for by this command, if its arguments are as they must be
-abbrev pub asked : EditorName → Data → Option EditorCommand
-asked name.Launch d = launch_asked d
-asked name.Restart d = Some command.Restart
-asked name.Terminate d = Some command.Terminate
-asked name.SetFunctionBreakpoints d =
-    option_map command.SetFunctionBreakpoints (required (codes "breakpoints") functions d)
-asked name.SetExceptionBreakpoints d = Some command.SetExceptionBreakpoints
-asked name.Evaluate d = evaluate_asked d
-asked name.ReadMemory d = read_memory_asked d
-asked name.WriteMemory d = write_memory_asked d
-asked name.Disassemble d = disassemble_asked d
-asked name.LoadedSources d = Some command.LoadedSources
+abbrev pub command_asked : EditorName → Data → Option EditorCommand
+command_asked name.Launch d = launch_asked d
+command_asked name.Restart d = Some command.Restart
+command_asked name.Terminate d = Some command.Terminate
+command_asked name.SetFunctionBreakpoints d =
+    option_map command.SetFunctionBreakpoints (required_argument (codes "breakpoints") functions d)
+command_asked name.SetExceptionBreakpoints d = Some command.SetExceptionBreakpoints
+command_asked name.Evaluate d = evaluate_asked d
+command_asked name.ReadMemory d = read_memory_asked d
+command_asked name.WriteMemory d = write_memory_asked d
+command_asked name.Disassemble d = disassemble_asked d
+command_asked name.LoadedSources d = Some command.LoadedSources
 
 -- ---- the names
 
@@ -132,8 +132,8 @@ every_name =
 
 -- the first of these that is spelled so
 abbrev pub first_named : List EditorName → Text → Option EditorName
-first_named names t = find (λ name. bytes_eq (spelled name) t) names
+first_named names t = find (λ name. bytes_eq (spelling_of name) t) names
 
 -- the command that is spelled so, if there is one
-abbrev pub named : Text → Option EditorName
-named t = first_named every_name t
+abbrev pub command_named : Text → Option EditorName
+command_named t = first_named every_name t

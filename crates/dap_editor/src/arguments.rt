@@ -4,7 +4,8 @@ ghost use Rattle.serde_json.specs.Find.{as_str, as_bool, as_array};
 ghost use Rattle.serde_json.specs.View.{view, items_view};
 ghost use Rattle.dap_talk.specs.Argument.{whole_between, at_most_256};
 ghost use Rattle.dap_editor.specs.Answer.{Answers};
-ghost use Rattle.dap_editor.specs.Argument.{required, optional, address, IsBackWithin, shift_within, shift};
+ghost use Rattle.dap_editor.specs.Argument.{required_argument, optional, address, IsBackWithin};
+ghost use Rattle.dap_editor.specs.Argument.{shift_within, shift};
 ghost use Rattle.dap_editor.specs.Argument.{context, is_unconditional, function_of, functions_of};
 ghost use Rattle.dap_editor.specs.Argument.{breakpoints, functions, bytes_of, base64};
 ghost use Rattle.dap_editor.specs.Table.{byte, any_number, offset, memory_reference};
@@ -21,7 +22,7 @@ use std::alloc::Global;
 
 /// A text, which is required.
 pub fn text_at<'a>(request: &'a Value, key: &str) -> Option<&'a str>
-    ensures { option_map (λ t. t.now) result ≡ required key.now as_str (view request.now) }
+    ensures { option_map (λ t. t.now) result ≡ required_argument key.now as_str (view request.now) }
 {
     argument_at(request, key)??.as_str()
 }
@@ -48,14 +49,14 @@ pub fn byte_or_0(request: &Value, key: &str) -> Option<u8>
 
 /// A whole number of 32 bits, which is required.
 pub fn number_at(request: &Value, key: &str) -> Option<u32>
-    ensures { result ≡ required key.now any_number (view request.now) }
+    ensures { result ≡ required_argument key.now any_number (view request.now) }
 {
     whole_between(argument_at(request, key)??, 0, u32::MAX)
 }
 
 /// A whole number from 1 to 1,024, which is required.
 pub fn count_at(request: &Value, key: &str) -> Option<u16>
-    ensures value { result ≡ required key.now (whole_between 1 1024) (view request.now) }
+    ensures value { result ≡ required_argument key.now (whole_between 1 1024) (view request.now) }
     ensures from { IfSome result (λ n. 1 ≤ n) }
     ensures to { IfSome result (λ n. n ≤ 1024) }
 {
@@ -166,7 +167,7 @@ fn few_breakpoints(value: &Value) -> Option<&[Value]>
 
 fn breakpoints_at<'a>(request: &'a Value, key: &str) -> Option<&'a [Value]>
     ensures value { option_map (λ bs. items_view bs.now) result
-        ≡ required key.now breakpoints (view request.now) }
+        ≡ required_argument key.now breakpoints (view request.now) }
     ensures few { IfSome result (λ bs. length bs.now ≤ 256) }
 {
     few_breakpoints(argument_at(request, key)??)
@@ -178,7 +179,7 @@ pub fn functions_at(
     request: &Value,
     key: &str,
 ) -> Result<Sequence<Text>, ArgumentFault>
-    ensures answer { Answers (required key.now functions (view request.now)) result }
+    ensures answer { Answers (required_argument key.now functions (view request.now)) result }
     ensures few { IfOk result (λ names. length names ≤ 256) }
 {
     let breakpoints = breakpoints_at(request, key).ok_or(ArgumentFault::Arguments)?;
@@ -198,7 +199,7 @@ fn bytes_of(alloc: Global, text: &str) -> Result<Bytes, ArgumentFault>
 
 /// At most 65,536 bytes in base64, which are required.
 pub fn bytes_at(alloc: Global, request: &Value, key: &str) -> Result<Bytes, ArgumentFault>
-    ensures answer { Answers (required key.now base64 (view request.now)) result }
+    ensures answer { Answers (required_argument key.now base64 (view request.now)) result }
     ensures short { IfOk result (λ bytes. length bytes ≤ 65536) }
 {
     let text = text_at(request, key).ok_or(ArgumentFault::Arguments)?;

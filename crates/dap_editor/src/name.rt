@@ -1,6 +1,6 @@
 //! The commands that editors have and a kernel hasn't, or has with less.
 ghost use Rattle.std.specs.Prelude.{◌≡◌};
-ghost use Rattle.dap_editor.specs.Table.{spelled, first_named};
+ghost use Rattle.dap_editor.specs.Table.{spelling_of, first_named};
 
 /// A command of editors.
 #[derive(Clone, Copy)]
@@ -31,11 +31,11 @@ const EVERY_NAME: [EditorName; 10] = [
 ];
 
 impl EditorName {
-    ghost use Rattle.dap_editor.specs.Table.{named};
+    ghost use Rattle.dap_editor.specs.Table.{command_named};
 
     /// The text of `command` in requests.
     fn as_str(self) -> &'static str
-        ensures { result.now ≡ spelled self }
+        ensures { result.now ≡ spelling_of self }
     {
         match self {
             EditorName::Launch => "launch",
@@ -53,7 +53,7 @@ impl EditorName {
 
     /// The command of this text, if it is one.
     pub fn from_name(text: &str) -> Option<EditorName>
-        ensures { result ≡ named text.now }
+        ensures { result ≡ command_named text.now }
     {
         first_named(&EVERY_NAME, text)
     }

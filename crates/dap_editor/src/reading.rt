@@ -3,7 +3,8 @@ ghost use Rattle.std.specs.Prelude.{◌≡◌, IfOk, IfSome, OnErr, IsSome, Some
 ghost use Rattle.serde_json.specs.View.{view};
 ghost use Rattle.dap_talk.specs.Reading.{envelope_of, envelope_with, reading};
 ghost use Rattle.dap_editor.specs.Answer.{Answers};
-ghost use Rattle.dap_editor.specs.Table.{named, asked, launch_asked, evaluate_asked, read_memory_asked};
+ghost use Rattle.dap_editor.specs.Table.{command_named, command_asked, launch_asked, evaluate_asked};
+ghost use Rattle.dap_editor.specs.Table.{read_memory_asked};
 ghost use Rattle.dap_editor.specs.Table.{write_memory_asked, disassemble_asked};
 ghost use Rattle.dap_editor.specs.Reading.{has_null_arguments, bare_request, asked_of_board, asked_of_editor};
 ghost use Rattle.dap_editor.specs.Reading.{asked_by, unreadable, editor_request, IsCommandBounded, IsBounded};
@@ -42,7 +43,7 @@ fn launch(alloc: Global, request: &Value) -> Result<EditorCommand, ArgumentFault
 }
 
 fn set_function_breakpoints(alloc: Global, request: &Value) -> Result<EditorCommand, ArgumentFault>
-    ensures answer { Answers (asked EditorName.SetFunctionBreakpoints (view request.now)) result }
+    ensures answer { Answers (command_asked EditorName.SetFunctionBreakpoints (view request.now)) result }
     ensures bounded { IfOk result (λ c. IsCommandBounded c) }
 {
     let names = functions_at(alloc, request, "breakpoints")?;
@@ -118,7 +119,7 @@ fn read_command(
     name: EditorName,
     request: &Value,
 ) -> Result<EditorCommand, ArgumentFault>
-    ensures answer { Answers (asked name (view request.now)) result }
+    ensures answer { Answers (command_asked name (view request.now)) result }
     ensures bounded { IfOk result (λ c. IsCommandBounded c) }
 {
     match name {
@@ -136,7 +137,7 @@ fn read_command(
 }
 
 fn read_for_editor(alloc: Global, name: EditorName, request: &Value) -> Result<Asked, AllocError>
-    ensures read { IfOk result (λ a. a ≡ asked_of_editor (asked name (view request.now))) }
+    ensures read { IfOk result (λ a. a ≡ asked_of_editor (command_asked name (view request.now))) }
     ensures bounded { IfOk result (λ a. IsBounded a) }
 {
     match read_command(alloc, name, request) {
@@ -160,7 +161,7 @@ fn read_for_board(alloc: Global, request: &Value) -> Result<Asked, AllocError>
 }
 
 fn read_asked(alloc: Global, command: &str, request: &Value) -> Result<Asked, AllocError>
-    ensures read { IfOk result (λ a. a ≡ asked_by (named command.now) (view request.now)) }
+    ensures read { IfOk result (λ a. a ≡ asked_by (command_named command.now) (view request.now)) }
     ensures bounded { IfOk result (λ a. IsBounded a) }
 {
     match EditorName::from_name(command) {

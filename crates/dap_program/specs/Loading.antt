@@ -20,8 +20,8 @@ abbrev pub attached_where : Bool → Board → Board
 attached_where is_debugged b = if is_debugged then after event.Attach b else b
 
 -- the board that a program is loaded on
-abbrev pub prepared : Launch → Board
-prepared l = attached_where l.is_debugged
+abbrev pub board_to_load_on : Launch → Board
+board_to_load_on l = attached_where l.is_debugged
     (after (event.Switches l.switches) (after (event.SetBoard (board_with l.has_aliases)) opening))
 
 abbrev pub start_of : Answer → Option ℕ
@@ -42,8 +42,8 @@ loaded_by (Ok (a, b)) = with_start (start_of a) b
 loaded_by (Err f) = Err (fault_of f)
 
 -- the board with the program, and where that starts
-unfoldable pub loaded : Launch → Text → Result (Board × ℕ) LoadFault
-loaded l text = loaded_by (given (event.Load l.program text) (prepared l))
+unfoldable pub load_result : Launch → Text → Result (Board × ℕ) LoadFault
+load_result l text = loaded_by (given (event.Load l.program text) (board_to_load_on l))
 
 -- what is loaded is so
 abbrev pub Loads : Result (Board × ℕ) LoadFault → Result Loaded LoadFault → Type 0

@@ -18,11 +18,11 @@ abbrev pub accepted_outcome : EditorOutcome
 accepted_outcome = Success (Board Empty)
 
 -- those that are verified now
-abbrev pub changed : PlacedBreakpoint → Option EditorEvent
-changed p = if p.is_verified then Some (event.Breakpoint p) else None
+abbrev pub verified_event : PlacedBreakpoint → Option EditorEvent
+verified_event p = if p.is_verified then Some (event.Breakpoint p) else None
 
 abbrev pub changed_events : List PlacedBreakpoint → List EditorEvent
-changed_events points = filter_map changed points
+changed_events points = filter_map verified_event points
 
 -- A launch asks for the configuration; a restart keeps it.
 abbrev pub first_events : Occasion → List EditorEvent

@@ -3,7 +3,7 @@ ghost use Rattle.std.specs.Prelude.{◌≡◌, ◌≢◌, Err, IfOk};
 ghost use Rattle.lab_core.specs.Board.{opening};
 ghost use Rattle.lab_core.specs.Labs.{StandsFor};
 ghost use Rattle.dap_board.specs.Commands.{board_with};
-ghost use Rattle.dap_program.specs.Loading.{prepared, start_of, fault_of, loaded, Loads};
+ghost use Rattle.dap_program.specs.Loading.{board_to_load_on, start_of, fault_of, load_result, Loads};
 
 use crate::change::change_surely;
 use base_text::text::Text;
@@ -54,7 +54,7 @@ fn board_with_aliases(has_aliases: bool) -> Board
 // Prepares a new board as a launch wants it.
 fn prepare(lab: &mut Lab, launch: &Launch)
     requires { StandsFor lab.old opening }
-    ensures { StandsFor lab.new (prepared launch.now) }
+    ensures { StandsFor lab.new (board_to_load_on launch.now) }
 {
     change_surely(lab, Event::SetBoard(board_with_aliases(launch.has_aliases)));
     change_surely(lab, Event::Switches(launch.switches));
@@ -91,7 +91,7 @@ fn load_event(launch: &Launch, text: &Text) -> Result<Event, AllocError>
 
 /// Loads a program's text on a new board. That memory was wanting may be told in place of any other fault.
 pub fn load(alloc: Global, launch: &Launch, text: &Text) -> Result<Loaded, LoadFault>
-    ensures { result ≢ Err LoadFault.OutOfMemory → Loads (loaded launch.now text.now) result }
+    ensures { result ≢ Err LoadFault.OutOfMemory → Loads (load_result launch.now text.now) result }
 {
     let event = load_event(launch, text)?;
     let mut lab = Lab::new(alloc)?;

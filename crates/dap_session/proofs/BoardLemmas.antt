@@ -26,7 +26,8 @@ use Rattle.dap_editor.specs.declared.request.Launch.{Launch}
 use Rattle.dap_program.specs.declared.load.LoadFault.{LoadFault}
 use Rattle.dap_program.specs.Boards.{board_after, after, begun}
 use Rattle.dap_program.specs.Breakpoints.{armed}
-use Rattle.dap_program.specs.Loading.{attached_where, prepared, start_of, with_start, loaded_by, loaded}
+use Rattle.dap_program.specs.Loading.{attached_where, board_to_load_on, start_of, with_start, loaded_by}
+use Rattle.dap_program.specs.Loading.{load_result}
 use Rattle.dap_program.specs.Memory.{poke_of, written}
 use Rattle.dap_session.specs.declared.settings.Program.{Program}
 use Rattle.dap_session.specs.Breakpoints.{armed_where, labels_armed}
@@ -242,9 +243,9 @@ loaded_so (Ok (a, b')) l b kept none attached =
     loaded_start (start_of a) l b' (kept.run ∙ none) (kept.is_attached ∙ attached)
 loaded_so (Err f) l b kept none attached = tt
 
-pub is_loaded : (l : Launch) (text : Text) → IsLoaded l (loaded l text)
-unfolding loaded
+pub is_loaded : (l : Launch) (text : Text) → IsLoaded l (load_result l text)
+unfolding load_result
 is_loaded l text =
-    let b = prepared l in
+    let b = board_to_load_on l in
     loaded_so (given (event.Load l.program text) b) l b (kept_load l.program text b)
     (attached_run l.is_debugged _) (attached_so l.is_debugged _ refl)

@@ -32,7 +32,7 @@ use Rattle.dap_program.specs.declared.messages.Follow.TheVariants as follow
 use Rattle.dap_program.specs.declared.opening.Occasion.{Occasion}
 use Rattle.dap_program.specs.declared.opening.Occasion.TheVariants.{Launch, Restart}
 use Rattle.dap_program.specs.Failures.{load_event}
-use Rattle.dap_program.specs.Loading.{loaded}
+use Rattle.dap_program.specs.Loading.{load_result}
 use Rattle.dap_program.specs.Openings.{changed_events, first_events, opening_events}
 use Rattle.dap_program.specs.Messages.{told, events_of}
 use Rattle.lab_slice.specs.Slices.{slice_end}
@@ -149,7 +149,7 @@ silent_loading (Err f) o l text s = silent_load l.program f
 
 silent_text : (t : Result Text Text) (o : Occasion) (l : LaunchOf) (s : SessionState)
     → IsSilent (by_text t s (λ text. loading o l text s)).events
-silent_text (Ok text) o l s = silent_loading (loaded l text) o l text s
+silent_text (Ok text) o l s = silent_loading (load_result l text) o l text s
 silent_text (Err message) o l s = refl
 
 silent_launch : (p : Option Program) (l : LaunchOf) (found : Option FileText) (s : SessionState)

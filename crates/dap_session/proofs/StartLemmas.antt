@@ -22,7 +22,7 @@ use Rattle.dap_program.specs.declared.opening.Occasion.{Occasion}
 use Rattle.dap_program.specs.declared.opening.Occasion.TheVariants.{Launch, Restart}
 use Rattle.dap_program.specs.Boards.{begun}
 use Rattle.dap_program.specs.Failures.{load_event}
-use Rattle.dap_program.specs.Loading.{loaded}
+use Rattle.dap_program.specs.Loading.{load_result}
 use Rattle.dap_program.specs.Messages.{told, events_of}
 use Rattle.dap_program.specs.Openings.{changed_events, first_events}
 use Rattle.dap_session.specs.declared.file.FileText.{FileText}
@@ -217,7 +217,7 @@ follows_text : (t : Result Text Text) (o : Occasion) (l : LaunchOf) (s : Session
     → GoesOn (shown_for s.board.run) (going_follow o)
     → FollowsTurn s (by_text t s (λ text. loading o l text s))
 follows_text (Ok text) o l s reached goes =
-    follows_loaded (loaded l text) o l text s reached (is_loaded l text) goes
+    follows_loaded (load_result l text) o l text s reached (is_loaded l text) goes
 follows_text (Err message) o l s reached goes = (still s s reached refl).follows
 
 pub follows_launch : (o : Option Program) (l : LaunchOf) (found : Option FileText) (s : SessionState)

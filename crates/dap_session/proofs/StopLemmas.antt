@@ -25,7 +25,7 @@ use Rattle.dap_answers.specs.Murmur.{cell_path}
 use Rattle.dap_talk.specs.declared.command.DapCommand.{DapCommand}
 use Rattle.dap_talk.specs.declared.command.DapCommand.TheVariants as command
 use Rattle.dap_board.specs.Bodies.{body_of}
-use Rattle.dap_board.specs.Commands.{first_line, performed, board_with, step_request}
+use Rattle.dap_board.specs.Commands.{first_line, command_result, board_with, step_request}
 use Rattle.dap_editor.specs.declared.request.Asked.{Asked}
 use Rattle.dap_editor.specs.declared.request.Asked.TheVariants as asked
 use Rattle.dap_editor.specs.declared.request.EditorCommand.{EditorCommand}
@@ -52,7 +52,7 @@ use Rattle.dap_session.proofs.StartLemmas.{follows_restart}
 -- ---- the requests that load nothing
 
 goes_command : (c : DapCommand) (s : SessionState) → IsReached (seen s) → GoesBy s (commanding c s)
-unfolding performed
+unfolding command_result
 goes_command command.Initialize s reached =
     goes_either s.settings.is_initialized s _ _ (still s s reached refl)
     (still s (initialized s) reached refl)

@@ -17,7 +17,7 @@ use Rattle.dap_answers.specs.declared.answer.Body.TheVariants as body
 use Rattle.dap_answers.specs.declared.answer.StopReason.TheVariants.{Pause as ByPause}
 use Rattle.dap_talk.specs.declared.command.DapCommand.TheVariants as command
 use Rattle.dap_board.specs.Bodies.{body_of}
-use Rattle.dap_board.specs.Commands.{performed, with_body}
+use Rattle.dap_board.specs.Commands.{command_result, with_body}
 use Rattle.dap_editor.specs.declared.message.EditorStop.TheVariants.{Board as AtBoard}
 use Rattle.dap_editor.specs.declared.request.EvaluateContext.{EvaluateContext}
 use Rattle.dap_editor.specs.declared.request.EvaluateContext.TheVariants as context
@@ -68,7 +68,7 @@ goes_word_done to_body (Err f) s reached kept = still s s reached refl
 
 goes_switches : (o : Option ℕ) (expression : Text) (s : SessionState) → IsReached (seen s)
     → GoesBy s (by_word (byte_word (λ value. command.BoardSwitches value) o) expression s)
-unfolding performed
+unfolding command_result
 goes_switches None expression s reached = still s s reached refl
 goes_switches (Some value) expression s reached =
     goes_word_done (λ _. body.Empty) (given (event.Switches value) s.board) s reached
@@ -76,15 +76,15 @@ goes_switches (Some value) expression s reached =
 
 goes_press : (o : Option ℕ) (expression : Text) (s : SessionState) → IsReached (seen s)
     → GoesBy s (by_word (byte_word (λ vector. command.BoardPress vector) o) expression s)
-unfolding performed
+unfolding command_result
 goes_press None expression s reached = still s s reached refl
 goes_press (Some vector) expression s reached =
     goes_word_done (λ _. body.Empty) (given (event.Press vector) s.board) s reached
     (kept_press vector s.board)
 
 goes_type : (text expression : Text) (s : SessionState) → IsReached (seen s)
-    → GoesBy s (word_done (performed (command.BoardType text) s.board) s)
-unfolding performed
+    → GoesBy s (word_done (command_result (command.BoardType text) s.board) s)
+unfolding command_result
 goes_type text expression s reached =
     goes_word_done (λ _. body.Empty) (given (event.Typed (latin_bytes text)) s.board) s reached
     (record { run = refl; is_attached = refl })
@@ -166,7 +166,7 @@ goes_resumed Stopped step to_body s is reached =
 -- ---- a program ends
 
 pub goes_resetting : (s : SessionState) → IsReached (seen s) → GoesBy s (resetting s)
-unfolding performed
+unfolding command_result
 goes_resetting s reached = goes_over (is_live s.settings.program) s _ refl reached refl
 
 seen_terminated : (s : SessionState)

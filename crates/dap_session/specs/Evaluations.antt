@@ -8,7 +8,7 @@ use Rattle.lab_views.specs.declared.poke_fault.PokeFault.{PokeFault}
 use Rattle.lab_views.specs.Values.{value_spelled}
 use Rattle.dap_talk.specs.declared.command.DapCommand.{DapCommand}
 use Rattle.dap_talk.specs.declared.command.DapCommand.TheVariants as command
-use Rattle.dap_board.specs.Commands.{Performed, IsPerformable, performed}
+use Rattle.dap_board.specs.Commands.{Performed, IsPerformable, command_result}
 use Rattle.dap_editor.specs.declared.request.EvaluateContext.{EvaluateContext}
 use Rattle.dap_editor.specs.declared.request.EvaluateContext.TheVariants.{Repl, Other}
 use Rattle.dap_editor.specs.declared.message.EditorBody.TheVariants.{Evaluation}
@@ -75,7 +75,7 @@ looking expression s = value_told (evaluated s.board expression) s
 -- ---- both
 
 abbrev pub by_word : Word → Text → SessionState → Replied
-by_word (word.Command c) expression s = word_done (performed c s.board) s
+by_word (word.Command c) expression s = word_done (command_result c s.board) s
 by_word word.NoByte expression s = refusing (codes "a number from 0 to 255 must follow") s
 by_word word.Expression expression s = looking expression s
 

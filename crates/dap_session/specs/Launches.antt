@@ -17,7 +17,7 @@ use Rattle.dap_program.specs.declared.opening.Occasion.TheVariants.{Launch, Rest
 use Rattle.dap_program.specs.Boards.{begun}
 use Rattle.dap_program.specs.Breakpoints.{armed, labels_behind}
 use Rattle.dap_program.specs.Failures.{load_refusal, load_event}
-use Rattle.dap_program.specs.Loading.{loaded}
+use Rattle.dap_program.specs.Loading.{load_result}
 use Rattle.dap_program.specs.Openings.{opening_events, accepted_outcome}
 use Rattle.dap_session.specs.declared.file.FileText.{FileText}
 use Rattle.dap_session.specs.declared.file.FileText.TheVariants as file
@@ -108,7 +108,7 @@ loading_as (Err f) occasion l text s = failing l.program f s
 
 -- a program is loaded in place of what is on the board
 abbrev pub loading : Occasion → LaunchOf → Text → SessionState → Turn
-loading occasion l text s = loading_as (loaded l text) occasion l text s
+loading occasion l text s = loading_as (load_result l text) occasion l text s
 
 -- ---- its text
 

@@ -6,7 +6,7 @@ use Rattle.lab_core.specs.declared.event.Event.TheVariants.{Interrupt}
 use Rattle.dap_answers.specs.declared.answer.StopReason.TheVariants.{Pause as ByPause}
 use Rattle.dap_talk.specs.declared.command.DapCommand.{DapCommand}
 use Rattle.dap_talk.specs.declared.command.DapCommand.TheVariants as command
-use Rattle.dap_board.specs.Commands.{Performed, performed}
+use Rattle.dap_board.specs.Commands.{Performed, command_result}
 use Rattle.dap_editor.specs.declared.message.EditorBody.TheVariants as body
 use Rattle.dap_editor.specs.declared.message.EditorStop.TheVariants.{Board as AtBoard}
 use Rattle.dap_editor.specs.declared.request.Asked.{Asked}
@@ -42,7 +42,7 @@ board_done (Ok (b, board)) f s = succeeding (body.Board b) f (with_board board s
 board_done (Err fault) f s = refusing (board_refusal fault) s
 
 abbrev pub performing : DapCommand → Follow → SessionState → Replied
-performing c f s = board_done (performed c s.board) f s
+performing c f s = board_done (command_result c s.board) f s
 
 -- ---- the end of a program
 

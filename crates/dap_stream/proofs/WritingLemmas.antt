@@ -12,7 +12,7 @@ use Rattle.std.proofs.lemmas.Str.Parse.{IsDigitsTest, IsNumeralModel, numerals_b
 use Rattle.dap_stream.specs.Header.{line_end, Field, IsHeader, IsAllowed, IsHeaderOf}
 use Rattle.dap_stream.specs.Spans.{IsName}
 use Rattle.dap_stream.specs.Stream.{IsMessage, Reads, Stays, Goes}
-use Rattle.dap_stream.specs.Writing.{header_bytes, message_bytes, written}
+use Rattle.dap_stream.specs.Writing.{header_bytes, message_bytes, bytes_of_messages}
 use Rattle.dap_stream.proofs.HeaderLemmas.{short_header}
 use Rattle.dap_stream.proofs.FrontLemmas.{line_is, length_value}
 
@@ -89,9 +89,9 @@ message_is body h =
     }
 
 pub written_reads : (bodies : List (List ℕ)) → All (λ body. length body ≤ 1048576) bodies
-    → Reads (written bodies) bodies []
+    → Reads (bytes_of_messages bodies) bodies []
 written_reads [] small = Stays []
 written_reads (body ∷ bodies) small =
-    Goes (written (body ∷ bodies)) (message_bytes body) (written bodies) body [] bodies
+    Goes (bytes_of_messages (body ∷ bodies)) (message_bytes body) (bytes_of_messages bodies) body [] bodies
     (message_is body (small 0 [] (omega arith))) refl
     (written_reads bodies (λ i d lt. small (suc i) d (omega arith)))

@@ -13,6 +13,6 @@ abbrev pub message_bytes : Bytes → Bytes
 message_bytes body = header_bytes (length body) ++ body
 
 -- messages of these bodies
-abbrev pub written : Bodies → Bytes
-written [] = []
-written (body ∷ bodies) = message_bytes body ++ written bodies
+abbrev pub bytes_of_messages : Bodies → Bytes
+bytes_of_messages [] = []
+bytes_of_messages (body ∷ bodies) = message_bytes body ++ bytes_of_messages bodies

@@ -2,7 +2,7 @@
 ghost use Rattle.std.specs.Prelude.{◌≡◌, ◌≤◌, [], length, All};
 ghost use Rattle.dap_stream.specs.Stream.{DecoderState, StandsFor, Reads};
 ghost use Rattle.dap_stream.specs.Wire.{Bytes, Bodies};
-ghost use Rattle.dap_stream.specs.Writing.{written};
+ghost use Rattle.dap_stream.specs.Writing.{bytes_of_messages};
 
 /// A stream has one reading, however it was cut into pieces: the same bodies, and the same state or fault.
 pub fn one_reading()
@@ -13,5 +13,5 @@ pub fn one_reading()
 /// What is written is read as these messages and nothing more.
 pub fn written_is_read()
     ensures { (bodies : Bodies) → All (λ body. length body ≤ 1048576) bodies
-        → Reads (written bodies) bodies [] }
+        → Reads (bytes_of_messages bodies) bodies [] }
 {}

@@ -40,9 +40,9 @@ use Rattle.dap_talk.specs.Argument.{
   found_number,
   found_lines,
   Argument,
-  required,
+  required_argument,
   argument_at,
-  found,
+  argument_value,
   found_or,
   all_found,
   line_of,
@@ -55,7 +55,7 @@ use Rattle.dap_talk.specs.Table.{
   arguments_of,
   command_of,
   name_of,
-  asked,
+  command_asked,
   IsBounded,
   number_in,
   lines_in,
@@ -77,7 +77,7 @@ made_of : (n : CommandName) (o : Option (List Found)) (c : DapCommand)
 made_of n None c e = absurd (cc)
 made_of n (Some vs) c e = (vs, refl, cc)
 
-pub name_of-asked : (n : CommandName) (d : Data) (c : DapCommand) → asked n d ≡ Some c
+pub name_of-asked : (n : CommandName) (d : Data) (c : DapCommand) → command_asked n d ≡ Some c
     → name_of c ≡ n
 name_of-asked n d c e =
     let made = made_of n (all_found (arguments_of n) d) c e in
@@ -124,7 +124,7 @@ counted_whole None v e = absurd (cc)
 counted_whole (Some n) v e = counted_by (nat_le 1 n && nat_le n 256) n v (within_count n) e
 
 counted_at : (key : List ℕ) (o : Option (Option Data)) (v : Found)
-    → option_and_then (found_or (required key count_to_256)) o ≡ Some v → IsCount v
+    → option_and_then (found_or (required_argument key count_to_256)) o ≡ Some v → IsCount v
 counted_at key None v e = absurd (cc)
 counted_at key (Some None) v e = absurd (cc)
 counted_at key (Some (Some x)) v e = counted_whole (whole x) v e
@@ -189,32 +189,32 @@ bounded_by n vs ws c made whole_is within =
     let along : command_of n ws ≡ c = ap (command_of n) whole_is ∙ made in
     subst IsBounded along within
 
-set_breakpoints_bounded : (d : Data) (c : DapCommand) → asked name.SetBreakpoints d ≡ Some c
+set_breakpoints_bounded : (d : Data) (c : DapCommand) → command_asked name.SetBreakpoints d ≡ Some c
     → IsBounded c
 set_breakpoints_bounded d c e =
     let made = made_of name.SetBreakpoints (all_found (arguments_of name.SetBreakpoints) d) c e in
-    let s : Splits _ _ _ = splits (found (required (codes "source") source) d) (all_found
+    let s : Splits _ _ _ = splits (argument_value (required_argument (codes "source") source) d) (all_found
     (breakpoints_or_none (codes "breakpoints") ∷ []) d) made.0 made.1 in
-    let t : Splits _ _ _ = splits (found (breakpoints_or_none (codes "breakpoints")) d)
+    let t : Splits _ _ _ = splits (argument_value (breakpoints_or_none (codes "breakpoints")) d)
     (Some []) s.others s.after in
     let short : IsShort t.first = short_at (codes "breakpoints") (argument_at
     (codes "breakpoints") d) t.first t.here in
     bounded_by name.SetBreakpoints made.0 (s.first ∷ t.first ∷ t.others) c made.2
     (two s.first t.first t.others s.others made.0 t.whole_is s.whole_is) short
 
-disassemble_bounded : (d : Data) (c : DapCommand) → asked name.Disassemble d ≡ Some c → IsBounded c
+disassemble_bounded : (d : Data) (c : DapCommand) → command_asked name.Disassemble d ≡ Some c → IsBounded c
 disassemble_bounded d c e =
     let made = made_of name.Disassemble (all_found (arguments_of name.Disassemble) d) c e in
-    let last : List Argument = required (codes "instructionCount") count_to_256 ∷ [] in
+    let last : List Argument = required_argument (codes "instructionCount") count_to_256 ∷ [] in
     let third : List Argument = number_or_0 (codes "instructionOffset") ∷ last in
     let second : List Argument = number_or_0 (codes "offset") ∷ third in
-    let s : Splits _ _ _ = splits (found (required (codes "memoryReference") address) d)
+    let s : Splits _ _ _ = splits (argument_value (required_argument (codes "memoryReference") address) d)
     (all_found second d) made.0 made.1 in
-    let t : Splits _ _ _ = splits (found (number_or_0 (codes "offset")) d)
+    let t : Splits _ _ _ = splits (argument_value (number_or_0 (codes "offset")) d)
     (all_found third d) s.others s.after in
-    let u : Splits _ _ _ = splits (found (number_or_0 (codes "instructionOffset")) d)
+    let u : Splits _ _ _ = splits (argument_value (number_or_0 (codes "instructionOffset")) d)
     (all_found last d) t.others t.after in
-    let v : Splits _ _ _ = splits (found (required (codes "instructionCount") count_to_256) d)
+    let v : Splits _ _ _ = splits (argument_value (required_argument (codes "instructionCount") count_to_256) d)
     (Some []) u.others u.after in
     let counted : IsCount v.first = counted_at (codes "instructionCount") (argument_at
     (codes "instructionCount") d) v.first v.here in
@@ -224,12 +224,12 @@ disassemble_bounded d c e =
 
 -- a command without bounds
 free : (n : CommandName) (d : Data) (c : DapCommand) → ((vs : List Found)
-    → IsBounded (command_of n vs)) → asked n d ≡ Some c → IsBounded c
+    → IsBounded (command_of n vs)) → command_asked n d ≡ Some c → IsBounded c
 free n d c all e =
     let made = made_of n (all_found (arguments_of n) d) c e in
     subst IsBounded made.2 (all made.0)
 
-pub asked_bounded : (n : CommandName) (d : Data) (c : DapCommand) → asked n d ≡ Some c → IsBounded c
+pub asked_bounded : (n : CommandName) (d : Data) (c : DapCommand) → command_asked n d ≡ Some c → IsBounded c
 asked_bounded name.SetBreakpoints d c e = set_breakpoints_bounded d c e
 asked_bounded name.Disassemble d c e = disassemble_bounded d c e
 asked_bounded n d c e = free n d c (λ vs. tt) e

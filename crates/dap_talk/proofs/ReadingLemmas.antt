@@ -7,10 +7,11 @@ use Rattle.dap_talk.specs.declared.command.DapCommand.TheVariants.{Step}
 use Rattle.dap_talk.specs.declared.command.StepKind.{StepKind}
 use Rattle.dap_talk.specs.declared.command.StepKind.TheVariants.{Over, In, Out}
 use Rattle.dap_talk.specs.Argument.{all_found}
-use Rattle.dap_talk.specs.Table.{granularity_or_line, granularity_in, nth, step_name, named, asked}
+use Rattle.dap_talk.specs.Table.{granularity_or_line, granularity_in, nth, step_name, command_named}
+use Rattle.dap_talk.specs.Table.{command_asked}
 use Rattle.dap_talk.specs.Reading.{Envelope, envelope_of, reading, reading_of_command, IsOfRequest}
 
-pub asked_step : (kind : StepKind) (d : Data) → asked (step_name kind) d
+pub asked_step : (kind : StepKind) (d : Data) → command_asked (step_name kind) d
     ≡ option_map (λ vs. Step kind (granularity_in (nth 0 vs)))
     (all_found (granularity_or_line (codes "granularity") ∷ []) d)
 asked_step Over d = refl
@@ -23,8 +24,8 @@ of_command e (Some c) is = tt
 of_command e None is = absurd (cc)
 
 pub of_request : (d : Data) (e : Envelope) (name : CommandName) → envelope_of d ≡ Some e
-    → named e.command ≡ Some name
-    → IsSome (asked name d) → IsOfRequest (reading d)
+    → command_named e.command ≡ Some name
+    → IsSome (command_asked name d) → IsOfRequest (reading d)
 unfolding reading
 of_request d e name is_envelope is_named is = rw (is_envelope, is_named) (of_command e
-    (asked name d) is)
+    (command_asked name d) is)

@@ -114,8 +114,8 @@ pub record Argument : Type 0 where
   pub kind : Kind
   pub absent : Option Found
 
-abbrev pub required : Text → Kind → Argument
-required key kind = record { key = key; kind = kind; absent = None }
+abbrev pub required_argument : Text → Kind → Argument
+required_argument key kind = record { key = key; kind = kind; absent = None }
 
 abbrev pub optional : Text → Kind → Found → Argument
 optional key kind absent = record { key = key; kind = kind; absent = Some absent }
@@ -132,8 +132,8 @@ abbrev pub found_or : Argument → Option Data → Option Found
 found_or argument None = argument.absent
 found_or argument (Some d) = found_in argument.kind d
 
-abbrev pub found : Argument → Data → Option Found
-found argument request = option_and_then (found_or argument) (argument_at argument.key request)
+abbrev pub argument_value : Argument → Data → Option Found
+argument_value argument request = option_and_then (found_or argument) (argument_at argument.key request)
 
 -- what is found for each, where each is as it must be
 abbrev pub all_found : List Argument → Data → Option (List Found)
@@ -141,4 +141,4 @@ all_found [] request = Some []
 all_found (argument ∷ arguments) request =
     option_and_then
     (λ first. option_map (λ others. first ∷ others) (all_found arguments request))
-    (found argument request)
+    (argument_value argument request)

@@ -24,7 +24,7 @@ use Rattle.dap_talk.specs.declared.command.DapRequest.{DapRequest}
 use Rattle.dap_talk.specs.declared.fault.DapFault.{DapFault}
 use Rattle.dap_talk.specs.declared.fault.DapFault.TheVariants as fault
 use Rattle.dap_talk.specs.Argument.{whole_between, text_at}
-use Rattle.dap_talk.specs.Table.{named, asked}
+use Rattle.dap_talk.specs.Table.{command_named, command_asked}
 
 -- the number and the text of the command of a request
 pub record Envelope : Type 0 where
@@ -35,8 +35,8 @@ abbrev pub envelope_with : ℕ → Text → Envelope
 envelope_with seq command = record { seq = seq; command = command }
 
 -- the type `request`
-abbrev pub marked : Data → Option Text
-marked d =
+abbrev pub request_type : Data → Option Text
+request_type d =
     option_and_then
     (λ t. if bytes_eq t (codes "request") then Some t else None)
     (text_at (codes "type") d)
@@ -52,7 +52,7 @@ abbrev pub envelope_of : Data → Option Envelope
 envelope_of d =
     option_and_then
     (λ kind. option_and_then (λ seq. option_map (envelope_with seq) (command_text d)) (seq_of d))
-    (marked d)
+    (request_type d)
 
 pub data Reading : Type 0 where
   not_request : Reading
@@ -66,11 +66,11 @@ reading_of_command e (Some command) = request e.seq command
 
 abbrev pub reading_of_name : Envelope → Data → Option CommandName → Reading
 reading_of_name e d None = unknown_command e.seq e.command
-reading_of_name e d (Some name) = reading_of_command e (asked name d)
+reading_of_name e d (Some name) = reading_of_command e (command_asked name d)
 
 abbrev pub reading_of_envelope : Data → Option Envelope → Reading
 reading_of_envelope d None = not_request
-reading_of_envelope d (Some e) = reading_of_name e d (named e.command)
+reading_of_envelope d (Some e) = reading_of_name e d (command_named e.command)
 
 -- a request whose command is in the table, with arguments as there
 unfoldable pub reading : Data → Reading

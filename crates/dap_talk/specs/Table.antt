@@ -43,37 +43,37 @@ use Rattle.dap_talk.specs.Argument.{
   found_lines,
   found_granularity,
   Argument,
-  required,
+  required_argument,
   optional,
   all_found,
 }
 
-abbrev pub spelled : CommandName → Text
-spelled name.Initialize = codes "initialize"
-spelled name.Attach = codes "attach"
-spelled name.Disconnect = codes "disconnect"
-spelled name.ConfigurationDone = codes "configurationDone"
-spelled name.SetBreakpoints = codes "setBreakpoints"
-spelled name.Threads = codes "threads"
-spelled name.StackTrace = codes "stackTrace"
-spelled name.Scopes = codes "scopes"
-spelled name.Variables = codes "variables"
-spelled name.SetVariable = codes "setVariable"
-spelled name.Continue = codes "continue"
-spelled name.Next = codes "next"
-spelled name.StepIn = codes "stepIn"
-spelled name.StepOut = codes "stepOut"
-spelled name.Pause = codes "pause"
-spelled name.Disassemble = codes "disassemble"
-spelled name.Source = codes "source"
-spelled name.DumpCell = codes "dumpCell"
-spelled name.DebugInfo = codes "debugInfo"
-spelled name.InspectVariables = codes "inspectVariables"
-spelled name.BoardSwitches = codes "boardSwitches"
-spelled name.BoardPress = codes "boardPress"
-spelled name.BoardType = codes "boardType"
-spelled name.BoardReset = codes "boardReset"
-spelled name.BoardAliases = codes "boardAliases"
+abbrev pub spelling_of : CommandName → Text
+spelling_of name.Initialize = codes "initialize"
+spelling_of name.Attach = codes "attach"
+spelling_of name.Disconnect = codes "disconnect"
+spelling_of name.ConfigurationDone = codes "configurationDone"
+spelling_of name.SetBreakpoints = codes "setBreakpoints"
+spelling_of name.Threads = codes "threads"
+spelling_of name.StackTrace = codes "stackTrace"
+spelling_of name.Scopes = codes "scopes"
+spelling_of name.Variables = codes "variables"
+spelling_of name.SetVariable = codes "setVariable"
+spelling_of name.Continue = codes "continue"
+spelling_of name.Next = codes "next"
+spelling_of name.StepIn = codes "stepIn"
+spelling_of name.StepOut = codes "stepOut"
+spelling_of name.Pause = codes "pause"
+spelling_of name.Disassemble = codes "disassemble"
+spelling_of name.Source = codes "source"
+spelling_of name.DumpCell = codes "dumpCell"
+spelling_of name.DebugInfo = codes "debugInfo"
+spelling_of name.InspectVariables = codes "inspectVariables"
+spelling_of name.BoardSwitches = codes "boardSwitches"
+spelling_of name.BoardPress = codes "boardPress"
+spelling_of name.BoardType = codes "boardType"
+spelling_of name.BoardReset = codes "boardReset"
+spelling_of name.BoardAliases = codes "boardAliases"
 
 -- a whole number of 32 bits
 abbrev pub any_number : Kind
@@ -101,37 +101,37 @@ arguments_of name.Attach = []
 arguments_of name.Disconnect = []
 arguments_of name.ConfigurationDone = []
 arguments_of name.SetBreakpoints =
-    required (codes "source") source ∷ breakpoints_or_none (codes "breakpoints") ∷ []
+    required_argument (codes "source") source ∷ breakpoints_or_none (codes "breakpoints") ∷ []
 arguments_of name.Threads = []
 arguments_of name.StackTrace = number_or_0 (codes "startFrame") ∷ number_or_0 (codes "levels") ∷ []
-arguments_of name.Scopes = required (codes "frameId") any_number ∷ []
+arguments_of name.Scopes = required_argument (codes "frameId") any_number ∷ []
 arguments_of name.Variables =
-    required (codes "variablesReference") any_number ∷
+    required_argument (codes "variablesReference") any_number ∷
     number_or_0 (codes "start") ∷
     number_or_0 (codes "count") ∷ []
 arguments_of name.SetVariable =
-    required (codes "variablesReference") any_number ∷
-    required (codes "name") text ∷
-    required (codes "value") text ∷ []
+    required_argument (codes "variablesReference") any_number ∷
+    required_argument (codes "name") text ∷
+    required_argument (codes "value") text ∷ []
 arguments_of name.Continue = []
 arguments_of name.Next = granularity_or_line (codes "granularity") ∷ []
 arguments_of name.StepIn = granularity_or_line (codes "granularity") ∷ []
 arguments_of name.StepOut = granularity_or_line (codes "granularity") ∷ []
 arguments_of name.Pause = []
 arguments_of name.Disassemble =
-    required (codes "memoryReference") address ∷
+    required_argument (codes "memoryReference") address ∷
     number_or_0 (codes "offset") ∷
     number_or_0 (codes "instructionOffset") ∷
-    required (codes "instructionCount") count_to_256 ∷ []
-arguments_of name.Source = required (codes "source") source ∷ []
-arguments_of name.DumpCell = required (codes "code") text ∷ []
+    required_argument (codes "instructionCount") count_to_256 ∷ []
+arguments_of name.Source = required_argument (codes "source") source ∷ []
+arguments_of name.DumpCell = required_argument (codes "code") text ∷ []
 arguments_of name.DebugInfo = []
 arguments_of name.InspectVariables = []
-arguments_of name.BoardSwitches = required (codes "value") byte ∷ []
-arguments_of name.BoardPress = required (codes "vector") byte ∷ []
-arguments_of name.BoardType = required (codes "text") text ∷ []
+arguments_of name.BoardSwitches = required_argument (codes "value") byte ∷ []
+arguments_of name.BoardPress = required_argument (codes "vector") byte ∷ []
+arguments_of name.BoardType = required_argument (codes "text") text ∷ []
 arguments_of name.BoardReset = []
-arguments_of name.BoardAliases = required (codes "aliases") truth ∷ []
+arguments_of name.BoardAliases = required_argument (codes "aliases") truth ∷ []
 
 -- ---- the typed command
 
@@ -231,8 +231,8 @@ IsBounded (command.Disassemble from offset instruction_offset count) = (1 ≤ co
 IsBounded other = Unit {0}
 
 -- what a request asks for by this command, if its arguments are as they must be
-abbrev pub asked : CommandName → Data → Option DapCommand
-asked name request = option_map (command_of name) (all_found (arguments_of name) request)
+abbrev pub command_asked : CommandName → Data → Option DapCommand
+command_asked name request = option_map (command_of name) (all_found (arguments_of name) request)
 
 -- ---- the names
 
@@ -247,8 +247,8 @@ every_name =
 
 -- the first of these that is spelled so
 abbrev pub first_named : List CommandName → Text → Option CommandName
-first_named names t = find (λ name. bytes_eq (spelled name) t) names
+first_named names t = find (λ name. bytes_eq (spelling_of name) t) names
 
 -- the command that is spelled so, if there is one
-abbrev pub named : Text → Option CommandName
-named t = first_named every_name t
+abbrev pub command_named : Text → Option CommandName
+command_named t = first_named every_name t

@@ -6,7 +6,7 @@ ghost use Rattle.dap_talk.specs.declared.arguments.ArgumentFault.TheVariants.{Ou
 ghost use Rattle.dap_talk.specs.Argument.{number, text, truth, source, address, found_number};
 ghost use Rattle.dap_talk.specs.Argument.{found_text, found_truth, found_lines, found_granularity};
 ghost use Rattle.dap_talk.specs.Argument.{whole_between, is_plain, line_of, lines_of, at_most_256};
-ghost use Rattle.dap_talk.specs.Argument.{address_of, argument_at, found, required};
+ghost use Rattle.dap_talk.specs.Argument.{address_of, argument_at, argument_value, required_argument};
 ghost use Rattle.dap_talk.specs.Table.{byte, count_to_256, number_or_0, breakpoints_or_none};
 ghost use Rattle.dap_talk.specs.Table.{granularity_or_line};
 
@@ -57,14 +57,14 @@ pub fn argument_at<'a>(request: &'a Value, key: &str) -> Option<Option<&'a Value
 /// A whole number in these bounds, which is required.
 pub fn number_at(request: &Value, key: &str, low: u32, high: u32) -> Option<u32>
     ensures { option_map found_number result
-        ≡ found (required key.now (number low high)) (view request.now) }
+        ≡ argument_value (required_argument key.now (number low high)) (view request.now) }
 {
     whole_between(argument_at(request, key)??, low, high)
 }
 
 /// A whole number, 0 where it is absent.
 pub fn number_or_0(request: &Value, key: &str) -> Option<u32>
-    ensures { option_map found_number result ≡ found (number_or_0 key.now) (view request.now) }
+    ensures { option_map found_number result ≡ argument_value (number_or_0 key.now) (view request.now) }
 {
     match argument_at(request, key)? {
         None => Some(0),
@@ -74,7 +74,8 @@ pub fn number_or_0(request: &Value, key: &str) -> Option<u32>
 
 /// A number of at most 255, which is required.
 pub fn byte_at(request: &Value, key: &str) -> Option<u8>
-    ensures { option_map found_number result ≡ found (required key.now byte) (view request.now) }
+    ensures { option_map found_number result
+        ≡ argument_value (required_argument key.now byte) (view request.now) }
 {
     let n = number_at(request, key, 0, 255)?;
     u8::try_from(n).ok()
@@ -83,7 +84,7 @@ pub fn byte_at(request: &Value, key: &str) -> Option<u8>
 /// A number from 1 to 256, which is required.
 pub fn count_at(request: &Value, key: &str) -> Option<u16>
     ensures { option_map found_number result
-        ≡ found (required key.now count_to_256) (view request.now) }
+        ≡ argument_value (required_argument key.now count_to_256) (view request.now) }
 {
     let n = number_at(request, key, 1, 256)?;
     u16::try_from(n).ok()
@@ -92,14 +93,15 @@ pub fn count_at(request: &Value, key: &str) -> Option<u16>
 /// A text, which is required.
 pub fn text_at<'a>(request: &'a Value, key: &str) -> Option<&'a str>
     ensures { option_map (λ t. found_text t.now) result
-        ≡ found (required key.now text) (view request.now) }
+        ≡ argument_value (required_argument key.now text) (view request.now) }
 {
     argument_at(request, key)??.as_str()
 }
 
 /// A truth value, which is required.
 pub fn truth_at(request: &Value, key: &str) -> Option<bool>
-    ensures { option_map found_truth result ≡ found (required key.now truth) (view request.now) }
+    ensures { option_map found_truth result
+        ≡ argument_value (required_argument key.now truth) (view request.now) }
 {
     argument_at(request, key)??.as_bool()
 }
@@ -107,7 +109,7 @@ pub fn truth_at(request: &Value, key: &str) -> Option<bool>
 /// The path of a source, which is required.
 pub fn source_at<'a>(request: &'a Value, key: &str) -> Option<&'a str>
     ensures { option_map (λ t. found_text t.now) result
-        ≡ found (required key.now source) (view request.now) }
+        ≡ argument_value (required_argument key.now source) (view request.now) }
 {
     members::text_at(argument_at(request, key)??, "path")
 }
@@ -115,7 +117,7 @@ pub fn source_at<'a>(request: &'a Value, key: &str) -> Option<&'a str>
 /// A granularity, by line where it is absent.
 pub fn granularity_or_line(request: &Value, key: &str) -> Option<Granularity>
     ensures { option_map found_granularity result
-        ≡ found (granularity_or_line key.now) (view request.now) }
+        ≡ argument_value (granularity_or_line key.now) (view request.now) }
 {
     let Some(value) = argument_at(request, key)? else {
         return Some(Granularity::Line);
@@ -139,7 +141,8 @@ pub fn address_of(text: &str) -> Option<u16>
 
 /// An address, `0x` and four hexadecimal digits, which is required.
 pub fn address_at(request: &Value, key: &str) -> Option<u16>
-    ensures { option_map found_number result ≡ found (required key.now address) (view request.now) }
+    ensures { option_map found_number result
+        ≡ argument_value (required_argument key.now address) (view request.now) }
 {
     address_of(argument_at(request, key)??.as_str()?)
 }
@@ -192,7 +195,7 @@ fn breakpoints_in(value: &Value) -> Option<&[Value]>
 pub fn breakpoints_or_none<'a>(request: &'a Value, key: &str) -> Option<&'a [Value]>
     ensures found { option_map found_lines
         (option_and_then (λ bs. lines_of (items_view bs.now)) result)
-        ≡ found (breakpoints_or_none key.now) (view request.now) }
+        ≡ argument_value (breakpoints_or_none key.now) (view request.now) }
     ensures lines { IfSome result (λ bs. IsSome (lines_of (items_view bs.now))) }
 {
     match argument_at(request, key)? {

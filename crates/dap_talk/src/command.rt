@@ -1,6 +1,6 @@
 //! Typed requests.
 ghost use Rattle.std.specs.Prelude.{◌≡◌, IfSome};
-ghost use Rattle.dap_talk.specs.Table.{spelled, first_named};
+ghost use Rattle.dap_talk.specs.Table.{spelling_of, first_named};
 
 use base_text::sequence::Sequence;
 use base_text::text::Text;
@@ -220,11 +220,11 @@ const EVERY_NAME: [CommandName; 25] = [
 ];
 
 impl CommandName {
-    ghost use Rattle.dap_talk.specs.Table.{named};
+    ghost use Rattle.dap_talk.specs.Table.{command_named};
 
     /// The text of `command` in requests and responses.
     pub fn as_str(self) -> &'static str
-        ensures { result.now ≡ spelled self }
+        ensures { result.now ≡ spelling_of self }
     {
         match self {
             CommandName::Initialize => "initialize",
@@ -257,8 +257,8 @@ impl CommandName {
 
     /// The command of this text, if it is one.
     pub fn from_name(text: &str) -> Option<CommandName>
-        ensures first { result ≡ named text.now }
-        ensures spelled { IfSome result (λ name. spelled name ≡ text.now) }
+        ensures first { result ≡ command_named text.now }
+        ensures spelled { IfSome result (λ name. spelling_of name ≡ text.now) }
     {
         first_named(&EVERY_NAME, text)
     }
@@ -266,7 +266,7 @@ impl CommandName {
 
 fn first_named(names: &[CommandName], text: &str) -> Option<CommandName>
     ensures first { result ≡ first_named names.now text.now }
-    ensures spelled { IfSome result (λ name. spelled name ≡ text.now) }
+    ensures spelled { IfSome result (λ name. spelling_of name ≡ text.now) }
 {
     for name in names {
         if name.as_str() == text {

@@ -1,7 +1,7 @@
 //! Reading requests: one function for each command that has arguments.
 ghost use Rattle.std.specs.Prelude.{◌≡◌, IfOk, Some, IfSome, option_map};
 ghost use Rattle.serde_json.specs.View.{view};
-ghost use Rattle.dap_talk.specs.Table.{asked, step_name, spelled, name_of, IsBounded};
+ghost use Rattle.dap_talk.specs.Table.{command_asked, step_name, spelling_of, name_of, IsBounded};
 ghost use Rattle.dap_talk.specs.Answer.{IsAnswer};
 ghost use Rattle.dap_talk.specs.Reading.{command_text, envelope_of, envelope_with, reading, Answers};
 
@@ -17,7 +17,7 @@ use serde_json::Value;
 use std::alloc::Global;
 
 fn set_breakpoints(alloc: Global, request: &Value) -> Result<DapCommand, ArgumentFault>
-    ensures { IsAnswer (asked CommandName.SetBreakpoints (view request.now)) result }
+    ensures { IsAnswer (command_asked CommandName.SetBreakpoints (view request.now)) result }
 {
     let path = source_at(request, "source").ok_or(ArgumentFault::Arguments)?;
     let breakpoints = breakpoints_or_none(request, "breakpoints").ok_or(ArgumentFault::Arguments)?;
@@ -27,7 +27,7 @@ fn set_breakpoints(alloc: Global, request: &Value) -> Result<DapCommand, Argumen
 }
 
 fn stack_trace(request: &Value) -> Option<DapCommand>
-    ensures { result ≡ asked CommandName.StackTrace (view request.now) }
+    ensures { result ≡ command_asked CommandName.StackTrace (view request.now) }
 {
     let start_frame = number_or_0(request, "startFrame")?;
     let levels = number_or_0(request, "levels")?;
@@ -38,14 +38,14 @@ fn stack_trace(request: &Value) -> Option<DapCommand>
 }
 
 fn scopes(request: &Value) -> Option<DapCommand>
-    ensures { result ≡ asked CommandName.Scopes (view request.now) }
+    ensures { result ≡ command_asked CommandName.Scopes (view request.now) }
 {
     let frame_id = number_at(request, "frameId", 0, u32::MAX)?;
     Some(DapCommand::Scopes { frame_id })
 }
 
 fn variables(request: &Value) -> Option<DapCommand>
-    ensures { result ≡ asked CommandName.Variables (view request.now) }
+    ensures { result ≡ command_asked CommandName.Variables (view request.now) }
 {
     let reference = number_at(request, "variablesReference", 0, u32::MAX)?;
     let start = number_or_0(request, "start")?;
@@ -58,7 +58,7 @@ fn variables(request: &Value) -> Option<DapCommand>
 }
 
 fn set_variable(alloc: Global, request: &Value) -> Result<DapCommand, ArgumentFault>
-    ensures { IsAnswer (asked CommandName.SetVariable (view request.now)) result }
+    ensures { IsAnswer (command_asked CommandName.SetVariable (view request.now)) result }
 {
     let Some(reference) = number_at(request, "variablesReference", 0, u32::MAX) else {
         return Err(ArgumentFault::Arguments);
@@ -76,14 +76,14 @@ fn set_variable(alloc: Global, request: &Value) -> Result<DapCommand, ArgumentFa
 
 #[tactic(auto, using(crate::proofs::ReadingLemmas::asked_step))]
 fn step(request: &Value, kind: StepKind) -> Option<DapCommand>
-    ensures { result ≡ asked (step_name kind) (view request.now) }
+    ensures { result ≡ command_asked (step_name kind) (view request.now) }
 {
     let granularity = granularity_or_line(request, "granularity")?;
     Some(DapCommand::Step { kind, granularity })
 }
 
 fn disassemble(request: &Value) -> Option<DapCommand>
-    ensures { result ≡ asked CommandName.Disassemble (view request.now) }
+    ensures { result ≡ command_asked CommandName.Disassemble (view request.now) }
 {
     let address = address_at(request, "memoryReference")?;
     let offset = number_or_0(request, "offset")?;
@@ -98,7 +98,7 @@ fn disassemble(request: &Value) -> Option<DapCommand>
 }
 
 fn source(alloc: Global, request: &Value) -> Result<DapCommand, ArgumentFault>
-    ensures { IsAnswer (asked CommandName.Source (view request.now)) result }
+    ensures { IsAnswer (command_asked CommandName.Source (view request.now)) result }
 {
     let path = source_at(request, "source").ok_or(ArgumentFault::Arguments)?;
     let path = Text::copy_of(alloc, path)?;
@@ -106,7 +106,7 @@ fn source(alloc: Global, request: &Value) -> Result<DapCommand, ArgumentFault>
 }
 
 fn dump_cell(alloc: Global, request: &Value) -> Result<DapCommand, ArgumentFault>
-    ensures { IsAnswer (asked CommandName.DumpCell (view request.now)) result }
+    ensures { IsAnswer (command_asked CommandName.DumpCell (view request.now)) result }
 {
     let code = text_at(request, "code").ok_or(ArgumentFault::Arguments)?;
     let code = Text::copy_of(alloc, code)?;
@@ -114,21 +114,21 @@ fn dump_cell(alloc: Global, request: &Value) -> Result<DapCommand, ArgumentFault
 }
 
 fn board_switches(request: &Value) -> Option<DapCommand>
-    ensures { result ≡ asked CommandName.BoardSwitches (view request.now) }
+    ensures { result ≡ command_asked CommandName.BoardSwitches (view request.now) }
 {
     let value = byte_at(request, "value")?;
     Some(DapCommand::BoardSwitches { value })
 }
 
 fn board_press(request: &Value) -> Option<DapCommand>
-    ensures { result ≡ asked CommandName.BoardPress (view request.now) }
+    ensures { result ≡ command_asked CommandName.BoardPress (view request.now) }
 {
     let vector = byte_at(request, "vector")?;
     Some(DapCommand::BoardPress { vector })
 }
 
 fn board_type(alloc: Global, request: &Value) -> Result<DapCommand, ArgumentFault>
-    ensures { IsAnswer (asked CommandName.BoardType (view request.now)) result }
+    ensures { IsAnswer (command_asked CommandName.BoardType (view request.now)) result }
 {
     let text = text_at(request, "text").ok_or(ArgumentFault::Arguments)?;
     let text = Text::copy_of(alloc, text)?;
@@ -136,7 +136,7 @@ fn board_type(alloc: Global, request: &Value) -> Result<DapCommand, ArgumentFaul
 }
 
 fn board_aliases(request: &Value) -> Option<DapCommand>
-    ensures { result ≡ asked CommandName.BoardAliases (view request.now) }
+    ensures { result ≡ command_asked CommandName.BoardAliases (view request.now) }
 {
     let aliases = truth_at(request, "aliases")?;
     Some(DapCommand::BoardAliases { aliases })
@@ -153,7 +153,7 @@ fn read_command(
     name: CommandName,
     request: &Value,
 ) -> Result<DapCommand, ArgumentFault>
-    ensures { IsAnswer (asked name (view request.now)) result }
+    ensures { IsAnswer (command_asked name (view request.now)) result }
 {
     match name {
         CommandName::Initialize => Ok(DapCommand::Initialize),
@@ -207,7 +207,7 @@ pub fn envelope_of(value: &Value) -> Option<(u32, &str)>
 pub fn read_request<'a>(alloc: Global, value: &'a Value) -> Result<DapRequest, DapFault<'a>>
     ensures read { Answers (reading (view value.now)) result }
     ensures command { IfOk result
-        (λ r. command_text (view value.now) ≡ Some (spelled (name_of r.command))) }
+        (λ r. command_text (view value.now) ≡ Some (spelling_of (name_of r.command))) }
     ensures bounded { IfOk result (λ r. IsBounded r.command) }
 {
     let Some((seq, text)) = envelope_of(value) else {

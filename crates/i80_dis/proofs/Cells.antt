@@ -14,7 +14,7 @@ use Rattle.asm_syntax.specs.declared.statement.Statement.{Statement}
 use Rattle.i80_dis.specs.declared.line.Shown.{Shown}
 use Rattle.i80_dis.specs.declared.line.Shown.TheVariants.{Instruction, Datum}
 use Rattle.i80_dis.specs.Shown.{Lists}
-use Rattle.i80_dis.specs.Text.{text_of, ended, text_of_lines}
+use Rattle.i80_dis.specs.Text.{text_of, text_line, text_of_lines}
 use Rattle.i80_dis.specs.Law.{AreBytes}
 use Rattle.i80_dis.proofs.Forms.{does}
 use Rattle.i80_dis.proofs.Instructions.{IsLine, action_by, instruction_is, datum_is}
@@ -58,10 +58,11 @@ first_part : (t : List ℕ) (ps : List (List ℕ)) → Some_parts ps
     → lines_of_parts (t ∷ ps) ≡ strip_carriage_return t ∷ lines_of_parts ps
 first_part t ps (y, more, is) = rw is refl
 
-pub first_line : (t rest : List ℕ) → list_all (nat_lt 13) t ≡ true → lines (ended t ++ rest) ≡ t ∷ lines rest
+pub first_line : (t rest : List ℕ) → list_all (nat_lt 13) t ≡ true
+    → lines (text_line t ++ rest) ≡ t ∷ lines rest
 first_line t rest h =
     let parts = parts_some rest in
-    let front : ended t ++ rest ≡ t ++ 10 ∷ rest = append_assoc t (codes "\n") rest in
+    let front : text_line t ++ rest ≡ t ++ 10 ∷ rest = append_assoc t (codes "\n") rest in
     ap lines front ∙ ap lines_of_parts (parts_first t rest h)
     ∙ first_part t (slice_split (λ b. eqb b 10) rest) parts
     ∙ ap (λ (s : List ℕ). s ∷ lines rest) (strips_nothing t h)
@@ -75,7 +76,7 @@ pub record Given : Type 0 where
 
 abbrev pub text_given : List Given → List ℕ
 text_given [] = []
-text_given (g ∷ gs) = ended g.text ++ text_given gs
+text_given (g ∷ gs) = text_line g.text ++ text_given gs
 
 abbrev pub bytes_given : List Given → List ℕ
 bytes_given [] = []
@@ -122,7 +123,7 @@ instruction_given i code rest shown encodes are more =
     let long = length-append code rest in
     record {
       given = record { text = text_of (Instruction i); bytes = encoding_of i; line = line } ∷ more.given;
-      text = ap (λ t. ended (text_of (Instruction i)) ++ t) more.text;
+      text = ap (λ t. text_line (text_of (Instruction i)) ++ t) more.text;
       all = ap (λ bs. bs ++ bytes_given more.given) (sym is) ∙ ap (λ bs. code ++ bs) all;
       most = omega (arith, most, some, long);
     }
@@ -133,7 +134,7 @@ datum_given b rest shown lt more =
     let most = more.most in
     record {
       given = record { text = text_of (Datum b); bytes = b ∷ []; line = datum_is b lt } ∷ more.given;
-      text = ap (λ t. ended (text_of (Datum b)) ++ t) more.text;
+      text = ap (λ t. text_line (text_of (Datum b)) ++ t) more.text;
       all = ap (λ bs. b ∷ bs) more.all;
       most = omega (arith, most);
     }

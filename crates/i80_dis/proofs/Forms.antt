@@ -22,7 +22,7 @@ use Rattle.asm_syntax.specs.declared.statement.Action.TheVariants as action
 use Rattle.asm_syntax.specs.declared.statement.Statement.{Statement}
 use Rattle.asm_syntax.specs.Lexemes.{Keyword, Number, Sign, Piece}
 use Rattle.asm_lex.specs.Tokens.{tokens_of}
-use Rattle.asm_lex.specs.Climb.{made, operand_at, chain, expr_at, expression}
+use Rattle.asm_lex.specs.Climb.{tree_or_nesting, operand_at, chain, expr_at, expression}
 use Rattle.asm_lex.specs.Commas.{operands_of}
 use Rattle.asm_lex.specs.Shape.{shape}
 use Rattle.asm_lex.specs.Words.{misplaced_from}
@@ -58,7 +58,7 @@ Spelled line ps = tokens_of line ≡ Ok ps
 -- ---- a number is an operand
 
 number_read : (column c n : ℕ) → expression column ((c, Number n) ∷ []) ≡ Ok (number_at c n)
-unfolding expression expr_at operand_at chain made shape
+unfolding expression expr_at operand_at chain tree_or_nesting shape
 number_read column c n = refl
 
 -- ---- mnemonics

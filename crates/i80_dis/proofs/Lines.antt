@@ -11,7 +11,7 @@ use Rattle.i80_dis.specs.declared.line.Shown.{Shown}
 use Rattle.i80_dis.specs.declared.line.Shown.TheVariants.{Instruction, Datum}
 use Rattle.i80_dis.specs.Shown.{next_shown, lines_from, lines_of}
 use Rattle.std.specs.Prelude.{codes, OnOk}
-use Rattle.i80_dis.specs.Text.{word_text, text_of, ended, origin_line, text_of_lines, listing_of}
+use Rattle.i80_dis.specs.Text.{word_text, text_of, text_line, origin_line, text_of_lines, listing_of}
 
 -- ---- how long an instruction is that was read
 
@@ -117,14 +117,14 @@ abbrev with_lines : List ℕ → List Shown → List ℕ
 with_lines text lines = text ++ text_of_lines lines
 
 one_more : (text new : List ℕ) (line : Shown) (lines : List Shown) (total : List ℕ)
-    → new ≡ text ++ ended (text_of line)
+    → new ≡ text ++ text_line (text_of line)
     → with_lines text (line ∷ lines) ≡ total → with_lines new lines ≡ total
 one_more text new line lines total e h =
-    ap (λ t. with_lines t lines) e ∙ append_assoc text (ended (text_of line)) (text_of_lines lines) ∙ h
+    ap (λ t. with_lines t lines) e ∙ append_assoc text (text_line (text_of line)) (text_of_lines lines) ∙ h
 
 pub line_added : (text new total : List ℕ) (s : Shown) (n : ℕ) (bytes : List ℕ) → 0 < length bytes → 0 < n
     → next_shown bytes ≡ Some (s, n)
-    → new ≡ text ++ ended (text_of s)
+    → new ≡ text ++ text_line (text_of s)
     → text ++ text_of_lines (lines_of bytes) ≡ total → new ++ text_of_lines (lines_of (drop n bytes)) ≡ total
 line_added text new total s n bytes lt pos is e h =
     one_more text new s (lines_of (drop n bytes)) total e
@@ -148,7 +148,7 @@ none_left text total (b ∷ bytes) e h = absurd (omega (arith, e))
 -- ---- bytes, each on its line
 
 pub datum_added : (text new total : List ℕ) (i : ℕ) (bytes : List ℕ) → i < length bytes
-    → new ≡ text ++ ended (text_of (Datum (get_or bytes i 0)))
+    → new ≡ text ++ text_line (text_of (Datum (get_or bytes i 0)))
     → text ++ text_of_lines (map Datum (drop i bytes)) ≡ total
     → new ++ text_of_lines (map Datum (drop (i + 1) bytes)) ≡ total
 datum_added text new total i bytes lt e h =

@@ -5,7 +5,7 @@ use Rattle.std.specs.Prelude.{◌&&◌, nat_lt}
 use Rattle.std.specs.List.{list_all}
 use Rattle.std.proofs.lemmas.Bool.{and_parts, eqb-true, cases_lt, lt-ltb}
 use Rattle.std.specs.Char.{is_ascii_digit, is_ascii_alphanumeric, digit_value}
-use Rattle.asm_lex.specs.Numbers.{spelled, number_of}
+use Rattle.asm_lex.specs.Numbers.{with_digits, number_of}
 use Rattle.asm_lex.specs.Spelling.{Begins}
 use Rattle.i80_rows.specs.declared.instruction.Vector.{Vector}
 use Rattle.i80_rows.specs.declared.instruction.Vector.TheVariants as vector
@@ -55,13 +55,14 @@ byte_numeral n lt =
     let hi : n / 16 < 16 = omega (arith, lt) in
     let lo : n % 16 < 16 = omega arith in
     let digits = 48 ∷ upper_digit (n / 16) ∷ upper_digit (n % 16) ∷ [] in
-    let value : spelled 16 0 digits ≡ n = rw (hex_value (n / 16) hi, hex_value (n % 16) lo) (omega arith) in
+    let value : with_digits 16 0 digits ≡ n =
+    rw (hex_value (n / 16) hi, hex_value (n % 16) lo) (omega arith) in
     record {
       begins = refl;
       all = rw (hex_part (n / 16) hi, hex_part (n % 16) lo) refl;
       value =
-          some_if (list_all (λ d. nat_lt (digit_value d) 16) digits) (nat_lt (spelled 16 0 digits) 65536)
-          (spelled 16 0 digits) n
+          some_if (list_all (λ d. nat_lt (digit_value d) 16) digits) (nat_lt (with_digits 16 0 digits) 65536)
+          (with_digits 16 0 digits) n
           (rw (hex_small (n / 16) hi, hex_small (n % 16) lo) refl)
           (rw value (lt-ltb n 65536 (omega (arith, lt))))
           value;
@@ -76,7 +77,7 @@ word_numeral n lt =
     let digits =
     48 ∷ upper_digit (n / 256 / 16) ∷ upper_digit (n / 256 % 16) ∷ upper_digit (n % 256 / 16)
     ∷ upper_digit (n % 256 % 16) ∷ [] in
-    let value : spelled 16 0 digits ≡ n =
+    let value : with_digits 16 0 digits ≡ n =
     rw (
       hex_value (n / 256 / 16) h3,
       hex_value (n / 256 % 16) h2,
@@ -93,8 +94,8 @@ word_numeral n lt =
             hex_part (n % 256 % 16) h0,
           ) refl;
       value =
-          some_if (list_all (λ d. nat_lt (digit_value d) 16) digits) (nat_lt (spelled 16 0 digits) 65536)
-          (spelled 16 0 digits) n
+          some_if (list_all (λ d. nat_lt (digit_value d) 16) digits) (nat_lt (with_digits 16 0 digits) 65536)
+          (with_digits 16 0 digits) n
           (rw (
             hex_small (n / 256 / 16) h3,
             hex_small (n / 256 % 16) h2,

@@ -12,7 +12,7 @@ use Rattle.asm_syntax.specs.declared.statement.Statement.{Statement}
 use Rattle.asm_syntax.specs.Lexemes.{Number}
 use Rattle.asm_syntax.specs.Words.{keyword_of}
 use Rattle.asm_text.specs.Statements.{step_of, statements_from, statements_of}
-use Rattle.i80_dis.specs.Text.{word_text, operand_field, ended, origin_line}
+use Rattle.i80_dis.specs.Text.{word_text, operand_field, text_line, origin_line}
 use Rattle.i80_dis.proofs.Printed.{IsShort, address_printed}
 use Rattle.i80_dis.proofs.Forms.{number_at, does, Says, origin_says}
 use Rattle.i80_dis.proofs.Instructions.{Giving, action_by, IsSaid, one_said}
@@ -75,13 +75,13 @@ origin_goes address n line rest ss says more = rw (says, more) refl
 
 -- ---- how long the text is
 
-ended_short : (line : List ℕ) → IsShort line → length (ended line) ≤ 15
+ended_short : (line : List ℕ) → IsShort line → length (text_line line) ≤ 15
 ended_short line short = let e = length-append line (codes "\n") in let m = short.most in omega (arith, e, m)
 
 given_short : (gs : List Given) → length (text_given gs) ≤ 15 * length gs
 given_short [] = omega arith
 given_short (g ∷ gs) =
-    let e = length-append (ended g.text) (text_given gs) in
+    let e = length-append (text_line g.text) (text_given gs) in
     let first = ended_short g.text g.line.said.short in
     let more = given_short gs in
     omega (arith, e, first, more)

@@ -211,15 +211,15 @@ abbrev pub text_of : Shown → List ℕ
 text_of (Instruction i) = mnemonic i ++ operand_field (operands i)
 text_of (Datum b) = codes "DB " ++ byte_text b
 
-abbrev pub ended : List ℕ → List ℕ
-ended text = text ++ codes "\n"
+abbrev pub text_line : List ℕ → List ℕ
+text_line text = text ++ codes "\n"
 
 abbrev pub text_of_lines : List Shown → List ℕ
 text_of_lines [] = []
-text_of_lines (line ∷ lines) = ended (text_of line) ++ text_of_lines lines
+text_of_lines (line ∷ lines) = text_line (text_of line) ++ text_of_lines lines
 
 abbrev pub origin_line : ℕ → List ℕ
-origin_line address = ended (codes "ORG " ++ word_text address)
+origin_line address = text_line (codes "ORG " ++ word_text address)
 
 -- the listing of bytes from this address on: nothing of no bytes
 unfoldable pub listing_of : ℕ → List ℕ → List ℕ

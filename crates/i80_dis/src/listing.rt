@@ -2,7 +2,7 @@
 ghost use Rattle.std.specs.Prelude.{◌≡◌, ◌≤◌, ◌+◌, ◌++◌, length, map, IfOk, OnOk, string_bytes};
 ghost use Rattle.i80_dis.specs.declared.line.Shown.TheVariants.{Datum};
 ghost use Rattle.i80_dis.specs.Shown.{lines_of};
-ghost use Rattle.i80_dis.specs.Text.{text_of, ended, origin_line, text_of_lines, listing_of};
+ghost use Rattle.i80_dis.specs.Text.{text_of, text_line, origin_line, text_of_lines, listing_of};
 
 use crate::line::{Shown, next_shown, push_text};
 use crate::numeral::push_word;
@@ -23,7 +23,7 @@ fn push_origin(text: &mut String, address: u16) -> Result<(), AllocError>
 
 fn push_line(text: &mut String, shown: Shown) -> Result<(), AllocError>
     ensures { OnOk result (string_bytes text.new
-        ≡ string_bytes text.old ++ ended (text_of shown)) }
+        ≡ string_bytes text.old ++ text_line (text_of shown)) }
 {
     text.reserve(LONGEST_LINE)?;
     push_text(text, shown)?;

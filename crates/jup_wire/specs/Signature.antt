@@ -14,12 +14,12 @@ abbrev pub block_of : Bytes → Bytes
 block_of key = zero_filled (if nat_lt 64 (length key) then sha256 key else key)
 
 -- a block XOR a byte that is repeated
-abbrev pub padded : ℕ → Bytes → Bytes
-padded pad block = map (λ byte. bit_xor byte pad) block
+abbrev pub xor_each : ℕ → Bytes → Bytes
+xor_each pad block = map (λ byte. bit_xor byte pad) block
 
 -- H(K XOR opad, H(K XOR ipad, text))
 abbrev pub hmac : Bytes → Bytes → Bytes
-hmac key text = sha256 (padded 0x5c (block_of key) ++ sha256 (padded 0x36 (block_of key) ++ text))
+hmac key text = sha256 (xor_each 0x5c (block_of key) ++ sha256 (xor_each 0x36 (block_of key) ++ text))
 
 -- over the frames, one after the other
 unfoldable pub signature : Bytes → Frames → Bytes

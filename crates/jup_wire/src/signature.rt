@@ -4,7 +4,7 @@ ghost use Rattle.std.specs.List.{concat};
 ghost use Rattle.base_text.specs.Bytes.{Bytes};
 ghost use Rattle.hex.specs.Hex.{encode_lower};
 ghost use Rattle.jup_wire.specs.Wire.{json_frames};
-ghost use Rattle.jup_wire.specs.Signature.{zero_filled, block_of, padded, hmac, signature};
+ghost use Rattle.jup_wire.specs.Signature.{zero_filled, block_of, xor_each, hmac, signature};
 
 use crate::message::Parts;
 use base_text::sequence::Bytes;
@@ -131,7 +131,7 @@ fn zero_fill(key: &[u8]) -> [u8; BLOCK]
 }
 
 fn xor_pad(mut block: [u8; BLOCK], pad: u8) -> [u8; BLOCK]
-    ensures { result ≡ padded pad block }
+    ensures { result ≡ xor_each pad block }
 {
     for byte in block.iter_mut() {
         *byte ^= pad;

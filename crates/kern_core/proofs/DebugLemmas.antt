@@ -17,7 +17,7 @@ use Rattle.dap_board.specs.Names.{event_after}
 use Rattle.kern_post.specs.declared.post.Letter.{Letter}
 use Rattle.kern_post.specs.Posts.{StoreState, Keeps, posted}
 use Rattle.kern_request.specs.declared.request.Request.{Request}
-use Rattle.dap_board.specs.Commands.{performed}
+use Rattle.dap_board.specs.Commands.{command_result}
 use Rattle.kern_exec.specs.Letters.{enclosed}
 use Rattle.kern_post.specs.declared.content.Cause.TheVariants as cause
 use Rattle.kern_core.specs.declared.call.Reply.TheVariants.{Arrived}
@@ -37,7 +37,7 @@ resetting n r d unix_seconds s = posting Arrived unix_seconds
 by_command : (n : ℕ) (r : Request) (seq : ℕ) (c : DapCommand) (unix_seconds : ℕ) (s : KernelState)
     → is_reset c ≡ true
     → performing n r (request_with seq c) unix_seconds s ≡ resetting n r (request_with seq c) unix_seconds s
-unfolding performed
+unfolding command_result
 by_command n r seq command.BoardReset unix_seconds s is = refl
 by_command n r seq _ unix_seconds s is = absurd (false≢true is)
 
@@ -103,12 +103,12 @@ by_performed (Err fault) n r d unix_seconds s old lab store res letters stands o
 pub performed_stands : (n : ℕ) (r : Request) (d : DapRequest) (unix_seconds : ℕ) (s : KernelState)
     (old : KernelFields) (lab : LabState) (store : StoreState) (res : Result Body EventFault)
     (letters : List Letter)
-    → StandsFor old s → is_reset d.command ≡ false → Does (performed d.command) old.lab res lab
+    → StandsFor old s → is_reset d.command ≡ false → Does (command_result d.command) old.lab res lab
     → res ≢ Err OutOfMemory
     → letters ≡ enclosed s.connections r.header
     (performed_letters res (after_letter (event_after d.command) r s) n r d)
     → Keeps (posted unix_seconds letters s.posts) store
     → Stood (performing n r d unix_seconds s) (record old { lab = lab; store = store })
 performed_stands n r d unix_seconds s old lab store res letters stands other does want are kept =
-    by_performed (performed d.command s.board) n r d unix_seconds s old lab store res letters stands other
+    by_performed (command_result d.command s.board) n r d unix_seconds s old lab store res letters stands other
     (does s.board stands.board want) are kept

@@ -13,7 +13,7 @@ use Rattle.kern_post.specs.declared.post.Letter.{Letter}
 use Rattle.kern_post.specs.Posts.{fetched as posts_to, first_kept, next_from}
 use Rattle.kern_peers.specs.declared.peer.Peer.{Peer}
 use Rattle.kern_peers.specs.Connections.{has_no_place, joined_by, peer_at, without, is_on, is_full}
-use Rattle.kern_peers.specs.Connections.{subscribed_by, cancelled}
+use Rattle.kern_peers.specs.Connections.{subscribed_by, without_subscription}
 use Rattle.kern_exec.specs.declared.execution.Execution.{Execution}
 use Rattle.kern_exec.specs.Boards.{is_run}
 use Rattle.kern_core.specs.declared.call.Reply.TheVariants as reply
@@ -73,7 +73,8 @@ new_subscription n prefix unix_seconds s =
     (record s { connections = subscribed_by n prefix s.connections })
 
 abbrev pub unsubscribed : ℕ → Bytes → KernelState → Turn
-unsubscribed n prefix s = quiet reply.Subscribed (record s { connections = cancelled n prefix s.connections })
+unsubscribed n prefix s = quiet reply.Subscribed
+    (record s { connections = without_subscription n prefix s.connections })
 
 abbrev pub subscribing : ℕ → Bool → Bytes → ℕ → KernelState → Turn
 subscribing n wants prefix unix_seconds s = with_peer n s (λ p.

@@ -1,7 +1,7 @@
 -- What is made ready before the board is asked for a debugger.
 use Rattle.std.specs.Prelude.{◌≡◌, ℕ, List}
 use Rattle.dap_talk.specs.declared.command.DapRequest.{DapRequest}
-use Rattle.dap_talk.specs.Table.{name_of, spelled}
+use Rattle.dap_talk.specs.Table.{name_of, spelling_of}
 use Rattle.kern_request.specs.declared.request.Request.{Request}
 use Rattle.kern_peers.specs.Connections.{Connections}
 use Rattle.kern_post.specs.declared.post.Letter.{Letter}
@@ -14,7 +14,7 @@ pub record IsDebugKit (connections : Connections) (n : ℕ) (r : Request) (d : D
   pub enclosed : IsEnclosed connections r.header k.enclosed
   pub envelope : k.envelope ≡ addressed n r.identities r.header
   pub request_seq : k.request_seq ≡ d.seq
-  pub command : k.command ≡ spelled (name_of d.command)
+  pub command : k.command ≡ spelling_of (name_of d.command)
 
 -- whichever request the kit is of, between busy and idle it is told so
 abbrev pub Tells : DebugKit → (ℕ → Request → DapRequest → List Letter) → List Letter → Type 0

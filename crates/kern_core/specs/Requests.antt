@@ -15,13 +15,13 @@ use Rattle.lab_core.specs.Events.{reset, with_operation}
 use Rattle.dap_talk.specs.declared.command.DapCommand.{DapCommand}
 use Rattle.dap_talk.specs.declared.command.DapCommand.TheVariants.{SetBreakpoints, Disassemble, BoardReset}
 use Rattle.dap_talk.specs.declared.command.DapRequest.{DapRequest}
-use Rattle.dap_talk.specs.Table.{name_of, spelled}
+use Rattle.dap_talk.specs.Table.{name_of, spelling_of}
 use Rattle.dap_answers.specs.declared.answer.Body.{Body}
 use Rattle.dap_answers.specs.declared.answer.Event.{Event}
 use Rattle.dap_answers.specs.declared.answer.Outcome.{Outcome}
 use Rattle.dap_answers.specs.declared.answer.Outcome.TheVariants.{Success, Refused}
 use Rattle.dap_answers.specs.declared.answer.Response.{Response}
-use Rattle.dap_board.specs.Commands.{performed}
+use Rattle.dap_board.specs.Commands.{command_result}
 use Rattle.dap_board.specs.Names.{refusal_name, event_after}
 use Rattle.kern_request.specs.declared.request.RequestBody.{RequestBody}
 use Rattle.kern_request.specs.declared.request.RequestBody.TheVariants as body
@@ -140,7 +140,7 @@ shutting n r true unix_seconds s = posting Arrived unix_seconds
 
 abbrev pub response_to : DapRequest → Outcome → Response
 response_to d outcome =
-    record { request_seq = d.seq; command = spelled (name_of d.command); outcome = outcome }
+    record { request_seq = d.seq; command = spelling_of (name_of d.command); outcome = outcome }
 
 abbrev pub debug_reply : ℕ → Request → DapRequest → Outcome → Letter
 debug_reply n r d outcome = reply_to n r (content.DebugReply (response_to d outcome))
@@ -178,7 +178,7 @@ answering n r d unix_seconds s (Ok (body, b)) = posting Arrived unix_seconds
 answering n r d unix_seconds s (Err fault) = refusing n r d (refusal_name fault) unix_seconds s
 
 abbrev pub performing : ℕ → Request → DapRequest → ℕ → KernelState → Turn
-performing n r d unix_seconds s = answering n r d unix_seconds s (performed d.command s.board)
+performing n r d unix_seconds s = answering n r d unix_seconds s (command_result d.command s.board)
 
 -- no request that was read is out of these bounds
 abbrev pub is_bounded : DapCommand → Bool

@@ -3,7 +3,7 @@ ghost use Rattle.std.specs.Prelude.{◌≡◌, ◌+◌, ◌*◌, ◌≤◌, [], 
 ghost use Rattle.lab_turn.specs.History.{FreshFrom, IsLegal};
 ghost use Rattle.std.specs.Thread.{IsSync, IsSend};
 ghost use Rattle.std.specs.Fork.{AcceptsEach};
-ghost use Rattle.kern_net.specs.Gates.{unpolled};
+ghost use Rattle.kern_net.specs.Gates.{no_polls};
 ghost use Rattle.kern_host.specs.OneHistory.{Works};
 ghost use Rattle.kern_host.specs.Guests.{IsComing, IsSeated};
 ghost use Rattle.kern_host.specs.Visits.{house_of, Visited};
@@ -47,7 +47,7 @@ fn run_beside<R: Threads + Wait + Sync, P: WorkerGate + Send, T: Send, F: Fn(usi
     all: &mut [T],
 ) -> PumpEnd
     requires own { working.old.turnstile ≡ desk.now }
-    requires gate { P.polls gate.old ≡ unpolled }
+    requires gate { P.polls gate.old ≡ no_polls }
     requires accepts { AcceptsEach F.Fn f.now all.old }
     ensures worked { Worked desk.now working.old working.new (P.polls gate.old) (P.polls gate.new) result }
     ensures changed { Changed F.Fn f.now all.old all.new }
@@ -55,7 +55,7 @@ fn run_beside<R: Threads + Wait + Sync, P: WorkerGate + Send, T: Send, F: Fn(usi
     let (end, ()) = thread::join_mut(
         rt,
         &mut || -> PumpEnd
-            requires { (working.now.turnstile ≡ desk.now) × (P.polls gate.now ≡ unpolled) }
+            requires { (working.now.turnstile ≡ desk.now) × (P.polls gate.now ≡ no_polls) }
             ensures { Worked desk.entry.now working.entry.now working.exit.now (P.polls gate.entry.now)
                 (P.polls gate.exit.now) result }
         { worker(rt, desk, working, gate) },
@@ -84,7 +84,7 @@ fn run_all<
     guests: &mut [Guest<I, W, G, H>],
 ) -> PumpEnd
     requires own { working.old.turnstile ≡ server.now.desk.now }
-    requires gate { P.polls gate.old ≡ unpolled }
+    requires gate { P.polls gate.old ≡ no_polls }
     requires guests { All (IsSeated server.now.desk.now) guests.old }
     ensures worked { Worked server.now.desk.now working.old working.new (P.polls gate.old)
         (P.polls gate.new) result }
@@ -136,7 +136,7 @@ fn host_at<
     requires empty { back.items ≡ [] }
     requires room { 2 * length guests.old + 1 ≤ vec_capacity back }
     requires coming { All IsComing guests.old }
-    requires gate { P.polls gate.old ≡ unpolled }
+    requires gate { P.polls gate.old ≡ no_polls }
     ensures legal { IsLegal desk.seats desk.limit result.seated.entries }
     ensures guests { ServesEach (house_of seal.now desk.limit) guests.old guests.new result.seated.entries }
     ensures worker { Works (worker_at desk.limit (length guests.old) result.seated.entries)
@@ -186,7 +186,7 @@ pub fn host<
     requires kernel { kernel.entries ≡ [] }
     requires few { length guests.old ≤ 511 }
     requires coming { All IsComing guests.old }
-    requires gate { P.polls gate.old ≡ unpolled }
+    requires gate { P.polls gate.old ≡ no_polls }
     // One history of these seats alone: two for each connection, and the worker's.
     ensures legal { IfOk result (λ hosted. IsLegal
         (2 * length guests.old + 1) kernel.limit hosted.seated.entries) }

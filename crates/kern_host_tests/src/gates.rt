@@ -1,6 +1,6 @@
 //! The gates of the threads. They wait a little at each poll, and say no only where the test has failed.
 ghost use Rattle.std.specs.Prelude.{◌≡◌};
-ghost use Rattle.kern_net.specs.Gates.{unpolled};
+ghost use Rattle.kern_net.specs.Gates.{no_polls};
 
 use crate::signals::{Signals, rest};
 use kern_desk::seated::Pass;
@@ -23,7 +23,7 @@ pub struct WorkGate<'a, C: Clock> {
 impl<'a, C: Clock> WorkGate<'a, C> {
     /// A gate that wasn't polled yet, and says no once there was nothing to do so often.
     pub fn new(clock: &'a C, most: u64) -> WorkGate<'a, C>
-        ensures { result.polls ≡ unpolled }
+        ensures { result.polls ≡ no_polls }
     {
         WorkGate {
             polls: WorkerTally::new(),

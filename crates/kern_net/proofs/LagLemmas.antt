@@ -6,7 +6,7 @@ use Rattle.dap_talk.specs.declared.command.DapRequest.{DapRequest}
 use Rattle.dap_answers.specs.declared.answer.Body.{Body}
 use Rattle.lab_core.specs.declared.fault.EventFault.{EventFault}
 use Rattle.lab_core.specs.Board.{Board}
-use Rattle.dap_board.specs.Commands.{performed}
+use Rattle.dap_board.specs.Commands.{command_result}
 use Rattle.std.specs.Prelude.{codes}
 use Rattle.kern_request.specs.declared.request.RequestBody.{RequestBody}
 use Rattle.kern_request.specs.declared.request.RequestBody.TheVariants as ask
@@ -85,7 +85,7 @@ debugging_keeps : (n : ℕ) (r : Request) (d : DapRequest) (unix_seconds : ℕ) 
 debugging_keeps n r d unix_seconds s =
     let bad = refusing n r d (codes "Arguments") unix_seconds s in
     either KeepsUp (is_bounded d.command) (performing n r d unix_seconds s) bad
-    (answering_keeps n r d unix_seconds s (performed d.command s.board)) (answered bad Arrived refl)
+    (answering_keeps n r d unix_seconds s (command_result d.command s.board)) (answered bad Arrived refl)
 
 unanswered_keeps : (r : Request) (lacking : NeedyRequest) (unix_seconds : ℕ) (s : KernelState)
     → KeepsUp (unanswered r lacking unix_seconds s)

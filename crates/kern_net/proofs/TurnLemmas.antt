@@ -11,7 +11,7 @@ use Rattle.lab_core.specs.declared.run_state.RunState.TheVariants as run
 use Rattle.lab_core.specs.Board.{Board}
 use Rattle.dap_talk.specs.declared.command.DapRequest.{DapRequest}
 use Rattle.dap_answers.specs.declared.answer.Body.{Body}
-use Rattle.dap_board.specs.Commands.{performed}
+use Rattle.dap_board.specs.Commands.{command_result}
 use Rattle.kern_request.specs.declared.request.RequestBody.{RequestBody}
 use Rattle.kern_request.specs.declared.request.RequestBody.TheVariants as ask
 use Rattle.kern_request.specs.declared.request.ExecuteRequest.{ExecuteRequest}
@@ -64,7 +64,7 @@ debugs : (n : ℕ) (r : Request) (d : DapRequest) (unix_seconds : ℕ) (s : Kern
 debugs n r d unix_seconds s =
     either (Leaves s) (is_bounded d.command) (performing n r d unix_seconds s)
     (refusing n r d (codes "Arguments") unix_seconds s)
-    (answers n r d unix_seconds s (performed d.command s.board)) (record { same = refl })
+    (answers n r d unix_seconds s (command_result d.command s.board)) (record { same = refl })
 
 passes_over : (r : Request) (lacking : NeedyRequest) (unix_seconds : ℕ) (s : KernelState)
     → Leaves s (unanswered r lacking unix_seconds s)

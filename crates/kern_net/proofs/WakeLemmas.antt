@@ -20,7 +20,7 @@ use Rattle.dap_answers.specs.declared.answer.Body.TheVariants as answer_body
 use Rattle.dap_answers.specs.declared.answer.Outcome.TheVariants.{Success, Refused}
 use Rattle.dap_answers.specs.declared.answer.Event.{Event}
 use Rattle.dap_board.specs.Bodies.{body_of}
-use Rattle.dap_board.specs.Commands.{Performed, performed, with_body, first_line}
+use Rattle.dap_board.specs.Commands.{Performed, command_result, with_body, first_line}
 use Rattle.dap_board.specs.Names.{event_after, refusal_name}
 use Rattle.kern_request.specs.declared.request.RequestBody.{RequestBody}
 use Rattle.kern_request.specs.declared.request.RequestBody.TheVariants as ask
@@ -143,8 +143,8 @@ shown_keeps (Ok s) b body new is = same_board _ (body, new) is
 shown_keeps (Err fault) b body new is = absurd cc
 
 looks_keep : (c : DapCommand) (b : Board) (body : Body) (new : Board) → steers c ≡ false
-    → performed c b ≡ Ok (body, new) → new ≡ b
-unfolding performed
+    → command_result c b ≡ Ok (body, new) → new ≡ b
+unfolding command_result
 looks_keep command.Initialize b body new look is = same_board (answer_body.Capabilities, b) (body, new) is
 looks_keep command.ConfigurationDone b body new look is = same_board (answer_body.Empty, b) (body, new) is
 looks_keep command.Threads b body new look is = same_board (answer_body.Threads, b) (body, new) is
@@ -198,7 +198,7 @@ performed_go n r d s body look =
 
 answering_leaves : (n : ℕ) (r : Request) (d : DapRequest) (unix_seconds : ℕ) (s : KernelState)
     (result : Result (Body × Board) EventFault) → steers d.command ≡ false
-    → performed d.command s.board ≡ result
+    → command_result d.command s.board ≡ result
     → LeavesWork n s (answering n r d unix_seconds s result)
 answering_leaves n r d unix_seconds s (Ok (body, b)) look is = record {
   board = looks_keep d.command s.board body b look is;
@@ -214,7 +214,7 @@ debugging_leaves : (n : ℕ) (r : Request) (d : DapRequest) (unix_seconds : ℕ)
 debugging_leaves n r d unix_seconds s look =
     either (LeavesWork n s) (is_bounded d.command) (performing n r d unix_seconds s)
     (refusing n r d (codes "Arguments") unix_seconds s)
-    (answering_leaves n r d unix_seconds s (performed d.command s.board) look refl)
+    (answering_leaves n r d unix_seconds s (command_result d.command s.board) look refl)
     (refusing_leaves n r d (codes "Arguments") unix_seconds s)
 
 -- ---- the other requests

@@ -53,8 +53,8 @@ rung true p = record p { wakes = p.wakes + 1 }
 rung false p = record p { tells = p.tells + 1 }
 
 -- of a gate that wasn't polled yet, and woke nobody
-abbrev pub unpolled : WorkerPolls
-unpolled = record { before = record { yes = 0; no = 0 }; idle = record { yes = 0; no = 0 }; wakes = 0 }
+abbrev pub no_polls : WorkerPolls
+no_polls = record { before = record { yes = 0; no = 0 }; idle = record { yes = 0; no = 0 }; wakes = 0 }
 
 -- how often a worker's gate has said no
 abbrev pub noes : WorkerPolls → ℕ

@@ -1,6 +1,6 @@
 //! How often a gate was polled and what it answered, as a gate may keep it.
 ghost use Rattle.std.specs.Prelude.{◌≡◌, ◌+◌, ◌<◌, ◌↔◌, IsTrue};
-ghost use Rattle.kern_net.specs.Gates.{with_answer, before_polled, idle_polled, with_wake, unpolled, noes};
+ghost use Rattle.kern_net.specs.Gates.{with_answer, before_polled, idle_polled, with_wake, no_polls, noes};
 
 use std::marker::Model;
 use std::sync::Wait;
@@ -84,7 +84,7 @@ impl Model for WorkerTally {
 impl WorkerTally {
     /// Of a gate that wasn't polled yet.
     pub fn new() -> WorkerTally
-        ensures { result ≡ unpolled }
+        ensures { result ≡ no_polls }
     {
         WorkerTally {
             before: Tally::new(),

@@ -1,7 +1,7 @@
 //! The worker, which makes the kernel go on.
 ghost use Rattle.std.specs.Prelude.{◌≡◌, ◌+◌, length, Some, IsSome, IfOk, IfErr, OnOk};
 ghost use Rattle.kern_net.specs.declared.worker.Progress.TheVariants as progress;
-ghost use Rattle.kern_net.specs.Gates.{unpolled, IsOpen};
+ghost use Rattle.kern_net.specs.Gates.{no_polls, IsOpen};
 ghost use Rattle.kern_net.specs.Work.{progress_of, untaken, OneSlice, SawShutdown, SliceEnds, Sliced};
 ghost use Rattle.kern_net.specs.Work.{WorkEnds};
 
@@ -120,7 +120,7 @@ fn round<R: Wait, G: WorkerGate>(
 /// It may wait, or never end, as its gate does.
 pub fn worker<R: Wait, G: WorkerGate>(rt: &R, desk: &Desk, pass: &mut Pass, gate: &mut G) -> PumpEnd
     requires pass { pass.old.turnstile ≡ desk.now }
-    requires gate { G.polls gate.old ≡ unpolled }
+    requires gate { G.polls gate.old ≡ no_polls }
     ensures same { (pass.new.turnstile ≡ desk.now) × (pass.new.seat ≡ pass.old.seat) }
     ensures sliced { Sliced pass.old.calls pass.new.calls
         (G.polls gate.old) (G.polls gate.new) (untaken result) }

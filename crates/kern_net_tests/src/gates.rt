@@ -1,6 +1,6 @@
 //! Gates that say yes so often and then no, and count what they said. They wait for nothing.
 ghost use Rattle.std.specs.Prelude.{◌≡◌};
-ghost use Rattle.kern_net.specs.Gates.{unpolled};
+ghost use Rattle.kern_net.specs.Gates.{no_polls};
 
 use kern_desk::seated::Pass;
 use kern_net::gate::{ReaderGate, WorkerGate, WriterGate};
@@ -21,7 +21,7 @@ pub struct WorkGate {
 impl WorkGate {
     /// A gate that wasn't polled yet.
     pub fn new(befores: u64, idles: u64) -> WorkGate
-        ensures { result.polls ≡ unpolled }
+        ensures { result.polls ≡ no_polls }
     {
         WorkGate {
             befores,

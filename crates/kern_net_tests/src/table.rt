@@ -1,6 +1,6 @@
 //! A kernel's desk with a pass for what is read and one for what is written.
 ghost use Rattle.std.specs.Prelude.{◌≡◌, All, false};
-ghost use Rattle.kern_net.specs.Gates.{unpolled};
+ghost use Rattle.kern_net.specs.Gates.{no_polls};
 
 use crate::gates::{InGate, OutGate, WorkGate};
 use base_streams::memory::{Sink, Source};
@@ -144,7 +144,7 @@ impl Table {
 
     /// Makes slices at a gate.
     pub fn work<R: Wait>(&mut self, rt: &R, gate: &mut WorkGate) -> PumpEnd
-        requires { gate.old.polls ≡ unpolled }
+        requires { gate.old.polls ≡ no_polls }
     {
         worker(rt, &self.desk, &mut self.reading, gate)
     }

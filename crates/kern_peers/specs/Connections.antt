@@ -103,5 +103,5 @@ without_first prefix (p ∷ ps) = if bytes_eq p prefix then ps else p ∷ withou
 abbrev pub subscribed_by : ℕ → Bytes → Connections → Connections
 subscribed_by n prefix s = record s { peers = changed_at n (λ prefixes. prefixes ++ prefix ∷ []) s.peers }
 
-abbrev pub cancelled : ℕ → Bytes → Connections → Connections
-cancelled n prefix s = record s { peers = changed_at n (without_first prefix) s.peers }
+abbrev pub without_subscription : ℕ → Bytes → Connections → Connections
+without_subscription n prefix s = record s { peers = changed_at n (without_first prefix) s.peers }

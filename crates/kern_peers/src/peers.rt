@@ -7,7 +7,7 @@ ghost use Rattle.jup_wire.specs.declared.channel.Channel.TheVariants.{Stdin};
 ghost use Rattle.kern_peers.specs.Connections.{no_connections, is_empty, is_number, is_on};
 ghost use Rattle.kern_peers.specs.Connections.{is_same, is_taken, has_no_place, peer_at, stdin_of};
 ghost use Rattle.kern_peers.specs.Connections.{begins, is_subscribed, subscribers, joined_by};
-ghost use Rattle.kern_peers.specs.Connections.{without, without_first, subscribed_by, cancelled};
+ghost use Rattle.kern_peers.specs.Connections.{without, without_first, subscribed_by, without_subscription};
 
 use crate::peer::Peer;
 use base_text::sequence::{Bytes, Sequence};
@@ -102,7 +102,7 @@ impl Peers {
 
     /// The first subscription of that connection with this prefix ends. Without one nothing changes.
     pub fn cancel(&mut self, number: u32, prefix: &[u8])
-        ensures { self.new ≡ cancelled number prefix.now self.old }
+        ensures { self.new ≡ without_subscription number prefix.now self.old }
     {
         if let Some(place) = place_of(&self.peers, number) {
             take_out(self.alloc, &mut self.peers[place].prefixes, prefix);

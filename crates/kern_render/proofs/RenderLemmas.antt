@@ -9,7 +9,7 @@ use Rattle.kern_post.specs.declared.post.Post.{Post}
 use Rattle.kern_render.specs.Json.{content_json}
 use Rattle.kern_render.proofs.FloatLemmas.{content_has_no_float}
 use Rattle.jup_wire.specs.Dates.{IsDate, last_moment}
-use Rattle.kern_render.specs.Rendering.{post_header, parts_of, rendered, IsRendered}
+use Rattle.kern_render.specs.Rendering.{post_header, parts_of, frames_with_date, IsRendered}
 use Rattle.kern_render.specs.Drafts.{IsDraftOf}
 use Rattle.jup_wire.proofs.DateLemmas.{one_date}
 
@@ -31,4 +31,4 @@ sealed_is_rendered key date session post draft frames dated of s =
 pub one_rendering : (key session : List ℕ) (post : Post) (a b : List (List ℕ))
     → IsRendered key session post a → IsRendered key session post b → a ≡ b
 one_rendering key session post a b (date, dated, is) (date', dated', is') =
-    is ∙ (ap (λ d. rendered d key session post) (one_date _ date date' dated dated') ∙ sym is')
+    is ∙ (ap (λ d. frames_with_date d key session post) (one_date _ date date' dated dated') ∙ sym is')

@@ -34,12 +34,12 @@ parts_of date session post = record {
 }
 
 -- the frames under a key, with this date in the header
-abbrev pub rendered : Text → Bytes → Text → Post → Frames
-rendered date key session post =
+abbrev pub frames_with_date : Text → Bytes → Text → Post → Frames
+frames_with_date date key session post =
     frames_of (parts_of date session post) (signature_frame key (parts_of date session post))
 
 -- these are the frames; a later moment counts as the last one that is written
 abbrev pub IsRendered : Bytes → Text → Post → Frames → Type 0
 IsRendered key session post frames =
     (date : Text) × IsDate (min post.unix_seconds last_moment) date
-    × (frames ≡ rendered date key session post)
+    × (frames ≡ frames_with_date date key session post)

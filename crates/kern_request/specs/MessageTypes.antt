@@ -7,19 +7,19 @@ use Rattle.jup_wire.specs.declared.channel.Channel.TheVariants.{Shell, Control, 
 use Rattle.kern_request.specs.declared.message_type.MessageType.{MessageType}
 use Rattle.kern_request.specs.declared.message_type.MessageType.TheVariants as message
 
-abbrev pub spelled : MessageType → Text
-spelled message.KernelInfo = codes "kernel_info_request"
-spelled message.Execute = codes "execute_request"
-spelled message.IsComplete = codes "is_complete_request"
-spelled message.Complete = codes "complete_request"
-spelled message.Inspect = codes "inspect_request"
-spelled message.History = codes "history_request"
-spelled message.CommInfo = codes "comm_info_request"
-spelled message.CommOpen = codes "comm_open"
-spelled message.Shutdown = codes "shutdown_request"
-spelled message.Interrupt = codes "interrupt_request"
-spelled message.Debug = codes "debug_request"
-spelled message.InputReply = codes "input_reply"
+abbrev pub type_text : MessageType → Text
+type_text message.KernelInfo = codes "kernel_info_request"
+type_text message.Execute = codes "execute_request"
+type_text message.IsComplete = codes "is_complete_request"
+type_text message.Complete = codes "complete_request"
+type_text message.Inspect = codes "inspect_request"
+type_text message.History = codes "history_request"
+type_text message.CommInfo = codes "comm_info_request"
+type_text message.CommOpen = codes "comm_open"
+type_text message.Shutdown = codes "shutdown_request"
+type_text message.Interrupt = codes "interrupt_request"
+type_text message.Debug = codes "debug_request"
+type_text message.InputReply = codes "input_reply"
 
 -- what is answered on a channel
 abbrev pub types_on : Channel → List MessageType
@@ -32,8 +32,8 @@ types_on Iopub = []
 
 -- the first of these that is spelled so
 abbrev pub first_named : List MessageType → Text → Option MessageType
-first_named types t = find (λ message_type. bytes_eq (spelled message_type) t) types
+first_named types t = find (λ message_type. bytes_eq (type_text message_type) t) types
 
 -- the type that is spelled so, if the channel has it
-abbrev pub named : Channel → Text → Option MessageType
-named channel t = first_named (types_on channel) t
+abbrev pub type_named : Channel → Text → Option MessageType
+type_named channel t = first_named (types_on channel) t

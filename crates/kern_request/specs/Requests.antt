@@ -31,7 +31,7 @@ use Rattle.kern_request.specs.declared.request.NeedyRequest.TheVariants as needy
 use Rattle.kern_request.specs.declared.request.Request.{Request}
 use Rattle.kern_request.specs.declared.message_type.MessageType.{MessageType}
 use Rattle.kern_request.specs.declared.message_type.MessageType.TheVariants as message
-use Rattle.kern_request.specs.MessageTypes.{named}
+use Rattle.kern_request.specs.MessageTypes.{type_named}
 
 -- ---- what stands in a content
 
@@ -96,23 +96,23 @@ debug_body (request seq command) = body.Debug (record { seq = seq; command = com
 
 -- ---- the ask
 
-abbrev pub needed : NeedyRequest → Option RequestBody → RequestBody
-needed needy_request None = body.BadContent needy_request
-needed needy_request (Some found) = found
+abbrev pub body_or_bad : NeedyRequest → Option RequestBody → RequestBody
+body_or_bad needy_request None = body.BadContent needy_request
+body_or_bad needy_request (Some found) = found
 
 abbrev pub body_by_type : MessageType → Data → RequestBody
 body_by_type message.KernelInfo content = body.KernelInfo
-body_by_type message.Execute content = needed needy.Execute (execute_body content)
-body_by_type message.IsComplete content = needed needy.IsComplete (is_complete_body content)
-body_by_type message.Complete content = needed needy.Complete (complete_body content)
+body_by_type message.Execute content = body_or_bad needy.Execute (execute_body content)
+body_by_type message.IsComplete content = body_or_bad needy.IsComplete (is_complete_body content)
+body_by_type message.Complete content = body_or_bad needy.Complete (complete_body content)
 body_by_type message.Inspect content = body.Inspect
 body_by_type message.History content = body.History
 body_by_type message.CommInfo content = body.CommInfo
-body_by_type message.CommOpen content = needed needy.CommOpen (comm_open_body content)
-body_by_type message.Shutdown content = needed needy.Shutdown (shutdown_body content)
+body_by_type message.CommOpen content = body_or_bad needy.CommOpen (comm_open_body content)
+body_by_type message.Shutdown content = body_or_bad needy.Shutdown (shutdown_body content)
 body_by_type message.Interrupt content = body.Interrupt
 body_by_type message.Debug content = debug_body (reading content)
-body_by_type message.InputReply content = needed needy.InputReply (input_reply_body content)
+body_by_type message.InputReply content = body_or_bad needy.InputReply (input_reply_body content)
 
 abbrev pub body_or_unknown : Option MessageType → Data → RequestBody
 body_or_unknown None content = body.Unknown
@@ -120,7 +120,7 @@ body_or_unknown (Some message_type) content = body_by_type message_type content
 
 -- what a message of this type asks for on this channel
 unfoldable pub body_of : Channel → Text → Data → RequestBody
-body_of channel msg_type content = body_or_unknown (named channel msg_type) content
+body_of channel msg_type content = body_or_unknown (type_named channel msg_type) content
 
 -- with what its reply repeats of it
 abbrev pub request_of : Channel → Message → Request

@@ -1,6 +1,6 @@
 //! The types of requests.
 ghost use Rattle.std.specs.Prelude.{◌≡◌};
-ghost use Rattle.kern_request.specs.MessageTypes.{spelled, first_named};
+ghost use Rattle.kern_request.specs.MessageTypes.{type_text, first_named};
 
 use jup_wire::channel::Channel;
 
@@ -45,11 +45,11 @@ const ON_CONTROL: [MessageType; 4] = [
 const ON_STDIN: [MessageType; 1] = [MessageType::InputReply];
 
 impl MessageType {
-    ghost use Rattle.kern_request.specs.MessageTypes.{named};
+    ghost use Rattle.kern_request.specs.MessageTypes.{type_named};
 
     /// The text of `msg_type` in headers.
     pub fn as_str(self) -> &'static str
-        ensures { result.now ≡ spelled self }
+        ensures { result.now ≡ type_text self }
     {
         match self {
             MessageType::KernelInfo => "kernel_info_request",
@@ -69,7 +69,7 @@ impl MessageType {
 
     /// The type of this text, if it is answered on the channel.
     pub fn from_name(channel: Channel, text: &str) -> Option<MessageType>
-        ensures { result ≡ named channel text.now }
+        ensures { result ≡ type_named channel text.now }
     {
         match channel {
             Channel::Shell => first_named(&ON_SHELL, text),

@@ -3,7 +3,7 @@ ghost use Rattle.std.specs.Prelude.{◌≡◌, IfOk};
 ghost use Rattle.serde_json.specs.View.{view};
 ghost use Rattle.dap_talk.specs.Reading.{reading};
 ghost use Rattle.kern_request.specs.declared.request.NeedyRequest.{NeedyRequest};
-ghost use Rattle.kern_request.specs.Requests.{needed, execute_body, is_complete_body, complete_body};
+ghost use Rattle.kern_request.specs.Requests.{body_or_bad, execute_body, is_complete_body, complete_body};
 ghost use Rattle.kern_request.specs.Requests.{comm_open_body, shutdown_body, input_reply_body, debug_body};
 ghost use Rattle.kern_request.specs.Requests.{body_by_type, body_of, request_of};
 
@@ -22,7 +22,8 @@ use serde_json::Value;
 use std::alloc::{AllocError, Global};
 
 fn execute(alloc: Global, content: &Value) -> Result<RequestBody, AllocError>
-    ensures { IfOk result (λ body. body ≡ needed NeedyRequest.Execute (execute_body (view content.now))) }
+    ensures { IfOk result (λ body. body ≡ body_or_bad NeedyRequest.Execute
+        (execute_body (view content.now))) }
 {
     let Some(code) = text_at(content, "code") else {
         return Ok(RequestBody::BadContent(NeedyRequest::Execute));
@@ -47,7 +48,7 @@ fn execute(alloc: Global, content: &Value) -> Result<RequestBody, AllocError>
 
 fn is_complete(alloc: Global, content: &Value) -> Result<RequestBody, AllocError>
     ensures { IfOk result
-        (λ body. body ≡ needed NeedyRequest.IsComplete (is_complete_body (view content.now))) }
+        (λ body. body ≡ body_or_bad NeedyRequest.IsComplete (is_complete_body (view content.now))) }
 {
     let Some(code) = text_at(content, "code") else {
         return Ok(RequestBody::BadContent(NeedyRequest::IsComplete));
@@ -57,7 +58,7 @@ fn is_complete(alloc: Global, content: &Value) -> Result<RequestBody, AllocError
 }
 
 fn complete(content: &Value) -> RequestBody
-    ensures { result ≡ needed NeedyRequest.Complete (complete_body (view content.now)) }
+    ensures { result ≡ body_or_bad NeedyRequest.Complete (complete_body (view content.now)) }
 {
     match whole_at(content, "cursor_pos") {
         Some(cursor_pos) => RequestBody::Complete { cursor_pos },
@@ -67,7 +68,7 @@ fn complete(content: &Value) -> RequestBody
 
 fn comm_open(alloc: Global, content: &Value) -> Result<RequestBody, AllocError>
     ensures { IfOk result
-        (λ body. body ≡ needed NeedyRequest.CommOpen (comm_open_body (view content.now))) }
+        (λ body. body ≡ body_or_bad NeedyRequest.CommOpen (comm_open_body (view content.now))) }
 {
     let Some(comm_id) = text_at(content, "comm_id") else {
         return Ok(RequestBody::BadContent(NeedyRequest::CommOpen));
@@ -77,7 +78,7 @@ fn comm_open(alloc: Global, content: &Value) -> Result<RequestBody, AllocError>
 }
 
 fn shutdown(content: &Value) -> RequestBody
-    ensures { result ≡ needed NeedyRequest.Shutdown (shutdown_body (view content.now)) }
+    ensures { result ≡ body_or_bad NeedyRequest.Shutdown (shutdown_body (view content.now)) }
 {
     match truth_or(content, "restart", false) {
         Some(restarts) => RequestBody::Shutdown { restarts },
@@ -87,7 +88,7 @@ fn shutdown(content: &Value) -> RequestBody
 
 fn input_reply(alloc: Global, content: &Value) -> Result<RequestBody, AllocError>
     ensures { IfOk result
-        (λ body. body ≡ needed NeedyRequest.InputReply (input_reply_body (view content.now))) }
+        (λ body. body ≡ body_or_bad NeedyRequest.InputReply (input_reply_body (view content.now))) }
 {
     let Some(value) = text_at(content, "value") else {
         return Ok(RequestBody::BadContent(NeedyRequest::InputReply));

@@ -9,10 +9,10 @@ use Rattle.kern_serve.specs.declared.fault.ServerFault.TheVariants.{OutOfMemory,
 
 -- what the worker's end is for the server, by whether its gate has said no, as it does where the journal is
 -- full
-abbrev pub served : Bool → PumpEnd → Result ServerEnd ServerFault
-served false pump.Ended = Ok ShutDown
-served true pump.Ended = Ok JournalFull
-served closed pump.JournalFull = Ok JournalFull
-served closed pump.Worn = Ok JournalFull
-served closed pump.OutOfMemory = Err OutOfMemory
-served closed _ = Err System
+abbrev pub server_end : Bool → PumpEnd → Result ServerEnd ServerFault
+server_end false pump.Ended = Ok ShutDown
+server_end true pump.Ended = Ok JournalFull
+server_end closed pump.JournalFull = Ok JournalFull
+server_end closed pump.Worn = Ok JournalFull
+server_end closed pump.OutOfMemory = Err OutOfMemory
+server_end closed _ = Err System

@@ -207,11 +207,11 @@ pub struct WorkGate<'a, C: Wait + Clock + Print> {
 }
 
 impl<'a, C: Wait + Clock + Print> WorkGate<'a, C> {
-    ghost use Rattle.kern_net.specs.Gates.{unpolled, noes};
+    ghost use Rattle.kern_net.specs.Gates.{no_polls, noes};
 
     /// A gate that wasn't polled yet.
     pub fn new(wakeups: &'a Wakeups, clock: &'a C) -> WorkGate<'a, C>
-        ensures { result.polls ≡ unpolled }
+        ensures { result.polls ≡ no_polls }
     {
         WorkGate {
             wakeups,

@@ -1,7 +1,7 @@
 //! The server: its threads, and the worker.
 ghost use Rattle.std.specs.Prelude.{◌≡◌, All, IfOk};
 ghost use Rattle.std.specs.Arc.{arc_value};
-ghost use Rattle.kern_serve.specs.Ends.{served};
+ghost use Rattle.kern_serve.specs.Ends.{server_end};
 ghost use Rattle.kern_serve.specs.Passes.{AreOf, IsOf};
 
 use crate::connection::{PassPair, Shared, serve_connection};
@@ -166,7 +166,7 @@ fn start_heartbeats<R: Host>(
 
 // What the worker's end is for the server. Its gate says no only where the journal is full.
 fn end_of(end: PumpEnd, is_closed: bool) -> Result<ServerEnd, ServerFault>
-    ensures { result ≡ served is_closed end }
+    ensures { result ≡ server_end is_closed end }
 {
     match end {
         PumpEnd::Ended if !is_closed => Ok(ServerEnd::ShutDown),

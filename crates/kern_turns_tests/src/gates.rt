@@ -1,6 +1,6 @@
 //! The gates of the three threads.
 ghost use Rattle.std.specs.Prelude.{◌≡◌};
-ghost use Rattle.kern_net.specs.Gates.{unpolled};
+ghost use Rattle.kern_net.specs.Gates.{no_polls};
 
 use crate::signals::{Signals, rest};
 use kern_desk::seated::Pass;
@@ -30,7 +30,7 @@ pub struct WorkGate<'a, C: Clock> {
 impl<'a, C: Clock> WorkGate<'a, C> {
     /// A gate that wasn't polled yet.
     pub fn new(signals: &'a Signals, clock: &'a C) -> WorkGate<'a, C>
-        ensures { result.polls ≡ unpolled }
+        ensures { result.polls ≡ no_polls }
     {
         WorkGate {
             signals,

@@ -11,7 +11,7 @@ use Rattle.lab_term.specs.declared.fault.TermFault.TheVariants.{OutOfMemory, Wri
 use Rattle.lab_term.specs.declared.fault.WireCause.TheVariants.{Message}
 use Rattle.lab_term.specs.declared.follow.Course.{Course}
 use Rattle.lab_term.specs.Events.{Notice, IsNotice, IsUnopened, AreNotices, NoNotice, is_of, is_error}
-use Rattle.lab_term.specs.Events.{is_idle, is_status, text_of, shown, printed, has_error, ends}
+use Rattle.lab_term.specs.Events.{is_idle, is_status, text_of, text_shown, text_printed, has_error, ends}
 use Rattle.zmtp_wire.specs.Stream.{DecoderState, StandsFor, Completes}
 use Rattle.zmtp_wire.specs.Writing.{message_bytes}
 use Rattle.zmtp_wire.specs.declared.role.Role.TheVariants.{Dealer, Sub}
@@ -122,7 +122,7 @@ pub record Going (parent : Parent) (queue queue' : List (List (List ℕ))) (out 
   pub queue_is : queue ≡ taken ++ queue'
   pub notices : List Notice
   pub are : AreNotices parent.key taken notices
-  pub wrote : Took out out' (printed parent.header notices)
+  pub wrote : Took out out' (text_printed parent.header notices)
   pub failed_is : failed ≡ has_error parent.header notices
 
 going_first : (parent : Parent) (queue : List (List (List ℕ))) (out : OutletState) (failed : Bool)
@@ -169,11 +169,11 @@ going_on parent q q1 q2 frames out o1 o2 failed next e p t =
           notices_more parent.key p.taken (frames ∷ []) p.notices (t.notice ∷ []) p.are
           (notice_one parent.key frames t.notice t.is);
       wrote =
-          subst P (ap (λ (l : List ℕ). printed parent.header p.notices ++ l)
+          subst P (ap (λ (l : List ℕ). text_printed parent.header p.notices ++ l)
           (sym (printed_one parent.header t.notice))
           ∙ sym (printed_more parent.header p.notices (t.notice ∷ [])))
-          (told_on out.taken o1.taken o2.taken (printed parent.header p.notices)
-          (shown parent.header t.notice) p.wrote t.wrote);
+          (told_on out.taken o1.taken o2.taken (text_printed parent.header p.notices)
+          (text_shown parent.header t.notice) p.wrote t.wrote);
       failed_is =
           ap (λ (b : Bool). b || next.has_failed) p.failed_is
           ∙ ap (λ (b : Bool). has_error parent.header p.notices || b) (sym one)
@@ -269,8 +269,8 @@ going_cut parent q q1 q2 front out o1 o2 failed fault e b c =
       busy = none_more (ends parent.header) p.notices c.notices b.busy c.busy;
       wrote =
           subst P (sym (printed_more parent.header p.notices c.notices))
-          (front_on out.taken o1.taken o2.taken (printed parent.header p.notices)
-          (printed parent.header c.notices) p.wrote c.wrote);
+          (front_on out.taken o1.taken o2.taken (text_printed parent.header p.notices)
+          (text_printed parent.header c.notices) p.wrote c.wrote);
       stops = stops_before parent.key c.others q2 o2 fault c.stops;
     }
 
@@ -476,7 +476,7 @@ pub record Follows (parent : Parent) (before given : InletState) (s : Subscriber
   pub notices : List Notice
   pub are : AreNotices parent.key taken notices
   pub busy : HasNo (ends parent.header) notices
-  pub wrote : Took out out' (printed parent.header notices)
+  pub wrote : Took out out' (text_printed parent.header notices)
   pub failed_is : failed ≡ has_error parent.header notices
 
 pub follows_first : (parent : Parent) (before given : InletState) (s : Subscriber)
@@ -495,11 +495,12 @@ follows_first parent before given s passed out failed e h =
     }
 
 wrote_more : (header : List ℕ) (out o1 o2 : OutletState) (x y : List Notice)
-    → Took out o1 (printed header x) → Took o1 o2 (printed header y) → Took out o2 (printed header (x ++ y))
+    → Took out o1 (text_printed header x) → Took o1 o2 (text_printed header y)
+    → Took out o2 (text_printed header (x ++ y))
 wrote_more header out o1 o2 x y p q =
     let P : List ℕ → Type 0 = λ l. Took out o2 l in
-    subst P (sym (printed_more header x y)) (told_on out.taken o1.taken o2.taken (printed header x)
-    (printed header y) p q)
+    subst P (sym (printed_more header x y)) (told_on out.taken o1.taken o2.taken (text_printed header x)
+    (text_printed header y) p q)
 
 failed_more : (header : List ℕ) (x y : List Notice) (a b : Bool) → a ≡ has_error header x
     → b ≡ has_error header y → a || b ≡ has_error header (x ++ y)
@@ -618,12 +619,14 @@ followed_by parent before g1 s t passed out o1 o2 failed total course is p e i w
 abbrev pub RanTo : Cell → Client → Client → Bool → Type 0
 RanTo cell old new good = (ran : Ran cell old new) × (good ≡ went_well ran)
 
-pub ran_by : (cell : Cell) (old new : Client) (header shown : List ℕ) (a b : OutletState)
-    (given : InletState) (s : Subscriber) (good : Bool) → shown ≡ header → WroteWhole old.shell.to a Dealer
+pub ran_by : (cell : Cell) (old new : Client) (header text_shown : List ℕ) (a b : OutletState)
+    (given : InletState) (s : Subscriber) (good : Bool) → text_shown ≡ header
+    → WroteWhole old.shell.to a Dealer
     → Requested cell header a new.shell.to → WroteWhole old.iopub.to b Sub
     → Took b new.iopub.to (message_bytes subscription) → (w : Waited cell.key.now old.iopub.from given s)
-    → FollowedTo (parent_of cell shown) w.passed (printing old) (printing new) good → RanTo cell old new good
-ran_by cell old new header shown a b given s good is x requested y told w f =
+    → FollowedTo (parent_of cell text_shown) w.passed (printing old) (printing new) good
+    → RanTo cell old new good
+ran_by cell old new header text_shown a b given s good is x requested y told w f =
     let P : List ℕ
     → Type 0 = λ l. FollowedTo (parent_of cell l) w.passed (printing old) (printing new) good in
     let g = subst P is f in (

@@ -6,7 +6,8 @@ use Rattle.std.specs.List.{list_any}
 use Rattle.std.specs.Str.{bytes_eq}
 use Rattle.std.proofs.lemmas.Slice.Eq.{bytes_eq-Decides}
 use Rattle.std.proofs.lemmas.Grind.{flat_map-append}
-use Rattle.lab_term.specs.Events.{Notice, IsNotice, AreNotices, NoNotice, NextNotice, shown, printed, is_of}
+use Rattle.lab_term.specs.Events.{Notice, IsNotice, AreNotices, NoNotice, NextNotice, text_shown}
+use Rattle.lab_term.specs.Events.{text_printed, is_of}
 use Rattle.lab_term.specs.Events.{is_error, is_idle, is_status, has_error, error_line, text_in, text_of}
 use Rattle.lab_term.specs.Courses.{HasNo}
 
@@ -22,11 +23,12 @@ pub notice_one : (key : List ℕ) (frames : List (List ℕ)) (notice : Notice) �
 notice_one key frames notice is = NextNotice frames [] notice [] is NoNotice
 
 pub printed_more : (header : List ℕ) (x y : List Notice)
-    → printed header (x ++ y) ≡ printed header x ++ printed header y
-printed_more header x y = flat_map-append (shown header) x y
+    → text_printed header (x ++ y) ≡ text_printed header x ++ text_printed header y
+printed_more header x y = flat_map-append (text_shown header) x y
 
-pub printed_one : (header : List ℕ) (notice : Notice) → printed header (notice ∷ []) ≡ shown header notice
-printed_one header notice = append-nil (shown header notice)
+pub printed_one : (header : List ℕ) (notice : Notice)
+    → text_printed header (notice ∷ []) ≡ text_shown header notice
+printed_one header notice = append-nil (text_shown header notice)
 
 or_assoc : (a b c : Bool) → (a || b) || c ≡ a || (b || c)
 or_assoc true b c = refl

@@ -24,7 +24,7 @@ use Rattle.lab_term.specs.declared.cell.Cell.{Cell}
 use Rattle.lab_term.specs.Connections.{Client}
 use Rattle.lab_term.specs.Causes.{FailsReading, Ungreeted, Unsent, IsBroken, Stalls, Causes}
 use Rattle.lab_term.specs.Courses.{Parent, StopsAt, StopsIn, Cut}
-use Rattle.lab_term.specs.Events.{ends, printed}
+use Rattle.lab_term.specs.Events.{ends, text_printed}
 use Rattle.lab_term.specs.Faults.{term_fault_of}
 use Rattle.lab_term.specs.Reading.{Holds, Starves, Unreceived, Waited}
 use Rattle.lab_term.specs.Running.{Requested, parent_of, printing, subscription}
@@ -174,7 +174,7 @@ front_here parent before g1 g2 s passed out o1 failed fault u none w = record {
   notices = w.notices;
   are = w.are;
   busy = w.busy;
-  wrote = front_all out.taken o1.taken (printed parent.header w.notices) w.wrote;
+  wrote = front_all out.taken o1.taken (text_printed parent.header w.notices) w.wrote;
   whole = λ e. (none e, w.wrote);
 }
 
@@ -215,8 +215,8 @@ front_cut parent before given s passed out o1 o2 failed fault c w =
       busy = none_more (ends parent.header) w.notices c.notices w.busy c.busy;
       wrote =
           subst P (sym (printed_more parent.header w.notices c.notices))
-          (front_on out.taken o1.taken o2.taken (printed parent.header w.notices)
-          (printed parent.header c.notices) w.wrote c.wrote);
+          (front_on out.taken o1.taken o2.taken (text_printed parent.header w.notices)
+          (text_printed parent.header c.notices) w.wrote c.wrote);
       whole = λ e. absurd (stops_within parent.key c.others o2 fault c.stops e);
     }
 

@@ -8,8 +8,9 @@ use Rattle.lab_term.specs.declared.fault.TermFault.{TermFault}
 use Rattle.lab_term.specs.declared.fault.TermFault.TheVariants.{OutOfMemory, WriteFailed, Wire}
 use Rattle.lab_term.specs.declared.fault.WireCause.TheVariants.{Message}
 use Rattle.lab_term.specs.declared.follow.Course.{Course}
-use Rattle.lab_term.specs.Events.{Notice, IsNotice, IsUnopened, AreNotices, is_of, is_error, is_status, shown}
-use Rattle.lab_term.specs.Events.{printed, has_error, ends}
+use Rattle.lab_term.specs.Events.{Notice, IsNotice, IsUnopened, AreNotices, is_of, is_error, is_status}
+use Rattle.lab_term.specs.Events.{text_shown}
+use Rattle.lab_term.specs.Events.{text_printed, has_error, ends}
 
 -- the request that messages belong to: the key that they are signed with, and its header
 pub record Parent : Type 0 where
@@ -69,7 +70,7 @@ pub record Takes (parent : Parent) (queue queue' : Messages) (to to' : OutletSta
   pub queue_is : queue ≡ taken ++ queue'
   pub notices : List Notice
   pub are : AreNotices parent.key taken notices
-  pub wrote : Took to to' (printed parent.header notices)
+  pub wrote : Took to to' (text_printed parent.header notices)
   pub failed : course.has_failed ≡ has_error parent.header notices
   pub idle : course.is_idle ≡ true → EndsInIdle parent.header notices
   pub busy : course.is_idle ≡ false → HasNo (ends parent.header) notices
@@ -85,7 +86,7 @@ pub record Cut (parent : Parent) (queue : Messages) (to to' : OutletState) (faul
   pub notices : List Notice
   pub are : AreNotices parent.key taken notices
   pub busy : HasNo (ends parent.header) notices
-  pub wrote : TookFront to to' (printed parent.header notices)
+  pub wrote : TookFront to to' (text_printed parent.header notices)
   pub stops : StopsAt parent.key others to' fault
 
 -- a message was taken, and printed if it is the request's
@@ -93,6 +94,6 @@ pub record TakesOne (parent : Parent) (frames : Frames) (to to' : OutletState) (
     : Type 0 where
   pub notice : Notice
   pub is : IsNotice parent.key frames notice
-  pub wrote : Took to to' (shown parent.header notice)
+  pub wrote : Took to to' (text_shown parent.header notice)
   pub failed : course.has_failed ≡ is_of parent.header notice && is_error notice
   pub idle : course.is_idle ≡ ends parent.header notice

@@ -70,12 +70,12 @@ text_of notice =
     (if is_error notice then error_line notice.content else [])
 
 -- what is printed for the request of this header
-abbrev pub shown : Bytes → Notice → Bytes
-shown header notice = if is_of header notice then text_of notice else []
+abbrev pub text_shown : Bytes → Notice → Bytes
+text_shown header notice = if is_of header notice then text_of notice else []
 
 -- one after the other
-abbrev pub printed : Bytes → List Notice → Bytes
-printed header messages = flat_map (shown header) messages
+abbrev pub text_printed : Bytes → List Notice → Bytes
+text_printed header messages = flat_map (text_shown header) messages
 
 -- an error was among the request's messages
 abbrev pub has_error : Bytes → List Notice → Bool

@@ -11,7 +11,7 @@ use Rattle.zmtp_wire.specs.declared.handshake.Peer.{Peer}
 use Rattle.zmtp_wire.specs.Sending.{WroteWhole}
 use Rattle.lab_term.specs.declared.cell.Cell.{Cell}
 use Rattle.lab_term.specs.Connections.{Ports, Client}
-use Rattle.lab_term.specs.Events.{Notice, AreNotices, printed, has_error}
+use Rattle.lab_term.specs.Events.{Notice, AreNotices, text_printed, has_error}
 use Rattle.lab_term.specs.Courses.{Parent, EndsInStatus, EndsInIdle}
 use Rattle.lab_term.specs.Requests.{IsRequest}
 
@@ -26,7 +26,7 @@ pub record Followed (parent : Parent) (passed : Messages) (old new : Ports) : Ty
   pub notices : List Notice
   pub are : AreNotices parent.key taken notices
   pub idle : EndsInIdle parent.header notices
-  pub wrote : Took old.to new.to (printed parent.header notices)
+  pub wrote : Took old.to new.to (text_printed parent.header notices)
 
 -- the handshake of this role was written, and then this message
 pub record Said (to to' : OutletState) (role : Role) (message : Frames) : Type 0 where

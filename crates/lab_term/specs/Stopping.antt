@@ -14,7 +14,7 @@ use Rattle.lab_term.specs.declared.fault.TermFault.{TermFault}
 use Rattle.lab_term.specs.declared.fault.TermFault.TheVariants.{OutOfMemory, Ended, Wire}
 use Rattle.lab_term.specs.declared.fault.WireCause.TheVariants.{Stream}
 use Rattle.lab_term.specs.Connections.{Ports, Client}
-use Rattle.lab_term.specs.Events.{Notice, AreNotices, ends, printed}
+use Rattle.lab_term.specs.Events.{Notice, AreNotices, ends, text_printed}
 use Rattle.lab_term.specs.declared.cell.Cell.{Cell}
 use Rattle.lab_term.specs.Courses.{Parent, HasNo, EndsInStatus}
 use Rattle.lab_term.specs.Requests.{IsRequest}
@@ -67,8 +67,8 @@ pub record FollowedFront (parent : Parent) (passed : Messages) (old new : Ports)
   pub notices : List Notice
   pub are : AreNotices parent.key taken notices
   pub busy : HasNo (ends parent.header) notices
-  pub wrote : TookFront old.to new.to (printed parent.header notices)
-  pub whole : EndsStream fault → (others ≡ []) × Took old.to new.to (printed parent.header notices)
+  pub wrote : TookFront old.to new.to (text_printed parent.header notices)
+  pub whole : EndsStream fault → (others ≡ []) × Took old.to new.to (text_printed parent.header notices)
 
 -- the cell had begun; a front was printed of what the kernel told of it
 pub record RanFront (cell : Cell) (old new : Client) (fault : TermFault) : Type 0 where

@@ -17,7 +17,7 @@ use Rattle.zmtp_wire.specs.declared.head.Head.TheVariants.{Wants, Bad, Greets, S
 use Rattle.zmtp_wire.specs.Framing.{number_from, least_number, flag_of, kind_of, is_long, refusal}
 use Rattle.zmtp_wire.specs.Framing.{broken_by_kind, broken_by_flag, IsSize, IsAllowed}
 use Rattle.zmtp_wire.specs.Greeting.{first_broken}
-use Rattle.zmtp_wire.specs.Head.{room_at, long_size, sized, unless_refused, flagged, frame_head}
+use Rattle.zmtp_wire.specs.Head.{room_at, long_size, by_size, unless_refused, by_flag, frame_head}
 use Rattle.zmtp_wire.specs.Head.{greeting_head, head_of}
 
 -- SIZES
@@ -186,7 +186,7 @@ flag_says (Message More) true = (refl, refl)
 record Unrefused (o : Option StreamFault) (kind : Kind) (long : Bool) (bytes : List ℕ) (k : Kind)
     (from size : ℕ) : Type 0 where
   pub none : o ≡ None
-  pub is : sized kind long bytes ≡ Sized k from size
+  pub is : by_size kind long bytes ≡ Sized k from size
 
 unrefused : (o : Option StreamFault) (kind : Kind) (long : Bool) (bytes : List ℕ) (k : Kind) (from size : ℕ)
     → unless_refused o kind long bytes ≡ Sized k from size → Unrefused o kind long bytes k from size
@@ -232,7 +232,7 @@ made stage count flag k size kind long r is f room fits p = record {
 
 sized_next : (stage : Stage) (count flag : ℕ) (kind : Kind) (long : Bool) (r : List ℕ) (k : Kind)
     (from size : ℕ) → flag ≡ flag_of kind long → refusal stage count kind ≡ None
-    → sized kind long r ≡ Sized k from size → ((i : ℕ) → get_or r i 0 < 256)
+    → by_size kind long r ≡ Sized k from size → ((i : ℕ) → get_or r i 0 < 256)
     → Next stage count (flag ∷ r) k from size
 sized_next stage count flag kind true r k from size f room e low =
     let s = long_said kind 8 0 r k from size (omega arith) e in
@@ -249,7 +249,7 @@ sized_next stage count flag kind false (n ∷ r) k from size f room e low =
     rw (a, b) x
 
 flagged_next : (stage : Stage) (count flag : ℕ) (ok : Option Kind) (r : List ℕ) (k : Kind) (from size : ℕ)
-    → ok ≡ kind_of flag → flagged stage count ok (is_long flag) r ≡ Sized k from size
+    → ok ≡ kind_of flag → by_flag stage count ok (is_long flag) r ≡ Sized k from size
     → ((i : ℕ) → get_or r i 0 < 256) → Next stage count (flag ∷ r) k from size
 flagged_next stage count flag None r k from size is e low = absurd (cc)
 flagged_next stage count flag (Some kind) r k from size is e low =
@@ -293,7 +293,7 @@ never_first Handshake count kind e h = cc
 never_first Traffic count kind e h = cc
 
 sized_complete : (kind : Kind) (long : Bool) (body digits x : List ℕ) → IsSize long digits (length body)
-    → length body ≤ 1048576 → sized kind long (digits ++ (body ++ x)) ≡ Sized kind
+    → length body ≤ 1048576 → by_size kind long (digits ++ (body ++ x)) ≡ Sized kind
     (length digits + 1) (length body)
 sized_complete kind true body digits x s m =
     let n : number_from 0 digits ≤ 1048576 = (let a = s.1 in omega (arith, a, m)) in
@@ -367,7 +367,7 @@ same_front stage count bytes body body' others others' kind kind' f g =
 -- FAULTS IN FLAGS AND SIZES
 
 flagged_bad : (stage : Stage) (count : ℕ) (ok : Option Kind) (long : Bool) (bytes : List ℕ) (c : StreamFault)
-    → broken_by_kind stage count ok ≡ Some c → flagged stage count ok long bytes ≡ Bad c
+    → broken_by_kind stage count ok ≡ Some c → by_flag stage count ok long bytes ≡ Bad c
 flagged_bad stage count None long bytes c e = let k : fault.Flags ≡ c = cc in rw k refl
 flagged_bad stage count (Some kind) long bytes c e = rw e refl
 
@@ -378,7 +378,7 @@ flag_bad stage count bytes others flag c is e =
 
 flagged_large : (stage : Stage) (count : ℕ) (ok : Option Kind) (bytes : List ℕ)
     → broken_by_kind stage count ok ≡ None → 1048576 < least_number 8 0 bytes
-    → flagged stage count ok true bytes ≡ Bad fault.FrameSize
+    → by_flag stage count ok true bytes ≡ Bad fault.FrameSize
 flagged_large stage count None bytes e h = absurd (cc)
 flagged_large stage count (Some kind) bytes e h = rw e (large_bad kind 8 0 bytes (omega arith) h)
 
@@ -397,7 +397,7 @@ pub data HeadFault (stage : Stage) (count : ℕ) : List ℕ → StreamFault → 
       → c ≡ fault.FrameSize → HeadFault stage count bytes c
 
 sized_fault : (stage : Stage) (count flag : ℕ) (kind : Kind) (long : Bool) (r : List ℕ) (c : StreamFault)
-    → broken_by_flag stage count flag ≡ None → long ≡ is_long flag → sized kind long r ≡ Bad c
+    → broken_by_flag stage count flag ≡ None → long ≡ is_long flag → by_size kind long r ≡ Bad c
     → HeadFault stage count (flag ∷ r) c
 sized_fault stage count flag kind true r c none is e =
     let t = long_bad kind 8 0 r c e in BadSize (flag ∷ r) r flag c refl none (sym is) t.large t.cause_is
@@ -413,7 +413,7 @@ unrefused_fault stage count flag None kind r c is e =
     sized_fault stage count flag kind (is_long flag) r c is refl e
 
 flagged_fault : (stage : Stage) (count flag : ℕ) (ok : Option Kind) (r : List ℕ) (c : StreamFault)
-    → kind_of flag ≡ ok → flagged stage count ok (is_long flag) r ≡ Bad c → HeadFault stage count (flag ∷ r) c
+    → kind_of flag ≡ ok → by_flag stage count ok (is_long flag) r ≡ Bad c → HeadFault stage count (flag ∷ r) c
 flagged_fault stage count flag None r c is e =
     let k : fault.Flags ≡ c = cc in BadFlag (flag ∷ r) r flag c refl
     (ap (broken_by_kind stage count) is ∙ ap Some k)
@@ -446,7 +446,7 @@ unrefused_no_greeting None kind false [] e = cc
 unrefused_no_greeting None kind false (n ∷ bytes) e = cc
 
 flagged_no_greeting : (stage : Stage) (count : ℕ) (ok : Option Kind) (long : Bool) (bytes : List ℕ)
-    → flagged stage count ok long bytes ≡ Greets → ⊥
+    → by_flag stage count ok long bytes ≡ Greets → ⊥
 flagged_no_greeting stage count None long bytes e = cc
 flagged_no_greeting stage count (Some kind) long bytes e =
     unrefused_no_greeting (refusal stage count kind) kind long bytes e

@@ -33,24 +33,24 @@ short_size kind [] = Wants
 short_size kind (size ∷ bytes) = Sized kind 2 size
 
 -- what the bytes after a good flag say
-abbrev pub sized : Kind → Bool → Bytes → Head
-sized kind true bytes = long_size kind 8 0 bytes
-sized kind false bytes = short_size kind bytes
+abbrev pub by_size : Kind → Bool → Bytes → Head
+by_size kind true bytes = long_size kind 8 0 bytes
+by_size kind false bytes = short_size kind bytes
 
 -- a refusal comes first
 abbrev pub unless_refused : Option StreamFault → Kind → Bool → Bytes → Head
 unless_refused (Some c) kind long bytes = Bad c
-unless_refused None kind long bytes = sized kind long bytes
+unless_refused None kind long bytes = by_size kind long bytes
 
 -- what the bytes after a flag say
-abbrev pub flagged : Stage → ℕ → Option Kind → Bool → Bytes → Head
-flagged stage count None long bytes = Bad fault.Flags
-flagged stage count (Some kind) long bytes = unless_refused (refusal stage count kind) kind long bytes
+abbrev pub by_flag : Stage → ℕ → Option Kind → Bool → Bytes → Head
+by_flag stage count None long bytes = Bad fault.Flags
+by_flag stage count (Some kind) long bytes = unless_refused (refusal stage count kind) kind long bytes
 
 -- what the bytes of a frame say
 abbrev pub frame_head : Stage → ℕ → Bytes → Head
 frame_head stage count [] = Wants
-frame_head stage count (flag ∷ bytes) = flagged stage count (kind_of flag) (is_long flag) bytes
+frame_head stage count (flag ∷ bytes) = by_flag stage count (kind_of flag) (is_long flag) bytes
 
 -- what the bytes of a greeting say, by what is wrong with them
 abbrev pub greeting_head : Option StreamFault → Bytes → Head

@@ -1,7 +1,7 @@
 //! What is evaluated.
 ghost use Rattle.std.specs.Prelude.{◌≡◌, ◌≢◌, IfOk};
 ghost use Rattle.dap_session.specs.Evaluations.{looking, evaluating, word_done, word_of, by_word};
-ghost use Rattle.dap_board.specs.Commands.{performed, IsPerformable};
+ghost use Rattle.dap_board.specs.Commands.{command_result, IsPerformable};
 ghost use Rattle.dap_inspect.specs.Expressions.{message_of};
 ghost use Rattle.dap_session.specs.Stands.{Answers};
 
@@ -77,7 +77,7 @@ impl State {
     // A command of the prompt. What it answers is made before it is done.
     fn do_command(&mut self, alloc: Global, command: &DapCommand) -> Result<Reply, AllocError>
         requires { IsPerformable command.now }
-        ensures { Answers (λ s. word_done (performed command.now s.board) s) self.old result self.new }
+        ensures { Answers (λ s. word_done (command_result command.now s.board) s) self.old result self.new }
     {
         let done = Text::copy_of(alloc, "ok")?;
         match perform(alloc, &mut self.lab, command) {

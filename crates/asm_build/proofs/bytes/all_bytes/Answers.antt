@@ -1,13 +1,13 @@
 use Rattle.std.proofs.Common.{◌∙◌, ap}
 use Rattle.std.proofs.lemmas.Result.{err_from_is_err_and}
 use Rattle.asm_build.specs.Meaning.{all_bytes}
-use Rattle.asm_build.specs.State.{appended}
+use Rattle.asm_build.specs.State.{append_to}
 use Rattle.asm_build.proofs.BytesLemmas.{appended_none, bytes_go, bytes_fail, bytes_end}
 use Rattle.asm_build.proofs.bytes.all_bytes.Goals as goal
 
 pub loop-operand-init : goal.loop-operand-init
 loop-operand-init g c =
-    ap (λ front. appended front (all_bytes (g.T.Given.bytes (g.E.Env.values c.args.names.now) c.args.here)
+    ap (λ front. append_to front (all_bytes (g.T.Given.bytes (g.E.Env.values c.args.names.now) c.args.here)
     c.args.operands.now)) c.new-bytes.ensures.items
     ∙ appended_none _
 

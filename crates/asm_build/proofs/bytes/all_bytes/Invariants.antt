@@ -1,10 +1,10 @@
 use Rattle.std.proofs.Common.{◌≡◌, drop}
 use Rattle.asm_build.specs.Meaning.{all_bytes}
-use Rattle.asm_build.specs.State.{appended}
+use Rattle.asm_build.specs.State.{append_to}
 use Rattle.asm_build.proofs.bytes.all_bytes.Given as goal
 
 abbrev pub invariant-loop-operand : goal.invariant-loop-operand
 invariant-loop-operand g l =
-    appended l.bytes.items (all_bytes (g.T.Given.bytes (g.E.Env.values l.names) l.here)
+    append_to l.bytes.items (all_bytes (g.T.Given.bytes (g.E.Env.values l.names) l.here)
     (drop l.operand-index l.operands))
     ≡ all_bytes (g.T.Given.bytes (g.E.Env.values l.names) l.here) l.operands

@@ -1,6 +1,6 @@
 use Rattle.std.proofs.Common.{◌≡◌, ◌∙◌, ◌-◌, false, suc, length, ap, arith}
 use Rattle.std.proofs.lemmas.List.{get_or_read}
-use Rattle.asm_build.specs.Reading.{switched}
+use Rattle.asm_build.specs.Reading.{switch_innermost}
 use Rattle.asm_build.proofs.ListLemmas.{switched_reverse}
 use Rattle.asm_build.proofs.parts.Parts.switch.Goals as goal
 
@@ -11,4 +11,4 @@ returns-then-open-gt0 c =
     let long : length xs ≡ suc n = omega (arith, c.len-open.ensures) in
     switched_reverse xs n c.index.result.now long
     (get_or_read xs _ _ (omega (arith, long)) c.index.ensures false)
-    ∙ ap switched c.self.view_is
+    ∙ ap switch_innermost c.self.view_is

@@ -1,5 +1,5 @@
 use Rattle.std.proofs.Common.{List, ℕ, ap, sym, ◌∙◌}
-use Rattle.cli_io.specs.HexInput.{Bytes, paired}
+use Rattle.cli_io.specs.HexInput.{Bytes, byte_pairs}
 use Rattle.cli_io.specs.HexState.{HexState}
 use Rattle.cli_io.proofs.HexLemmas.{found_long, found_bytes}
 use Rattle.cli_io.proofs.hex_input.HexInput.digits.Goals as goal
@@ -15,5 +15,5 @@ returns-clause-found c text stands =
     found_bytes c.args.self.now text stands
     (ap (λ (h : HexState). h.is_odd) (sym c.self.view_is) ∙ c.if-self.false)
     (ap (λ (h : HexState). h.is_long) (sym c.self.view_is) ∙ c.if-self-2.false)
-    ∙ ap (λ (ds : List ℕ). Bytes (paired ds)) (ap (λ (h : HexState). h.digits) (sym c.self.view_is)
+    ∙ ap (λ (ds : List ℕ). Bytes (byte_pairs ds)) (ap (λ (h : HexState). h.digits) (sym c.self.view_is)
     ∙ sym c.as_slice.ensures.value)

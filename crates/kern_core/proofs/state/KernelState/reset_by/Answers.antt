@@ -2,7 +2,7 @@ use Rattle.std.proofs.Common.{◌≡◌, ◌∙◌, ℕ, List, [], ◌∷◌, �
 use Rattle.lab_core.specs.Events.{reset}
 use Rattle.dap_answers.specs.declared.answer.Body.TheVariants.{Empty}
 use Rattle.dap_answers.specs.declared.answer.Outcome.TheVariants.{Success}
-use Rattle.dap_talk.specs.Table.{spelled}
+use Rattle.dap_talk.specs.Table.{spelling_of}
 use Rattle.kern_post.specs.declared.post.Letter.{Letter}
 use Rattle.kern_post.specs.declared.content.Cause.TheVariants as cause
 use Rattle.kern_post.specs.declared.content.Content.TheVariants as content
@@ -21,7 +21,7 @@ returns c = (
       let r = c.args.request.now in
       let d = c.args.debug.now in
       let new = c.reset_board.new.self in
-      let named : c.in_ok-command.command ≡ spelled c.name.result =
+      let named : c.in_ok-command.command ≡ spelling_of c.name.result =
       c.in_ok-command.ensures ∙ c.as_str.ensures in
       let told : List ℕ → List Letter =
       λ text. enclosed s.connections r.header (cut_letters cause.Reset s
@@ -30,7 +30,7 @@ returns c = (
         command = text;
         outcome = Success Empty;
       })) ∷ []) in
-      let letters = c.in_ok-letters.ensures s stands ∙ ap told (named ∙ ap spelled c.name.ensures) in
+      let letters = c.in_ok-letters.ensures s stands ∙ ap told (named ∙ ap spelling_of c.name.ensures) in
       let Q : List Letter → Type 0 =
       λ ls. StandsFor new (after (posting Arrived c.args.unix_seconds ls
       (with_board (reset s.board) (cut_work s) s))) in

@@ -1,6 +1,6 @@
 use Rattle.std.proofs.Common.{◌∙◌, List, ap, sym}
 use Rattle.kern_peers.specs.declared.peer.Peer.{Peer}
-use Rattle.kern_peers.specs.Connections.{Connections, without_first, cancelled}
+use Rattle.kern_peers.specs.Connections.{Connections, without_first, without_subscription}
 use Rattle.kern_peers.proofs.PrefixLemmas.{changed_there, changed_nowhere}
 use Rattle.kern_peers.proofs.peers.Peers.cancel.Goals as goal
 
@@ -12,7 +12,7 @@ returns-in-Some c =
     changed_there c.args.number (without_first c.args.prefix.now) c.self.inside.peers.items
     c.in-Some.place c.index_mut.result.now found c.index_mut.ensures.value in
     rw c.take_out.ensures
-    (ap with there ∙ ap (cancelled c.args.number c.args.prefix.now) c.self.view_is)
+    (ap with there ∙ ap (without_subscription c.args.number c.args.prefix.now) c.self.view_is)
 
 pub returns-in_default : goal.returns-in_default
 returns-in_default c =
@@ -21,4 +21,4 @@ returns-in_default c =
     sym c.self.view_is
     ∙ (ap with (changed_nowhere c.args.number (without_first c.args.prefix.now) c.self.inside.peers.items
     missing)
-    ∙ ap (cancelled c.args.number c.args.prefix.now) c.self.view_is)
+    ∙ ap (without_subscription c.args.number c.args.prefix.now) c.self.view_is)
