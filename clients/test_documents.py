@@ -7,7 +7,7 @@ from pathlib import Path
 TOP = Path(__file__).resolve().parent.parent
 sys.path.insert(0, str(TOP))
 
-from workspace import own_uses, uses  # noqa: E402
+from workspace import folder, own_uses, uses  # noqa: E402
 
 DOCUMENTS = [TOP / "README.md", *sorted((TOP / "docs").glob("*.md"))]
 
@@ -48,10 +48,11 @@ class Documents(unittest.TestCase):
             for link in re.findall(r"\]\(([^)#:]+)\)", document.read_text()):
                 self.assertTrue((document.parent / link).exists(), f"{document.name}: {link}")
 
-    def test_each_crate_is_described(self):
-        text = (TOP / "docs/ARCHITECTURE.md").read_text()
-        for crate in filter(is_drawn, uses()):
-            self.assertRegex(text, rf"\*\*{crate}[.*]", crate)
+    def test_each_crate_says_first_what_it_promises(self):
+        for crate in uses():
+            root = next(it for it in (folder(crate) / "src/main.rt", folder(crate) / "src/lib.rt") if it.is_file())
+            head = re.match(r"(//[^\n]*\n)*", root.read_text())[0].split("\n")[:-1]
+            self.assertTrue(1 <= len(head) <= 6, f"{crate}: {len(head)} lines")
 
 
 if __name__ == "__main__":

@@ -1,9 +1,8 @@
-// Assembling the statements of a cell over the symbols that were kept: `build`.
-// It answers the bytes, their lines, the start and the symbols of the cell's consistent reading, of
-// which there is one, or else the first fault: layout line by line, then values line by line.
-// `laws` says by conditions on readings where each fault stands, and which of several is told.
-// `Symbols` are names with what they stand for, in order of definition; those handed in stay as
-// they are.
+// Assembling the statements of a cell over the kept symbols. `build` returns the bytes, their lines, the
+// start and the symbols of the cell's one consistent reading, or else the first fault: layout line by line,
+// then values line by line. `laws` says by conditions on readings where each fault stands, and which of
+// several is returned. `Symbols` are names with their values, in the order of definition; the ones handed in
+// stay as they are.
 #![tactic(auto)]
 
 pub mod built;

@@ -1,9 +1,7 @@
-// Debug requests (Debug Adapter Protocol), as JSON values and as typed ones.
-// `read_request` answers what one table of commands and arguments says of a JSON value: the typed
-// request, or the first fault that stands. Refusing takes no memory; only what a request carries
-// does.
-// `member_at` and `text_at` are what stands at a key of a JSON value.
-// A fault borrows from the request what the response that refuses it repeats.
+// Debug requests (Debug Adapter Protocol), as JSON values and as typed ones. `read_request` returns what one
+// table of commands and arguments says of a JSON value: the typed request, or the first fault that stands. To
+// refuse a request allocates nothing: a fault borrows what the response repeats. `member_at` and `text_at`
+// are what stands at a key of a JSON value.
 #![tactic(auto)]
 
 pub mod arguments;

@@ -1,9 +1,8 @@
-// Bytes as a listing: text of the assembler that assembles to these bytes.
-// `line_at` answers the first line of some bytes, `listing` all lines after an ORG. `laws` says
-// that they agree, and that every listing is a cell that is assembled without a fault, over whatever
-// symbols were kept, to its bytes at their places, with no start, and that it leaves the symbols as
-// they are.
-// What a line shows is a relation of bytes and lines that the code doesn't share.
+// Bytes as a listing: a text of the assembler that assembles to these bytes. `line_at` returns the first line
+// of some bytes, `listing` all lines after an ORG. `laws` says that they agree, and that every listing is a
+// cell that assembles without a fault, over any kept symbols, to its bytes at their places; it has no start
+// and leaves the symbols as they are. What a line shows is a relation of bytes and lines that the code
+// doesn't share.
 #![tactic(auto)]
 
 pub mod laws;

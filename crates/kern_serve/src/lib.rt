@@ -1,9 +1,8 @@
-// The kernel as a server on five TCP ports (Jupyter messaging 5.4): `Listeners::bind` takes the ports of a
-// connection file, `serve` serves them until a shutdown comes or the journal is full. Sixteen connections a
-// channel are served at once, each by a reader and a writer with passes of their own, for good; the thread
-// that calls `serve` is the worker. Further connections wait for a free slot. Contracts say that each thread
-// has passes of this kernel alone, and that gates count what they say; the pace is kern_pace's, and where
-// threads wait kern_waits'. That threads wake one another is only tested.
+// The kernel as a server on five TCP ports (Jupyter messaging 5.4). `Listeners::bind` takes the ports of a
+// connection file; `serve` serves them until a shutdown or a full journal, sixteen connections a channel,
+// each with a reader and a writer that have passes of their own; its caller is the worker. Contracts say that
+// each thread has passes of this kernel alone, and that gates count what they say. That threads wake one
+// another is only tested.
 #![tactic(auto)]
 
 mod connection;

@@ -1,9 +1,8 @@
-// Where the threads of a server wait, and what wakes them. `Wakeups` has an event count for each: the worker
-// waits for work, each writer for posts, and who makes a call notifies those whom it concerns. `Throttles`
-// makes newcomers of a channel wait for their turn, and `UnsignedStream` bytes that nobody signed for their
-// budget. `sockets` waits for connections, and has the system find peers that vanish. A `Stopwatch` tells the
-// time since a server began. How long each waits is kern_pace's. That threads wake one another is only
-// tested.
+// Where the threads of a server wait, and what wakes them. `Wakeups` has an event count for the worker and
+// for each writer, and who makes a call notifies those whom it concerns. `Throttles` makes newcomers of a
+// channel wait for their turn, `UnsignedStream` unsigned bytes for their budget, each as long as kern_pace
+// says. `sockets` has the system find peers that vanish; a `Stopwatch` tells the time. That threads wake one
+// another is only tested.
 #![tactic(auto)]
 
 pub mod event_count;
