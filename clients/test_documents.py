@@ -54,6 +54,12 @@ class Documents(unittest.TestCase):
             head = re.match(r"(//[^\n]*\n)*", root.read_text())[0].split("\n")[:-1]
             self.assertTrue(1 <= len(head) <= 6, f"{crate}: {len(head)} lines")
 
+    def test_what_must_be_trusted_has_its_lines(self):
+        rows = re.findall(r"^\| `(\w+/specs/\w+\.antt)` \| (\d+) \|", (TOP / "docs/TRUST.md").read_text(), re.MULTILINE)
+        self.assertTrue(rows)
+        for name, lines in rows:
+            self.assertEqual(int(lines), (TOP / "crates" / name).read_text().count("\n"), name)
+
 
 if __name__ == "__main__":
     unittest.main()
