@@ -1,10 +1,10 @@
 //! Calls on a kernel, each answered by a plain value.
+use base_text::boxed::Boxed;
 use base_text::sequence::{Bytes, Frames};
 use base_text::text::Text;
 use jup_wire::channel::Channel;
 use kern_core::call::{Arrival, Call, Reply};
 use kern_core::fault::KernelFault;
-use kern_core::held::Held;
 use kern_core::kernel::Kernel;
 use kern_post::post::Post;
 use kern_request::request::{ExecuteRequest, Request, RequestBody};
@@ -50,9 +50,9 @@ fn arrival(body: RequestBody, header: Bytes, alloc: Global) -> Arrival {
     }
 }
 
-fn hold_arrival(alloc: Global, question: Question) -> Result<Held<Arrival>, AllocError> {
+fn hold_arrival(alloc: Global, question: Question) -> Result<Boxed<Arrival>, AllocError> {
     let header = Bytes::copy_of(alloc, HEADER)?;
-    Held::new(alloc, arrival(body(alloc, question)?, header, alloc))
+    Boxed::new(alloc, arrival(body(alloc, question)?, header, alloc))
 }
 
 fn is_accepted(kernel: &mut Kernel, call: Call) -> bool {
@@ -64,7 +64,7 @@ fn is_accepted(kernel: &mut Kernel, call: Call) -> bool {
 
 /// A frontend comes on shell. Whether the call was accepted.
 pub fn join(alloc: Global, kernel: &mut Kernel) -> Result<bool, AllocError> {
-    let identity = Held::new(alloc, Bytes::new(alloc))?;
+    let identity = Boxed::new(alloc, Bytes::new(alloc))?;
     let channel = Channel::Shell;
     Ok(is_accepted(kernel, Call::Join { channel, identity }))
 }

@@ -1,6 +1,6 @@
 //! Calls on a kernel, and what they answer.
 
-use crate::held::Held;
+use base_text::boxed::Boxed;
 use base_text::sequence::Bytes;
 use jup_wire::channel::Channel;
 use kern_post::post::Posts;
@@ -30,7 +30,7 @@ pub enum Call {
     /// A connection comes, with an identity or an empty one.
     Join {
         channel: Channel,
-        identity: Held<Bytes>,
+        identity: Boxed<Bytes>,
     },
     /// It goes.
     Leave {
@@ -39,12 +39,12 @@ pub enum Call {
     /// It wants posts, or no longer wants them.
     Subscribe {
         connection: u32,
-        subscription: Held<Subscription>,
+        subscription: Boxed<Subscription>,
     },
     /// A request arrives on it.
     Arrive {
         connection: u32,
-        arrival: Held<Arrival>,
+        arrival: Boxed<Arrival>,
     },
     /// The kernel goes on: with the run, its start or the next cell.
     Slice {

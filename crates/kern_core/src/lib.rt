@@ -7,7 +7,6 @@
 
 pub mod call;
 pub mod fault;
-pub mod held;
 pub mod kernel;
 mod replies;
 mod state;

@@ -8,11 +8,11 @@ ghost use Rattle.kern_desk.specs.Joins.{IsJoinAnswer, IsUnjoined};
 ghost use Rattle.kern_desk.specs.Seats.{seated_answer};
 
 use crate::seated::{Desk, Pass, Seated};
+use base_text::boxed::Boxed;
 use base_text::sequence::Bytes;
 use jup_wire::channel::Channel;
 use kern_core::call::{Call, Reply};
 use kern_core::fault::KernelFault;
-use kern_core::held::Held;
 use kern_core::kernel::Kernel;
 use lab_turn::turnstile::Turnstile;
 use std::alloc::{AllocError, Global};
@@ -97,7 +97,7 @@ pub fn join<R: Wait>(
     desk: &Desk,
     pass: &mut Pass,
     channel: Channel,
-    identity: Held<Bytes>,
+    identity: Boxed<Bytes>,
 ) -> Result<Joined, KernelFault>
     requires { pass.old.turnstile ≡ desk.now }
     ensures same { (pass.new.turnstile ≡ desk.now) × (pass.new.seat ≡ pass.old.seat) }

@@ -16,10 +16,10 @@ use crate::leaving::leave;
 use crate::server::Server;
 use crate::talking::{Routes, talk};
 use base_streams::ports::{Inlet, Outlet};
+use base_text::boxed::Boxed;
 use base_text::sequence::Bytes;
 use jup_wire::channel::Channel;
 use kern_core::fault::KernelFault;
-use kern_core::held::Held;
 use kern_desk::desks::{Joined, join};
 use kern_desk::seated::{Desk, Pass};
 use kern_net::gate::{ReaderGate, WriterGate};
@@ -42,12 +42,12 @@ fn role_on(channel: Channel) -> Role
 }
 
 // The identity of a peer, or an empty one.
-fn identity_of(alloc: Global, peer: &Peer) -> Result<Held<Bytes>, AllocError>
+fn identity_of(alloc: Global, peer: &Peer) -> Result<Boxed<Bytes>, AllocError>
     ensures { IfOk result (λ held. held ≡ identity_of peer.now) }
 {
     match peer.decoder.identity() {
-        Some(identity) => Held::new(alloc, Bytes::copy_of(alloc, identity.as_slice())?),
-        None => Held::new(alloc, Bytes::new(alloc)),
+        Some(identity) => Boxed::new(alloc, Bytes::copy_of(alloc, identity.as_slice())?),
+        None => Boxed::new(alloc, Bytes::new(alloc)),
     }
 }
 

@@ -20,13 +20,13 @@ use crate::end::PumpEnd;
 use crate::gate::ReaderGate;
 use crate::routes::IncomingRoute;
 use crate::wakes::gives_work;
+use base_text::boxed::Boxed;
 use base_text::sequence::{Bytes, Frames};
 use jup_wire::channel::Channel;
 use jup_wire::message::{Message, WireFault};
 use jup_wire::opening::open_message;
 use kern_core::call::{Arrival, Call, Reply, Subscription};
 use kern_core::fault::KernelFault;
-use kern_core::held::Held;
 use kern_desk::seated::{Desk, Pass};
 use kern_request::reading::request_of;
 use std::alloc::{AllocError, Global};
@@ -138,7 +138,7 @@ fn subscribe_call(
         ≡ Subscribe connection (record { wants = wants; prefix = prefix.now; unix_seconds = unix_seconds })) }
 {
     let prefix = Bytes::copy_of(alloc, prefix)?;
-    let subscription = Held::new(
+    let subscription = Boxed::new(
         alloc,
         Subscription {
             wants,
@@ -162,7 +162,7 @@ fn arrive_call(
         (record { request = request_in route.now.channel message; unix_seconds = unix_seconds })) }
 {
     let request = request_of(alloc, route.channel, message)?;
-    let arrival = Held::new(
+    let arrival = Boxed::new(
         alloc,
         Arrival {
             request,

@@ -4,10 +4,10 @@ ghost use Rattle.kern_net.specs.Gates.{no_polls};
 
 use crate::gates::{InGate, OutGate, WorkGate};
 use base_streams::memory::{Sink, Source};
+use base_text::boxed::Boxed;
 use base_text::sequence::Bytes;
 use jup_wire::channel::Channel;
 use kern_core::call::Call;
-use kern_core::held::Held;
 use kern_desk::desks::{MOST_ENTRIES, close_desk, join, open_desk};
 use kern_desk::seated::{Desk, Pass, Seated};
 use kern_net::end::PumpEnd;
@@ -93,7 +93,7 @@ pub fn open_table<R: Abort>(rt: &R, alloc: Global, limit: u32) -> Table {
 impl Table {
     /// A connection without an identity comes; its number.
     pub fn join<R: Wait + Abort>(&mut self, rt: &R, alloc: Global, channel: Channel) -> u32 {
-        let identity = Held::new(alloc, Bytes::new(alloc)).expect(rt, "memory for an identity");
+        let identity = Boxed::new(alloc, Bytes::new(alloc)).expect(rt, "memory for an identity");
         let answer = join(rt, &self.desk, &mut self.reading, channel, identity);
         answer.expect(rt, "a connection").connection
     }

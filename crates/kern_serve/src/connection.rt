@@ -8,12 +8,12 @@ use crate::listeners::Listeners;
 use crate::slots::Slots;
 use crate::socket::{close, meet};
 use base_streams::std_io::{StdInlet, StdOutlet};
+use base_text::boxed::Boxed;
 use base_text::sequence::Bytes;
 use base_text::text::Text;
 use jup_wire::channel::Channel;
 use kern_core::call::Call;
 use kern_core::fault::KernelFault;
-use kern_core::held::Held;
 use kern_desk::desks::{Joined, join};
 use kern_desk::seated::{Desk, Pass};
 use kern_net::end::PumpEnd;
@@ -226,10 +226,10 @@ fn pump<R: Host>(
 }
 
 // The identity of a peer, or an empty one.
-fn identity_of(alloc: Global, peer: &Peer) -> Result<Held<Bytes>, AllocError> {
+fn identity_of(alloc: Global, peer: &Peer) -> Result<Boxed<Bytes>, AllocError> {
     match peer.decoder.identity() {
-        Some(identity) => Held::new(alloc, Bytes::copy_of(alloc, identity.as_slice())?),
-        None => Held::new(alloc, Bytes::new(alloc)),
+        Some(identity) => Boxed::new(alloc, Bytes::copy_of(alloc, identity.as_slice())?),
+        None => Boxed::new(alloc, Bytes::new(alloc)),
     }
 }
 
@@ -239,7 +239,7 @@ fn join_as<R: Wait>(
     shared: &Shared,
     pass: &mut Pass,
     channel: Channel,
-    identity: Held<Bytes>,
+    identity: Boxed<Bytes>,
 ) -> Option<Joined>
     requires { pass.old.turnstile ≡ shared.now.desk }
     ensures { pass.new.turnstile ≡ shared.now.desk }

@@ -1,12 +1,12 @@
 //! Calls as plain data.
 
 use crate::messages::message_of;
+use base_text::boxed::Boxed;
 use base_text::sequence::{Bytes, Frames};
 use base_text::text::Text;
 use dap_talk::command::{DapCommand, DapRequest};
 use jup_wire::channel::Channel;
 use kern_core::call::{Arrival, Call, Subscription};
-use kern_core::held::Held;
 use kern_request::reading::request_of;
 use kern_request::request::{ExecuteRequest, Request, RequestBody};
 use std::alloc::{AllocError, Global};
@@ -62,7 +62,7 @@ pub fn call_of(alloc: Global, action: Action, unix_seconds: u64) -> Result<Call,
 }
 
 fn join_call(alloc: Global, channel: Channel, identity: &str) -> Result<Call, AllocError> {
-    let identity = Held::new(alloc, Bytes::copy_of(alloc, identity.as_bytes())?)?;
+    let identity = Boxed::new(alloc, Bytes::copy_of(alloc, identity.as_bytes())?)?;
     Ok(Call::Join { channel, identity })
 }
 
@@ -72,7 +72,7 @@ fn subscribe_call(alloc: Global, connection: u32, unix_seconds: u64) -> Result<C
         prefix: Bytes::new(alloc),
         unix_seconds,
     };
-    let subscription = Held::new(alloc, subscription)?;
+    let subscription = Boxed::new(alloc, subscription)?;
     Ok(Call::Subscribe {
         connection,
         subscription,
@@ -85,7 +85,7 @@ fn arrive_call(
     request: Request,
     unix_seconds: u64,
 ) -> Result<Call, AllocError> {
-    let arrival = Held::new(
+    let arrival = Boxed::new(
         alloc,
         Arrival {
             request,

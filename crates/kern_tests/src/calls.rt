@@ -2,10 +2,10 @@
 
 use crate::fault::SessionFault;
 use crate::members::{bytes, frames, member, number, small_number, text, truth};
+use base_text::boxed::Boxed;
 use jup_wire::channel::Channel;
 use jup_wire::message::{Message, WireFault};
 use kern_core::call::{Arrival, Call, Subscription};
-use kern_core::held::Held;
 use kern_request::reading::request_of;
 use kern_test_kit::messages;
 use serde_json::Value;
@@ -36,7 +36,7 @@ fn channel_of(call: &Value) -> Result<Channel, SessionFault> {
 
 fn join(alloc: Global, call: &Value) -> Result<Call, SessionFault> {
     let channel = channel_of(call)?;
-    let identity = Held::new(alloc, bytes(alloc, call, "identity")?)?;
+    let identity = Boxed::new(alloc, bytes(alloc, call, "identity")?)?;
     Ok(Call::Join { channel, identity })
 }
 
@@ -57,7 +57,7 @@ fn subscribe(alloc: Global, call: &Value) -> Result<Call, SessionFault> {
     };
     Ok(Call::Subscribe {
         connection,
-        subscription: Held::new(alloc, subscription)?,
+        subscription: Boxed::new(alloc, subscription)?,
     })
 }
 
@@ -79,7 +79,7 @@ fn arrive(alloc: Global, call: &Value) -> Result<Call, SessionFault> {
     let channel = channel_of(call)?;
     let message = message_of(alloc, call)?;
     let request = request_of(alloc, channel, message)?;
-    let arrival = Held::new(
+    let arrival = Boxed::new(
         alloc,
         Arrival {
             request,

@@ -6,23 +6,23 @@ use std::marker::Model;
 
 /// A value on the heap, seen as the value: it takes the room of a pointer where it stands.
 #[derive(Drop)]
-pub struct Held<T> {
+pub struct Boxed<T> {
     value: Box<T>,
 }
 
-impl<T> Model for Held<T> {
+impl<T> Model for Boxed<T> {
     ghost Value = { T };
 
     ghost view = { λ h. h.value.value };
 }
 
-impl<T: Drop> Held<T> {
+impl<T: Drop> Boxed<T> {
     /// A value, moved to the heap.
-    pub fn new(alloc: Global, value: T) -> Result<Held<T>, AllocError>
-        ensures { IfOk result (λ held. held ≡ value) }
+    pub fn new(alloc: Global, value: T) -> Result<Boxed<T>, AllocError>
+        ensures { IfOk result (λ boxed. boxed ≡ value) }
     {
         match Box::new(alloc, value) {
-            Ok(value) => Ok(Held { value }),
+            Ok(value) => Ok(Boxed { value }),
             Err(_) => Err(AllocError),
         }
     }
