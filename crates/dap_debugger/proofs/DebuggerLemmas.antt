@@ -2,8 +2,8 @@ use Rattle.std.proofs.Common.{◌≡◌, ℕ, ◌+◌, List, [], ◌∷◌, ◌+
 use Rattle.std.proofs.Common.{append_assoc, length-append}
 use Rattle.std.proofs.lemmas.List.{append-nil}
 use Rattle.dap_editor.specs.declared.message.Message.{Message}
-use Rattle.dap_session.specs.States.{SessionState, opened}
-use Rattle.dap_session.specs.Slices.{Input, step, played}
+use Rattle.dap_session.specs.States.{SessionState, session_before_requests}
+use Rattle.dap_session.specs.Slices.{Input, step, play_all}
 use Rattle.dap_session.specs.Stands.{StandsFor, Tells}
 use Rattle.dap_debugger.specs.Sending.{sent_bytes, concat_messages}
 use Rattle.dap_debugger.specs.Debuggers.{DebuggerState, Past}
@@ -11,17 +11,17 @@ use Rattle.dap_debugger.proofs.SendingLemmas.{sent_bytes-append}
 
 -- one input more
 played_messages : (inputs : List Input) (input : Input) (s : SessionState)
-    → (played (inputs ++ input ∷ []) s).messages
-    ≡ (played inputs s).messages ++ (step input (played inputs s).state).messages
+    → (play_all (inputs ++ input ∷ []) s).messages
+    ≡ (play_all inputs s).messages ++ (step input (play_all inputs s).state).messages
 played_messages [] input s = append-nil (step input s).messages
 played_messages (i ∷ inputs) input s =
     let first = step i s in
     ap (λ m. first.messages ++ m) (played_messages inputs input first.state)
-    ∙ sym (append_assoc first.messages (played inputs first.state).messages
-    (step input (played inputs first.state).state).messages)
+    ∙ sym (append_assoc first.messages (play_all inputs first.state).messages
+    (step input (play_all inputs first.state).state).messages)
 
 played_state : (inputs : List Input) (input : Input) (s : SessionState)
-    → (played (inputs ++ input ∷ []) s).state ≡ (step input (played inputs s).state).state
+    → (play_all (inputs ++ input ∷ []) s).state ≡ (step input (play_all inputs s).state).state
 played_state [] input s = refl
 played_state (i ∷ inputs) input s = played_state inputs input (step i s).state
 
@@ -35,18 +35,20 @@ joined_push (list ∷ lists) messages =
 -- a debugger that was told one thing more
 pub past_more : (old new : DebuggerState) (inputs : List Input) (bytes : List ℕ) (input : Input)
     (messages : List Message) (lists all : List (List Message)) → Past old inputs bytes
-    → Tells (step input (played inputs opened).state) messages new.session → new.sent ≡ old.sent
+    → Tells (step input (play_all inputs session_before_requests).state) messages new.session
+    → new.sent ≡ old.sent
     → old.told ≡ concat_messages lists → all ≡ lists ++ messages ∷ [] → new.told ≡ concat_messages all
     → Past new (inputs ++ input ∷ []) bytes
 past_more old new inputs bytes input messages lists all p tells sent old_is all_is new_is =
-    let before = (played inputs opened).messages in
+    let before = (play_all inputs session_before_requests).messages in
     let told : new.told ≡ old.told ++ messages =
     new_is ∙ (ap concat_messages all_is ∙
     (joined_push lists messages ∙ ap (λ m. m ++ messages) (sym old_is))) in
     record {
-      session = subst (StandsFor new.session) (sym (played_state inputs input opened)) tells.1;
+      session = subst (StandsFor new.session)
+          (sym (played_state inputs input session_before_requests)) tells.1;
       before = p.before;
-      messages = played_messages inputs input opened
+      messages = played_messages inputs input session_before_requests
           ∙ (ap (λ m. before ++ m) (sym tells.0) ∙ (ap (λ m. m ++ messages) p.messages
           ∙ (append_assoc p.before old.told messages ∙ ap (λ m. p.before ++ m) (sym told))));
       count = sent ∙ p.count;
@@ -58,7 +60,7 @@ pub past_sent : (old new : DebuggerState) (inputs : List Input) (bytes more : Li
     → new.session ≡ old.session → new.told ≡ [] → new.sent ≡ old.sent + length old.told
     → more ≡ sent_bytes old.sent old.told → Past new inputs (bytes ++ more)
 past_sent old new inputs bytes more p session told sent is = record {
-  session = subst (λ v. StandsFor v (played inputs opened).state) (sym session) p.session;
+  session = subst (λ v. StandsFor v (play_all inputs session_before_requests).state) (sym session) p.session;
   before = p.before ++ old.told;
   messages = p.messages ∙ (sym (append-nil (p.before ++ old.told))
       ∙ ap (λ m. (p.before ++ old.told) ++ m) (sym told));

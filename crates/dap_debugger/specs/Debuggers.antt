@@ -3,8 +3,8 @@ use Rattle.std.specs.Prelude.{◌≡◌, ◌⊎◌, ℕ, List, [], ◌∷◌, �
 use Rattle.base_text.specs.Bytes.{Bytes}
 use Rattle.dap_editor.specs.declared.message.Message.{Message}
 use Rattle.dap_editor.specs.declared.request.Asked.{Asked}
-use Rattle.dap_session.specs.States.{opened}
-use Rattle.dap_session.specs.Slices.{Input, played}
+use Rattle.dap_session.specs.States.{session_before_requests}
+use Rattle.dap_session.specs.Slices.{Input, play_all}
 use Rattle.dap_session.specs.Stands.{SessionFields, StandsFor, IsLeft as SessionIsLeft}
 use Rattle.dap_debugger.specs.Sending.{sent_bytes}
 
@@ -17,9 +17,9 @@ pub record DebuggerState : Type 0 where
 -- After these requests and slices, these bytes were sent: the messages of all that the session tells, in
 -- order and numbered from 1, but for those that are told and not sent yet.
 pub record Past (d : DebuggerState) (inputs : List Input) (bytes : Bytes) : Type 0 where
-  pub session : StandsFor d.session (played inputs opened).state
+  pub session : StandsFor d.session (play_all inputs session_before_requests).state
   pub before : List Message
-  pub messages : (played inputs opened).messages ≡ before ++ d.told
+  pub messages : (play_all inputs session_before_requests).messages ≡ before ++ d.told
   pub count : d.sent ≡ length before
   pub wrote : bytes ≡ sent_bytes 0 before
 

@@ -1,9 +1,9 @@
 //! The debugger.
 ghost use Rattle.std.specs.Prelude.{◌≡◌, ◌∷◌, ◌++◌, [], List, IfOk, OnOk, OnErr, option_map};
 ghost use Rattle.base_text.specs.Bytes.{Bytes};
-ghost use Rattle.dap_session.specs.States.{opened, wants_slice};
+ghost use Rattle.dap_session.specs.States.{session_before_requests, wants_slice};
 ghost use Rattle.dap_session.specs.Requests.{wanted_file};
-ghost use Rattle.dap_session.specs.Slices.{Input, request as asks, slice, played};
+ghost use Rattle.dap_session.specs.Slices.{Input, request as asks, slice, play_all};
 
 use crate::sending::put_all;
 use base_text::sequence::{Bytes, Sequence};
@@ -92,7 +92,7 @@ impl Debugger {
     /// Whether a slice has something to do.
     pub fn wants_slice(&self) -> bool
         ensures { (inputs : List Input) (bytes : Bytes) → Past self.now inputs bytes
-            → result ≡ wants_slice (played inputs opened).state }
+            → result ≡ wants_slice (play_all inputs session_before_requests).state }
     {
         self.session.wants_slice()
     }
@@ -101,7 +101,7 @@ impl Debugger {
     pub fn wanted_file<'a>(&'a self, request: &'a EditorRequest) -> Option<&'a str>
         ensures { (inputs : List Input) (bytes : Bytes) → Past self.now inputs bytes
             → option_map (λ path. path.now) result
-            ≡ wanted_file request.now.asked (played inputs opened).state }
+            ≡ wanted_file request.now.asked (play_all inputs session_before_requests).state }
     {
         self.session.wanted_file(request)
     }
@@ -109,7 +109,7 @@ impl Debugger {
     /// Whether a disconnect was answered.
     pub fn has_ended(&self) -> bool
         ensures { (inputs : List Input) (bytes : Bytes) → Past self.now inputs bytes
-            → result ≡ (played inputs opened).state.settings.has_ended }
+            → result ≡ (play_all inputs session_before_requests).state.settings.has_ended }
     {
         self.session.has_ended()
     }

@@ -66,8 +66,8 @@ trimmed_shown b text =
     else Err fault.NoExpression
 
 -- what an expression is worth, without the white space at its ends
-unfoldable pub evaluated : Board → Text → Result Text EvaluateFault
-evaluated b expression = trimmed_shown b (trim expression)
+unfoldable pub expression_text : Board → Text → Result Text EvaluateFault
+expression_text b expression = trimmed_shown b (trim expression)
 
 -- ---- faults
 

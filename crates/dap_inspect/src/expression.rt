@@ -8,7 +8,7 @@ ghost use Rattle.lab_core.specs.Board.{Board};
 ghost use Rattle.lab_core.specs.Events.{assembled};
 ghost use Rattle.lab_core.specs.Labs.{StandsFor};
 ghost use Rattle.dap_inspect.specs.Expressions as expressions;
-ghost use Rattle.dap_inspect.specs.Expressions.{evaluated};
+ghost use Rattle.dap_inspect.specs.Expressions.{expression_text};
 
 use crate::fault::EvaluateFault;
 use crate::register::{place_named, shown_at};
@@ -129,10 +129,10 @@ fn evaluate_trimmed(alloc: Global, lab: &Lab, text: &str) -> Result<Text, Evalua
 /// White space at the ends is passed over. What has no value is refused with `NoExpression`: an empty text, a
 /// comment, a text with LF or CR; and what the assembler refuses with `Assembly` (8080/8085 Assembly Language
 /// Programming Manual, chapter 2).
-#[tactic(auto, unfolding(crate::specs::Expressions::evaluated))]
+#[tactic(auto, unfolding(crate::specs::Expressions::expression_text))]
 pub fn evaluate(alloc: Global, lab: &Lab, expression: &str) -> Result<Text, EvaluateFault>
     ensures { (b : Board) → StandsFor lab.now b → result ≢ Err EvaluateFault.OutOfMemory
-        → result ≡ evaluated b expression.now }
+        → result ≡ expression_text b expression.now }
 {
     evaluate_trimmed(alloc, lab, expression.trim())
 }

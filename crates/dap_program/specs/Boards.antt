@@ -24,8 +24,8 @@ IsSure (event.Switches byte) = Unit {0}
 IsSure _ = ⊥
 
 -- A run begins at an address; where it pauses, it is stopped before its first step.
-abbrev pub begun : ℕ → Bool → Board → Board
-begun start pauses b =
+abbrev pub begin_run : ℕ → Bool → Board → Board
+begin_run start pauses b =
     if pauses then after event.Pause (after (event.Start start) b) else after (event.Start start) b
 
 -- some board is stood for

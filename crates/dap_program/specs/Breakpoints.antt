@@ -26,6 +26,6 @@ labels_behind lines names b = label_points b (room_behind lines) 0 names
 -- ---- the board's list
 
 -- the board stops at these lines of the program, and at these labels
-abbrev pub armed : Text → List ℕ → List Text → Board → Board
-armed path lines names b =
+abbrev pub board_armed_at : Text → List ℕ → List Text → Board → Board
+board_armed_at path lines names b =
     after (SetBreakpoints path (take 256 (wanted_lines lines (labels_behind lines names b)))) b

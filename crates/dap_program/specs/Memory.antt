@@ -14,10 +14,10 @@ abbrev pub poke_of : ℕ → ℕ → Event
 poke_of address byte = Poke 5 (upper_word address) (byte_text byte)
 
 -- bytes are written one after the other, the first of them at this address
-abbrev pub written : ℕ → Bytes → Board → Board
-written start [] b = b
-written start (byte ∷ bytes) b = written (start + 1) bytes (after (poke_of start byte) b)
+abbrev pub with_bytes_at : ℕ → Bytes → Board → Board
+with_bytes_at start [] b = b
+with_bytes_at start (byte ∷ bytes) b = with_bytes_at (start + 1) bytes (after (poke_of start byte) b)
 
 -- some of them are, from the first on
 abbrev pub WritesSome : ℕ → Bytes → Board → LabState → Type 0
-WritesSome start bytes b lab = (k : ℕ) × StandsFor lab (written start (take k bytes) b)
+WritesSome start bytes b lab = (k : ℕ) × StandsFor lab (with_bytes_at start (take k bytes) b)

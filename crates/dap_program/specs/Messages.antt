@@ -10,8 +10,8 @@ use Rattle.dap_program.specs.declared.messages.Caller.{Caller}
 use Rattle.dap_program.specs.declared.messages.Follow.{Follow}
 use Rattle.dap_program.specs.declared.messages.Follow.TheVariants as follow
 
-abbrev pub told : List EditorEvent → List Message
-told events = map (λ e. message.Event e) events
+abbrev pub as_messages : List EditorEvent → List Message
+as_messages events = map (λ e. message.Event e) events
 
 -- the answer to the request of this number and command
 abbrev pub response : Caller → EditorOutcome → Message
@@ -20,7 +20,7 @@ response c outcome =
 
 -- the answer comes first, and the events that it causes come behind it
 abbrev pub turn_messages : Caller → EditorOutcome → List EditorEvent → List Message
-turn_messages c outcome events = response c outcome ∷ told events
+turn_messages c outcome events = response c outcome ∷ as_messages events
 
 -- A run is over, and with it the program.
 abbrev pub end_events : ℕ → List EditorEvent

@@ -23,7 +23,7 @@ use Rattle.dap_editor.specs.declared.message.EditorStop.TheVariants.{Board as At
 use Rattle.dap_editor.specs.declared.message.OutputCategory.{OutputCategory}
 use Rattle.dap_editor.specs.declared.message.OutputCategory.TheVariants as category
 use Rattle.dap_program.specs.declared.slice.Slice.{Slice}
-use Rattle.dap_program.specs.Messages.{told, end_events}
+use Rattle.dap_program.specs.Messages.{as_messages, end_events}
 
 -- ---- what the program writes
 
@@ -72,6 +72,6 @@ slice_events traffic ending =
 
 -- what a slice is on a board
 pub record IsSliceOf (b : Board) (s : Slice) (lab : LabState) : Type 0 where
-  pub messages : s.messages ≡ told (slice_events (traffic_of (slice_end b).0 b) (slice_end b).1)
+  pub messages : s.messages ≡ as_messages (slice_events (traffic_of (slice_end b).0 b) (slice_end b).1)
   pub outcome : s.outcome ≡ (slice_end b).1
   pub stands : StandsFor lab (after_slice b)

@@ -2,7 +2,7 @@
 ghost use Rattle.std.specs.Prelude.{◌≡◌, ◌≤◌, length, IfOk, OnOk, OnErr};
 ghost use Rattle.lab_core.specs.Board.{Board};
 ghost use Rattle.lab_core.specs.Labs.{StandsFor};
-ghost use Rattle.dap_program.specs.Breakpoints.{label_line, label_points, labels_behind, armed};
+ghost use Rattle.dap_program.specs.Breakpoints.{label_line, label_points, labels_behind, board_armed_at};
 
 use crate::change::change;
 use base_text::sequence::Sequence;
@@ -72,7 +72,7 @@ pub fn arm(
 ) -> Result<(), AllocError>
     requires { length names.now ≤ 256 }
     ensures ok { (b : Board) → StandsFor lab.old b
-        → OnOk result (StandsFor lab.new (armed path.now lines.now names.now b)) }
+        → OnOk result (StandsFor lab.new (board_armed_at path.now lines.now names.now b)) }
     ensures err { OnErr result (lab.new ≡ lab.old) }
 {
     let labels = labels_behind(alloc, lab, lines, names)?;

@@ -3,7 +3,7 @@ ghost use Rattle.std.specs.Prelude.{◌≡◌, true, Err, OnOk, OnErr};
 ghost use Rattle.lab_core.specs.Board.{Board};
 ghost use Rattle.lab_core.specs.Events.{Fits};
 ghost use Rattle.lab_core.specs.Labs.{StandsFor};
-ghost use Rattle.dap_program.specs.Boards.{IsSure, after, begun};
+ghost use Rattle.dap_program.specs.Boards.{IsSure, after, begin_run};
 
 use lab_core::answer::Answer;
 use lab_core::event::Event;
@@ -46,7 +46,7 @@ pub fn change_surely(lab: &mut Lab, event: Event)
 
 /// Begins a run at an address. Where it pauses, it is stopped before its first step.
 pub fn begin(lab: &mut Lab, start: u16, pauses: bool)
-    ensures { (b : Board) → StandsFor lab.old b → StandsFor lab.new (begun start pauses b) }
+    ensures { (b : Board) → StandsFor lab.old b → StandsFor lab.new (begin_run start pauses b) }
 {
     change_surely(lab, Event::Start(start));
     if pauses {

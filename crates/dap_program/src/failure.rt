@@ -1,6 +1,6 @@
 //! What is told of a program that isn't loaded.
 ghost use Rattle.std.specs.Prelude.{◌≡◌, ◌≤◌, ◌+◌, ◌++◌, length, IfOk, codes, option_to_list};
-ghost use Rattle.dap_program.specs.Messages.{turn_messages, told};
+ghost use Rattle.dap_program.specs.Messages.{turn_messages, as_messages};
 ghost use Rattle.dap_program.specs.Refusals.{assembly_refusal};
 ghost use Rattle.dap_program.specs.Failures.{load_refusal, told_number, load_event};
 
@@ -74,7 +74,7 @@ fn load_event(
 
 fn push_some(messages: &mut Messages, event: Option<EditorEvent>)
     requires { length messages.old + 1 ≤ 8 }
-    ensures { messages.new ≡ messages.old ++ told (option_to_list event) }
+    ensures { messages.new ≡ messages.old ++ as_messages (option_to_list event) }
 {
     match event {
         None => {}

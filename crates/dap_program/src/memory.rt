@@ -3,7 +3,7 @@ ghost use Rattle.std.specs.Prelude.{◌≡◌, ◌≤◌, ◌+◌, length, IfOk,
 ghost use Rattle.lab_core.specs.Board.{Board};
 ghost use Rattle.lab_core.specs.Labs.{StandsFor};
 ghost use Rattle.dap_program.specs.Boards.{after};
-ghost use Rattle.dap_program.specs.Memory.{poke_of, written, WritesSome};
+ghost use Rattle.dap_program.specs.Memory.{poke_of, with_bytes_at, WritesSome};
 
 use crate::change::change;
 use base_text::hexadecimal::push_word;
@@ -44,7 +44,7 @@ fn write_byte(alloc: Global, lab: &mut Lab, address: u16, byte: u8) -> Result<()
 pub fn write_bytes(alloc: Global, lab: &mut Lab, start: u16, bytes: &[u8]) -> Result<(), AllocError>
     requires { start + length bytes.now ≤ 65536 }
     ensures ok { (b : Board) → StandsFor lab.old b
-        → OnOk result (StandsFor lab.new (written start bytes.now b)) }
+        → OnOk result (StandsFor lab.new (with_bytes_at start bytes.now b)) }
     ensures err { (b : Board) → StandsFor lab.old b → OnErr result (WritesSome start bytes.now b lab.new) }
 {
     let mut address = u32::from(start);

@@ -1,6 +1,6 @@
 //! What goes out.
 ghost use Rattle.std.specs.Prelude.{◌≡◌, ◌≤◌, ◌+◌, ◌++◌, ◌∷◌, [], length, IfOk};
-ghost use Rattle.dap_program.specs.Messages.{told, response, turn_messages, end_events, events_of};
+ghost use Rattle.dap_program.specs.Messages.{as_messages, response, turn_messages, end_events, events_of};
 
 use base_text::sequence::Sequence;
 use base_text::text::Text;
@@ -78,7 +78,7 @@ impl Messages {
     /// Adds an event, without allocating.
     pub fn push_event(&mut self, event: EditorEvent)
         requires { length self.old + 1 ≤ 8 }
-        ensures { self.new ≡ self.old ++ told (event ∷ []) }
+        ensures { self.new ≡ self.old ++ as_messages (event ∷ []) }
     {
         self.messages.push_reserved(Message::Event(event));
     }
@@ -86,7 +86,7 @@ impl Messages {
     /// Adds what tells that the program is over, without allocating.
     pub fn push_end(&mut self, code: u8)
         requires { length self.old + 2 ≤ 8 }
-        ensures { self.new ≡ self.old ++ told (end_events code) }
+        ensures { self.new ≡ self.old ++ as_messages (end_events code) }
     {
         self.push_event(EditorEvent::Exited { code });
         self.push_event(EditorEvent::Terminated);
@@ -95,7 +95,7 @@ impl Messages {
     /// Adds what follows an answer, without allocating.
     pub fn push_follow(&mut self, follow: Follow)
         requires { length self.old + 2 ≤ 8 }
-        ensures { self.new ≡ self.old ++ told (events_of follow) }
+        ensures { self.new ≡ self.old ++ as_messages (events_of follow) }
     {
         match follow {
             Follow::Nothing => {}

@@ -1,6 +1,6 @@
 //! What is told of a program that is loaded.
 ghost use Rattle.std.specs.Prelude.{◌≡◌, ◌++◌, ◌∷◌, [], OnOk, IfOk};
-ghost use Rattle.dap_program.specs.Messages.{turn_messages, told, response, events_of};
+ghost use Rattle.dap_program.specs.Messages.{turn_messages, as_messages, response, events_of};
 ghost use Rattle.dap_program.specs.Openings.{accepted_outcome, changed_events, first_events, opening_events};
 
 use crate::messages::{Caller, Follow};
@@ -19,7 +19,7 @@ pub enum Occasion {
 }
 
 fn push_message(messages: &mut Sequence<Message>, event: EditorEvent) -> Result<(), AllocError>
-    ensures { OnOk result (messages.new ≡ messages.old ++ told (event ∷ [])) }
+    ensures { OnOk result (messages.new ≡ messages.old ++ as_messages (event ∷ [])) }
 {
     messages.push(Message::Event(event))
 }
@@ -29,7 +29,7 @@ fn push_changed(
     messages: &mut Sequence<Message>,
     point: &PlacedBreakpoint,
 ) -> Result<(), AllocError>
-    ensures { OnOk result (messages.new ≡ messages.old ++ told (changed_events (point.now ∷ []))) }
+    ensures { OnOk result (messages.new ≡ messages.old ++ as_messages (changed_events (point.now ∷ []))) }
 {
     if !point.is_verified {
         return Ok(());
@@ -48,7 +48,7 @@ fn push_all_changed(
     messages: &mut Sequence<Message>,
     points: &[PlacedBreakpoint],
 ) -> Result<(), AllocError>
-    ensures { OnOk result (messages.new ≡ messages.old ++ told (changed_events points.now)) }
+    ensures { OnOk result (messages.new ≡ messages.old ++ as_messages (changed_events points.now)) }
 {
     let mut left = points;
     while let Some((point, later)) = left.split_first() {
@@ -59,7 +59,7 @@ fn push_all_changed(
 }
 
 fn push_first(messages: &mut Sequence<Message>, occasion: Occasion) -> Result<(), AllocError>
-    ensures { OnOk result (messages.new ≡ messages.old ++ told (first_events occasion)) }
+    ensures { OnOk result (messages.new ≡ messages.old ++ as_messages (first_events occasion)) }
 {
     match occasion {
         Occasion::Launch => push_message(messages, EditorEvent::Initialized),
@@ -69,7 +69,7 @@ fn push_first(messages: &mut Sequence<Message>, occasion: Occasion) -> Result<()
 
 // What follows: that the run is stopped or goes on, or that the program is over.
 fn push_follow(messages: &mut Sequence<Message>, follow: Follow) -> Result<(), AllocError>
-    ensures { OnOk result (messages.new ≡ messages.old ++ told (events_of follow)) }
+    ensures { OnOk result (messages.new ≡ messages.old ++ as_messages (events_of follow)) }
 {
     match follow {
         Follow::Nothing => Ok(()),

@@ -6,7 +6,7 @@ ghost use Rattle.lab_core.specs.declared.run_state.RunState.TheVariants.{Running
 ghost use Rattle.lab_core.specs.Board.{Board};
 ghost use Rattle.lab_core.specs.Labs.{StandsFor};
 ghost use Rattle.dap_program.specs.Boards.{Stands};
-ghost use Rattle.dap_program.specs.Messages.{told};
+ghost use Rattle.dap_program.specs.Messages.{as_messages};
 ghost use Rattle.dap_program.specs.Slices as slices;
 ghost use Rattle.dap_program.specs.Slices.{console_events, line_question, line_events, run_end_events};
 ghost use Rattle.dap_program.specs.Slices.{undefined_line, outcome_events, slice_events, IsSliceOf};
@@ -85,7 +85,7 @@ fn output(category: OutputCategory, bytes: Bytes) -> EditorEvent
 
 fn push_console(messages: &mut Messages, console: Vec<u8>)
     requires { length messages.old + 1 ≤ 8 }
-    ensures said { messages.new ≡ messages.old ++ told (console_events console.items) }
+    ensures said { messages.new ≡ messages.old ++ as_messages (console_events console.items) }
     ensures few { length messages.new ≤ length messages.old + 1 }
 {
     if console.is_empty() {
@@ -97,7 +97,7 @@ fn push_console(messages: &mut Messages, console: Vec<u8>)
 fn push_line(messages: &mut Messages, question: Bytes, is_asked: bool)
     requires room { length messages.old + 1 ≤ 8 }
     requires question { question ≡ line_question }
-    ensures said { messages.new ≡ messages.old ++ told (line_events is_asked) }
+    ensures said { messages.new ≡ messages.old ++ as_messages (line_events is_asked) }
     ensures few { length messages.new ≤ length messages.old + 1 }
 {
     if is_asked {
@@ -165,7 +165,7 @@ fn push_run_end(messages: &mut Messages, text: Vec<u8>, end: End)
     requires few { length messages.old + 3 ≤ 8 }
     requires begun { text.items ≡ codes "UndefinedOpcode: " }
     requires room { 28 ≤ vec_capacity text }
-    ensures { messages.new ≡ messages.old ++ told (run_end_events end) }
+    ensures { messages.new ≡ messages.old ++ as_messages (run_end_events end) }
 {
     match end {
         End::Halted => {
@@ -184,7 +184,7 @@ fn push_outcome(messages: &mut Messages, text: Vec<u8>, outcome: SliceOutcome)
     requires few { length messages.old + 3 ≤ 8 }
     requires begun { text.items ≡ codes "UndefinedOpcode: " }
     requires room { 28 ≤ vec_capacity text }
-    ensures { messages.new ≡ messages.old ++ told (outcome_events outcome) }
+    ensures { messages.new ≡ messages.old ++ as_messages (outcome_events outcome) }
 {
     match outcome {
         SliceOutcome::More | SliceOutcome::Waiting => drop(text),
@@ -202,7 +202,7 @@ impl SliceKit {
     fn tell(self, traffic: &[PortOperation], outcome: SliceOutcome) -> Sequence<Message>
         requires kit { IsSliceKit self }
         requires few { length traffic.now ≤ 4096 }
-        ensures { result ≡ told (slice_events traffic.now outcome) }
+        ensures { result ≡ as_messages (slice_events traffic.now outcome) }
     {
         let SliceKit {
             mut messages,

@@ -6,7 +6,7 @@ use Rattle.asm_syntax.specs.Outcome.{◌>>=◌}
 use Rattle.lab_views.specs.declared.view.View.{View}
 use Rattle.lab_shown.specs.declared.shown.Shown.{Shown}
 use Rattle.lab_views.specs.declared.fault.ViewFault.{ViewFault}
-use Rattle.lab_views.specs.Views.{shown}
+use Rattle.lab_views.specs.Views.{view_of}
 use Rattle.lab_views.specs.Places.{place_named}
 use Rattle.lab_views.specs.Values.{value_spelled}
 use Rattle.lab_image.specs.Sources.{place_of, source_at}
@@ -24,11 +24,11 @@ use Rattle.lab_core.specs.Events.{or_assembly, assembled, as_answer, parts_of, s
 use Rattle.lab_core.specs.Slices.{after_steps}
 use Rattle.dap_editor.specs.declared.request.Launch.{Launch}
 use Rattle.dap_program.specs.declared.load.LoadFault.{LoadFault}
-use Rattle.dap_program.specs.Boards.{board_after, after, begun}
-use Rattle.dap_program.specs.Breakpoints.{armed}
+use Rattle.dap_program.specs.Boards.{board_after, after, begin_run}
+use Rattle.dap_program.specs.Breakpoints.{board_armed_at}
 use Rattle.dap_program.specs.Loading.{attached_where, board_to_load_on, start_of, with_start, loaded_by}
 use Rattle.dap_program.specs.Loading.{load_result}
-use Rattle.dap_program.specs.Memory.{poke_of, written}
+use Rattle.dap_program.specs.Memory.{poke_of, with_bytes_at}
 use Rattle.dap_session.specs.declared.settings.Program.{Program}
 use Rattle.dap_session.specs.Breakpoints.{armed_where, labels_armed}
 use Rattle.dap_points.specs.Points.{PointsState}
@@ -114,7 +114,7 @@ kept_answer (Ok s) b = same b
 kept_answer (Err f) b = tt
 
 pub kept_show : (view : View) (b : Board) → KeepsRun b (given (event.Show view) b)
-kept_show view b = kept_answer (shown view (parts_of b)) b
+kept_show view b = kept_answer (view_of view (parts_of b)) b
 
 kept_lines : (path : Text) (lines : List ℕ) (b : Board) → KeepsRun b (with_breakpoints path lines b)
 kept_lines path lines b =
@@ -123,7 +123,7 @@ kept_lines path lines b =
 -- ---- breakpoints
 
 pub kept_armed : (path : Text) (lines : List ℕ) (names : List Text) (b : Board)
-    → SameRun b (armed path lines names b)
+    → SameRun b (board_armed_at path lines names b)
 kept_armed path lines names b = kept_after b _ (kept_lines path _ b)
 
 pub kept_where : (o : Option Program) (lines : List ℕ) (names : List Text) (b : Board)
@@ -146,11 +146,11 @@ kept_by_hand : (e : Event) (b : Board) → IsPoke e → KeepsRun b (given e b)
 kept_by_hand (event.Poke reference name value) b is = kept_poke reference name value b
 kept_by_hand other b is = absurd is
 
-pub kept_written : (bytes : Bytes) (start : ℕ) (b : Board) → SameRun b (written start bytes b)
+pub kept_written : (bytes : Bytes) (start : ℕ) (b : Board) → SameRun b (with_bytes_at start bytes b)
 kept_written [] start b = same b
 kept_written (byte ∷ bytes) start b =
     let b' = after (poke_of start byte) b in
-    same_twice b b' (written start (byte ∷ bytes) b)
+    same_twice b b' (with_bytes_at start (byte ∷ bytes) b)
     (kept_after b (given (poke_of start byte) b) (kept_by_hand (poke_of start byte) b tt))
     (kept_written bytes (start + 1) b')
 
@@ -185,14 +185,14 @@ run_started true = Stopped
 run_started false = Running
 
 pub begun_run : (q : Bool) (start : ℕ) (b : Board) → b.run ≡ NoRun → (q ≡ true → b.is_attached ≡ true)
-    → (begun start q b).run ≡ run_started q
+    → (begin_run start q b).run ≡ run_started q
 begun_run true start b none attached =
     subst (λ x. (after event.Pause x).run ≡ Stopped) (sym (begins b.run start b none))
     (pauses b.is_attached (started start b) (attached refl))
 begun_run false start b none attached = ap (λ (x : Board). x.run) (begins b.run start b none)
 
 pub begun_attached : (q : Bool) (start : ℕ) (b : Board) → b.run ≡ NoRun
-    → (begun start q b).is_attached ≡ b.is_attached
+    → (begin_run start q b).is_attached ≡ b.is_attached
 begun_attached true start b none =
     subst (λ x. (after event.Pause x).is_attached ≡ b.is_attached) (sym (begins b.run start b none))
     (keeps_attached b.is_attached (started start b))

@@ -24,7 +24,7 @@ use Rattle.dap_editor.specs.declared.request.EditorCommand.TheVariants as editor
 use Rattle.dap_editor.specs.declared.request.EvaluateContext.TheVariants as context
 use Rattle.dap_editor.specs.declared.request.Launch.{Launch as LaunchOf}
 use Rattle.dap_inspect.specs.declared.fault.EvaluateFault.{EvaluateFault}
-use Rattle.dap_inspect.specs.Expressions.{evaluated}
+use Rattle.dap_inspect.specs.Expressions.{expression_text}
 use Rattle.dap_program.specs.declared.load.LoadFault.{LoadFault}
 use Rattle.dap_program.specs.declared.load.LoadFault.TheVariants as fault
 use Rattle.dap_program.specs.declared.messages.Follow.{Follow}
@@ -34,7 +34,7 @@ use Rattle.dap_program.specs.declared.opening.Occasion.TheVariants.{Launch, Rest
 use Rattle.dap_program.specs.Failures.{load_event}
 use Rattle.dap_program.specs.Loading.{load_result}
 use Rattle.dap_program.specs.Openings.{changed_events, first_events, opening_events}
-use Rattle.dap_program.specs.Messages.{told, events_of}
+use Rattle.dap_program.specs.Messages.{as_messages, events_of}
 use Rattle.lab_slice.specs.Slices.{slice_end}
 use Rattle.lab_slice.specs.Console.{written_to_console}
 use Rattle.dap_program.specs.Slices.{slice_events, console_events, line_events, outcome_events}
@@ -48,21 +48,21 @@ use Rattle.dap_session.specs.Memory.{writing}
 use Rattle.dap_session.specs.Launches.{text_in, program_of, program_lines, program_labels, started_follow}
 use Rattle.dap_session.specs.Launches.{by_text, loading, loading_as, launching_over, restarting_of}
 use Rattle.dap_session.specs.Requests.{objection, asking, asking_unless, replying, turn}
-use Rattle.dap_session.specs.Slices.{Input, request, slice, caller_of, slicing, sliced, step, played}
+use Rattle.dap_session.specs.Slices.{Input, request, slice, caller_of, slicing, slice_told, step, play_all}
 use Rattle.dap_session.specs.Laws.{caller_in, callers_answered, request_in, callers_asking, stdout_in}
 use Rattle.dap_session.specs.Laws.{console_of, written_in, written_by, all_written}
 
 -- ---- responses
 
-callers_answered-told : (es : List EditorEvent) → callers_answered (told es) ≡ []
+callers_answered-told : (es : List EditorEvent) → callers_answered (as_messages es) ≡ []
 callers_answered-told [] = refl
 callers_answered-told (e ∷ es) = callers_answered-told es
 
 answered_slicing : (p : ℕ × SliceOutcome) (s : SessionState) → callers_answered (slicing p s).messages ≡ []
 answered_slicing (k, ending) s = callers_answered-told (slice_events (traffic_of k s.board) ending)
 
-answered_sliced : (s : SessionState) → callers_answered (sliced s).messages ≡ []
-unfolding sliced
+answered_sliced : (s : SessionState) → callers_answered (slice_told s).messages ≡ []
+unfolding slice_told
 answered_sliced s = elim (cases_Bool (wants_slice s)) [
   | inl so ↦ rw so (answered_slicing (slice_end s.board) s)
   | inr other ↦ rw other refl
@@ -75,23 +75,24 @@ answered_step (request r found) s =
 answered_step slice s = answered_sliced s
 
 pub answered_played : (inputs : List Input) (s : SessionState)
-    → callers_answered (played inputs s).messages ≡ callers_asking inputs
+    → callers_answered (play_all inputs s).messages ≡ callers_asking inputs
 answered_played [] s = refl
 answered_played (input ∷ inputs) s =
     let first = step input s in
-    filter_map-append caller_in first.messages (played inputs first.state).messages
-    ∙ (ap (λ xs. xs ++ callers_answered (played inputs first.state).messages) (answered_step input s)
+    filter_map-append caller_in first.messages (play_all inputs first.state).messages
+    ∙ (ap (λ xs. xs ++ callers_answered (play_all inputs first.state).messages) (answered_step input s)
     ∙ (ap (λ xs. callers_asking (input ∷ []) ++ xs) (answered_played inputs first.state)
     ∙ sym (filter_map-append request_in (input ∷ []) inputs)))
 
 -- ---- the console
 
 abbrev shown : List EditorEvent → Bytes
-shown es = console_of (told es)
+shown es = console_of (as_messages es)
 
 shown-append : (first second : List EditorEvent) → shown (first ++ second) ≡ shown first ++ shown second
 shown-append first second =
-    ap console_of (told-append first second) ∙ flat_map-append stdout_in (told first) (told second)
+    ap console_of (told-append first second)
+    ∙ flat_map-append stdout_in (as_messages first) (as_messages second)
 
 -- nothing of it is the console's
 abbrev IsSilent : List EditorEvent → Type 0
@@ -215,8 +216,8 @@ shown_slicing : (p : ℕ × SliceOutcome) (s : SessionState)
     → console_of (slicing p s).messages ≡ written_in p s.board
 shown_slicing (k, ending) s = shown_events (filter_map written_to_console (traffic_of k s.board)) _ ending
 
-shown_sliced : (s : SessionState) → console_of (sliced s).messages ≡ written_by slice s
-unfolding sliced
+shown_sliced : (s : SessionState) → console_of (slice_told s).messages ≡ written_by slice s
+unfolding slice_told
 shown_sliced s = elim (cases_Bool (wants_slice s)) [
   | inl so ↦ rw so (shown_slicing (slice_end s.board) s)
   | inr other ↦ rw other refl
@@ -227,12 +228,12 @@ shown_step (request r found) s = silent_turn r.asked found s
 shown_step slice s = shown_sliced s
 
 pub shown_played : (inputs : List Input) (s : SessionState)
-    → console_of (played inputs s).messages ≡ all_written inputs s
+    → console_of (play_all inputs s).messages ≡ all_written inputs s
 shown_played [] s = refl
 shown_played (input ∷ inputs) s =
     let first = step input s in
-    flat_map-append stdout_in first.messages (played inputs first.state).messages
-    ∙ (ap (λ xs. xs ++ console_of (played inputs first.state).messages) (shown_step input s)
+    flat_map-append stdout_in first.messages (play_all inputs first.state).messages
+    ∙ (ap (λ xs. xs ++ console_of (play_all inputs first.state).messages) (shown_step input s)
     ∙ ap (λ xs. written_by input s ++ xs) (shown_played inputs first.state))
 
 -- ---- looks
@@ -245,7 +246,7 @@ kept_unless : (o : Option Text) (expression : Text) (found : Option FileText) (s
     → (asking_unless o (asked.Editor (editor.Evaluate expression context.Other)) found s).state.board
     ≡ s.board
 kept_unless (Some text) expression found s = refl
-kept_unless None expression found s = kept_value (evaluated s.board expression) s
+kept_unless None expression found s = kept_value (expression_text s.board expression) s
 
 pub kept_look : (expression : Text) (found : Option FileText) (s : SessionState)
     → (turn (asked.Editor (editor.Evaluate expression context.Other)) found s).state.board ≡ s.board

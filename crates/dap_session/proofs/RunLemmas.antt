@@ -9,7 +9,7 @@ use Rattle.lab_core.specs.Board.{Board}
 use Rattle.dap_editor.specs.declared.message.EditorEvent.{EditorEvent}
 use Rattle.dap_editor.specs.declared.message.Message.{Message}
 use Rattle.dap_program.specs.declared.messages.Follow.TheVariants as follow
-use Rattle.dap_program.specs.Messages.{told, events_of}
+use Rattle.dap_program.specs.Messages.{as_messages, events_of}
 use Rattle.dap_program.proofs.SliceLemmas.{told-append}
 use Rattle.dap_session.specs.declared.settings.Phase.{Phase}
 use Rattle.dap_session.specs.declared.settings.Phase.TheVariants as phase
@@ -161,7 +161,7 @@ pub record Follows (v : Seen) (messages : List Message) (w : Seen) : Type 0 wher
 
 -- So do these events, of which there are none without a live program.
 pub record Goes (s : SessionState) (es : List EditorEvent) (s' : SessionState) : Type 0 where
-  pub follows : Follows (seen s) (told es) (seen s')
+  pub follows : Follows (seen s) (as_messages es) (seen s')
   pub quiet : is_live s.settings.program ≡ false → es ≡ []
 
 abbrev pub ended_count : Bool → Bool → ℕ
@@ -228,8 +228,8 @@ pub goes_over : (b : Bool) (s s' : SessionState) → is_live s.settings.program 
     → seen s' ≡ over_seen (seen s) → Goes s (events_of (if b then follow.Ended else follow.Nothing)) s'
 goes_over true s s' live reached is = record {
   follows =
-      subst (λ w. Follows (seen s) (told (events_of follow.Ended)) w) (sym is)
-      (ends_live (seen s) (told (events_of follow.Ended)) reached live refl refl);
+      subst (λ w. Follows (seen s) (as_messages (events_of follow.Ended)) w) (sym is)
+      (ends_live (seen s) (as_messages (events_of follow.Ended)) reached live refl refl);
   quiet = λ dead. both (is_live s.settings.program) live dead;
 }
 goes_over false s s' dead reached is = record {
@@ -240,38 +240,39 @@ goes_over false s s' dead reached is = record {
 -- ---- events that tell of neither
 
 pub record IsCalm (es : List EditorEvent) : Type 0 where
-  pub stops : (d : Shown) → fold shown_after d (told es) ≡ d
-  pub ends : ends_told (told es) ≡ 0
+  pub stops : (d : Shown) → fold shown_after d (as_messages es) ≡ d
+  pub ends : ends_told (as_messages es) ≡ 0
 
-pub calm_follows : (first second : List EditorEvent) (v w : Seen) → IsCalm first → Follows v (told second) w
-    → Follows v (told (first ++ second)) w
+pub calm_follows : (first second : List EditorEvent) (v w : Seen) → IsCalm first
+    → Follows v (as_messages second) w
+    → Follows v (as_messages (first ++ second)) w
 calm_follows first second v w calm follows =
     let d = shown_for v.run in
     record {
       reached = follows.reached;
       stops =
           ap (λ ms. fold shown_after d ms) (told-append first second)
-          ∙ (fold-append shown_after d (told first) (told second)
-          ∙ (ap (λ x. fold shown_after x (told second)) (calm.stops d) ∙ follows.stops));
+          ∙ (fold-append shown_after d (as_messages first) (as_messages second)
+          ∙ (ap (λ x. fold shown_after x (as_messages second)) (calm.stops d) ∙ follows.stops));
       ends =
           ap ends_told (told-append first second)
-          ∙ (sum_by-append ends_in (told first) (told second)
-          ∙ (ap (λ n. n + ends_told (told second)) calm.ends ∙ (zero-add _ ∙ follows.ends)));
+          ∙ (sum_by-append ends_in (as_messages first) (as_messages second)
+          ∙ (ap (λ n. n + ends_told (as_messages second)) calm.ends ∙ (zero-add _ ∙ follows.ends)));
     }
 
 pub calm_append : (first second : List EditorEvent) → IsCalm first → IsCalm second → IsCalm (first ++ second)
 calm_append first second one two = record {
   stops = λ d.
       ap (λ ms. fold shown_after d ms) (told-append first second)
-      ∙ (fold-append shown_after d (told first) (told second)
-      ∙ (ap (λ x. fold shown_after x (told second)) (one.stops d) ∙ two.stops d));
+      ∙ (fold-append shown_after d (as_messages first) (as_messages second)
+      ∙ (ap (λ x. fold shown_after x (as_messages second)) (one.stops d) ∙ two.stops d));
   ends =
       ap ends_told (told-append first second)
-      ∙ (sum_by-append ends_in (told first) (told second)
-      ∙ (ap (λ n. n + ends_told (told second)) one.ends ∙ (zero-add _ ∙ two.ends)));
+      ∙ (sum_by-append ends_in (as_messages first) (as_messages second)
+      ∙ (ap (λ n. n + ends_told (as_messages second)) one.ends ∙ (zero-add _ ∙ two.ends)));
 }
 
-pub calm_still : (es : List EditorEvent) (v : Seen) → IsReached v → IsCalm es → Follows v (told es) v
+pub calm_still : (es : List EditorEvent) (v : Seen) → IsReached v → IsCalm es → Follows v (as_messages es) v
 calm_still es v reached calm = record {
   reached = reached;
   stops = calm.stops (shown_for v.run);

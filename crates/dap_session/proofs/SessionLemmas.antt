@@ -10,7 +10,7 @@ use Rattle.dap_editor.specs.declared.request.Asked.TheVariants as asked
 use Rattle.dap_editor.specs.declared.request.EditorCommand.TheVariants as editor
 use Rattle.dap_editor.specs.declared.request.Shift.{Shift}
 use Rattle.dap_program.specs.declared.messages.Caller.{Caller}
-use Rattle.dap_program.specs.Memory.{written}
+use Rattle.dap_program.specs.Memory.{with_bytes_at}
 use Rattle.dap_program.specs.Refusals.{board_refusal}
 use Rattle.dap_session.specs.declared.settings.Phase.{Phase}
 use Rattle.dap_session.specs.declared.settings.Phase.TheVariants.{Loaded}
@@ -18,7 +18,7 @@ use Rattle.dap_session.specs.declared.settings.Program.{Program}
 use Rattle.dap_session.specs.States.{SessionState, with_board}
 use Rattle.dap_session.specs.Turns.{Replied, turn_of, refusing}
 use Rattle.dap_session.specs.Memory.{is_stopped, address_at, writing_from, writing}
-use Rattle.dap_session.specs.Launches.{beginning, beginning_in, beginning_where, started}
+use Rattle.dap_session.specs.Launches.{beginning, beginning_in, beginning_where, begin_if_configured}
 use Rattle.dap_session.specs.Slices.{Told, told_in}
 use Rattle.dap_session.specs.Stands.{SessionFields, StandsFor, Stands, Tells, Takes, TakesFor, IsLeft}
 use Rattle.dap_session.specs.Stands.{WritesFirst}
@@ -100,7 +100,7 @@ done_write address start offset bytes c old new (Err lack) stopped at made err =
       let some = err s stands in
       let k = some.0 in
       let P : Replied → Type 0 = λ t. StandsFor new t.state in
-      let B : Bytes → Type 0 = λ xs. StandsFor new (with_board (written start xs s.board) s) in (
+      let B : Bytes → Type 0 = λ xs. StandsFor new (with_board (with_bytes_at start xs s.board) s) in (
         k,
         subst P (sym (somewhere address start offset (take k bytes) s (stopped s stands) at))
             (subst B (taken_twice k (65536 - start) bytes) some.1),
@@ -131,7 +131,7 @@ none_taken (suc n) = refl
 unwritten_in : (o : Option ℕ) (s : SessionState) → (writing_from o [] s).state ≡ s
 unwritten_in None s = refl
 unwritten_in (Some start) s =
-    let P : Bytes → Type 0 = λ xs. with_board (written start xs s.board) s ≡ s in
+    let P : Bytes → Type 0 = λ xs. with_board (with_bytes_at start xs s.board) s ≡ s in
     subst P (sym (none_taken (65536 - start))) refl
 
 unwritten : (b : Bool) (o : Option ℕ) (s : SessionState)
@@ -160,7 +160,7 @@ if_true b x y is = rw is refl
 
 -- where the configuration is done it begins
 pub started_so : (p : Program) (s : SessionState) → s.settings.is_configured ≡ true
-    → started p s ≡ (beginning p s).state
+    → begin_if_configured p s ≡ (beginning p s).state
 started_so p s done = if_true s.settings.is_configured (beginning p s).state s done
 
 begun_in : (p : Program) (s : SessionState) (phase : Phase) → phase ≡ Loaded

@@ -20,10 +20,10 @@ use Rattle.dap_program.specs.declared.messages.Follow.{Follow}
 use Rattle.dap_program.specs.declared.messages.Follow.TheVariants as follow
 use Rattle.dap_program.specs.declared.opening.Occasion.{Occasion}
 use Rattle.dap_program.specs.declared.opening.Occasion.TheVariants.{Launch, Restart}
-use Rattle.dap_program.specs.Boards.{begun}
+use Rattle.dap_program.specs.Boards.{begin_run}
 use Rattle.dap_program.specs.Failures.{load_event}
 use Rattle.dap_program.specs.Loading.{load_result}
-use Rattle.dap_program.specs.Messages.{told, events_of}
+use Rattle.dap_program.specs.Messages.{as_messages, events_of}
 use Rattle.dap_program.specs.Openings.{changed_events, first_events}
 use Rattle.dap_session.specs.declared.file.FileText.{FileText}
 use Rattle.dap_session.specs.declared.settings.Phase.{Phase}
@@ -35,7 +35,7 @@ use Rattle.dap_session.specs.Launches.{pauses, going_follow, begun_follow, insta
 use Rattle.dap_session.specs.Launches.{beginning_in, beginning_where, program_of, program_lines}
 use Rattle.dap_session.specs.Launches.{program_labels, program_board, started_follow, loading_as, text_in}
 use Rattle.dap_session.specs.Launches.{by_text, loading, launching_over, restarting_of}
-use Rattle.dap_session.specs.Requests.{configured}
+use Rattle.dap_session.specs.Requests.{set_configured}
 use Rattle.dap_session.specs.Laws.{Shown, unstopped, shown_after, shown_for, ends_told, has_run}
 use Rattle.dap_session.proofs.BoardLemmas.{kept_armed, run_started, begun_run, begun_attached, IsLoaded}
 use Rattle.dap_session.proofs.BoardLemmas.{is_loaded}
@@ -61,27 +61,27 @@ begun_has false = refl
 
 -- this tells of a run that goes on, and of no end
 record GoesOn (d : Shown) (f : Follow) : Type 0 where
-  pub stops : fold shown_after d (told (events_of f)) ≡ unstopped
-  pub ends : ends_told (told (events_of f)) ≡ 0
+  pub stops : fold shown_after d (as_messages (events_of f)) ≡ unstopped
+  pub ends : ends_told (as_messages (events_of f)) ≡ 0
 
 begun_shown : (q : Bool) (f : Follow) (d : Shown) → GoesOn d f
-    → fold shown_after d (told (events_of (if q then follow.Stopped Entry else f)))
+    → fold shown_after d (as_messages (events_of (if q then follow.Stopped Entry else f)))
     ≡ shown_for (run_started q)
 begun_shown true f d goes = refl
 begun_shown false f d goes = goes.stops
 
 begun_ends : (q : Bool) (f : Follow) (d : Shown) → GoesOn d f
-    → ends_told (told (events_of (if q then follow.Stopped Entry else f))) ≡ 0
+    → ends_told (as_messages (events_of (if q then follow.Stopped Entry else f))) ≡ 0
 begun_ends true f d goes = refl
 begun_ends false f d goes = goes.ends
 
 begins : (q : Bool) (f : Follow) (p : Program) (b : Board) (c : Bool) (v : Seen) → b.run ≡ NoRun
     → b.is_attached ≡ p.launch.is_debugged → (q ≡ true → p.launch.is_debugged ≡ true) → c ≡ true
     → GoesOn (shown_for v.run) f
-    → Follows v (told (events_of (if q then follow.Stopped Entry else f)))
-    (begun_seen p (begun p.start q b) c)
+    → Follows v (as_messages (events_of (if q then follow.Stopped Entry else f)))
+    (begun_seen p (begin_run p.start q b) c)
 begins q f p b c v none attached debugs done goes =
-    let run : (begun p.start q b).run ≡ run_started q =
+    let run : (begin_run p.start q b).run ≡ run_started q =
     begun_run q p.start b none (λ is. attached ∙ debugs is) in
     record {
       reached = (begun_attached q p.start b none ∙ attached, (ap has_run run ∙ begun_has q, done));
@@ -93,26 +93,26 @@ debugged : (l : LaunchOf) → pauses l ≡ true → l.is_debugged ≡ true
 debugged l is = (and_parts l.stops_on_entry l.is_debugged is).1
 
 -- the configuration is done, which begins nothing
-only_configured : (s : SessionState) → IsReached (seen (configured s)) → Goes s [] (configured s)
+only_configured : (s : SessionState) → IsReached (seen (set_configured s)) → Goes s [] (set_configured s)
 only_configured s reached = record {
   follows = record { reached = reached; stops = refl; ends = none_ended (is_live s.settings.program) };
   quiet = λ dead. refl;
 }
 
 configured_fits : (o : Option Program) (s : SessionState) → s.settings.program ≡ o
-    → ProgramFits o s.board.run s.board.is_attached true → IsReached (seen (configured s))
+    → ProgramFits o s.board.run s.board.is_attached true → IsReached (seen (set_configured s))
 configured_fits o s on fits =
     subst (λ x. ProgramFits x s.board.run s.board.is_attached true) (sym on) fits
 
 phase_fits : (h : Phase) (p : Program) (s : SessionState) → p.phase ≡ h → s.settings.program ≡ Some p
     → s.board.is_attached ≡ p.launch.is_debugged → PhaseFits h s.board.run true
-    → IsReached (seen (configured s))
+    → IsReached (seen (set_configured s))
 phase_fits h p s is on attached fits =
     configured_fits (Some p) s on (attached, subst (λ x. PhaseFits x s.board.run true) (sym is) fits)
 
 goes_in : (h : Phase) (p : Program) (s : SessionState) → p.phase ≡ h → s.settings.program ≡ Some p
     → s.board.is_attached ≡ p.launch.is_debugged → PhaseFits h s.board.run s.settings.is_configured
-    → GoesBy s (beginning_in h p (configured s))
+    → GoesBy s (beginning_in h p (set_configured s))
 goes_in phase.Loaded p s is on attached none =
     let live : is_live s.settings.program ≡ true = ap is_live on ∙ ap (λ x. not (is_over x)) is in
     record {
@@ -128,7 +128,7 @@ goes_in phase.Over p s is on attached none = only_configured s (phase_fits phase
 
 pub goes_where : (o : Option Program) (s : SessionState) → s.settings.program ≡ o
     → ProgramFits o s.board.run s.board.is_attached s.settings.is_configured
-    → GoesBy s (beginning_where o (configured s))
+    → GoesBy s (beginning_where o (set_configured s))
 goes_where None s on none = only_configured s (configured_fits None s on none)
 goes_where (Some p) s on fits = goes_in p.phase p s refl on fits.0 fits.1
 
@@ -171,7 +171,7 @@ follows_started : (c : Bool) (o : Occasion) (l : LaunchOf) (start : ℕ) (text :
     (b : Board)
     → s.settings.is_configured ≡ c → IsReached (seen s) → b.run ≡ NoRun → b.is_attached ≡ l.is_debugged
     → GoesOn (shown_for s.board.run) (going_follow o)
-    → Follows (seen s) (told (events_of (if c then begun_follow o l else follow.Nothing)))
+    → Follows (seen s) (as_messages (events_of (if c then begun_follow o l else follow.Nothing)))
     (seen (if c then (beginning (program_of l start text) (put (program_of l start text) b s)).state
     else put (program_of l start text) b s))
 follows_started true o l start text s b done reached none attached goes =
@@ -184,7 +184,7 @@ follows_started false o l start text s b done reached none attached goes = recor
 }
 
 abbrev pub FollowsTurn : SessionState → Turn → Type 0
-FollowsTurn s t = Follows (seen s) (told t.events) (seen t.state)
+FollowsTurn s t = Follows (seen s) (as_messages t.events) (seen t.state)
 
 follows_installing : (o : Occasion) (l : LaunchOf) (start : ℕ) (text : Text) (b : Board) (s : SessionState)
     → IsReached (seen s) → b.run ≡ NoRun → b.is_attached ≡ l.is_debugged

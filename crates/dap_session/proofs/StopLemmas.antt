@@ -30,13 +30,15 @@ use Rattle.dap_editor.specs.declared.request.Asked.{Asked}
 use Rattle.dap_editor.specs.declared.request.Asked.TheVariants as asked
 use Rattle.dap_editor.specs.declared.request.EditorCommand.{EditorCommand}
 use Rattle.dap_editor.specs.declared.request.EditorCommand.TheVariants as editor
-use Rattle.dap_program.specs.Messages.{told}
+use Rattle.dap_program.specs.Messages.{as_messages}
 use Rattle.dap_program.specs.Slices.{console_events, line_events, outcome_events, run_end_events}
 use Rattle.dap_session.specs.declared.file.FileText.{FileText}
-use Rattle.dap_session.specs.States.{SessionState, opened, with_board, is_live, is_running, wants_slice}
-use Rattle.dap_session.specs.Requests.{initialized, commanding, editing, objection, asking}
+use Rattle.dap_session.specs.States.{SessionState, session_before_requests, with_board, is_live}
+use Rattle.dap_session.specs.States.{is_running, wants_slice}
+use Rattle.dap_session.specs.Requests.{set_initialized, commanding, editing, objection, asking}
 use Rattle.dap_session.specs.Requests.{asking_unless, turn}
-use Rattle.dap_session.specs.Slices.{Input, request, slice, settings_after, slicing, sliced, step, played}
+use Rattle.dap_session.specs.Slices.{Input, request, slice, settings_after, slicing, slice_told, step}
+use Rattle.dap_session.specs.Slices.{play_all}
 use Rattle.dap_session.specs.Laws.{Shown, unstopped, shown_after, shown_by, shown_for, ends_told}
 use Rattle.dap_session.specs.Laws.{ends_between, has_run, has_begun, events_in, asks_to_load, loads}
 use Rattle.dap_session.proofs.BoardLemmas.{SameRun, kept_without, kept_dump, kept_poke, kept_press}
@@ -55,7 +57,7 @@ goes_command : (c : DapCommand) (s : SessionState) → IsReached (seen s) → Go
 unfolding command_result
 goes_command command.Initialize s reached =
     goes_either s.settings.is_initialized s _ _ (still s s reached refl)
-    (still s (initialized s) reached refl)
+    (still s (set_initialized s) reached refl)
 goes_command command.Attach s reached = still s s reached refl
 goes_command command.Disconnect s reached = still s _ reached refl
 goes_command command.ConfigurationDone s reached = goes_where s.settings.program s refl reached
@@ -152,11 +154,11 @@ calm_line : (b : Bool) → IsCalm (line_events b)
 calm_line true = record { stops = λ d. refl; ends = refl }
 calm_line false = calm_none
 
-over_shown : (e : End) (d : Shown) → fold shown_after d (told (run_end_events e)) ≡ unstopped
+over_shown : (e : End) (d : Shown) → fold shown_after d (as_messages (run_end_events e)) ≡ unstopped
 over_shown end.Halted d = refl
 over_shown (end.Undefined opcode pc) d = refl
 
-over_ends : (e : End) → ends_told (told (run_end_events e)) ≡ 1
+over_ends : (e : End) → ends_told (as_messages (run_end_events e)) ≡ 1
 over_ends end.Halted = refl
 over_ends (end.Undefined opcode pc) = refl
 
@@ -165,17 +167,17 @@ abbrev left : SliceOutcome → Board → SessionState → SessionState
 left o b s = record { board = left_by o b; settings = settings_after o s.settings }
 
 follows_outcome : (o : SliceOutcome) (b : Board) (s : SessionState) → SameRun s.board b → IsReached (seen s)
-    → has_run s.board.run ≡ true → Follows (seen s) (told (outcome_events o)) (seen (left o b s))
+    → has_run s.board.run ≡ true → Follows (seen s) (as_messages (outcome_events o)) (seen (left o b s))
 follows_outcome outcome.More b s kept reached has =
     (still s (with_board b s) reached (seen_board b s kept)).follows
 follows_outcome outcome.Waiting b s kept reached has =
     (still s (with_board b s) reached (seen_board b s kept)).follows
 follows_outcome (outcome.Stop r) b s kept reached has =
-    let es = told (outcome_events (outcome.Stop r)) in
+    let es = as_messages (outcome_events (outcome.Stop r)) in
     subst (λ a. Follows (seen s) es (record (with_run Stopped (seen s)) { is_attached = a }))
     (sym kept.is_attached) (runs_on Stopped (seen s) es reached has refl refl refl)
 follows_outcome (outcome.End e) b s kept reached has =
-    let es = told (run_end_events e) in
+    let es = as_messages (run_end_events e) in
     subst (λ a. Follows (seen s) es (record (over_seen (seen s)) { is_attached = a })) (sym kept.is_attached)
     (ends_live (seen s) es reached (lively (seen s) reached has) (over_shown e (shown_for s.board.run))
     (over_ends e))
@@ -196,8 +198,8 @@ running_has Running is = refl
 running_has Stopped is = absurd (true≢false (sym is))
 
 follows_sliced : (s : SessionState) → IsReached (seen s)
-    → Follows (seen s) (sliced s).messages (seen (sliced s).state)
-unfolding sliced
+    → Follows (seen s) (slice_told s).messages (seen (slice_told s).state)
+unfolding slice_told
 follows_sliced s reached = elim (cases_Bool (wants_slice s)) [
   | inl so ↦
       rw so (follows_slicing (slice_end s.board) s reached
@@ -206,8 +208,8 @@ follows_sliced s reached = elim (cases_Bool (wants_slice s)) [
 ]
 
 quiet_sliced : (s : SessionState) → IsReached (seen s) → is_live s.settings.program ≡ false
-    → events_in (sliced s).messages ≡ []
-unfolding sliced
+    → events_in (slice_told s).messages ≡ []
+unfolding slice_told
 quiet_sliced s reached dead =
     let unwanted : wants_slice s ≡ false =
     ap (λ r. is_running r && not s.settings.waits) (idle (seen s) reached dead) in
@@ -225,44 +227,48 @@ follows_step slice s reached = follows_sliced s reached
 quiet_step : (input : Input) (s : SessionState) → IsReached (seen s) → is_live s.settings.program ≡ false
     → loads input ≡ false → events_in (step input s).messages ≡ []
 quiet_step (request r found) s reached dead is =
-    ap (λ es. events_in (told es)) (quiet_turn r.asked found s reached dead is)
+    ap (λ es. events_in (as_messages es)) (quiet_turn r.asked found s reached dead is)
 quiet_step slice s reached dead is = quiet_sliced s reached dead
 
 reached_from : (inputs : List Input) (s : SessionState) → IsReached (seen s)
-    → IsReached (seen (played inputs s).state)
+    → IsReached (seen (play_all inputs s).state)
 reached_from [] s reached = reached
 reached_from (input ∷ inputs) s reached =
     reached_from inputs (step input s).state (follows_step input s reached).reached
 
 stops_from : (inputs : List Input) (s : SessionState) → IsReached (seen s)
-    → fold shown_after (shown_for s.board.run) (played inputs s).messages
-    ≡ shown_for (played inputs s).state.board.run
+    → fold shown_after (shown_for s.board.run) (play_all inputs s).messages
+    ≡ shown_for (play_all inputs s).state.board.run
 stops_from [] s reached = refl
 stops_from (input ∷ inputs) s reached =
     let first = step input s in
-    let rest = played inputs first.state in
+    let rest = play_all inputs first.state in
     let follows = follows_step input s reached in
     fold-append shown_after (shown_for s.board.run) first.messages rest.messages
     ∙ (ap (λ d. fold shown_after d rest.messages) follows.stops
     ∙ stops_from inputs first.state follows.reached)
 
-reached_opened : (inputs : List Input) → IsReached (seen (played inputs opened).state)
-reached_opened inputs = reached_from inputs opened refl
+reached_opened : (inputs : List Input) → IsReached (seen (play_all inputs session_before_requests).state)
+reached_opened inputs = reached_from inputs session_before_requests refl
 
 pub stops_told : (inputs : List Input)
-    → shown_by (played inputs opened).messages ≡ shown_for (played inputs opened).state.board.run
-stops_told inputs = stops_from inputs opened refl
+    → shown_by (play_all inputs session_before_requests).messages
+    ≡ shown_for (play_all inputs session_before_requests).state.board.run
+stops_told inputs = stops_from inputs session_before_requests refl
 
 pub run_begun : (inputs : List Input)
-    → let s = (played inputs opened).state in has_run s.board.run ≡ has_begun s.settings.program
-run_begun inputs = begun_runs (seen (played inputs opened).state) (reached_opened inputs)
+    → let s = (play_all inputs session_before_requests).state in has_run s.board.run
+    ≡ has_begun s.settings.program
+run_begun inputs = begun_runs (seen (play_all inputs session_before_requests).state) (reached_opened inputs)
 
 pub quiet_told : (inputs : List Input) (input : Input)
-    → let s = (played inputs opened).state in
+    → let s = (play_all inputs session_before_requests).state in
     is_live s.settings.program ≡ false → loads input ≡ false → events_in (step input s).messages ≡ []
-quiet_told inputs input = quiet_step input (played inputs opened).state (reached_opened inputs)
+quiet_told inputs input = quiet_step input (play_all inputs session_before_requests).state
+    (reached_opened inputs)
 
 pub end_told : (inputs : List Input) (input : Input)
-    → let s = (played inputs opened).state in
+    → let s = (play_all inputs session_before_requests).state in
     ends_told (step input s).messages ≡ ends_between s.settings.program (step input s).state.settings.program
-end_told inputs input = (follows_step input (played inputs opened).state (reached_opened inputs)).ends
+end_told inputs input = (follows_step input (play_all inputs session_before_requests).state
+    (reached_opened inputs)).ends

@@ -23,13 +23,13 @@ use Rattle.dap_editor.specs.declared.request.EvaluateContext.{EvaluateContext}
 use Rattle.dap_editor.specs.declared.request.EvaluateContext.TheVariants as context
 use Rattle.dap_editor.specs.declared.request.Shift.{Shift}
 use Rattle.dap_inspect.specs.declared.fault.EvaluateFault.{EvaluateFault}
-use Rattle.dap_inspect.specs.Expressions.{evaluated}
+use Rattle.dap_inspect.specs.Expressions.{expression_text}
 use Rattle.dap_points.specs.Points.{has_place}
 use Rattle.dap_program.specs.declared.messages.Follow.TheVariants as follow
 use Rattle.dap_program.specs.Boards.{after}
-use Rattle.dap_program.specs.Memory.{written}
+use Rattle.dap_program.specs.Memory.{with_bytes_at}
 use Rattle.dap_program.specs.Messages.{events_of}
-use Rattle.dap_session.specs.States.{SessionState, with_board, is_live, ended}
+use Rattle.dap_session.specs.States.{SessionState, with_board, is_live, program_over}
 use Rattle.dap_session.specs.Turns.{Replied}
 use Rattle.dap_session.specs.Breakpoints.{is_launched_as, setting_lines, setting_functions}
 use Rattle.dap_session.specs.Evaluations.{behind, byte_spelled, byte_word, word_with, word_done, value_told}
@@ -99,14 +99,14 @@ goes_word : (switches press line : Option Text) (expression : Text) (s : Session
 goes_word (Some n) press line expression s reached = goes_switches (byte_spelled n) expression s reached
 goes_word None (Some n) line expression s reached = goes_press (byte_spelled n) expression s reached
 goes_word None None (Some line) expression s reached = goes_type (line ++ codes "\n") expression s reached
-goes_word None None None expression s reached = goes_value (evaluated s.board expression) s reached
+goes_word None None None expression s reached = goes_value (expression_text s.board expression) s reached
 
 pub goes_evaluating : (expression : Text) (c : EvaluateContext) (s : SessionState) → IsReached (seen s)
     → GoesBy s (evaluating expression c s)
 goes_evaluating expression context.Repl s reached =
     goes_word (behind (codes "switches ") expression) (behind (codes "press ") expression)
     (behind (codes "type ") expression) expression s reached
-goes_evaluating expression context.Other s reached = goes_value (evaluated s.board expression) s reached
+goes_evaluating expression context.Other s reached = goes_value (expression_text s.board expression) s reached
 
 pub goes_lines : (path : Text) (lines : List ℕ) (s : SessionState) → IsReached (seen s)
     → GoesBy s (setting_lines path lines s)
@@ -125,7 +125,7 @@ goes_written : (o : Option ℕ) (bytes : Bytes) (s : SessionState) → IsReached
 goes_written None bytes s reached = still s s reached refl
 goes_written (Some start) bytes s reached =
     let all = take (65536 - start) bytes in
-    still s (with_board (written start all s.board) s) reached
+    still s (with_board (with_bytes_at start all s.board) s) reached
     (seen_board _ s (kept_written all start s.board))
 
 pub goes_writing : (address : ℕ) (offset : Shift) (bytes : Bytes) (s : SessionState) → IsReached (seen s)
@@ -170,7 +170,7 @@ unfolding command_result
 goes_resetting s reached = goes_over (is_live s.settings.program) s _ refl reached refl
 
 seen_terminated : (s : SessionState)
-    → seen (ended (with_board (after event.Interrupt s.board) s)) ≡ over_seen (seen s)
+    → seen (program_over (with_board (after event.Interrupt s.board) s)) ≡ over_seen (seen s)
 seen_terminated s = λ i. record {
   program = (over_seen (seen s)).program;
   run = run_interrupted s.board i;

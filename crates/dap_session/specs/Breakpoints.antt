@@ -7,7 +7,7 @@ use Rattle.dap_editor.specs.declared.message.EditorBody.TheVariants.{Breakpoints
 use Rattle.dap_points.specs.Points.{PointsState, number_of, has_place, lines_at, with_lines}
 use Rattle.dap_points.specs.Placed.{line_points}
 use Rattle.dap_program.specs.declared.messages.Follow.TheVariants.{Nothing}
-use Rattle.dap_program.specs.Breakpoints.{labels_behind, armed}
+use Rattle.dap_program.specs.Breakpoints.{labels_behind, board_armed_at}
 use Rattle.dap_session.specs.declared.settings.Program.{Program}
 use Rattle.dap_session.specs.States.{SessionState, with_board, with_points}
 use Rattle.dap_session.specs.Turns.{Replied, refusing, succeeding}
@@ -26,7 +26,7 @@ line_count_of (Some p) = p.line_count
 -- Only the program that was launched is on the board.
 abbrev pub armed_where : Option Program → List ℕ → List Text → Board → Board
 armed_where None lines names b = b
-armed_where (Some program) lines names b = armed program.launch.program lines names b
+armed_where (Some program) lines names b = board_armed_at program.launch.program lines names b
 
 abbrev pub lines_armed : Text → List ℕ → SessionState → SessionState
 lines_armed path lines s =
@@ -56,7 +56,7 @@ program_lines (Some program) p = lines_at program.launch.program p.lists
 abbrev pub labels_armed : Option Program → List Text → PointsState → Board → Board
 labels_armed None names p b = b
 labels_armed (Some program) names p b =
-    armed program.launch.program (lines_at program.launch.program p.lists) names b
+    board_armed_at program.launch.program (lines_at program.launch.program p.lists) names b
 
 abbrev pub setting_functions : List Text → SessionState → Replied
 setting_functions names s =

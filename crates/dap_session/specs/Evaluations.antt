@@ -13,7 +13,7 @@ use Rattle.dap_editor.specs.declared.request.EvaluateContext.{EvaluateContext}
 use Rattle.dap_editor.specs.declared.request.EvaluateContext.TheVariants.{Repl, Other}
 use Rattle.dap_editor.specs.declared.message.EditorBody.TheVariants.{Evaluation}
 use Rattle.dap_inspect.specs.declared.fault.EvaluateFault.{EvaluateFault}
-use Rattle.dap_inspect.specs.Expressions.{evaluated, message_of}
+use Rattle.dap_inspect.specs.Expressions.{expression_text, message_of}
 use Rattle.dap_program.specs.declared.messages.Follow.TheVariants.{Nothing}
 use Rattle.dap_program.specs.Refusals.{board_refusal}
 use Rattle.dap_session.specs.declared.words.Word.{Word}
@@ -70,7 +70,7 @@ value_told (Err fault) s = refusing (message_of fault) s
 
 -- a look at the board, which stays as it was
 abbrev pub looking : Text → SessionState → Replied
-looking expression s = value_told (evaluated s.board expression) s
+looking expression s = value_told (expression_text s.board expression) s
 
 -- ---- both
 

@@ -14,8 +14,8 @@ use Rattle.dap_program.specs.declared.messages.Follow.{Follow}
 use Rattle.dap_program.specs.declared.messages.Follow.TheVariants.{Nothing, Continued, Stopped}
 use Rattle.dap_program.specs.declared.opening.Occasion.{Occasion}
 use Rattle.dap_program.specs.declared.opening.Occasion.TheVariants.{Launch, Restart}
-use Rattle.dap_program.specs.Boards.{begun}
-use Rattle.dap_program.specs.Breakpoints.{armed, labels_behind}
+use Rattle.dap_program.specs.Boards.{begin_run}
+use Rattle.dap_program.specs.Breakpoints.{board_armed_at, labels_behind}
 use Rattle.dap_program.specs.Failures.{load_refusal, load_event}
 use Rattle.dap_program.specs.Loading.{load_result}
 use Rattle.dap_program.specs.Openings.{opening_events, accepted_outcome}
@@ -44,7 +44,8 @@ begun_follow occasion l = if pauses l then Stopped Entry else going_follow occas
 -- by the end of the configuration
 abbrev pub beginning : Program → SessionState → Replied
 beginning p s = accepting (begun_follow Launch p.launch)
-    (with_board (begun p.start (pauses p.launch) s.board) (with_program (Some (in_phase phase.Begun p)) s))
+    (with_board (begin_run p.start (pauses p.launch) s.board)
+    (with_program (Some (in_phase phase.Begun p)) s))
 
 -- once
 abbrev pub beginning_in : Phase → Program → SessionState → Replied
@@ -74,11 +75,11 @@ program_labels p kept b = labels_behind (lines_at p.launch.program kept.lists) (
 -- its board stops at them
 abbrev pub program_board : Program → PointsState → Board → Board
 program_board p kept b =
-    let path = p.launch.program in armed path (lines_at path kept.lists) (take 256 kept.functions) b
+    let path = p.launch.program in board_armed_at path (lines_at path kept.lists) (take 256 kept.functions) b
 
 -- Where the configuration is done it begins.
-abbrev pub started : Program → SessionState → SessionState
-started p s = if s.settings.is_configured then (beginning p s).state else s
+abbrev pub begin_if_configured : Program → SessionState → SessionState
+begin_if_configured p s = if s.settings.is_configured then (beginning p s).state else s
 
 abbrev pub started_follow : Occasion → Program → SessionState → Follow
 started_follow occasion p s = if s.settings.is_configured then begun_follow occasion p.launch else Nothing
@@ -91,7 +92,7 @@ installing occasion p b s =
     record {
       outcome = accepted_outcome;
       events = opening_events occasion (program_lines p kept) (program_labels p kept b) follow;
-      state = started p (with_board (program_board p kept b) (with_program (Some p) s));
+      state = begin_if_configured p (with_board (program_board p kept b) (with_program (Some p) s));
     }
 
 -- ---- or it isn't

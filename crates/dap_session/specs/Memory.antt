@@ -12,7 +12,7 @@ use Rattle.dap_editor.specs.declared.message.EditorBody.TheVariants as body
 use Rattle.dap_inspect.specs.Memory.{bytes_from}
 use Rattle.dap_inspect.specs.Instructions.{before_instructions}
 use Rattle.dap_program.specs.declared.messages.Follow.TheVariants.{Nothing}
-use Rattle.dap_program.specs.Memory.{written}
+use Rattle.dap_program.specs.Memory.{with_bytes_at}
 use Rattle.dap_program.specs.Refusals.{board_refusal}
 use Rattle.lab_core.specs.declared.fault.EventFault.TheVariants.{NotStopped}
 use Rattle.lab_core.specs.declared.run_state.RunState.{RunState}
@@ -46,7 +46,7 @@ abbrev pub writing_from : Option ℕ → Bytes → SessionState → Replied
 writing_from None bytes s = refusing (codes "there is no such address") s
 writing_from (Some start) bytes s =
     let all = take (65536 - start) bytes in
-    succeeding (body.Written (length all)) Nothing (with_board (written start all s.board) s)
+    succeeding (body.Written (length all)) Nothing (with_board (with_bytes_at start all s.board) s)
 
 -- while a run is stopped
 abbrev pub writing : ℕ → Shift → Bytes → SessionState → Replied

@@ -21,7 +21,7 @@ use Rattle.dap_program.specs.Boards.{after}
 use Rattle.dap_program.specs.Refusals.{board_refusal, request_refusal}
 use Rattle.dap_session.specs.declared.file.FileText.{FileText}
 use Rattle.dap_session.specs.declared.settings.Program.{Program}
-use Rattle.dap_session.specs.States.{SessionState, with_board, with_waits, is_live, ended}
+use Rattle.dap_session.specs.States.{SessionState, with_board, with_waits, is_live, program_over}
 use Rattle.dap_session.specs.Turns.{Turn, Replied, turn_of, refusing, succeeding, accepting}
 use Rattle.dap_session.specs.Breakpoints.{setting_lines, setting_functions}
 use Rattle.dap_session.specs.Evaluations.{evaluating}
@@ -51,30 +51,30 @@ abbrev pub end_follow : SessionState → Follow
 end_follow s = if is_live s.settings.program then follow.Ended else follow.Nothing
 
 abbrev pub and_ended : Replied → Replied
-and_ended r = record r { state = ended r.state }
+and_ended r = record r { state = program_over r.state }
 
 -- A reset of the board takes the program away.
 abbrev pub resetting : SessionState → Replied
 resetting s = and_ended (performing command.BoardReset (end_follow s) s)
 
 abbrev pub terminating : SessionState → Replied
-terminating s = accepting (end_follow s) (ended (with_board (after Interrupt s.board) s))
+terminating s = accepting (end_follow s) (program_over (with_board (after Interrupt s.board) s))
 
 -- ---- the session
 
-abbrev pub initialized : SessionState → SessionState
-initialized s = record s { settings = record s.settings { is_initialized = true } }
+abbrev pub set_initialized : SessionState → SessionState
+set_initialized s = record s { settings = record s.settings { is_initialized = true } }
 
 abbrev pub initializing : SessionState → Replied
 initializing s =
-    if s.settings.is_initialized then refusing (codes "initialized already") s
-    else succeeding body.Capabilities follow.Nothing (initialized s)
+    if s.settings.is_initialized then refusing (codes "set_initialized already") s
+    else succeeding body.Capabilities follow.Nothing (set_initialized s)
 
-abbrev pub configured : SessionState → SessionState
-configured s = record s { settings = record s.settings { is_configured = true } }
+abbrev pub set_configured : SessionState → SessionState
+set_configured s = record s { settings = record s.settings { is_configured = true } }
 
 abbrev pub configuring : SessionState → Replied
-configuring s = beginning_where s.settings.program (configured s)
+configuring s = beginning_where s.settings.program (set_configured s)
 
 abbrev pub disconnecting : SessionState → Replied
 disconnecting s = accepting follow.Nothing (record s { settings = record s.settings { has_ended = true } })
@@ -154,7 +154,7 @@ is_bounded other = true
 
 abbrev pub objection : Asked → SessionState → Option Text
 objection a s =
-    if not (s.settings.is_initialized || opens a) then Some (codes "not initialized") else
+    if not (s.settings.is_initialized || opens a) then Some (codes "not set_initialized") else
     if not (is_bounded a) then Some (codes "bad arguments") else None
 
 -- ---- a request

@@ -6,7 +6,7 @@ use Rattle.lab_core.specs.Slices.{traffic_of, after_steps, left_by}
 use Rattle.dap_editor.specs.declared.message.Message.{Message}
 use Rattle.dap_editor.specs.declared.request.EditorRequest.{EditorRequest}
 use Rattle.dap_program.specs.declared.messages.Caller.{Caller}
-use Rattle.dap_program.specs.Messages.{told, turn_messages}
+use Rattle.dap_program.specs.Messages.{as_messages, turn_messages}
 use Rattle.lab_slice.specs.Slices.{slice_end}
 use Rattle.dap_program.specs.Slices.{slice_events}
 use Rattle.dap_session.specs.declared.file.FileText.{FileText}
@@ -31,7 +31,7 @@ settings_after (outcome.End how) t = over t
 
 abbrev pub slicing : ℕ × SliceOutcome → SessionState → Told
 slicing (k, ending) s = record {
-  messages = told (slice_events (traffic_of k s.board) ending);
+  messages = as_messages (slice_events (traffic_of k s.board) ending);
   state = record {
     board = left_by ending (after_steps k s.board);
     settings = settings_after ending s.settings;
@@ -39,8 +39,8 @@ slicing (k, ending) s = record {
 }
 
 -- of a run that goes on
-unfoldable pub sliced : SessionState → Told
-sliced s = if wants_slice s then slicing (slice_end s.board) s else record { messages = []; state = s }
+unfoldable pub slice_told : SessionState → Told
+slice_told s = if wants_slice s then slicing (slice_end s.board) s else record { messages = []; state = s }
 
 -- ---- a request
 
@@ -53,8 +53,8 @@ told_by c t = turn_messages c t.outcome t.events
 abbrev pub told_in : Caller → Turn → Told
 told_in c t = record { messages = told_by c t; state = t.state }
 
-abbrev pub taken : EditorRequest → Option FileText → SessionState → Told
-taken r found s = told_in (caller_of r) (turn r.asked found s)
+abbrev pub request_told : EditorRequest → Option FileText → SessionState → Told
+request_told r found s = told_in (caller_of r) (turn r.asked found s)
 
 -- ---- a session
 
@@ -64,13 +64,13 @@ pub data Input : Type 0 where
   slice : Input
 
 abbrev pub step : Input → SessionState → Told
-step (request r found) s = taken r found s
-step slice s = sliced s
+step (request r found) s = request_told r found s
+step slice s = slice_told s
 
 -- what goes out for these, and the session after them
-abbrev pub played : List Input → SessionState → Told
-played [] s = record { messages = []; state = s }
-played (input ∷ inputs) s =
+abbrev pub play_all : List Input → SessionState → Told
+play_all [] s = record { messages = []; state = s }
+play_all (input ∷ inputs) s =
     let first = step input s in
-    let rest = played inputs first.state in
+    let rest = play_all inputs first.state in
     record { messages = first.messages ++ rest.messages; state = rest.state }

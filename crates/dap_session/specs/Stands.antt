@@ -13,7 +13,7 @@ use Rattle.dap_session.specs.declared.reply.Reply.{Reply}
 use Rattle.dap_session.specs.States.{SessionState, with_board}
 use Rattle.dap_session.specs.Turns.{Replied}
 use Rattle.dap_program.specs.Breakpoints.{labels_behind}
-use Rattle.dap_program.specs.Memory.{written}
+use Rattle.dap_program.specs.Memory.{with_bytes_at}
 use Rattle.dap_session.specs.Breakpoints.{program_lines, labels_armed}
 use Rattle.dap_session.specs.Memory.{writing}
 use Rattle.dap_session.specs.Slices.{Told}
@@ -78,4 +78,5 @@ pub record LabelsPlaced (names : List Text) (s : SessionState) (points : List Pl
 
 -- the first of these bytes are written, from an address on
 abbrev pub WritesFirst : ℕ → Bytes → SessionState → SessionFields → Type 0
-WritesFirst start bytes s new = (k : ℕ) × StandsFor new (with_board (written start (take k bytes) s.board) s)
+WritesFirst start bytes s new = (k : ℕ) × StandsFor new
+    (with_board (with_bytes_at start (take k bytes) s.board) s)

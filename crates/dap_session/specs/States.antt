@@ -14,8 +14,8 @@ pub record SessionState : Type 0 where
   pub settings : Settings
 
 -- before the first request
-abbrev pub opened : SessionState
-opened = record {
+abbrev pub session_before_requests : SessionState
+session_before_requests = record {
   board = opening;
   settings = record {
     is_initialized = false;
@@ -58,8 +58,8 @@ is_live (Some p) = not (is_over p.phase)
 abbrev pub over : Settings → Settings
 over t = record t { program = option_map (in_phase phase.Over) t.program }
 
-abbrev pub ended : SessionState → SessionState
-ended s = record s { settings = over s.settings }
+abbrev pub program_over : SessionState → SessionState
+program_over s = record s { settings = over s.settings }
 
 -- ---- the run
 

@@ -5,11 +5,11 @@ ghost use Rattle.dap_editor.specs.declared.request.Asked.TheVariants as asked;
 ghost use Rattle.dap_editor.specs.declared.request.EditorCommand.TheVariants as editor;
 ghost use Rattle.dap_editor.specs.declared.request.EditorRequest.{EditorRequest};
 ghost use Rattle.dap_editor.specs.declared.request.EvaluateContext.TheVariants as context;
-ghost use Rattle.dap_program.specs.Messages.{response, told};
+ghost use Rattle.dap_program.specs.Messages.{response, as_messages};
 ghost use Rattle.dap_session.specs.declared.file.FileText.{FileText};
-ghost use Rattle.dap_session.specs.States.{SessionState, opened, is_live};
+ghost use Rattle.dap_session.specs.States.{SessionState, session_before_requests, is_live};
 ghost use Rattle.dap_session.specs.Requests.{turn};
-ghost use Rattle.dap_session.specs.Slices.{Input, caller_of, taken, step, played};
+ghost use Rattle.dap_session.specs.Slices.{Input, caller_of, request_told, step, play_all};
 ghost use Rattle.dap_session.specs.Laws.{callers_answered, callers_asking, console_of, all_written};
 ghost use Rattle.dap_session.specs.Laws.{shown_by, shown_for, ends_told, ends_between, has_run, has_begun};
 ghost use Rattle.dap_session.specs.Laws.{events_in, loads};
@@ -17,20 +17,20 @@ ghost use Rattle.dap_session.specs.Laws.{events_in, loads};
 /// Each request has one response, in the order in which they came, with its number and its command.
 pub fn requests_are_answered()
     ensures { (inputs : List Input) (s : SessionState)
-        → callers_answered (played inputs s).messages ≡ callers_asking inputs }
+        → callers_answered (play_all inputs s).messages ≡ callers_asking inputs }
 {}
 
 /// The response to a request goes out before the events that it causes.
 pub fn response_is_first()
     ensures { (r : EditorRequest) (found : Option FileText) (s : SessionState)
-        → (taken r found s).messages ≡ response (caller_of r) (turn r.asked found s).outcome
-        ∷ told (turn r.asked found s).events }
+        → (request_told r found s).messages ≡ response (caller_of r) (turn r.asked found s).outcome
+        ∷ as_messages (turn r.asked found s).events }
 {}
 
 /// What goes out as the program's console is every byte that the run's steps write by OUT 1, in order.
 pub fn console_is_whole()
     ensures { (inputs : List Input) (s : SessionState)
-        → console_of (played inputs s).messages ≡ all_written inputs s }
+        → console_of (play_all inputs s).messages ≡ all_written inputs s }
 {}
 
 /// What is evaluated for a hover or a watch leaves the board as it was.
@@ -42,18 +42,21 @@ pub fn looks_keep_board()
 /// What the events say of stops is what the run on the board is, at every moment.
 pub fn stops_are_told()
     ensures { (inputs : List Input)
-        → shown_by (played inputs opened).messages ≡ shown_for (played inputs opened).state.board.run }
+        → shown_by (play_all inputs session_before_requests).messages
+        ≡ shown_for (play_all inputs session_before_requests).state.board.run }
 {}
 
 /// A run is on the board exactly while a program has begun and isn't over. Without a live program nothing but
 /// a launch or a restart tells more than its response. Where a live program ends `terminated` goes out once,
 /// and nowhere else.
 pub fn end_is_told()
-    ensures run { (inputs : List Input) → let s = (played inputs opened).state in
+    ensures run { (inputs : List Input) → let s = (play_all inputs session_before_requests).state in
         has_run s.board.run ≡ has_begun s.settings.program }
-    ensures quiet { (inputs : List Input) (input : Input) → let s = (played inputs opened).state in
+    ensures quiet { (inputs : List Input) (input : Input)
+        → let s = (play_all inputs session_before_requests).state in
         is_live s.settings.program ≡ false → loads input ≡ false → events_in (step input s).messages ≡ [] }
-    ensures end { (inputs : List Input) (input : Input) → let s = (played inputs opened).state in
+    ensures end { (inputs : List Input) (input : Input)
+        → let s = (play_all inputs session_before_requests).state in
         let after = (step input s).state in
         ends_told (step input s).messages ≡ ends_between s.settings.program after.settings.program }
 {}

@@ -1,8 +1,8 @@
 //! The session.
 ghost use Rattle.std.specs.Prelude.{◌≡◌, IfOk, option_map};
-ghost use Rattle.dap_session.specs.States.{SessionState, opened, wants_slice};
+ghost use Rattle.dap_session.specs.States.{SessionState, session_before_requests, wants_slice};
 ghost use Rattle.dap_session.specs.Requests.{wanted_file};
-ghost use Rattle.dap_session.specs.Slices.{taken, sliced};
+ghost use Rattle.dap_session.specs.Slices.{request_told, slice_told};
 ghost use Rattle.dap_session.specs.Stands.{StandsFor, Takes, TakesFor};
 
 use crate::file::FileText;
@@ -39,7 +39,7 @@ impl Model for Session {
 impl Session {
     /// A session before its first request.
     pub fn new(alloc: Global) -> Result<Session, AllocError>
-        ensures { IfOk result (λ session. StandsFor session opened) }
+        ensures { IfOk result (λ session. StandsFor session session_before_requests) }
     {
         let state = State::new(alloc)?;
         Ok(Session { state })
@@ -54,7 +54,7 @@ impl Session {
         request: EditorRequest,
         file: Option<FileText>,
     ) -> Result<Sequence<Message>, AllocError>
-        ensures { TakesFor request.asked (taken request file) self.old result self.new }
+        ensures { TakesFor request.asked (request_told request file) self.old result self.new }
     {
         let EditorRequest {
             seq,
@@ -70,7 +70,7 @@ impl Session {
 
     /// Makes at most 4,096 steps of a run that goes on, and gives what is told of them.
     pub fn run(&mut self, alloc: Global) -> Result<Sequence<Message>, AllocError>
-        ensures { Takes sliced self.old result self.new }
+        ensures { Takes slice_told self.old result self.new }
     {
         self.state.run(alloc)
     }

@@ -1,11 +1,11 @@
 //! A session's parts.
 ghost use Rattle.std.specs.Prelude.{◌≡◌, true, IfOk, option_map};
 ghost use Rattle.dap_session.specs.States as states;
-ghost use Rattle.dap_session.specs.States.{SessionState, opened};
+ghost use Rattle.dap_session.specs.States.{SessionState, session_before_requests};
 ghost use Rattle.dap_session.specs.Turns.{turn_of, refusing};
 ghost use Rattle.dap_session.specs.Requests as requests;
 ghost use Rattle.dap_session.specs.Requests.{turn, asking, asking_unless, objection, is_bounded, replying};
-ghost use Rattle.dap_session.specs.Slices.{told_in, sliced};
+ghost use Rattle.dap_session.specs.Slices.{told_in, slice_told};
 ghost use Rattle.dap_session.specs.Stands.{StandsFor, Answers, Takes, TakesFor};
 
 mod breakpoints;
@@ -46,7 +46,7 @@ impl Model for State {
 impl State {
     /// Those of a session before its first request.
     pub fn new(alloc: Global) -> Result<State, AllocError>
-        ensures { IfOk result (λ state. StandsFor state opened) }
+        ensures { IfOk result (λ state. StandsFor state session_before_requests) }
     {
         let points = Points::new(alloc)?;
         let lab = Lab::new(alloc)?;

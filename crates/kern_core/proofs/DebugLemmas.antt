@@ -18,7 +18,7 @@ use Rattle.kern_post.specs.declared.post.Letter.{Letter}
 use Rattle.kern_post.specs.Posts.{StoreState, Keeps, posted}
 use Rattle.kern_request.specs.declared.request.Request.{Request}
 use Rattle.dap_board.specs.Commands.{command_result}
-use Rattle.kern_exec.specs.Letters.{enclosed}
+use Rattle.kern_exec.specs.Letters.{between_busy_and_idle}
 use Rattle.kern_post.specs.declared.content.Cause.TheVariants as cause
 use Rattle.kern_core.specs.declared.call.Reply.TheVariants.{Arrived}
 use Rattle.kern_core.specs.States.{KernelState, Turn, after, posting}
@@ -31,7 +31,8 @@ request_with seq c = record { seq = seq; command = c }
 
 abbrev pub resetting : ℕ → Request → DapRequest → ℕ → KernelState → Turn
 resetting n r d unix_seconds s = posting Arrived unix_seconds
-    (enclosed s.connections r.header (cut_letters cause.Reset s ++ debug_reply n r d (Success Empty) ∷ []))
+    (between_busy_and_idle s.connections r.header
+    (cut_letters cause.Reset s ++ debug_reply n r d (Success Empty) ∷ []))
     (with_board (reset s.board) (cut_work s) s)
 
 by_command : (n : ℕ) (r : Request) (seq : ℕ) (c : DapCommand) (unix_seconds : ℕ) (s : KernelState)
@@ -53,9 +54,10 @@ Stood t new = (Ok Arrived ≡ t.answer) × StandsFor new (after t)
 -- the fields stand for a state with this board, and these letters are posted
 told_stands : (n : ℕ) (r : Request) (d : DapRequest) (unix_seconds : ℕ) (s : KernelState) (old : KernelFields)
     (lab : LabState) (store : StoreState) (b : Board) (told letters : List Letter)
-    → StandsFor old s → LabStandsFor lab b → letters ≡ enclosed s.connections r.header told
+    → StandsFor old s → LabStandsFor lab b → letters ≡ between_busy_and_idle s.connections r.header told
     → Keeps (posted unix_seconds letters s.posts) store
-    → Stood (posting Arrived unix_seconds (enclosed s.connections r.header told) (with_board b s.work s))
+    → Stood (posting Arrived unix_seconds (between_busy_and_idle s.connections r.header told)
+    (with_board b s.work s))
     (record old { lab = lab; store = store })
 told_stands n r d unix_seconds s old lab store b told letters stands board are kept =
     let P : List Letter → Type 0 = λ ls. Keeps (posted unix_seconds ls s.posts) store in (
@@ -72,7 +74,7 @@ told_stands n r d unix_seconds s old lab store b told letters stands board are k
 pub refused_stands : (n : ℕ) (r : Request) (d : DapRequest) (unix_seconds : ℕ) (s : KernelState)
     (old : KernelFields) (store : StoreState) (message : List ℕ) (letters : List Letter)
     → StandsFor old s
-    → letters ≡ enclosed s.connections r.header (debug_reply n r d (Refused message) ∷ [])
+    → letters ≡ between_busy_and_idle s.connections r.header (debug_reply n r d (Refused message) ∷ [])
     → Keeps (posted unix_seconds letters s.posts) store
     → Stood (refusing n r d message unix_seconds s) (record old { store = store })
 refused_stands n r d unix_seconds s old store message letters stands are kept =
@@ -83,20 +85,20 @@ by_performed : (g : Result (Body × Board) EventFault) (n : ℕ) (r : Request) (
     (unix_seconds : ℕ) (s : KernelState) (old : KernelFields) (lab : LabState) (store : StoreState)
     (res : Result Body EventFault) (letters : List Letter)
     → StandsFor old s → is_reset d.command ≡ false → Did s.board g res lab
-    → letters ≡ enclosed s.connections r.header
+    → letters ≡ between_busy_and_idle s.connections r.header
     (performed_letters res (after_letter (event_after d.command) r s) n r d)
     → Keeps (posted unix_seconds letters s.posts) store
     → Stood (answering n r d unix_seconds s g) (record old { lab = lab; store = store })
 by_performed (Ok (body, b)) n r d unix_seconds s old lab store res letters stands other did are kept =
     let after = after_letter (event_after d.command) r s in
     let L : Result Body EventFault → List Letter =
-    λ x. enclosed s.connections r.header (performed_letters x after n r d) in
+    λ x. between_busy_and_idle s.connections r.header (performed_letters x after n r d) in
     rw other (told_stands n r d unix_seconds s old lab store b (performed_letters (Ok body) after n r d)
     letters stands did.1 (are ∙ ap L did.0) kept)
 by_performed (Err fault) n r d unix_seconds s old lab store res letters stands other did are kept =
     let after = after_letter (event_after d.command) r s in
     let L : Result Body EventFault → List Letter =
-    λ x. enclosed s.connections r.header (performed_letters x after n r d) in
+    λ x. between_busy_and_idle s.connections r.header (performed_letters x after n r d) in
     told_stands n r d unix_seconds s old lab store s.board (performed_letters (Err fault) after n r d) letters
     stands did.1 (are ∙ ap L did.0) kept
 
@@ -105,7 +107,7 @@ pub performed_stands : (n : ℕ) (r : Request) (d : DapRequest) (unix_seconds : 
     (letters : List Letter)
     → StandsFor old s → is_reset d.command ≡ false → Does (command_result d.command) old.lab res lab
     → res ≢ Err OutOfMemory
-    → letters ≡ enclosed s.connections r.header
+    → letters ≡ between_busy_and_idle s.connections r.header
     (performed_letters res (after_letter (event_after d.command) r s) n r d)
     → Keeps (posted unix_seconds letters s.posts) store
     → Stood (performing n r d unix_seconds s) (record old { lab = lab; store = store })

@@ -7,14 +7,14 @@ use Rattle.kern_core.specs.declared.call.Call.{Call}
 use Rattle.kern_core.specs.declared.call.Reply.{Reply}
 use Rattle.kern_core.specs.declared.fault.KernelFault.{KernelFault}
 use Rattle.kern_core.specs.declared.fault.KernelFault.TheVariants.{OutOfMemory}
-use Rattle.kern_core.specs.States.{opened, after}
+use Rattle.kern_core.specs.States.{kernel_before_calls, after}
 use Rattle.kern_core.specs.Turns.{turn, next, state_after}
 use Rattle.kern_core.specs.Stands.{KernelFields, StandsFor, Takes}
 use Rattle.kern_core.specs.Kernels.{IsKept, is_entry}
 
 state_after-more : (calls : List Call) (call : Call)
     → state_after (calls ++ call ∷ []) ≡ after (turn call (state_after calls))
-state_after-more calls call = fold-append next opened calls (call ∷ [])
+state_after-more calls call = fold-append next kernel_before_calls calls (call ∷ [])
 
 no_want : (answer : Result Reply KernelFault) → is_entry answer ≡ true → answer ≢ Err OutOfMemory
 no_want answer entry want = let is : false ≡ true = ap is_entry (sym want) ∙ entry in absurd (false≢true is)

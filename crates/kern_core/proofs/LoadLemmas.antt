@@ -7,7 +7,7 @@ use Rattle.kern_peers.specs.Connections.{Connections}
 use Rattle.kern_exec.specs.declared.execution.Execution.{Execution}
 use Rattle.kern_exec.specs.declared.execution.Current.{Current}
 use Rattle.kern_exec.specs.declared.loading.Loading.{Loading}
-use Rattle.kern_exec.specs.Executions.{Work, count_with, current_of, taken}
+use Rattle.kern_exec.specs.Executions.{Work, count_with, current_of, load_first}
 use Rattle.kern_exec.specs.Ends.{loading_letters}
 use Rattle.kern_exec.specs.Boards.{cell_given, loading_of, board_after}
 use Rattle.kern_core.specs.declared.call.Reply.TheVariants.{More}
@@ -28,7 +28,7 @@ IsLoaded old lab new = new ≡ record old { lab = lab; work = new.work; store = 
 
 pub load_grows : (old new : KernelFields) (lab : LabState) (x : Execution) (rest : List Execution)
     (l : Loading)
-    → IsLoaded old lab new → new.work ≡ taken x rest l old.work → new.store.made ≤ old.store.made + 8
+    → IsLoaded old lab new → new.work ≡ load_first x rest l old.work → new.store.made ≤ old.store.made + 8
     → Grows old new
 load_grows old new lab x rest l loaded work made =
     let counts : new.work.count ≡ count_with x old.work.count = ap (λ (w : Work). w.count) work in
@@ -46,7 +46,7 @@ pub load_stands : (unix_seconds : ℕ) (s : KernelState) (old new : KernelFields
     → StandsFor old s → old.work.queue ≡ x ∷ rest → c ≡ current_of x old.work.count
     → l ≡ loading_of (cell_given x.request.code s.board)
     → LabStandsFor lab (board_after s.board (cell_given x.request.code s.board))
-    → IsLoaded old lab new → new.work ≡ taken x rest l old.work
+    → IsLoaded old lab new → new.work ≡ load_first x rest l old.work
     → Keeps (posted unix_seconds (loading_letters old.connections c l) s.posts) new.store
     → (Ok More ≡ (loading unix_seconds s.work.queue s).answer)
     × StandsFor new (after (loading unix_seconds s.work.queue s))
@@ -62,13 +62,13 @@ load_stands unix_seconds s old new lab x rest c l stands queue current is_loadin
     let R : Loading → Type 0 =
     λ k. Keeps (posted unix_seconds (loading_letters s.connections (current_of x s.work.count) k) s.posts)
     new.store in
-    let W : Loading → Type 0 = λ k. new.work ≡ taken x rest k s.work in
+    let W : Loading → Type 0 = λ k. new.work ≡ load_first x rest k s.work in
     rw waits (
       refl,
       record {
         board = subst B (sym (ap (λ (v : KernelFields). v.lab) loaded)) board;
         connections = ap (λ (v : KernelFields). v.connections) loaded ∙ stands.connections;
-        work = subst W is_loading (work ∙ ap (taken x rest l) stands.work);
+        work = subst W is_loading (work ∙ ap (load_first x rest l) stands.work);
         posts = subst R is_loading (subst Q it (subst P stands.connections kept));
         is_shut = ap (λ (v : KernelFields). v.is_shut) loaded ∙ stands.is_shut;
       },

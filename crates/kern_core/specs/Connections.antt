@@ -18,25 +18,26 @@ use Rattle.kern_exec.specs.declared.execution.Execution.{Execution}
 use Rattle.kern_exec.specs.Boards.{is_run}
 use Rattle.kern_core.specs.declared.call.Reply.TheVariants as reply
 use Rattle.kern_core.specs.declared.fault.KernelFault.TheVariants.{Full, Lagged, NoConnection}
-use Rattle.kern_core.specs.States.{KernelState, Turn, refused, quiet, posting}
+use Rattle.kern_core.specs.States.{KernelState, Turn, refuse_turn, turn_without_posts, posting}
 
 -- ---- joining and leaving
 
-abbrev pub joined : Channel → Bytes → KernelState → Turn
-joined channel identity s =
-    if has_no_place channel identity s.connections.peers then refused Full s else
-    quiet (reply.Joined (s.connections.joined + 1) (length s.posts + 1))
+abbrev pub join_turn : Channel → Bytes → KernelState → Turn
+join_turn channel identity s =
+    if has_no_place channel identity s.connections.peers then refuse_turn Full s else
+    turn_without_posts (reply.Joined (s.connections.joined + 1) (length s.posts + 1))
     (record s { connections = joined_by channel identity s.connections })
 
 abbrev pub by_peer : Option Peer → KernelState → (Peer → Turn) → Turn
-by_peer None s f = refused NoConnection s
+by_peer None s f = refuse_turn NoConnection s
 by_peer (Some p) s f = f p
 
 abbrev pub with_peer : ℕ → KernelState → (Peer → Turn) → Turn
 with_peer n s f = by_peer (peer_at n s.connections.peers) s f
 
-abbrev pub left : ℕ → KernelState → Turn
-left n s = with_peer n s (λ p. quiet reply.Left (record s { connections = without n s.connections }))
+abbrev pub leave_turn : ℕ → KernelState → Turn
+leave_turn n s = with_peer n s (λ p. turn_without_posts reply.Left
+    (record s { connections = without n s.connections }))
 
 -- ---- subscribing
 
@@ -72,22 +73,23 @@ new_subscription n prefix unix_seconds s =
     posting reply.Subscribed unix_seconds (first_status n prefix s)
     (record s { connections = subscribed_by n prefix s.connections })
 
-abbrev pub unsubscribed : ℕ → Bytes → KernelState → Turn
-unsubscribed n prefix s = quiet reply.Subscribed
+abbrev pub unsubscribe_turn : ℕ → Bytes → KernelState → Turn
+unsubscribe_turn n prefix s = turn_without_posts reply.Subscribed
     (record s { connections = without_subscription n prefix s.connections })
 
 abbrev pub subscribing : ℕ → Bool → Bytes → ℕ → KernelState → Turn
 subscribing n wants prefix unix_seconds s = with_peer n s (λ p.
-    if not (is_on Iopub p) then refused NoConnection s else
-    if not wants then unsubscribed n prefix s else
-    if is_full p then refused Full s else new_subscription n prefix unix_seconds s)
+    if not (is_on Iopub p) then refuse_turn NoConnection s else
+    if not wants then unsubscribe_turn n prefix s else
+    if is_full p then refuse_turn Full s else new_subscription n prefix unix_seconds s)
 
 -- ---- fetching
 
 abbrev pub fetching : ℕ → ℕ → KernelState → Turn
 fetching n from s =
-    if nat_lt from (first_kept (length s.posts)) then refused (Lagged (first_kept (length s.posts))) s else
-    quiet (reply.Fetched (posts_to n from s.posts) (next_from from (length s.posts)) s.is_shut) s
+    if nat_lt from (first_kept (length s.posts)) then refuse_turn
+    (Lagged (first_kept (length s.posts))) s else
+    turn_without_posts (reply.Fetched (posts_to n from s.posts) (next_from from (length s.posts)) s.is_shut) s
 
-abbrev pub fetched : ℕ → ℕ → KernelState → Turn
-fetched n from s = with_peer n s (λ p. fetching n from s)
+abbrev pub fetch_turn : ℕ → ℕ → KernelState → Turn
+fetch_turn n from s = with_peer n s (λ p. fetching n from s)

@@ -40,13 +40,13 @@ use Rattle.kern_post.specs.declared.content.Ending.TheVariants.{Failed}
 use Rattle.kern_post.specs.declared.content.RefusedRequest.TheVariants as bad
 use Rattle.kern_post.specs.declared.post.Letter.{Letter}
 use Rattle.kern_exec.specs.declared.execution.Current.{Current}
-use Rattle.kern_exec.specs.Letters.{published, replied, enclosed}
-use Rattle.kern_exec.specs.Executions.{Work, execution_of, queued, ended}
+use Rattle.kern_exec.specs.Letters.{publication, reply_letter, between_busy_and_idle}
+use Rattle.kern_exec.specs.Executions.{Work, execution_of, enqueue, clear_current}
 use Rattle.kern_exec.specs.Ends.{error_letters, cut_letters as letters_of_cut}
-use Rattle.kern_exec.specs.Boards.{is_run, interrupted}
+use Rattle.kern_exec.specs.Boards.{is_run, end_run_if_any}
 use Rattle.kern_core.specs.declared.call.Reply.TheVariants.{Arrived}
 use Rattle.kern_core.specs.declared.fault.KernelFault.TheVariants.{NoConnection}
-use Rattle.kern_core.specs.States.{KernelState, Turn, refused, quiet, posting}
+use Rattle.kern_core.specs.States.{KernelState, Turn, refuse_turn, turn_without_posts, posting}
 use Rattle.kern_core.specs.Connections.{with_peer}
 
 -- ---- one reply between busy and idle
@@ -78,11 +78,11 @@ plain_reply count (body.BadContent needy.Shutdown) = Some (content.BadContentRep
 plain_reply count _ = None
 
 abbrev pub reply_to : ℕ → Request → Content → Letter
-reply_to n r c = replied n r.identities r.header c
+reply_to n r c = reply_letter n r.identities r.header c
 
 abbrev pub replying : ℕ → Request → Content → ℕ → KernelState → Turn
 replying n r c unix_seconds s =
-    posting Arrived unix_seconds (enclosed s.connections r.header (reply_to n r c ∷ [])) s
+    posting Arrived unix_seconds (between_busy_and_idle s.connections r.header (reply_to n r c ∷ [])) s
 
 -- ---- executions
 
@@ -94,12 +94,12 @@ full_letters n r is_silent connections count =
 
 abbrev pub queue_full : ℕ → Request → ExecuteRequest → ℕ → KernelState → Turn
 queue_full n r x unix_seconds s = posting Arrived unix_seconds
-    (enclosed s.connections r.header (full_letters n r x.is_silent s.connections s.work.count)) s
+    (between_busy_and_idle s.connections r.header (full_letters n r x.is_silent s.connections s.work.count)) s
 
 abbrev pub executing : ℕ → Bytes → Request → ExecuteRequest → ℕ → KernelState → Turn
 executing n identity r x unix_seconds s =
     if nat_lt (length s.work.queue) 64
-    then quiet Arrived (record s { work = queued (execution_of n identity r x) s.work })
+    then turn_without_posts Arrived (record s { work = enqueue (execution_of n identity r x) s.work })
     else queue_full n r x unix_seconds s
 
 -- ---- a run that is ended from outside
@@ -113,28 +113,29 @@ abbrev pub cut_letters : Cause → KernelState → List Letter
 cut_letters c s = letters_of_cut s.connections (cut_of s) c
 
 abbrev pub cut_work : KernelState → Work
-cut_work s = if is_run s.board.run then ended s.work else s.work
+cut_work s = if is_run s.board.run then clear_current s.work else s.work
 
 abbrev pub with_board : Board → Work → KernelState → KernelState
 with_board b w s = record s { board = b; work = w }
 
 abbrev pub interrupting : ℕ → Request → ℕ → KernelState → Turn
 interrupting n r unix_seconds s = posting Arrived unix_seconds
-    (enclosed s.connections r.header
+    (between_busy_and_idle s.connections r.header
     (cut_letters cause.Interrupted s ++ reply_to n r content.InterruptReply ∷ []))
-    (with_board (interrupted s.board) (cut_work s) s)
+    (with_board (end_run_if_any s.board) (cut_work s) s)
 
-abbrev pub shut : KernelState → KernelState
-shut s = record s { is_shut = true }
+abbrev pub set_shut : KernelState → KernelState
+set_shut s = record s { is_shut = true }
 
 -- with a restart the board is reset
 abbrev pub shutting : ℕ → Request → Bool → ℕ → KernelState → Turn
 shutting n r false unix_seconds s = posting Arrived unix_seconds
-    (enclosed s.connections r.header (reply_to n r (content.ShutdownReply false) ∷ [])) (shut s)
+    (between_busy_and_idle s.connections r.header (reply_to n r (content.ShutdownReply false) ∷ []))
+    (set_shut s)
 shutting n r true unix_seconds s = posting Arrived unix_seconds
-    (enclosed s.connections r.header
+    (between_busy_and_idle s.connections r.header
     (cut_letters cause.Reset s ++ reply_to n r (content.ShutdownReply true) ∷ []))
-    (shut (with_board (reset s.board) (cut_work s) s))
+    (set_shut (with_board (reset s.board) (cut_work s) s))
 
 -- ---- debug requests
 
@@ -159,11 +160,11 @@ work_by command s = if is_reset command then cut_work s else s.work
 -- what all are told when it was done
 abbrev pub after_letter : Option Event → Request → KernelState → Option Letter
 after_letter None r s = None
-after_letter (Some e) r s = Some (published s.connections r.header (content.DebugEvent e))
+after_letter (Some e) r s = Some (publication s.connections r.header (content.DebugEvent e))
 
 abbrev pub refusing : ℕ → Request → DapRequest → Text → ℕ → KernelState → Turn
 refusing n r d message unix_seconds s = posting Arrived unix_seconds
-    (enclosed s.connections r.header (debug_reply n r d (Refused message) ∷ [])) s
+    (between_busy_and_idle s.connections r.header (debug_reply n r d (Refused message) ∷ [])) s
 
 -- what is told of a command that was performed so, and after it of what was done
 abbrev pub performed_letters : Result Body EventFault → Option Letter → ℕ → Request → DapRequest → List Letter
@@ -172,7 +173,7 @@ performed_letters (Err fault) after n r d = debug_reply n r d (Refused (refusal_
 
 abbrev pub answering : ℕ → Request → DapRequest → ℕ → KernelState → Result (Body × Board) EventFault → Turn
 answering n r d unix_seconds s (Ok (body, b)) = posting Arrived unix_seconds
-    (enclosed s.connections r.header
+    (between_busy_and_idle s.connections r.header
     (ended_by d.command s ++ performed_letters (Ok body) (after_letter (event_after d.command) r s) n r d))
     (with_board b (work_by d.command s) s)
 answering n r d unix_seconds s (Err fault) = refusing n r d (refusal_name fault) unix_seconds s
@@ -194,20 +195,21 @@ debugging n r d unix_seconds s =
 -- ---- the others
 
 abbrev pub typing : Bytes → KernelState → Turn
-typing bytes s = quiet Arrived (record s { board = with_operation (Typed bytes) s.board })
+typing bytes s = turn_without_posts Arrived (record s { board = with_operation (Typed bytes) s.board })
 
 abbrev pub closing : Request → Text → ℕ → KernelState → Turn
 closing r comm_id unix_seconds s = posting Arrived unix_seconds
-    (enclosed s.connections r.header (published s.connections r.header (content.CommClose comm_id) ∷ [])) s
+    (between_busy_and_idle s.connections r.header
+    (publication s.connections r.header (content.CommClose comm_id) ∷ [])) s
 
 -- no more than busy and idle
 abbrev pub passing : Request → ℕ → KernelState → Turn
-passing r unix_seconds s = posting Arrived unix_seconds (enclosed s.connections r.header []) s
+passing r unix_seconds s = posting Arrived unix_seconds (between_busy_and_idle s.connections r.header []) s
 
 -- an input_reply that isn't as needed is passed over
-abbrev pub unanswered : Request → NeedyRequest → ℕ → KernelState → Turn
-unanswered r needy.InputReply unix_seconds s = quiet Arrived s
-unanswered r _ unix_seconds s = passing r unix_seconds s
+abbrev pub ignore_request : Request → NeedyRequest → ℕ → KernelState → Turn
+ignore_request r needy.InputReply unix_seconds s = turn_without_posts Arrived s
+ignore_request r _ unix_seconds s = passing r unix_seconds s
 
 abbrev pub other : ℕ → Bytes → Request → RequestBody → ℕ → KernelState → Turn
 other n identity r (body.Execute x) unix_seconds s = executing n identity r x unix_seconds s
@@ -216,7 +218,7 @@ other n identity r (body.Shutdown restarts) unix_seconds s = shutting n r restar
 other n identity r body.Interrupt unix_seconds s = interrupting n r unix_seconds s
 other n identity r (body.Debug d) unix_seconds s = debugging n r d unix_seconds s
 other n identity r (body.InputReply typed) unix_seconds s = typing typed s
-other n identity r (body.BadContent lacking) unix_seconds s = unanswered r lacking unix_seconds s
+other n identity r (body.BadContent lacking) unix_seconds s = ignore_request r lacking unix_seconds s
 other n identity r _ unix_seconds s = passing r unix_seconds s
 
 abbrev pub by_reply : Option Content → ℕ → Bytes → Request → ℕ → KernelState → Turn
@@ -225,5 +227,5 @@ by_reply None n identity r unix_seconds s = other n identity r r.body unix_secon
 
 abbrev pub arriving : ℕ → Request → ℕ → KernelState → Turn
 arriving n r unix_seconds s = with_peer n s (λ p.
-    if is_on Iopub p then refused NoConnection s else
+    if is_on Iopub p then refuse_turn NoConnection s else
     by_reply (plain_reply s.work.count r.body) n p.identity r unix_seconds s)

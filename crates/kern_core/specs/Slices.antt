@@ -11,13 +11,13 @@ use Rattle.kern_post.specs.declared.post.Letter.{Letter}
 use Rattle.kern_peers.specs.Connections.{Connections}
 use Rattle.kern_exec.specs.declared.execution.Execution.{Execution}
 use Rattle.kern_exec.specs.declared.execution.Current.{Current}
-use Rattle.kern_exec.specs.Executions.{Work, current_of, taken, begun, ended}
+use Rattle.kern_exec.specs.Executions.{Work, current_of, load_first, clear_pending, clear_current}
 use Rattle.kern_exec.specs.Ends.{loading_letters, slice_letters}
 use Rattle.lab_slice.specs.Slices.{slice_end, after_slice}
 use Rattle.kern_exec.specs.Boards.{cell_given, loading_of, board_after}
 use Rattle.kern_core.specs.declared.call.Reply.{Reply}
 use Rattle.kern_core.specs.declared.call.Reply.TheVariants.{More, Idle, Ended}
-use Rattle.kern_core.specs.States.{KernelState, Turn, quiet, posting}
+use Rattle.kern_core.specs.States.{KernelState, Turn, turn_without_posts, posting}
 
 -- ---- the run goes on
 
@@ -26,7 +26,7 @@ letters_of connections None traffic ending = []
 letters_of connections (Some c) traffic ending = slice_letters connections c traffic ending
 
 abbrev pub work_after : SliceOutcome → Work → Work
-work_after (outcome.End e) w = ended w
+work_after (outcome.End e) w = clear_current w
 work_after _ w = w
 
 -- there is nothing to do for a run that waits
@@ -45,17 +45,18 @@ running unix_seconds s = running_to (slice_end s.board) unix_seconds s
 -- ---- it starts
 
 abbrev pub beginning : ℕ → KernelState → Turn
-beginning address s = quiet More (record s { board = started address s.board; work = begun s.work })
+beginning address s = turn_without_posts More
+    (record s { board = started address s.board; work = clear_pending s.work })
 
 -- ---- the next cell
 
 abbrev pub loading_as : ℕ → Execution → List Execution → Given → KernelState → Turn
 loading_as unix_seconds x rest g s = posting More unix_seconds
     (loading_letters s.connections (current_of x s.work.count) (loading_of g))
-    (record s { board = board_after s.board g; work = taken x rest (loading_of g) s.work })
+    (record s { board = board_after s.board g; work = load_first x rest (loading_of g) s.work })
 
 abbrev pub loading : ℕ → List Execution → KernelState → Turn
-loading unix_seconds [] s = quiet Idle s
+loading unix_seconds [] s = turn_without_posts Idle s
 loading unix_seconds (x ∷ rest) s = loading_as unix_seconds x rest (cell_given x.request.code s.board) s
 
 -- ---- a slice
@@ -66,8 +67,8 @@ by_start (Some address) unix_seconds s = beginning address s
 
 abbrev pub by_run : RunState → ℕ → KernelState → Turn
 by_run Running unix_seconds s = running unix_seconds s
-by_run Stopped unix_seconds s = quiet Idle s
+by_run Stopped unix_seconds s = turn_without_posts Idle s
 by_run NoRun unix_seconds s = by_start s.work.pending unix_seconds s
 
 abbrev pub slicing : ℕ → KernelState → Turn
-slicing unix_seconds s = if s.is_shut then quiet Ended s else by_run s.board.run unix_seconds s
+slicing unix_seconds s = if s.is_shut then turn_without_posts Ended s else by_run s.board.run unix_seconds s

@@ -18,8 +18,14 @@ pub record KernelState : Type 0 where
   -- a shutdown came
   pub is_shut : Bool
 
-abbrev pub opened : KernelState
-opened = record { board = opening; connections = no_connections; work = nothing; posts = []; is_shut = false }
+abbrev pub kernel_before_calls : KernelState
+kernel_before_calls = record {
+  board = opening;
+  connections = no_connections;
+  work = nothing;
+  posts = [];
+  is_shut = false;
+}
 
 -- what a call gives: the reply, the kernel with its posts so far, and the letters that it posts at this
 -- moment
@@ -32,11 +38,11 @@ pub record Turn : Type 0 where
 abbrev pub after : Turn → KernelState
 after t = record t.state { posts = posted t.unix_seconds t.letters t.state.posts }
 
-abbrev pub refused : KernelFault → KernelState → Turn
-refused fault s = record { answer = Err fault; state = s; unix_seconds = 0; letters = [] }
+abbrev pub refuse_turn : KernelFault → KernelState → Turn
+refuse_turn fault s = record { answer = Err fault; state = s; unix_seconds = 0; letters = [] }
 
-abbrev pub quiet : Reply → KernelState → Turn
-quiet reply s = record { answer = Ok reply; state = s; unix_seconds = 0; letters = [] }
+abbrev pub turn_without_posts : Reply → KernelState → Turn
+turn_without_posts reply s = record { answer = Ok reply; state = s; unix_seconds = 0; letters = [] }
 
 abbrev pub posting : Reply → ℕ → List Letter → KernelState → Turn
 posting reply unix_seconds letters s =

@@ -1,6 +1,6 @@
 //! A kernel without its journal.
 ghost use Rattle.std.specs.Prelude.{◌≡◌, IfOk};
-ghost use Rattle.kern_core.specs.States.{opened};
+ghost use Rattle.kern_core.specs.States.{kernel_before_calls};
 ghost use Rattle.kern_core.specs.Turns.{turn};
 ghost use Rattle.kern_core.specs.Stands.{StandsFor, Stands, Takes, HasRoom};
 
@@ -47,7 +47,7 @@ impl KernelState {
     /// A kernel on which no call was made, with room for all posts that are kept and all executions
     /// that may wait.
     pub fn new(alloc: Global) -> Result<KernelState, AllocError>
-        ensures stands { IfOk result (λ state. StandsFor state opened) }
+        ensures stands { IfOk result (λ state. StandsFor state kernel_before_calls) }
         ensures room { IfOk result (λ state. (state.store.made ≡ 0)
             × ((state.connections.joined ≡ 0) × (state.work.count ≡ 0))) }
     {

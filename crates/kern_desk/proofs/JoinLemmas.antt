@@ -10,14 +10,14 @@ use Rattle.kern_core.specs.declared.call.Reply.TheVariants as reply
 use Rattle.kern_core.specs.declared.fault.KernelFault.{KernelFault}
 use Rattle.kern_core.specs.declared.fault.KernelFault.TheVariants.{Full}
 use Rattle.kern_core.specs.Kernels.{is_entry, is_full}
-use Rattle.kern_core.specs.States.{KernelState, refused, quiet}
+use Rattle.kern_core.specs.States.{KernelState, refuse_turn, turn_without_posts}
 use Rattle.kern_core.specs.Turns.{turn, state_after}
 use Rattle.kern_desk.specs.declared.desks.Joined.{Joined}
 use Rattle.kern_desk.specs.Joins.{IsJoinAnswer, IsUnjoined, IsRefused}
 use Rattle.kern_desk.specs.Seats.{calls_of, seated_answer}
 
 join_at : (b : Bool) (s t : KernelState) (c f : ℕ)
-    → IsJoinAnswer (if b then refused Full s else quiet (reply.Joined c f) t).answer
+    → IsJoinAnswer (if b then refuse_turn Full s else turn_without_posts (reply.Joined c f) t).answer
 join_at true s t c f = tt
 join_at false s t c f = tt
 

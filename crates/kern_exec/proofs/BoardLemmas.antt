@@ -15,7 +15,7 @@ use Rattle.lab_core.specs.Labs.{LabState, StandsFor, Did, Does}
 use Rattle.kern_post.specs.declared.content.Ending.TheVariants.{Failed}
 use Rattle.kern_exec.specs.declared.loading.Loading.{Loading}
 use Rattle.kern_exec.specs.declared.loading.Loading.TheVariants.{Ends}
-use Rattle.kern_exec.specs.Boards.{cause_of, loading_by, loading_of, board_after, interrupted, is_run}
+use Rattle.kern_exec.specs.Boards.{cause_of, loading_by, loading_of, board_after, end_run_if_any, is_run}
 
 abbrev pub Answered : Type 0
 Answered = Result Answer EventFault
@@ -70,7 +70,7 @@ interrupted_by Stopped b r new did = did.1
 
 pub interrupted_so : (old new : LabState) (r : Answered) → Does (given event.Interrupt) old r new
     → (r ≡ err OutOfMemory → MayLackMemory event.Interrupt old)
-    → (b : Board) → StandsFor old b → StandsFor new (interrupted b)
+    → (b : Board) → StandsFor old b → StandsFor new (end_run_if_any b)
 interrupted_so old new r does lacks b stands =
     interrupted_by b.run b r new (does b stands (λ e. lacks e b stands))
 

@@ -49,5 +49,5 @@ loading_of (Err f) = Ends (Failed (cause_of f))
 -- ---- a run
 
 -- a run ends, where there is one
-abbrev pub interrupted : Board → Board
-interrupted b = if is_run b.run then run_ended b else b
+abbrev pub end_run_if_any : Board → Board
+end_run_if_any b = if is_run b.run then run_ended b else b

@@ -26,7 +26,7 @@ use Rattle.kern_peers.specs.Connections.{Connections, stdin_of}
 use Rattle.kern_exec.specs.declared.execution.Current.{Current}
 use Rattle.kern_exec.specs.declared.loading.Loading.{Loading}
 use Rattle.kern_exec.specs.declared.loading.Loading.TheVariants.{Starts, Ends}
-use Rattle.kern_exec.specs.Letters.{published, addressed, replied}
+use Rattle.kern_exec.specs.Letters.{publication, reply_envelope, reply_letter}
 
 -- ---- the end
 
@@ -35,14 +35,14 @@ abbrev pub error_letters : Bool → Connections → Bytes → Ending → List Le
 error_letters true connections parent ending = []
 error_letters false connections parent Done = []
 error_letters false connections parent (Failed cause) =
-    published connections parent (content.Error cause) ∷ []
+    publication connections parent (content.Error cause) ∷ []
 
 abbrev pub end_letters : Connections → Current → Ending → List Letter
 end_letters connections c ending =
     error_letters c.execution.request.is_silent connections c.execution.header ending ++
-    replied c.execution.connection c.execution.identities c.execution.header
+    reply_letter c.execution.connection c.execution.identities c.execution.header
     (content.ExecuteReply c.count ending) ∷
-    published connections c.execution.header (content.Status Idle) ∷ []
+    publication connections c.execution.header (content.Status Idle) ∷ []
 
 -- a run that is ended from outside, if there is one
 abbrev pub cut_letters : Connections → Option Current → Cause → List Letter
@@ -54,7 +54,7 @@ cut_letters connections (Some c) cause = end_letters connections c (Failed cause
 abbrev pub input_letters : Connections → Current → List Letter
 input_letters connections c =
     if c.execution.request.is_silent then [] else
-    published connections c.execution.header (content.ExecuteInput c.execution.request.code c.count) ∷ []
+    publication connections c.execution.header (content.ExecuteInput c.execution.request.code c.count) ∷ []
 
 -- a cell without a start ends when it is loaded, and so does one that can't be
 abbrev pub end_of_loading : Connections → Current → Loading → List Letter
@@ -63,7 +63,7 @@ end_of_loading connections c (Ends ending) = end_letters connections c ending
 
 abbrev pub loading_letters : Connections → Current → Loading → List Letter
 loading_letters connections c loading =
-    published connections c.execution.header (content.Status Busy) ∷
+    publication connections c.execution.header (content.Status Busy) ∷
     (input_letters connections c ++ end_of_loading connections c loading)
 
 -- ---- a slice of the run
@@ -72,11 +72,11 @@ abbrev pub stream_letters : Connections → Current → Bytes → List Letter
 stream_letters connections c [] = []
 stream_letters connections c (byte ∷ bytes) =
     if c.execution.request.is_silent then [] else
-    published connections c.execution.header (content.Stream (byte ∷ bytes)) ∷ []
+    publication connections c.execution.header (content.Stream (byte ∷ bytes)) ∷ []
 
 abbrev pub to_stdin : Option ℕ → Current → Option Envelope
 to_stdin None c = None
-to_stdin (Some n) c = Some (addressed n c.execution.identities c.execution.header)
+to_stdin (Some n) c = Some (reply_envelope n c.execution.identities c.execution.header)
 
 -- a request for it goes to the stdin connection that has the identity with which the requester joined, where
 -- the request allows it
@@ -102,7 +102,7 @@ abbrev pub outcome_letters : Connections → Current → SliceOutcome → List L
 outcome_letters connections c outcome.More = []
 outcome_letters connections c outcome.Waiting = []
 outcome_letters connections c (outcome.Stop s) =
-    published connections c.execution.header (content.DebugEvent (Stopped (reason_of s))) ∷ []
+    publication connections c.execution.header (content.DebugEvent (Stopped (reason_of s))) ∷ []
 outcome_letters connections c (outcome.End e) = end_letters connections c (ending_of e)
 
 -- what a slice with this traffic posts that ended so

@@ -29,8 +29,8 @@ execution_of n identity r x = record {
   request = x;
 }
 
-abbrev pub queued : Execution → Work → Work
-queued x w = record w { queue = w.queue ++ x ∷ [] }
+abbrev pub enqueue : Execution → Work → Work
+enqueue x w = record w { queue = w.queue ++ x ∷ [] }
 
 -- the number of an execution that is taken after so many
 abbrev pub count_with : Execution → ℕ → ℕ
@@ -48,8 +48,8 @@ start_of (Starts address) = Some address
 start_of (Ends ending) = None
 
 -- the first that waits was loaded
-abbrev pub taken : Execution → List Execution → Loading → Work → Work
-taken x rest loading w = record w {
+abbrev pub load_first : Execution → List Execution → Loading → Work → Work
+load_first x rest loading w = record w {
   queue = rest;
   current = under_way x w.count loading;
   pending = start_of loading;
@@ -57,9 +57,9 @@ taken x rest loading w = record w {
 }
 
 -- its run was started
-abbrev pub begun : Work → Work
-begun w = record w { pending = None }
+abbrev pub clear_pending : Work → Work
+clear_pending w = record w { pending = None }
 
 -- its run has ended
-abbrev pub ended : Work → Work
-ended w = record w { current = None }
+abbrev pub clear_current : Work → Work
+clear_current w = record w { current = None }

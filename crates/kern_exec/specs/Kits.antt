@@ -9,19 +9,19 @@ use Rattle.kern_exec.specs.declared.ends.EndKit.{EndKit}
 use Rattle.kern_exec.specs.declared.letters.BusyIdle.{BusyIdle}
 use Rattle.kern_exec.specs.declared.slices.SliceKit.{SliceKit}
 use Rattle.kern_exec.specs.declared.cells.LoadingKit.{LoadingKit}
-use Rattle.kern_exec.specs.Letters.{published_under, published, addressed}
+use Rattle.kern_exec.specs.Letters.{published_under, publication, reply_envelope}
 use Rattle.kern_exec.specs.Ends.{input_letters, line_envelope}
 
 -- of a request
 pub record IsEnclosed (connections : Connections) (parent : Bytes) (a : BusyIdle) : Type 0 where
-  pub letters : a.letters ≡ published connections parent (content.Status Busy) ∷ []
-  pub idle : a.idle ≡ published connections parent (content.Status Idle)
+  pub letters : a.letters ≡ publication connections parent (content.Status Busy) ∷ []
+  pub idle : a.idle ≡ publication connections parent (content.Status Idle)
 
 -- of an end
 abbrev pub end_kit_of : Connections → Current → EndKit
 end_kit_of connections c = record {
   error = published_under connections c.execution.header (codes "error");
-  reply = addressed c.execution.connection c.execution.identities c.execution.header;
+  reply = reply_envelope c.execution.connection c.execution.identities c.execution.header;
   idle = published_under connections c.execution.header (codes "status");
   is_silent = c.execution.request.is_silent;
   count = c.count;
@@ -40,5 +40,5 @@ pub record IsSliceKit (connections : Connections) (c : Current) (k : SliceKit) :
 -- of a cell that is loaded
 pub record IsLoadingKit (connections : Connections) (c : Current) (k : LoadingKit) : Type 0 where
   pub letters : k.letters
-      ≡ published connections c.execution.header (content.Status Busy) ∷ input_letters connections c
+      ≡ publication connections c.execution.header (content.Status Busy) ∷ input_letters connections c
   pub end : k.end ≡ end_kit_of connections c

@@ -16,19 +16,19 @@ abbrev pub published_under : Connections → Bytes → Text → Envelope
 published_under connections parent topic =
     record { to = subscribers topic connections.peers; head = Topic; parent = parent }
 
-abbrev pub published : Connections → Bytes → Content → Letter
-published connections parent c =
+abbrev pub publication : Connections → Bytes → Content → Letter
+publication connections parent c =
     record { envelope = published_under connections parent (topic_of c); content = c }
 
 -- to one connection, with the identities of a request
-abbrev pub addressed : ℕ → Frames → Bytes → Envelope
-addressed n identities parent = record { to = n ∷ []; head = Identities identities; parent = parent }
+abbrev pub reply_envelope : ℕ → Frames → Bytes → Envelope
+reply_envelope n identities parent = record { to = n ∷ []; head = Identities identities; parent = parent }
 
-abbrev pub replied : ℕ → Frames → Bytes → Content → Letter
-replied n identities parent c = record { envelope = addressed n identities parent; content = c }
+abbrev pub reply_letter : ℕ → Frames → Bytes → Content → Letter
+reply_letter n identities parent c = record { envelope = reply_envelope n identities parent; content = c }
 
 -- between busy and idle
-abbrev pub enclosed : Connections → Bytes → List Letter → List Letter
-enclosed connections parent letters =
-    published connections parent (Status Busy) ∷
-    (letters ++ published connections parent (Status Idle) ∷ [])
+abbrev pub between_busy_and_idle : Connections → Bytes → List Letter → List Letter
+between_busy_and_idle connections parent letters =
+    publication connections parent (Status Busy) ∷
+    (letters ++ publication connections parent (Status Idle) ∷ [])

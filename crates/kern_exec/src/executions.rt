@@ -2,7 +2,8 @@
 ghost use Rattle.std.specs.Prelude.{◌≡◌, ◌<◌, ◌+◌, ◌^◌, [], ◌∷◌, List, length, drop, nat_lt, IfOk, None};
 ghost use Rattle.std.specs.Prelude.{option_map, MatchOption};
 ghost use Rattle.kern_exec.specs.declared.execution.Execution.{Execution};
-ghost use Rattle.kern_exec.specs.Executions.{nothing, queued, taken, begun, ended, count_with};
+ghost use Rattle.kern_exec.specs.Executions.{nothing, enqueue, load_first, clear_pending, clear_current};
+ghost use Rattle.kern_exec.specs.Executions.{count_with};
 ghost use Rattle.kern_exec.specs.Executions.{under_way, start_of};
 
 use crate::execution::{Current, Execution};
@@ -133,7 +134,7 @@ impl Executions {
     /// One more waits.
     pub fn push(&mut self, execution: Execution)
         requires { length self.old.queue < 64 }
-        ensures { self.new ≡ queued execution self.old }
+        ensures { self.new ≡ enqueue execution self.old }
     {
         self.queue.push_back_reserved(execution);
     }
@@ -143,7 +144,7 @@ impl Executions {
         requires some { 0 < length self.old.queue }
         requires room { self.old.count + 1 < 2 ^ 63 }
         ensures { (x : Execution) (rest : List Execution) → self.old.queue ≡ x ∷ rest
-            → self.new ≡ taken x rest loading self.old }
+            → self.new ≡ load_first x rest loading self.old }
     {
         let Some(execution) = self.queue.pop_front() else {
             return;
@@ -157,14 +158,14 @@ impl Executions {
 
     /// The run of the one that is under way was started.
     pub fn begin(&mut self)
-        ensures { self.new ≡ begun self.old }
+        ensures { self.new ≡ clear_pending self.old }
     {
         self.pending = None;
     }
 
     /// It has ended.
     pub fn end(&mut self)
-        ensures { self.new ≡ ended self.old }
+        ensures { self.new ≡ clear_current self.old }
     {
         drop(self.current.take());
     }

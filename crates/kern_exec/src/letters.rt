@@ -1,6 +1,6 @@
 //! Letters and the envelopes round them.
 ghost use Rattle.std.specs.Prelude.{◌≡◌, [], ◌∷◌, IfOk};
-ghost use Rattle.kern_exec.specs.Letters.{published_under, published, addressed, replied};
+ghost use Rattle.kern_exec.specs.Letters.{published_under, publication, reply_envelope, reply_letter};
 ghost use Rattle.kern_exec.specs.Kits.{IsEnclosed};
 
 use crate::execution::copy_frames;
@@ -36,7 +36,7 @@ pub fn publish(
     parent: &Bytes,
     content: Content,
 ) -> Result<Letter, AllocError>
-    ensures { IfOk result (λ letter. letter ≡ published peers.now parent.now content) }
+    ensures { IfOk result (λ letter. letter ≡ publication peers.now parent.now content) }
 {
     match published_under(alloc, peers, parent, content.topic()) {
         Ok(envelope) => Ok(Letter { envelope, content }),
@@ -54,7 +54,7 @@ pub fn address(
     identities: &Frames,
     parent: &Bytes,
 ) -> Result<Envelope, AllocError>
-    ensures { IfOk result (λ e. e ≡ addressed connection identities.now parent.now) }
+    ensures { IfOk result (λ e. e ≡ reply_envelope connection identities.now parent.now) }
 {
     let to = Sequence::from(vec![in alloc; connection]?);
     let identities = copy_frames(identities)?;
@@ -74,7 +74,7 @@ pub fn reply(
     parent: &Bytes,
     content: Content,
 ) -> Result<Letter, AllocError>
-    ensures { IfOk result (λ letter. letter ≡ replied connection identities.now parent.now content) }
+    ensures { IfOk result (λ letter. letter ≡ reply_letter connection identities.now parent.now content) }
 {
     match address(alloc, connection, identities, parent) {
         Ok(envelope) => Ok(Letter { envelope, content }),
@@ -94,7 +94,7 @@ pub struct BusyIdle {
 
 // Letters that begin with busy.
 pub(crate) fn busy(alloc: Global, peers: &Peers, header: &Bytes) -> Result<Letters, AllocError>
-    ensures { IfOk result (λ letters. letters ≡ published peers.now header.now
+    ensures { IfOk result (λ letters. letters ≡ publication peers.now header.now
         (Content.Status ExecutionState.Busy) ∷ []) }
 {
     let mut letters = Letters::new(alloc)?;

@@ -5,7 +5,7 @@ ghost use Rattle.lab_core.specs.declared.run_state.RunState.TheVariants.{NoRun};
 ghost use Rattle.lab_core.specs.Board.{Board};
 ghost use Rattle.lab_core.specs.Events.{started, reset, with_operation};
 ghost use Rattle.lab_core.specs.Labs.{StandsFor};
-ghost use Rattle.kern_exec.specs.Boards.{interrupted};
+ghost use Rattle.kern_exec.specs.Boards.{end_run_if_any};
 
 use crate::board::apply_event;
 use base_text::sequence::Bytes;
@@ -33,7 +33,7 @@ pub fn start(lab: &mut Lab, address: u16)
 
 /// Ends the run, where there is one.
 pub fn interrupt(lab: &mut Lab)
-    ensures { (b : Board) → StandsFor lab.old b → StandsFor lab.new (interrupted b) }
+    ensures { (b : Board) → StandsFor lab.old b → StandsFor lab.new (end_run_if_any b) }
 {
     drop(apply_event(lab, Event::Interrupt));
 }

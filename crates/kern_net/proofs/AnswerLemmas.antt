@@ -16,7 +16,7 @@ use Rattle.kern_core.specs.declared.call.Reply.TheVariants as reply
 use Rattle.kern_core.specs.declared.fault.KernelFault.{KernelFault}
 use Rattle.kern_core.specs.declared.fault.KernelFault.TheVariants as fault
 use Rattle.kern_core.specs.Kernels.{is_entry}
-use Rattle.kern_core.specs.States.{KernelState, Turn, quiet}
+use Rattle.kern_core.specs.States.{KernelState, Turn, turn_without_posts}
 use Rattle.kern_core.specs.Slices.{running_to, by_run, by_start, loading}
 use Rattle.kern_core.specs.Turns.{turn, state_after}
 use Rattle.kern_desk.specs.Seats.{calls_of}
@@ -54,7 +54,7 @@ state_answered run.NoRun unix_seconds s = start_answered s.work.pending unix_sec
 slice_answered : (unix_seconds : ℕ) (s : KernelState) → IsAnswered (turn (Slice unix_seconds) s)
 unfolding turn
 slice_answered unix_seconds s =
-    either IsAnswered s.is_shut (quiet reply.Ended s) (by_run s.board.run unix_seconds s) refl
+    either IsAnswered s.is_shut (turn_without_posts reply.Ended s) (by_run s.board.run unix_seconds s) refl
     (state_answered s.board.run unix_seconds s)
 
 entry_answered : (v w : PassState Call) (unix_seconds : ℕ) (answer : Result Reply KernelFault)

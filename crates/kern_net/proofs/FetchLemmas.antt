@@ -19,7 +19,7 @@ use Rattle.kern_core.specs.declared.call.Reply.TheVariants as reply
 use Rattle.kern_core.specs.declared.fault.KernelFault.{KernelFault}
 use Rattle.kern_core.specs.declared.fault.KernelFault.TheVariants as fault
 use Rattle.kern_core.specs.Kernels.{is_entry}
-use Rattle.kern_core.specs.States.{KernelState, Turn, refused, quiet}
+use Rattle.kern_core.specs.States.{KernelState, Turn, refuse_turn, turn_without_posts}
 use Rattle.kern_core.specs.Connections.{by_peer, fetching}
 use Rattle.kern_core.specs.Turns.{turn, state_after}
 use Rattle.kern_desk.specs.Seats.{calls_of, seated_answer}
@@ -38,8 +38,9 @@ fits_at : (peer : Option Peer) (connection from : ℕ) (s : KernelState)
 fits_at None connection from s = tt
 fits_at (Some p) connection from s =
     fits_if (nat_lt from (first_kept (length s.posts)))
-    (refused (fault.Lagged (first_kept (length s.posts))) s)
-    (quiet (reply.Fetched (posts_to connection from s.posts) (next_from from (length s.posts)) s.is_shut) s)
+    (refuse_turn (fault.Lagged (first_kept (length s.posts))) s)
+    (turn_without_posts (reply.Fetched (posts_to connection from s.posts)
+    (next_from from (length s.posts)) s.is_shut) s)
     tt tt
 
 fetch_fits : (connection from : ℕ) (s : KernelState) → IsFetchAnswer (turn (Fetch connection from) s).answer
@@ -94,7 +95,7 @@ from_one f x h = let b = ltb-false f (max 1 x) h in let m = le-max_left 1 x in o
 gives_if : (b : Bool) (c f : ℕ) (s : KernelState) (lagged : KernelFault) (posts : List Post) (next : ℕ)
     (ended : Bool)
     → nat_lt f (first_kept (length s.posts)) ≡ b
-    → Ok (reply.Fetched posts next ended) ≡ (if b then refused lagged s else quiet
+    → Ok (reply.Fetched posts next ended) ≡ (if b then refuse_turn lagged s else turn_without_posts
     (reply.Fetched (posts_to c f s.posts) (next_from f (length s.posts)) s.is_shut) s).answer
     → Gives c f s.posts posts next
 gives_if true c f s lagged posts next ended h e = absurd cc
@@ -138,7 +139,7 @@ behind f n next is short = omega (arith, is, short)
 
 reaches_if : (b : Bool) (c f : ℕ) (s : KernelState) (lagged : KernelFault) (posts : List Post) (next : ℕ)
     (ended : Bool)
-    → Ok (reply.Fetched posts next ended) ≡ (if b then refused lagged s else quiet
+    → Ok (reply.Fetched posts next ended) ≡ (if b then refuse_turn lagged s else turn_without_posts
     (reply.Fetched (posts_to c f s.posts) (next_from f (length s.posts)) s.is_shut) s).answer
     → next - f < 64 → length s.posts < next
 reaches_if true c f s lagged posts next ended e short = absurd cc

@@ -8,7 +8,7 @@ use mathlib.Core.List.{IsPrefix}
 use Rattle.kern_post.specs.declared.post.Post.{Post}
 use Rattle.kern_post.specs.Posts.{numbered}
 use Rattle.kern_core.specs.declared.call.Call.{Call}
-use Rattle.kern_core.specs.States.{KernelState, opened}
+use Rattle.kern_core.specs.States.{KernelState, kernel_before_calls}
 use Rattle.kern_core.specs.Turns.{turn, next, state_after}
 use Rattle.kern_desk.specs.Seats.{calls_of}
 use Rattle.kern_net.specs.Streams.{posts_in}
@@ -46,6 +46,6 @@ posts_grow a b p =
     let G : List (ℕ × Call) → Type 0 = λ l. Grows (posts_in a) (posts_in l) in
     let H : KernelState → Type 0 = λ (s : KernelState). Grows (posts_in a) s.posts in
     let joined : state_after (calls_of (a ++ p.0)) ≡ fold next (state_after (calls_of a)) (calls_of p.0) =
-    ap (fold next opened) (map-append (λ (e : ℕ × Call). e.1) a p.0)
-    ∙ fold-append next opened (calls_of a) (calls_of p.0) in
+    ap (fold next kernel_before_calls) (map-append (λ (e : ℕ × Call). e.1) a p.0)
+    ∙ fold-append next kernel_before_calls (calls_of a) (calls_of p.0) in
     subst G p.1 (subst H (sym joined) (calls_grow (state_after (calls_of a)) (calls_of p.0)))

@@ -17,17 +17,17 @@ use Rattle.kern_request.specs.declared.request.Request.{Request}
 use Rattle.kern_peers.specs.declared.peer.Peer.{Peer}
 use Rattle.kern_peers.specs.Connections.{is_on, is_full, peer_at}
 use Rattle.kern_post.specs.declared.content.Content.{Content}
-use Rattle.kern_exec.specs.Executions.{execution_of, queued}
+use Rattle.kern_exec.specs.Executions.{execution_of, enqueue}
 use Rattle.kern_core.specs.declared.call.Call.{Call}
 use Rattle.kern_core.specs.declared.call.Call.TheVariants as call
 use Rattle.kern_core.specs.declared.call.Reply.{Reply}
 use Rattle.kern_core.specs.declared.call.Reply.TheVariants.{Arrived, Subscribed}
 use Rattle.kern_core.specs.declared.fault.KernelFault.TheVariants.{Full, Lagged, NoConnection}
-use Rattle.kern_core.specs.States.{KernelState, Turn, refused, quiet}
-use Rattle.kern_core.specs.Connections.{by_peer, unsubscribed, new_subscription, subscribing}
+use Rattle.kern_core.specs.States.{KernelState, Turn, refuse_turn, turn_without_posts}
+use Rattle.kern_core.specs.Connections.{by_peer, unsubscribe_turn, new_subscription, subscribing}
 use Rattle.kern_core.specs.Requests.{plain_reply, replying, queue_full, executing, interrupting, shutting}
 use Rattle.kern_core.specs.Requests.{is_bounded, refusing, answering, performing, debugging, typing, closing}
-use Rattle.kern_core.specs.Requests.{passing, unanswered, other, by_reply, arriving}
+use Rattle.kern_core.specs.Requests.{passing, ignore_request, other, by_reply, arriving}
 use Rattle.kern_core.specs.Turns.{turn, state_after}
 use Rattle.kern_desk.specs.Seats.{calls_of, seated_answer}
 use Rattle.kern_net.specs.ReadEnds.{IsReaderCall}
@@ -39,10 +39,10 @@ record KeepsUp (t : Turn) : Type 0 where
 answered : (t : Turn) (reply : Reply) → t.answer ≡ Ok reply → KeepsUp t
 answered t reply is = record { never = λ first e. absurd cc }
 
-full : (s : KernelState) → KeepsUp (refused Full s)
+full : (s : KernelState) → KeepsUp (refuse_turn Full s)
 full s = record { never = λ first e. absurd cc }
 
-unknown : (s : KernelState) → KeepsUp (refused NoConnection s)
+unknown : (s : KernelState) → KeepsUp (refuse_turn NoConnection s)
 unknown s = record { never = λ first e. absurd cc }
 
 at_peer : (p : Option Peer) (s : KernelState) (f : Peer → Turn) → ((q : Peer) → KeepsUp (f q))
@@ -53,17 +53,18 @@ at_peer (Some p) s f k = k p
 subscribing_keeps : (n : ℕ) (wants : Bool) (prefix : List ℕ) (unix_seconds : ℕ) (s : KernelState)
     → KeepsUp (subscribing n wants prefix unix_seconds s)
 subscribing_keeps n wants prefix unix_seconds s = at_peer (peer_at n s.connections.peers) s _ (λ p.
-    either KeepsUp (not (is_on Iopub p)) (refused NoConnection s) _ (unknown s)
-    (either KeepsUp (not wants) (unsubscribed n prefix s) _
-    (answered (unsubscribed n prefix s) Subscribed refl)
-    (either KeepsUp (is_full p) (refused Full s) (new_subscription n prefix unix_seconds s) (full s)
+    either KeepsUp (not (is_on Iopub p)) (refuse_turn NoConnection s) _ (unknown s)
+    (either KeepsUp (not wants) (unsubscribe_turn n prefix s) _
+    (answered (unsubscribe_turn n prefix s) Subscribed refl)
+    (either KeepsUp (is_full p) (refuse_turn Full s) (new_subscription n prefix unix_seconds s) (full s)
     (answered (new_subscription n prefix unix_seconds s) Subscribed refl))))
 
 executing_keeps : (n : ℕ) (identity : List ℕ) (r : Request) (x : ExecuteRequest) (unix_seconds : ℕ)
     (s : KernelState)
     → KeepsUp (executing n identity r x unix_seconds s)
 executing_keeps n identity r x unix_seconds s =
-    let more = quiet Arrived (record s { work = queued (execution_of n identity r x) s.work }) in
+    let more = turn_without_posts Arrived
+    (record s { work = enqueue (execution_of n identity r x) s.work }) in
     either KeepsUp (nat_lt (length s.work.queue) 64) more (queue_full n r x unix_seconds s)
     (answered more Arrived refl)
     (answered (queue_full n r x unix_seconds s) Arrived refl)
@@ -88,8 +89,8 @@ debugging_keeps n r d unix_seconds s =
     (answering_keeps n r d unix_seconds s (command_result d.command s.board)) (answered bad Arrived refl)
 
 unanswered_keeps : (r : Request) (lacking : NeedyRequest) (unix_seconds : ℕ) (s : KernelState)
-    → KeepsUp (unanswered r lacking unix_seconds s)
-unanswered_keeps r needy.InputReply unix_seconds s = answered (quiet Arrived s) Arrived refl
+    → KeepsUp (ignore_request r lacking unix_seconds s)
+unanswered_keeps r needy.InputReply unix_seconds s = answered (turn_without_posts Arrived s) Arrived refl
 unanswered_keeps r _ unix_seconds s = answered (passing r unix_seconds s) Arrived refl
 
 other_keeps : (n : ℕ) (identity : List ℕ) (r : Request) (a : RequestBody) (unix_seconds : ℕ) (s : KernelState)
@@ -114,7 +115,7 @@ by_reply_keeps None n identity r unix_seconds s = other_keeps n identity r r.bod
 arriving_keeps : (n : ℕ) (r : Request) (unix_seconds : ℕ) (s : KernelState)
     → KeepsUp (arriving n r unix_seconds s)
 arriving_keeps n r unix_seconds s = at_peer (peer_at n s.connections.peers) s _ (λ p.
-    either KeepsUp (is_on Iopub p) (refused NoConnection s) _ (unknown s)
+    either KeepsUp (is_on Iopub p) (refuse_turn NoConnection s) _ (unknown s)
     (by_reply_keeps (plain_reply s.work.count r.body) n p.identity r unix_seconds s))
 
 turn_keeps : (c : Call) (s : KernelState) → IsReaderCall c → KeepsUp (turn c s)

@@ -23,16 +23,16 @@ use Rattle.kern_peers.specs.Connections.{has_no_place, joined_by, peer_at, witho
 use Rattle.kern_post.specs.declared.content.Content.{Content}
 use Rattle.kern_post.specs.Posts.{fetched as posts_to, first_kept, next_from}
 use Rattle.kern_exec.specs.declared.execution.Execution.{Execution}
-use Rattle.kern_exec.specs.Executions.{execution_of, queued}
+use Rattle.kern_exec.specs.Executions.{execution_of, enqueue}
 use Rattle.lab_slice.specs.Slices.{slice_end}
 use Rattle.kern_core.specs.declared.call.Call.{Call}
 use Rattle.kern_core.specs.declared.call.Call.TheVariants as call
 use Rattle.kern_core.specs.declared.call.Reply.TheVariants as reply
 use Rattle.kern_core.specs.declared.fault.KernelFault.TheVariants as fault
-use Rattle.kern_core.specs.States.{KernelState, Turn, refused, quiet}
-use Rattle.kern_core.specs.Connections.{by_peer, joined, unsubscribed, new_subscription, fetching}
+use Rattle.kern_core.specs.States.{KernelState, Turn, refuse_turn, turn_without_posts}
+use Rattle.kern_core.specs.Connections.{by_peer, join_turn, unsubscribe_turn, new_subscription, fetching}
 use Rattle.kern_core.specs.Requests.{plain_reply, by_reply, other, executing, queue_full, shutting, answering}
-use Rattle.kern_core.specs.Requests.{performing, refusing, is_bounded, debugging, unanswered}
+use Rattle.kern_core.specs.Requests.{performing, refusing, is_bounded, debugging, ignore_request}
 use Rattle.kern_core.specs.Slices.{running_to, by_run, by_start, loading, slicing}
 use Rattle.kern_core.specs.Turns.{turn}
 use Rattle.kern_net.proofs.ChoiceLemmas.{either}
@@ -45,8 +45,8 @@ record Leaves (s : KernelState) (t : Turn) : Type 0 where
 executes : (n : ℕ) (identity : List ℕ) (r : Request) (x : ExecuteRequest) (unix_seconds : ℕ) (s : KernelState)
     → Leaves s (executing n identity r x unix_seconds s)
 executes n identity r x unix_seconds s =
-    either (Leaves s) (nat_lt (length s.work.queue) 64) (quiet reply.Arrived
-    (record s { work = queued (execution_of n identity r x) s.work }))
+    either (Leaves s) (nat_lt (length s.work.queue) 64) (turn_without_posts reply.Arrived
+    (record s { work = enqueue (execution_of n identity r x) s.work }))
     (queue_full n r x unix_seconds s) (record { same = refl }) (record { same = refl })
 
 shuts : (n : ℕ) (r : Request) (restarts : Bool) (unix_seconds : ℕ) (s : KernelState)
@@ -67,7 +67,7 @@ debugs n r d unix_seconds s =
     (answers n r d unix_seconds s (command_result d.command s.board)) (record { same = refl })
 
 passes_over : (r : Request) (lacking : NeedyRequest) (unix_seconds : ℕ) (s : KernelState)
-    → Leaves s (unanswered r lacking unix_seconds s)
+    → Leaves s (ignore_request r lacking unix_seconds s)
 passes_over r needy.InputReply unix_seconds s = record { same = refl }
 passes_over r needy.Execute unix_seconds s = record { same = refl }
 passes_over r needy.IsComplete unix_seconds s = record { same = refl }
@@ -111,45 +111,46 @@ goes_on run.NoRun unix_seconds s = starts s.work.pending unix_seconds s
 
 -- ---- calls
 
-joins : (channel : Channel) (identity : List ℕ) (s : KernelState) → Leaves s (joined channel identity s)
+joins : (channel : Channel) (identity : List ℕ) (s : KernelState) → Leaves s (join_turn channel identity s)
 joins channel identity s =
-    either (Leaves s) (has_no_place channel identity s.connections.peers) (refused fault.Full s)
-    (quiet (reply.Joined (s.connections.joined + 1) (length s.posts + 1))
+    either (Leaves s) (has_no_place channel identity s.connections.peers) (refuse_turn fault.Full s)
+    (turn_without_posts (reply.Joined (s.connections.joined + 1) (length s.posts + 1))
     (record s { connections = joined_by channel identity s.connections }))
     (record { same = refl }) (record { same = refl })
 
 leaves : (peer : Option Peer) (n : ℕ) (s : KernelState)
-    → Leaves s (by_peer peer s (λ p. quiet reply.Left (record s { connections = without n s.connections })))
+    → Leaves s (by_peer peer s (λ p. turn_without_posts reply.Left
+    (record s { connections = without n s.connections })))
 leaves None n s = record { same = refl }
 leaves (Some p) n s = record { same = refl }
 
 subscribes : (peer : Option Peer) (n : ℕ) (wants : Bool) (prefix : List ℕ) (unix_seconds : ℕ)
     (s : KernelState)
     → Leaves s (by_peer peer s (λ p.
-    if not (is_on Iopub p) then refused fault.NoConnection s else
-    if not wants then unsubscribed n prefix s else
-    if is_full p then refused fault.Full s else new_subscription n prefix unix_seconds s))
+    if not (is_on Iopub p) then refuse_turn fault.NoConnection s else
+    if not wants then unsubscribe_turn n prefix s else
+    if is_full p then refuse_turn fault.Full s else new_subscription n prefix unix_seconds s))
 subscribes None n wants prefix unix_seconds s = record { same = refl }
 subscribes (Some p) n wants prefix unix_seconds s =
     let last =
-    either (Leaves s) (is_full p) (refused fault.Full s) (new_subscription n prefix unix_seconds s)
+    either (Leaves s) (is_full p) (refuse_turn fault.Full s) (new_subscription n prefix unix_seconds s)
     (record { same = refl }) (record { same = refl }) in
     let first =
-    either (Leaves s) (not wants) (unsubscribed n prefix s)
-    (if is_full p then refused fault.Full s else new_subscription n prefix unix_seconds s)
+    either (Leaves s) (not wants) (unsubscribe_turn n prefix s)
+    (if is_full p then refuse_turn fault.Full s else new_subscription n prefix unix_seconds s)
     (record { same = refl }) last in
-    either (Leaves s) (not (is_on Iopub p)) (refused fault.NoConnection s)
-    (if not wants then unsubscribed n prefix s else (if is_full p then refused fault.Full s else
+    either (Leaves s) (not (is_on Iopub p)) (refuse_turn fault.NoConnection s)
+    (if not wants then unsubscribe_turn n prefix s else (if is_full p then refuse_turn fault.Full s else
     new_subscription n prefix unix_seconds s))
     (record { same = refl }) first
 
 arrives : (peer : Option Peer) (n : ℕ) (r : Request) (unix_seconds : ℕ) (s : KernelState)
     → Leaves s (by_peer peer s (λ p.
-    if is_on Iopub p then refused fault.NoConnection s else by_reply (plain_reply s.work.count r.body) n
+    if is_on Iopub p then refuse_turn fault.NoConnection s else by_reply (plain_reply s.work.count r.body) n
     p.identity r unix_seconds s))
 arrives None n r unix_seconds s = record { same = refl }
 arrives (Some p) n r unix_seconds s =
-    either (Leaves s) (is_on Iopub p) (refused fault.NoConnection s)
+    either (Leaves s) (is_on Iopub p) (refuse_turn fault.NoConnection s)
     (by_reply (plain_reply s.work.count r.body) n p.identity r unix_seconds s)
     (record { same = refl }) (replies (plain_reply s.work.count r.body) n p.identity r unix_seconds s)
 
@@ -158,13 +159,14 @@ fetches : (peer : Option Peer) (n from : ℕ) (s : KernelState)
 fetches None n from s = record { same = refl }
 fetches (Some p) n from s =
     either (Leaves s) (nat_lt from (first_kept (length s.posts)))
-    (refused (fault.Lagged (first_kept (length s.posts))) s)
-    (quiet (reply.Fetched (posts_to n from s.posts) (next_from from (length s.posts)) s.is_shut) s)
+    (refuse_turn (fault.Lagged (first_kept (length s.posts))) s)
+    (turn_without_posts (reply.Fetched (posts_to n from s.posts)
+    (next_from from (length s.posts)) s.is_shut) s)
     (record { same = refl }) (record { same = refl })
 
 slices : (unix_seconds : ℕ) (s : KernelState) → Leaves s (slicing unix_seconds s)
 slices unix_seconds s =
-    either (Leaves s) s.is_shut (quiet reply.Ended s) (by_run s.board.run unix_seconds s)
+    either (Leaves s) s.is_shut (turn_without_posts reply.Ended s) (by_run s.board.run unix_seconds s)
     (record { same = refl })
     (goes_on s.board.run unix_seconds s)
 

@@ -8,7 +8,7 @@ use Rattle.jup_wire.specs.declared.channel.Channel.TheVariants.{Iopub}
 use Rattle.lab_views.specs.declared.fault.ViewFault.{ViewFault}
 use Rattle.lab_shown.specs.declared.shown.Shown.{Shown}
 use Rattle.lab_views.specs.declared.view.View.TheVariants as view
-use Rattle.lab_views.specs.Views.{shown}
+use Rattle.lab_views.specs.Views.{view_of}
 use Rattle.lab_core.specs.declared.fault.EventFault.{EventFault}
 use Rattle.lab_core.specs.Board.{Board}
 use Rattle.lab_core.specs.Events.{as_answer, parts_of}
@@ -34,20 +34,20 @@ use Rattle.kern_post.specs.declared.content.Content.{Content}
 use Rattle.kern_post.specs.declared.content.Content.TheVariants as content
 use Rattle.kern_post.specs.declared.content.ExecutionState.TheVariants.{Busy, Idle}
 use Rattle.kern_post.specs.declared.post.Letter.{Letter}
-use Rattle.kern_exec.specs.Letters.{enclosed, published}
+use Rattle.kern_exec.specs.Letters.{between_busy_and_idle, publication}
 use Rattle.kern_core.specs.declared.call.Call.{Call}
 use Rattle.kern_core.specs.declared.call.Call.TheVariants as call
 use Rattle.kern_core.specs.declared.call.Reply.TheVariants.{Arrived}
 use Rattle.kern_core.specs.declared.fault.KernelFault.{KernelFault}
 use Rattle.kern_core.specs.declared.fault.KernelFault.TheVariants.{Full, NoConnection}
-use Rattle.kern_core.specs.States.{KernelState, Turn, refused, posting}
-use Rattle.kern_core.specs.Connections.{by_peer, unsubscribed, new_subscription, first_status, status_to}
+use Rattle.kern_core.specs.States.{KernelState, Turn, refuse_turn, posting}
+use Rattle.kern_core.specs.Connections.{by_peer, unsubscribe_turn, new_subscription, first_status, status_to}
 use Rattle.kern_core.specs.Connections.{subscribing}
 use Rattle.kern_core.specs.Requests.{plain_reply, reply_to, refusing, answering, performing, debugging}
 use Rattle.kern_core.specs.Requests.{debug_reply, is_bounded, is_reset, after_letter, cut_letters, closing}
 use Rattle.kern_core.specs.Requests.{ended_by, work_by, cut_work, performed_letters, response_to}
 use Rattle.kern_post.specs.declared.content.Cause.TheVariants as cause
-use Rattle.kern_core.specs.Requests.{passing, unanswered, other, by_reply, arriving}
+use Rattle.kern_core.specs.Requests.{passing, ignore_request, other, by_reply, arriving}
 use Rattle.kern_core.specs.Turns.{turn}
 use Rattle.kern_net.specs.Wakes.{steers, spared_by, concerns_worker, GoesTo, LeavesWork, GivesNone}
 use Rattle.kern_net.proofs.ChoiceLemmas.{either}
@@ -66,15 +66,15 @@ more_go : (n : ℕ) (s : KernelState) (l : Letter) (ls : List Letter) → GoesTo
 more_go n s l ls one all = All-cons (GoesTo n s.connections) l ls one all
 
 published_goes : (n : ℕ) (s : KernelState) (header : List ℕ) (c : Content)
-    → GoesTo n s.connections (published s.connections header c)
+    → GoesTo n s.connections (publication s.connections header c)
 published_goes n s header c = inr (topic_of c, refl)
 
 -- between busy and idle
 enclosed_go : (n : ℕ) (s : KernelState) (header : List ℕ) (letters : List Letter) → Go n s letters
-    → Go n s (enclosed s.connections header letters)
+    → Go n s (between_busy_and_idle s.connections header letters)
 enclosed_go n s header letters all =
-    let busy = published s.connections header (content.Status Busy) in
-    let idle = published s.connections header (content.Status Idle) in
+    let busy = publication s.connections header (content.Status Busy) in
+    let idle = publication s.connections header (content.Status Idle) in
     more_go n s busy (letters ++ idle ∷ []) (published_goes n s header (content.Status Busy))
     (All-append (GoesTo n s.connections) letters (idle ∷ []) all
     (more_go n s idle [] (published_goes n s header (content.Status Idle)) (none_go n s)))
@@ -86,7 +86,7 @@ reply_goes n s r c = more_go n s (reply_to n r c) [] (inl refl) (none_go n s)
 -- ---- turns
 
 module _ (n : ℕ) (s : KernelState) where
-  refused_leaves : (fault : KernelFault) → LeavesWork n s (refused fault s)
+  refused_leaves : (fault : KernelFault) → LeavesWork n s (refuse_turn fault s)
   refused_leaves fault = record { board = refl; work = refl; is_shut = refl; letters = none_go n s }
 
   -- what posts and changes nothing
@@ -96,9 +96,9 @@ module _ (n : ℕ) (s : KernelState) where
       record { board = refl; work = refl; is_shut = refl; letters = all }
 
   around : (r : Request) (unix_seconds : ℕ) (letters : List Letter) → Go n s letters
-      → LeavesWork n s (posting Arrived unix_seconds (enclosed s.connections r.header letters) s)
+      → LeavesWork n s (posting Arrived unix_seconds (between_busy_and_idle s.connections r.header letters) s)
   around r unix_seconds letters all =
-      posting_leaves unix_seconds (enclosed s.connections r.header letters)
+      posting_leaves unix_seconds (between_busy_and_idle s.connections r.header letters)
       (enclosed_go n s r.header letters all)
 
   at_peer : (p : Option Peer) (f : Peer → Turn) → ((q : Peer) → LeavesWork n s (f q))
@@ -113,7 +113,8 @@ first_goes n prefix s =
     either (Go n s) (starts_with (λ x y. x == y) (codes "status") prefix) (status_to n s ∷ []) []
     (more_go n s (status_to n s) [] (inl refl) (none_go n s)) (none_go n s)
 
-unsubscribed_leaves : (n : ℕ) (prefix : List ℕ) (s : KernelState) → LeavesWork n s (unsubscribed n prefix s)
+unsubscribed_leaves : (n : ℕ) (prefix : List ℕ) (s : KernelState)
+    → LeavesWork n s (unsubscribe_turn n prefix s)
 unsubscribed_leaves n prefix s = record { board = refl; work = refl; is_shut = refl; letters = none_go n s }
 
 new_leaves : (n : ℕ) (prefix : List ℕ) (unix_seconds : ℕ) (s : KernelState)
@@ -124,9 +125,10 @@ new_leaves n prefix unix_seconds s =
 subscribing_leaves : (n : ℕ) (wants : Bool) (prefix : List ℕ) (unix_seconds : ℕ) (s : KernelState)
     → LeavesWork n s (subscribing n wants prefix unix_seconds s)
 subscribing_leaves n wants prefix unix_seconds s = at_peer n s (peer_at n s.connections.peers) _ (λ p.
-    either (LeavesWork n s) (not (is_on Iopub p)) (refused NoConnection s) _ (refused_leaves n s NoConnection)
-    (either (LeavesWork n s) (not wants) (unsubscribed n prefix s) _ (unsubscribed_leaves n prefix s)
-    (either (LeavesWork n s) (is_full p) (refused Full s) (new_subscription n prefix unix_seconds s)
+    either (LeavesWork n s) (not (is_on Iopub p)) (refuse_turn NoConnection s) _
+    (refused_leaves n s NoConnection)
+    (either (LeavesWork n s) (not wants) (unsubscribe_turn n prefix s) _ (unsubscribed_leaves n prefix s)
+    (either (LeavesWork n s) (is_full p) (refuse_turn Full s) (new_subscription n prefix unix_seconds s)
     (refused_leaves n s Full) (new_leaves n prefix unix_seconds s))))
 
 -- ---- debug requests
@@ -152,13 +154,13 @@ looks_keep (command.StackTrace start levels) b body new look is = shown_keeps _ 
 looks_keep (command.Scopes frame) b body new look is = shown_keeps _ b body new is
 looks_keep (command.Variables reference start count) b body new look is = shown_keeps _ b body new is
 looks_keep (command.Disassemble address offset instruction_offset count) b body new look is =
-    shown_keeps (shown (view.Code (first_line b.machine address offset instruction_offset) count)
+    shown_keeps (view_of (view.Code (first_line b.machine address offset instruction_offset) count)
     (parts_of b))
     b body new is
 looks_keep (command.Source path) b body new look is = shown_keeps _ b body new is
-looks_keep command.DebugInfo b body new look is = shown_keeps (shown view.Info (parts_of b)) b body new is
+looks_keep command.DebugInfo b body new look is = shown_keeps (view_of view.Info (parts_of b)) b body new is
 looks_keep command.InspectVariables b body new look is =
-    shown_keeps (shown (view.Variables 1 0 0) (parts_of b)) b body new is
+    shown_keeps (view_of (view.Variables 1 0 0) (parts_of b)) b body new is
 looks_keep _ b body new look is = absurd cc
 
 no_reset : (c : DapCommand) → steers c ≡ false → is_reset c ≡ false
@@ -169,7 +171,7 @@ after_goes : (n : ℕ) (s : KernelState) (r : Request) (event : Option Event)
     → Go n s (option_to_list (after_letter event r s))
 after_goes n s r None = none_go n s
 after_goes n s r (Some e) =
-    more_go n s (published s.connections r.header (content.DebugEvent e)) []
+    more_go n s (publication s.connections r.header (content.DebugEvent e)) []
     (published_goes n s r.header (content.DebugEvent e)) (none_go n s)
 
 refusing_leaves : (n : ℕ) (r : Request) (d : DapRequest) (message : List ℕ) (unix_seconds : ℕ)
@@ -226,12 +228,12 @@ passing_leaves n r unix_seconds s = around n s r unix_seconds [] (none_go n s)
 closing_leaves : (n : ℕ) (r : Request) (comm_id : List ℕ) (unix_seconds : ℕ) (s : KernelState)
     → LeavesWork n s (closing r comm_id unix_seconds s)
 closing_leaves n r comm_id unix_seconds s =
-    let letter = published s.connections r.header (content.CommClose comm_id) in
+    let letter = publication s.connections r.header (content.CommClose comm_id) in
     around n s r unix_seconds (letter ∷ [])
     (more_go n s letter [] (published_goes n s r.header (content.CommClose comm_id)) (none_go n s))
 
 unanswered_leaves : (n : ℕ) (r : Request) (lacking : NeedyRequest) (unix_seconds : ℕ) (s : KernelState)
-    → LeavesWork n s (unanswered r lacking unix_seconds s)
+    → LeavesWork n s (ignore_request r lacking unix_seconds s)
 unanswered_leaves n r needy.InputReply unix_seconds s =
     record { board = refl; work = refl; is_shut = refl; letters = none_go n s }
 unanswered_leaves n r _ unix_seconds s = passing_leaves n r unix_seconds s
@@ -269,7 +271,7 @@ by_reply_leaves None n identity r unix_seconds s none = other_leaves n identity 
 arriving_leaves : (n : ℕ) (r : Request) (unix_seconds : ℕ) (s : KernelState) → spared_by r.body ≡ true
     → LeavesWork n s (arriving n r unix_seconds s)
 arriving_leaves n r unix_seconds s none = at_peer n s (peer_at n s.connections.peers) _ (λ p.
-    either (LeavesWork n s) (is_on Iopub p) (refused NoConnection s) _ (refused_leaves n s NoConnection)
+    either (LeavesWork n s) (is_on Iopub p) (refuse_turn NoConnection s) _ (refused_leaves n s NoConnection)
     (by_reply_leaves (plain_reply s.work.count r.body) n p.identity r unix_seconds s none))
 
 pub gives_none : (c : Call) → concerns_worker c ≡ false → (s : KernelState) → GivesNone c s

@@ -23,7 +23,7 @@ use Rattle.lab_image.specs.Breakpoints.{with_lines}
 use Rattle.lab_shown.specs.declared.shown.Shown.{Shown}
 use Rattle.lab_views.specs.declared.fault.ViewFault.{ViewFault}
 use Rattle.lab_views.specs.Parts.{Parts}
-use Rattle.lab_views.specs.Views.{shown}
+use Rattle.lab_views.specs.Views.{view_of}
 use Rattle.lab_core.specs.declared.event.Event.{Event}
 use Rattle.lab_core.specs.declared.event.Event.TheVariants as event
 use Rattle.lab_core.specs.declared.fault.EventFault.{EventFault}
@@ -256,7 +256,7 @@ given event.Detach b = Ok (answer.Accepted, detached b)
 given (event.Typed bytes) b = Ok (answer.Accepted, with_operation (Typed bytes) b)
 given (event.Switches byte) b = Ok (answer.Accepted, with_operation (Switches byte) b)
 given (event.Press n) b = pressed n b
-given (event.Show view) b = as_answer (shown view (parts_of b)) b
+given (event.Show view) b = as_answer (view_of view (parts_of b)) b
 
 -- ---- what is answered
 

@@ -1,7 +1,7 @@
 -- Where an event may be answered with out of memory.
 use Rattle.std.specs.Prelude.{◌≡◌, Ok, None, IsOk, IsSome}
 use Rattle.lab_image.specs.Sources.{place_of, source_at}
-use Rattle.lab_views.specs.Views.{shown}
+use Rattle.lab_views.specs.Views.{view_of}
 use Rattle.lab_core.specs.declared.run_state.RunState.TheVariants.{NoRun, Running}
 use Rattle.lab_core.specs.declared.event.Event.{Event}
 use Rattle.lab_core.specs.declared.event.Event.TheVariants as event
@@ -16,7 +16,7 @@ Takes (event.Load path text) b =
 Takes (event.Dump path text) b = place_of (record { path = path; text = text }) b.sources ≡ Ok None
 Takes (event.SetBreakpoints path lines) b = IsSome (source_at b.sources path)
 Takes (event.Slice n) b = b.run ≡ Running
-Takes (event.Show view) b = IsOk (shown view (parts_of b))
+Takes (event.Show view) b = IsOk (view_of view (parts_of b))
 Takes event.Reset b = Unit {0}
 Takes (event.Typed bytes) b = Unit {0}
 Takes (event.Poke reference name value) b = IsOk (while_stopped b.run (poked reference name value b))

@@ -19,8 +19,8 @@ abbrev pub IsWhole : MachineState → Type 0
 IsWhole m = length m.memory ≡ 65536
 
 -- a board's parts with a value at a place of the machine
-abbrev pub changed : Place → ℕ → Parts → Parts
-changed place value p = record p { machine = machine_with place value p.machine }
+abbrev pub parts_changed_at : Place → ℕ → Parts → Parts
+parts_changed_at place value p = record p { machine = machine_with place value p.machine }
 
 -- ---- the rows of the scope that has the place
 
@@ -35,7 +35,7 @@ rows_with name text (Err fault) = Err fault
 -- the rows of the scope are as they were, but the place's row shows the value
 abbrev pub ShowsValue : Parts → ℕ → Place → ℕ → Type 0
 ShowsValue p reference place value = (start count : ℕ)
-    → variables_of (changed place value p) reference start count
+    → variables_of (parts_changed_at place value p) reference start count
     ≡ rows_with (shown_name place) (text_at place value) (variables_of p reference start count)
 
 -- the place's row is among those that are asked for: a register's always is
@@ -46,7 +46,7 @@ IsAsked _ start count = Unit {0}
 -- where it is, there is a row of its name with the value
 abbrev pub HasRow : Parts → ℕ → Place → ℕ → Type 0
 HasRow p reference place value = (start count : ℕ) → IsAsked place start count
-    → IsOkAnd (variables_of (changed place value p) reference start count)
+    → IsOkAnd (variables_of (parts_changed_at place value p) reference start count)
     (λ rows. Contains rows (variable (shown_name place) (text_at place value)))
 
 -- ---- the other scopes
@@ -54,4 +54,5 @@ HasRow p reference place value = (start count : ℕ) → IsAsked place start cou
 -- the scope shows what it showed
 abbrev pub ShowsTheSame : Parts → ℕ → Place → ℕ → Type 0
 ShowsTheSame p reference place value = (start count : ℕ)
-    → variables_of (changed place value p) reference start count ≡ variables_of p reference start count
+    → variables_of (parts_changed_at place value p) reference start count
+    ≡ variables_of p reference start count

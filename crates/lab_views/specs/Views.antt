@@ -51,13 +51,13 @@ source_shown p path = as_text (source_at p.sources path)
 abbrev pub info_shown : Parts → Result Shown ViewFault
 info_shown p = Ok (Info p.is_attached p.is_stopped (breakpoints_of p.sources p.breakpoints))
 
-abbrev pub shown : View → Parts → Result Shown ViewFault
-shown (view.Frames start levels) p = frames_shown p start levels
-shown (view.Scopes id) p = scopes_shown p id
-shown (view.Variables reference start count) p = variables_shown p reference start count
-shown (view.Code address count) p = code_shown p address count
-shown (view.Source path) p = source_shown p path
-shown view.Info p = info_shown p
+abbrev pub view_of : View → Parts → Result Shown ViewFault
+view_of (view.Frames start levels) p = frames_shown p start levels
+view_of (view.Scopes id) p = scopes_shown p id
+view_of (view.Variables reference start count) p = variables_shown p reference start count
+view_of (view.Code address count) p = code_shown p address count
+view_of (view.Source path) p = source_shown p path
+view_of view.Info p = info_shown p
 
 -- ---- what the code answers
 

@@ -7,7 +7,7 @@ ghost use Rattle.lab_image.specs.Loads as origins;
 ghost use Rattle.lab_views.specs.Parts.{Parts as BoardParts, StandsFor, parts_with};
 ghost use Rattle.lab_views.specs.Code as code;
 ghost use Rattle.lab_views.specs.Views.{Answers, frames_shown, scopes_shown, variables_shown};
-ghost use Rattle.lab_views.specs.Views.{code_shown, source_shown, info_shown, shown};
+ghost use Rattle.lab_views.specs.Views.{code_shown, source_shown, info_shown, view_of};
 
 use crate::fault::ViewFault;
 use crate::frames::{frame_count, frames};
@@ -29,7 +29,7 @@ const MOST_LINES: u32 = 256;
 /// `Frames` and `Scopes` are refused with `NotStopped` where no run is stopped, and then `Scopes` with
 /// `BadFrame`; `Variables` is refused with `BadReference`, and `Source` with `NoSource`.
 pub fn show(alloc: Global, parts: &Parts, view: &View) -> Result<Shown, ViewFault>
-    ensures { (p : BoardParts) → StandsFor parts.now p → Answers result (shown view.now p) }
+    ensures { (p : BoardParts) → StandsFor parts.now p → Answers result (view_of view.now p) }
 {
     match view {
         View::Frames { start, levels } => show_frames(alloc, parts, *start, *levels),

@@ -263,7 +263,7 @@ impl State {
     // A program that hasn't begun begins, where the configuration is done.
     fn start(&mut self)
         ensures { (s : SessionState) (p : ProgramOf) → StandsFor self.old s → s.settings.program ≡ Some p
-            → p.phase ≡ Phase.Loaded → StandsFor self.new (launches.started p s) }
+            → p.phase ≡ Phase.Loaded → StandsFor self.new (launches.begin_if_configured p s) }
     {
         if self.settings.is_configured {
             drop(self.begin_where_loaded());

@@ -1,6 +1,6 @@
 //! Memory and code.
 ghost use Rattle.std.specs.Prelude.{◌≡◌, ◌+◌, ◌-◌, ◌≤◌, length, take, true, Some, IfOk, OnOk, OnErr};
-ghost use Rattle.dap_program.specs.Memory.{written};
+ghost use Rattle.dap_program.specs.Memory.{with_bytes_at};
 ghost use Rattle.dap_session.specs.Memory.{address_at, wrapped_at, first_line, memory_at, is_stopped};
 ghost use Rattle.dap_session.specs.Memory.{writing_from, writing};
 ghost use Rattle.dap_session.specs.Requests as requests;
@@ -156,7 +156,7 @@ impl State {
     fn write_from(&mut self, alloc: Global, start: u16, bytes: &[u8]) -> Result<(), AllocError>
         requires { start + length bytes.now ≤ 65536 }
         ensures ok { (s : SessionState) → StandsFor self.old s
-            → OnOk result (StandsFor self.new (with_board (written start bytes.now s.board) s)) }
+            → OnOk result (StandsFor self.new (with_board (with_bytes_at start bytes.now s.board) s)) }
         ensures err { (s : SessionState) → StandsFor self.old s
             → OnErr result (WritesFirst start bytes.now s self.new) }
     {

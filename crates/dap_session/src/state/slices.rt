@@ -1,6 +1,6 @@
 //! Slices of the run.
 ghost use Rattle.std.specs.Prelude.{◌≡◌};
-ghost use Rattle.dap_session.specs.Slices.{sliced, settings_after};
+ghost use Rattle.dap_session.specs.Slices.{slice_told, settings_after};
 ghost use Rattle.dap_session.specs.Stands.{Stands, Takes};
 
 use crate::state::State;
@@ -13,10 +13,10 @@ use std::alloc::{AllocError, Global};
 
 impl State {
     /// Makes a slice of the run, where it goes on.
-    #[tactic(auto, unfolding(crate::specs::Slices::sliced))]
+    #[tactic(auto, unfolding(crate::specs::Slices::slice_told))]
     pub fn run(&mut self, alloc: Global) -> Result<Sequence<Message>, AllocError>
         requires { Stands self.old }
-        ensures { Takes sliced self.old result self.new }
+        ensures { Takes slice_told self.old result self.new }
     {
         if !self.wants_slice() {
             return Ok(Sequence::new(alloc));

@@ -1,7 +1,8 @@
 //! Joining, leaving, subscribing and fetching.
 ghost use Rattle.std.specs.Prelude.{◌≡◌, ◌==◌, IfOk, codes};
 ghost use Rattle.std.specs.List.{starts_with};
-ghost use Rattle.kern_core.specs.Connections.{joined, left, subscribing, new_subscription, fetching, fetched};
+ghost use Rattle.kern_core.specs.Connections.{join_turn, leave_turn, subscribing, new_subscription};
+ghost use Rattle.kern_core.specs.Connections.{fetching, fetch_turn};
 ghost use Rattle.kern_core.specs.Connections.{status_to, first_status, is_busy, state_of};
 ghost use Rattle.kern_peers.specs.Connections.{same_channel};
 ghost use Rattle.kern_core.specs.Stands.{StandsFor, Makes, Takes, HasRoom};
@@ -32,7 +33,7 @@ fn begins_status(prefix: &[u8]) -> bool
 impl KernelState {
     pub(super) fn join(&mut self, channel: Channel, identity: &Bytes) -> Result<Reply, KernelFault>
         requires { HasRoom self.old }
-        ensures { Takes (joined channel identity.now) self.old result self.new }
+        ensures { Takes (join_turn channel identity.now) self.old result self.new }
     {
         if self.peers.has_no_place(channel, identity.as_slice()) {
             return Err(KernelFault::Full);
@@ -47,7 +48,7 @@ impl KernelState {
 
     pub(super) fn leave(&mut self, connection: u32) -> Result<Reply, KernelFault>
         requires { HasRoom self.old }
-        ensures { Takes (left connection) self.old result self.new }
+        ensures { Takes (leave_turn connection) self.old result self.new }
     {
         if self.peers.get(connection).is_none() {
             return Err(KernelFault::NoConnection);
@@ -57,7 +58,7 @@ impl KernelState {
     }
 
     pub(super) fn fetch(&self, connection: u32, from: u64) -> Result<Reply, KernelFault>
-        ensures { Makes (fetched connection from) self.now result self.now }
+        ensures { Makes (fetch_turn connection from) self.now result self.now }
     {
         match self.peers.get(connection) {
             None => Err(KernelFault::NoConnection),

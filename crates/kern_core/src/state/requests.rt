@@ -2,13 +2,13 @@
 ghost use Rattle.std.specs.Prelude.{◌≡◌, ◌<◌, ◌≤◌, ◌+◌, ◌∷◌, ◌++◌, [], length, IfOk, OnOk, OnErr};
 ghost use Rattle.std.specs.Prelude.{if◌then◌else◌, option_map};
 ghost use Rattle.kern_post.specs.declared.content.Ending.TheVariants.{Failed};
-ghost use Rattle.kern_exec.specs.Letters.{enclosed as enclosed_of};
-ghost use Rattle.kern_exec.specs.Executions.{ended};
+ghost use Rattle.kern_exec.specs.Letters.{between_busy_and_idle as enclosed_of};
+ghost use Rattle.kern_exec.specs.Executions.{clear_current};
 ghost use Rattle.kern_exec.specs.Ends.{error_letters};
 ghost use Rattle.kern_exec.specs.Kits.{IsEnclosed, end_kit_of};
 ghost use Rattle.kern_exec.specs.Boards.{is_run};
 ghost use Rattle.kern_core.specs.Requests.{reply_to, replying, full_letters, executing, cut_of, cut_letters};
-ghost use Rattle.kern_core.specs.Requests.{interrupting, shutting, typing, closing, passing, unanswered};
+ghost use Rattle.kern_core.specs.Requests.{interrupting, shutting, typing, closing, passing, ignore_request};
 ghost use Rattle.kern_core.specs.Requests.{other, arriving, with_board, cut_work};
 ghost use Rattle.lab_core.specs.Events.{reset as reset_of};
 ghost use Rattle.kern_core.specs.States.{KernelState as KernelStateOf, after, posting};
@@ -166,7 +166,7 @@ impl KernelState {
         unix_seconds: u64,
     ) -> Result<Reply, KernelFault>
         requires { HasRoom self.old }
-        ensures { Takes (unanswered request.now lacking unix_seconds) self.old result self.new }
+        ensures { Takes (ignore_request request.now lacking unix_seconds) self.old result self.new }
     {
         match lacking {
             NeedyRequest::InputReply => Ok(Reply::Arrived),
@@ -360,7 +360,7 @@ impl KernelState {
     pub(super) fn end_where(&mut self, had_run: bool)
         ensures { self.new ≡ record self.old {
           work =
-              if had_run then ended self.old.work else self.old.work;
+              if had_run then clear_current self.old.work else self.old.work;
         } }
     {
         if had_run {

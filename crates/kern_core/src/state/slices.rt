@@ -6,7 +6,7 @@ ghost use Rattle.kern_post.specs.Posts.{Keeps, posted};
 ghost use Rattle.kern_post.specs.declared.post.Post.{Post};
 ghost use Rattle.kern_exec.specs.declared.execution.Current.{Current};
 ghost use Rattle.kern_exec.specs.declared.execution.Execution.{Execution};
-ghost use Rattle.kern_exec.specs.Executions.{taken};
+ghost use Rattle.kern_exec.specs.Executions.{load_first};
 ghost use Rattle.kern_exec.specs.Ends.{loading_letters as loading_letters_of};
 ghost use Rattle.kern_exec.specs.Kits.{IsLoadingKit};
 ghost use Rattle.kern_core.specs.Slices.{letters_of as slice_letters_of, work_after, reply_of, running};
@@ -94,7 +94,7 @@ impl KernelState {
             → Keeps (posted unix_seconds (loading_letters_of self.old.connections c loading) posts) self.new.store }
         ensures rest { self.new ≡ record self.old { work = self.new.work; store = self.new.store } }
         ensures work { (x : Execution) (rest : List Execution) → self.old.work.queue ≡ x ∷ rest
-            → self.new.work ≡ taken x rest loading self.old.work }
+            → self.new.work ≡ load_first x rest loading self.old.work }
         ensures made { self.new.store.made ≤ self.old.store.made + 8 }
     {
         self.executions.take(loading);

@@ -1,7 +1,7 @@
 use Rattle.std.proofs.Common.{◌≡◌, ◌∙◌, ℕ, List, take, ap, subst, OnOk}
 use Rattle.lab_core.specs.Labs.{StandsFor}
 use Rattle.dap_points.specs.Points.{lines_at}
-use Rattle.dap_program.specs.Breakpoints.{armed}
+use Rattle.dap_program.specs.Breakpoints.{board_armed_at}
 use Rattle.dap_session.proofs.state.launches.arm_program.Goals as goal
 
 pub returns : goal.returns
@@ -11,6 +11,7 @@ returns c = λ b stands.
     let lines : c.lines_at.result.now ≡ lines_at program.launch.program points.lists =
     c.lines_at.ensures.lines ∙ ap (λ path. lines_at path points.lists) c.as_str.ensures in
     let P : List ℕ → List (List ℕ) → Type 0 =
-    λ ls names. OnOk c.arm.result (StandsFor c.arm.new.lab (armed program.launch.program ls names b)) in
+    λ ls names. OnOk c.arm.result (StandsFor c.arm.new.lab
+    (board_armed_at program.launch.program ls names b)) in
     subst (λ ls. P ls (take 256 points.functions)) lines
     (subst (λ names. P c.lines_at.result.now names) c.functions.ensures.labels (c.arm.ensures.ok b stands))

@@ -2,7 +2,7 @@ use Rattle.std.proofs.Common.{◌∙◌, List, Option, sym, ap, subst, rules}
 use Rattle.std.proofs.lemmas.Bool.{false≢true}
 use Rattle.kern_peers.specs.Connections.{Connections}
 use Rattle.kern_post.specs.declared.post.Letter.{Letter}
-use Rattle.kern_exec.specs.Letters.{enclosed}
+use Rattle.kern_exec.specs.Letters.{between_busy_and_idle}
 use Rattle.kern_core.specs.Requests.{performed_letters}
 use Rattle.kern_core.specs.Debugging.{IsDebugKit}
 use Rattle.kern_core.specs.Stands.{StandsFor}
@@ -20,7 +20,8 @@ returns c = (
       let kit = subst K stands.connections c.in_ok-kit.ensures.kit in
       let letter = c.in_ok-kit.ensures.after s stands in
       let L : Option Letter → List Letter =
-      λ after. enclosed s.connections r.header (performed_letters c.perform-result.result after n r d) in
+      λ after. between_busy_and_idle s.connections r.header
+      (performed_letters c.perform-result.result after n r d) in
       let told = c.in_ok-letters.ensures.told s.connections n r d kit ∙ ap L letter in
       performed_stands n r d c.args.unix_seconds s _ c.perform-result.new.lab c.push_all.new.self
       c.perform-result.result c.in_ok-letters.letters

@@ -2,7 +2,7 @@ use Rattle.std.proofs.Common.{◌∙◌, ℕ, List, [], ◌∷◌, codes, sym, a
 use Rattle.dap_answers.specs.declared.answer.Outcome.TheVariants.{Refused}
 use Rattle.kern_post.specs.declared.post.Letter.{Letter}
 use Rattle.kern_peers.specs.Connections.{Connections}
-use Rattle.kern_exec.specs.Letters.{enclosed}
+use Rattle.kern_exec.specs.Letters.{between_busy_and_idle}
 use Rattle.kern_core.specs.Requests.{debug_reply}
 use Rattle.kern_core.specs.Debugging.{IsDebugKit}
 use Rattle.kern_core.specs.Stands.{StandsFor}
@@ -19,7 +19,7 @@ returns c = (
       let K : Connections → Type 0 = λ w. IsDebugKit w n r d c.in_ok-kit.kit in
       let kit = subst K stands.connections c.in_ok-kit.ensures in
       let L : List ℕ → List Letter =
-      λ text. enclosed s.connections r.header (debug_reply n r d (Refused text) ∷ []) in
+      λ text. between_busy_and_idle s.connections r.header (debug_reply n r d (Refused text) ∷ []) in
       let told = c.debug_letters-letters.ensures s.connections n r d kit ∙ ap L c.in_ok-message.ensures in
       refused_stands n r d c.args.unix_seconds s _ c.push_all.new.self (codes "Arguments")
       c.debug_letters-letters.result viewed told (c.push_all.ensures.keeps s.posts viewed.posts),

@@ -6,7 +6,7 @@ use Rattle.dap_talk.specs.Table.{spelling_of}
 use Rattle.kern_post.specs.declared.post.Letter.{Letter}
 use Rattle.kern_post.specs.declared.content.Cause.TheVariants as cause
 use Rattle.kern_post.specs.declared.content.Content.TheVariants as content
-use Rattle.kern_exec.specs.Letters.{enclosed}
+use Rattle.kern_exec.specs.Letters.{between_busy_and_idle}
 use Rattle.kern_core.specs.declared.call.Reply.TheVariants.{Arrived}
 use Rattle.kern_core.specs.States.{Turn, after, posting}
 use Rattle.kern_core.specs.Requests.{reply_to, cut_letters, cut_work, with_board}
@@ -24,7 +24,7 @@ returns c = (
       let named : c.in_ok-command.command ≡ spelling_of c.name.result =
       c.in_ok-command.ensures ∙ c.as_str.ensures in
       let told : List ℕ → List Letter =
-      λ text. enclosed s.connections r.header (cut_letters cause.Reset s
+      λ text. between_busy_and_idle s.connections r.header (cut_letters cause.Reset s
       ++ reply_to n r (content.DebugReply (record {
         request_seq = d.seq;
         command = text;

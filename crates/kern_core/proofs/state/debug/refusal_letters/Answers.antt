@@ -1,10 +1,11 @@
 use Rattle.std.proofs.Common.{◌∙◌, [], ◌∷◌, ap}
 use Rattle.dap_answers.specs.declared.answer.Outcome.{Outcome}
-use Rattle.kern_exec.specs.Letters.{enclosed}
+use Rattle.kern_exec.specs.Letters.{between_busy_and_idle}
 use Rattle.kern_core.specs.Requests.{debug_reply}
 use Rattle.kern_core.proofs.state.debug.refusal_letters.Goals as goal
 
 pub returns-in-Ok-clause-told : goal.returns-in-Ok-clause-told
 returns-in-Ok-clause-told c = λ connections n r d kit.
     c.debug_letters.ensures connections n r d kit
-    ∙ ap (λ (o : Outcome). enclosed connections r.header (debug_reply n r d o ∷ [])) c.in-Ok.ensures
+    ∙ ap (λ (o : Outcome). between_busy_and_idle connections r.header
+    (debug_reply n r d o ∷ [])) c.in-Ok.ensures
