@@ -4,7 +4,7 @@ pub mod Readings
 pub mod Spans
 pub mod Scan
 pub mod Spelled
-pub mod Strings
+pub mod StringLemmas
 pub mod Climbs
 pub mod Meaning
 pub mod Operands

@@ -26,7 +26,7 @@ use Rattle.asm_lex.proofs.Spans.{First, first_of, differs}
 use Rattle.asm_lex.proofs.Scan.{with_front, rest_at}
 use Rattle.asm_lex.proofs.Spelled.{good, digits_read, text_first, not_digit, not_blank, or_false}
 use Rattle.asm_lex.proofs.Spelled.{spelled_reads, tail_reads}
-use Rattle.asm_lex.proofs.Strings.{AtQuote, string, none, at_quote, string_is_read}
+use Rattle.asm_lex.proofs.StringLemmas.{AtQuote, string, none, at_quote, string_is_read}
 
 -- ---- what is spelled is read
 

@@ -15,7 +15,7 @@ use Rattle.asm_lex.specs.Spelling.{IsWord, IsDigits, with_quotes_doubled, IsStri
 use Rattle.asm_lex.specs.Spelling.{SpellsUpTo, IsTail}
 use Rattle.asm_lex.proofs.Spans.{span_is, drop_front, differs}
 use Rattle.asm_lex.proofs.Scan.{with_front, skips, rest_at}
-use Rattle.asm_lex.proofs.Strings.{string_is_read}
+use Rattle.asm_lex.proofs.StringLemmas.{string_is_read}
 
 -- ---- the token at the front, by its first character
 
