@@ -7,7 +7,7 @@ use crate::fault::TurnFault;
 use crate::journaled::Journaled;
 use crate::rule::{Draw, Look, PassOn, ReadTickets, SERVING, TICKETS, Token, TurnTable, VALUE};
 use crossbeam_utils::Backoff;
-use std::sync::Wait;
+use std::sync::{MutexGuard, Wait};
 
 // Draws a ticket. None: none is left, which the token then shows.
 fn draw<J: Journaled, R: Wait>(rt: &R, table: &TurnTable<J>, token: &mut Token<J>) -> Option<u64>
@@ -52,9 +52,11 @@ fn wait_for<J: Journaled, R: Wait>(rt: &R, table: &TurnTable<J>, token: &mut Tok
     unreachable!()
 }
 
-// One turn: a ticket, the value taken out, one call, the value put back, and the turn passed on.
+// One turn: a ticket, the value taken out, one call, the value put back, and the turn passed on. The door
+// is held meanwhile, so that nobody else spins for a ticket.
 pub fn take_turn<J: Journaled, R: Wait>(
     rt: &R,
+    _inside: &MutexGuard<'_, ()>,
     table: &TurnTable<J>,
     seat: u32,
     token: &mut Token<J>,

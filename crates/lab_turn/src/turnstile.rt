@@ -222,9 +222,14 @@ impl<J: Journaled> Turnstile<J> {
         ensures worn { OnErr result (pass.new ≡ record pass.old { worn = true }) }
     {
         let inside = self.door.lock(rt);
-        let reply = take_turn(rt, &self.table.shared, pass.seat, &mut pass.token, call);
-        drop(inside);
-        reply
+        take_turn(
+            rt,
+            &inside,
+            &self.table.shared,
+            pass.seat,
+            &mut pass.token,
+            call,
+        )
     }
 
     /// Closes the turnstile with all its passes, in any order, and gives the value back. It needs
