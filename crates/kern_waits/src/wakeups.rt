@@ -1,4 +1,7 @@
 //! What the threads of a server use to wake one another.
+ghost use Rattle.std.specs.Prelude.{◌≡◌, ◌≢◌, ◌↔◌, IsTrue, true, false};
+ghost use Rattle.kern_waits.specs.Known.{posts_since, posts_of, IsFirstDoubt};
+
 use crate::event_count::EventCount;
 use crate::stopwatch::Stopwatch;
 use jup_wire::channel::Channel;
@@ -43,7 +46,14 @@ struct KnownPosts {
 impl KnownPosts {
     // Notes the number of the next post after so many requests, and returns whether a running cell may have
     // posted something. A request makes three posts; if fewer came twice in a row, some requests made fewer.
-    fn has_more(&mut self, next: u64, requests: u64) -> bool {
+    fn has_more(&mut self, next: u64, requests: u64) -> bool
+        ensures doubt { IsFirstDoubt self.old next requests
+            → (result ≡ false) × (self.new ≡ record self.old { is_in_doubt = true }) }
+        ensures known { (IsFirstDoubt self.old next requests → ⊥)
+            → self.new ≡ record { next = next; requests = requests; is_in_doubt = false } }
+        ensures more { (IsFirstDoubt self.old next requests → ⊥)
+            → (IsTrue result ↔ (posts_since self.old next ≢ posts_of self.old requests)) }
+    {
         let posts = next.saturating_sub(self.next);
         let expected = requests
             .saturating_sub(self.requests)
