@@ -328,7 +328,10 @@ class Threads(unittest.TestCase):
         """It ends, and doesn't wait for what nobody reads: the thread has eight million bytes for its stack."""
         words = ["sh", "-c", 'ulimit -v 8000; exec "$0"', debugger()]
         with subprocess.Popen(words, stdin=subprocess.PIPE, stdout=subprocess.PIPE, stderr=subprocess.PIPE) as done:
-            self.assertEqual(done.wait(5), 3)
+            try:
+                self.assertEqual(done.wait(5), 3)
+            finally:
+                done.kill()
 
 
 class Clients(Session):

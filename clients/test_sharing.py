@@ -266,7 +266,8 @@ class Strangers(unittest.TestCase):
                     peer.stream.shutdown(1)
                     peer.is_ended(PATIENCE)
 
-        threads = [threading.Thread(target=come, daemon=True) for _ in range(8)]
+        # As many as are served at the same time: on their own channel the last of them waits 0.8 seconds for its turn.
+        threads = [threading.Thread(target=come, daemon=True) for _ in range(PLACES)]
         for thread in threads:
             thread.start()
         time.sleep(1)
