@@ -1,14 +1,15 @@
-"""A cell runs in bursts: the time that the kernel's processor takes for a routine that runs freely, beside the same one while a step
-over it is wanting, when each instruction is looked at."""
+"""A cell runs in bursts: the time that the kernel's processor takes for a routine that runs freely or is stepped over, beside the same
+instructions as bytes on one line, which a step leaves while each of them is looked at."""
 import os
 import unittest
 
 from lab80_client import Lab, processes
 
-# Two calls of a routine of some 65 million instructions, a fifth of them NOP.
+# Two calls of a routine of some 65 million instructions, a fifth of them NOP, and between them and HLT its bytes at 0006H, but RET.
 CELL = """\
 MAIN:   CALL WORK
         CALL WORK
+        DB 11H,200,0,1,0,0,0,0BH,78H,0B1H,0C2H,0CH,0,1BH,7AH,0B3H,0C2H,9,0
         HLT
 WORK:   LXI D,200
 OUTER:  LXI B,0
@@ -25,8 +26,9 @@ INNER:  NOP
         END MAIN
 """
 
-# It is some seven and a half times as fast; if bursts took twice as long, it would be less than four.
+# It is some seven and a half times as fast; if bursts took twice as long, it would be less than four. Stepped over it runs in bursts too.
 AT_LEAST = 5
+AT_MOST = 2
 
 
 class Bursts(Lab):
@@ -56,8 +58,10 @@ class Bursts(Lab):
         number = self.client.execute(CELL)
         while self.event()[0] != "stopped":
             pass
-        stepped, free = self.time_of("next"), self.time_of("continue")
-        self.assertGreater(stepped, AT_LEAST * free, f"{stepped:.2f} seconds by a step, {free:.2f} freely")
+        over, free, line = self.time_of("next"), self.time_of("continue"), self.time_of("next")
+        times = f"{over:.2f} seconds stepped over, {free:.2f} freely, {line:.2f} on one line"
+        self.assertGreater(line, AT_LEAST * free, times)
+        self.assertLess(over, AT_MOST * free, times)
         self.debug("continue", {"threadId": 1})
         self.assertEqual(self.reply(number)["content"]["status"], "ok")
 

@@ -105,7 +105,7 @@ pub fn workload_named(name: &str) -> Option<Workload> {
         }),
         "calls" => Some(Workload {
             text: CALLS,
-            last_line: 30,
+            last_line: 29,
         }),
         "jump" => Some(Workload {
             text: JUMP,

@@ -1,6 +1,6 @@
 -- Steps made in several parts.
-use Rattle.std.proofs.Common.{◌≡◌, ℕ, zero, suc, ◌+◌, ◌-◌, ◌<◌, List, [], ◌++◌, Option, Some, None}
-use Rattle.std.proofs.Common.{refl, sym, ap, ◌∙◌, subst, append_assoc, append-nil, arith, inl, inr}
+use Rattle.std.proofs.Common.{◌≡◌, ℕ, zero, suc, ◌+◌, ◌-◌, ◌<◌, ◌≤◌, List, [], ◌++◌, Option, Some, None, Bool}
+use Rattle.std.proofs.Common.{refl, sym, ap, ◌∙◌, subst, append_assoc, append-nil, arith, inl, inr, true, false}
 use Rattle.std.proofs.lemmas.Bool.{cases_lt}
 use Rattle.std.specs.Option.{option_or, IfSome}
 use Rattle.i80_exec.specs.declared.ports.PortOperation.{PortOperation}
@@ -11,7 +11,8 @@ use Rattle.lab_core.specs.declared.lab.Context.{Context}
 use Rattle.lab_core.specs.Board.{Board, next_change, stepped}
 use Rattle.lab_core.specs.Slices.{after_steps, traffic_of, reason, reason_apart, early_reason, waiting}
 use Rattle.lab_core.specs.Slices.{undefined}
-use Rattle.lab_core.specs.Labs.{LabState, StandsAmid, Makes, AdvancesIn, FindsIn, KeepsIn, amid}
+use Rattle.lab_core.specs.Labs.{LabState, StandsAmid, Makes, MakesAtMost, AdvancesIn, FindsIn, KeepsIn, amid}
+use Rattle.lab_core.specs.Labs.{KeepsAsked, Watches}
 use Rattle.lab_core.proofs.QuietLemmas.{or_or}
 
 pub after_more : (j k : ℕ) (b : Board) → after_steps (j + k) b ≡ after_steps j (after_steps k b)
@@ -128,3 +129,32 @@ makes_on k made found b lab earlier m =
       ]);
       found_is = subst F (sym (after_more made k b)) m.found_is;
     })
+
+-- what one step makes, of as many or more at most
+pub makes_within : {result : ℕ × Option SliceOutcome} {old new : MachineState × Context} (most : ℕ) → 1 ≤ most
+    → MakesAtMost 1 result old new → MakesAtMost most result old new
+makes_within most some m =
+    let few = m.few in
+    record {
+      makes = m.makes;
+      few = omega arith;
+      some = λ is. (let less = m.some is in omega arith);
+      progress = λ one none. m.progress (omega arith) none;
+      room = m.room;
+      kept = m.kept;
+    }
+
+-- ---- what a debugger asked of the run
+
+pub kept_on : {old between new : Context} → KeepsAsked old between → KeepsAsked between new
+    → KeepsAsked old new
+kept_on first second = record {
+  attached = second.attached ∙ first.attached;
+  breakpoints = second.breakpoints ∙ first.breakpoints;
+  request = second.request ∙ first.request;
+}
+
+pub watches_kept : {old new : Context} (is_watched : Bool) → KeepsAsked old new
+    → Watches is_watched old.is_attached old.request → Watches is_watched new.is_attached new.request
+watches_kept true kept watches = tt
+watches_kept false kept watches = (kept.attached ∙ watches.0, kept.request ∙ watches.1)

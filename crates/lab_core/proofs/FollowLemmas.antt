@@ -1,13 +1,13 @@
 -- What a step of a burst that wasn't quiet makes of a lab, by what it owes.
-use Rattle.std.proofs.Common.{◌≡◌, ℕ, ◌<◌, List, ◌++◌, Bool, true, false, Option, Some, None, sym, ap, ◌∙◌, subst}
+use Rattle.std.proofs.Common.{◌≡◌, ℕ, List, ◌++◌, true, false, Some, None, sym, ap, ◌∙◌, subst}
 use Rattle.std.specs.Option.{IsSome}
 use Rattle.i80_exec.specs.declared.registers.Stepped.{Stepped}
 use Rattle.i80_exec.specs.declared.ports.PortOperation.{PortOperation}
 use Rattle.i80_exec.specs.State.{MachineState}
 use Rattle.i80_exec.specs.declared.registers.Kind.{Kind}
-use Rattle.i80_exec.specs.Step.{operation_list, is_halt, answer_of, Settles}
+use Rattle.i80_exec.specs.Step.{operation_list, answer_of, Settles}
 use Rattle.i80_devs.specs.Past.{DeviceState}
-use Rattle.lab_frames.specs.Frames.{TellsSp, AtLeast}
+use Rattle.lab_frames.specs.Frames.{TellsSp}
 use Rattle.lab_frames.specs.Steps.{IsBoardStep}
 use Rattle.lab_core.specs.declared.lab.Context.{Context}
 use Rattle.lab_core.specs.declared.lab.burst.BurstStep.{BurstStep}
@@ -46,54 +46,54 @@ module _ (lab : LabState) (b : Board) (traffic : List PortOperation) (machine ma
       (stands_undefined (amid lab machine old) b traffic machine' devices none.opcode s step)
 
   made_advances : (site : ℕ) (new : Context) → site ≡ machine.regs.pc
-      → TellsSp answer machine.regs.sp machine'.regs.sp → old.has_moved ≡ true → old.request ≡ None
+      → TellsSp answer machine.regs.sp machine'.regs.sp → old.has_moved ≡ true
       → IsMade answer site machine'.regs.sp (record old { devices = devices }) new
       → StandsAmid (amid lab machine' new) (stepped b) (traffic ++ operation_list (next_change b).operation)
-  made_advances site new is tells has_moved unasked made =
+  made_advances site new is tells has_moved made =
       let S : Context → Type 0 = λ c. StandsAmid (amid lab machine' c) (stepped b)
       (traffic ++ operation_list (next_change b).operation) in
       subst S (sym made.rest)
-      (stands_followed (amid lab machine old) b traffic machine' devices new.frames answer made.left s did tells
-      has_moved unasked (rw is at made.frames) made.oldest)
+      (stands_followed (amid lab machine old) b traffic machine' devices new.frames new.older new.is_gone answer
+      made.left s did tells has_moved (rw is at made.frames) made.oldest made.older made.gone)
 
   pub advances_owed : (site : ℕ) (new : Context) (result : BurstStep) → site ≡ machine.regs.pc
-      → TellsSp answer machine.regs.sp machine'.regs.sp → old.has_moved ≡ true → old.request ≡ None
+      → TellsSp answer machine.regs.sp machine'.regs.sp → old.has_moved ≡ true
       → Owed answer site machine'.regs.sp (record old { devices = devices }) new result
       → ending_of result ≡ None
       → StandsAmid (amid lab machine' new) (stepped b) (traffic ++ operation_list (next_change b).operation)
-  advances_owed site new (Within reach) is tells has_moved unasked made none =
-      made_advances site new is tells has_moved unasked made
-  advances_owed site new Last is tells has_moved unasked made none =
-      made_advances site new is tells has_moved unasked made
-  advances_owed site new (Ended outcome) is tells has_moved unasked made none = cc
+  advances_owed site new (Within reach) is tells has_moved made none =
+      made_advances site new is tells has_moved made
+  advances_owed site new Last is tells has_moved made none =
+      made_advances site new is tells has_moved made
+  advances_owed site new (Ended outcome) is tells has_moved made none = cc
 
 made_in_burst : (kind : Kind) (machine machine' : MachineState) (old new : Context) (devices : DeviceState)
     (site was reach : ℕ) → IsInBurst was machine old → devices.panel.latched ≡ None
     → Settles kind machine machine'
     → IsMade (answer_of kind machine') site machine'.regs.sp (record old { devices = devices }) new
-    → GoesOn kind × (machine'.regs.sp < reach) × ((sp : ℕ) → sp < reach → AtLeast sp new.frames)
-    → IsInBurst reach machine' new
+    → GoesOn kind machine'.regs.sp reach new → IsInBurst reach machine' new
 made_in_burst kind machine machine' old new devices site was reach ready unlatched settles made on =
-    let B : Context → Type 0 = λ c. IsInBurst reach machine' c in
-    subst B (sym made.rest) (record {
+    let H : Context → Type 0 = λ c. c.is_halted ≡ false in
+    let M : Context → Type 0 = λ c. c.has_moved ≡ true in
+    let L : Context → Type 0 = λ c. c.devices.panel.latched ≡ None in
+    record {
       calm = record {
-        goes_on = no_halt kind machine' on.0;
-        has_moved = ready.calm.has_moved;
-        unasked = ready.calm.unasked;
-        unlatched = unlatched;
+        goes_on = subst H (sym made.rest) (no_halt kind machine' on.not_last);
+        has_moved = subst M (sym made.rest) ready.calm.has_moved;
+        undone = on.undone;
+        unlatched = subst L (sym made.rest) unlatched;
       };
-      settled = no_arming kind machine machine' on.0 settles;
-      within = on.1;
-      above = on.2;
-    })
+      settled = no_arming kind machine machine' on.not_last settles;
+      within = on.within;
+      above = on.above;
+    }
 
 -- the burst goes on where it answers so
 pub owed_in_burst : (kind : Kind) (machine machine' : MachineState) (old new : Context) (devices : DeviceState)
     (site was reach : ℕ) (result : BurstStep) → IsInBurst was machine old → devices.panel.latched ≡ None
     → Settles kind machine machine'
     → Owed (answer_of kind machine') site machine'.regs.sp (record old { devices = devices }) new result
-    → ((now : ℕ) → result ≡ Within now
-    → GoesOn kind × (machine'.regs.sp < now) × ((sp : ℕ) → sp < now → AtLeast sp new.frames))
+    → ((now : ℕ) → result ≡ Within now → GoesOn kind machine'.regs.sp now new)
     → result ≡ Within reach → IsInBurst reach machine' new
 owed_in_burst kind machine machine' old new devices site was reach (Within now) ready unlatched settles made on
     is =

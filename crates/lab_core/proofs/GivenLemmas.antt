@@ -46,7 +46,7 @@ at_most_one : (o : Option PortOperation) → length (operation_list o) ≤ 1
 at_most_one None = omega arith
 at_most_one (Some p) = omega arith
 
-traffic_within : (k : ℕ) (b : Board) → length (traffic_of k b) ≤ k
+pub traffic_within : (k : ℕ) (b : Board) → length (traffic_of k b) ≤ k
 traffic_within zero b = omega arith
 traffic_within (suc k) b =
     let so_far = traffic_within k b in

@@ -8,3 +8,5 @@ pub mod GivenLemmas
 pub mod BurstLemmas
 pub mod FollowLemmas
 pub mod MomentLemmas
+pub mod MarkLemmas
+pub mod ChangeLemmas

@@ -1,19 +1,19 @@
 -- Which board a lab stands for after it was put back.
-use Rattle.std.proofs.Common.{◌≡◌, ◌≤◌, List, [], true, false, Some, None, length, refl, ap, sym, ◌∙◌, rules, arith}
+use Rattle.std.proofs.Common.{◌≡◌, ◌≤◌, List, [], true, false, None, length, ap, sym, ◌∙◌}
+use Rattle.std.proofs.Common.{rules, arith}
 use Rattle.std.proofs.lemmas.List.{drop_all}
 use Rattle.i80_exec.specs.State.{MachineState}
 use Rattle.i80_devs.specs.Past as devices
 use Rattle.lab_frames.specs.declared.frame.Frame.{Frame}
-use Rattle.lab_frames.specs.Live.{Entry}
 use Rattle.lab_core.specs.declared.run_state.RunState.TheVariants.{Running, Stopped}
 use Rattle.lab_core.specs.Board.{Board}
 use Rattle.lab_core.specs.Stops.{since, has_step}
 use Rattle.lab_core.specs.Labs.{LabState, StandsFor}
 use Rattle.lab_core.specs.Moments.{MomentState, IsMomentOf, put_back, held}
 
-pub stands_put_back : (old : LabState) (then now : Board) (m : MomentState) (machine : MachineState)
+pub stands_put_back : (old : LabState) (was now : Board) (m : MomentState) (machine : MachineState)
     (panel : devices.DeviceState) (frames : List Frame)
-    → IsMomentOf m then → StandsFor old now
+    → IsMomentOf m was → StandsFor old now
     → machine ≡ m.machine → panel ≡ record { panel = m.devices.panel; operations = []; spare = 0 }
     → frames ≡ m.frames
     → StandsFor (record old {
@@ -26,16 +26,16 @@ pub stands_put_back : (old : LabState) (then now : Board) (m : MomentState) (mac
       has_moved = false;
       request = None;
       run = Running;
-    }) (put_back then now)
-stands_put_back old then now m machine panel frames i s machine-is panel-is frames-are =
+    }) (put_back was now)
+stands_put_back old was now m machine panel frames i s machine-is panel-is frames-are =
     let machine' = machine-is ∙ i.machine in
     let panel' = ap (λ (d : devices.DeviceState). d.panel) panel-is ∙ i.devices in
     let none = ap (λ (d : devices.DeviceState). d.operations) panel-is in
     let frames' = frames-are ∙ i.frames in
     let halted = i.is_halted in
-    let moved : false ≡ has_step (since (put_back then now)) =
-    sym (ap has_step (drop_all (length then.trace) then.trace (omega arith))) in
-    let within : length then.trace ≤ length then.trace = omega arith in
+    let moved : false ≡ has_step (since (put_back was now)) =
+    sym (ap has_step (drop_all (length was.trace) was.trace (omega arith))) in
+    let within : length was.trace ≤ length was.trace = omega arith in
     search rules
 
 pub stands_held : (old : LabState) (b : Board) → StandsFor old b
@@ -47,6 +47,7 @@ pub stands_held : (old : LabState) (b : Board) → StandsFor old b
       run = Stopped;
     }) (held b)
 stands_held old b s =
-    let moved : false ≡ has_step (since (held b)) = sym (ap has_step (drop_all (length b.trace) b.trace (omega arith))) in
+    let moved : false ≡ has_step (since (held b)) =
+    sym (ap has_step (drop_all (length b.trace) b.trace (omega arith))) in
     let within : length b.trace ≤ length b.trace = omega arith in
     search rules

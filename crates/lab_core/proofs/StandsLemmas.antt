@@ -95,7 +95,7 @@ longer b within = record {
 }
 
 -- the live frames are those of the steps before that those since leave, and those that these make
-parts-live : (b : Board) → live b.trace ≡ filter (stays (since b)) (live (earlier b)) ++ live (since b)
+pub parts-live : (b : Board) → live b.trace ≡ filter (stays (since b)) (live (earlier b)) ++ live (since b)
 parts-live b =
     ap live (sym (take-append-drop (unwrap_or b.resumed 0) b.trace)) ∙ live-append (earlier b) (since b)
 
@@ -283,7 +283,7 @@ over_done frames older frame gone b frames-are f =
 
 -- ---- a change by hand
 
-step-none : (entries : List Entry) (m m' : MachineState)
+pub step-none : (entries : List Entry) (m m' : MachineState)
     → has_step (entries ++ Poke m m' ∷ []) ≡ has_step entries
 step-none [] m m' = refl
 step-none (Step s ∷ entries) m m' = refl

@@ -1,6 +1,6 @@
 -- Which boards a lab stands for.
-use Rattle.std.specs.Prelude.{◌≡◌, ◌≢◌, ◌<◌, ◌≤◌, ℕ, List, [], ◌++◌, length, Bool, true, false, Option, Some}
-use Rattle.std.specs.Prelude.{None, IsSome, is_some, unwrap_or, Result, Ok, Err, ◌⊎◌}
+use Rattle.std.specs.Prelude.{◌≡◌, ◌≢◌, ◌<◌, ◌≤◌, ◌+◌, ◌==◌, ℕ, List, [], ◌++◌, length, min, Bool, true}
+use Rattle.std.specs.Prelude.{false, Option, Some, None, IsSome, is_some, unwrap_or, Result, Ok, Err, ◌⊎◌}
 use Rattle.std.specs.List.{filter}
 use Rattle.std.specs.Option.{IfSome}
 use Rattle.i80_exec.specs.State.{MachineState}
@@ -18,20 +18,22 @@ use Rattle.lab_frames.specs.Frames.{AtLeast, LeavesOldest}
 use Rattle.lab_frames.specs.Frames as frames
 use Rattle.lab_image.specs.Loads as origins
 use Rattle.lab_image.specs.declared.spans.Span.{Span}
-use Rattle.lab_image.specs.Breakpoints.{BreakpointState}
+use Rattle.lab_image.specs.Breakpoints.{BreakpointState, CanBeMet}
 use Rattle.lab_image.specs.Breakpoints as breakpoints
 use Rattle.lab_core.specs.declared.lab.Context.{Context}
 use Rattle.lab_core.specs.declared.run_state.RunState.{RunState}
 use Rattle.lab_core.specs.declared.run_state.RunState.TheVariants.{Stopped}
 use Rattle.lab_core.specs.declared.event.StepRequest.{StepRequest}
+use Rattle.lab_core.specs.declared.event.StepKind.{StepKind}
+use Rattle.lab_core.specs.declared.event.StepKind.TheVariants.{In, Over, Out}
 use Rattle.lab_image.specs.declared.sources.Source.{Source}
 use Rattle.lab_core.specs.declared.event.Event.{Event}
 use Rattle.lab_core.specs.declared.answer.Answer.{Answer}
 use Rattle.lab_core.specs.declared.fault.EventFault.{EventFault}
 use Rattle.lab_core.specs.declared.fault.EventFault.TheVariants.{OutOfMemory}
 use Rattle.lab_core.specs.Board.{Board, next_change, stepped}
-use Rattle.lab_core.specs.Stops.{since, earlier, has_step, innermost, is_gone}
-use Rattle.lab_core.specs.Slices.{ends_in_halt, reason, after_steps, traffic_of}
+use Rattle.lab_core.specs.Stops.{since, earlier, has_step, innermost, is_gone, is_gone_after}
+use Rattle.lab_core.specs.Slices.{ends_in_halt, reason, reason_apart, after_steps, traffic_of}
 use Rattle.lab_core.specs.declared.answer.SliceOutcome.{SliceOutcome}
 use Rattle.lab_core.specs.declared.answer.SliceOutcome.TheVariants as outcomes
 use Rattle.lab_core.specs.declared.answer.End.TheVariants as ends
@@ -142,15 +144,38 @@ KeepsIn machine context machine' context' =
 abbrev pub FindsIn : {A : Type 0} → (Board → A) → A → MachineState → Context → Type 0
 FindsIn f found machine context = (lab : LabState) → Finds f found (amid lab machine context)
 
+-- what a debugger asked of the run, which steps keep
+pub record KeepsAsked (old new : Context) : Type 0 where
+  pub attached : new.is_attached ≡ old.is_attached
+  pub breakpoints : new.breakpoints ≡ old.breakpoints
+  pub request : new.request ≡ old.request
+
 -- ---- bursts
 
+-- Whether a Step of this kind is done: Over where no frame is live but those that are left of the older ones,
+-- Out where the frame is gone that was innermost.
+abbrev pub is_done_in : StepKind → Context → Bool
+is_done_in In context = true
+is_done_in Over context = length context.frames == context.older
+is_done_in Out context = context.is_gone
+
+-- whether a Step is wanting that is done
+abbrev pub is_step_done : Option StepRequest → Context → Bool
+is_step_done None context = false
+is_step_done (Some request) context = is_done_in request.kind context
+
 -- Nothing can come but a breakpoint or an undefined opcode: the last step wasn't HLT, one was made since
--- the last Resume or Step, no Step is wanting, and no request is latched.
+-- the last Resume or Step, no Step is done that is wanting, and no request is latched.
 pub record IsCalm (context : Context) : Type 0 where
   pub goes_on : context.is_halted ≡ false
   pub has_moved : context.has_moved ≡ true
-  pub unasked : context.request ≡ None
+  pub undone : is_step_done context.request context ≡ false
   pub unlatched : context.devices.panel.latched ≡ None
+
+-- A breakpoint is looked for after each step, where a debugger is attached; or none can be met.
+abbrev pub LooksUp : Bool → Context → Type 0
+LooksUp true context = context.is_attached ≡ true
+LooksUp false context = (context.is_attached ≡ false) ⊎ CanBeMet false context.breakpoints
 
 -- It is calm, EI wasn't the last instruction, and SP is within the reach of the live frames: a step that
 -- answers Done and leaves SP there is quiet, and changes nothing but machine and devices.
@@ -166,17 +191,33 @@ ending_of (Within reach) = None
 ending_of Last = None
 ending_of (Ended outcome) = Some outcome
 
--- no burst ends with such a step: it was neither EI nor HLT
-abbrev pub GoesOn : Kind → Type 0
-GoesOn kind = (kind ≡ Armed) ⊎ (kind ≡ Halted) → ⊥
+-- a step of this kind is EI or HLT
+abbrev pub IsLast : Kind → Type 0
+IsLast kind = (kind ≡ Armed) ⊎ (kind ≡ Halted)
 
--- A step that answered so, with PC at `site` before it and SP at `sp` after it, was made, and the context has its frames.
+-- A burst goes on after a step of this kind that left SP there: it was neither EI nor HLT, no Step is done
+-- that is wanting, and SP is within the reach of the live frames.
+pub record GoesOn (kind : Kind) (sp reach : ℕ) (context : Context) : Type 0 where
+  pub not_last : IsLast kind → ⊥
+  pub undone : is_step_done context.request context ≡ false
+  pub within : sp < reach
+  pub above : (low : ℕ) → low < reach → AtLeast low context.frames
+
+-- A step that answered so, with PC at `site` before it and SP at `sp` after it, was made. The context has its
+-- frames, and what a Step follows.
 pub record IsMade (answer : Stepped) (site sp : ℕ) (old new : Context) : Type 0 where
   pub defined : (opcode : ℕ) → answer ≡ Undefined opcode → ⊥
   pub frames : frames.Advances answer site sp old.frames new.frames
   pub left : ℕ
   pub oldest : LeavesOldest answer sp old.frames left
-  pub rest : new ≡ record old { frames = new.frames; is_halted = is_halt answer }
+  pub older : IsSome old.request → new.older ≡ min old.older left
+  pub gone : IsSome old.request → new.is_gone ≡ is_gone_after old.is_gone old.innermost answer sp
+  pub rest : new ≡ record old {
+    frames = new.frames;
+    is_halted = is_halt answer;
+    older = new.older;
+    is_gone = new.is_gone;
+  }
 
 -- None was made, for the opcode at `site` is undefined.
 pub record IsNotMade (answer : Stepped) (site : ℕ) (outcome : SliceOutcome) (old new : Context) : Type 0 where
@@ -205,6 +246,27 @@ MakesIn made found machine context machine' context' =
     (lab : LabState) (b : Board) (traffic : List PortOperation)
     → StandsAmid (amid lab machine context) b traffic
     → Makes made found b traffic (amid lab machine' context')
+
+-- A burst of at most so many steps may begin, and this says whether a Step is wanting: there is room for the
+-- port operations of these steps, and no reason stands.
+pub record BurstMayBegin (most reach : ℕ) (is_asked : Bool) (machine : MachineState) (context : Context)
+    : Type 0 where
+  pub room : most ≤ context.devices.spare
+  pub ready : IsInBurst reach machine context
+  pub free : FindsIn reason_apart None machine context
+  pub asked : is_some context.request ≡ is_asked
+
+-- What at most so many steps make of a machine and its context, where so many are made and this is found
+-- after them: one at least where nothing is found, and all only then. Each takes the room of one port
+-- operation at most.
+pub record MakesAtMost (most : ℕ) (result : ℕ × Option SliceOutcome) (old new : MachineState × Context)
+    : Type 0 where
+  pub makes : MakesIn result.0 result.1 old.0 old.1 new.0 new.1
+  pub few : result.0 ≤ most
+  pub some : IsSome result.1 → result.0 < most
+  pub progress : 1 ≤ most → result.1 ≡ None → 1 ≤ result.0
+  pub room : result.1 ≡ None → old.1.devices.spare ≤ new.1.devices.spare + result.0
+  pub kept : KeepsAsked old.1 new.1
 
 -- ---- events
 

@@ -8,3 +8,5 @@ pub mod SliceEnds
 pub mod Labs
 pub mod Memory
 pub mod Moments
+pub mod Marks
+pub mod Changes

@@ -2,9 +2,11 @@
 ghost use Rattle.std.specs.Prelude.{◌≡◌, [], IfOk};
 
 mod burst;
+mod changes;
 mod debug;
 mod events;
 mod load;
+mod marks;
 pub mod moments;
 mod poke;
 mod slice;

@@ -1,5 +1,5 @@
 -- A set of addresses, as a truth value for each.
-use Rattle.std.specs.Prelude.{◌≡◌, ℕ, List, Bool, false, slice_index_or}
+use Rattle.std.specs.Prelude.{◌≡◌, ℕ, List, Bool, true, false, slice_index_or}
 
 abbrev pub has : List Bool → ℕ → Bool
 has members address = slice_index_or members address false
@@ -7,3 +7,8 @@ has members address = slice_index_or members address false
 -- none is in it
 abbrev pub IsEmpty : List Bool → Type 0
 IsEmpty members = (address : ℕ) → has members address ≡ false
+
+-- whether it is empty, or has an address
+abbrev pub TellsEmpty : Bool → List Bool → Type 0
+TellsEmpty true members = IsEmpty members
+TellsEmpty false members = (address : ℕ) × (has members address ≡ true)

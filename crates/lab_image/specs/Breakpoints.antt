@@ -1,6 +1,6 @@
 -- Breakpoints: lines of sources, and the addresses at which they are met.
-use Rattle.std.specs.Prelude.{◌≡◌, ℕ, ◌<◌, List, [], ◌∷◌, ◌++◌, Bool, false, ◌&&◌, ◌==◌, Option, Some, None}
-use Rattle.std.specs.Prelude.{if◌then◌else◌}
+use Rattle.std.specs.Prelude.{◌≡◌, ℕ, ◌<◌, List, [], ◌∷◌, ◌++◌, Bool, true, false, ◌&&◌, ◌==◌, Option, Some}
+use Rattle.std.specs.Prelude.{None, if◌then◌else◌}
 use Rattle.std.specs.List.{list_any}
 use Rattle.lab_image.specs.declared.mapped.MappedAddress.{MappedAddress}
 use Rattle.lab_image.specs.declared.origin.Origin.{Origin}
@@ -46,6 +46,11 @@ pub record BreakpointState : Type 0 where
 
 abbrev pub is_set : BreakpointState → ℕ → Bool
 is_set state address = has state.members address
+
+-- whether there is an address that is set
+abbrev pub CanBeMet : Bool → BreakpointState → Type 0
+CanBeMet true state = (address : ℕ) × (is_set state address ≡ true)
+CanBeMet false state = (address : ℕ) → is_set state address ≡ false
 
 -- one of these is that address, and its line has a breakpoint
 abbrev pub is_met_among : List BreakpointList → List MappedAddress → ℕ → Bool

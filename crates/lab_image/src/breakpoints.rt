@@ -32,7 +32,7 @@ impl Model for Breakpoints {
 }
 
 impl Breakpoints {
-    ghost use Rattle.lab_image.specs.Breakpoints.{with_lines, is_set, StandsFor};
+    ghost use Rattle.lab_image.specs.Breakpoints.{with_lines, is_set, CanBeMet, StandsFor};
 
     /// No breakpoint. The room that the addresses need is made here.
     pub fn new(alloc: Global) -> Result<Breakpoints, AllocError>
@@ -63,6 +63,14 @@ impl Breakpoints {
             → result ≡ is_met self.now.lists loads address }
     {
         self.addresses.contains(address)
+    }
+
+    /// Whether there is an address at which a breakpoint is met.
+    #[inline]
+    pub fn can_be_met(&self) -> bool
+        ensures { CanBeMet result self.now }
+    {
+        !self.addresses.is_empty()
     }
 
     /// Gives a source these lines in place of those that it had, also no line.

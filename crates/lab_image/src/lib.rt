@@ -5,7 +5,7 @@
 // A breakpoint is met at the first byte of each statement on its line; a step looks up one byte for it.
 #![tactic(auto)]
 
-mod address_set;
+pub mod address_set;
 pub mod breakpoints;
 pub mod lines;
 pub mod lists;

@@ -1,13 +1,15 @@
-//! Bursts, in which a slice makes most of its steps: while no request is latched, no Step is wanting and HLT wasn't the last
-//! step. A quiet step, which answers Done and leaves SP below the slot of each live frame, owes nothing there but its count,
-//! so the loop looks at its kind alone; attached, at the address of the next one too. After another step that isn't HLT or EI
-//! the burst goes on with the frames that it left.
-ghost use Rattle.std.specs.Prelude.{◌≡◌, ◌+◌, ◌<◌, ◌≤◌, ◌⊎◌, ℕ, true, None, IsSome};
-ghost use Rattle.i80_exec.specs.declared.registers.Kind.TheVariants.{Quiet, Moved, Armed, Halted};
+//! Bursts, in which a slice makes most of its steps: while no request is latched, no Step is done that is
+//! wanting and HLT wasn't the last step. A quiet step, which answers Done and leaves SP below the slot of each
+//! live frame, owes nothing there but its count, so the loop looks at its kind alone; attached, where a
+//! breakpoint can be met, at the address of the next one too. After another step that isn't HLT or EI the burst
+//! goes on with the frames that it left, unless the Step is done.
+ghost use Rattle.std.specs.Prelude.{◌≡◌, ◌+◌, ◌<◌, ◌≤◌, ◌⊎◌, ℕ, true, false, None, IsSome, is_some};
+ghost use Rattle.i80_exec.specs.declared.registers.Kind.TheVariants.{Quiet, Moved};
 ghost use Rattle.i80_exec.specs.Step.{answer_of};
 ghost use Rattle.lab_frames.specs.Frames.{AtLeast, CallsAt};
-ghost use Rattle.lab_core.specs.Slices.{undefined, reason_apart};
-ghost use Rattle.lab_core.specs.Labs.{FindsIn, AdvancesIn, KeepsIn, IsInBurst, MakesIn, GoesOn, Owed, ending_of};
+ghost use Rattle.lab_core.specs.Slices.{undefined};
+ghost use Rattle.lab_core.specs.Labs.{FindsIn, AdvancesIn, KeepsIn, KeepsAsked, IsInBurst, BurstMayBegin};
+ghost use Rattle.lab_core.specs.Labs.{MakesAtMost, LooksUp, GoesOn, IsLast, Owed, ending_of, is_step_done};
 
 use crate::answer::{End, SliceOutcome};
 use crate::lab::Context;
@@ -22,13 +24,14 @@ use std::mem;
 pub(super) enum BurstStep {
     /// The burst goes on, where the reach of the live frames is this.
     Within(u32),
-    /// It was HLT or EI, the burst's last one.
+    /// It was HLT or EI, or the Step is done: the burst's last one.
     Last,
     /// An undefined opcode stands at PC; no step was made.
     Ended(SliceOutcome),
 }
 
-// Whether a step of this kind that left SP there is quiet. One that may have moved SP is where it left it within reach.
+// Whether a step of this kind that left SP there is quiet. One that may have moved SP is where it left it
+// within reach.
 #[inline(always)]
 fn is_quiet(kind: Kind, sp: u16, reach: u32) -> bool
     requires within { kind ≡ Quiet → sp < reach }
@@ -54,11 +57,12 @@ impl Context {
         self.is_calm() && !machine.is_arming() && (machine.sp() as u32) < reach
     }
 
-    /// A burst of at most so many steps. There the machine is a local value, to which nothing else refers, so that its fields
-    /// needn't go through a reference at each step. A value can't be moved out of a reference without another in its place:
-    /// that is the spare one.
+    /// A burst of at most so many steps. Where a Step is wanting it is a function of its own, since a Step takes
+    /// time where it is followed, and where a breakpoint can be met a loop of its own. There the machine is a
+    /// local value, to which nothing else refers, so that its fields needn't go through a reference at each step.
+    /// A value can't be moved out of a reference without another in its place: that is the spare one.
     #[inline(never)]
-    pub(super) fn burst_apart(
+    pub(super) fn burst_apart<const IS_ASKED: bool>(
         &mut self,
         machine: &mut Machine,
         spare: &mut Option<Machine>,
@@ -66,75 +70,39 @@ impl Context {
         reach: u32,
     ) -> (u16, Option<SliceOutcome>)
         requires spare { IsSome spare.old }
-        requires room { most ≤ self.old.devices.spare }
-        requires ready { IsInBurst reach machine.old self.old }
-        requires free { FindsIn reason_apart None machine.old self.old }
-        ensures makes { MakesIn result.0 result.1 machine.old self.old machine.new self.new }
-        ensures few { result.0 ≤ most }
-        ensures some { IsSome result.1 → result.0 < most }
-        ensures progress { 1 ≤ most → result.1 ≡ None → 1 ≤ result.0 }
-        ensures room { result.1 ≡ None → self.old.devices.spare ≤ self.new.devices.spare + result.0 }
-        ensures attached { self.new.is_attached ≡ self.old.is_attached }
-        ensures request { self.new.request ≡ self.old.request }
+        requires may { BurstMayBegin most reach IS_ASKED machine.old self.old }
+        ensures made { MakesAtMost most result (machine.old, self.old) (machine.new, self.new) }
         ensures spare { IsSome spare.new }
     {
         let given = spare.take().unwrap();
         let mut local = mem::replace(machine, given);
-        let made = self.either_burst(&mut local, most, reach);
+        let made = if self.looks_up() {
+            self.burst(&mut local, most, true, IS_ASKED, reach)
+        } else {
+            self.burst(&mut local, most, false, IS_ASKED, reach)
+        };
         *spare = Some(mem::replace(machine, local));
         made
     }
 
-    // Attached or not: each has a loop of its own.
-    #[inline(always)]
-    fn either_burst(
-        &mut self,
-        machine: &mut Machine,
-        most: u16,
-        reach: u32,
-    ) -> (u16, Option<SliceOutcome>)
-        requires room { most ≤ self.old.devices.spare }
-        requires ready { IsInBurst reach machine.old self.old }
-        requires free { FindsIn reason_apart None machine.old self.old }
-        ensures makes { MakesIn result.0 result.1 machine.old self.old machine.new self.new }
-        ensures few { result.0 ≤ most }
-        ensures some { IsSome result.1 → result.0 < most }
-        ensures progress { 1 ≤ most → result.1 ≡ None → 1 ≤ result.0 }
-        ensures room { result.1 ≡ None → self.old.devices.spare ≤ self.new.devices.spare + result.0 }
-        ensures attached { self.new.is_attached ≡ self.old.is_attached }
-        ensures request { self.new.request ≡ self.old.request }
-    {
-        if self.is_attached {
-            return self.burst(machine, most, true, reach);
-        }
-        self.burst(machine, most, false, reach)
-    }
-
-    // Steps until the first after which no burst goes on. Attached, they end where a breakpoint is met.
+    // Steps until the first after which no burst goes on. Where one looks for breakpoints, they end at one.
     #[inline(always)]
     fn burst(
         &mut self,
         machine: &mut Machine,
         most: u16,
-        is_attached: bool,
+        looks_up: bool,
+        is_asked: bool,
         reach: u32,
     ) -> (u16, Option<SliceOutcome>)
-        requires room { most ≤ self.old.devices.spare }
-        requires attached { self.old.is_attached ≡ is_attached }
-        requires ready { IsInBurst reach machine.old self.old }
-        requires free { FindsIn reason_apart None machine.old self.old }
-        ensures makes { MakesIn result.0 result.1 machine.old self.old machine.new self.new }
-        ensures few { result.0 ≤ most }
-        ensures some { IsSome result.1 → result.0 < most }
-        ensures progress { 1 ≤ most → result.1 ≡ None → 1 ≤ result.0 }
-        ensures room { result.1 ≡ None → self.old.devices.spare ≤ self.new.devices.spare + result.0 }
-        ensures attached { self.new.is_attached ≡ self.old.is_attached }
-        ensures request { self.new.request ≡ self.old.request }
+        requires looks { LooksUp looks_up self.old }
+        requires may { BurstMayBegin most reach is_asked machine.old self.old }
+        ensures { MakesAtMost most result (machine.old, self.old) (machine.new, self.new) }
     {
         let mut left = most;
         let mut reach = reach;
         while left > 0 {
-            match self.burst_step(machine, reach) {
+            match self.burst_step(machine, is_asked, reach) {
                 BurstStep::Within(now) => reach = now,
                 BurstStep::Last => return (most - left + 1, None),
                 BurstStep::Ended(outcome) => {
@@ -143,7 +111,7 @@ impl Context {
                 }
             }
             left -= 1;
-            if let Some(_) = self.met(machine, is_attached) {
+            if let Some(_) = self.met(machine, looks_up) {
                 seldom();
                 return (most - left, None);
             }
@@ -151,17 +119,23 @@ impl Context {
         (most, None)
     }
 
+    /// A step of a burst.
     #[inline(always)]
-    fn burst_step(&mut self, machine: &mut Machine, reach: u32) -> BurstStep
+    pub(super) fn burst_step(
+        &mut self,
+        machine: &mut Machine,
+        is_asked: bool,
+        reach: u32,
+    ) -> BurstStep
         requires room { 1 ≤ self.old.devices.spare }
         requires ready { IsInBurst reach machine.old self.old }
+        requires asked { is_some self.old.request ≡ is_asked }
         ensures undefined { FindsIn undefined (ending_of result) machine.old self.old }
         ensures ended { IsSome (ending_of result) → KeepsIn machine.old self.old machine.new self.new }
         ensures made { ending_of result ≡ None → AdvancesIn machine.old self.old machine.new self.new }
         ensures on { (now : ℕ) → result ≡ BurstStep.Within now → IsInBurst now machine.new self.new }
         ensures spare { self.old.devices.spare ≤ self.new.devices.spare + 1 }
-        ensures attached { self.new.is_attached ≡ self.old.is_attached }
-        ensures request { self.new.request ≡ self.old.request }
+        ensures kept { KeepsAsked self.old self.new }
     {
         let pc = machine.pc();
         let kind = settled_step(machine, &mut self.devices);
@@ -171,31 +145,49 @@ impl Context {
         }
         // Each of these kinds has code of its own: what its steps do to the frames is settled when it is compiled.
         match kind {
-            Kind::Moved => self.advance(machine, Kind::Moved, pc),
-            Kind::Called => self.advance(machine, Kind::Called, pc),
-            Kind::Returned => self.advance(machine, Kind::Returned, pc),
-            _ => self.advance(machine, kind, pc),
+            Kind::Moved => self.advance(machine, Kind::Moved, pc, is_asked),
+            Kind::Called => self.advance(machine, Kind::Called, pc, is_asked),
+            Kind::Returned => self.advance(machine, Kind::Returned, pc, is_asked),
+            _ => self.advance(machine, kind, pc, is_asked),
         }
     }
 
     // What is owed after a step of this kind that wasn't quiet, with PC at `site` before it.
     #[inline(always)]
-    fn advance(&mut self, machine: &Machine, kind: Kind, site: u16) -> BurstStep
+    fn advance(&mut self, machine: &Machine, kind: Kind, site: u16, is_asked: bool) -> BurstStep
         requires calls { CallsAt (answer_of kind machine.now) machine.now.regs.sp }
+        requires asked { is_some self.old.request ≡ is_asked }
         ensures owed { Owed (answer_of kind machine.now) site machine.now.regs.sp self.old self.new result }
         ensures on { (reach : ℕ) → result ≡ BurstStep.Within reach
-            → GoesOn kind × (machine.now.regs.sp < reach) × ((sp : ℕ) → sp < reach → AtLeast sp self.new.frames) }
-        ensures last { result ≡ BurstStep.Last → (kind ≡ Armed) ⊎ (kind ≡ Halted) }
+            → GoesOn kind machine.now.regs.sp reach self.new }
+        ensures last { result ≡ BurstStep.Last
+            → IsLast kind ⊎ (is_step_done self.new.request self.new ≡ true) }
     {
         let answer = machine.report(kind);
         if let Stepped::Undefined { opcode } = answer {
             return BurstStep::Ended(SliceOutcome::End(End::Undefined { opcode, pc: site }));
         }
-        let _ = self.frames.advance(answer, site, machine.sp());
+        let sp = machine.sp();
+        let left = self.frames.advance(answer, site, sp);
         self.is_halted = is_halt(answer);
+        self.follow(answer, sp, left, is_asked);
+        if self.is_last(kind, is_asked) {
+            return BurstStep::Last;
+        }
+        BurstStep::Within(self.frames.reach())
+    }
+
+    // Whether a step of this kind is a burst's last: EI, HLT, or one after which the Step is done.
+    #[inline(always)]
+    fn is_last(&self, kind: Kind, is_asked: bool) -> bool
+        requires asked { is_some self.now.request ≡ is_asked }
+        ensures last { result ≡ true → IsLast kind ⊎ (is_step_done self.now.request self.now ≡ true) }
+        ensures on { result ≡ false → IsLast kind → ⊥ }
+        ensures undone { result ≡ false → is_step_done self.now.request self.now ≡ false }
+    {
         match kind {
-            Kind::Armed | Kind::Halted => BurstStep::Last,
-            _ => BurstStep::Within(self.frames.reach()),
+            Kind::Armed | Kind::Halted => true,
+            _ => is_asked && self.is_step_done(),
         }
     }
 }

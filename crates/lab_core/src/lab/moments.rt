@@ -35,7 +35,7 @@ impl Model for Moment {
 }
 
 impl Lab {
-    /// What the run has of the board now.
+    /// The moment at which the run is now.
     pub fn moment(&self) -> Result<Moment, AllocError>
         ensures { (b : Board) → StandsFor self.now b → IfOk result (λ moment. IsMomentOf moment b) }
     {
@@ -50,10 +50,11 @@ impl Lab {
         })
     }
 
-    /// Puts the run back to this moment, from which it goes on unwatched. Breakpoints and texts stay.
+    /// Puts the run back to a moment, from which it goes on with no debugger attached. Breakpoints, texts and
+    /// symbols stay as they are now.
     pub fn put_back(&mut self, moment: &Moment) -> Result<(), AllocError>
-        ensures ok { (then now : Board) → IsMomentOf moment.now then → StandsFor self.old now
-            → OnOk result (StandsFor self.new (put_back then now)) }
+        ensures ok { (was now : Board) → IsMomentOf moment.now was → StandsFor self.old now
+            → OnOk result (StandsFor self.new (put_back was now)) }
         ensures err { OnErr result (self.new ≡ self.old) }
     {
         // All is made before anything changes.
@@ -72,7 +73,7 @@ impl Lab {
         Ok(())
     }
 
-    /// Stops the run where it is, watched.
+    /// Stops the run where it is, with a debugger attached.
     pub fn hold(&mut self)
         ensures { (b : Board) → StandsFor self.old b → StandsFor self.new (held b) }
     {

@@ -46,8 +46,8 @@ impl Lab {
         (executed, outcome)
     }
 
-    // Whether a debugger is attached or a Step isn't complete.
-    fn is_watched(&self) -> bool
+    /// Whether a debugger is attached or a Step isn't complete.
+    pub(super) fn is_watched(&self) -> bool
         ensures { Watches result self.now.is_attached self.now.request }
     {
         self.context.is_attached || self.context.request.is_some()
@@ -65,7 +65,7 @@ impl Lab {
     }
 
     /// Stops or ends the run where the slice did.
-    fn leave(&mut self, outcome: SliceOutcome)
+    pub(super) fn leave(&mut self, outcome: SliceOutcome)
         ensures { (b : Board) (traffic : List PortOperation) → StandsAmid self.old b traffic
             → StandsAmid self.new (left_by outcome b) traffic }
     {

@@ -1,11 +1,11 @@
 //! Steps of a run, in bursts and single ones.
-ghost use Rattle.std.specs.Prelude.{◌≡◌, ◌+◌, ◌<◌, ◌≤◌, min, true, None, IfNone, IsSome};
+ghost use Rattle.std.specs.Prelude.{◌≡◌, ◌+◌, ◌≤◌, min, true, None, IfNone, IsSome, is_some};
 ghost use Rattle.i80_exec.specs.Step.{is_halt};
 ghost use Rattle.lab_core.specs.Board.{Board};
 ghost use Rattle.lab_core.specs.Stops.{is_gone_after};
 ghost use Rattle.lab_core.specs.Slices.{undefined, reason_apart, IsSlice, after_steps, traffic_of};
 ghost use Rattle.lab_core.specs.Labs.{LabState, StandsFor, StandsAmid, amid, FindsIn, AdvancesIn, KeepsIn, Watches};
-ghost use Rattle.lab_core.specs.Labs.{IsCalm, MakesIn};
+ghost use Rattle.lab_core.specs.Labs.{KeepsAsked, IsCalm, MakesAtMost};
 
 use crate::answer::{End, SliceOutcome};
 use crate::lab::Context;
@@ -79,12 +79,7 @@ impl Context {
         requires room { most ≤ self.old.devices.spare }
         requires some { 1 ≤ most }
         requires watched { Watches is_watched self.old.is_attached self.old.request }
-        ensures makes { MakesIn result.0 result.1 machine.old self.old machine.new self.new }
-        ensures few { result.0 ≤ most }
-        ensures some { IsSome result.1 → result.0 < most }
-        ensures progress { result.1 ≡ None → 1 ≤ result.0 }
-        ensures room { result.1 ≡ None → self.old.devices.spare ≤ self.new.devices.spare + result.0 }
-        ensures watches { Watches is_watched self.new.is_attached self.new.request }
+        ensures made { MakesAtMost most result (machine.old, self.old) (machine.new, self.new) }
         ensures spare { IsSome spare.new }
     {
         if let Some(outcome) = self.look(machine, is_watched) {
@@ -95,21 +90,19 @@ impl Context {
         if !self.is_ready(machine, reach) {
             return self.single(machine);
         }
-        self.burst_apart(machine, spare, most, reach)
+        if self.request.is_some() {
+            return self.burst_apart::<true>(machine, spare, most, reach);
+        }
+        self.burst_apart::<false>(machine, spare, most, reach)
     }
 
-    // One step, or none, which stands apart: of the functions that make steps each has the arms of all opcodes in it.
+    /// One step, or none, which stands apart: of the functions that make steps each has the arms of all
+    /// opcodes in it.
     #[inline(never)]
-    fn single(&mut self, machine: &mut Machine) -> (u16, Option<SliceOutcome>)
+    pub(super) fn single(&mut self, machine: &mut Machine) -> (u16, Option<SliceOutcome>)
         requires room { 1 ≤ self.old.devices.spare }
         requires free { FindsIn reason_apart None machine.old self.old }
-        ensures makes { MakesIn result.0 result.1 machine.old self.old machine.new self.new }
-        ensures few { result.0 ≤ 1 }
-        ensures some { IsSome result.1 → result.0 < 1 }
-        ensures progress { result.1 ≡ None → 1 ≤ result.0 }
-        ensures room { result.1 ≡ None → self.old.devices.spare ≤ self.new.devices.spare + result.0 }
-        ensures attached { self.new.is_attached ≡ self.old.is_attached }
-        ensures request { self.new.request ≡ self.old.request }
+        ensures { MakesAtMost 1 result (machine.old, self.old) (machine.new, self.new) }
     {
         match self.step(machine) {
             Some(outcome) => (0, Some(outcome)),
@@ -125,8 +118,7 @@ impl Context {
         ensures some { IsSome result → KeepsIn machine.old self.old machine.new self.new }
         ensures none { IfNone result (AdvancesIn machine.old self.old machine.new self.new) }
         ensures spare { self.old.devices.spare ≤ self.new.devices.spare + 1 }
-        ensures attached { self.new.is_attached ≡ self.old.is_attached }
-        ensures request { self.new.request ≡ self.old.request }
+        ensures kept { KeepsAsked self.old self.new }
     {
         let pc = machine.pc();
         let answer = board_step(machine, &mut self.devices);
@@ -137,7 +129,8 @@ impl Context {
         let left = self.frames.advance(answer, pc, sp);
         self.is_halted = is_halt(answer);
         self.has_moved = true;
-        self.follow(answer, sp, left);
+        let is_asked = self.request.is_some();
+        self.follow(answer, sp, left, is_asked);
         None
     }
 
@@ -147,21 +140,23 @@ impl Context {
         ensures calm { result ≡ true → IsCalm self.now }
         ensures sure { IsCalm self.now → result ≡ true }
     {
-        if self.is_halted || !self.has_moved || self.request.is_some() {
+        if self.is_halted || !self.has_moved || self.is_step_done() {
             return false;
         }
         self.devices.request().is_none()
     }
 
-    // What a Step looks at, after a step that answered so, left SP there and so many frames of those before it.
+    // What a Step looks at, where one is wanting, after a step that answered so, left SP there and so many frames
+    // of those before it.
     #[inline(always)]
-    fn follow(&mut self, answer: Stepped, sp: u16, left: usize)
+    pub(super) fn follow(&mut self, answer: Stepped, sp: u16, left: usize, is_asked: bool)
+        requires asked { is_some self.old.request ≡ is_asked }
         ensures rest { self.new ≡ record self.old { older = self.new.older; is_gone = self.new.is_gone } }
         ensures older { IsSome self.old.request → self.new.older ≡ min self.old.older left }
         ensures gone { IsSome self.old.request
             → self.new.is_gone ≡ is_gone_after self.old.is_gone self.old.innermost answer sp }
     {
-        if self.request.is_some() {
+        if is_asked {
             self.older = self.older.min(left);
             self.is_gone = is_gone_after(self.is_gone, self.innermost, answer, sp);
         }

@@ -1,11 +1,10 @@
 //! The reasons for which a slice makes no further step.
 ghost use Rattle.std.specs.Prelude.{◌≡◌, ◌&&◌, true, if◌then◌else◌, Some, None, IsSome, is_none};
 ghost use Rattle.std.specs.Option.{option_or};
-ghost use Rattle.i80_exec.specs.State.{MachineState};
 ghost use Rattle.lab_core.specs.Stops.{at_breakpoint, meets_breakpoint, complete, completes, is_reached};
-ghost use Rattle.lab_core.specs.Stops.{is_done, is_first, is_there, since, earlier};
+ghost use Rattle.lab_core.specs.Stops.{is_first, is_there};
 ghost use Rattle.lab_core.specs.Slices.{is_off, is_on, halted, waiting, early_reason, reason_apart};
-ghost use Rattle.lab_core.specs.Labs.{FindsIn, Watches, IsCalm};
+ghost use Rattle.lab_core.specs.Labs.{FindsIn, Watches, IsCalm, LooksUp, is_done_in, is_step_done};
 
 use crate::answer::{End, SliceOutcome, Stop};
 use crate::event::{Granularity, StepKind, StepRequest};
@@ -58,14 +57,22 @@ fn is_first(origin: Option<Origin>) -> bool
 }
 
 impl Context {
+    /// Whether a burst looks for a breakpoint after each step.
+    #[inline(always)]
+    pub(super) fn looks_up(&self) -> bool
+        ensures { LooksUp result self.now }
+    {
+        self.is_attached && self.breakpoints.can_be_met()
+    }
+
     /// The reason to end a burst, which only a breakpoint can be.
     #[inline(always)]
-    pub(super) fn met(&self, machine: &Machine, is_attached: bool) -> Option<SliceOutcome>
-        requires attached { self.now.is_attached ≡ is_attached }
+    pub(super) fn met(&self, machine: &Machine, looks_up: bool) -> Option<SliceOutcome>
+        requires looks { LooksUp looks_up self.now }
         requires calm { IsCalm self.now }
         ensures { FindsIn reason_apart result machine.now self.now }
     {
-        if self.is_met(machine, is_attached) {
+        if self.is_met(machine, looks_up) {
             Some(SliceOutcome::Stop(Stop::Breakpoint))
         } else {
             None
@@ -73,12 +80,13 @@ impl Context {
     }
 
     #[inline(always)]
-    fn is_met(&self, machine: &Machine, is_attached: bool) -> bool
-        requires attached { self.now.is_attached ≡ is_attached }
+    fn is_met(&self, machine: &Machine, looks_up: bool) -> bool
+        requires looks { LooksUp looks_up self.now }
         requires moved { self.now.has_moved ≡ true }
         ensures { FindsIn meets_breakpoint result machine.now self.now }
     {
-        is_attached && self.breakpoints.is_at(machine.pc())
+        let pc = machine.pc();
+        looks_up && self.breakpoints.is_at(pc)
     }
 
     /// The first of the reasons that the opcode at PC has no part in.
@@ -163,10 +171,20 @@ impl Context {
         self.is_done(request.kind) && self.is_there(machine, request.granularity)
     }
 
+    /// Whether a Step is wanting that is done: it is complete where the run may stop.
+    #[inline(always)]
+    pub(super) fn is_step_done(&self) -> bool
+        ensures { result ≡ is_step_done self.now.request self.now }
+    {
+        match self.request {
+            None => false,
+            Some(request) => self.is_done(request.kind),
+        }
+    }
+
+    #[inline(always)]
     fn is_done(&self, kind: StepKind) -> bool
-        requires { IsSome self.now.request }
-        ensures { (machine : MachineState)
-            → FindsIn (λ b. is_done kind (earlier b) (since b)) result machine self.now }
+        ensures { result ≡ is_done_in kind self.now }
     {
         match kind {
             StepKind::In => true,

@@ -1,25 +1,50 @@
-use Rattle.std.proofs.Common.{◌≡◌, ◌<◌, refl, arith}
-use Rattle.lab_core.proofs.QuietLemmas.{goes_on, within_reach}
+use Rattle.std.proofs.Common.{◌≡◌, ◌<◌, ◌∙◌, ap, refl, arith}
+use Rattle.lab_core.specs.declared.lab.Context.{Context}
+use Rattle.lab_core.proofs.QuietLemmas.{within_reach}
 use Rattle.lab_core.proofs.lab.Context.advance.Goals as goal
 
-pub returns-in_default-kind : goal.returns-in_default-kind
-returns-in_default-kind c =
-    let small : c.sp.result < 65536 = omega arith in
+pub returns-then-is_last : goal.returns-then-is_last
+returns-then-is_last c =
+    let left : c.follow.new.self.frames ≡ c.advance-left.new.self =
+    ap (λ (context : Context). context.frames) c.follow.ensures.rest in
     record {
-      owed = rw (← c.report-answer.ensures, ← c.sp.ensures) (record {
+      owed = rw (← c.report-answer.ensures, ← c.sp-sp.ensures) (record {
         defined = c.in_default.not-Undefined;
-        frames = c.advance.ensures.live;
-        left = c.advance.result;
-        oldest = c.advance.ensures.oldest;
-        rest = rw c.is_halt-self.ensures refl;
+        frames = rw left c.advance-left.ensures.live;
+        left = c.advance-left.result;
+        oldest = c.advance-left.ensures.oldest;
+        older = c.follow.ensures.older;
+        gone = c.follow.ensures.gone;
+        rest = c.follow.ensures.rest ∙ rw (left, c.is_halt-self.ensures) refl;
+      });
+      on = λ reach is. cc;
+      last = λ is. c.is_last.ensures.last c.if-is_last.true;
+    }
+
+pub returns : goal.returns
+returns c =
+    let small : c.sp-sp.result < 65536 = omega arith in
+    let left : c.follow.new.self.frames ≡ c.advance-left.new.self =
+    ap (λ (context : Context). context.frames) c.follow.ensures.rest in
+    record {
+      owed = rw (← c.report-answer.ensures, ← c.sp-sp.ensures) (record {
+        defined = c.in_default.not-Undefined;
+        frames = rw left c.advance-left.ensures.live;
+        left = c.advance-left.result;
+        oldest = c.advance-left.ensures.oldest;
+        older = c.follow.ensures.older;
+        gone = c.follow.ensures.gone;
+        rest = c.follow.ensures.rest ∙ rw (left, c.is_halt-self.ensures) refl;
       });
       on = λ reach is.
-          let same : reach ≡ c.reach.result = cc in
-          rw same (
-            goes_on _ c.in_default-kind.not-Armed c.in_default-kind.not-Halted,
-            rw (← c.sp.ensures)
-                (within_reach c.sp.result c.reach.result _ small c.advance.ensures.above c.reach.ensures.reach),
-            c.reach.ensures.above,
-          );
+          (let same : reach ≡ c.reach.result = cc in
+          rw (same, ← c.sp-sp.ensures) (record {
+            not_last = c.is_last.ensures.on c.if-is_last.false;
+            undone = c.is_last.ensures.undone c.if-is_last.false;
+            within =
+                within_reach c.sp-sp.result c.reach.result c.follow.new.self.frames small
+                (rw left c.advance-left.ensures.above) c.reach.ensures.reach;
+            above = c.reach.ensures.above;
+          }));
       last = λ is. cc;
     }

@@ -1,8 +1,8 @@
-use Rattle.std.proofs.Common.{◌≡◌, ◌≤◌, ◌+◌, ◌-◌, List, None}
+use Rattle.std.proofs.Common.{◌≤◌, ◌+◌, ◌-◌, List, None}
 use Rattle.i80_exec.specs.declared.ports.PortOperation.{PortOperation}
 use Rattle.lab_core.specs.Board.{Board}
 use Rattle.lab_core.specs.Slices.{reason_apart}
-use Rattle.lab_core.specs.Labs.{LabState, StandsAmid, Makes, FindsIn, IsInBurst, amid}
+use Rattle.lab_core.specs.Labs.{LabState, StandsAmid, Makes, FindsIn, IsInBurst, LooksUp, KeepsAsked, amid}
 use Rattle.lab_core.proofs.lab.Context.burst.Given as goal
 
 abbrev pub invariant-loop-left : goal.invariant-loop-left
@@ -15,8 +15,8 @@ invariant-loop-left l = record {
   ready : IsInBurst l.reach l.machine l.self;
   room : l.left ≤ l.self.devices.spare;
   was : l.fn.self.devices.spare + l.left ≤ l.self.devices.spare + l.most;
-  attached : l.self.is_attached ≡ l.is_attached;
-  request : l.self.request ≡ l.fn.self.request;
+  looks : LooksUp l.looks_up l.self;
+  kept : KeepsAsked l.fn.self l.self;
 }
 
 abbrev pub decreases-loop-left : goal.decreases-loop-left

@@ -1,18 +1,27 @@
 use Rattle.std.proofs.Common.{sym, subst}
 use Rattle.i80_exec.specs.State.{MachineState}
-use Rattle.lab_core.specs.Labs.{StandsAmid, Makes, amid}
+use Rattle.lab_core.specs.Labs.{MakesAtMost}
 use Rattle.lab_core.proofs.lab.Context.burst_apart.Goals as goal
+use Rattle.lab_core.proofs.lab.Context.burst_apart.Goals.{then-looks_up, else-looks_up}
 
-pub either_burst-made-requires-clause-free : goal.either_burst-made-requires-clause-free
-either_burst-made-requires-clause-free c = λ lab b traffic s.
-    let M : MachineState → Type 0 = λ machine. StandsAmid (amid lab machine c.args.self.now) b traffic in
-    c.requires.free lab b traffic (subst M c.replace-local.ensures.value s)
+pub burst-made-requires-clause-may : goal.burst-made-requires-clause-may
+burst-made-requires-clause-may g c = rw c.replace-local.ensures.value c.requires.may
 
-pub returns-clause-makes : goal.returns-clause-makes
-returns-clause-makes c = λ lab b traffic s.
-    let made = c.either_burst-made in
-    let M : MachineState → Type 0 = λ machine. StandsAmid (amid lab machine c.args.self.now) b traffic in
-    let N : MachineState → Type 0 =
-    λ machine. Makes made.result.0 made.result.1 b traffic (amid lab machine made.new.self) in
-    subst N (sym c.replace.ensures.after)
-    (made.ensures.makes lab b traffic (subst M (sym c.replace-local.ensures.value) s))
+pub burst-made-requires-else-looks_up-clause-may : goal.burst-made-requires-else-looks_up-clause-may
+burst-made-requires-else-looks_up-clause-may g c = rw c.replace-local.ensures.value c.requires.may
+
+pub returns-clause-made : goal.returns-clause-made
+returns-clause-made g c = elim c.if-looks_up.branch [
+  | then-looks_up w ↦
+      (let made = w.burst-made in
+      let M : MachineState → Type 0 = λ machine.
+      MakesAtMost c.args.most made.result (machine, c.args.self.now) (made.new.machine, made.new.self) in
+      rw (c.replace.ensures.after, w.made-is, w.local-is, w.self-is)
+      (subst M c.replace-local.ensures.value made.ensures))
+  | else-looks_up w ↦
+      (let made = w.burst-made-else-looks_up in
+      let M : MachineState → Type 0 = λ machine.
+      MakesAtMost c.args.most made.result (machine, c.args.self.now) (made.new.machine, made.new.self) in
+      rw (c.replace.ensures.after, w.made-is, w.local-is, w.self-is)
+      (subst M c.replace-local.ensures.value made.ensures))
+]

@@ -1,9 +1,6 @@
-use Rattle.std.proofs.Common.{◌≡◌, ◌<◌, ◌∙◌, ap, sym, arith}
-use Rattle.std.proofs.lemmas.Bool.{both_ways}
-use Rattle.i80_exec.specs.Step.{is_halt}
+use Rattle.std.proofs.Common.{◌≡◌, ◌∙◌, sym}
 use Rattle.lab_core.proofs.StandsLemmas.{finds_no_undefined}
-use Rattle.lab_core.proofs.QuietLemmas.{stands_quiet, stands_followed, quiet_done, quiet_settled}
-use Rattle.lab_core.proofs.QuietLemmas.{quiet_keeps_sp, no_halt, no_arming}
+use Rattle.lab_core.proofs.QuietLemmas.{stands_quiet, quiet_done, quiet_settled, quiet_keeps_sp, done-devices}
 use Rattle.lab_core.proofs.FollowLemmas.{finds_owed, keeps_owed, advances_owed, owed_in_burst}
 use Rattle.i80_exec.specs.declared.registers.Kind.TheVariants as kind
 use Rattle.lab_core.proofs.lab.Context.burst_step.Goals as goal
@@ -28,7 +25,7 @@ returns-then-is_quiet-clause-made c = λ none lab b traffic s.
     let within = rw c.sp-sp.ensures at (c.is_quiet.ensures.within c.if-is_quiet.true) in
     let calm = c.requires.ready.calm in
     stands_quiet _ b traffic _ _ _ s (c.settled_step-kind.ensures.step b.past s.devices)
-    c.settled_step-kind.ensures.sp calm.goes_on calm.has_moved calm.unasked
+    c.settled_step-kind.ensures.sp calm.goes_on calm.has_moved
     (quiet_done c.settled_step-kind.result c.settled_step-kind.new.machine quiet)
     (c.requires.ready.above _ within)
 
@@ -41,7 +38,9 @@ returns-then-is_quiet-clause-on c = λ now is.
       calm = record {
         goes_on = calm.goes_on;
         has_moved = calm.has_moved;
-        unasked = calm.unasked;
+        undone =
+            sym (done-devices c.args.self.now.request c.args.self.now c.settled_step-kind.new.devices)
+            ∙ calm.undone;
         unlatched = c.settled_step-kind.ensures.unlatched;
       };
       settled = quiet_settled _ _ _ quiet c.settled_step-kind.ensures.settles;
@@ -63,7 +62,7 @@ pub returns-in-Moved-clause-made : goal.returns-in-Moved-clause-made
 returns-in-Moved-clause-made c = λ none lab b traffic s.
     let calm = c.requires.ready.calm in
     advances_owed lab b traffic _ _ _ _ _ s (c.in-Moved.ensures.step b.past s.devices) _ _ c.advance.result c.pc-pc.ensures
-    c.in-Moved.ensures.sp calm.has_moved calm.unasked c.advance.ensures.owed none
+    c.in-Moved.ensures.sp calm.has_moved c.advance.ensures.owed none
 
 pub returns-in-Moved-clause-on : goal.returns-in-Moved-clause-on
 returns-in-Moved-clause-on c = λ now is.
@@ -84,7 +83,7 @@ pub returns-in-Called-clause-made : goal.returns-in-Called-clause-made
 returns-in-Called-clause-made c = λ none lab b traffic s.
     let calm = c.requires.ready.calm in
     advances_owed lab b traffic _ _ _ _ _ s (c.in-Called.ensures.step b.past s.devices) _ _ c.advance-in-Called.result c.pc-pc.ensures
-    c.in-Called.ensures.sp calm.has_moved calm.unasked c.advance-in-Called.ensures.owed none
+    c.in-Called.ensures.sp calm.has_moved c.advance-in-Called.ensures.owed none
 
 pub returns-in-Called-clause-on : goal.returns-in-Called-clause-on
 returns-in-Called-clause-on c = λ now is.
@@ -105,7 +104,7 @@ pub returns-in-Returned-clause-made : goal.returns-in-Returned-clause-made
 returns-in-Returned-clause-made c = λ none lab b traffic s.
     let calm = c.requires.ready.calm in
     advances_owed lab b traffic _ _ _ _ _ s (c.in-Returned.ensures.step b.past s.devices) _ _ c.advance-in-Returned.result c.pc-pc.ensures
-    c.in-Returned.ensures.sp calm.has_moved calm.unasked c.advance-in-Returned.ensures.owed none
+    c.in-Returned.ensures.sp calm.has_moved c.advance-in-Returned.ensures.owed none
 
 pub returns-in-Returned-clause-on : goal.returns-in-Returned-clause-on
 returns-in-Returned-clause-on c = λ now is.
@@ -126,7 +125,7 @@ pub returns-in_default-clause-made : goal.returns-in_default-clause-made
 returns-in_default-clause-made c = λ none lab b traffic s.
     let calm = c.requires.ready.calm in
     advances_owed lab b traffic _ _ _ _ _ s (c.settled_step-kind.ensures.step b.past s.devices) _ _ c.advance-in_default.result c.pc-pc.ensures
-    c.settled_step-kind.ensures.sp calm.has_moved calm.unasked c.advance-in_default.ensures.owed none
+    c.settled_step-kind.ensures.sp calm.has_moved c.advance-in_default.ensures.owed none
 
 pub returns-in_default-clause-on : goal.returns-in_default-clause-on
 returns-in_default-clause-on c = λ now is.

@@ -1,7 +1,19 @@
-use Rattle.std.proofs.Common.{◌∙◌, sym}
-use Rattle.lab_core.proofs.BurstLemmas.{makes_found}
+use Rattle.std.proofs.Common.{◌∙◌, sym, refl, arith}
+use Rattle.lab_core.proofs.BurstLemmas.{makes_found, makes_within}
 use Rattle.lab_core.proofs.lab.Context.round.Goals as goal
 
-pub returns-in-Some-clause-makes : goal.returns-in-Some-clause-makes
-returns-in-Some-clause-makes c = λ lab b traffic s.
-    makes_found c.in-Some.outcome b traffic _ s (sym c.in-Some.is ∙ c.look.ensures lab b traffic s)
+pub returns-in-Some-clause-made : goal.returns-in-Some-clause-made
+returns-in-Some-clause-made c =
+    let some = c.requires.some in
+    record {
+      makes = λ lab b traffic s.
+          makes_found c.in-Some.outcome b traffic _ s (sym c.in-Some.is ∙ c.look.ensures lab b traffic s);
+      few = omega arith;
+      some = λ is. omega arith;
+      progress = λ one none. cc;
+      room = λ none. cc;
+      kept = record { attached = refl; breakpoints = refl; request = refl };
+    }
+
+pub returns-then-not-is_ready-clause-made : goal.returns-then-not-is_ready-clause-made
+returns-then-not-is_ready-clause-made c = makes_within c.args.most c.requires.some c.single.ensures

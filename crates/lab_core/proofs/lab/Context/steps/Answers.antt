@@ -1,8 +1,8 @@
-use Rattle.std.proofs.Common.{◌≡◌, ◌∙◌, refl, ap, arith}
+use Rattle.std.proofs.Common.{◌≡◌, ◌≤◌, ◌-◌, ◌∙◌, refl, ap, arith}
 use Rattle.std.specs.Option.{unwrap_or, IsSome}
 use Rattle.lab_core.specs.declared.answer.SliceOutcome.TheVariants.{More}
 use Rattle.lab_core.specs.Slices.{after_steps, traffic_of}
-use Rattle.lab_core.proofs.BurstLemmas.{makes_on}
+use Rattle.lab_core.proofs.BurstLemmas.{makes_on, watches_kept}
 use Rattle.lab_core.proofs.lab.Context.steps.Goals as goal
 
 pub loop-k-preserved : goal.loop-k-preserved
@@ -10,21 +10,24 @@ loop-k-preserved c =
     let inv = c.loop-k.invariant in
     let k = c.loop-k.k in
     let made = c.round-made in
-    let few = made.ensures.few in
+    let did = made.ensures.made in
+    let few = did.few in
     let room = inv.room in
-    let left = made.ensures.room c.in_default.is in
-    let progress = made.ensures.progress c.in_default.is in
+    let test = c.loop-k-test.true in
+    let left = did.room c.in_default.is in
+    let some : 1 ≤ c.args.n - k = omega arith in
+    let progress = did.progress some c.in_default.is in
     record {
       within = omega arith;
       stands = λ lab b s.
           (let m = makes_on k made.result.0 made.result.1 b _ (inv.none_before lab b s)
-          (made.ensures.makes lab (after_steps k b) (traffic_of k b) (inv.stands lab b s)) in m.stands);
+          (did.makes lab (after_steps k b) (traffic_of k b) (inv.stands lab b s)) in m.stands);
       none_before = λ lab b s.
           (let m = makes_on k made.result.0 made.result.1 b _ (inv.none_before lab b s)
-          (made.ensures.makes lab (after_steps k b) (traffic_of k b) (inv.stands lab b s)) in m.none_before);
+          (did.makes lab (after_steps k b) (traffic_of k b) (inv.stands lab b s)) in m.none_before);
       room = omega arith;
       spare = made.ensures.spare;
-      watches = made.ensures.watches;
+      watches = watches_kept c.args.is_watched did.kept inv.watches;
     }
 
 pub returns-in-Some-clause-slice : goal.returns-in-Some-clause-slice
@@ -32,10 +35,11 @@ returns-in-Some-clause-slice c = λ lab b s.
     let inv = c.loop-k.invariant in
     let k = c.loop-k.k in
     let made = c.round-made in
+    let did = made.ensures.made in
     let m = makes_on k made.result.0 made.result.1 b _ (inv.none_before lab b s)
-    (made.ensures.makes lab (after_steps k b) (traffic_of k b) (inv.stands lab b s)) in
+    (did.makes lab (after_steps k b) (traffic_of k b) (inv.stands lab b s)) in
     let is : IsSome made.result.1 = rw c.in-Some.is refl in
-    let less = made.ensures.some is in
+    let less = did.some is in
     let found = rw c.in-Some.is at m.found_is in
     record {
       within = omega arith;
@@ -49,8 +53,9 @@ returns-in-Some-clause-stands c = λ lab b s.
     let inv = c.loop-k.invariant in
     let k = c.loop-k.k in
     let made = c.round-made in
+    let did = made.ensures.made in
     let m = makes_on k made.result.0 made.result.1 b _ (inv.none_before lab b s)
-    (made.ensures.makes lab (after_steps k b) (traffic_of k b) (inv.stands lab b s)) in
+    (did.makes lab (after_steps k b) (traffic_of k b) (inv.stands lab b s)) in
     m.stands
 
 pub returns-clause-slice : goal.returns-clause-slice

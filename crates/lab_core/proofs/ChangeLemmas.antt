@@ -1,0 +1,118 @@
+-- Changes by hand in any state of the run.
+use Rattle.std.proofs.Common.{◌≡◌, ℕ, ◌+◌, ◌%◌, ◌≤◌, List, [], ◌∷◌, ◌++◌, Option, Some, None, not, ◌&&◌}
+use Rattle.std.proofs.Common.{false, length, refl, sym, ap}
+use Rattle.std.proofs.Common.{◌∙◌, subst, rules, arith, length-append}
+use Rattle.std.proofs.lemmas.List.{take-append-le, drop-append-le}
+use Rattle.std.proofs.lemmas.List.Sums.{fold-append}
+use Rattle.std.specs.Option.{IsSome, unwrap_or}
+use Rattle.std.specs.List.{filter}
+use Rattle.i80_exec.specs.declared.registers.Registers.{Registers}
+use Rattle.i80_exec.specs.State.{MachineState, stored, with_regs}
+use Rattle.lab_frames.specs.declared.frame.Frame.{Frame}
+use Rattle.lab_frames.specs.Live.{Entry, Poke, ends, live, stays}
+use Rattle.lab_frames.specs.Frames.{AtLeast}
+use Rattle.lab_frames.proofs.LiveLemmas.{live-poke, filter-stays-append}
+use Rattle.lab_core.specs.declared.run_state.RunState.TheVariants.{Stopped}
+use Rattle.lab_core.specs.Board.{Board}
+use Rattle.lab_core.specs.Stops.{earlier, since, has_step, innermost, is_gone}
+use Rattle.lab_core.specs.Slices.{ends_in_halt, halts}
+use Rattle.lab_core.specs.Events.{changed_to}
+use Rattle.lab_core.specs.Changes.{with_bytes, after_write, after_registers}
+use Rattle.lab_core.specs.Labs.{LabState, StandsFor, Follows}
+use Rattle.lab_core.proofs.StandsLemmas.{step-none}
+
+-- ---- bytes
+
+-- addresses wrap
+pub bytes-wrapped : (address : ℕ) (bytes : List ℕ) (m : MachineState)
+    → with_bytes (address % 65536) bytes m ≡ with_bytes address bytes m
+bytes-wrapped address [] m = refl
+bytes-wrapped address (byte ∷ bytes) m =
+    let again : address % 65536 % 65536 ≡ address % 65536 = omega arith in
+    let next : (address % 65536 + 1) % 65536 ≡ (address + 1) % 65536 = omega arith in
+    rw again (sym (bytes-wrapped (address % 65536 + 1) bytes (stored m address byte))
+    ∙ ap (λ a. with_bytes a bytes (stored m address byte)) next
+    ∙ bytes-wrapped (address + 1) bytes (stored m address byte))
+
+pub bytes-regs : (address : ℕ) (bytes : List ℕ) (m : MachineState)
+    → (with_bytes address bytes m).regs ≡ m.regs
+bytes-regs address [] m = refl
+bytes-regs address (byte ∷ bytes) m = bytes-regs (address + 1) bytes (stored m address byte)
+
+-- ---- the frames, which a change by hand leaves
+
+filter-poke : (m m' : MachineState) (fs : List Frame) → filter (stays (Poke m m' ∷ [])) fs ≡ fs
+filter-poke m m' [] = refl
+filter-poke m m' (f ∷ fs) = ap (λ r. f ∷ r) (filter-poke m m' fs)
+
+gone-poke : (frame : Option Frame) (entries : List Entry) (m m' : MachineState)
+    → is_gone frame (entries ++ Poke m m' ∷ []) ≡ is_gone frame entries
+gone-poke None entries m m' = refl
+gone-poke (Some f) entries m m' = ap not (stays-poke entries f)
+  where
+    stays-poke : (entries : List Entry) (f : Frame) → stays (entries ++ Poke m m' ∷ []) f ≡ stays entries f
+    stays-poke [] f = refl
+    stays-poke (e ∷ entries) f = ap (λ rest. not (ends e f) && rest) (stays-poke entries f)
+
+-- The lab of a machine that was changed so, where a Step that isn't complete finds SP as it was.
+pub stands_changed : (old : LabState) (b : Board) (machine : MachineState) → StandsFor old b
+    → (IsSome b.request → machine.regs.sp ≡ b.machine.regs.sp)
+    → StandsFor (record old { machine = machine }) (changed_to machine b)
+stands_changed old b machine s same =
+    let entry : Entry = Poke b.machine machine in
+    let new : Board = changed_to machine b in
+    let frames-are : old.frames ≡ live (b.trace ++ entry ∷ []) =
+    s.frames ∙ sym (live-poke b.trace b.machine machine) in
+    let halted : old.is_halted ≡ ends_in_halt (b.trace ++ entry ∷ []) =
+    s.is_halted ∙ sym (fold-append halts false b.trace (entry ∷ [])) in
+    let within : unwrap_or b.resumed 0 ≤ length (b.trace ++ entry ∷ []) =
+    let longer-by = length-append b.trace (entry ∷ []) in let before = s.within in omega arith in
+    let earlier-is : earlier new ≡ earlier b =
+    take-append-le (unwrap_or b.resumed 0) b.trace (entry ∷ []) s.within in
+    let since-is : since new ≡ since b ++ entry ∷ [] =
+    drop-append-le (unwrap_or b.resumed 0) b.trace (entry ∷ []) s.within in
+    let moves : old.has_moved ≡ has_step (since new) =
+    s.has_moved ∙ sym (rw since-is (step-none (since b) b.machine machine)) in
+    let stopped : b.run ≡ Stopped → b.request ≡ None = s.stopped in
+    let left : filter (stays (since b ++ entry ∷ [])) (live (earlier b))
+    ≡ filter (stays (since b)) (live (earlier b)) =
+    filter-stays-append (since b) (entry ∷ []) (live (earlier b))
+    ∙ filter-poke b.machine machine (filter (stays (since b)) (live (earlier b))) in
+    let follows : IsSome b.request → Follows old.older old.innermost old.is_gone (earlier new) (since new) =
+    λ asked. (let f = s.follows asked in record {
+      older_is = rw (earlier-is, since-is, left) f.older_is;
+      innermost_is = rw earlier-is f.innermost_is;
+      gone_is =
+          rw (earlier-is, since-is, gone-poke (innermost (live (earlier b))) (since b) b.machine machine)
+          f.gone_is;
+    }) in
+    let above : IsSome b.request → AtLeast machine.regs.sp (live (since new)) =
+    λ asked. rw (since-is, live-poke (since b) b.machine machine, same asked) (s.above asked) in
+    search rules
+
+pub stands_written : (old : LabState) (b : Board) (address : ℕ) (bytes : List ℕ) (machine : MachineState)
+    → StandsFor old b → machine ≡ with_bytes address bytes old.machine
+    → StandsFor (record old { machine = machine }) (after_write address bytes b)
+stands_written old b address bytes machine s is =
+    let machine-is : machine ≡ with_bytes address bytes b.machine =
+    is ∙ ap (λ m. with_bytes address bytes m) s.machine in
+    let M : MachineState → Type 0 =
+    λ m. StandsFor (record old { machine = m }) (after_write address bytes b) in
+    subst M (sym machine-is) (stands_changed old b (with_bytes address bytes b.machine) s
+    (λ asked. ap (λ (r : Registers). r.sp) (bytes-regs address bytes b.machine)))
+
+dropped : (old : LabState) (b : Board) → StandsFor old b
+    → StandsFor (record old { request = None }) (record b { request = None })
+dropped old b s = search rules
+
+pub stands_registers : (old : LabState) (b : Board) (registers : Registers) (machine : MachineState)
+    → StandsFor old b → machine ≡ with_regs old.machine registers
+    → StandsFor (record old { machine = machine; request = None }) (after_registers registers b)
+stands_registers old b registers machine s is =
+    let machine-is : machine ≡ with_regs b.machine registers =
+    is ∙ ap (λ (m : MachineState). with_regs m registers) s.machine in
+    let M : MachineState → Type 0 =
+    λ m. StandsFor (record old { machine = m; request = None }) (after_registers registers b) in
+    let d : StandsFor (record old { request = None }) (record b { request = None }) = dropped old b s in
+    subst M (sym machine-is) (stands_changed _ (record b { request = None }) (with_regs b.machine registers) d
+    (λ asked. cc))

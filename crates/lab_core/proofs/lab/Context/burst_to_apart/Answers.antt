@@ -1,0 +1,26 @@
+use Rattle.std.proofs.Common.{sym, subst}
+use Rattle.i80_exec.specs.State.{MachineState}
+use Rattle.lab_core.specs.Labs.{StandsAmid, MakesAtMost, amid}
+use Rattle.lab_core.proofs.lab.Context.burst_to_apart.Goals as goal
+
+pub burst_to-made-requires-clause-may : goal.burst_to-made-requires-clause-may
+burst_to-made-requires-clause-may c = rw c.replace-local.ensures.value c.requires.may
+
+pub returns-clause-made : goal.returns-clause-made
+returns-clause-made c =
+    let made = c.burst_to-made in
+    let M : MachineState → Type 0 = λ machine.
+    MakesAtMost c.args.most made.result (machine, c.args.self.now) (made.new.machine, made.new.self) in
+    let N : MachineState → Type 0 = λ machine.
+    MakesAtMost c.args.most made.result (c.args.machine.now, c.args.self.now) (machine, made.new.self) in
+    subst N (sym c.replace.ensures.after) (subst M c.replace-local.ensures.value made.ensures.made)
+
+pub returns-clause-passes : goal.returns-clause-passes
+returns-clause-passes c = λ lab b traffic s.
+    let M : MachineState → Type 0 = λ machine. StandsAmid (amid lab machine c.args.self.now) b traffic in
+    c.burst_to-made.ensures.passes lab b traffic (subst M (sym c.replace-local.ensures.value) s)
+
+pub returns-clause-unmarked : goal.returns-clause-unmarked
+returns-clause-unmarked c = λ some lab b traffic s.
+    let M : MachineState → Type 0 = λ machine. StandsAmid (amid lab machine c.args.self.now) b traffic in
+    c.burst_to-made.ensures.unmarked some lab b traffic (subst M (sym c.replace-local.ensures.value) s)

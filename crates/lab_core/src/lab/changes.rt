@@ -1,0 +1,39 @@
+//! Changes of the machine by hand, in any state of the run.
+ghost use Rattle.std.specs.Prelude.{◌≡◌};
+ghost use Rattle.lab_core.specs.Board.{Board};
+ghost use Rattle.lab_core.specs.Changes.{with_bytes, after_write, after_registers};
+ghost use Rattle.lab_core.specs.Labs.{StandsFor};
+
+use crate::lab::Lab;
+use i80_exec::machine::Machine;
+use i80_exec::registers::Registers;
+
+impl Lab {
+    /// Writes bytes to memory from an address on, by hand: this is no step of the run. Behind FFFFH they go
+    /// on at 0000H.
+    pub fn write(&mut self, address: u16, bytes: &[u8])
+        ensures { (b : Board) → StandsFor self.old b → StandsFor self.new (after_write address bytes.now b) }
+    {
+        store(&mut self.machine, address, bytes);
+    }
+
+    /// Sets the registers, the flags and the interrupt state, by hand: this is no step of the run. A Step
+    /// that isn't complete yet is dropped; a stopped run has none.
+    pub fn set_registers(&mut self, registers: Registers)
+        ensures { (b : Board) → StandsFor self.old b → StandsFor self.new (after_registers registers b) }
+    {
+        self.machine.set_regs(registers);
+        self.context.request = None;
+    }
+}
+
+// Stores bytes from an address on, where addresses wrap.
+fn store(machine: &mut Machine, start: u16, bytes: &[u8])
+    ensures { machine.new ≡ with_bytes start bytes.now machine.old }
+{
+    let mut address = start;
+    for byte in bytes {
+        machine.poke(address, *byte);
+        address = address.wrapping_add(1);
+    }
+}

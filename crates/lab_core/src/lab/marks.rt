@@ -1,0 +1,220 @@
+//! Slices up to a mark.
+ghost use Rattle.std.specs.Prelude.{◌≡◌, ◌+◌, ◌-◌, ◌<◌, ◌≤◌, length, None, Err, IsSome, IfOk, OnErr};
+ghost use Rattle.lab_core.specs.Board.{Board};
+ghost use Rattle.lab_core.specs.Slices.{IsSlice, after_steps, traffic_of, left_by};
+ghost use Rattle.lab_core.specs.Labs.{LabState, StandsFor, StandsAmid, amid, Watches, BurstMayBegin};
+ghost use Rattle.lab_core.specs.Labs.{MakesAtMost};
+ghost use Rattle.lab_core.specs.SliceEnds.{traffic_in};
+ghost use Rattle.lab_core.specs.Marks.{SlicesTo, first_mark, marks_after, steps_in, IsKept, PassesIn};
+
+use crate::answer::{Answer, SliceOutcome};
+use crate::fault::EventFault;
+use crate::lab::burst::BurstStep;
+use crate::lab::{Context, Lab};
+use crate::marks::Marks;
+use crate::run_state::RunState;
+use crate::seldom::seldom;
+use i80_exec::machine::Machine;
+use std::mem;
+
+impl Lab {
+    /// The slice that ends at the first mark: of so many steps, from 1 to n, as lead to it, or of n where
+    /// none does. It is a slice like any other, and a Step goes on through it. The marks then have the
+    /// values before and after its last step.
+    pub fn slice_to(&mut self, n: u16, marks: &mut Marks) -> Result<Answer, EventFault>
+        ensures applied { SlicesTo marks.old n self.old result self.new }
+        ensures marks { (b : Board) → StandsFor self.old b
+            → IfOk result (λ answer. marks.new ≡ marks_after (steps_in answer) b marks.old) }
+        ensures few { (b : Board) → StandsFor self.old b
+            → IfOk result (λ answer. length (traffic_in answer) ≤ n) }
+        ensures err { OnErr result ((self.new ≡ self.old) × (marks.new ≡ marks.old)) }
+        ensures memory { result ≡ Err EventFault.OutOfMemory → self.old.run ≡ RunState.Running }
+    {
+        match self.run_state {
+            RunState::NoRun | RunState::Stopped => Err(EventFault::NotRunning),
+            RunState::Running => {
+                self.context.devices.reserve_out(n.into())?;
+                let (executed, outcome) = self.run_to(n, marks);
+                let traffic = self.context.devices.take_out();
+                Ok(Answer::Sliced {
+                    executed,
+                    traffic,
+                    outcome,
+                })
+            }
+        }
+    }
+
+    // The run of such a slice.
+    fn run_to(&mut self, n: u16, marks: &mut Marks) -> (u16, SliceOutcome)
+        requires { n ≤ self.old.devices.spare }
+        ensures slice { (b : Board) → StandsFor self.old b
+            → IsSlice (first_mark marks.old n b) b result.0 result.1 }
+        ensures stands { (b : Board) → StandsFor self.old b
+            → StandsAmid self.new (left_by result.1 (after_steps result.0 b)) (traffic_of result.0 b) }
+        ensures marks { (b : Board) → StandsFor self.old b → marks.new ≡ marks_after result.0 b marks.old }
+    {
+        marks.begin(&self.machine);
+        let (executed, outcome) = self.steps_to(n, marks);
+        marks.finish(&self.machine, executed);
+        self.leave(outcome);
+        (executed, outcome)
+    }
+
+    fn steps_to(&mut self, n: u16, marks: &Marks) -> (u16, SliceOutcome)
+        requires room { n ≤ self.old.devices.spare }
+        requires kept { IsKept self.old.machine marks.now }
+        ensures slice { (b : Board) → StandsFor self.old b
+            → IsSlice (first_mark marks.now n b) b result.0 result.1 }
+        ensures stands { (b : Board) → StandsFor self.old b
+            → StandsAmid self.new (after_steps result.0 b) (traffic_of result.0 b) }
+        ensures kept { (b : Board) → StandsFor self.old b
+            → IsKept (after_steps (result.0 - 1) b).machine marks.now }
+    {
+        let is_watched = self.is_watched();
+        self.context
+            .steps_to(&mut self.machine, &mut self.spare, n, is_watched, marks)
+    }
+}
+
+impl Context {
+    // At most n steps, until the first that leads to a mark, or there is a reason to make no further one.
+    fn steps_to(
+        &mut self,
+        machine: &mut Machine,
+        spare: &mut Option<Machine>,
+        n: u16,
+        is_watched: bool,
+        marks: &Marks,
+    ) -> (u16, SliceOutcome)
+        requires spare { IsSome spare.old }
+        requires room { n ≤ self.old.devices.spare }
+        requires watched { Watches is_watched self.old.is_attached self.old.request }
+        requires kept { IsKept machine.old marks.now }
+        ensures slice { (lab : LabState) (b : Board) → StandsFor (amid lab machine.old self.old) b
+            → IsSlice (first_mark marks.now n b) b result.0 result.1 }
+        ensures stands { (lab : LabState) (b : Board) → StandsFor (amid lab machine.old self.old) b
+            → StandsAmid (amid lab machine.new self.new) (after_steps result.0 b) (traffic_of result.0 b) }
+        ensures kept { (lab : LabState) (b : Board) → StandsFor (amid lab machine.old self.old) b
+            → IsKept (after_steps (result.0 - 1) b).machine marks.now }
+        ensures spare { IsSome spare.new }
+    {
+        let mut k = 0u16;
+        while k < n {
+            let (made, found) = self.round_to(machine, spare, n - k, is_watched, marks);
+            k += made;
+            if let Some(outcome) = found {
+                seldom();
+                return (k, outcome);
+            }
+            if marks.is_at(machine) {
+                seldom();
+                let last = self.early(machine, is_watched);
+                return (k, last.unwrap_or(SliceOutcome::More));
+            }
+        }
+        let early = self.early(machine, is_watched);
+        (n, early.unwrap_or(SliceOutcome::More))
+    }
+
+    // Steps of which none but the last may lead to a mark; or the first reason to make none.
+    #[inline(always)]
+    fn round_to(
+        &mut self,
+        machine: &mut Machine,
+        spare: &mut Option<Machine>,
+        most: u16,
+        is_watched: bool,
+        marks: &Marks,
+    ) -> (u16, Option<SliceOutcome>)
+        requires spare { IsSome spare.old }
+        requires room { most ≤ self.old.devices.spare }
+        requires some { 1 ≤ most }
+        requires watched { Watches is_watched self.old.is_attached self.old.request }
+        requires kept { IsKept machine.old marks.now }
+        ensures made { MakesAtMost most result (machine.old, self.old) (machine.new, self.new) }
+        ensures passes { PassesIn marks.now result.0 machine.old self.old }
+        ensures unmarked { IsSome result.1 → PassesIn marks.now (result.0 + 1) machine.old self.old }
+        ensures spare { IsSome spare.new }
+    {
+        if let Some(outcome) = self.look(machine, is_watched) {
+            seldom();
+            return (0, Some(outcome));
+        }
+        let reach = self.frames.reach();
+        if !self.is_ready(machine, reach) {
+            return self.single(machine);
+        }
+        let is_asked = self.request.is_some();
+        self.burst_to_apart(machine, spare, most, is_asked, reach, marks)
+    }
+
+    // A burst of them, where the machine is a local value as in `burst_apart`.
+    #[inline(never)]
+    fn burst_to_apart(
+        &mut self,
+        machine: &mut Machine,
+        spare: &mut Option<Machine>,
+        most: u16,
+        is_asked: bool,
+        reach: u32,
+        marks: &Marks,
+    ) -> (u16, Option<SliceOutcome>)
+        requires spare { IsSome spare.old }
+        requires some { 1 ≤ most }
+        requires may { BurstMayBegin most reach is_asked machine.old self.old }
+        requires kept { IsKept machine.old marks.now }
+        ensures made { MakesAtMost most result (machine.old, self.old) (machine.new, self.new) }
+        ensures passes { PassesIn marks.now result.0 machine.old self.old }
+        ensures unmarked { IsSome result.1 → PassesIn marks.now (result.0 + 1) machine.old self.old }
+        ensures spare { IsSome spare.new }
+    {
+        let given = spare.take().unwrap();
+        let mut local = mem::replace(machine, given);
+        let made = self.burst_to(&mut local, most, is_asked, reach, marks);
+        *spare = Some(mem::replace(machine, local));
+        made
+    }
+
+    // Steps until the first after which no burst goes on, or that leads to a mark or to a breakpoint.
+    #[inline(always)]
+    fn burst_to(
+        &mut self,
+        machine: &mut Machine,
+        most: u16,
+        is_asked: bool,
+        reach: u32,
+        marks: &Marks,
+    ) -> (u16, Option<SliceOutcome>)
+        requires some { 1 ≤ most }
+        requires may { BurstMayBegin most reach is_asked machine.old self.old }
+        requires kept { IsKept machine.old marks.now }
+        ensures made { MakesAtMost most result (machine.old, self.old) (machine.new, self.new) }
+        ensures passes { PassesIn marks.now result.0 machine.old self.old }
+        ensures unmarked { IsSome result.1 → PassesIn marks.now (result.0 + 1) machine.old self.old }
+    {
+        let looks_up = self.looks_up();
+        let mut left = most;
+        let mut reach = reach;
+        while left > 0 {
+            match self.burst_step(machine, is_asked, reach) {
+                BurstStep::Within(now) => reach = now,
+                BurstStep::Last => return (most - left + 1, None),
+                BurstStep::Ended(outcome) => {
+                    seldom();
+                    return (most - left, Some(outcome));
+                }
+            }
+            left -= 1;
+            if marks.is_at(machine) {
+                seldom();
+                return (most - left, None);
+            }
+            if let Some(_) = self.met(machine, looks_up) {
+                seldom();
+                return (most - left, None);
+            }
+        }
+        (most, None)
+    }
+}
