@@ -30,8 +30,7 @@ pub fn places_are_shown_by_name()
     ensures name { (reference : ℕ) (name : List ℕ) (place : Place)
         → place_named reference name ≡ Ok place → shown_name place ≡ map to_ascii_uppercase name }
     ensures registers { All (λ register. place_named 1 (shown_name register) ≡ Ok register) registers }
-    ensures bytes { (address : ℕ) → address < 65536
-        → place_named 5 (shown_name (Memory address)) ≡ Ok (Memory address) }
+    ensures bytes { (a : ℕ) → a < 65536 → place_named 5 (shown_name (Memory a)) ≡ Ok (Memory a) }
 {}
 
 /// A value that a place holds is read from the text by which it is shown.
