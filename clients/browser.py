@@ -84,9 +84,10 @@ class Browser:
         keys += [{"type": "keyUp", "value": key} for key in held]
         self.ask("POST", "/actions", {"actions": [{"type": "key", "id": "keyboard", "actions": keys}]})
 
-    def screenshot(self):
-        """The window as a PNG file."""
-        return base64.b64decode(self.ask("GET", "/screenshot"))
+    def screenshot(self, selector=None):
+        """The window as a PNG file, or the place of an element in it."""
+        place = f"/element/{self.find(selector)}" if selector else ""
+        return base64.b64decode(self.ask("GET", place + "/screenshot"))
 
     def window(self):
         """The window that commands go to, by its name."""

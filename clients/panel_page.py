@@ -40,11 +40,11 @@ ASK = """
     debug(command, given).then(done, refusal => done(refusal.message));"""
 
 
-def keep_picture(browser, name):
-    """Keeps the window as a picture, where a folder is named."""
+def keep_picture(browser, name, selector=None):
+    """Keeps the window as a picture, or an element in it, where a folder is named."""
     if PICTURES:
         with open(os.path.join(PICTURES, name + ".png"), "wb") as file:
-            file.write(packed(browser.screenshot()))
+            file.write(packed(browser.screenshot(selector)))
 
 
 class Page:
@@ -120,13 +120,16 @@ class Page:
     def is_attached(self):
         return self.run("return document.getElementById('attached').checked")
 
-    def picture(self, name, width=1140, height=890):
-        """Keeps the page as a picture of a size, where a folder is named."""
+    def picture(self, name, width=1140, height=890, selector=None, top=0):
+        """Keeps the page in a window of a size as a picture, from so many points below its top on, or an element of it, where a folder
+        is named."""
         if PICTURES:
             self.browser.size(width, height)
+            self.run("scrollTo(0, arguments[0])", top)
             time.sleep(0.5)
-            keep_picture(self.browser, name)
+            keep_picture(self.browser, name, selector)
             self.browser.size(1250, 1130)
+            self.run("scrollTo(0, 0)")
 
     # what is waited for
 
@@ -161,6 +164,11 @@ class Page:
             raise TimeoutError(f"it shows {read()!r}, and not {text!r}") from None
 
     # what is done
+
+    def reload(self):
+        """Loads the page anew, and waits until it is connected again."""
+        self.run("window.isOld = true; location.reload()")
+        self.waits(lambda: self.run("return !window.isOld") and self.state() not in ("connecting", ""))
 
     def click(self, selector, number=0):
         self.run(CLICK, selector, number)

@@ -12,7 +12,7 @@ import nbformat
 from browser import DELETE, ENTER, ESCAPE, HOME, SHIFT, TAB, Browser, wait_until
 from jupyter_servers import free_port
 from lab80_client import ASKS, ENDLESS, HELLO
-from pictures import packed
+from panel_page import PICTURES, keep_picture
 
 KERNEL = os.environ.get("LAB80_KERNEL", "lab80")
 
@@ -65,6 +65,8 @@ MARKS = """
         });
         return [current, breaks];
     });"""
+
+HAS_MARGIN = "return document.querySelector('.lab80-margin') !== null"
 
 LAMP = "return document.getElementById('kernel_indicator_icon').className"
 
@@ -158,14 +160,14 @@ class Notebook(unittest.TestCase):
         for file in ("shared.js", "errors.js", "cards.js"):
             self.assertIn([file, version], loaded)
 
-    def keep_picture(self, variable):
-        """Where a file is named, keeps the page as a picture."""
-        path = os.environ.get(variable)
-        if path:
+    def keep_picture(self, name, height=900):
+        """Keeps the page in a window of a height as a picture, where a folder is named."""
+        if PICTURES:
+            self.browser.size(1000, height)
             self.browser.run("document.getElementById('site').scrollTo(0, 0)")
             time.sleep(0.5)
-            with open(path, "wb") as file:
-                file.write(packed(self.browser.screenshot()))
+            keep_picture(self.browser, name)
+            self.browser.size(1000, 900)
 
     def test_cells_are_typed_run_and_shown(self):
         self.open("first")
@@ -174,7 +176,7 @@ class Notebook(unittest.TestCase):
         self.run_cell(FAULTY)
         self.shows(2, "AssemblyError: 3:1 Mnemonic")
         wait_until(lambda: self.told(2)["why"])
-        self.keep_picture("LAB80_SCREENSHOT")
+        self.keep_picture("notebook")
 
     def test_a_fault_is_told_in_words(self):
         self.open("faulty", FAULTY)
@@ -247,6 +249,7 @@ class Notebook(unittest.TestCase):
         while self.browser.run("return window.looks") < 6 and time.monotonic() < until:
             self.assertEqual(self.browser.run(LAMP), "kernel_busy_icon")
         self.assertGreaterEqual(self.browser.run("return window.looks"), 6)
+        self.keep_picture("notebook-running", 560)
         self.interrupt()
         wait_until(lambda: self.browser.run(LAMP) == "kernel_idle_icon")
 
@@ -280,6 +283,21 @@ class Notebook(unittest.TestCase):
         wait_until(lambda: self.browser.run(LAMP) == "kernel_busy_icon")
         self.interrupt()
         wait_until(lambda: self.browser.run(LAMP) == "kernel_idle_icon")
+
+    def test_a_page_that_is_opened_while_a_cell_runs_shows_it(self):
+        self.open("running", LOOP)
+        for _ in range(2):
+            self.execute(1)
+            wait_until(lambda: self.browser.run(LAMP) == "kernel_busy_icon")
+            self.browser.run_later("Jupyter.notebook.save_notebook().then(arguments[0])")
+            self.browser.open(f"{self.address}/notebooks/running.ipynb")
+            wait_until(lambda: self.browser.run(HAS_MARGIN))
+            wait_until(lambda: self.browser.run(LAMP) == "kernel_busy_icon")
+            # and it stays so
+            time.sleep(1)
+            self.assertEqual(self.browser.run(LAMP), "kernel_busy_icon")
+            self.interrupt()
+            wait_until(lambda: self.browser.run(LAMP) == "kernel_idle_icon")
 
     def test_columns_by_keys(self):
         self.open("columns")

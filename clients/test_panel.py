@@ -137,6 +137,7 @@ class Doors:
         self.server.start_kernel("lab80")
         page.click("#look-again")
         page.waits(lambda: len(page.texts("#kernels a")) == 2)
+        page.picture("panel-boards", 800, 420)
         page.click("#kernels a", page.texts("#kernels a").index("some notebook.ipynb"))
         page.waits(lambda: page.state() in ("connected", "idle") and page.text("#place") == "some notebook.ipynb")
 
@@ -292,6 +293,9 @@ class Panel(Pages, Doors):
         self.assertEqual([frame.split("line")[0] for frame in page.frames()], ["STAR", "main"])
         page.choose("#dress", "digits")
         page.picture("panel", 1300, 1190)
+        page.browser.prefer("dark")
+        page.picture("panel-narrow", 800)
+        page.browser.prefer("light")
         page.command("stepOut")
         page.waits(lambda: len(page.frames()) == 1)
         page.prints("**")

@@ -95,6 +95,7 @@ class InNotebook(NotebookPages):
         self.shows(0, "*")
         self.execute(1)
         page.is_in("running")
+        page.waits(lambda: page.run("return known.texts.size") == 2)
         self.browser.use(self.window)
         self.assertEqual(self.browser.run(PROMPTS), ["In [1]:", "In [*]:"])
         kill(self.browser.run("return Jupyter.notebook.kernel.id"))

@@ -1,7 +1,9 @@
 """The front panel while a program runs, and the ways to walk through one: live values, slow runs, the trace and going back in it."""
+import re
 import time
 
 from browser import F6
+from lab80_client import ENDLESS
 from panel_page import SAVES
 from panel_tests import Pages
 from test_panel import CALLS, COPIES
@@ -22,6 +24,20 @@ LOOP:   EI
 
 # An endless count in B.
 COUNTS = "        ORG 100H\nSTART:  MVI B,0\nLOOP:   INR B\n        NOP\n        JMP LOOP\n        END START\n"
+
+
+# Sends empty cells again and again, until one is told to have ended and then again: how many it sends.
+LEAVES_CELLS = """
+    const [done] = arguments;
+    import('./shared.js').then(({sendEmptyCell, noteEmptyCell}) => {
+        const counts = [], sent = [];
+        for (let round = 0; round < 2; ++round) {
+            for (let count = 0; count < 20; ++count) sendEmptyCell(message => sent.push(message), 'a session', 'a kernel');
+            counts.push(sent.length);
+            noteEmptyCell('a kernel');
+        }
+        done(counts);
+    });"""
 
 
 class Live(Pages):
@@ -50,6 +66,7 @@ class Live(Pages):
         page.press(1)
         page.waits(lambda: page.registers()["B"] == "01")
         page.waits(lambda: page.state() == "waits for a button")
+        page.picture("panel-waits", 1140, 640)
         page.click("#interrupt")
         page.is_in("idle")
 
@@ -85,6 +102,24 @@ class Live(Pages):
         late.run("location.reload()")
         late.waits(lambda: late.state() == "idle" and "INR B" in late.text("#source"))
 
+    def test_a_page_that_is_loaded_anew_while_a_cell_runs(self):
+        """Also where no register changes, and without other pages that tell; and however often."""
+        page = self.open()
+        for text in (ENDLESS, WAITS, COUNTS):
+            page.run_cell(text)
+            page.is_in("running")
+            page.reload()
+            page.is_in("running")
+            page.click("#interrupt")
+            page.is_in("idle")
+            page.reload()
+            page.is_in("idle")
+
+    def test_a_window_leaves_few_cells_in_the_kernel(self):
+        """Where it is loaded anew often while a cell runs; once one has ended it may leave some again."""
+        page = self.open()
+        self.assertEqual(page.browser.run_later(LEAVES_CELLS), [8, 16])
+
     def test_an_ended_kernel_leads_back_and_a_board_is_started_from_the_list(self):
         page = self.open()
         page.is_in("idle")
@@ -100,6 +135,91 @@ class Live(Pages):
         page.run_cell("        MVI A,'x'\n        OUT 1\n        HLT\n        END 0\n")
         page.prints("x")
         self.assertEqual(len(self.server.ask("GET", "/api/kernels")), 1)
+
+
+# What is marked as changed.
+CHANGED = "return [...document.querySelectorAll('#values .changed[data-name]')].map(each => each.dataset.name)"
+
+# Steps as soon as a stop is told of, so often; the first look at it isn't whole by then.
+STEPS_AT_ONCE = """
+    let left = arguments[0], last = board.stops;
+    const go = () => {
+        if (!board.stopped || board.stops === last || left === 0) return;
+        --left;
+        last = board.stops;
+        command('stepIn');
+    };
+    on('state', go);
+    on('devices', go);"""
+
+# Changes a byte of the memory that HL shows, which has moved a step before.
+MOVES = "        ORG 100H\nSTART:  LXI H,200H\n        INX H\n        INR M\n        HLT\n        END START\n"
+
+# Holds back what the kernel posts to all, until it is released; and steps by another client while the next look is under way.
+OTHER_STEPS = """
+    const hears = line.socket.onmessage, held = [];
+    line.socket.onmessage = event => JSON.parse(event.data).channel === 'iopub' ? void held.push(event) : hears(event);
+    window.release = () => { line.socket.onmessage = hears; held.forEach(hears); };
+    const header = {msg_id: "other", msg_type: "debug_request", session: "other", username: "", version: "5.4", date: ""};
+    const content = {type: "request", seq: 1, command: "stepIn", arguments: {threadId: 1}};
+    let isDone = false;
+    on('devices', () => {
+        if (isDone) return;
+        isDone = true;
+        line.socket.send(JSON.stringify({channel: "control", header, parent_header: {}, metadata: {}, content, buffers: []}));
+    });"""
+
+
+class Marks(Pages):
+    """What a step has changed is marked, however quickly one steps."""
+
+    def runs(self, text, line):
+        """A page with a program that has run, and has a breakpoint."""
+        page = self.open()
+        page.run_cell(text)
+        page.waits(lambda: page.state() == "idle" and page.texts("#source .line"))
+        page.toggle(line)
+        return page
+
+    def test_a_step_from_a_stop_that_was_not_shown(self):
+        """It makes A what it was before the run. A look takes longer where the memory that is shown follows PC."""
+        page = self.runs(CALLS, 5)
+        page.waits(lambda: page.registers()["A"] == "0B")
+        page.look_at("PC")
+        page.run(STEPS_AT_ONCE, 1)
+        page.click("#run")
+        page.stops("step", 6)
+        page.waits(lambda: (page.registers()["A"], "A" in page.run(CHANGED)) == ("0B", True))
+
+    def test_quick_steps(self):
+        """However many of the stops are shown, the trace has each change: what a value was at one is what it became at the one before."""
+        page = self.runs(CALLS, 3)
+        page.click("#run")
+        page.stops("breakpoint", 3)
+        page.waits(lambda: page.texts("#trace tbody tr"))
+        page.run(STEPS_AT_ONCE, 3)
+        page.command("stepIn")
+        page.stops("step", 10)
+        page.waits(lambda: page.registers()["PC"] == "010F")
+        changes = re.findall(r"\b(A|SP) (\w+)\u2192(\w+)", "\n".join(page.texts("#trace tbody td:last-child")))
+        for name, first in (("A", "0B"), ("SP", "1000")):
+            mine = [each[1:] for each in changes if each[0] == name]
+            self.assertEqual([before for before, _ in mine], [first, *(after for _, after in mine)][:len(mine)], changes)
+            self.assertEqual(mine[-1][1], page.registers()[name])
+
+    def test_a_look_that_falls_between_two_stops(self):
+        page = self.runs(MOVES, 3)
+        page.look_at("HL")
+        page.click("#run")
+        page.stops("breakpoint", 3)
+        page.waits(lambda: page.texts("#memory th")[0] == "0200")
+        page.run(OTHER_STEPS)
+        page.command("stepIn")
+        page.waits(lambda: page.text("#memory [data-name='0201']") == "02" and page.registers()["PC"] == "0104")
+        page.run("window.release()")
+        page.stops("step", 5)
+        page.waits(lambda: page.registers()["PC"] == "0105")
+        self.assertIn("0201", page.run(CHANGED))
 
 
 class Walk(Pages):
@@ -180,6 +300,7 @@ class Walk(Pages):
         self.assertEqual((page.text("#past-shown"), page.line()), ("2 stops ago", 4))
         self.assertEqual((page.registers()["A"], page.registers()["SP"], page.at_pc()), ("05", "1000", "0105CD 0A 01CALL TWICE"))
         self.assertEqual(page.frames(), ["mainline 4  0105H"])
+        page.picture("panel-trace", 1140, 960, top=250)
         editable = "return document.querySelectorAll('#registers button').length"
         self.assertEqual(page.run(editable), 0)
         self.assertTrue(page.run("return document.querySelector('[data-command=stepIn]').disabled"))

@@ -287,7 +287,7 @@ define([
 
     // The requests whose cells run; an empty one stands for a cell that ran already when this page was opened.
     const runs = new Set();
-    // How often a cell has ended.
+    // How often a cell has ended, or the kernel was lost.
     let ends = 0;
 
     /** Whether Notebook hears of a status. It takes each idle for its cell's, but what is asked while a cell runs ends nothing. */
@@ -295,6 +295,7 @@ define([
         const {msg_id: request = "", msg_type: type} = parent || {};
         if (type === "debug_request") return false;
         if (state !== "busy" && state !== "idle") runs.clear();
+        else if (shared.isEmptyCell(parent || {})) return state === "idle" && noteIdle();
         else if (type === undefined) noteRun("", state);
         else if (type === "execute_request") noteRun(request, state);
         else return runs.size === 0;
@@ -309,12 +310,34 @@ define([
         else runs.clear();
     }
 
-    /** A page that is opened while a program is stopped isn't told that a cell runs. A stop that was seen before a cell's end tells
-     *  nothing any more. */
-    function noteStopped(endsBefore) {
+    /** A page that is opened while a cell runs isn't told so. What was learnt before a cell's end tells nothing any more. */
+    function noteBusy(endsBefore) {
         if (endsBefore !== ends || runs.size > 0) return;
         runs.add("");
-        events.trigger("kernel_busy.Kernel", {kernel: Jupyter.notebook.kernel});
+        showRuns();
+    }
+
+    /** Notebook shows a kernel that is ready as idle. */
+    function showRuns() {
+        if (runs.size > 0) events.trigger("kernel_busy.Kernel", {kernel: Jupyter.notebook.kernel});
+    }
+
+    /** An empty cell has ended, and so all that waited before it. Notebook hears of it if it took a cell to run. */
+    function noteIdle() {
+        const isNews = runs.size > 0;
+        noteRun("", "idle");
+        shared.noteEmptyCell(Jupyter.notebook.kernel.id);
+        return isNews;
+    }
+
+    // Whether the kernel was asked if a cell runs, since Notebook has connected to it.
+    let isAsked = false;
+
+    /** Asks the kernel by an empty cell, which waits behind one that runs. */
+    function askRuns(socket, before) {
+        isAsked = true;
+        shared.sendEmptyCell(message => socket.send(JSON.stringify(message)), line.requests.session, line.kernel);
+        setTimeout(() => noteBusy(before), shared.EMPTY_CELL_TAKES);
     }
 
     // ---- the debugger's marks
@@ -444,7 +467,8 @@ define([
         const isStopped = info.stoppedThreads.length > 0;
         const trace = isStopped ? await debug("stackTrace", {threadId: 1, levels: 1}) : {stackFrames: []};
         if (mine !== looks) return;
-        if (isStopped) noteStopped(before);
+        if (isStopped) noteBusy(before);
+        else if (!isAsked) askRuns(await opened(), before);
         Object.assign(board, {info, frame: trace.stackFrames[0] || null});
         draw();
     }
@@ -467,6 +491,8 @@ define([
         ++looks;
         clearTimeout(timer);
         runs.clear();
+        ++ends;
+        isAsked = false;
         Object.assign(board, {info: null, frame: null});
         closeLine();
         draw();
@@ -614,6 +640,7 @@ define([
         events.on("shell_reply.Kernel", (_, data) => noteReply(data));
         events.on("kernel_connected.Kernel", listen);
         events.on("kernel_ready.Kernel", colourCells);
+        events.on("kernel_ready.Kernel", showRuns);
         events.on("kernel_restarting.Kernel kernel_dead.Kernel kernel_disconnected.Kernel", forget);
         document.addEventListener("visibilitychange", onVisible);
         if (isOwn() && Jupyter.notebook.kernel.is_connected()) listen();

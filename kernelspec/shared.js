@@ -29,10 +29,10 @@ export class Refusal extends Error {
     }
 }
 
-/** The debug requests of one session that wait for their replies. */
+/** The debug requests of one session that wait for their replies; `last` is the number of the reply that came last. */
 export class Requests {
     constructor(session) {
-        Object.assign(this, {session, waiting: new Map(), sequence: 0});
+        Object.assign(this, {session, waiting: new Map(), sequence: 0, last: 0});
     }
 
     /** Sends a command by a function that takes a message. Returns the body of the reply, with the reply's own number as `seq`;
@@ -59,6 +59,7 @@ export class Requests {
         if (!request) return;
         this.waiting.delete(id);
         clearTimeout(request.timer);
+        if (content.seq) this.last = content.seq;
         if (content.success) request.done({...content.body, seq: content.seq});
         else request.fail(new Refusal(request.command, content.message));
     }
@@ -70,6 +71,47 @@ export class Requests {
 
     dropAll() {
         for (const id of [...this.waiting.keys()]) this.drop(id);
+    }
+}
+
+// ---- whether a cell runs
+
+// The kernel lets 64 cells wait. However often a window is loaded anew while a cell runs, it leaves at most so many empty ones there.
+const MOST_LEFT = 8;
+
+/** Milliseconds in which a kernel that is idle has run an empty cell. */
+export const EMPTY_CELL_TAKES = 500;
+
+/** Sends an empty cell that no frontend shows, by a function that takes a message. It waits until the cells before it have ended: if
+ *  it doesn't end soon, one of them runs. Nothing else tells that to a page that is opened late, since a server says of a
+ *  kernel what this has said last, and each look at the board makes it say `idle`. A window that has left enough of them sends none. */
+export function sendEmptyCell(send, session, kernel) {
+    const left = cellsLeft(kernel);
+    if (left >= MOST_LEFT) return;
+    noteCellsLeft(kernel, left + 1);
+    const content = {code: "", silent: true, store_history: false, user_expressions: {}, allow_stdin: false, stop_on_error: false};
+    send(messageOf(session, "shell", "execute_request", content, {username: LOOKS}));
+}
+
+/** Whether the parent of a status is an empty cell. Its end means that no cell runs. */
+export const isEmptyCell = ({msg_type: type, username}) => type === "execute_request" && username === LOOKS;
+
+/** An empty cell has ended, and so have those that were left before it. */
+export const noteEmptyCell = kernel => noteCellsLeft(kernel, 0);
+
+function cellsLeft(kernel) {
+    try {
+        return Number(sessionStorage.getItem(`lab80 cells left ${kernel}`));
+    } catch {
+        return 0;
+    }
+}
+
+function noteCellsLeft(kernel, count) {
+    try {
+        sessionStorage.setItem(`lab80 cells left ${kernel}`, count);
+    } catch {
+        // a browser that keeps nothing counts none
     }
 }
 

@@ -19,7 +19,9 @@ export const board = {
     registers: [], flags: [], symbols: [], memory: [], stack: [], code: [], devices: {},
     // registers, flags and bytes as they were at the stop before, to mark what the run has changed since; and as they were when
     // nothing ran last
-    before: {}, atRest: {}, isNewRun: true,
+    before: {}, atRest: {},
+    // whether no stop of the run was told of yet, and whether one was shown
+    isNewRun: true, isStopShown: false,
     latched: "none", switches: 0, lamps: 0,
 };
 
@@ -41,6 +43,7 @@ export function keepText(path, cell) {
 export function forget() {
     Object.assign(board, {attached: false, stopped: false, reason: "", running: undefined, canEdit: undefined, waits: false});
     Object.assign(board, {stopSeq: 0, wentOn: 0, frames: [], frame: null});
+    Object.assign(shown, {from: 0, until: 0});
     board.breakpoints.clear();
     own.cells.clear();
     known.cells.clear();
@@ -66,15 +69,41 @@ function beginStop() {
 }
 
 /** Values by their names, with which later ones are compared. */
-export function snapshot() {
-    const flags = board.flags.map(each => ({name: "flag " + each.name, value: each.value}));
-    const all = [...board.registers, ...flags, ...board.stack, ...board.memory];
-    return Object.fromEntries(all.map(each => [each.name, each.value]));
+export function snapshot({registers, flags, stack, memory} = board) {
+    const named = flags.map(each => ({name: "flag " + each.name, value: each.value}));
+    return Object.fromEntries([...registers, ...named, ...stack, ...memory].map(each => [each.name, each.value]));
 }
 
 /** Keeps the values that are shown, unless a run changes them meanwhile. */
 export function keepAtRest() {
     if (board.stopped || board.running !== true) board.atRest = snapshot();
+}
+
+// The stop that was shown last: the number of the post up to which the first look at it has seen what happened, that of the last
+// look's last reply, and what was kept before.
+const shown = {stops: 0, from: 0, until: 0, before: {}};
+
+/** Keeps the values that a whole look has shown, which was made between posts of these numbers. */
+export function keepShown(from, until) {
+    if (board.stopped) {
+        if (board.stops !== shown.stops) Object.assign(shown, {stops: board.stops, from, before: board.atRest});
+        shown.until = until;
+        board.isStopShown = true;
+    }
+    keepAtRest();
+}
+
+/** The program has gone on. If that was amid the looks at a stop, these have seen two stops, and what they have kept is dropped. */
+export function noteGoneOn(seq) {
+    if (seq > shown.from && seq < shown.until) board.atRest = shown.before;
+}
+
+/** The program has gone on from a stop that wasn't shown. With its values the next stop is compared, which may have been told of
+ *  already. */
+export function keepLeft(values) {
+    board.atRest = snapshot(values);
+    board.isNewRun = false;
+    if (board.stopped) board.before = board.atRest;
 }
 
 /** Whether something may run: it isn't stopped, nor is the board known to be idle. */

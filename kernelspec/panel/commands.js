@@ -1,8 +1,8 @@
 // Commands to the board, and what the page says where one is refused.
-import {board, known, noteStop} from "./board.js";
+import {board, keepLeft, known, noteStop} from "./board.js";
 import {ask, byId, turns} from "./dom.js";
 import {Refusal, debug, isOpen, send} from "./line.js";
-import {lookSoon, noteDevices, onRefusedLook, variables} from "./look.js";
+import {leftValues, lookSoon, noteDevices, onRefusedLook, variables} from "./look.js";
 import {emit} from "./signals.js";
 
 const SAID = {
@@ -39,18 +39,20 @@ onRefusedLook(fault => tell(`${fault.command}: ${reasonOf(fault)}`));
 
 const TITLES = {continue: "Continue", pause: "Pause", next: "Over", stepIn: "In", stepOut: "Out"};
 
+async function goOn(name, given) {
+    board.reason = "";
+    const [left, {seq}] = await Promise.all([leftValues(), debug(name, given)]);
+    board.wentOn = seq;
+    noteStop(seq, false);
+    if (left) keepLeft(left);
+}
+
 /** A command of the debugger. */
 export async function command(name) {
     emit("command", name);
     const given = {threadId: 1}, isStep = name !== "continue" && name !== "pause";
     if (isStep) given.granularity = byId("granularity").value;
-    if (name !== "pause") board.reason = "";
-    const refusal = await attempt(TITLES[name], async () => {
-        const {seq} = await debug(name, given);
-        if (name === "pause") return;
-        board.wentOn = seq;
-        noteStop(seq, false);
-    });
+    const refusal = await attempt(TITLES[name], () => name === "pause" ? debug(name, given) : goOn(name, given));
     if (refusal === "NotRunning" && !board.stopped) board.running = false;
     // most steps are done by now, so that nothing is drawn before the look, which tells
     if (isStep || refusal) lookSoon(0);

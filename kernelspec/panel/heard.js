@@ -1,10 +1,10 @@
 // What the kernel posts, and what follows from it.
-import {LOOKS} from "../shared.js";
-import {board, forget, known, noteStop, own} from "./board.js";
+import {LOOKS, isEmptyCell} from "../shared.js";
+import {board, forget, known, noteGoneOn, noteStop, own} from "./board.js";
 import {noteBegin, noteEnd, noteFault, setAsks} from "./cell.js";
 import {print, printError, printNote} from "./console.js";
 import {SESSION, isThere, line} from "./line.js";
-import {notePanel} from "./live.js";
+import {noteIdle, notePanel} from "./live.js";
 import {lookAfter, lookState, lookSoon, nameText, nameTexts} from "./look.js";
 import {emit, on} from "./signals.js";
 
@@ -26,6 +26,7 @@ export const posts = {
         const state = content.execution_state;
         if (state === "restarting" || state === "dead") return kernelIsGone(state);
         if (parent.msg_type === undefined) return newConnection(state);
+        if (isEmptyCell(parent)) return state === "idle" && noteIdle();
         if (parent.msg_type === "execute_request") return cellIs(state, parent.msg_id);
         if (parent.msg_type === "shutdown_request" && state === "idle") kernelEnds();
         if (parent.session !== SESSION && parent.username === LOOKS) notePanel(parent.session);
@@ -34,6 +35,7 @@ export const posts = {
     },
     execute_input(content, parent) {
         lookState.symbolsAreStale = board.isNewRun = true;
+        board.isStopShown = false;
         noteRunning();
         const cell = {text: content.code, count: content.execution_count, fault: null};
         known.cells.set(parent.msg_id, cell);
@@ -124,5 +126,6 @@ function stoppedNow(content) {
 /** A step goes on for a moment, which isn't worth drawing. */
 function continuedNow(content) {
     noteStop(content.seq, false);
+    noteGoneOn(content.seq);
     lookAfter(content.seq, 40);
 }

@@ -1,9 +1,9 @@
 // What is shown while a program runs: lamps twice a second, and with them registers, flags and code, unless many panels look.
+import {EMPTY_CELL_TAKES, noteEmptyCell, sendEmptyCell} from "../shared.js";
 import {board, mayRun, register} from "./board.js";
 import {byId, numberOf} from "./dom.js";
-import {isOpen, line} from "./line.js";
+import {SESSION, isOpen, line} from "./line.js";
 import {followCode, lookState, noteDevices, tellLook, variables} from "./look.js";
-import {fetchJson} from "./server.js";
 import {emit, on} from "./signals.js";
 
 // At most two looks a second, and none where nothing can change by itself.
@@ -52,8 +52,6 @@ async function lookLive() {
     noteDevices(devices);
     Object.assign(board, {registers, flags});
     const isSame = JSON.stringify(before.registers) === JSON.stringify(registers);
-    // a page that came late: what changes by itself runs
-    if (board.running === undefined && !isSame && before.registers.length > 0) noteRuns(true);
     const waits = isSame && board.running === true && await isAtHalt(pc);
     if (mine !== lookState.number || !mayRun()) return;
     if (waits !== board.waits) {
@@ -77,34 +75,27 @@ export function noteRuns(isRunning) {
     emit("state");
 }
 
-const isBusy = async () => {
-    const {content} = await fetchJson("api/kernels/" + encodeURIComponent(line.kernel));
-    return content !== null && content.execution_state === "busy";
-};
+// Milliseconds in which other pages of this browser tell whether a cell runs.
+const OTHERS_TELL = 150;
 
-let wasBusy = false;
+const passed = milliseconds => new Promise(done => setTimeout(done, milliseconds));
 
-/** Asks the server whether the kernel is busy, before this page asks the kernel for anything, which makes it busy for a moment. A
- *  look of another page does too: so it counts what is said twice. */
-export async function askServer() {
-    wasBusy = await isBusy();
-    if (!wasBusy) return;
-    await new Promise(done => setTimeout(done, 150));
-    wasBusy = await isBusy();
+/** A page that comes late asks the kernel whether a cell runs, unless other pages have told it, or its first look at the board has
+ *  found a program that is stopped. */
+async function learnRunning() {
+    const mine = line.socket, isUnknown = () => board.running === undefined && mine === line.socket;
+    await passed(OTHERS_TELL);
+    while (isUnknown() && (document.hidden || lookState.seen === 0)) await passed(OTHERS_TELL);
+    if (!isUnknown()) return;
+    sendEmptyCell(message => mine.send(JSON.stringify(message)), SESSION, line.kernel);
+    await passed(EMPTY_CELL_TAKES);
+    if (isUnknown()) noteRuns(true);
 }
 
-/** Where the server says that the kernel is idle, it may be another page that made it say so. Then two looks tell: if registers
- *  are the same, nothing runs. */
-async function learnRunning() {
-    if (board.running === undefined && wasBusy) noteRuns(true);
-    wasBusy = false;
-    const mine = line.socket;
-    for (let before = ""; board.running === undefined && mine === line.socket;) {
-        const now = board.registers.length > 0 ? JSON.stringify(board.registers) : "";
-        if (now !== "" && now === before && !document.hidden) return noteRuns(false);
-        before = now;
-        await new Promise(done => setTimeout(done, 1.3 * POLL));
-    }
+/** An empty cell, this page's or another one's, has ended: nothing runs. */
+export function noteIdle() {
+    noteEmptyCell(line.kernel);
+    if (board.running !== false) noteRuns(false);
 }
 
 on("joined", learnRunning);

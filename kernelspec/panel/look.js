@@ -1,7 +1,7 @@
 // Looks at the board: all that the page shows of it, in one round of requests where that is enough.
-import {addressOf, board, keepAtRest, keepText, known, noteStop, register} from "./board.js";
+import {addressOf, board, keepShown, keepText, known, noteStop, register} from "./board.js";
 import {byId, hexadecimal, numberOf} from "./dom.js";
-import {Refusal, debug, isOpen} from "./line.js";
+import {Refusal, debug, isOpen, line} from "./line.js";
 import {labelled} from "./names.js";
 import {emit, on} from "./signals.js";
 
@@ -72,8 +72,17 @@ async function look() {
     Object.assign(lookState, {isUnderWay: false, seen: info.seq});
     if (info.seq < lookState.wanted) return lookSoon(0);
     showTextOfFrame();
-    keepAtRest();
+    keepShown(info.seq, line.requests.last);
     emit("looked");
+}
+
+/** The values of a stop that the program is about to leave, if no stop of this run was shown; else null. They are asked for before
+ *  the command that lets it go on. */
+export async function leftValues() {
+    if (board.isStopShown) return null;
+    const asked = [variables(1), variables(2), variables(5, stackStart(), STACK_BYTES), variables(5, memoryStart(), BYTES)];
+    const [registers, flags, stack, memory] = await Promise.all(asked);
+    return {registers, flags, stack, memory};
 }
 
 // Further pieces of memory that are looked at, each {start, count}: what they are, and who gets their bytes.

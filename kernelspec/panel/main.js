@@ -13,7 +13,7 @@ import * as hex from "./hex.js";
 import {listenToImage} from "./image.js";
 import {moveFocus, onKey} from "./keys.js";
 import * as connection from "./line.js";
-import {askServer, followRuns, notePanel} from "./live.js";
+import {followRuns, notePanel} from "./live.js";
 import * as look from "./look.js";
 import {listenToMap} from "./map.js";
 import {listenToPast, makeTrace, recordStop} from "./past.js";
@@ -38,7 +38,6 @@ async function begin() {
     beginSharing();
     beginPrograms();
     signals.emit("forget");
-    await askServer();
     openLine();
     const kernel = (await boards.runningKernels()).find(each => each.id === line.kernel);
     place.name = kernel ? kernel.name : "";

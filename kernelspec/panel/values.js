@@ -136,7 +136,7 @@ export const showOther = () => attempt("Memory", async () => {
     const mine = lookState.number, memory = await lookAtMemory();
     if (mine !== lookState.number) return;
     board.memory = memory;
-    keepAtRest();
+    if (!lookState.isStale && !lookState.isUnderWay) keepAtRest();
     showValues();
 });
 
