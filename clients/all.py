@@ -17,7 +17,10 @@ SECONDS = 90
 SECONDS_OF_A_FILE = 420
 
 # What takes longest begins first.
-FIRST = ("test_patience", "test_vanish", "test_sharing", "test_hostile")
+FIRST = ("test_patience", "test_panel", "test_notebook", "test_sharing", "test_hostile")
+
+# What waits for minutes and takes no processor runs beside these.
+WAITING = ("test_vanish",)
 
 
 class Late(Exception):
@@ -112,11 +115,12 @@ def run_again(lines):
 
 
 def run_all(names):
-    """Several files side by side, two on two processors; each file's lines come together. What fails is run once more at
-    the end; both lines stand."""
+    """Several files side by side, two on two processors, and one that waits; each file's lines come together. What fails is
+    run once more at the end; both lines stand."""
     sums, all_lines = [0, 0], []
-    with concurrent.futures.ThreadPoolExecutor(max(2, (os.cpu_count() or 1) // 2)) as pool:
-        ends = [pool.submit(run_apart, name) for name in names]
+    executor = concurrent.futures.ThreadPoolExecutor
+    with executor(max(2, (os.cpu_count() or 1) // 2)) as pool, executor(1) as aside:
+        ends = [(aside if name in WAITING else pool).submit(run_apart, name) for name in names]
         for end in concurrent.futures.as_completed(ends):
             lines, *counts = end.result()
             print("\n".join(lines), flush=True)

@@ -1,6 +1,7 @@
 """The lessons: what is made from their sources, what the cells print, and what a student finds and is told."""
 import re
 import unittest
+from concurrent.futures import ThreadPoolExecutor
 from importlib.machinery import SourceFileLoader
 from pathlib import Path
 
@@ -139,18 +140,37 @@ def operations(cell):
     return found
 
 
-class Lessons(unittest.TestCase):
-    """The teacher's notebooks, run by the kernel."""
+class Run(unittest.TestCase):
+    """Notebooks that are run, so many at once, on a kernel each."""
+
+    paths, at_once = (), 3
+
+    @classmethod
+    def setUpClass(cls):
+        pool = cls.enterClassContext(ThreadPoolExecutor(cls.at_once))
+        cls.notebooks = {path: pool.submit(run, read(path)) for path in cls.paths}
+
+    def run_by_now(self, path):
+        """The notebook, once it was run."""
+        return self.notebooks[path].result()
 
 
-class Judges(unittest.TestCase):
+class Lessons(Run):
+    """The teacher's notebooks."""
+
+    paths = TEACHERS
+
+
+class Judges(Run):
     """What the judges say of what a student finds: nothing there is right."""
+
+    paths = STUDENTS
 
 
 def lesson(path):
     def test(self):
         stored = read(path)
-        self.assertEqual(outputs(run(read(path))), outputs(stored))
+        self.assertEqual(outputs(self.run_by_now(path)), outputs(stored))
         for cell in tagged(stored, "judge").values():
             self.assertRegex(printed(cell), r"^(.*gives .*\n)+right\n$")
 
@@ -159,7 +179,7 @@ def lesson(path):
 
 def judged(path):
     def test(self):
-        for number, cell in tagged(run(read(path)), "judge").items():
+        for number, cell in tagged(self.run_by_now(path), "judge").items():
             self.assertRegex(printed(cell), r"gives .*, not [0-9A-F]+\n$|UndefinedOpcode", number)
             self.assertNotIn("right", printed(cell))
 

@@ -1,5 +1,4 @@
-"""A board that many share: how fast a cell runs while others look, what a look costs, what peers without the key can take, and who
-is let go."""
+"""A board that many share: how fast a cell runs while others look, what a look costs, and what peers without the key can take."""
 import datetime
 import os
 import tempfile
@@ -236,24 +235,6 @@ class Strangers(unittest.TestCase):
             thread.join()
         self.assertLess(self.memory("VmHWM"), 60_000_000)
         self.assertIsNone(self.kernel.poll())
-
-    def test_a_silent_peer_is_let_go_where_another_waits(self):
-        """And only there: on control one place is free."""
-        peers = [self.enterContext(Peer(self.connection, "shell")).greet() for _ in range(PLACES)]
-        others = [self.enterContext(Peer(self.connection, "control")).greet() for _ in range(PLACES - 1)]
-        self.assertTrue(peers[0].is_served())
-        began = time.monotonic()
-        with Peer(self.connection, "shell") as newcomer:
-            newcomer.stream.settimeout(90)
-            self.assertTrue(newcomer.greet().is_served())
-        self.assertGreater(time.monotonic() - began, 55)
-        # The one that was heard is still there, and so are all but one of the others.
-        self.assertTrue(peers[0].is_served())
-        self.assertEqual(sum(peer.is_ended(0.1) for peer in peers[1:]), 1)
-        with Peer(self.connection, "control") as newcomer:
-            self.assertTrue(newcomer.greet().is_served())
-        for other in others:
-            self.assertTrue(other.is_served())
 
     def test_strangers_of_iopub_hold_nobody_of_shell_up(self):
         until = time.monotonic() + 3

@@ -1,5 +1,6 @@
-"""A peer that vanishes, as a machine whose cable is pulled: its place and its identity are free again within two minutes. The peer is in
-a network namespace of its own, which root can make; elsewhere the test is passed over."""
+"""Peers that are let go, after a minute or two in which nothing happens: one that vanishes, as a machine whose cable is pulled, and one
+that is silent while another waits. The one that vanishes is in a network namespace of its own, which root can make; elsewhere its test
+is passed over."""
 import os
 import subprocess
 import sys
@@ -10,6 +11,7 @@ import unittest
 from jupyter_client import write_connection_file
 
 from lab80_client import start_alone
+from test_sharing import PLACES
 from zmtp import SOCKET_TYPES, Peer, greeting, ready
 
 HERE, THERE = "10.77.13.1", "10.77.13.2"
@@ -87,6 +89,32 @@ class Vanished(unittest.TestCase):
         while not self.is_free():
             self.assertLess(time.monotonic() - began, TWO_MINUTES)
             time.sleep(2)
+
+
+class Silent(unittest.TestCase):
+    seconds = 150
+
+    def test_a_silent_peer_is_let_go_where_another_waits(self):
+        """And only there: on control one place is free."""
+        path, connection = write_connection_file(os.path.join(self.enterContext(tempfile.TemporaryDirectory()), "file"), key=b"key")
+        kernel = start_alone(path)
+        self.addCleanup(kernel.communicate)
+        self.addCleanup(kernel.kill)
+        peers = [self.enterContext(Peer(connection, "shell")).greet() for _ in range(PLACES)]
+        others = [self.enterContext(Peer(connection, "control")).greet() for _ in range(PLACES - 1)]
+        self.assertTrue(peers[0].is_served())
+        began = time.monotonic()
+        with Peer(connection, "shell") as newcomer:
+            newcomer.stream.settimeout(90)
+            self.assertTrue(newcomer.greet().is_served())
+        self.assertGreater(time.monotonic() - began, 55)
+        # The one that was heard is still there, and so are all but one of the others.
+        self.assertTrue(peers[0].is_served())
+        self.assertEqual(sum(peer.is_ended(0.1) for peer in peers[1:]), 1)
+        with Peer(connection, "control") as newcomer:
+            self.assertTrue(newcomer.greet().is_served())
+        for other in others:
+            self.assertTrue(other.is_served())
 
 
 if __name__ == "__main__":
