@@ -1,7 +1,10 @@
-"""Pictures of pages as small PNG files, of at most 256 colours."""
+"""Pictures of pages as small PNG files, of few colours."""
 import collections
 import struct
 import zlib
+
+# As many as a picture has: a page's own, and for smooth letters some between them.
+COLOURS = 128
 
 
 def packed(png):
@@ -22,12 +25,12 @@ def packed(png):
 
 def palette_of(counts):
     """The most frequent colours, and for the others the most frequent one of each neighbourhood, as many as there is room for."""
-    palette = [colour for colour, _ in counts.most_common(112)]
+    palette = [colour for colour, _ in counts.most_common(COLOURS // 2)]
     groups = collections.defaultdict(list)
     for colour, count in counts.most_common()[len(palette):]:
         groups[tuple(channel >> 4 for channel in colour)].append((colour, count))
     largest = sorted(groups.values(), key=lambda group: -sum(count for _, count in group))
-    return palette + [group[0][0] for group in largest[:256 - len(palette)]]
+    return palette + [group[0][0] for group in largest[:COLOURS - len(palette)]]
 
 
 def distance(one, other):

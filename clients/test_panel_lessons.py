@@ -4,6 +4,7 @@ import os
 import subprocess
 import sys
 import time
+from pathlib import Path
 
 from browser import ENTER, wait_until
 from panel_page import keep_picture
@@ -60,6 +61,8 @@ class Lessons(NotebookPages):
         self.shows(exercise + 1, "C=07 gives A=55, not 0E")
         values = (("07", "0E"), ("00", "00"), ("64", "C8"), ("C8", "90"))
         self.is_right(exercise, DOUBLE, [f"C={given} gives A={asked}" for given, asked in values])
+        self.browser.run("Jupyter.notebook.scroll_to_cell(arguments[0])", exercise)
+        self.keep_scrolled("lesson-exercise")
         self.is_marked("01-registers", ["right", "not done", "not done"])
 
     def is_marked(self, name, marks):
@@ -235,12 +238,11 @@ class Lessons(NotebookPages):
         page.click(selector)
         page.browser.type(value + ENTER)
 
-    def keep_pictures(self, page):
-        page.picture("lesson-10")
-        page.browser.prefer("dark")
-        page.picture("panel-dark")
-        page.browser.prefer("light")
-        page.picture("panel-narrow", 800)
+    def test_the_reference_card(self):
+        self.browser.open(Path(LESSONS, "card.html").resolve().as_uri())
+        self.assertLessEqual(self.browser.run("return document.documentElement.scrollWidth - innerWidth"), 0)
+        self.browser.size(1000, 740)
+        keep_picture(self.browser, "card")
 
     def keep_scrolled(self, name):
         """Keeps the notebook as a picture, smaller than the window of the tests."""
@@ -260,6 +262,6 @@ class Lessons(NotebookPages):
             page.command("stepOut")
             page.waits(lambda: (len(page.frames()), page.pair("HL")) == (frames, total))
             if frames == 4:
-                self.keep_pictures(page)
+                page.picture("lesson-10")
         page.command("continue")
         self.shows(number, "0F")

@@ -7,7 +7,7 @@ import shutil
 import unittest
 
 from browser import ENTER, ESCAPE, SHIFT, TAB, wait_until
-from panel_page import SAVES
+from panel_page import SAVES, keep_picture
 from panel_tests import HERE, Pages
 from test_panel import CALLS
 
@@ -87,6 +87,9 @@ class Programs(Pages):
         page.choose("#examples", str(names.index("Multiplication") - 1))
         page.click("#run")
         page.waits(lambda: page.text("#lamps output") == "8FH")
+        page.click("#save-hex")
+        page.picture("panel-hex", 1140, 640)
+        page.click("#hex-form button", 0)
         page.choose("#examples", str(names.index("Counting button presses") - 1))
         page.click("#run")
         for count in (1, 2):
@@ -191,6 +194,8 @@ class Programs(Pages):
         for text, said in WRONG_HEX:
             page.run(OPEN, "wrong.hex", text)
             page.says(f"wrong.hex, {said}. Nothing was loaded")
+            if text == WRONG_HEX[0][0]:
+                page.picture("panel-wrong", 1140, 420)
         # all of memory, and 70,000 bytes
         page.run("window.records = (count, byte) => writeHex(0, new Array(count).fill(byte))")
         page.run(OPEN.replace("arguments[1]", "window.records(65536, 0x5A)"), "all.hex")
@@ -212,6 +217,8 @@ class Programs(Pages):
         page.browser.key(TAB, SHIFT)
         self.assertEqual(page.run(focused), "cell")
         self.assertIn("Tab goes to the next column of eight", re.sub(r"\s+", " ", page.text("#keys")))
+        page.click("#keys summary")
+        page.picture("panel-keys", 1140, 890, "#keys")
 
     def test_the_focus_is_never_beneath_the_head(self):
         page = self.ready()
@@ -235,7 +242,6 @@ class Programs(Pages):
         self.assertEqual(page.texts("#behind mark"), ["FFH"])
         page.waits(lambda: "0FFH" in page.text("#source .fault .sentence"))
         self.assertEqual(page.texts("#console .error"), ["AssemblyError: 1:15 Undefined\n"])
-        page.picture("errors")
         page.run("document.getElementById('cell').focus()")
         page.browser.key("x")
         self.assertEqual((page.text("#fault"), page.text("#fault-sentence"), page.texts("#behind mark")), ("", "", []))
@@ -257,7 +263,7 @@ class Programs(Pages):
     def test_cards_on_hover_and_focus(self):
         page = self.ready()
         page.run_cell(CALLS)
-        page.waits(lambda: page.texts("#source .line"))
+        page.waits(lambda: page.texts("#source .line") and page.registers()["A"] == "0B")
         shown = "const card = document.getElementById('card'); return card.hidden ? '' : card.textContent"
         over = "document.querySelectorAll(arguments[0])[arguments[1]].dispatchEvent(new MouseEvent('mouseover', {bubbles: true}))"
         page.run(over, "#source [data-card]", 1)
@@ -265,16 +271,23 @@ class Programs(Pages):
         self.assertIn("Intel's states: 7", page.run(shown))
         page.run(over, "#source .line", 0)
         self.assertEqual(page.run(shown), "")
-        page.run("document.querySelector('#cell').focus()")
-        page.run("document.querySelector('#source .gutter').focus()")
-        page.browser.key("\ue015")
+        self.focus_a_line(page)
         page.waits(lambda: page.run(shown).startswith("LXI "))
-        page.picture("card")
         page.browser.key(ESCAPE)
         self.assertEqual(page.run(shown), "")
         page.run("document.querySelector('#code tr[tabindex=\"0\"]').focus()")
         page.browser.key("\ue013")
         page.waits(lambda: page.run(shown) != "")
+        # a card is closed where the window is given another size
+        page.browser.size(1140, 740)
+        self.focus_a_line(page)
+        page.waits(lambda: page.run(shown).startswith("LXI "))
+        keep_picture(page.browser, "panel-card")
+
+    def focus_a_line(self, page):
+        page.run("document.querySelector('#cell').focus()")
+        page.run("document.querySelector('#source .gutter').focus()")
+        page.browser.key("\ue015")
 
 
 class Upgrades(Pages):

@@ -80,7 +80,6 @@ class Seeing(Pages):
             self.assertEqual(page.registers()["SP"], "0FFC")
             self.assertLessEqual(page.run("return document.documentElement.scrollWidth - innerWidth"), 0, base)
         page.choose("#base", "binary")
-        page.picture("binary")
         page.run("location.reload()")
         page.waits(lambda: page.registers().get("A") == "00001010")
 
@@ -96,6 +95,9 @@ class Seeing(Pages):
         page.stops("step", 9)
         page.waits(lambda: page.texts("#watched li button:first-child")[0] == "COUNT42010E")
         self.assertEqual(page.texts("#watched .changed"), ["42", "4242", "BB" + "\u00b7" * 14])
+        page.choose("#base", "decimal")
+        page.picture("panel-seeing", 1140, 1000, top=250)
+        page.choose("#base", "hexadecimal")
         page.run("document.getElementById('watch-place').value = '<b>'")
         page.click("#watching button")
         page.says("Watch: <B> is no address, symbol or pair of registers")
@@ -124,7 +126,7 @@ class Seeing(Pages):
         for key in "\ue015" + "\ue014" * 14:
             page.browser.key(key)
         self.assertEqual(page.text("#map-at"), "010E: 42 B, was 41")
-        page.picture("map")
+        page.picture("panel-map", 1140, 640)
         page.browser.key("\ue007")
         page.waits(lambda: page.texts("#memory th")[0] == "010E")
         self.assertFalse(page.run("return document.getElementById('map-dialog').open"))
@@ -141,7 +143,6 @@ class Seeing(Pages):
         page.choose("#dress", "digits")
         said = page.run("return document.getElementById('dressed').getAttribute('aria-label')")
         self.assertEqual(said, "The lamps as two digits: 63")
-        page.picture("digits", 1600)
         page.choose("#dress", "")
         self.assertTrue(page.run("return document.getElementById('dressed').hidden"))
 
