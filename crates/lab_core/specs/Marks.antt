@@ -1,7 +1,7 @@
 -- Marks: addresses to which PC comes, and places that a step changes. A slice may end at the first mark.
 use Rattle.std.specs.Prelude.{◌≡◌, ◌≢◌, ◌≤◌, ◌<◌, ℕ, zero, suc, ◌+◌, ◌-◌, List, [], map, Bool, true, false}
 use Rattle.std.specs.Prelude.{not, ◌&&◌}
-use Rattle.std.specs.Prelude.{◌||◌, ◌==◌, nat_lt, Result, Err, if◌then◌else◌}
+use Rattle.std.specs.Prelude.{◌||◌, ◌==◌, nat_lt, Result, Err, IfOk, length, if◌then◌else◌}
 use Rattle.std.specs.List.{list_any}
 use Rattle.i80_exec.specs.declared.ports.PortOperation.{PortOperation}
 use Rattle.i80_exec.specs.declared.registers.Registers.{Registers}
@@ -19,6 +19,7 @@ use Rattle.lab_core.specs.declared.marks.Watch.{Watch}
 use Rattle.lab_core.specs.Board.{Board}
 use Rattle.lab_core.specs.Slices.{after_steps}
 use Rattle.lab_core.specs.Events.{Applies}
+use Rattle.lab_core.specs.SliceEnds.{traffic_in}
 use Rattle.lab_core.specs.Labs.{LabState, StandsAmid, StandsFor, amid}
 
 -- what a contract sees of marks: whether each address is one, the watched places, and whether the last slice
@@ -104,6 +105,12 @@ marks_after k b marks = record marks {
   watches = map (watch_of (after_steps (k - 1) b).machine (after_steps k b).machine) marks.watches;
   is_met = nat_lt 0 k && marked_at marks b k;
 }
+
+-- From whatever board it is made, it leaves these marks, and answers at most n port operations.
+abbrev pub Leaves : ℕ → LabState → Result Answer EventFault → MarksState → MarksState → Type 0
+Leaves n old reply marks marks' =
+    (b : Board) → StandsFor old b → IfOk reply
+    (λ answer. (marks' ≡ marks_after (steps_in answer) b marks) × (length (traffic_in answer) ≤ n))
 
 -- ---- what a slice keeps on its way
 

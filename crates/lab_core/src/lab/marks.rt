@@ -1,11 +1,10 @@
 //! Slices up to a mark.
-ghost use Rattle.std.specs.Prelude.{◌≡◌, ◌+◌, ◌-◌, ◌<◌, ◌≤◌, length, None, Err, IsSome, IfOk, OnErr};
+ghost use Rattle.std.specs.Prelude.{◌≡◌, ◌+◌, ◌-◌, ◌<◌, ◌≤◌, None, Err, IsSome, OnErr};
 ghost use Rattle.lab_core.specs.Board.{Board};
 ghost use Rattle.lab_core.specs.Slices.{IsSlice, after_steps, traffic_of, left_by};
 ghost use Rattle.lab_core.specs.Labs.{LabState, StandsFor, StandsAmid, amid, Watches, BurstMayBegin};
 ghost use Rattle.lab_core.specs.Labs.{MakesAtMost};
-ghost use Rattle.lab_core.specs.SliceEnds.{traffic_in};
-ghost use Rattle.lab_core.specs.Marks.{SlicesTo, first_mark, marks_after, steps_in, IsKept, PassesIn};
+ghost use Rattle.lab_core.specs.Marks.{SlicesTo, Leaves, first_mark, marks_after, IsKept, PassesIn};
 
 use crate::answer::{Answer, SliceOutcome};
 use crate::fault::EventFault;
@@ -23,10 +22,7 @@ impl Lab {
     /// values before and after its last step.
     pub fn slice_to(&mut self, n: u16, marks: &mut Marks) -> Result<Answer, EventFault>
         ensures applied { SlicesTo marks.old n self.old result self.new }
-        ensures marks { (b : Board) → StandsFor self.old b
-            → IfOk result (λ answer. marks.new ≡ marks_after (steps_in answer) b marks.old) }
-        ensures few { (b : Board) → StandsFor self.old b
-            → IfOk result (λ answer. length (traffic_in answer) ≤ n) }
+        ensures marks { Leaves n self.old result marks.old marks.new }
         ensures err { OnErr result ((self.new ≡ self.old) × (marks.new ≡ marks.old)) }
         ensures memory { result ≡ Err EventFault.OutOfMemory → self.old.run ≡ RunState.Running }
     {

@@ -39,13 +39,6 @@ pub returns-in_ok-reserve_out-in-Running-clause-marks
 returns-in_ok-reserve_out-in-Running-clause-marks c = λ b s-now.
     let P : LabState → Type 0 = λ lab. StandsFor lab b in
     let s = subst P (sym c.self.view_is) s-now in
-    let room = c.in_ok-reserve_out-in-Running.ensures in
-    c.run_to-executed.ensures.marks b (stands_reserved _ b _ s room.panel room.operations)
-
-pub returns-in_ok-reserve_out-in-Running-clause-few : goal.returns-in_ok-reserve_out-in-Running-clause-few
-returns-in_ok-reserve_out-in-Running-clause-few c = λ b s-now.
-    let P : LabState → Type 0 = λ lab. StandsFor lab b in
-    let s = subst P (sym c.self.view_is) s-now in
     let k = c.run_to-executed.result.0 in
     let room = c.in_ok-reserve_out-in-Running.ensures in
     let reserved = stands_reserved _ b _ s room.panel room.operations in
@@ -54,5 +47,7 @@ returns-in_ok-reserve_out-in-Running-clause-few c = λ b s-now.
     let amid = subst A (sym c.self-in-Running.view_is) (c.run_to-executed.ensures.stands b reserved) in
     let within = (c.run_to-executed.ensures.slice b reserved).within in
     let few = first_mark_within c.args.marks.now c.args.n b in
-    let so_many = traffic_within k b in
-    rw (c.take_out-traffic.ensures.taken ∙ amid.traffic_is) (omega arith)
+    let so_many = traffic_within k b in (
+      c.run_to-executed.ensures.marks b reserved,
+      rw (c.take_out-traffic.ensures.taken ∙ amid.traffic_is) (omega arith),
+    )
