@@ -76,11 +76,12 @@ impl Context {
     {
         let given = spare.take().unwrap();
         let mut local = mem::replace(machine, given);
-        let made = if self.looks_up() {
-            self.burst(&mut local, most, true, IS_ASKED, reach)
-        } else {
-            self.burst(&mut local, most, false, IS_ASKED, reach)
-        };
+        if self.looks_up() {
+            let made = self.burst(&mut local, most, true, IS_ASKED, reach);
+            *spare = Some(mem::replace(machine, local));
+            return made;
+        }
+        let made = self.burst(&mut local, most, false, IS_ASKED, reach);
         *spare = Some(mem::replace(machine, local));
         made
     }
@@ -119,7 +120,6 @@ impl Context {
         (most, None)
     }
 
-    /// A step of a burst.
     #[inline(always)]
     pub(super) fn burst_step(
         &mut self,
