@@ -67,7 +67,7 @@ set_initialized s = record s { settings = record s.settings { is_initialized = t
 
 abbrev pub initializing : SessionState → Replied
 initializing s =
-    if s.settings.is_initialized then refusing (codes "set_initialized already") s
+    if s.settings.is_initialized then refusing (codes "initialized already") s
     else succeeding body.Capabilities follow.Nothing (set_initialized s)
 
 abbrev pub set_configured : SessionState → SessionState
@@ -154,7 +154,7 @@ is_bounded other = true
 
 abbrev pub objection : Asked → SessionState → Option Text
 objection a s =
-    if not (s.settings.is_initialized || opens a) then Some (codes "not set_initialized") else
+    if not (s.settings.is_initialized || opens a) then Some (codes "not initialized") else
     if not (is_bounded a) then Some (codes "bad arguments") else None
 
 -- ---- a request
