@@ -1,0 +1,195 @@
+//! Calls as tests write them, in turn on a new board.
+
+use i80_exec::registers::{Interrupts, Registers};
+use i80_rows::flags::Flags;
+use lab_core::lab::Lab;
+use lab_core::lab::moments::Moment;
+use lab_core::marks::Marks;
+use lab_test_kit::script::{Step, event_of, tell_event};
+use lab_test_kit::told::put_told;
+use lab_views::place::Place;
+use std::alloc::{AllocError, Global};
+
+/// A call as a test writes it, or a look at what was left.
+#[derive(Clone, Copy)]
+pub enum Call {
+    /// An event.
+    Apply(Step),
+    /// Loads a text without END under the path p and starts at address 0.
+    Start(&'static str),
+    /// Makes a mark of an address.
+    Address(u16),
+    /// Watches a place.
+    Watch(Place),
+    /// Takes all marks away.
+    Clear,
+    /// A slice to the first mark, of at most so many steps; and what it leaves of the marks.
+    SliceTo(u16),
+    Write(u16, &'static [u8]),
+    /// Sets PC, SP and the interrupt state; A to L become 1 to 7, of the flags S and CY are set.
+    SetRegisters(u16, u16, Interrupts),
+    /// Keeps the moment at which the run is.
+    Moment,
+    /// Puts the run back to the moment that was kept last.
+    PutBack,
+    Hold,
+    /// PC, SP, and how many frames are live.
+    Registers,
+}
+
+/// A board with the marks of its slices, and the moment that was kept last.
+#[derive(Drop)]
+struct Bench {
+    lab: Lab,
+    marks: Marks,
+    moment: Option<Moment>,
+}
+
+fn new_bench(alloc: Global) -> Result<Bench, AllocError> {
+    let lab = Lab::new(alloc)?;
+    let marks = Marks::new(alloc)?;
+    Ok(Bench {
+        lab,
+        marks,
+        moment: None,
+    })
+}
+
+// Whether the last slice ended at a mark, and what each watched place held before and after its last step.
+fn put_marks(told: &mut String, marks: &Marks) -> Result<(), AllocError> {
+    told.push_str(if marks.is_met() { "met" } else { "not met" })?;
+    for watch in marks.watches() {
+        write!(told, " {:X}>{:X}", watch.before, watch.after)?;
+    }
+    told.push('\n')
+}
+
+fn slice_to(bench: &mut Bench, n: u16, told: &mut String) -> Result<(), AllocError> {
+    let answer = bench.lab.slice_to(n, &mut bench.marks);
+    let put = put_told(told, &answer);
+    drop(answer);
+    put?;
+    put_marks(told, &bench.marks)
+}
+
+fn registers(pc: u16, sp: u16, interrupts: Interrupts) -> Registers {
+    Registers {
+        a: 1,
+        b: 2,
+        c: 3,
+        d: 4,
+        e: 5,
+        h: 6,
+        l: 7,
+        flags: Flags::new(true, false, false, false, true),
+        sp,
+        pc,
+        interrupts,
+    }
+}
+
+fn keep(bench: &mut Bench) -> Result<(), AllocError> {
+    let moment = bench.lab.moment()?;
+    bench.moment = Some(moment);
+    Ok(())
+}
+
+fn put_back(bench: &mut Bench, told: &mut String) -> Result<(), AllocError> {
+    match &bench.moment {
+        Some(moment) => bench.lab.put_back(moment),
+        None => told.push_str("no moment\n"),
+    }
+}
+
+fn put_registers(told: &mut String, lab: &Lab) -> Result<(), AllocError> {
+    let regs = lab.regs();
+    let live = lab.frames().len();
+    write!(told, "{:04X} {:04X} {live}\n", regs.pc, regs.sp)
+}
+
+// Applies the event of a step, and adds what it answers.
+fn apply(
+    alloc: Global,
+    bench: &mut Bench,
+    step: Step,
+    told: &mut String,
+) -> Result<(), AllocError> {
+    match event_of(alloc, step)? {
+        Some(event) => tell_event(&mut bench.lab, event, told),
+        None => told.push_str("no event\n"),
+    }
+}
+
+// Adds what the load and the start answer, where it is something else.
+fn start(
+    alloc: Global,
+    bench: &mut Bench,
+    text: &'static str,
+    told: &mut String,
+) -> Result<(), AllocError> {
+    let mut begun = String::new(alloc);
+    apply(alloc, bench, Step::Load("p", text), &mut begun)?;
+    apply(alloc, bench, Step::Start(0), &mut begun)?;
+    if begun.as_str() != "Loaded { start: None }\nStarted\n" {
+        told.push_str(begun.as_str())?;
+    }
+    Ok(())
+}
+
+// Makes a call, and adds what it answers.
+fn make(alloc: Global, bench: &mut Bench, call: Call, told: &mut String) -> Result<(), AllocError> {
+    match call {
+        Call::Apply(step) => apply(alloc, bench, step, told)?,
+        Call::Start(text) => start(alloc, bench, text, told)?,
+        Call::Address(address) => bench.marks.add_address(address),
+        Call::Watch(place) => bench.marks.watch(place)?,
+        Call::Clear => bench.marks.clear(),
+        Call::SliceTo(n) => slice_to(bench, n, told)?,
+        Call::Write(address, bytes) => bench.lab.write(address, bytes),
+        Call::SetRegisters(pc, sp, interrupts) => {
+            bench.lab.set_registers(registers(pc, sp, interrupts));
+        }
+        Call::Moment => keep(bench)?,
+        Call::PutBack => put_back(bench, told)?,
+        Call::Hold => bench.lab.hold(),
+        Call::Registers => put_registers(told, &bench.lab)?,
+    }
+    Ok(())
+}
+
+fn make_all(
+    alloc: Global,
+    bench: &mut Bench,
+    calls: &[Call],
+    told: &mut String,
+) -> Result<(), AllocError> {
+    for call in calls {
+        make(alloc, bench, *call, told)?;
+    }
+    Ok(())
+}
+
+// What calls show on a new board.
+fn show_calls(alloc: Global, calls: &[Call]) -> Result<String, AllocError> {
+    let mut bench = new_bench(alloc)?;
+    let mut told = String::new(alloc);
+    let outcome = make_all(alloc, &mut bench, calls, &mut told);
+    drop(bench);
+    outcome?;
+    Ok(told)
+}
+
+/// What a play is about, its calls, and the lines that they show on a new board.
+pub type Play = (&'static str, &'static [Call], &'static str);
+
+/// What each of these plays that shows other lines is about, and what it shows: nothing where all are right.
+pub fn wrong_plays(alloc: Global, plays: &[Play]) -> Result<String, AllocError> {
+    let mut wrong = String::new(alloc);
+    for (about, calls, wanted) in plays {
+        let told = show_calls(alloc, calls)?;
+        if told.as_str() != *wanted {
+            write!(wrong, "{about}: {}\n", told.as_str())?;
+        }
+    }
+    Ok(wrong)
+}
