@@ -213,6 +213,7 @@ class Marks(Pages):
         page.click("#run")
         page.stops("breakpoint", 3)
         page.waits(lambda: page.texts("#memory th")[0] == "0200")
+        page.waits(lambda: page.run("return !lookState.isStale && !lookState.isUnderWay"))
         page.run(OTHER_STEPS)
         page.command("stepIn")
         page.waits(lambda: page.text("#memory [data-name='0201']") == "02" and page.registers()["PC"] == "0104")
