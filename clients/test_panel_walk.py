@@ -155,7 +155,8 @@ STEPS_AT_ONCE = """
 # Changes a byte of the memory that HL shows, which has moved a step before.
 MOVES = "        ORG 100H\nSTART:  LXI H,200H\n        INX H\n        INR M\n        HLT\n        END START\n"
 
-# Holds back what the kernel posts to all, until it is released; and steps by another client while the next look is under way.
+# Holds back what the kernel posts to all, until it is released; and steps by another client amid the next look, not when the lamps are
+# asked for.
 OTHER_STEPS = """
     const hears = line.socket.onmessage, held = [];
     line.socket.onmessage = event => JSON.parse(event.data).channel === 'iopub' ? void held.push(event) : hears(event);
@@ -164,7 +165,7 @@ OTHER_STEPS = """
     const content = {type: "request", seq: 1, command: "stepIn", arguments: {threadId: 1}};
     let isDone = false;
     on('devices', () => {
-        if (isDone) return;
+        if (isDone || !lookState.isUnderWay) return;
         isDone = true;
         line.socket.send(JSON.stringify({channel: "control", header, parent_header: {}, metadata: {}, content, buffers: []}));
     });"""
