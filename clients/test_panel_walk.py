@@ -152,24 +152,6 @@ STEPS_AT_ONCE = """
     on('state', go);
     on('devices', go);"""
 
-# Changes a byte of the memory that HL shows, which has moved a step before.
-MOVES = "        ORG 100H\nSTART:  LXI H,200H\n        INX H\n        INR M\n        HLT\n        END START\n"
-
-# Holds back what the kernel posts to all, until it is released; and steps by another client amid the next look, not when the lamps are
-# asked for.
-OTHER_STEPS = """
-    const hears = line.socket.onmessage, held = [];
-    line.socket.onmessage = event => JSON.parse(event.data).channel === 'iopub' ? void held.push(event) : hears(event);
-    window.release = () => { line.socket.onmessage = hears; held.forEach(hears); };
-    const header = {msg_id: "other", msg_type: "debug_request", session: "other", username: "", version: "5.4", date: ""};
-    const content = {type: "request", seq: 1, command: "stepIn", arguments: {threadId: 1}};
-    let isDone = false;
-    on('devices', () => {
-        if (isDone || !lookState.isUnderWay) return;
-        isDone = true;
-        line.socket.send(JSON.stringify({channel: "control", header, parent_header: {}, metadata: {}, content, buffers: []}));
-    });"""
-
 
 class Marks(Pages):
     """What a step has changed is marked, however quickly one steps."""
@@ -207,21 +189,6 @@ class Marks(Pages):
             mine = [each[1:] for each in changes if each[0] == name]
             self.assertEqual([before for before, _ in mine], [first, *(after for _, after in mine)][:len(mine)], changes)
             self.assertEqual(mine[-1][1], page.registers()[name])
-
-    def test_a_look_that_falls_between_two_stops(self):
-        page = self.runs(MOVES, 3)
-        page.look_at("HL")
-        page.click("#run")
-        page.stops("breakpoint", 3)
-        page.waits(lambda: page.texts("#memory th")[0] == "0200")
-        page.waits(lambda: page.run("return !lookState.isStale && !lookState.isUnderWay"))
-        page.run(OTHER_STEPS)
-        page.command("stepIn")
-        page.waits(lambda: page.text("#memory [data-name='0201']") == "02" and page.registers()["PC"] == "0104")
-        page.run("window.release()")
-        page.stops("step", 5)
-        page.waits(lambda: page.registers()["PC"] == "0105")
-        self.assertIn("0201", page.run(CHANGED))
 
 
 class Walk(Pages):
