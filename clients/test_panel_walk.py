@@ -174,6 +174,23 @@ class Marks(Pages):
         page.stops("step", 6)
         page.waits(lambda: (page.registers()["A"], "A" in page.run(CHANGED)) == ("0B", True))
 
+    def test_a_look_may_tell_of_a_stop_before_the_run_is_told_of(self):
+        page = self.runs(CALLS, 3)
+        page.run("""
+            const hears = line.socket.onmessage, held = [];
+            line.socket.onmessage = event => JSON.parse(event.data).channel === 'iopub' ? void held.push(event) : hears(event);
+            window.release = () => { line.socket.onmessage = hears; held.forEach(hears); };""")
+        page.click("#run")
+        page.run("lookSoon(100)")
+        page.waits(lambda: page.line() == 3)
+        page.run("window.release()")
+        page.stops("breakpoint", 3)
+        page.waits(lambda: page.run("return !lookState.isStale && !lookState.isUnderWay"))
+        self.assertEqual(page.run(CHANGED), [])
+        page.command("stepIn")
+        page.stops("step", 4)
+        page.waits(lambda: {"A", "PC"} <= set(page.run(CHANGED)))
+
     def test_quick_steps(self):
         """However many of the stops are shown, the trace has each change: what a value was at one is what it became at the one before."""
         page = self.runs(CALLS, 3)

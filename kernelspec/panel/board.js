@@ -68,6 +68,13 @@ function beginStop() {
     ++board.stops;
 }
 
+/** A run has begun. A look may have told of its first stop before. */
+export function noteRun() {
+    board.isNewRun = !board.stopped;
+    board.isStopShown = false;
+    if (board.stopped) board.before = {};
+}
+
 /** Values by their names, with which later ones are compared. */
 export function snapshot({registers, flags, stack, memory} = board) {
     const named = flags.map(each => ({name: "flag " + each.name, value: each.value}));

@@ -1,6 +1,6 @@
 // What the kernel posts, and what follows from it.
 import {LOOKS, isEmptyCell} from "../shared.js";
-import {board, forget, known, noteGoneOn, noteStop, own} from "./board.js";
+import {board, forget, known, noteGoneOn, noteRun, noteStop, own} from "./board.js";
 import {noteBegin, noteEnd, noteFault, setAsks} from "./cell.js";
 import {print, printError, printNote} from "./console.js";
 import {SESSION, isThere, line} from "./line.js";
@@ -34,8 +34,8 @@ export const posts = {
         if (parent.msg_type === "debug_request" && state === "idle" && isOthers) lookSoon(40);
     },
     execute_input(content, parent) {
-        lookState.symbolsAreStale = board.isNewRun = true;
-        board.isStopShown = false;
+        lookState.symbolsAreStale = true;
+        noteRun();
         noteRunning();
         const cell = {text: content.code, count: content.execution_count, fault: null};
         known.cells.set(parent.msg_id, cell);
