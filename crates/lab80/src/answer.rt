@@ -1,0 +1,32 @@
+//! What each word of the program does.
+ghost use Rattle.std.specs.Prelude.{◌≡◌, map, option_map, string_bytes};
+ghost use Rattle.cli_io.specs.Command.{task_of, command_of};
+ghost use Rattle.cli_io.specs.Engine.{BlamesStreams};
+ghost use Rattle.lab80.specs.Answer.{AnswersWords};
+
+use base_streams::ports::{Inlet, Outlet};
+use cli_engines::asm::run_asm;
+use cli_engines::dis::run_dis;
+use cli_io::command::{Command, read_command};
+use cli_io::status::Status;
+use cli_io::words::show_usage;
+
+/// Does what the words after the program's name ask for. Words of another program, or of none, are answered
+/// by the usage, on the stream of errors.
+pub fn answer<R: Inlet, W: Outlet>(
+    rt: &(impl AllocGlobal + Eprint),
+    words: &[String],
+    reader: &mut R,
+    writer: &mut W,
+) -> Status
+    ensures answers { AnswersWords (command_of (map string_bytes words.now)) result
+        (R.state reader.old) (W.state writer.old) (W.state writer.new) }
+    ensures blame { BlamesStreams result (R.state reader.old) (R.state reader.new)
+        (W.state writer.old) (W.state writer.new) }
+{
+    match read_command(words) {
+        Some(Command::Asm) => run_asm(rt.alloc(), reader, writer),
+        Some(Command::Dis(origin)) => run_dis(rt.alloc(), origin, reader, writer),
+        Some(Command::Step | Command::Kernel(_) | Command::Term(_)) | None => show_usage(rt),
+    }
+}
