@@ -1,6 +1,7 @@
 -- Steps made in several parts.
 use Rattle.std.proofs.Common.{◌≡◌, ℕ, zero, suc, ◌+◌, ◌-◌, ◌<◌, ◌≤◌, List, [], ◌++◌, Option, Some, None, Bool}
-use Rattle.std.proofs.Common.{refl, sym, ap, ◌∙◌, subst, append_assoc, append-nil, arith, inl, inr, true, false}
+use Rattle.std.proofs.Common.{refl, sym, ap, ◌∙◌, subst, append_assoc, append-nil, arith, inl, inr, true}
+use Rattle.std.proofs.Common.{false}
 use Rattle.std.proofs.lemmas.Bool.{cases_lt}
 use Rattle.std.specs.Option.{option_or, IfSome}
 use Rattle.i80_exec.specs.declared.ports.PortOperation.{PortOperation}
@@ -9,8 +10,8 @@ use Rattle.i80_exec.specs.Step.{operation_list}
 use Rattle.lab_core.specs.declared.answer.SliceOutcome.{SliceOutcome}
 use Rattle.lab_core.specs.declared.lab.Context.{Context}
 use Rattle.lab_core.specs.Board.{Board, next_change, stepped}
-use Rattle.lab_core.specs.Slices.{after_steps, traffic_of, reason, reason_apart, early_reason, waiting}
-use Rattle.lab_core.specs.Slices.{undefined}
+use Rattle.lab_core.specs.Slices.{after_steps, traffic_of, reason, reason_before_fetch, reason_after_step}
+use Rattle.lab_core.specs.Slices.{waiting, undefined}
 use Rattle.lab_core.specs.Labs.{LabState, StandsAmid, Makes, MakesAtMost, AdvancesIn, FindsIn, KeepsIn, amid}
 use Rattle.lab_core.specs.Labs.{KeepsAsked, Watches}
 use Rattle.lab_core.proofs.QuietLemmas.{or_or}
@@ -30,21 +31,21 @@ traffic_more (suc j) k b =
     (operation_list (next_change (after_steps j (after_steps k b))).operation))
     ∙ rw (traffic_more j k b, ← after_more j k b, more) refl
 
--- the reasons are those that the opcode at PC has no part in, and an undefined opcode
-pub reason_parts : (b : Board) → reason b ≡ option_or (reason_apart b) (undefined b)
-reason_parts b = or_or (early_reason b) (waiting b) (undefined b)
+-- a reason is one known before the fetch, or an undefined opcode
+pub reason_parts : (b : Board) → reason b ≡ option_or (reason_before_fetch b) (undefined b)
+reason_parts b = or_or (reason_after_step b) (waiting b) (undefined b)
 
-pub no_reason : (b : Board) → None ≡ reason_apart b → None ≡ undefined b → reason b ≡ None
+pub no_reason : (b : Board) → None ≡ reason_before_fetch b → None ≡ undefined b → reason b ≡ None
 no_reason b apart none = reason_parts b ∙ rw (← apart, ← none) refl
 
-pub reason_undefined : (b : Board) (o : SliceOutcome) → None ≡ reason_apart b → Some o ≡ undefined b
+pub reason_undefined : (b : Board) (o : SliceOutcome) → None ≡ reason_before_fetch b → Some o ≡ undefined b
     → reason b ≡ Some o
 reason_undefined b o apart is = reason_parts b ∙ rw (← apart, ← is) refl
 
-pub reason_stands : (b : Board) (o : SliceOutcome) → Some o ≡ reason_apart b → reason b ≡ Some o
+pub reason_stands : (b : Board) (o : SliceOutcome) → Some o ≡ reason_before_fetch b → reason b ≡ Some o
 reason_stands b o is = reason_parts b ∙ rw (← is) refl
 
--- at each count below one more
+-- for each count up to `made`
 before : (made : ℕ) (b : Board) (j : ℕ) → (j < made → reason (after_steps j b) ≡ None)
     → reason (after_steps made b) ≡ None → j < suc made → reason (after_steps j b) ≡ None
 before made b j earlier last below = elim (cases_lt j made) [
@@ -63,11 +64,11 @@ makes_none lab b traffic s =
       found_is = tt;
     }
 
--- one more step, before which no reason stood
+-- one more step, with no reason before it
 pub makes_more : (made : ℕ) (b : Board) (traffic : List PortOperation) (lab : LabState)
     (machine : MachineState) (context : Context) (machine' : MachineState) (context' : Context)
     → Makes made None b traffic (amid lab machine context)
-    → FindsIn reason_apart None machine context → FindsIn undefined None machine context
+    → FindsIn reason_before_fetch None machine context → FindsIn undefined None machine context
     → AdvancesIn machine context machine' context'
     → Makes (made + 1) None b traffic (amid lab machine' context')
 makes_more made b traffic lab machine context machine' context' m free defined advances =
@@ -84,11 +85,11 @@ makes_more made b traffic lab machine context machine' context' m free defined a
       found_is = tt;
     })
 
--- no step more, since an undefined opcode stands at PC
+-- no further step, because the opcode at PC is undefined
 pub makes_end : (made : ℕ) (o : SliceOutcome) (b : Board) (traffic : List PortOperation) (lab : LabState)
     (machine : MachineState) (context : Context) (machine' : MachineState) (context' : Context)
     → Makes made None b traffic (amid lab machine context)
-    → FindsIn reason_apart None machine context → FindsIn undefined (Some o) machine context
+    → FindsIn reason_before_fetch None machine context → FindsIn undefined (Some o) machine context
     → KeepsIn machine context machine' context'
     → Makes made (Some o) b traffic (amid lab machine' context')
 makes_end made o b traffic lab machine context machine' context' m free undefined keeps =
@@ -100,14 +101,14 @@ makes_end made o b traffic lab machine context machine' context' m free undefine
       found_is = reason_undefined now o (free lab now all m.stands) (undefined lab now all m.stands);
     }
 
--- or since another reason stands
+-- or because there is another reason
 pub makes_found : (o : SliceOutcome) (b : Board) (traffic : List PortOperation) (lab : LabState)
-    → StandsAmid lab b traffic → Some o ≡ reason_apart b → Makes 0 (Some o) b traffic lab
+    → StandsAmid lab b traffic → Some o ≡ reason_before_fetch b → Makes 0 (Some o) b traffic lab
 makes_found o b traffic lab s is =
     let m = makes_none lab b traffic s in
     record { stands = m.stands; none_before = m.none_before; found_is = reason_stands b o is }
 
--- more steps after those
+-- further steps after the first k
 pub makes_on : (k made : ℕ) (found : Option SliceOutcome) (b : Board) (lab : LabState)
     → ((j : ℕ) → j < k → reason (after_steps j b) ≡ None)
     → Makes made found (after_steps k b) (traffic_of k b) lab
@@ -130,7 +131,7 @@ makes_on k made found b lab earlier m =
       found_is = subst F (sym (after_more made k b)) m.found_is;
     })
 
--- what one step makes, of as many or more at most
+-- at most one step is at most `most` steps
 pub makes_within : {result : ℕ × Option SliceOutcome} {old new : MachineState × Context} (most : ℕ) → 1 ≤ most
     → MakesAtMost 1 result old new → MakesAtMost most result old new
 makes_within most some m =
@@ -144,7 +145,7 @@ makes_within most some m =
       kept = m.kept;
     }
 
--- ---- what a debugger asked of the run
+-- ---- what the debugger requested
 
 pub kept_on : {old between new : Context} → KeepsAsked old between → KeepsAsked between new
     → KeepsAsked old new

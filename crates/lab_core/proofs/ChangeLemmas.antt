@@ -39,7 +39,7 @@ pub bytes-regs : (address : ℕ) (bytes : List ℕ) (m : MachineState)
 bytes-regs address [] m = refl
 bytes-regs address (byte ∷ bytes) m = bytes-regs (address + 1) bytes (stored m address byte)
 
--- ---- the frames, which a change by hand leaves
+-- ---- a change by hand ends no frame
 
 filter-poke : (m m' : MachineState) (fs : List Frame) → filter (stays (Poke m m' ∷ [])) fs ≡ fs
 filter-poke m m' [] = refl
@@ -54,7 +54,7 @@ gone-poke (Some f) entries m m' = ap not (stays-poke entries f)
     stays-poke [] f = refl
     stays-poke (e ∷ entries) f = ap (λ rest. not (ends e f) && rest) (stays-poke entries f)
 
--- The lab of a machine that was changed so, where a Step that isn't complete finds SP as it was.
+-- The lab after a change by hand, if no Step is pending or SP is unchanged.
 pub stands_changed : (old : LabState) (b : Board) (machine : MachineState) → StandsFor old b
     → (IsSome b.request → machine.regs.sp ≡ b.machine.regs.sp)
     → StandsFor (record old { machine = machine }) (changed_to machine b)

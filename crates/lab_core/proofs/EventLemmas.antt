@@ -1,4 +1,4 @@
--- What an event gives where it isn't refused.
+-- The results of accepted events.
 use Rattle.std.proofs.Common.{◌≡◌, ℕ, ◌<◌, List, [], ◌∷◌, Option, Some, None, Ok, Err, cond, false, refl, sym}
 use Rattle.std.proofs.Common.{arith, ◌++◌, Result}
 use Rattle.std.specs.Option.{is_some, IsSome}
@@ -33,7 +33,7 @@ by_request : (latched : Option ℕ) (given : Given) → (IsSome latched → ⊥)
 by_request None given free = refl
 by_request (Some n) given free = absurd (free refl)
 
--- a button from 0 to 7 latches its request where none is
+-- a button from 0 to 7 latches its request if none is latched
 pub pressed_is : (n : ℕ) (b : Board) → n < 8 → (IsSome (panel_after b.past).latched → ⊥)
     → pressed n b ≡ Ok (Accepted, with_operation (Press n) b)
 pressed_is n b few free =
@@ -43,7 +43,7 @@ pressed_is n b few free =
 pub gives : (b new : Board) (given : Given) (a : Answer) → given ≡ Ok (a, new) → Gives b given (Ok a) new
 gives b new given a is = rw is (refl, refl)
 
--- a place that is found, and a value that it holds
+-- a place and a value that exist
 pub gives_poked : (b : Board) (reference : ℕ) (name value text : List ℕ) (place : Place) (n : ℕ)
     → b.run ≡ Stopped
     → place_named reference name ≡ Ok place → value_spelled place value ≡ Ok n → text ≡ text_at place n
@@ -52,12 +52,12 @@ pub gives_poked : (b : Board) (reference : ℕ) (name value text : List ℕ) (pl
 gives_poked b reference name value text place n stopped found spelled text-is =
     rw (stopped, found, spelled, text-is) (refl, refl)
 
--- a load writes to the memory alone
+-- a load only writes to memory
 pub loaded-regs : (m : MachineState) (image : List (ℕ × ℕ)) → (loaded m image).regs ≡ m.regs
 loaded-regs m [] = refl
 loaded-regs m (p ∷ image) = loaded-regs (stored m p.0 p.1) image
 
--- one event more
+-- one more event
 pub Runs-append : (b mid new : Board) (events : List Event) (replies : List (Result Answer EventFault))
     (event : Event) (reply : Result Answer EventFault)
     → Runs b events replies mid → Applies mid event reply new

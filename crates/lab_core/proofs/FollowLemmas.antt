@@ -1,4 +1,4 @@
--- What a step of a burst that wasn't quiet makes of a lab, by what it owes.
+-- The lab after a step of a burst that wasn't quiet, by the update it owes.
 use Rattle.std.proofs.Common.{◌≡◌, ℕ, List, ◌++◌, true, false, Some, None, sym, ap, ◌∙◌, subst}
 use Rattle.std.specs.Option.{IsSome}
 use Rattle.i80_exec.specs.declared.registers.Stepped.{Stepped}
@@ -53,7 +53,8 @@ module _ (lab : LabState) (b : Board) (traffic : List PortOperation) (machine ma
       let S : Context → Type 0 = λ c. StandsAmid (amid lab machine' c) (stepped b)
       (traffic ++ operation_list (next_change b).operation) in
       subst S (sym made.rest)
-      (stands_followed (amid lab machine old) b traffic machine' devices new.frames new.older new.is_gone answer
+      (stands_followed (amid lab machine old) b traffic machine' devices new.frames new.older new.is_gone
+      answer
       made.left s did tells has_moved (rw is at made.frames) made.oldest made.older made.gone)
 
   pub advances_owed : (site : ℕ) (new : Context) (result : BurstStep) → site ≡ machine.regs.pc
@@ -77,9 +78,9 @@ made_in_burst kind machine machine' old new devices site was reach ready unlatch
     let M : Context → Type 0 = λ c. c.has_moved ≡ true in
     let L : Context → Type 0 = λ c. c.devices.panel.latched ≡ None in
     record {
-      calm = record {
+      only_fetch = record {
         goes_on = subst H (sym made.rest) (no_halt kind machine' on.not_last);
-        has_moved = subst M (sym made.rest) ready.calm.has_moved;
+        has_moved = subst M (sym made.rest) ready.only_fetch.has_moved;
         undone = on.undone;
         unlatched = subst L (sym made.rest) unlatched;
       };
@@ -88,16 +89,18 @@ made_in_burst kind machine machine' old new devices site was reach ready unlatch
       above = on.above;
     }
 
--- the burst goes on where it answers so
-pub owed_in_burst : (kind : Kind) (machine machine' : MachineState) (old new : Context) (devices : DeviceState)
-    (site was reach : ℕ) (result : BurstStep) → IsInBurst was machine old → devices.panel.latched ≡ None
-    → Settles kind machine machine'
+-- the burst continues if the step's result says so
+pub owed_in_burst : (kind : Kind) (machine machine' : MachineState) (old new : Context)
+    (devices : DeviceState) (site was reach : ℕ) (result : BurstStep)
+    → IsInBurst was machine old → devices.panel.latched ≡ None → Settles kind machine machine'
     → Owed (answer_of kind machine') site machine'.regs.sp (record old { devices = devices }) new result
     → ((now : ℕ) → result ≡ Within now → GoesOn kind machine'.regs.sp now new)
     → result ≡ Within reach → IsInBurst reach machine' new
-owed_in_burst kind machine machine' old new devices site was reach (Within now) ready unlatched settles made on
-    is =
-    made_in_burst kind machine machine' old new devices site was reach ready unlatched settles made (on reach is)
-owed_in_burst kind machine machine' old new devices site was reach Last ready unlatched settles made on is = cc
-owed_in_burst kind machine machine' old new devices site was reach (Ended outcome) ready unlatched settles none
-    on is = cc
+owed_in_burst kind machine machine' old new devices site was reach (Within now) ready unlatched settles
+    made on is =
+    made_in_burst kind machine machine' old new devices site was reach ready unlatched settles made
+    (on reach is)
+owed_in_burst kind machine machine' old new devices site was reach Last ready unlatched settles
+    made on is = cc
+owed_in_burst kind machine machine' old new devices site was reach (Ended outcome) ready unlatched
+    settles none on is = cc

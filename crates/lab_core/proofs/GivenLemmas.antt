@@ -1,4 +1,4 @@
--- What a lab answers to an event, in terms of the function that gives it.
+-- The reply of a lab to an event, by the function.
 use Rattle.std.proofs.Common.{◌≡◌, ◌≢◌, ℕ, zero, suc, ◌≤◌, length, Result, Ok, Err, IfOk, subst, arith}
 use Rattle.std.proofs.Common.{length-append, Option, Some, None, refl}
 use Rattle.i80_exec.specs.declared.ports.PortOperation.{PortOperation}
@@ -28,7 +28,7 @@ does_given old new e reply applies = λ b stands no_want.
     let a = applies b stands no_want in
     did b a.0 (given e b) reply new (applies-given b a.0 e reply a.1) a.2
 
--- and back
+-- and conversely
 applied-by : (b : Board) (g : Given) (reply : Result Answer EventFault) (lab : LabState) → Did b g reply lab
     → (new : Board) × Gives b g reply new × StandsFor lab new
 applied-by b (Ok (a, b')) reply lab h = (b', (h.0, refl), h.1)
@@ -40,7 +40,7 @@ applied-given old new e reply does = λ b stands no_want.
     let a = applied-by b (given e b) reply new (does b stands no_want) in
     (a.0, given-applies b a.0 e reply a.1, a.2)
 
--- ---- a slice does one port operation a step at most
+-- ---- a slice performs at most one port operation for each step
 
 at_most_one : (o : Option PortOperation) → length (operation_list o) ≤ 1
 at_most_one None = omega arith

@@ -1,4 +1,4 @@
--- Which board a lab stands for after an event that changes some of its parts.
+-- The board a lab stands for after an event that changes some of its parts.
 use Rattle.std.proofs.Common.{◌≡◌, ℕ, List, [], ◌∷◌, ◌++◌, true, false, Option, Some, None, Result, Ok}
 use Rattle.std.proofs.Common.{length, map, refl, ap, sym, subst, ◌∙◌, rules}
 use Rattle.std.specs.Option.{IsSome}
@@ -40,7 +40,7 @@ pub stands_stopped : (old : LabState) (b : Board) → StandsFor old b
     → StandsFor (record old { run = Stopped; request = None }) (stopped b)
 stands_stopped old b s = search rules
 
--- with no step known
+-- with an empty trace
 abbrev pub forgotten : LabState → LabState
 forgotten lab =
     record lab { frames = []; is_halted = false; is_resumed = false; has_moved = false; request = None }
@@ -97,7 +97,7 @@ stands_built old b number m machine spans points symbols s machine-is put lists 
     let stopped : b.run ≡ Stopped → b.request ≡ None = s.stopped in
     search rules
 
--- ---- devices with another room, or whose traffic was taken
+-- ---- devices with more reserved space, or whose traffic was taken
 
 pub stands_reserved : (old : LabState) (b : Board) (panel : devices.DeviceState) → StandsFor old b
     → panel.panel ≡ old.devices.panel → panel.operations ≡ old.devices.operations
@@ -121,7 +121,7 @@ pub slices_running : (run : RunState) (n : ℕ) (b new : Board) (reply : Result 
     → GivesSlice n b reply new → SlicesRun run n b reply new
 slices_running run n b new reply is g = rw is g
 
--- ---- a text that is kept, and its breakpoints
+-- ---- a stored text and its breakpoints
 
 pub gives_dumped : (s : Source) (b : Board) (place : Option ℕ) → place_of s b.sources ≡ Ok place
     → Gives b (dumped s b) (Ok Dumped) (record b { sources = kept_at place s b.sources })

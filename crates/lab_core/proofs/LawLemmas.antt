@@ -1,4 +1,4 @@
--- What events answer and leave is what the function gives, and nothing else.
+-- The relation on events and the function agree.
 use Rattle.std.proofs.Common.{◌≡◌, ℕ, zero, suc, ◌+◌, ◌<◌, ◌≤◌, List, [], ◌∷◌, Option, Some, None, Result, Ok}
 use Rattle.std.proofs.Common.{Err, refl, sym, ◌∙◌, arith, inl, inr, subst}
 use Rattle.std.proofs.lemmas.Bool.{cases_lt}
@@ -13,7 +13,7 @@ use Rattle.lab_core.specs.declared.answer.SliceOutcome.TheVariants.{More}
 use Rattle.lab_core.specs.declared.answer.Answer.{Answer}
 use Rattle.lab_core.specs.declared.fault.EventFault.{EventFault}
 use Rattle.lab_core.specs.Board.{Board}
-use Rattle.lab_core.specs.Slices.{IsSlice, reason, early_reason, after_steps}
+use Rattle.lab_core.specs.Slices.{IsSlice, reason, reason_after_step, after_steps}
 use Rattle.asm_syntax.specs.declared.statement.Statement.{Statement}
 use Rattle.asm_syntax.specs.Outcome.{CellFault, ◌>>=◌}
 use Rattle.asm_text.specs.Statements.{statements_of}
@@ -43,16 +43,16 @@ slice-from n b k e s (suc more) j le is = elim (cases_lt j k) [
       (let here : j ≡ k = omega arith in let below : k < n = omega arith in rw (here, s.early below) refl)
 ]
 
--- and where it says, a slice ends
+-- and conversely
 abbrev Ends : ℕ → Board → ℕ × SliceOutcome → Type 0
 Ends n b end = IsSlice n b end.0 end.1
 
--- no reason stands at a count below this
+-- there is no reason at a count below this
 abbrev NoneBelow : Board → ℕ → Type 0
 NoneBelow b k = (i : ℕ) → i < k → reason (after_steps i b) ≡ None
 
 ends-all : (n : ℕ) (b : Board) (j : ℕ) → j ≡ n → NoneBelow b j
-    → Ends n b (j, unwrap_or (early_reason (after_steps j b)) More)
+    → Ends n b (j, unwrap_or (reason_after_step (after_steps j b)) More)
 ends-all n b j here none = record {
   within = omega arith;
   none_before = none;
@@ -82,11 +82,11 @@ ends n b (suc more) j is none =
     ends-by (reason (after_steps j b)) n b j (slice_from more (j + 1) b) (omega arith) none refl
     (ends n b more (j + 1) (omega arith))
 
--- it makes no more steps than it may
+-- a slice makes at most n steps
 pub slice_within : (n : ℕ) (b : Board) → (slice_from n 0 b).0 ≤ n
 slice_within n b = (ends n b n 0 (omega arith) (λ i below. absurd (omega arith))).within
 
--- ---- what a text gives by its statements and their readings is what the rounds give
+-- ---- a text assembles to the same by its readings and by the function
 
 text-gives : (kept : Entries) (text : List ℕ) → TextGives kept text (assembled kept text)
 text-gives kept text = by (statements_of text) refl
@@ -141,7 +141,7 @@ given-slices Running n b new reply h = record {
   board_is = h.1;
 }
 
--- the one says what the other says
+-- the relation and the function agree
 alike : (b new : Board) (e : Event) (reply : Result Answer EventFault)
     → (Applies b e reply new → Gives b (given e b) reply new)
     × (Gives b (given e b) reply new → Applies b e reply new)
@@ -159,7 +159,7 @@ pub given-applies : (b new : Board) (e : Event) (reply : Result Answer EventFaul
     → Gives b (given e b) reply new → Applies b e reply new
 given-applies b new e reply = (alike b new e reply).1
 
--- ---- events in turn
+-- ---- lists of events
 
 gives-once : (b new new' : Board) (g : Given) (r r' : Result Answer EventFault) → Gives b g r new
     → Gives b g r' new' → (r ≡ r') × (new ≡ new')

@@ -1,4 +1,4 @@
--- Marks: what is kept of watched places, and the first mark on the way.
+-- Marks: the recorded values of watched places, and the first mark of a slice.
 use Rattle.std.proofs.Common.{◌≡◌, ◌≤◌, ◌<◌, ℕ, zero, suc, ◌+◌, ◌-◌, List, [], ◌∷◌, ◌++◌, Bool, true, false}
 use Rattle.std.proofs.Common.{if◌then◌else◌, map, take, drop, length, get_or, set}
 use Rattle.std.proofs.Common.{refl, sym, ap, ◌∙◌, subst, arith, inl, inr}
@@ -19,7 +19,7 @@ use Rattle.lab_core.specs.Marks.{watch_of, marks_after, differs, IsKept, is_at, 
 use Rattle.lab_core.specs.Marks.{with_end, Passes}
 use Rattle.lab_core.proofs.BurstLemmas.{after_more}
 
--- ---- values that are kept
+-- ---- recorded values
 
 pub register-value : (p : Place) (m : MachineState) → ((address : ℕ) → p ≡ place.Memory address → ⊥)
     → register_at p m.regs ≡ value_at p m
@@ -60,12 +60,12 @@ with_after_more m all ws i v w inside e value =
     let here : i < length ws = omega arith in
     rw value (map_over_more (with_after m) all ws i (get_or ws i w) inside e (get_or_default ws i w _ here))
 
--- those of a machine don't differ from it
+-- values recorded from a machine don't differ from it
 pub kept-watch : (m : MachineState) (ws : List Watch) → list_any (differs m) (map (watch_of m m) ws) ≡ false
 kept-watch m [] = refl
 kept-watch m (w ∷ ws) = grind (arith, nat_tests, kept-watch m ws)
 
--- places differ from what was kept of a machine where they are changed since
+-- places differ from their recorded values if they have changed since
 pub differs-changed : (m m' : MachineState) (ws : List Watch) → list_any (differs m) ws ≡ false
     → list_any (differs m') ws ≡ list_any (is_changed m m') ws
 differs-changed m m' [] same = refl
@@ -76,7 +76,7 @@ after-watch : (m m' : MachineState) (ws : List Watch) → list_any (differs m) w
 after-watch m m' [] same = refl
 after-watch m m' (w ∷ ws) same = grind (arith, nat_tests, after-watch m m' ws)
 
--- of the places alone
+-- only places matter
 changed-watch : (n m m' : MachineState) (ws : List Watch)
     → list_any (is_changed m m') (map (watch_of n n) ws) ≡ list_any (is_changed m m') ws
 changed-watch n m m' [] = refl
@@ -87,9 +87,9 @@ watch-watch : (n m m' : MachineState) (ws : List Watch)
 watch-watch n m m' [] = refl
 watch-watch n m m' (w ∷ ws) = ap (λ r. watch_of m m' w ∷ r) (watch-watch n m m' ws)
 
--- ---- the first count
+-- ---- the first count that passes
 
--- counts that fail the test are passed over
+-- counts that fail the test can be skipped
 first-pass : (test : ℕ → Bool) (made more k : ℕ) → made ≤ more
     → ((i : ℕ) → k < i → i ≤ k + made → test i ≡ false)
     → first_after test (more - made) (k + made) ≡ first_after test more k
@@ -122,7 +122,7 @@ least test (suc more) k = by (test (k + 1)) (least test more (k + 1))
     by true later = omega arith
     by false later = omega (arith, later)
 
--- where there are some, it comes later
+-- and then the first that passes is later
 pub first-later : (test : ℕ → Bool) (more k : ℕ) → 1 ≤ more → k < first_after test more k
 unfolding first_after
 first-later test zero k some = absurd (omega arith)
@@ -143,7 +143,7 @@ unfolding first_after
 first-same f g same zero k = refl
 first-same f g same (suc more) k = rw (same (k + 1), first-same f g same more (k + 1)) refl
 
--- ---- it is the least
+-- ---- it is the least count that passes
 
 pub first-within : (test : ℕ → Bool) (more k : ℕ) → first_after test more k ≤ k + more
 unfolding first_after
@@ -200,7 +200,7 @@ least_mark marks n b some =
       there = λ below. first-there test n 0 (omega arith);
     }
 
--- ---- steps that lead to no mark, and the first that does
+-- ---- steps that reach no mark, and the first that does
 
 -- the last of j steps after k
 marked-more : (marks : MarksState) (b : Board) (j k : ℕ) → 1 ≤ j
@@ -209,7 +209,7 @@ marked-more marks b j k some =
     let one_less : j + k - 1 ≡ j - 1 + k = omega arith in
     rw (one_less, after_more (j - 1) k b, after_more j k b) refl
 
--- none of them but the last does
+-- only the last one may reach a mark
 none_on : (marks : MarksState) (b : Board) (k made i : ℕ) → Passes marks made (after_steps k b) → k < i
     → i < k + made → marked_at marks b i ≡ false
 none_on marks b k made i p above below =
@@ -245,7 +245,7 @@ found_on marks b k made n some within p last =
     (λ i above upto. none_on marks b k made i p above (omega arith)))
     ∙ there ∙ up
 
--- after so many steps the machine is at a mark where the last one led to it
+-- the machine is at a mark exactly if the last step reached one
 at-mark : (marks : MarksState) (b : Board) (made : ℕ) (m : MachineState) → m ≡ (after_steps made b).machine
     → Passes marks made b → is_at m marks ≡ marked_at marks b made
 at-mark marks b made m is p =
@@ -278,7 +278,7 @@ passes_few marks made b m few is kept =
       kept = rw (none, ← is) kept;
     }
 
--- no step yet, and room for one
+-- before the first step
 pub passes_first : (marks : MarksState) (b : Board) (m : MachineState) → m ≡ b.machine → IsKept m marks
     → Passes marks 1 b
 passes_first marks b m is kept = passes_few marks 1 b m (omega arith) is kept
@@ -286,7 +286,7 @@ passes_first marks b m is kept = passes_few marks 1 b m (omega arith) is kept
 pub not_at : (m : MachineState) (marks : MarksState) → is_at m marks ≡ false → IsKept m marks
 not_at m marks none = grind (arith, none)
 
--- one step more, where the last one led to none
+-- one more step, if the last one reached no mark
 pub passes_more : (marks : MarksState) (b : Board) (made : ℕ) (m : MachineState)
     → m ≡ (after_steps made b).machine → is_at m marks ≡ false → Passes marks made b
     → Passes marks (made + 1) b
@@ -301,13 +301,13 @@ passes_more marks b made m is free p =
       kept = rw (less, ← is) (not_at m marks free);
     }
 
--- what is kept of a machine was so before a step that changed nothing of it
+-- recorded values stay right if the machine doesn't change
 kept_before : (m m' : MachineState) (ws : List Watch) → list_any (is_changed m m') ws ≡ false
     → list_any (differs m') ws ≡ false → list_any (differs m) ws ≡ false
 kept_before m m' [] same kept = refl
 kept_before m m' (w ∷ ws) same kept = grind (arith, nat_tests, kept_before m m' ws)
 
--- one step less
+-- one step fewer
 pub passes_less : (marks : MarksState) (b : Board) (made : ℕ) → Passes marks (made + 1) b
     → Passes marks made b
 passes_less marks b zero p = record { none = λ j some below. absurd (omega arith); kept = p.kept }
@@ -324,7 +324,7 @@ passes_less marks b (suc k) p =
       kept = rw before (kept_before was now marks.watches unchanged (subst K less p.kept));
     }
 
--- none of them does
+-- no step reaches a mark
 pub passed_all : (marks : MarksState) (b : Board) (k made n : ℕ) → k + made ≤ n
     → Passes marks (made + 1) (after_steps k b)
     → first_after (marked_at marks b) (n - (k + made)) (k + made) ≡ first_after (marked_at marks b) (n - k) k

@@ -1,4 +1,4 @@
--- Which board a lab stands for after it was put back.
+-- The board a lab stands for after its run was put back.
 use Rattle.std.proofs.Common.{◌≡◌, ◌≤◌, List, [], true, false, None, length, ap, sym, ◌∙◌}
 use Rattle.std.proofs.Common.{rules, arith}
 use Rattle.std.proofs.lemmas.List.{drop_all}

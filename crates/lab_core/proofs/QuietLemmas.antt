@@ -1,4 +1,4 @@
--- Quiet steps, and what can come beside them.
+-- Quiet steps, and the other steps of a burst.
 use Rattle.std.proofs.Common.{◌≡◌, ℕ, List, [], ◌∷◌, ◌++◌, Bool, true, false, Option, Some, None, length}
 use Rattle.std.proofs.Common.{refl, sym, ap, ◌∙◌, subst, ◌⊎◌, inl, inr, ◌||◌, length-append, min, ◌+◌}
 use Rattle.std.proofs.Common.{◌<◌, ◌≤◌, reverse, slice_get, arith}
@@ -30,19 +30,20 @@ use Rattle.lab_core.specs.declared.event.StepRequest.{StepRequest}
 use Rattle.lab_core.specs.Board.{Board, next_change, stepped}
 use Rattle.lab_core.specs.Stops.{at_breakpoint, completes, earlier, has_step, innermost, is_done, is_gone}
 use Rattle.lab_core.specs.Stops.{is_gone_after, meets_breakpoint, since}
-use Rattle.lab_core.specs.Slices.{ends_in_halt, reason_apart}
-use Rattle.lab_core.specs.Labs.{LabState, StandsAmid, Follows, IsCalm, IsLast, LooksUp, KeepsAsked, amid}
+use Rattle.lab_core.specs.Slices.{ends_in_halt, reason_before_fetch}
+use Rattle.lab_core.specs.Labs.{LabState, StandsAmid, Follows, OnlyFetchCanStop, IsLast, LooksUp}
+use Rattle.lab_core.specs.Labs.{KeepsAsked, amid}
 use Rattle.lab_core.specs.Labs.{is_done_in, is_step_done}
 use Rattle.lab_core.proofs.StandsLemmas.{stands_step, over_done, parts-live}
 
 -- ---- the panel
 
--- operations that latch this request, or none
+-- operations that latch this request, if any
 abbrev latching : Option ℕ → List Operation
 latching None = []
 latching (Some n) = Press n ∷ []
 
--- operations that make such a panel
+-- operations that make this panel
 abbrev past_of : PanelState → List Operation
 past_of p = Typed p.waiting ∷ Switches p.switches ∷ Port (Out 2 p.lamps) ∷ latching p.latched
 
@@ -52,11 +53,11 @@ makes : (typed : List ℕ) (switches lamps : ℕ) (latched : Option ℕ)
 makes typed switches lamps None = refl
 makes typed switches lamps (Some n) = refl
 
--- each panel has a past
+-- every panel has a past
 pub has_past : (p : PanelState) → (past : List Operation) × (p ≡ panel_after past)
 has_past p = (past_of p, makes p.waiting p.switches p.lamps p.latched)
 
--- what is found latched after each past is latched
+-- a request that is latched after every past is the panel's
 pub found_latched : (p : PanelState) (found : Option ℕ)
     → ((past : List Operation) → p ≡ panel_after past → found ≡ (panel_after past).latched)
     → p.latched ≡ found
@@ -74,7 +75,7 @@ or_none : {A : Type 0} (x : Option A) → option_or x None ≡ x
 or_none None = refl
 or_none (Some a) = refl
 
--- whether a Step of this kind is done, by what is followed
+-- whether a Step of this kind is done, by what the lab tracks
 pub done_followed : (k : StepKind) (context : Context) (b : Board) → context.frames ≡ live b.trace
     → Follows context.older context.innermost context.is_gone (earlier b) (since b)
     → is_done_in k context ≡ is_done k (earlier b) (since b)
@@ -89,13 +90,13 @@ kind_devices In context devices = refl
 kind_devices Over context devices = refl
 kind_devices StepOut context devices = refl
 
--- which has nothing to do with the devices
+-- devices don't matter to it
 pub done-devices : (request : Option StepRequest) (context : Context) (devices : DeviceState)
     → is_step_done request context ≡ is_step_done request (record context { devices = devices })
 done-devices None context devices = refl
 done-devices (Some request) context devices = kind_devices request.kind context devices
 
--- what isn't done isn't complete
+-- a Step that isn't done isn't complete
 completes-undone : (request : Option StepRequest) (context : Context) (b : Board)
     → context.frames ≡ live b.trace
     → (IsSome request → Follows context.older context.innermost context.is_gone (earlier b) (since b))
@@ -106,22 +107,22 @@ completes-undone (Some request) context b frames-are follows undone =
     sym (done_followed request.kind context b frames-are (follows refl)) ∙ undone in
     rw not_done (and-false (has_step (since b)))
 
--- a breakpoint alone stops a run that is calm
-pub calm_reason : (lab : LabState) (machine : MachineState) (context : Context) (b : Board)
-    (traffic : List PortOperation) → StandsAmid (amid lab machine context) b traffic → IsCalm context
-    → reason_apart b ≡ at_breakpoint b
-calm_reason lab machine context b traffic s calm =
-    let no_halt : ends_in_halt b.trace ≡ false = sym s.is_halted ∙ calm.goes_on in
+-- if only what is fetched next can end the slice, a breakpoint is the only reason before the fetch
+pub only_breakpoint_stops : (lab : LabState) (machine : MachineState) (context : Context) (b : Board)
+    (traffic : List PortOperation) → StandsAmid (amid lab machine context) b traffic
+    → OnlyFetchCanStop context → reason_before_fetch b ≡ at_breakpoint b
+only_breakpoint_stops lab machine context b traffic s only_fetch =
+    let no_halt : ends_in_halt b.trace ≡ false = sym s.is_halted ∙ only_fetch.goes_on in
     let P : Option StepRequest → Type 0 = λ r. completes r b ≡ false in
     let is : context.request ≡ b.request = s.request in
     let follows : IsSome context.request
     → Follows context.older context.innermost context.is_gone (earlier b) (since b)
     = λ asked. s.follows (rw is at asked) in
     let none : completes b.request b ≡ false =
-    subst P is (completes-undone context.request context b s.frames follows calm.undone) in
+    subst P is (completes-undone context.request context b s.frames follows only_fetch.undone) in
     rw (no_halt, none) (or_none (option_or (at_breakpoint b) None) ∙ or_none (at_breakpoint b))
 
--- where none is looked for, none is met
+-- if breakpoints aren't checked for, none is met
 pub meets_none : (lab : LabState) (machine : MachineState) (context : Context) (b : Board)
     (traffic : List PortOperation) → StandsAmid (amid lab machine context) b traffic
     → LooksUp false context → machine.regs.pc < 65536 → meets_breakpoint b ≡ false
@@ -146,13 +147,13 @@ at_least-first : (low : ℕ) (fs gs : List Frame) → AtLeast low (fs ++ gs) →
 at_least-first low [] gs above = tt
 at_least-first low (f ∷ fs) gs above = (above.0, at_least-first low fs gs above.1)
 
--- the first of a list that has one more at its end
+-- the first element of a list with one appended
 first-of-more : (fs : List Frame) (x f : Frame) → slice_get (fs ++ x ∷ []) 0 ≡ Some f
     → (slice_get fs 0 ≡ Some f) ⊎ (x ≡ f)
 first-of-more [] x f is = inr (cc)
 first-of-more (g ∷ fs) x f is = inl is
 
--- the innermost frame, where it stays, isn't below the slots of those that stay
+-- the innermost frame, if it stays, isn't below the slots of the others that stay
 innermost-above : (sp : ℕ) (later : List Entry) (fs : List Frame) (f : Frame) → innermost fs ≡ Some f
     → stays later f ≡ true → AtLeast sp (filter (stays later) fs) → sp ≤ f.slot
 innermost-above sp later [] f is stay above = cc
@@ -168,7 +169,7 @@ innermost-above sp later (x ∷ fs) f is stay above =
           rw (← same) low)
     ]
 
--- a frame that stays is ended by no quiet step
+-- no quiet step ends a live frame
 quiet_gone : (frame : Option Frame) (gone : Bool) (sp : ℕ) (before later : List Entry)
     → frame ≡ innermost (live before) → gone ≡ is_gone frame later
     → AtLeast sp (filter (stays later) (live before)) → gone ≡ is_gone_after gone frame Done sp
@@ -181,8 +182,8 @@ quiet_gone (Some f) gone sp before later is gone-is above = elim (cases_Bool (st
   | inr went ↦ (let was : gone ≡ true = rw went at gone-is in rw was refl)
 ]
 
--- What a Step follows stays as it is: as many of the older frames are left, and the innermost isn't gone but
--- where it was.
+-- A quiet step changes nothing that a pending Step is decided by: no older frame ends, the innermost
+-- included.
 record StaysFollowed (old : LabState) (sp : ℕ) : Type 0 where
   pub older : old.older ≡ min old.older (length old.frames)
   pub gone : old.is_gone ≡ is_gone_after old.is_gone old.innermost Done sp
@@ -313,7 +314,7 @@ no_arming kind.Returned m m' on settles = settles
 no_arming kind.Halted m m' on settles = settles
 no_arming kind.Undefined m m' on settles = settles
 
--- ---- an SP that no slot is below is within the reach of the newest
+-- ---- if no slot is below SP, SP is below the reach
 
 at_least-append : (low : ℕ) (fs gs : List Frame) → AtLeast low fs → AtLeast low gs → AtLeast low (fs ++ gs)
 at_least-append low [] gs above rest = rest

@@ -1,4 +1,4 @@
--- What a lab stands for after a step, a Resume and a Step.
+-- The board a lab stands for after a step, a Resume and a Step.
 use Rattle.std.proofs.Common.{◌≡◌, ℕ, ◌+◌, ◌≤◌, List, [], ◌∷◌, ◌++◌, Bool, true, false, not, ◌||◌, ◌&&◌, ◌==◌}
 use Rattle.std.proofs.Common.{Option, Some, None, length, min, refl, sym, ap, ◌∙◌, subst, rules, arith}
 use Rattle.std.proofs.Common.{length-append, append-nil}
@@ -35,7 +35,7 @@ use Rattle.lab_core.specs.Labs.{LabState, StandsAmid, StandsFor, Follows}
 use Rattle.i80_exec.proofs.UndefinedLemmas.{IsDefined}
 use Rattle.lab_core.proofs.UndefinedLemmas.{defined, no_step, some_step}
 
--- ---- lists of steps, one step on
+-- ---- traces with one more step
 
 as_step-change : (a : Option Outcome) (c : Change) → change_of (as_step a c) ≡ c
 as_step-change None c = refl
@@ -65,7 +65,7 @@ gone-append (Some f) steps step =
 
 -- ---- a step
 
--- what a step keeps and changes beside machine and devices, where so many frames are left
+-- what a step keeps and changes besides machine and devices, if it leaves `left` frames
 pub record Moves (old new : LabState) (answer : Stepped) (left : ℕ) : Type 0 where
   pub rest : new ≡ record old {
     machine = new.machine;
@@ -83,7 +83,7 @@ pub record Moves (old new : LabState) (answer : Stepped) (left : ℕ) : Type 0 w
   pub gone : IsSome old.request
       → new.is_gone ≡ is_gone_after old.is_gone old.innermost answer new.machine.regs.sp
 
--- the parts of a trace, one step on
+-- the parts of a trace with one more step
 record Longer (b : Board) : Type 0 where
   pub earlier_is : earlier (stepped_board b) ≡ earlier b
   pub since_is : since (stepped_board b) ≡ since b ++ Step (next_step b) ∷ []
@@ -94,12 +94,12 @@ longer b within = record {
   since_is = drop-append-le (unwrap_or b.resumed 0) b.trace (Step (next_step b) ∷ []) within;
 }
 
--- the live frames are those of the steps before that those since leave, and those that these make
+-- the live frames are the older ones that the later entries leave, and those that the later entries make
 pub parts-live : (b : Board) → live b.trace ≡ filter (stays (since b)) (live (earlier b)) ++ live (since b)
 parts-live b =
     ap live (sym (take-append-drop (unwrap_or b.resumed 0) b.trace)) ∙ live-append (earlier b) (since b)
 
--- what a Step follows, one step on
+-- what a lab tracks for a Step, one step later
 follows_step : (old new : LabState) (b : Board) (answer : Stepped) (left : ℕ) → Moves old new answer left
     → (change_of (next_step b)).answer ≡ answer
     → (change_of (next_step b)).after.regs.sp ≡ new.machine.regs.sp
@@ -180,7 +180,7 @@ stands_step old new b traffic answer left s did m =
 
 -- ---- no step
 
--- the devices after nothing was done to them
+-- devices without a further operation
 no_operations : (devices : DeviceState) (past done : List Operation) → done ≡ []
     → DevicesStandFor devices (past ++ done)
     → DevicesStandFor devices past
@@ -189,7 +189,7 @@ no_operations devices past done none stands =
     let same : past ++ done ≡ past = rw none (append-nil past) in
     subst P same stands
 
--- an undefined opcode is found where it is answered, and nowhere else
+-- the opcode is undefined exactly if the step answers Undefined
 pub finds_undefined : (old : LabState) (b : Board) (traffic : List PortOperation) (machine : MachineState)
     (devices : DeviceState) (opcode pc : ℕ)
     → StandsAmid old b traffic
@@ -211,7 +211,7 @@ finds_no_undefined old b traffic machine devices answer s did other =
     let none = some_step b.past b.machine (subst IsDefined is (defined answer other)) in
     rw none refl
 
--- it leaves the lab as it was
+-- it leaves the lab unchanged
 pub stands_undefined : (old : LabState) (b : Board) (traffic : List PortOperation) (machine : MachineState)
     (devices : DeviceState) (opcode : ℕ)
     → StandsAmid old b traffic
@@ -268,7 +268,7 @@ same_count : {A : Type 0} → (n : ℕ) (xs : List A) → (n + length xs == n) �
 same_count n [] = grind (arith, nat_tests)
 same_count n (x ∷ xs) = grind (arith, nat_tests)
 
--- as many frames are live as are left of the older ones, where no frame since is
+-- the number of live frames is that of the older ones left, if no later frame is live
 pub over_done : (frames : List Frame) (older : ℕ) (frame : Option Frame) (gone : Bool) (b : Board)
     → frames ≡ live b.trace
     → Follows older frame gone (earlier b) (since b)
@@ -289,7 +289,7 @@ step-none [] m m' = refl
 step-none (Step s ∷ entries) m m' = refl
 step-none (Poke n n' ∷ entries) m m' = step-none entries m m'
 
--- a stopped run's lab stands for the board whose machine was changed so
+-- the lab of a stopped run stands for the board whose machine was changed
 pub stands_poked : (old : LabState) (b : Board) (machine : MachineState) → StandsFor old b → b.run ≡ Stopped
     → StandsFor (record old { machine = machine }) (changed_to machine b)
 stands_poked old b machine s is =

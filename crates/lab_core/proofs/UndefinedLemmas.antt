@@ -1,4 +1,4 @@
--- Undefined is answered exactly where an undefined opcode stands at PC and no request is accepted.
+-- A step answers Undefined exactly if the opcode at PC is undefined and no request is accepted.
 use Rattle.std.proofs.Common.{◌≡◌, ℕ, List, [], Bool, true, false, ◌&&◌, Option, Some, None}
 use Rattle.std.proofs.Common.{refl, sym, subst}
 use Rattle.std.specs.Option.{is_none, IfSome}
@@ -20,7 +20,7 @@ pub defined : (answer : Stepped) → ((opcode : ℕ) → answer ≡ stepped.Unde
 defined (stepped.Undefined opcode) other = other opcode refl
 defined _ other = tt
 
--- an acceptance answers a call
+-- the acceptance of a request answers a call
 accepted-defined : (state : Interrupts) (n : ℕ) (m : MachineState) → IfSome (accepted_in state n m) Defines
 accepted-defined On n m = tt
 accepted-defined Arming n m = tt
@@ -30,7 +30,7 @@ acceptance-defined : (latched : Option ℕ) (m : MachineState) → IfSome (accep
 acceptance-defined None m = tt
 acceptance-defined (Some n) m = accepted-defined m.regs.interrupts n m
 
--- ---- where Undefined is answered
+-- ---- if the answer is Undefined
 
 -- no step is made: no request is accepted, and the opcode at PC is undefined
 pub record NoStep (past : List Operation) (m : MachineState) (opcode : ℕ) : Type 0 where
@@ -63,7 +63,7 @@ pub no_step : (past : List Operation) (m : MachineState) (opcode : ℕ)
 no_step past m opcode is =
     no_step_by (accepted m past) past m opcode refl (acceptance-defined (panel_after past).latched m) is
 
--- ---- where another answer is given
+-- ---- if the answer is another
 
 and_false : (b : Bool) → (b && false) ≡ false
 and_false true = refl

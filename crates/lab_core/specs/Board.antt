@@ -1,4 +1,4 @@
--- A board, and its steps: accepted requests and instructions.
+-- The board, and its steps: instructions and accepted interrupt requests.
 use Rattle.std.specs.Prelude.{ℕ, List, [], ◌∷◌, ◌++◌, Option, Some, None, Bool, false}
 use Rattle.i80_exec.specs.State.{MachineState, power_on}
 use Rattle.i80_exec.specs.Effect.{Outcome}
@@ -15,26 +15,26 @@ use Rattle.lab_image.specs.declared.sources.Source.{Source}
 
 pub record Board : Type 0 where
   pub machine : MachineState
-  -- all operations on the devices since power-on or the last reset
+  -- all operations on the devices since power-on or the last Reset
   pub past : List Operation
   -- all loads since then
   pub loads : List Load
-  -- the symbols that are kept
+  -- the symbols of the cells loaded so far
   pub symbols : Entries
-  -- the texts that are kept, each at the place of its number
+  -- the stored texts, each at the index that is its number
   pub sources : List Source
-  -- the lists of breakpoints that aren't empty, in the order in which each last became so
+  -- the nonempty lists of breakpoints, in the order in which each became so
   pub breakpoints : List BreakpointList
   pub is_attached : Bool
   pub run : RunState
-  -- the steps since the last start, and the changes by hand, also where the run has ended
+  -- the steps and changes by hand since the last Start, even after the run has ended
   pub trace : List Entry
-  -- how many of both there were at the run's last Resume or Step, if it had one
+  -- the length of the trace at the run's last Resume or Step, if it had one
   pub resumed : Option ℕ
-  -- the Step that isn't complete yet
+  -- the pending Step
   pub request : Option StepRequest
 
--- after power-on
+-- the board after power-on
 abbrev pub opening : Board
 opening = record {
   machine = power_on;
@@ -50,7 +50,7 @@ opening = record {
   request = None;
 }
 
--- what the next step of a board does to the machine
+-- what the next step does to the machine
 abbrev pub next_change : Board → Change
 next_change b =
     let o = outcome b.machine b.past in
@@ -64,7 +64,7 @@ as_step None change = Instruction change
 abbrev pub next_step : Board → BoardStep
 next_step b = as_step (accepted b.machine b.past) (next_change b)
 
--- the board after it
+-- the board after the next step
 abbrev pub stepped : Board → Board
 stepped b = record b {
   machine = (next_change b).after;

@@ -5,7 +5,7 @@ use Rattle.i80_exec.specs.State.{MachineState, stored, with_regs}
 use Rattle.lab_core.specs.Board.{Board}
 use Rattle.lab_core.specs.Events.{changed_to}
 
--- a machine with these bytes from an address on; behind FFFFH they go on at 0000H
+-- the machine with these bytes from an address on, wrapping from FFFFH to 0000H
 abbrev pub with_bytes : ℕ → List ℕ → MachineState → MachineState
 with_bytes address [] m = m
 with_bytes address (byte ∷ bytes) m = with_bytes (address + 1) bytes (stored m address byte)
@@ -13,6 +13,6 @@ with_bytes address (byte ∷ bytes) m = with_bytes (address + 1) bytes (stored m
 abbrev pub after_write : ℕ → List ℕ → Board → Board
 after_write address bytes b = changed_to (with_bytes address bytes b.machine) b
 
--- A Step that isn't complete is dropped: it counts frames by SP, which may be another now.
+-- A pending Step is canceled, since it identifies frames by SP, which may have changed.
 abbrev pub after_registers : Registers → Board → Board
 after_registers registers b = record (changed_to (with_regs b.machine registers) b) { request = None }

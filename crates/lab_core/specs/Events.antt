@@ -1,4 +1,4 @@
--- What each event answers, and what it makes of a board.
+-- The answer to each event, and the board after it.
 use Rattle.std.specs.Prelude.{◌≡◌, ℕ, ◌≤◌, List, [], ◌∷◌, ◌++◌, length, map, Bool, true, false, ◌&&◌, Option}
 use Rattle.std.specs.Prelude.{Some, None, Result, Ok, Err, is_some, nat_lt, nat_le, if◌then◌else◌}
 use Rattle.i80_rows.specs.declared.board.Board.{Board as BoardOption}
@@ -40,11 +40,11 @@ use Rattle.lab_core.specs.Cells.{TextGives}
 use Rattle.lab_core.specs.Slices.{IsSlice, after_steps, traffic_of, left_by}
 use Rattle.lab_core.specs.SliceEnds.{slice_from, sliced_at}
 
--- what an event gives: its answer and the board after it, or why it is refused
+-- the answer to an event and the board after it, or the error
 abbrev pub Given : Type 0
 Given = Result (Answer × Board) EventFault
 
--- ---- with or without a run
+-- ---- states of the run
 
 abbrev pub without_run : RunState → Given → Given
 without_run NoRun given = given
@@ -76,7 +76,7 @@ abbrev pub or_assembly : {A : Type 0} → Result A CellFault → Result A EventF
 or_assembly (Ok x) = Ok x
 or_assembly (Err (line, column, kind)) = Err (Assembly (At line column kind))
 
--- what a cell gives is loaded as the source of this number,
+-- the board with an assembled cell loaded as the source of this number
 abbrev pub with_built : ℕ → Meaning → Board → Board
 with_built number m b = record b {
   machine = with_image b.machine m.output.image;
@@ -84,13 +84,13 @@ with_built number m b = record b {
   symbols = m.symbols;
 }
 
--- and its text is kept in its place
+-- and with its text stored: in its place, or at the end if it has none
 abbrev pub with_cell : Source → Option ℕ → Meaning → Board → Board
 with_cell s place m b =
     let loaded = with_built (number_at place b.sources) m b in
     record loaded { sources = kept_at place s b.sources }
 
--- what a text gives over the symbols that are kept, by the assembler's rounds
+-- what a text assembles to with the symbols of earlier cells
 abbrev pub assembled : Entries → List ℕ → Result Meaning CellFault
 assembled kept text = do
   statements ← statements_of text
@@ -100,20 +100,20 @@ abbrev pub or_source : {A : Type 0} → Result A SourceFault → Result A EventF
 or_source (Ok x) = Ok x
 or_source (Err fault) = Err (refused_source fault)
 
--- a cell whose text may be kept under its path, where this is what the text gives or its first fault
+-- the load of a cell that assembles to this, or has this fault
 abbrev pub loaded_as : Result Meaning CellFault → Source → Board → Given
 loaded_as cell s b = do
   place ← or_source (place_of s b.sources)
   meaning ← or_assembly cell
   Ok (answer.Loaded meaning.output.start, with_cell s place meaning b)
 
--- a text that may be kept under its path; nothing of it is assembled
+-- a text stored under its path and not assembled
 abbrev pub dumped : Source → Board → Given
 dumped s b = do
   place ← or_source (place_of s b.sources)
   Ok (answer.Dumped, record b { sources = kept_at place s b.sources })
 
--- a run from an address, with no live frame
+-- a run from this address, with no live frame
 abbrev pub started : ℕ → Board → Board
 started address b = record b {
   machine = with_pc b.machine address;
@@ -126,7 +126,7 @@ started address b = record b {
 abbrev pub stopped : Board → Board
 stopped b = record b { run = Stopped; request = None }
 
--- a Resume, or with a request a Step
+-- after a Resume, or with a request after a Step
 abbrev pub going_on : Option StepRequest → Board → Board
 going_on request b = record b { run = Running; resumed = Some (length b.trace); request = request }
 
@@ -134,11 +134,12 @@ abbrev pub or_poke : {A : Type 0} → Result A PokeFault → Result A EventFault
 or_poke (Ok x) = Ok x
 or_poke (Err fault) = Err (refused_poke fault)
 
--- a change of the machine by hand, which the trace lists and which is no step
+-- A change of the machine by hand is an entry of the trace, but not a step.
 abbrev pub changed_to : MachineState → Board → Board
 changed_to machine b = record b { machine = machine; trace = b.trace ++ Poke b.machine machine ∷ [] }
 
--- the place of this name in a scope gets the value that is spelled so, and it is answered as it is shown
+-- The named place of a scope gets the value spelled by the text. The answer is the value as the scope
+-- shows it.
 abbrev pub poked : ℕ → List ℕ → List ℕ → Board → Given
 poked reference name value b = do
   place ← or_poke (place_named reference name)
@@ -148,11 +149,11 @@ poked reference name value b = do
 abbrev pub ended : Board → Board
 ended b = record b { run = NoRun; request = None }
 
--- what a Reset makes of the machine: what the undefined opcodes do stays
+-- a reset machine keeps its treatment of undefined opcodes
 abbrev pub machine_reset : MachineState → MachineState
 machine_reset m = with_board power_on m.board
 
--- the symbols, the texts, the breakpoints and the attachment stay
+-- symbols, texts, breakpoints and the attached debugger are kept
 abbrev pub reset : Board → Board
 reset b = record b {
   machine = machine_reset b.machine;
@@ -164,13 +165,13 @@ reset b = record b {
   request = None;
 }
 
--- whether the undefined opcodes act from now on
+-- the board with this treatment of undefined opcodes
 abbrev pub with_option : BoardOption → Board → Board
 with_option option b = record b { machine = with_board b.machine option }
 
--- ---- a debugger's
+-- ---- events of a debugger
 
--- a breakpoint is verified where the text has the line
+-- a breakpoint is verified if the text has its line
 abbrev pub is_line : List ℕ → ℕ → Bool
 is_line text line = nat_le 1 line && nat_le line (line_count text)
 
@@ -192,13 +193,13 @@ with_breakpoints path lines b =
 abbrev pub attached : Board → Board
 attached b = record b { is_attached = true }
 
--- a run that is stopped goes on
+-- a stopped run continues
 abbrev pub unstopped : RunState → RunState
 unstopped NoRun = NoRun
 unstopped Running = Running
 unstopped Stopped = Running
 
--- that is no Resume
+-- A Detach doesn't count as a Resume.
 abbrev pub detached : Board → Board
 detached b = record b { is_attached = false; breakpoints = []; request = None; run = unstopped b.run }
 
@@ -207,7 +208,7 @@ is_stopped NoRun = false
 is_stopped Running = false
 is_stopped Stopped = true
 
--- what the views are made of
+-- the parts of the board that views show
 abbrev pub parts_of : Board → Parts
 parts_of b = record {
   machine = b.machine;
@@ -228,14 +229,14 @@ as_answer (Err fault) b = Err (refused_view fault)
 abbrev pub with_operation : Operation → Board → Board
 with_operation o b = record b { past = b.past ++ o ∷ [] }
 
--- there are the buttons 0 to 7, and one request is latched at most
+-- the buttons are 0 to 7, and at most one request is latched
 abbrev pub pressed : ℕ → Board → Given
 pressed n b =
     if nat_lt 7 n then Err Vector else
     if is_some (panel_after b.past).latched then Err Latched else
     Ok (answer.Accepted, with_operation (Press n) b)
 
--- ---- the one answer to each event, and the board after it
+-- ---- the answer to each event, and the board after it
 
 abbrev pub given : Event → Board → Given
 given (event.Load path text) b =
@@ -258,14 +259,14 @@ given (event.Switches byte) b = Ok (answer.Accepted, with_operation (Switches by
 given (event.Press n) b = pressed n b
 given (event.Show view) b = as_answer (view_of view (parts_of b)) b
 
--- ---- what is answered
+-- ---- events as a relation
 
--- a refusal leaves the board as it was
+-- a refused event leaves the board unchanged
 abbrev pub Gives : Board → Given → Result Answer EventFault → Board → Type 0
 Gives b (Ok (a, b')) reply new = (reply ≡ Ok a) × (new ≡ b')
 Gives b (Err r) reply new = (reply ≡ Err r) × (new ≡ b)
 
--- a slice of n steps, which ended after k
+-- a slice of at most n steps that made k
 pub record GivesSlice (n : ℕ) (b : Board) (reply : Result Answer EventFault) (new : Board) : Type 0 where
   pub k : ℕ
   pub ending : SliceOutcome
@@ -278,20 +279,20 @@ SlicesRun NoRun n b reply new = Gives b (Err NotRunning) reply new
 SlicesRun Running n b reply new = GivesSlice n b reply new
 SlicesRun Stopped n b reply new = Gives b (Err NotRunning) reply new
 
--- a load of what the text gives, by its statements and their readings
+-- a load, by what the text gives according to its statements and their readings
 abbrev pub Loads : Source → Board → Result Answer EventFault → Board → Type 0
 Loads s b reply new =
     (cell : Result Meaning CellFault) × TextGives b.symbols s.text cell
     × Gives b (without_run b.run (loaded_as cell s b)) reply new
 
--- On this board the event is answered so, and makes it that board: of a load and of a slice by a condition,
--- of all others by the function.
+-- On this board the event has this reply and leaves that board: a Load and a Slice by conditions, all
+-- others by the function `given`.
 abbrev pub Applies : Board → Event → Result Answer EventFault → Board → Type 0
 Applies b (event.Load path text) reply new = Loads (record { path = path; text = text }) b reply new
 Applies b (event.Slice n) reply new = SlicesRun b.run n b reply new
 Applies b event reply new = Gives b (given event b) reply new
 
--- the events are answered so, in turn
+-- the events, in order, have these replies
 abbrev pub Runs : Board → List Event → List (Result Answer EventFault) → Board → Type 0
 Runs b [] [] new = new ≡ b
 Runs b (event ∷ events) (reply ∷ replies) new =
@@ -299,7 +300,7 @@ Runs b (event ∷ events) (reply ∷ replies) new =
 Runs b [] (reply ∷ replies) new = ⊥
 Runs b (event ∷ events) [] new = ⊥
 
--- a slice makes from 1 to 4,096 steps, and a source has 256 breakpoints at most
+-- a slice has from 1 to 4,096 steps, and a text at most 256 breakpoints
 abbrev pub Fits : Event → Type 0
 Fits (event.Slice n) = (1 ≤ n) × (n ≤ 4096)
 Fits (event.SetBreakpoints path lines) = length lines ≤ 256

@@ -33,7 +33,7 @@ use Rattle.lab_core.specs.declared.fault.EventFault.{EventFault}
 use Rattle.lab_core.specs.declared.fault.EventFault.TheVariants.{OutOfMemory}
 use Rattle.lab_core.specs.Board.{Board, next_change, stepped}
 use Rattle.lab_core.specs.Stops.{since, earlier, has_step, innermost, is_gone, is_gone_after}
-use Rattle.lab_core.specs.Slices.{ends_in_halt, reason, reason_apart, after_steps, traffic_of}
+use Rattle.lab_core.specs.Slices.{ends_in_halt, reason, reason_before_fetch, after_steps, traffic_of}
 use Rattle.lab_core.specs.declared.answer.SliceOutcome.{SliceOutcome}
 use Rattle.lab_core.specs.declared.answer.SliceOutcome.TheVariants as outcomes
 use Rattle.lab_core.specs.declared.answer.End.TheVariants as ends
@@ -60,16 +60,15 @@ pub record LabState : Type 0 where
   pub innermost : Option Frame
   pub is_gone : Bool
 
--- What the lab follows while a Step isn't complete, where these are the run's entries up to it and those
--- since: how many of the frames that were live at its beginning are left, which was innermost, and whether
--- that is gone.
+-- What the lab tracks while a Step is pending, if these are the run's entries before and since it began: the
+-- number of frames left of those live then, the innermost of them, and whether that one has ended.
 pub record Follows (older : ℕ) (frame : Option Frame) (gone : Bool)
     (before later : List Entry) : Type 0 where
   pub older_is : older ≡ length (filter (stays later) (live before))
   pub innermost_is : frame ≡ innermost (live before)
   pub gone_is : gone ≡ is_gone (innermost (live before)) later
 
--- The lab's parts are what the board makes of them, and these port operations weren't taken yet.
+-- The lab represents the board, and `traffic` lists the port operations that haven't been taken yet.
 pub record StandsAmid (lab : LabState) (b : Board) (traffic : List PortOperation) : Type 0 where
   pub machine : lab.machine ≡ b.machine
   pub devices : devices.StandsFor lab.devices b.past
@@ -88,33 +87,33 @@ pub record StandsAmid (lab : LabState) (b : Board) (traffic : List PortOperation
   pub has_moved : lab.has_moved ≡ has_step (since b)
   pub request : lab.request ≡ b.request
   pub follows : IsSome b.request → Follows lab.older lab.innermost lab.is_gone (earlier b) (since b)
-  -- of the board alone: a Step isn't kept while the run is stopped, and none of the frames since is below SP
+  -- of the board alone: a stopped run has no pending Step, and no frame made since the Step began is below SP
   pub stopped : b.run ≡ Stopped → b.request ≡ None
   pub above : IsSome b.request → AtLeast b.machine.regs.sp (live (since b))
 
--- ---- what a step or a look makes of a lab
+-- ---- what steps and queries do to a lab
 
--- whatever board the old lab stands for, the new one stands for the board one step later
+-- for every board the old lab stands for, the new lab stands for it one step later
 abbrev pub Advances : LabState → LabState → Type 0
 Advances old new =
     (b : Board) (traffic : List PortOperation) → StandsAmid old b traffic
     → StandsAmid new (stepped b) (traffic ++ operation_list (next_change b).operation)
 
--- it stands for the same board
+-- the new lab stands for every board the old one did
 abbrev pub Keeps : LabState → LabState → Type 0
 Keeps old new =
     (b : Board) (traffic : List PortOperation) → StandsAmid old b traffic → StandsAmid new b traffic
 
--- this is found of whatever board the lab stands for
+-- `found` is the value of `f` on every board the lab stands for
 abbrev pub Finds : {A : Type 0} → (Board → A) → A → LabState → Type 0
 Finds f found lab = (b : Board) (traffic : List PortOperation) → StandsAmid lab b traffic → found ≡ f b
 
--- unwatched, there is neither a debugger nor a Step
+-- if not watched, there is neither a debugger nor a pending Step
 abbrev pub Watches : Bool → Bool → Option StepRequest → Type 0
 Watches true is_attached request = Unit {0}
 Watches false is_attached request = (is_attached ≡ false) × (request ≡ None)
 
--- a lab with this machine and what steps look at beside it
+-- the lab with this machine and this context
 abbrev pub amid : LabState → MachineState → Context → LabState
 amid lab machine context = record lab {
   machine = machine;
@@ -132,7 +131,7 @@ amid lab machine context = record lab {
   is_gone = context.is_gone;
 }
 
--- the three above, of every lab that has these
+-- the three above, for every lab with this machine and context
 abbrev pub AdvancesIn : MachineState → Context → MachineState → Context → Type 0
 AdvancesIn machine context machine' context' =
     (lab : LabState) → Advances (amid lab machine context) (amid lab machine' context')
@@ -144,7 +143,7 @@ KeepsIn machine context machine' context' =
 abbrev pub FindsIn : {A : Type 0} → (Board → A) → A → MachineState → Context → Type 0
 FindsIn f found machine context = (lab : LabState) → Finds f found (amid lab machine context)
 
--- what a debugger asked of the run, which steps keep
+-- steps don't change what the debugger requested
 pub record KeepsAsked (old new : Context) : Type 0 where
   pub attached : new.is_attached ≡ old.is_attached
   pub breakpoints : new.breakpoints ≡ old.breakpoints
@@ -152,59 +151,61 @@ pub record KeepsAsked (old new : Context) : Type 0 where
 
 -- ---- bursts
 
--- Whether a Step of this kind is done: Over where no frame is live but those that are left of the older ones,
--- Out where the frame is gone that was innermost.
+-- Whether a Step of this kind is done: Over, if every live frame is older than the Step; Out, if the frame
+-- that was innermost when it began has ended.
 abbrev pub is_done_in : StepKind → Context → Bool
 is_done_in In context = true
 is_done_in Over context = length context.frames == context.older
 is_done_in Out context = context.is_gone
 
--- whether a Step is wanting that is done
+-- whether a Step is pending and done
 abbrev pub is_step_done : Option StepRequest → Context → Bool
 is_step_done None context = false
 is_step_done (Some request) context = is_done_in request.kind context
 
--- Nothing can come but a breakpoint or an undefined opcode: the last step wasn't HLT, one was made since
--- the last Resume or Step, no Step is done that is wanting, and no request is latched.
-pub record IsCalm (context : Context) : Type 0 where
+-- Only what is fetched next, a breakpoint's or an undefined opcode, can end the slice: the last step
+-- wasn't HLT, one was made since the last Resume or Step, no pending Step is done, and no request is
+-- latched.
+pub record OnlyFetchCanStop (context : Context) : Type 0 where
   pub goes_on : context.is_halted ≡ false
   pub has_moved : context.has_moved ≡ true
   pub undone : is_step_done context.request context ≡ false
   pub unlatched : context.devices.panel.latched ≡ None
 
--- A breakpoint is looked for after each step, where a debugger is attached; or none can be met.
+-- A burst checks for breakpoints only if a debugger is attached, and skips the check only if none can be met.
 abbrev pub LooksUp : Bool → Context → Type 0
 LooksUp true context = context.is_attached ≡ true
 LooksUp false context = (context.is_attached ≡ false) ⊎ CanBeMet false context.breakpoints
 
--- It is calm, EI wasn't the last instruction, and SP is within the reach of the live frames: a step that
--- answers Done and leaves SP there is quiet, and changes nothing but machine and devices.
+-- A burst is in progress: only what is fetched next can end the slice, the last instruction wasn't EI, and SP
+-- is below the reach of the live frames. A step that answers Done and leaves SP there is quiet: it changes
+-- nothing but the machine and the devices.
 pub record IsInBurst (reach : ℕ) (machine : MachineState) (context : Context) : Type 0 where
-  pub calm : IsCalm context
+  pub only_fetch : OnlyFetchCanStop context
   pub settled : is_arming machine.regs.interrupts ≡ false
   pub within : machine.regs.sp < reach
   pub above : (sp : ℕ) → sp < reach → AtLeast sp context.frames
 
--- what a step of a burst ended the run with, if it did
+-- how a step of a burst ended the run, if it did
 abbrev pub ending_of : BurstStep → Option SliceOutcome
 ending_of (Within reach) = None
 ending_of Last = None
 ending_of (Ended outcome) = Some outcome
 
--- a step of this kind is EI or HLT
+-- the step was EI or HLT
 abbrev pub IsLast : Kind → Type 0
 IsLast kind = (kind ≡ Armed) ⊎ (kind ≡ Halted)
 
--- A burst goes on after a step of this kind that left SP there: it was neither EI nor HLT, no Step is done
--- that is wanting, and SP is within the reach of the live frames.
+-- A burst continues after a step of this kind that left SP at `sp`: it was neither EI nor HLT, no pending
+-- Step is done, and SP is below the reach of the live frames.
 pub record GoesOn (kind : Kind) (sp reach : ℕ) (context : Context) : Type 0 where
   pub not_last : IsLast kind → ⊥
   pub undone : is_step_done context.request context ≡ false
   pub within : sp < reach
   pub above : (low : ℕ) → low < reach → AtLeast low context.frames
 
--- A step that answered so, with PC at `site` before it and SP at `sp` after it, was made. The context has its
--- frames, and what a Step follows.
+-- A step with this answer was made, with PC at `site` before and SP at `sp` after it: the context's frames
+-- and what a pending Step is decided by are updated.
 pub record IsMade (answer : Stepped) (site sp : ℕ) (old new : Context) : Type 0 where
   pub defined : (opcode : ℕ) → answer ≡ Undefined opcode → ⊥
   pub frames : frames.Advances answer site sp old.frames new.frames
@@ -219,46 +220,46 @@ pub record IsMade (answer : Stepped) (site sp : ℕ) (old new : Context) : Type 
     is_gone = new.is_gone;
   }
 
--- None was made, for the opcode at `site` is undefined.
+-- No step was made, because the opcode at `site` is undefined.
 pub record IsNotMade (answer : Stepped) (site : ℕ) (outcome : SliceOutcome) (old new : Context) : Type 0 where
   pub opcode : ℕ
   pub answer_is : answer ≡ Undefined opcode
   pub outcome_is : outcome ≡ outcomes.End (ends.Undefined opcode site)
   pub kept : new ≡ old
 
--- what a context owes after the step of a burst that answered so
+-- the update of the context after a step of a burst with this answer
 abbrev pub Owed : Stepped → ℕ → ℕ → Context → Context → BurstStep → Type 0
 Owed answer site sp old new (Within reach) = IsMade answer site sp old new
 Owed answer site sp old new Last = IsMade answer site sp old new
 Owed answer site sp old new (Ended outcome) = IsNotMade answer site outcome old new
 
--- The lab stands for the board after so many steps. No reason stood before any of them, and if one was
--- found after them, it is the first that stands there.
+-- The lab stands for the board after `made` steps. There was no reason to stop before any of them, and
+-- `found`, if there is one, is the first reason after them.
 pub record Makes (made : ℕ) (found : Option SliceOutcome) (b : Board) (traffic : List PortOperation)
     (lab : LabState) : Type 0 where
   pub stands : StandsAmid lab (after_steps made b) (traffic ++ traffic_of made b)
   pub none_before : (j : ℕ) → j < made → reason (after_steps j b) ≡ None
   pub found_is : IfSome found (λ outcome. reason (after_steps made b) ≡ Some outcome)
 
--- so from whatever board it stood for
+-- the same from every board that the old lab stood for
 abbrev pub MakesIn : ℕ → Option SliceOutcome → MachineState → Context → MachineState → Context → Type 0
 MakesIn made found machine context machine' context' =
     (lab : LabState) (b : Board) (traffic : List PortOperation)
     → StandsAmid (amid lab machine context) b traffic
     → Makes made found b traffic (amid lab machine' context')
 
--- A burst of at most so many steps may begin, and this says whether a Step is wanting: there is room for the
--- port operations of these steps, and no reason stands.
+-- A burst of at most `most` steps may begin: there is space for their port operations, and there is no
+-- reason to stop but an undefined opcode. `is_asked` says whether a Step is pending.
 pub record BurstMayBegin (most reach : ℕ) (is_asked : Bool) (machine : MachineState) (context : Context)
     : Type 0 where
   pub room : most ≤ context.devices.spare
   pub ready : IsInBurst reach machine context
-  pub free : FindsIn reason_apart None machine context
+  pub free : FindsIn reason_before_fetch None machine context
   pub asked : is_some context.request ≡ is_asked
 
--- What at most so many steps make of a machine and its context, where so many are made and this is found
--- after them: one at least where nothing is found, and all only then. Each takes the room of one port
--- operation at most.
+-- The result of at most `most` steps, from an old machine and context to new ones: how many were made, and
+-- the reason found after them, if any. At least one is made if none is found, and fewer than `most` if one
+-- is. Each uses space for at most one port operation.
 pub record MakesAtMost (most : ℕ) (result : ℕ × Option SliceOutcome) (old new : MachineState × Context)
     : Type 0 where
   pub makes : MakesIn result.0 result.1 old.0 old.1 new.0 new.1
@@ -270,29 +271,30 @@ pub record MakesAtMost (most : ℕ) (result : ℕ × Option SliceOutcome) (old n
 
 -- ---- events
 
--- the same between events, where all are taken
+-- the same between events, when every port operation has been taken
 abbrev pub StandsFor : LabState → Board → Type 0
 StandsFor lab b = StandsAmid lab b []
 
--- Whatever board the old lab stands for, the new one stands for what the event makes of it.
+-- From every board the old lab stands for, the event gives this reply and a board the new lab stands for,
+-- unless it ran out of memory.
 abbrev pub AppliesTo : LabState → Event → Result Answer EventFault → LabState → Type 0
 AppliesTo old event reply new =
     (b : Board) → StandsFor old b → reply ≢ Err OutOfMemory
     → (b' : Board) × Applies b event reply b' × StandsFor new b'
 
--- the same of events in turn
+-- the same for a list of events
 abbrev pub RunsOn : LabState → List Event → List (Result Answer EventFault) → LabState → Type 0
 RunsOn old events replies new =
     (b : Board) → StandsFor old b → (b' : Board) × Runs b events replies b' × StandsFor new b'
 
--- What a function gives of a board is answered, and the lab stands for the board that it gives, or where it
--- refuses for the one before.
+-- The result is the function's, and the lab stands for the board it returns, or, if it refuses, for the
+-- old one.
 abbrev pub Did : {A : Type 0} → Board → Result (A × Board) EventFault → Result A EventFault → LabState
     → Type 0
 Did b (Ok (x, b')) result new = (result ≡ Ok x) × StandsFor new b'
 Did b (Err fault) result new = (result ≡ Err fault) × StandsFor new b
 
--- so for whatever board the old lab stands for, but where memory was wanting
+-- the same for every board the old lab stands for, unless memory ran out
 abbrev pub Does : {A : Type 0} → (Board → Result (A × Board) EventFault) → LabState → Result A EventFault
     → LabState → Type 0
 Does f old result new = (b : Board) → StandsFor old b → result ≢ Err OutOfMemory → Did b (f b) result new

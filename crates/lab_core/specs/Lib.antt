@@ -10,3 +10,4 @@ pub mod Memory
 pub mod Moments
 pub mod Marks
 pub mod Changes
+pub mod Replies

@@ -1,4 +1,4 @@
--- Marks: addresses to which PC comes, and places that a step changes. A slice may end at the first mark.
+-- Marks: addresses that PC reaches, and places that a step changes. A slice may end at the first mark.
 use Rattle.std.specs.Prelude.{◌≡◌, ◌≢◌, ◌≤◌, ◌<◌, ℕ, zero, suc, ◌+◌, ◌-◌, List, [], map, Bool, true, false}
 use Rattle.std.specs.Prelude.{not, ◌&&◌}
 use Rattle.std.specs.Prelude.{◌||◌, ◌==◌, nat_lt, Result, Err, IfOk, length, if◌then◌else◌}
@@ -22,14 +22,14 @@ use Rattle.lab_core.specs.Events.{Applies}
 use Rattle.lab_core.specs.SliceEnds.{traffic_in}
 use Rattle.lab_core.specs.Labs.{LabState, StandsAmid, StandsFor, amid}
 
--- what a contract sees of marks: whether each address is one, the watched places, and whether the last slice
--- ended at a mark
+-- what a contract sees of marks: whether each address is marked, the watched places, and whether the last
+-- slice ended at a mark
 pub record MarksState : Type 0 where
   pub addresses : List Bool
   pub watches : List Watch
   pub is_met : Bool
 
--- nothing is a mark
+-- there are no marks
 pub record IsClear (marks : MarksState) : Type 0 where
   pub addresses : IsEmpty marks.addresses
   pub watches : marks.watches ≡ []
@@ -37,7 +37,7 @@ pub record IsClear (marks : MarksState) : Type 0 where
 
 -- ---- where a mark is
 
--- the value of a register, and 0 for a byte of memory
+-- the value of a register; 0 for a byte of memory
 abbrev pub register_at : Place → Registers → ℕ
 register_at place.A r = r.a
 register_at place.B r = r.b
@@ -54,20 +54,20 @@ abbrev pub value_at : Place → MachineState → ℕ
 value_at (place.Memory address) m = byte_at m address
 value_at register m = register_at register m.regs
 
--- the place has another value in the second machine
+-- whether the place has another value in the second machine
 abbrev pub is_changed : MachineState → MachineState → Watch → Bool
 is_changed m m' w = not (value_at w.place m == value_at w.place m')
 
--- a step from the first to the second leads to a mark: PC has come to an address that is one, or a watched
--- place is changed
+-- whether a step from the first machine to the second reaches a mark: PC is at a marked address, or a watched
+-- place has changed
 abbrev pub is_marked : MarksState → MachineState → MachineState → Bool
 is_marked marks m m' = has marks.addresses m'.regs.pc || list_any (is_changed m m') marks.watches
 
--- the last of j steps leads to a mark
+-- whether the last of j steps reaches a mark
 abbrev pub marked_at : MarksState → Board → ℕ → Bool
 marked_at marks b j = is_marked marks (after_steps (j - 1) b).machine (after_steps j b).machine
 
--- of so many counts after k the first that passes the test, or the last
+-- the first of the next counts after k that passes the test, or the last of them
 unfoldable pub first_after : (ℕ → Bool) → ℕ → ℕ → ℕ
 first_after test zero k = k
 first_after test (suc more) k = if test (k + 1) then k + 1 else first_after test more (k + 1)
@@ -76,7 +76,7 @@ first_after test (suc more) k = if test (k + 1) then k + 1 else first_after test
 abbrev pub first_mark : MarksState → ℕ → Board → ℕ
 first_mark marks n b = first_after (marked_at marks b) n 0
 
--- k is the least count from 1 to n at which there is a mark, or n where none is below it
+-- k is the least count from 1 to n at which there is a mark, or n if there is none below it
 pub record IsFirstMark (marks : MarksState) (n : ℕ) (b : Board) (k : ℕ) : Type 0 where
   pub some : 1 ≤ k
   pub within : k ≤ n
@@ -89,7 +89,7 @@ abbrev pub steps_in : Answer → ℕ
 steps_in (answer.Sliced k traffic ending) = k
 steps_in _ = 0
 
--- Whatever board the old lab stands for, this is its slice of so many steps as lead to the first mark.
+-- From every board the old lab stands for, this is the slice of as many steps as reach the first mark.
 abbrev pub SlicesTo : MarksState → ℕ → LabState → Result Answer EventFault → LabState → Type 0
 SlicesTo marks n old reply new =
     (b : Board) → StandsFor old b → reply ≢ Err OutOfMemory
@@ -99,51 +99,51 @@ SlicesTo marks n old reply new =
 abbrev pub watch_of : MachineState → MachineState → Watch → Watch
 watch_of m m' w = record { place = w.place; before = value_at w.place m; after = value_at w.place m' }
 
--- what k steps leave: the values before and after the last of them, and whether it led to a mark
+-- the marks after k steps: the values before and after the last one, and whether it reached a mark
 abbrev pub marks_after : ℕ → Board → MarksState → MarksState
 marks_after k b marks = record marks {
   watches = map (watch_of (after_steps (k - 1) b).machine (after_steps k b).machine) marks.watches;
   is_met = nat_lt 0 k && marked_at marks b k;
 }
 
--- From whatever board it is made, it leaves these marks, and answers at most n port operations.
+-- From every board, the slice leaves these marks, and its answer has at most n port operations.
 abbrev pub Leaves : ℕ → LabState → Result Answer EventFault → MarksState → MarksState → Type 0
 Leaves n old reply marks marks' =
     (b : Board) → StandsFor old b → IfOk reply
     (λ answer. (marks' ≡ marks_after (steps_in answer) b marks) × (length (traffic_in answer) ≤ n))
 
--- ---- what a slice keeps on its way
+-- ---- during a slice
 
--- the place has another value in the machine than was kept
+-- whether the place's value in the machine differs from the recorded one
 abbrev pub differs : MachineState → Watch → Bool
 differs m w = not (w.before == value_at w.place m)
 
--- the kept values are those of the machine
+-- the recorded values are the machine's
 abbrev pub IsKept : MachineState → MarksState → Type 0
 IsKept m marks = list_any (differs m) marks.watches ≡ false
 
--- the machine is at a mark, where the kept values are those before the last step
+-- whether the last step reached a mark, if the recorded values are those before it
 abbrev pub is_at : MachineState → MarksState → Bool
 is_at m marks = has marks.addresses m.regs.pc || list_any (differs m) marks.watches
 
--- at a slice's beginning
+-- the marks at the beginning of a slice
 abbrev pub with_values : MachineState → MarksState → MarksState
 with_values m marks = record marks { watches = map (watch_of m m) marks.watches; is_met = false }
 
 abbrev pub with_after : MachineState → Watch → Watch
 with_after m w = record w { after = value_at w.place m }
 
--- at its end, after so many steps
+-- the marks at its end, after k steps
 abbrev pub with_end : ℕ → MachineState → MarksState → MarksState
 with_end k m marks =
     record marks { watches = map (with_after m) marks.watches; is_met = nat_lt 0 k && is_at m marks }
 
--- none of these steps but the last may have led to a mark, and the kept values are those before it
+-- only the last of these steps may have reached a mark, and the recorded values are those before it
 pub record Passes (marks : MarksState) (made : ℕ) (b : Board) : Type 0 where
   pub none : (j : ℕ) → 1 ≤ j → j < made → marked_at marks b j ≡ false
   pub kept : IsKept (after_steps (made - 1) b).machine marks
 
--- so from whatever board they were made
+-- the same from every board that the lab stands for
 abbrev pub PassesIn : MarksState → ℕ → MachineState → Context → Type 0
 PassesIn marks made machine context =
     (lab : LabState) (b : Board) (traffic : List PortOperation)

@@ -1,4 +1,4 @@
--- Where an event may be answered with out of memory.
+-- When an event may fail with out of memory.
 use Rattle.std.specs.Prelude.{◌≡◌, Ok, None, IsOk, IsSome}
 use Rattle.lab_image.specs.Sources.{place_of, source_at}
 use Rattle.lab_views.specs.Views.{view_of}
@@ -9,7 +9,7 @@ use Rattle.lab_core.specs.Board.{Board}
 use Rattle.lab_core.specs.Events.{parts_of, poked, while_stopped}
 use Rattle.lab_core.specs.Labs.{LabState, StandsFor}
 
--- Only where the board doesn't refuse the event; of a Load, where the text's faults aren't known yet.
+-- Only if the board doesn't refuse the event; a Load may also fail so before its text's faults are known.
 abbrev pub Takes : Event → Board → Type 0
 Takes (event.Load path text) b =
     (b.run ≡ NoRun) × IsOk (place_of (record { path = path; text = text }) b.sources)

@@ -1,4 +1,4 @@
--- The refusals that stand for what other crates refuse.
+-- The errors of other crates as errors of events.
 use Rattle.i80_devs.specs.declared.devices.PressFault.{PressFault}
 use Rattle.i80_devs.specs.declared.devices.PressFault.TheVariants as press
 use Rattle.asm_syntax.specs.declared.fault.AsmFault.{AsmFault}
@@ -12,7 +12,7 @@ use Rattle.lab_views.specs.declared.poke_fault.PokeFault.TheVariants as poke
 use Rattle.lab_core.specs.declared.fault.EventFault.{EventFault}
 use Rattle.lab_core.specs.declared.fault.EventFault.TheVariants as fault
 
--- a fault of a cell, or out of memory on the way
+-- a cell's fault, or out of memory before one was found
 abbrev pub refused_for : AsmFault → EventFault
 refused_for asm.OutOfMemory = fault.OutOfMemory
 refused_for (asm.At line column kind) = fault.Assembly (asm.At line column kind)

@@ -1,4 +1,4 @@
--- Slices: how many steps a run makes at a time, and why it makes no more.
+-- Slices: how many steps a run makes at a time, and why it stops there.
 use Rattle.std.specs.Prelude.{◌≡◌, ℕ, zero, suc, ◌<◌, ◌≤◌, List, [], ◌++◌, Bool, true, false, ◌&&◌, Option}
 use Rattle.std.specs.Prelude.{Some, None, is_none, unwrap_or, if◌then◌else◌}
 use Rattle.std.specs.List.{fold}
@@ -20,14 +20,14 @@ use Rattle.lab_frames.specs.Steps.{accepted}
 use Rattle.lab_core.specs.Board.{Board, next_change, stepped}
 use Rattle.lab_core.specs.Stops.{at_breakpoint, complete}
 
--- ---- the reasons, and whether each stands
+-- ---- the reasons to stop
 
--- whether the last step was HLT, where it was so before this entry: a change by hand is no step
+-- whether the last step was HLT, given whether it was before this entry: a change by hand isn't a step
 abbrev pub halts : Bool → Entry → Bool
 halts before (Step step) = is_halt (change_of step).answer
 halts before (Poke machine machine') = before
 
--- the last step was HLT
+-- whether the last step was HLT
 abbrev pub ends_in_halt : List Entry → Bool
 ends_in_halt trace = fold halts false trace
 
@@ -41,36 +41,36 @@ is_on Off = false
 is_on Arming = false
 is_on On = true
 
--- the run's last step was HLT with interrupts off after it, which ends the run
+-- after HLT with interrupts off, the run ends
 abbrev pub halted : Board → Option SliceOutcome
 halted b =
     if ends_in_halt b.trace && is_off b.machine.regs.interrupts
     then Some (outcome.End end.Halted) else None
 
--- it was HLT with interrupts on, and no request is latched yet
+-- after HLT with interrupts on, it waits until a request is latched
 abbrev pub waiting : Board → Option SliceOutcome
 waiting b =
     if ends_in_halt b.trace && (is_on b.machine.regs.interrupts && is_none (panel_after b.past).latched)
     then Some outcome.Waiting else None
 
--- an opcode that is undefined on this board stands at PC, and no request is accepted before it: the run ends
+-- if the opcode at PC is undefined on this board and no request is accepted before it, the run ends
 abbrev pub undefined : Board → Option SliceOutcome
 undefined b =
     let opcode = byte_at b.machine b.machine.regs.pc in
     if is_undefined (row_on b.machine.board opcode) && is_none (accepted b.machine b.past)
     then Some (outcome.End (end.Undefined opcode b.machine.regs.pc)) else None
 
--- the first of those that are tried after the last step too
-abbrev pub early_reason : Board → Option SliceOutcome
-early_reason b = option_or (halted b) (option_or (at_breakpoint b) (complete b))
+-- the first reason of those that are checked after a slice's last step too
+abbrev pub reason_after_step : Board → Option SliceOutcome
+reason_after_step b = option_or (halted b) (option_or (at_breakpoint b) (complete b))
 
--- the first of those that the opcode at PC has no part in
-abbrev pub reason_apart : Board → Option SliceOutcome
-reason_apart b = option_or (early_reason b) (waiting b)
+-- the first reason of those that are known before the opcode at PC is fetched
+abbrev pub reason_before_fetch : Board → Option SliceOutcome
+reason_before_fetch b = option_or (reason_after_step b) (waiting b)
 
--- the first reason to make no further step
+-- the first reason of all to make no further step
 abbrev pub reason : Board → Option SliceOutcome
-reason b = option_or (early_reason b) (option_or (waiting b) (undefined b))
+reason b = option_or (reason_after_step b) (option_or (waiting b) (undefined b))
 
 -- ---- the slice
 
@@ -83,15 +83,15 @@ abbrev pub traffic_of : ℕ → Board → List PortOperation
 traffic_of zero b = []
 traffic_of (suc k) b = traffic_of k b ++ operation_list (next_change (after_steps k b)).operation
 
--- A slice of n steps ends after k: at no count before it a reason stands, and there is the first that
--- does; or all n are made, and of the reasons only the early ones are tried.
+-- A slice of n steps ends after k, as `ending` says. No step was made while there was a reason to stop. If
+-- k < n, `ending` is the first reason; if k = n, only the reasons known after a step are checked.
 pub record IsSlice (n : ℕ) (b : Board) (k : ℕ) (ending : SliceOutcome) : Type 0 where
   pub within : k ≤ n
   pub none_before : (j : ℕ) → j < k → reason (after_steps j b) ≡ None
   pub early : k < n → reason (after_steps k b) ≡ Some ending
-  pub last : k ≡ n → ending ≡ unwrap_or (early_reason (after_steps n b)) outcome.More
+  pub last : k ≡ n → ending ≡ unwrap_or (reason_after_step (after_steps n b)) outcome.More
 
--- a run that ended is there no more; that and a stop drop the Step
+-- An End removes the run, a Stop stops it; both cancel a pending Step.
 abbrev pub left_by : SliceOutcome → Board → Board
 left_by outcome.More b = b
 left_by outcome.Waiting b = b

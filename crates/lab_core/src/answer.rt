@@ -1,80 +1,80 @@
-//! What events answer.
+//! The answers to events.
 use crate::fault::EventFault;
 use base_text::sequence::Sequence;
 use base_text::text::Text;
 use i80_devs::traffic::Traffic;
 use lab_shown::shown::{Breakpoint, Shown};
 
-/// Where a debugger stops a run.
+/// Why a debugger stopped a run.
 #[derive(Clone, Copy)]
 pub enum Stop {
-    /// At a breakpoint.
+    /// It reached a breakpoint.
     Breakpoint,
-    /// Where a Step is complete.
+    /// A Step completed.
     Step,
 }
 
-/// How a run ends by itself.
+/// How a program ended its run.
 #[derive(Clone, Copy)]
 pub enum End {
-    /// HLT with interrupts off.
+    /// HLT with interrupts disabled.
     Halted,
-    /// An opcode that is undefined on this board stands at PC.
+    /// The opcode at PC is undefined on this board.
     Undefined { opcode: u8, pc: u16 },
 }
 
 /// How a slice ended.
 #[derive(Clone, Copy)]
 pub enum SliceOutcome {
-    /// All its steps were made, and the run goes on.
+    /// It made all its steps, and the run continues.
     More,
-    /// The run waits for a request, after HLT with interrupts on.
+    /// After HLT with interrupts enabled, the run waits for an interrupt request.
     Waiting,
-    /// The run is stopped.
+    /// The run stopped for the debugger.
     Stop(Stop),
-    /// The run has ended.
+    /// The run ended.
     End(End),
 }
 
-/// What an event answers.
+/// The answer to an event.
 #[derive(Drop)]
 pub enum Answer {
-    /// Where END says that the cell starts, if it does.
+    /// The start address from the cell's END, if it has one.
     Loaded {
         start: Option<u16>,
     },
     Dumped,
     Started,
-    /// How many steps were made, the IN and OUT that they did, and how the slice ended.
+    /// The number of steps, the IN and OUT operations they performed, and how the slice ended.
     Sliced {
         executed: u16,
         traffic: Traffic,
         outcome: SliceOutcome,
     },
     Accepted,
-    /// The value at the place that was changed, as its scope shows it.
+    /// The new value, formatted as its scope shows it.
     Poked(Text),
     Interrupted,
     Reset,
     BoardSet,
-    /// Each line that was set, in order.
+    /// The requested breakpoints, in order.
     Breakpoints(Sequence<Breakpoint>),
     Shown(Shown),
 }
 
-/// The answers to events in turn, refusals among them.
+/// The answers to a list of events in order, including refusals.
 pub type Answers = Sequence<Result<Answer, EventFault>>;
 
-/// What memory was wanted for.
+/// What the failed allocation was for.
 #[derive(Clone, Copy)]
 pub enum Wanted {
-    /// Room for one more answer.
+    /// Space for the next answer.
     Answer,
-    /// The event that follows those that were answered.
+    /// The first event without an answer.
     Event,
 }
 
-/// A list of events that ended where it ran out of memory: the answers to those before, and what for.
+/// `Lab::run` ran out of memory: the answers so far, and what the failed allocation was for.
 #[derive(Drop)]
 pub struct EventsFault {
     pub answers: Answers,

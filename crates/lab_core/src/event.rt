@@ -1,31 +1,31 @@
-//! What happens to a board.
+//! The events of a board.
 
 use base_text::sequence::{Bytes, Sequence};
 use base_text::text::Text;
 use i80_rows::board::Board;
 use lab_views::view::View;
 
-/// How far a Step goes.
+/// How far a Step runs. A place is as `Granularity` defines it.
 #[derive(Clone, Copy)]
 pub enum StepKind {
     /// To the next place.
     In,
-    /// To the next place where no call that was made on the way is live.
+    /// To the next place where no call made during the Step is live.
     Over,
-    /// To the next place where the call that is innermost now isn't live.
+    /// To the next place where the call that is now innermost has returned.
     Out,
 }
 
-/// What a place is where a Step may end.
+/// Where a Step may end.
 #[derive(Clone, Copy)]
 pub enum Granularity {
-    /// The first byte of a statement.
+    /// At the first byte of a statement.
     Line,
-    /// Any instruction.
+    /// At any instruction.
     Instruction,
 }
 
-/// A Step that is asked for.
+/// A request to step.
 #[derive(Clone, Copy)]
 pub struct StepRequest {
     pub kind: StepKind,
@@ -35,30 +35,30 @@ pub struct StepRequest {
 /// An event.
 #[derive(Drop)]
 pub enum Event {
-    /// Assembles a cell over the symbols that are kept, loads what it gives, and keeps its text under
-    /// its path. Only without a run.
+    /// Assembles a cell with the symbols of earlier cells, loads its bytes, and stores its text under its
+    /// path. Refused during a run.
     Load {
         path: Text,
         text: Text,
     },
-    /// Keeps a text under its path, and assembles nothing.
+    /// Stores a text under its path without assembling it.
     Dump {
         path: Text,
         text: Text,
     },
-    /// Begins a run at this address. Only without a run.
+    /// Starts a run at this address. Refused during a run.
     Start(u16),
-    /// Makes steps of the run: at most this many, from 1 to 4,096.
+    /// Executes at most this many steps of the run, from 1 to 4,096.
     Slice(u16),
-    /// Stops the run. Only while attached.
+    /// Stops the run. Refused unless a debugger is attached.
     Pause,
-    /// Lets a stopped run go on.
+    /// Continues a stopped run.
     Resume,
-    /// Lets a stopped run go on until the Step is complete.
+    /// Continues a stopped run until the Step is complete.
     Step(StepRequest),
-    /// Puts a value at a place of a stopped run's machine: a register, by the name under which the scope Registers
-    /// (1) shows it, or a byte of memory (5), by its address. Names and values are those of `lab_views::place`. This is no
-    /// step of the run: it ends no live frame, and a wait goes on.
+    /// Changes a register (scope 1, by its name there) or a byte of memory (scope 5, by its address) of a
+    /// stopped run. `lab_views::place` and `lab_views::value` define the names and values. This isn't a
+    /// step: no frame ends, and a wait continues.
     Poke {
         reference: u32,
         name: Text,
@@ -66,26 +66,26 @@ pub enum Event {
     },
     /// Ends the run.
     Interrupt,
-    /// Machine and devices as at power-on, nothing loaded, and no run. Symbols, texts, breakpoints, the
-    /// attachment and what the undefined opcodes do stay.
+    /// Resets machine and devices to power-on, unloads everything and ends the run. Symbols, texts,
+    /// breakpoints, the attached debugger and the treatment of undefined opcodes are kept.
     Reset,
-    /// Whether the twelve undefined opcodes act from now on. Only without a run.
+    /// Sets whether the twelve undefined opcodes act as on real processors. Refused during a run.
     SetBoard(Board),
-    /// The lines of a kept text at which a run is to stop, in place of those before: at most 256.
+    /// Replaces the breakpoints of a stored text: at most 256 lines, numbered from 1.
     SetBreakpoints {
         path: Text,
         lines: Sequence<u32>,
     },
-    /// A debugger comes: breakpoints are met from now on.
+    /// Attaches a debugger, which enables breakpoints.
     Attach,
-    /// It leaves: no breakpoint stays, and a stopped run goes on.
+    /// Detaches it, removes all breakpoints and continues a stopped run.
     Detach,
-    /// Bytes typed at the console.
+    /// Types bytes at the console.
     Typed(Bytes),
-    /// The front panel's eight switches.
+    /// Sets the front panel's eight switches.
     Switches(u8),
-    /// The front panel's button n, from 0 to 7, which requests RST n.
+    /// Presses the front panel's button n, from 0 to 7, which requests RST n.
     Press(u8),
-    /// Shows something and changes nothing.
+    /// Shows a view of the board.
     Show(View),
 }

@@ -1,4 +1,4 @@
-//! Why an event is refused.
+//! The errors of events.
 
 use asm_syntax::fault::AsmFault;
 use i80_devs::devices::PressFault;
@@ -9,29 +9,29 @@ use std::alloc::AllocError;
 use std::fmt;
 use thiserror::Error;
 
-/// Why an event is refused. The board is as it was.
+/// Why an event was refused. The board is unchanged.
 #[derive(Clone, Copy, Error)]
 pub enum EventFault {
     OutOfMemory,
     NotRunning,
     NotStopped,
     Busy,
-    /// The path is kept with another text.
+    /// The path already has a different text.
     SourceNameTaken,
-    /// No text is kept under this path.
+    /// No text has this path.
     NoSource,
     Latched,
     BadFrame,
     BadReference,
-    /// The cell has this fault.
+    /// The cell doesn't assemble.
     Assembly(AsmFault),
     NotAttached,
     Vector,
-    /// As many texts are kept as may be, and this path isn't among them.
+    /// 1,024 texts are stored already, and none has this path.
     SourcesFull,
-    /// The scope shows nothing of this name.
+    /// The scope has no entry of this name.
     UnknownName,
-    /// The text is no number, or one that the place doesn't hold.
+    /// The text isn't a number, or the number doesn't fit.
     BadValue,
 }
 

@@ -1,4 +1,4 @@
-//! The laboratory.
+//! The board of the laboratory.
 ghost use Rattle.std.specs.Prelude.{◌≡◌, [], IfOk};
 
 mod burst;
@@ -29,10 +29,10 @@ use lab_views::views::after_instructions;
 use std::alloc::{AllocError, Global};
 use std::marker::Model;
 
-/// A board: machine, devices, what was loaded and kept, the breakpoints, and the run with its live frames.
+/// A board: machine, devices, loaded programs, symbols, texts, breakpoints, and the run with its live frames.
 pub struct Lab {
     machine: Machine,
-    /// Lies in the machine's place while a slice has the machine as a value of its own.
+    /// Takes the machine's place while a burst works on the machine as a local value.
     spare: Option<Machine>,
     context: Context,
     symbols: Symbols,
@@ -41,7 +41,7 @@ pub struct Lab {
     alloc: Global,
 }
 
-// One function for all places where a board is dropped, here and in the crates above.
+// Written out so that boards are dropped by a call in all crates, not by inlined code.
 impl Drop for Lab {
     fn drop(self) {
         let Self {
@@ -56,7 +56,7 @@ impl Drop for Lab {
     }
 }
 
-/// What a run's steps look at and change beside the machine.
+/// What the steps of a run use and change besides the machine.
 #[derive(Drop)]
 struct Context {
     devices: Devices,
@@ -64,17 +64,17 @@ struct Context {
     origins: Origins,
     breakpoints: Breakpoints,
     is_attached: bool,
-    /// The run's last step was HLT.
+    /// Whether the run's last step was HLT.
     is_halted: bool,
-    /// The run had a Resume or a Step.
+    /// Whether the run had a Resume or a Step.
     is_resumed: bool,
-    /// A step was made since the last of them, or since the start.
+    /// Whether a step was made since the last Resume or Step, or since Start if there was none.
     has_moved: bool,
-    /// The Step that isn't complete yet.
+    /// The pending Step.
     request: Option<StepRequest>,
-    /// How many of the frames that were live at its beginning are left.
+    /// The number of live frames that are older than the pending Step.
     older: usize,
-    /// The one of them that was innermost, and whether it is gone.
+    /// The innermost frame when the Step began, and whether it has ended.
     innermost: Option<Frame>,
     is_gone: bool,
 }
@@ -116,9 +116,8 @@ impl Lab {
     ghost use Rattle.lab_core.specs.Board.{Board, opening};
     ghost use Rattle.lab_core.specs.Labs.{StandsFor};
 
-    /// A board after power-on, with nothing loaded or kept.
-    /// All room that its memory, its live frames, its list of texts and the bytes of its breakpoints need
-    /// is made here, and that of the machine that lies in for its own while steps are made.
+    /// A board after power-on, with nothing loaded. Allocates everything that has a fixed size: two
+    /// machines, the live frames, the list of texts and the breakpoint table.
     pub fn new(alloc: Global) -> Result<Lab, AllocError>
         ensures { IfOk result (λ lab. StandsFor lab opening) }
     {
@@ -151,7 +150,7 @@ impl Lab {
         })
     }
 
-    /// The registers, the flags and the interrupt state.
+    /// The registers, flags and interrupt state.
     pub fn regs(&self) -> Registers
         ensures { (b : Board) → StandsFor self.now b → result ≡ b.machine.regs }
     {
@@ -165,14 +164,14 @@ impl Lab {
         self.machine.peek(address)
     }
 
-    /// Whether there is a run.
+    /// The state of the run.
     pub fn run_state(&self) -> RunState
         ensures { (b : Board) → StandsFor self.now b → result ≡ b.run }
     {
         self.run_state
     }
 
-    /// The live frames since the last start.
+    /// The live frames of the last run.
     pub fn frames(&self) -> &Frames
         ensures { (b : Board) → StandsFor self.now b → result.now ≡ live b.trace }
     {
@@ -186,21 +185,21 @@ impl Lab {
         &self.context.devices
     }
 
-    /// The symbols that are kept.
+    /// The symbols of the cells loaded so far.
     pub fn symbols(&self) -> &Symbols
         ensures { (b : Board) → StandsFor self.now b → result.now ≡ b.symbols }
     {
         &self.symbols
     }
 
-    /// The address after so many instructions from one on, as lines of code are shown. Addresses wrap.
+    /// The address `count` instructions after `address`, decoded as the code view does. Addresses wrap.
     pub fn after_instructions(&self, address: u16, count: u16) -> u16
         ensures { (b : Board) → StandsFor self.now b → result ≡ after_instructions b.machine address count }
     {
         after_instructions(&self.machine, address, count)
     }
 
-    /// The line that the byte at an address was loaded from.
+    /// The source line that the byte at an address was loaded from.
     pub fn origin_at(&self, address: u16) -> Option<Origin>
         ensures { (b : Board) → StandsFor self.now b → result ≡ origin_of b.loads address }
     {

@@ -1,15 +1,15 @@
-// The board of the laboratory: the processor, its devices, the texts that were loaded, and one run.
-// `Lab::apply` does one event and `Lab::run` a list of them. Answers and effects are those of a
-// stated relation over boards, whose devices, frames and origins are functions of all that was done.
-// `Lab::slice_to` is a slice up to the first of some marks; a run can be put back to a moment that was kept.
-// A refusal changes nothing. Out of memory is answered only where a growth was refused.
+// The laboratory's board: the processor, its devices, the loaded programs, and at most one run.
+// `Lab::apply` handles one event, `Lab::run` a list of them, as a relation over boards in `specs/` defines.
+// The devices, frames and origins of a board are functions of everything that was done to it.
+// `Lab::slice_to` ends a slice at the first of some marks; a run can be put back to a moment saved earlier.
+// A refused event changes nothing. `OutOfMemory` is returned only where an allocation failed.
 #![tactic(auto)]
 
 pub mod answer;
+mod cold;
 pub mod event;
 pub mod fault;
 pub mod lab;
 pub mod laws;
 pub mod marks;
 pub mod run_state;
-mod seldom;

@@ -1,4 +1,4 @@
-//! Marks, at the first of which a slice may end.
+//! Marks: where a slice may end.
 ghost use Rattle.std.specs.Prelude.{◌≡◌, ◌||◌, ◌==◌, ◌++◌, ◌∷◌, [], ℕ, map, IfOk, OnOk, OnErr};
 ghost use Rattle.std.specs.List.{list_any};
 ghost use Rattle.lab_image.specs.Addresses.{has};
@@ -12,7 +12,7 @@ use lab_views::place::Place;
 use std::alloc::{AllocError, Global};
 use std::marker::Model;
 
-/// A place that is watched, and what it held before and after the last step of the last slice.
+/// A watched place, with its values before and after the last step of the last slice.
 #[derive(Clone, Copy)]
 pub struct Watch {
     pub place: Place,
@@ -20,7 +20,7 @@ pub struct Watch {
     pub after: u16,
 }
 
-/// Where a slice is to end: addresses to which PC comes, and places that a step changes.
+/// Where `Lab::slice_to` ends a slice: at addresses that PC reaches, and places that a step changes.
 #[derive(Drop)]
 pub struct Marks {
     addresses: AddressSet,
@@ -37,7 +37,7 @@ impl Model for Marks {
 }
 
 impl Marks {
-    /// No mark.
+    /// No marks.
     pub fn new(alloc: Global) -> Result<Marks, AllocError>
         ensures { IfOk result IsClear }
     {
@@ -49,7 +49,7 @@ impl Marks {
         })
     }
 
-    /// Takes all marks away.
+    /// Removes all marks.
     pub fn clear(&mut self)
         ensures { IsClear self.new }
     {
@@ -58,7 +58,7 @@ impl Marks {
         self.is_met = false;
     }
 
-    /// Makes a mark of an address.
+    /// Marks an address.
     pub fn add_address(&mut self, address: u16)
         ensures addresses { (a : ℕ) → has self.new.addresses a ≡ (has self.old.addresses a || address == a) }
         ensures rest { self.new ≡ record self.old { addresses = self.new.addresses } }
@@ -66,7 +66,7 @@ impl Marks {
         self.addresses.insert(address);
     }
 
-    /// Watches a place: each step that changes its value leads to a mark.
+    /// Watches a place: a step that changes its value reaches a mark.
     pub fn watch(&mut self, place: Place) -> Result<(), AllocError>
         ensures ok { OnOk result (self.new ≡ record self.old {
           watches = self.old.watches ++ record { place = place; before = 0; after = 0 } ∷ [];
@@ -81,14 +81,14 @@ impl Marks {
         Ok(())
     }
 
-    /// Whether an address is a mark.
+    /// Whether an address is marked.
     pub fn has_address(&self, address: u16) -> bool
         ensures { result ≡ has self.now.addresses address }
     {
         self.addresses.contains(address)
     }
 
-    /// The places that are watched, in the order in which they were given.
+    /// The watched places, in the order in which they were added.
     pub fn watches(&self) -> &[Watch]
         ensures { result.now ≡ self.now.watches }
     {
@@ -102,7 +102,7 @@ impl Marks {
         self.is_met
     }
 
-    /// Keeps the values that the machine has at the beginning of a slice.
+    /// Records the values at the beginning of a slice.
     pub(crate) fn begin(&mut self, machine: &Machine)
         ensures { self.new ≡ with_values machine.now self.old }
     {
@@ -110,7 +110,7 @@ impl Marks {
         self.is_met = false;
     }
 
-    /// Whether the machine is at a mark after a step before which the kept values were its own.
+    /// Whether the last step reached a mark, if the recorded values are those before it.
     #[inline(always)]
     pub(crate) fn is_at(&self, machine: &Machine) -> bool
         ensures { result ≡ is_at machine.now self.now }
@@ -118,7 +118,7 @@ impl Marks {
         self.addresses.contains(machine.pc()) || is_any_changed(&self.watches, machine)
     }
 
-    /// Keeps what a slice of so many steps ended with, beside the values before its last step.
+    /// Records the values after a slice of `executed` steps, and whether its last one reached a mark.
     pub(crate) fn finish(&mut self, machine: &Machine, executed: u16)
         ensures { self.new ≡ with_end executed machine.now self.old }
     {
@@ -137,7 +137,7 @@ fn value_at(machine: &Machine, place: Place) -> u16
     }
 }
 
-// It stands apart, so that the usual way is that of a byte, with no table of the places.
+// Kept out of line: most watches are of memory, whose path then has no jump table.
 #[cold]
 #[inline(never)]
 fn register_at(registers: Registers, place: Place) -> u16
@@ -157,7 +157,7 @@ fn register_at(registers: Registers, place: Place) -> u16
     }
 }
 
-// Whether one of the places has another value than was kept.
+// Whether the value of some place differs from the recorded one.
 #[inline(always)]
 fn is_any_changed(watches: &[Watch], machine: &Machine) -> bool
     ensures { result ≡ list_any (differs machine.now) watches.now }

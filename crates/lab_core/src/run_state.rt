@@ -1,10 +1,10 @@
-//! Whether a program runs.
+//! The state of the run.
 
-/// Whether there is a run: from Start until the program ends or is interrupted.
+/// Whether there is a run. A run lasts from Start until the program ends or is interrupted.
 #[derive(Clone, Copy)]
 pub enum RunState {
     NoRun,
     Running,
-    /// At a breakpoint, after a Step or by a Pause. It goes on by Resume, Step or Detach.
+    /// Stopped at a breakpoint, after a Step or by a Pause, until a Resume, Step or Detach.
     Stopped,
 }

@@ -1,8 +1,8 @@
-//! Bursts, in which a slice makes most of its steps: while no request is latched, no Step is done that is
-//! wanting and HLT wasn't the last step. A quiet step, which answers Done and leaves SP below the slot of each
-//! live frame, owes nothing there but its count, so the loop looks at its kind alone; attached, where a
-//! breakpoint can be met, at the address of the next one too. After another step that isn't HLT or EI the burst
-//! goes on with the frames that it left, unless the Step is done.
+//! Bursts, which make most steps of a slice. During a burst no request is latched, no pending Step is
+//! done, and the last step wasn't HLT. A quiet step answers Done and leaves SP below the slot of every
+//! live frame, so it only has to be counted: the loop tests its kind, and, if breakpoints can be met, the
+//! address of the next instruction. After any other step the live frames are updated and the burst
+//! continues, unless the step was HLT or EI or completed the Step.
 ghost use Rattle.std.specs.Prelude.{◌≡◌, ◌+◌, ◌<◌, ◌≤◌, ◌⊎◌, ℕ, true, false, None, IsSome, is_some};
 ghost use Rattle.i80_exec.specs.declared.registers.Kind.TheVariants.{Quiet, Moved};
 ghost use Rattle.i80_exec.specs.Step.{answer_of};
@@ -12,26 +12,25 @@ ghost use Rattle.lab_core.specs.Labs.{FindsIn, AdvancesIn, KeepsIn, KeepsAsked, 
 ghost use Rattle.lab_core.specs.Labs.{MakesAtMost, LooksUp, GoesOn, IsLast, Owed, ending_of, is_step_done};
 
 use crate::answer::{End, SliceOutcome};
+use crate::cold::cold_path;
 use crate::lab::Context;
 use crate::lab::steps::is_halt;
-use crate::seldom::seldom;
 use i80_exec::machine::Machine;
 use i80_exec::registers::{Kind, Stepped};
 use lab_frames::board_step::settled_step;
 use std::mem;
 
-/// What a step of a burst did.
+/// The result of one step of a burst.
 pub(super) enum BurstStep {
-    /// The burst goes on, where the reach of the live frames is this.
+    /// The burst continues, with this reach of the live frames.
     Within(u32),
-    /// It was HLT or EI, or the Step is done: the burst's last one.
+    /// The step was HLT or EI, or the Step is done: the burst ends after it.
     Last,
-    /// An undefined opcode stands at PC; no step was made.
+    /// No step was made, because the opcode at PC is undefined.
     Ended(SliceOutcome),
 }
 
-// Whether a step of this kind that left SP there is quiet. One that may have moved SP is where it left it
-// within reach.
+// Whether a step of this kind is quiet. One that may have moved SP is so only if SP is below `reach`.
 #[inline(always)]
 fn is_quiet(kind: Kind, sp: u16, reach: u32) -> bool
     requires within { kind ≡ Quiet → sp < reach }
@@ -54,15 +53,15 @@ impl Context {
         ensures ready { result ≡ true → IsInBurst reach machine.now self.now }
         ensures sure { IsInBurst reach machine.now self.now → result ≡ true }
     {
-        self.is_calm() && !machine.is_arming() && (machine.sp() as u32) < reach
+        self.only_fetch_can_stop() && !machine.is_arming() && (machine.sp() as u32) < reach
     }
 
-    /// A burst of at most so many steps. Where a Step is wanting it is a function of its own, since a Step takes
-    /// time where it is followed, and where a breakpoint can be met a loop of its own. There the machine is a
-    /// local value, to which nothing else refers, so that its fields needn't go through a reference at each step.
-    /// A value can't be moved out of a reference without another in its place: that is the spare one.
+    /// Makes a burst of at most `most` steps, on a local copy of the machine: nothing else refers to it,
+    /// so its fields can stay in registers. The spare machine takes its place meanwhile. Each combination
+    /// of the two constants is compiled separately, so that runs without a debugger or a Step don't pay
+    /// for them.
     #[inline(never)]
-    pub(super) fn burst_apart<const IS_ASKED: bool>(
+    pub(super) fn burst_apart<const LOOKS_UP: bool, const IS_ASKED: bool>(
         &mut self,
         machine: &mut Machine,
         spare: &mut Option<Machine>,
@@ -70,23 +69,19 @@ impl Context {
         reach: u32,
     ) -> (u16, Option<SliceOutcome>)
         requires spare { IsSome spare.old }
+        requires looks { LooksUp LOOKS_UP self.old }
         requires may { BurstMayBegin most reach IS_ASKED machine.old self.old }
         ensures made { MakesAtMost most result (machine.old, self.old) (machine.new, self.new) }
         ensures spare { IsSome spare.new }
     {
         let given = spare.take().unwrap();
         let mut local = mem::replace(machine, given);
-        if self.looks_up() {
-            let made = self.burst(&mut local, most, true, IS_ASKED, reach);
-            *spare = Some(mem::replace(machine, local));
-            return made;
-        }
-        let made = self.burst(&mut local, most, false, IS_ASKED, reach);
+        let made = self.burst(&mut local, most, LOOKS_UP, IS_ASKED, reach);
         *spare = Some(mem::replace(machine, local));
         made
     }
 
-    // Steps until the first after which no burst goes on. Where one looks for breakpoints, they end at one.
+    // Makes steps until one ends the burst, or, if breakpoints are checked for, reaches one.
     #[inline(always)]
     fn burst(
         &mut self,
@@ -107,13 +102,13 @@ impl Context {
                 BurstStep::Within(now) => reach = now,
                 BurstStep::Last => return (most - left + 1, None),
                 BurstStep::Ended(outcome) => {
-                    seldom();
+                    cold_path();
                     return (most - left, Some(outcome));
                 }
             }
             left -= 1;
             if let Some(_) = self.met(machine, looks_up) {
-                seldom();
+                cold_path();
                 return (most - left, None);
             }
         }
@@ -143,7 +138,7 @@ impl Context {
         if is_quiet(kind, sp, reach) {
             return BurstStep::Within(reach);
         }
-        // Each of these kinds has code of its own: what its steps do to the frames is settled when it is compiled.
+        // A constant kind in each arm lets the compiler specialize what `advance` does to the frames.
         match kind {
             Kind::Moved => self.advance(machine, Kind::Moved, pc, is_asked),
             Kind::Called => self.advance(machine, Kind::Called, pc, is_asked),
@@ -152,7 +147,7 @@ impl Context {
         }
     }
 
-    // What is owed after a step of this kind that wasn't quiet, with PC at `site` before it.
+    // Updates the frames and the pending Step after a step of this kind, not a quiet one, from PC `site`.
     #[inline(always)]
     fn advance(&mut self, machine: &Machine, kind: Kind, site: u16, is_asked: bool) -> BurstStep
         requires calls { CallsAt (answer_of kind machine.now) machine.now.regs.sp }
@@ -177,7 +172,7 @@ impl Context {
         BurstStep::Within(self.frames.reach())
     }
 
-    // Whether a step of this kind is a burst's last: EI, HLT, or one after which the Step is done.
+    // Whether the burst ends after a step of this kind: EI, HLT, or one after which the Step is done.
     #[inline(always)]
     fn is_last(&self, kind: Kind, is_asked: bool) -> bool
         requires asked { is_some self.now.request ≡ is_asked }

@@ -9,16 +9,15 @@ use i80_exec::machine::Machine;
 use i80_exec::registers::Registers;
 
 impl Lab {
-    /// Writes bytes to memory from an address on, by hand: this is no step of the run. Behind FFFFH they go
-    /// on at 0000H.
+    /// Writes bytes to memory from an address on, wrapping from FFFFH to 0000H. This isn't a step of the run.
     pub fn write(&mut self, address: u16, bytes: &[u8])
         ensures { (b : Board) → StandsFor self.old b → StandsFor self.new (after_write address bytes.now b) }
     {
         store(&mut self.machine, address, bytes);
     }
 
-    /// Sets the registers, the flags and the interrupt state, by hand: this is no step of the run. A Step
-    /// that isn't complete yet is dropped; a stopped run has none.
+    /// Sets the registers, flags and interrupt state, and cancels a pending Step. This isn't a step of the
+    /// run.
     pub fn set_registers(&mut self, registers: Registers)
         ensures { (b : Board) → StandsFor self.old b → StandsFor self.new (after_registers registers b) }
     {
@@ -27,7 +26,7 @@ impl Lab {
     }
 }
 
-// Stores bytes from an address on, where addresses wrap.
+// Stores bytes from an address on. Addresses wrap.
 fn store(machine: &mut Machine, start: u16, bytes: &[u8])
     ensures { machine.new ≡ with_bytes start bytes.now machine.old }
 {

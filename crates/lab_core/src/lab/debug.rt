@@ -1,4 +1,4 @@
-//! What a debugger asks for: a run that stops and goes on, breakpoints, views.
+//! The debugger's events: pausing and continuing a run, breakpoints, views.
 ghost use Rattle.std.specs.Prelude.{◌≡◌, Err, map, IfOk, OnErr};
 ghost use Rattle.lab_core.specs.Board.{Board};
 ghost use Rattle.lab_core.specs.Events.{going_on, is_stopped, verified, parts_of};
@@ -19,7 +19,7 @@ use lab_views::view::View;
 use lab_views::views::show;
 use std::alloc::{AllocError, Global};
 
-// Each line as a breakpoint of a text, which is verified where the text has the line.
+// A breakpoint for each line. It is verified if the text has that line.
 fn verify(alloc: Global, text: &str, lines: &[u32]) -> Result<Sequence<Breakpoint>, AllocError>
     ensures { IfOk result (λ breakpoints. breakpoints ≡ map (verified text.now) lines.now) }
 {
@@ -87,7 +87,7 @@ impl Lab {
         }
     }
 
-    // A run that goes on makes its steps anew, as a Step counts them.
+    // Continues the run, and resets what a Step counts by.
     fn go_on(&mut self, request: Option<StepRequest>)
         ensures { (b : Board) → StandsFor self.old b → StandsFor self.new (going_on request b) }
     {

@@ -1,11 +1,10 @@
-//! The events of a board, one by one and in turn.
-ghost use Rattle.std.specs.Prelude.{◌≡◌, ◌<◌, ◌≤◌, ℕ, [], All, length, take, slice_get, false, None};
-ghost use Rattle.std.specs.Prelude.{OnErr, IfOk, IfErr, IfSome, IsTrue, ◌↔◌, Err};
+//! Applying events to a board, one or a list.
+ghost use Rattle.std.specs.Prelude.{◌≡◌, [], All, false, None, OnErr, IfOk, IsTrue, ◌↔◌, Err};
 ghost use Rattle.lab_core.specs.Board.{Board};
-ghost use Rattle.lab_core.specs.Events.{Fits, ended, machine_reset, given};
+ghost use Rattle.lab_core.specs.Events.{Fits, ended, machine_reset};
 ghost use Rattle.lab_core.specs.Memory.{MayLackMemory};
-ghost use Rattle.lab_core.specs.SliceEnds.{traffic_in};
-ghost use Rattle.lab_core.specs.Labs.{StandsFor, AppliesTo, Does, RunsOn};
+ghost use Rattle.lab_core.specs.Labs.{StandsFor, AppliesTo};
+ghost use Rattle.lab_core.specs.Replies.{RepliesTo, RepliesInOrder};
 
 use crate::answer::{Answer, Answers, EventsFault, Wanted};
 use crate::event::Event;
@@ -23,21 +22,18 @@ fn is_out_of_memory(answer: &Result<Answer, EventFault>) -> bool
 }
 
 impl Lab {
-    /// One event: its answer, or why it is refused.
+    /// Applies an event.
     ///
-    /// Where several refusals stand, `Busy` comes first, then `SourceNameTaken` and `SourcesFull`,
-    /// then the fault of the cell; `NotAttached` comes before `NotRunning`, `NotStopped` before
-    /// `BadFrame`, and `Vector` before `Latched`; of a change by hand `NotStopped`, `BadReference`, `UnknownName` and
-    /// `BadValue` come in this order. Those come before out of memory, which may come on
-    /// the way to a cell's fault.
+    /// # Errors
+    ///
+    /// Errors are checked in this order: of a Load `Busy`, `SourceNameTaken`, `SourcesFull`, then
+    /// `Assembly`; of a Pause `NotAttached`, then `NotRunning`; of a view `NotStopped`, then `BadFrame`;
+    /// of a Press `Vector`, then `Latched`; of a Poke `NotStopped`, `BadReference`, `UnknownName`, then
+    /// `BadValue`. All of them come before `OutOfMemory`, except that assembling a cell can run out of
+    /// memory before it finds a fault.
     pub fn apply(&mut self, event: &Event) -> Result<Answer, EventFault>
         requires { Fits event.now }
-        ensures applied { AppliesTo self.old event.now result self.new }
-        ensures given { Does (given event.now) self.old result self.new }
-        ensures few { (n : ℕ) (b : Board) → event.now ≡ Event.Slice n → StandsFor self.old b
-            → IfOk result (λ answer. length (traffic_in answer) ≤ n) }
-        ensures err { OnErr result (self.new ≡ self.old) }
-        ensures memory { result ≡ Err EventFault.OutOfMemory → MayLackMemory event.now self.old }
+        ensures { RepliesTo self.old event.now result self.new }
     {
         self.apply_one(event)
     }
@@ -76,17 +72,15 @@ impl Lab {
         }
     }
 
-    /// Events in turn, whose answers hold the refusals too. It ends where it first runs out of
-    /// memory, with the answers so far; later events are not done. Room for an answer is made before its event.
-    /// Where the event itself ran out of memory, it isn't refused for another reason.
+    /// Applies events in order. A refused event doesn't end the list: its error is an answer like any other.
+    ///
+    /// # Errors
+    ///
+    /// Returns the answers so far at the first event that runs out of memory, or whose answer finds no space.
+    /// Neither that event nor a later one has any effect.
     pub fn run(&mut self, events: &[Event]) -> Result<Answers, EventsFault>
         requires { All Fits events.now }
-        ensures ok { IfOk result (λ answers. RunsOn self.old events.now answers self.new) }
-        ensures stopped { IfErr result (λ stopped.
-            RunsOn self.old (take (length stopped.answers) events.now) stopped.answers self.new) }
-        ensures fewer { IfErr result (λ stopped. length stopped.answers < length events.now) }
-        ensures wanted { IfErr result (λ stopped. stopped.wanted ≡ Wanted.Event
-            → IfSome (slice_get events.now (length stopped.answers)) (λ event. MayLackMemory event self.new)) }
+        ensures { RepliesInOrder self.old events.now result self.new }
     {
         let mut answers = Vec::new(self.alloc);
         for event in events {
@@ -144,7 +138,7 @@ impl Lab {
         Answer::Interrupted
     }
 
-    // No step of the run is known any more, as before its first one.
+    // Forgets the run's steps.
     fn forget_steps(&mut self)
         ensures { self.new ≡ record self.old {
           frames = [];
@@ -161,7 +155,7 @@ impl Lab {
         self.context.request = None;
     }
 
-    // A machine after power-on, on which the undefined opcodes do what they do now.
+    // A machine after power-on that treats undefined opcodes as the present one does.
     fn new_machine(&self) -> Result<Machine, AllocError>
         ensures { IfOk result (λ machine. machine ≡ machine_reset self.now.machine) }
     {
@@ -175,7 +169,7 @@ impl Lab {
         ensures err { OnErr result (self.new ≡ self.old) }
         ensures memory { result ≡ Err EventFault.OutOfMemory → MayLackMemory Event.Reset self.old }
     {
-        // The new machine is made before anything changes.
+        // Allocated before anything changes.
         let machine = self.new_machine()?;
         self.forget_steps();
         self.machine = machine;
@@ -189,7 +183,8 @@ impl Lab {
     fn set_board(&mut self, option: board::Board) -> Result<Answer, EventFault>
         ensures applied { AppliesTo self.old (Event.SetBoard option) result self.new }
         ensures err { OnErr result (self.new ≡ self.old) }
-        ensures memory { result ≡ Err EventFault.OutOfMemory → MayLackMemory (Event.SetBoard option) self.old }
+        ensures memory { result ≡ Err EventFault.OutOfMemory
+            → MayLackMemory (Event.SetBoard option) self.old }
     {
         match self.run_state {
             RunState::Running | RunState::Stopped => Err(EventFault::Busy),
@@ -203,7 +198,8 @@ impl Lab {
     fn type_bytes(&mut self, bytes: &[u8]) -> Result<Answer, EventFault>
         ensures applied { AppliesTo self.old (Event.Typed bytes.now) result self.new }
         ensures err { OnErr result (self.new ≡ self.old) }
-        ensures memory { result ≡ Err EventFault.OutOfMemory → MayLackMemory (Event.Typed bytes.now) self.old }
+        ensures memory { result ≡ Err EventFault.OutOfMemory
+            → MayLackMemory (Event.Typed bytes.now) self.old }
     {
         self.context.devices.type_bytes(bytes)?;
         Ok(Answer::Accepted)

@@ -1,4 +1,4 @@
-//! Loading a cell.
+//! The events Load and Dump.
 ghost use Rattle.std.specs.Prelude.{◌≡◌, ◌<◌, Err, OnOk, OnErr};
 ghost use Rattle.asm_syntax.specs.Outcome.{Gives};
 ghost use Rattle.asm_build.specs.Meaning.{meaning_in};
@@ -24,7 +24,8 @@ impl Lab {
     pub(super) fn load(&mut self, path: &str, text: &str) -> Result<Answer, EventFault>
         ensures given { Does (given (Event.Load path.now text.now)) self.old result self.new }
         ensures err { OnErr result (self.new ≡ self.old) }
-        ensures memory { result ≡ Err EventFault.OutOfMemory → MayLackMemory (Event.Load path.now text.now) self.old }
+        ensures memory { result ≡ Err EventFault.OutOfMemory
+            → MayLackMemory (Event.Load path.now text.now) self.old }
     {
         match self.run_state {
             RunState::Running | RunState::Stopped => Err(EventFault::Busy),
@@ -41,7 +42,8 @@ impl Lab {
     pub(super) fn dump(&mut self, path: &str, text: &str) -> Result<Answer, EventFault>
         ensures applied { AppliesTo self.old (Event.Dump path.now text.now) result self.new }
         ensures err { OnErr result (self.new ≡ self.old) }
-        ensures memory { result ≡ Err EventFault.OutOfMemory → MayLackMemory (Event.Dump path.now text.now) self.old }
+        ensures memory { result ≡ Err EventFault.OutOfMemory
+            → MayLackMemory (Event.Dump path.now text.now) self.old }
     {
         match self.sources.place(path, text)? {
             Some(_) => Ok(Answer::Dumped),
@@ -62,7 +64,7 @@ impl Lab {
         built
     }
 
-    /// Loads what a cell gave, and keeps its text, which is new where it has no place yet.
+    // Loads an assembled cell and stores its text: in its place, or at the end if it has none.
     fn keep(
         &mut self,
         place: Option<usize>,
@@ -87,7 +89,7 @@ impl Lab {
         }
     }
 
-    /// Writes what a cell gave to the memory, as the source of this number, and keeps its symbols.
+    // Writes an assembled cell to memory as the source of this number, and keeps its symbols.
     fn put(&mut self, number: u32, built: Built) -> Result<(), AllocError>
         ensures ok { OnOk result ((b : Board) → StandsFor self.old b
             → StandsFor self.new (with_built number (meaning_in built) b)) }

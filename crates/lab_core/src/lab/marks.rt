@@ -1,5 +1,5 @@
 //! Slices up to a mark.
-ghost use Rattle.std.specs.Prelude.{◌≡◌, ◌+◌, ◌-◌, ◌<◌, ◌≤◌, None, Err, IsSome, OnErr};
+ghost use Rattle.std.specs.Prelude.{◌≡◌, ◌+◌, ◌-◌, ◌<◌, ◌≤◌, None, Err, IsSome, is_some, OnErr};
 ghost use Rattle.lab_core.specs.Board.{Board};
 ghost use Rattle.lab_core.specs.Slices.{IsSlice, after_steps, traffic_of, left_by};
 ghost use Rattle.lab_core.specs.Labs.{LabState, StandsFor, StandsAmid, amid, Watches, BurstMayBegin};
@@ -7,19 +7,20 @@ ghost use Rattle.lab_core.specs.Labs.{MakesAtMost};
 ghost use Rattle.lab_core.specs.Marks.{SlicesTo, Leaves, first_mark, marks_after, IsKept, PassesIn};
 
 use crate::answer::{Answer, SliceOutcome};
+use crate::cold::cold_path;
 use crate::fault::EventFault;
 use crate::lab::burst::BurstStep;
 use crate::lab::{Context, Lab};
 use crate::marks::Marks;
 use crate::run_state::RunState;
-use crate::seldom::seldom;
 use i80_exec::machine::Machine;
 use std::mem;
 
 impl Lab {
-    /// The slice that ends at the first mark: of so many steps, from 1 to n, as lead to it, or of n where
-    /// none does. It is a slice like any other, and a Step goes on through it. The marks then have the
-    /// values before and after its last step.
+    /// Makes a slice of at most `n` steps that ends at the first mark. It is like any other slice: a
+    /// pending Step continues through it, and it can end earlier. `marks` then has the watched values
+    /// before and after the last step. Fails with `NotRunning` unless the run is running, and with
+    /// `OutOfMemory`; nothing has changed then.
     pub fn slice_to(&mut self, n: u16, marks: &mut Marks) -> Result<Answer, EventFault>
         ensures applied { SlicesTo marks.old n self.old result self.new }
         ensures marks { Leaves n self.old result marks.old marks.new }
@@ -41,7 +42,7 @@ impl Lab {
         }
     }
 
-    // The run of such a slice.
+    // The slice's steps.
     fn run_to(&mut self, n: u16, marks: &mut Marks) -> (u16, SliceOutcome)
         requires { n ≤ self.old.devices.spare }
         ensures slice { (b : Board) → StandsFor self.old b
@@ -74,7 +75,7 @@ impl Lab {
 }
 
 impl Context {
-    // At most n steps, until the first that leads to a mark, or there is a reason to make no further one.
+    // Makes at most `n` steps, until one reaches a mark or there is a reason to stop.
     fn steps_to(
         &mut self,
         machine: &mut Machine,
@@ -100,20 +101,20 @@ impl Context {
             let (made, found) = self.round_to(machine, spare, n - k, is_watched, marks);
             k += made;
             if let Some(outcome) = found {
-                seldom();
+                cold_path();
                 return (k, outcome);
             }
             if marks.is_at(machine) {
-                seldom();
-                let last = self.early(machine, is_watched);
+                cold_path();
+                let last = self.reason_after(machine, is_watched);
                 return (k, last.unwrap_or(SliceOutcome::More));
             }
         }
-        let early = self.early(machine, is_watched);
-        (n, early.unwrap_or(SliceOutcome::More))
+        let reason = self.reason_after(machine, is_watched);
+        (n, reason.unwrap_or(SliceOutcome::More))
     }
 
-    // Steps of which none but the last may lead to a mark; or the first reason to make none.
+    // Makes steps of which only the last can reach a mark, or returns the first reason to make none.
     #[inline(always)]
     fn round_to(
         &mut self,
@@ -133,32 +134,30 @@ impl Context {
         ensures unmarked { IsSome result.1 → PassesIn marks.now (result.0 + 1) machine.old self.old }
         ensures spare { IsSome spare.new }
     {
-        if let Some(outcome) = self.look(machine, is_watched) {
-            seldom();
+        if let Some(outcome) = self.reason_before(machine, is_watched) {
+            cold_path();
             return (0, Some(outcome));
         }
         let reach = self.frames.reach();
         if !self.is_ready(machine, reach) {
             return self.single(machine);
         }
-        let is_asked = self.request.is_some();
-        self.burst_to_apart(machine, spare, most, is_asked, reach, marks)
+        self.burst_to_apart(machine, spare, most, reach, marks)
     }
 
-    // A burst of them, where the machine is a local value as in `burst_apart`.
+    // Such a burst, on a local machine as in `burst_apart`.
     #[inline(never)]
     fn burst_to_apart(
         &mut self,
         machine: &mut Machine,
         spare: &mut Option<Machine>,
         most: u16,
-        is_asked: bool,
         reach: u32,
         marks: &Marks,
     ) -> (u16, Option<SliceOutcome>)
         requires spare { IsSome spare.old }
         requires some { 1 ≤ most }
-        requires may { BurstMayBegin most reach is_asked machine.old self.old }
+        requires may { BurstMayBegin most reach (is_some self.old.request) machine.old self.old }
         requires kept { IsKept machine.old marks.now }
         ensures made { MakesAtMost most result (machine.old, self.old) (machine.new, self.new) }
         ensures passes { PassesIn marks.now result.0 machine.old self.old }
@@ -167,29 +166,29 @@ impl Context {
     {
         let given = spare.take().unwrap();
         let mut local = mem::replace(machine, given);
-        let made = self.burst_to(&mut local, most, is_asked, reach, marks);
+        let made = self.burst_to(&mut local, most, reach, marks);
         *spare = Some(mem::replace(machine, local));
         made
     }
 
-    // Steps until the first after which no burst goes on, or that leads to a mark or to a breakpoint.
+    // Makes steps until one ends the burst, or reaches a mark or a breakpoint.
     #[inline(always)]
     fn burst_to(
         &mut self,
         machine: &mut Machine,
         most: u16,
-        is_asked: bool,
         reach: u32,
         marks: &Marks,
     ) -> (u16, Option<SliceOutcome>)
         requires some { 1 ≤ most }
-        requires may { BurstMayBegin most reach is_asked machine.old self.old }
+        requires may { BurstMayBegin most reach (is_some self.old.request) machine.old self.old }
         requires kept { IsKept machine.old marks.now }
         ensures made { MakesAtMost most result (machine.old, self.old) (machine.new, self.new) }
         ensures passes { PassesIn marks.now result.0 machine.old self.old }
         ensures unmarked { IsSome result.1 → PassesIn marks.now (result.0 + 1) machine.old self.old }
     {
         let looks_up = self.looks_up();
+        let is_asked = self.request.is_some();
         let mut left = most;
         let mut reach = reach;
         while left > 0 {
@@ -197,17 +196,17 @@ impl Context {
                 BurstStep::Within(now) => reach = now,
                 BurstStep::Last => return (most - left + 1, None),
                 BurstStep::Ended(outcome) => {
-                    seldom();
+                    cold_path();
                     return (most - left, Some(outcome));
                 }
             }
             left -= 1;
             if marks.is_at(machine) {
-                seldom();
+                cold_path();
                 return (most - left, None);
             }
             if let Some(_) = self.met(machine, looks_up) {
-                seldom();
+                cold_path();
                 return (most - left, None);
             }
         }

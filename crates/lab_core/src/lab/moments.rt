@@ -1,4 +1,4 @@
-//! Moments of a run, to which it can be put back.
+//! Snapshots of a run.
 ghost use Rattle.std.specs.Prelude.{◌≡◌, IfOk, OnOk, OnErr};
 ghost use Rattle.lab_core.specs.Board.{Board};
 ghost use Rattle.lab_core.specs.Labs.{StandsFor};
@@ -12,7 +12,7 @@ use lab_frames::frames::Frames;
 use std::alloc::AllocError;
 use std::marker::Model;
 
-/// What a run changes of a board, at one moment: the machine, the devices and the live frames.
+/// A snapshot of what a run changes: the machine, the devices and the live frames.
 #[derive(Drop)]
 pub struct Moment {
     machine: Machine,
@@ -35,7 +35,7 @@ impl Model for Moment {
 }
 
 impl Lab {
-    /// The moment at which the run is now.
+    /// Takes a snapshot of the run.
     pub fn moment(&self) -> Result<Moment, AllocError>
         ensures { (b : Board) → StandsFor self.now b → IfOk result (λ moment. IsMomentOf moment b) }
     {
@@ -50,14 +50,14 @@ impl Lab {
         })
     }
 
-    /// Puts the run back to a moment, from which it goes on with no debugger attached. Breakpoints, texts and
-    /// symbols stay as they are now.
+    /// Puts the run back to a moment, running and without a debugger. Breakpoints, texts and symbols keep
+    /// their present values. On error nothing changes.
     pub fn put_back(&mut self, moment: &Moment) -> Result<(), AllocError>
         ensures ok { (was now : Board) → IsMomentOf moment.now was → StandsFor self.old now
             → OnOk result (StandsFor self.new (put_back was now)) }
         ensures err { OnErr result (self.new ≡ self.old) }
     {
-        // All is made before anything changes.
+        // Every allocation comes before the first change.
         let machine = moment.machine.copy()?;
         let devices = moment.devices.copy()?;
         let frames = moment.frames.copy(self.alloc)?;
@@ -73,7 +73,7 @@ impl Lab {
         Ok(())
     }
 
-    /// Stops the run where it is, with a debugger attached.
+    /// Attaches a debugger and stops the run where it is.
     pub fn hold(&mut self)
         ensures { (b : Board) → StandsFor self.old b → StandsFor self.new (held b) }
     {

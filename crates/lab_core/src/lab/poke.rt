@@ -1,4 +1,4 @@
-//! Changes of a stopped run's machine by hand.
+//! The event Poke: changes of a stopped run's machine by hand.
 ghost use Rattle.std.specs.Prelude.{◌≡◌, Err, OnErr};
 ghost use Rattle.lab_core.specs.Labs.{AppliesTo};
 ghost use Rattle.lab_core.specs.Memory.{MayLackMemory};
@@ -39,7 +39,7 @@ impl Lab {
     {
         let place = place_of(reference, name)?;
         let number = value_of(place, value)?;
-        // The text is made before the change.
+        // Allocated before the machine changes.
         let text = text_of(self.alloc, place, number)?;
         put(&mut self.machine, place, number);
         Ok(Answer::Poked(text))

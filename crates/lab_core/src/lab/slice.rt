@@ -13,7 +13,7 @@ use crate::lab::Lab;
 use crate::run_state::RunState;
 
 impl Lab {
-    /// Makes at most this many steps of the run, with room for their port operations made before.
+    /// Executes at most `n` steps of the run. Space for their port operations is reserved first.
     pub(super) fn slice(&mut self, n: u16) -> Result<Answer, EventFault>
         ensures applied { AppliesTo self.old (Event.Slice n) result self.new }
         ensures err { OnErr result (self.new ≡ self.old) }
@@ -34,7 +34,7 @@ impl Lab {
         }
     }
 
-    // The run of a slice. Where no debugger is attached, nothing of breakpoints and Steps is looked at.
+    // The slice's steps. Without a debugger and a Step, neither breakpoints nor Steps are checked for.
     fn run_on(&mut self, n: u16) -> (u16, SliceOutcome)
         requires { n ≤ self.old.devices.spare }
         ensures slice { (b : Board) → StandsFor self.old b → IsSlice n b result.0 result.1 }
@@ -46,7 +46,7 @@ impl Lab {
         (executed, outcome)
     }
 
-    /// Whether a debugger is attached or a Step isn't complete.
+    /// Whether a debugger is attached or a Step is pending.
     pub(super) fn is_watched(&self) -> bool
         ensures { Watches result self.now.is_attached self.now.request }
     {
@@ -64,7 +64,7 @@ impl Lab {
             .steps(&mut self.machine, &mut self.spare, n, is_watched)
     }
 
-    /// Stops or ends the run where the slice did.
+    /// Stops or ends the run if the slice did.
     pub(super) fn leave(&mut self, outcome: SliceOutcome)
         ensures { (b : Board) (traffic : List PortOperation) → StandsAmid self.old b traffic
             → StandsAmid self.new (left_by outcome b) traffic }

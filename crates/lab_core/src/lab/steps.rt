@@ -1,15 +1,15 @@
-//! Steps of a run, in bursts and single ones.
+//! The steps of a slice, in bursts and one by one.
 ghost use Rattle.std.specs.Prelude.{◌≡◌, ◌+◌, ◌≤◌, min, true, None, IfNone, IsSome, is_some};
 ghost use Rattle.i80_exec.specs.Step.{is_halt};
 ghost use Rattle.lab_core.specs.Board.{Board};
 ghost use Rattle.lab_core.specs.Stops.{is_gone_after};
-ghost use Rattle.lab_core.specs.Slices.{undefined, reason_apart, IsSlice, after_steps, traffic_of};
-ghost use Rattle.lab_core.specs.Labs.{LabState, StandsFor, StandsAmid, amid, FindsIn, AdvancesIn, KeepsIn, Watches};
-ghost use Rattle.lab_core.specs.Labs.{KeepsAsked, IsCalm, MakesAtMost};
+ghost use Rattle.lab_core.specs.Slices.{undefined, reason_before_fetch, IsSlice, after_steps, traffic_of};
+ghost use Rattle.lab_core.specs.Labs.{LabState, StandsFor, StandsAmid, amid, FindsIn, AdvancesIn, KeepsIn};
+ghost use Rattle.lab_core.specs.Labs.{Watches, KeepsAsked, OnlyFetchCanStop, MakesAtMost};
 
 use crate::answer::{End, SliceOutcome};
+use crate::cold::cold_path;
 use crate::lab::Context;
-use crate::seldom::seldom;
 use i80_exec::machine::Machine;
 use i80_exec::registers::Stepped;
 use lab_frames::board_step::board_step;
@@ -24,7 +24,7 @@ pub(super) fn is_halt(answer: Stepped) -> bool
     matches!(answer, Stepped::Halted)
 }
 
-// Whether a frame that may have gone before is gone after a step that answered so and left SP there.
+// Whether a frame has ended after a step with this answer and SP, if it had before as `is_gone` says.
 fn is_gone_after(is_gone: bool, frame: Option<Frame>, answer: Stepped, sp: u16) -> bool
     ensures { result ≡ is_gone_after is_gone frame answer sp }
 {
@@ -35,7 +35,7 @@ fn is_gone_after(is_gone: bool, frame: Option<Frame>, answer: Stepped, sp: u16) 
 }
 
 impl Context {
-    /// At most n steps, until there is a reason to make no further one: how many, and what they ended with.
+    /// Makes at most `n` steps, until there is a reason to stop: how many, and how the slice ended.
     #[inline(always)]
     pub(super) fn steps(
         &mut self,
@@ -58,15 +58,15 @@ impl Context {
             let (made, found) = self.round(machine, spare, n - k, is_watched);
             k += made;
             if let Some(outcome) = found {
-                seldom();
+                cold_path();
                 return (k, outcome);
             }
         }
-        let early = self.early(machine, is_watched);
-        (n, early.unwrap_or(SliceOutcome::More))
+        let reason = self.reason_after(machine, is_watched);
+        (n, reason.unwrap_or(SliceOutcome::More))
     }
 
-    // A burst where it can begin, else one step; or the first reason to make none.
+    // Makes a burst if one can begin, else one step, or returns the first reason to make none.
     #[inline(always)]
     fn round(
         &mut self,
@@ -82,26 +82,32 @@ impl Context {
         ensures made { MakesAtMost most result (machine.old, self.old) (machine.new, self.new) }
         ensures spare { IsSome spare.new }
     {
-        if let Some(outcome) = self.look(machine, is_watched) {
-            seldom();
+        if let Some(outcome) = self.reason_before(machine, is_watched) {
+            cold_path();
             return (0, Some(outcome));
         }
         let reach = self.frames.reach();
         if !self.is_ready(machine, reach) {
             return self.single(machine);
         }
+        let looks_up = self.looks_up();
         if self.request.is_some() {
-            return self.burst_apart::<true>(machine, spare, most, reach);
+            if looks_up {
+                return self.burst_apart::<true, true>(machine, spare, most, reach);
+            }
+            return self.burst_apart::<false, true>(machine, spare, most, reach);
         }
-        self.burst_apart::<false>(machine, spare, most, reach)
+        if looks_up {
+            return self.burst_apart::<true, false>(machine, spare, most, reach);
+        }
+        self.burst_apart::<false, false>(machine, spare, most, reach)
     }
 
-    /// One step, or none, which stands apart: of the functions that make steps each has the arms of all
-    /// opcodes in it.
+    /// Makes at most one step. Not inlined, since each copy would carry the code of all opcodes.
     #[inline(never)]
     pub(super) fn single(&mut self, machine: &mut Machine) -> (u16, Option<SliceOutcome>)
         requires room { 1 ≤ self.old.devices.spare }
-        requires free { FindsIn reason_apart None machine.old self.old }
+        requires free { FindsIn reason_before_fetch None machine.old self.old }
         ensures { MakesAtMost 1 result (machine.old, self.old) (machine.new, self.new) }
     {
         match self.step(machine) {
@@ -110,7 +116,7 @@ impl Context {
         }
     }
 
-    // A step, but where an undefined opcode stands at PC and no request is accepted before it.
+    // Makes a step, unless the opcode at PC is undefined and no request is accepted before it.
     #[inline(always)]
     fn step(&mut self, machine: &mut Machine) -> Option<SliceOutcome>
         requires room { 1 ≤ self.old.devices.spare }
@@ -134,11 +140,11 @@ impl Context {
         None
     }
 
-    /// No step but a breakpoint's or an undefined opcode's can end the run, and no request can be accepted.
+    /// Whether nothing can end the slice but a breakpoint at PC or an undefined opcode there.
     #[inline(always)]
-    pub(super) fn is_calm(&self) -> bool
-        ensures calm { result ≡ true → IsCalm self.now }
-        ensures sure { IsCalm self.now → result ≡ true }
+    pub(super) fn only_fetch_can_stop(&self) -> bool
+        ensures only_fetch { result ≡ true → OnlyFetchCanStop self.now }
+        ensures sure { OnlyFetchCanStop self.now → result ≡ true }
     {
         if self.is_halted || !self.has_moved || self.is_step_done() {
             return false;
@@ -146,8 +152,7 @@ impl Context {
         self.devices.request().is_none()
     }
 
-    // What a Step looks at, where one is wanting, after a step that answered so, left SP there and so many frames
-    // of those before it.
+    // Updates what decides a pending Step, after a step with this answer and SP that left so many frames.
     #[inline(always)]
     pub(super) fn follow(&mut self, answer: Stepped, sp: u16, left: usize, is_asked: bool)
         requires asked { is_some self.old.request ≡ is_asked }

@@ -1,10 +1,11 @@
-//! The reasons for which a slice makes no further step.
+//! The reasons for a slice to make no further step.
 ghost use Rattle.std.specs.Prelude.{◌≡◌, ◌&&◌, true, if◌then◌else◌, Some, None, IsSome, is_none};
 ghost use Rattle.std.specs.Option.{option_or};
 ghost use Rattle.lab_core.specs.Stops.{at_breakpoint, meets_breakpoint, complete, completes, is_reached};
 ghost use Rattle.lab_core.specs.Stops.{is_first, is_there};
-ghost use Rattle.lab_core.specs.Slices.{is_off, is_on, halted, waiting, early_reason, reason_apart};
-ghost use Rattle.lab_core.specs.Labs.{FindsIn, Watches, IsCalm, LooksUp, is_done_in, is_step_done};
+ghost use Rattle.lab_core.specs.Slices.{is_off, is_on, halted, waiting};
+ghost use Rattle.lab_core.specs.Slices.{reason_after_step, reason_before_fetch};
+ghost use Rattle.lab_core.specs.Labs.{FindsIn, Watches, OnlyFetchCanStop, LooksUp, is_done_in, is_step_done};
 
 use crate::answer::{End, SliceOutcome, Stop};
 use crate::event::{Granularity, StepKind, StepRequest};
@@ -20,8 +21,7 @@ fn is_on(interrupts: Interrupts) -> bool
     matches!(interrupts, Interrupts::On)
 }
 
-// After HLT the run ends where interrupts are off. What is looked at only then stands in cold functions, so that it
-// is laid out apart from the usual way of a step.
+// After HLT the run ends if interrupts are off. Cold, as HLT is rare.
 #[cold]
 #[inline(never)]
 fn end_after_halt(interrupts: Interrupts) -> Option<SliceOutcome>
@@ -34,7 +34,7 @@ fn end_after_halt(interrupts: Interrupts) -> Option<SliceOutcome>
     }
 }
 
-// It waits where they are on and no request is latched.
+// After HLT the run waits if interrupts are on and no request is latched.
 #[cold]
 #[inline(never)]
 fn wait_after_halt(interrupts: Interrupts, request: Option<u8>) -> Option<SliceOutcome>
@@ -57,7 +57,7 @@ fn is_first(origin: Option<Origin>) -> bool
 }
 
 impl Context {
-    /// Whether a burst looks for a breakpoint after each step.
+    /// Whether a burst checks for a breakpoint after each step.
     #[inline(always)]
     pub(super) fn looks_up(&self) -> bool
         ensures { LooksUp result self.now }
@@ -65,12 +65,12 @@ impl Context {
         self.is_attached && self.breakpoints.can_be_met()
     }
 
-    /// The reason to end a burst, which only a breakpoint can be.
+    /// The reason to end a burst, which can only be a breakpoint.
     #[inline(always)]
     pub(super) fn met(&self, machine: &Machine, looks_up: bool) -> Option<SliceOutcome>
         requires looks { LooksUp looks_up self.now }
-        requires calm { IsCalm self.now }
-        ensures { FindsIn reason_apart result machine.now self.now }
+        requires only_fetch { OnlyFetchCanStop self.now }
+        ensures { FindsIn reason_before_fetch result machine.now self.now }
     {
         if self.is_met(machine, looks_up) {
             Some(SliceOutcome::Stop(Stop::Breakpoint))
@@ -89,23 +89,23 @@ impl Context {
         looks_up && self.breakpoints.is_at(pc)
     }
 
-    /// The first of the reasons that the opcode at PC has no part in.
+    /// The first reason that is known before the opcode at PC is fetched.
     #[inline(always)]
-    pub(super) fn look(&self, machine: &Machine, is_watched: bool) -> Option<SliceOutcome>
+    pub(super) fn reason_before(&self, machine: &Machine, is_watched: bool) -> Option<SliceOutcome>
         requires { Watches is_watched self.now.is_attached self.now.request }
-        ensures { FindsIn reason_apart result machine.now self.now }
+        ensures { FindsIn reason_before_fetch result machine.now self.now }
     {
-        match self.early(machine, is_watched) {
+        match self.reason_after(machine, is_watched) {
             Some(outcome) => Some(outcome),
             None => self.find_wait(machine),
         }
     }
 
-    /// The first of the reasons that are tried after the last step too.
+    /// The first reason that is checked after a slice's last step too.
     #[inline(always)]
-    pub(super) fn early(&self, machine: &Machine, is_watched: bool) -> Option<SliceOutcome>
+    pub(super) fn reason_after(&self, machine: &Machine, is_watched: bool) -> Option<SliceOutcome>
         requires { Watches is_watched self.now.is_attached self.now.request }
-        ensures { FindsIn early_reason result machine.now self.now }
+        ensures { FindsIn reason_after_step result machine.now self.now }
     {
         match self.halt_end(machine) {
             Some(outcome) => Some(outcome),
@@ -130,7 +130,7 @@ impl Context {
         }
     }
 
-    // A debugger's reasons.
+    // A breakpoint or a complete Step.
     #[inline(always)]
     fn debug_stop(&self, machine: &Machine) -> Option<SliceOutcome>
         ensures { FindsIn (λ b. option_or (at_breakpoint b) (complete b)) result machine.now self.now }
@@ -171,7 +171,7 @@ impl Context {
         self.is_done(request.kind) && self.is_there(machine, request.granularity)
     }
 
-    /// Whether a Step is wanting that is done: it is complete where the run may stop.
+    /// Whether a Step is pending that is done: it completes at the next place where it may end.
     #[inline(always)]
     pub(super) fn is_step_done(&self) -> bool
         ensures { result ≡ is_step_done self.now.request self.now }
@@ -203,7 +203,7 @@ impl Context {
         }
     }
 
-    /// HLT with interrupts on, and no request is latched yet.
+    /// Whether the run waits: the last step was HLT with interrupts on, and no request is latched.
     #[inline(always)]
     pub(super) fn find_wait(&self, machine: &Machine) -> Option<SliceOutcome>
         ensures { FindsIn waiting result machine.now self.now }

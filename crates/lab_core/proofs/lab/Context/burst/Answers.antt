@@ -12,7 +12,8 @@ returns-in-Last c =
     let spare = c.in-Last.ensures.spare in
     record {
       makes = λ lab b traffic s.
-          makes_more (c.args.most - c.loop-left.left) b traffic lab _ _ _ _ (inv.makes lab b traffic s) inv.free
+          makes_more (c.args.most - c.loop-left.left) b traffic lab _ _ _ _ (inv.makes lab b traffic s)
+          inv.free
           c.in-Last.ensures.undefined (c.in-Last.ensures.made refl);
       few = omega arith;
       some = λ is. cc;
@@ -47,7 +48,8 @@ returns-in-Some c =
     let one : c.args.most - (c.loop-left.left - 1) ≡ c.args.most - c.loop-left.left + 1 = omega arith in
     record {
       makes = λ lab b traffic s.
-          rw one (makes_more (c.args.most - c.loop-left.left) b traffic lab _ _ _ _ (inv.makes lab b traffic s)
+          rw one (makes_more (c.args.most - c.loop-left.left) b traffic lab _ _ _ _
+          (inv.makes lab b traffic s)
           inv.free c.in-Within.ensures.undefined (c.in-Within.ensures.made refl));
       few = omega arith;
       some = λ is. cc;

@@ -23,9 +23,9 @@ pub returns-then-is_quiet-clause-made : goal.returns-then-is_quiet-clause-made
 returns-then-is_quiet-clause-made c = λ none lab b traffic s.
     let quiet = c.is_quiet.ensures.quiet c.if-is_quiet.true in
     let within = rw c.sp-sp.ensures at (c.is_quiet.ensures.within c.if-is_quiet.true) in
-    let calm = c.requires.ready.calm in
+    let only_fetch = c.requires.ready.only_fetch in
     stands_quiet _ b traffic _ _ _ s (c.settled_step-kind.ensures.step b.past s.devices)
-    c.settled_step-kind.ensures.sp calm.goes_on calm.has_moved
+    c.settled_step-kind.ensures.sp only_fetch.goes_on only_fetch.has_moved
     (quiet_done c.settled_step-kind.result c.settled_step-kind.new.machine quiet)
     (c.requires.ready.above _ within)
 
@@ -33,14 +33,14 @@ pub returns-then-is_quiet-clause-on : goal.returns-then-is_quiet-clause-on
 returns-then-is_quiet-clause-on c = λ now is.
     let same : now ≡ c.args.reach = cc in
     let quiet = c.is_quiet.ensures.quiet c.if-is_quiet.true in
-    let calm = c.requires.ready.calm in
+    let only_fetch = c.requires.ready.only_fetch in
     rw same (record {
-      calm = record {
-        goes_on = calm.goes_on;
-        has_moved = calm.has_moved;
+      only_fetch = record {
+        goes_on = only_fetch.goes_on;
+        has_moved = only_fetch.has_moved;
         undone =
             sym (done-devices c.args.self.now.request c.args.self.now c.settled_step-kind.new.devices)
-            ∙ calm.undone;
+            ∙ only_fetch.undone;
         unlatched = c.settled_step-kind.ensures.unlatched;
       };
       settled = quiet_settled _ _ _ quiet c.settled_step-kind.ensures.settles;
@@ -50,7 +50,8 @@ returns-then-is_quiet-clause-on c = λ now is.
 
 pub returns-in-Moved-clause-undefined : goal.returns-in-Moved-clause-undefined
 returns-in-Moved-clause-undefined c = λ lab b traffic s.
-    finds_owed lab b traffic _ _ _ _ _ s (c.in-Moved.ensures.step b.past s.devices) _ _ c.advance.result c.pc-pc.ensures
+    finds_owed lab b traffic _ _ _ _ _ s (c.in-Moved.ensures.step b.past s.devices) _ _ c.advance.result
+    c.pc-pc.ensures
     c.advance.ensures.owed
 
 pub returns-in-Moved-clause-ended : goal.returns-in-Moved-clause-ended
@@ -60,9 +61,10 @@ returns-in-Moved-clause-ended c = λ some lab b traffic s.
 
 pub returns-in-Moved-clause-made : goal.returns-in-Moved-clause-made
 returns-in-Moved-clause-made c = λ none lab b traffic s.
-    let calm = c.requires.ready.calm in
-    advances_owed lab b traffic _ _ _ _ _ s (c.in-Moved.ensures.step b.past s.devices) _ _ c.advance.result c.pc-pc.ensures
-    c.in-Moved.ensures.sp calm.has_moved c.advance.ensures.owed none
+    let only_fetch = c.requires.ready.only_fetch in
+    advances_owed lab b traffic _ _ _ _ _ s (c.in-Moved.ensures.step b.past s.devices) _ _ c.advance.result
+    c.pc-pc.ensures
+    c.in-Moved.ensures.sp only_fetch.has_moved c.advance.ensures.owed none
 
 pub returns-in-Moved-clause-on : goal.returns-in-Moved-clause-on
 returns-in-Moved-clause-on c = λ now is.
@@ -71,63 +73,75 @@ returns-in-Moved-clause-on c = λ now is.
 
 pub returns-in-Called-clause-undefined : goal.returns-in-Called-clause-undefined
 returns-in-Called-clause-undefined c = λ lab b traffic s.
-    finds_owed lab b traffic _ _ _ _ _ s (c.in-Called.ensures.step b.past s.devices) _ _ c.advance-in-Called.result c.pc-pc.ensures
+    finds_owed lab b traffic _ _ _ _ _ s (c.in-Called.ensures.step b.past s.devices) _ _
+    c.advance-in-Called.result c.pc-pc.ensures
     c.advance-in-Called.ensures.owed
 
 pub returns-in-Called-clause-ended : goal.returns-in-Called-clause-ended
 returns-in-Called-clause-ended c = λ some lab b traffic s.
-    keeps_owed lab b traffic _ _ _ _ _ s (c.in-Called.ensures.step b.past s.devices) _ _ c.advance-in-Called.result
+    keeps_owed lab b traffic _ _ _ _ _ s (c.in-Called.ensures.step b.past s.devices) _ _
+    c.advance-in-Called.result
     c.advance-in-Called.ensures.owed some
 
 pub returns-in-Called-clause-made : goal.returns-in-Called-clause-made
 returns-in-Called-clause-made c = λ none lab b traffic s.
-    let calm = c.requires.ready.calm in
-    advances_owed lab b traffic _ _ _ _ _ s (c.in-Called.ensures.step b.past s.devices) _ _ c.advance-in-Called.result c.pc-pc.ensures
-    c.in-Called.ensures.sp calm.has_moved c.advance-in-Called.ensures.owed none
+    let only_fetch = c.requires.ready.only_fetch in
+    advances_owed lab b traffic _ _ _ _ _ s (c.in-Called.ensures.step b.past s.devices) _ _
+    c.advance-in-Called.result c.pc-pc.ensures
+    c.in-Called.ensures.sp only_fetch.has_moved c.advance-in-Called.ensures.owed none
 
 pub returns-in-Called-clause-on : goal.returns-in-Called-clause-on
 returns-in-Called-clause-on c = λ now is.
-    owed_in_burst kind.Called _ _ _ _ _ _ _ now c.advance-in-Called.result c.requires.ready c.in-Called.ensures.unlatched
+    owed_in_burst kind.Called _ _ _ _ _ _ _ now c.advance-in-Called.result c.requires.ready
+    c.in-Called.ensures.unlatched
     c.in-Called.ensures.settles c.advance-in-Called.ensures.owed c.advance-in-Called.ensures.on is
 
 pub returns-in-Returned-clause-undefined : goal.returns-in-Returned-clause-undefined
 returns-in-Returned-clause-undefined c = λ lab b traffic s.
-    finds_owed lab b traffic _ _ _ _ _ s (c.in-Returned.ensures.step b.past s.devices) _ _ c.advance-in-Returned.result c.pc-pc.ensures
+    finds_owed lab b traffic _ _ _ _ _ s (c.in-Returned.ensures.step b.past s.devices) _ _
+    c.advance-in-Returned.result c.pc-pc.ensures
     c.advance-in-Returned.ensures.owed
 
 pub returns-in-Returned-clause-ended : goal.returns-in-Returned-clause-ended
 returns-in-Returned-clause-ended c = λ some lab b traffic s.
-    keeps_owed lab b traffic _ _ _ _ _ s (c.in-Returned.ensures.step b.past s.devices) _ _ c.advance-in-Returned.result
+    keeps_owed lab b traffic _ _ _ _ _ s (c.in-Returned.ensures.step b.past s.devices) _ _
+    c.advance-in-Returned.result
     c.advance-in-Returned.ensures.owed some
 
 pub returns-in-Returned-clause-made : goal.returns-in-Returned-clause-made
 returns-in-Returned-clause-made c = λ none lab b traffic s.
-    let calm = c.requires.ready.calm in
-    advances_owed lab b traffic _ _ _ _ _ s (c.in-Returned.ensures.step b.past s.devices) _ _ c.advance-in-Returned.result c.pc-pc.ensures
-    c.in-Returned.ensures.sp calm.has_moved c.advance-in-Returned.ensures.owed none
+    let only_fetch = c.requires.ready.only_fetch in
+    advances_owed lab b traffic _ _ _ _ _ s (c.in-Returned.ensures.step b.past s.devices) _ _
+    c.advance-in-Returned.result c.pc-pc.ensures
+    c.in-Returned.ensures.sp only_fetch.has_moved c.advance-in-Returned.ensures.owed none
 
 pub returns-in-Returned-clause-on : goal.returns-in-Returned-clause-on
 returns-in-Returned-clause-on c = λ now is.
-    owed_in_burst kind.Returned _ _ _ _ _ _ _ now c.advance-in-Returned.result c.requires.ready c.in-Returned.ensures.unlatched
+    owed_in_burst kind.Returned _ _ _ _ _ _ _ now c.advance-in-Returned.result c.requires.ready
+    c.in-Returned.ensures.unlatched
     c.in-Returned.ensures.settles c.advance-in-Returned.ensures.owed c.advance-in-Returned.ensures.on is
 
 pub returns-in_default-clause-undefined : goal.returns-in_default-clause-undefined
 returns-in_default-clause-undefined c = λ lab b traffic s.
-    finds_owed lab b traffic _ _ _ _ _ s (c.settled_step-kind.ensures.step b.past s.devices) _ _ c.advance-in_default.result c.pc-pc.ensures
+    finds_owed lab b traffic _ _ _ _ _ s (c.settled_step-kind.ensures.step b.past s.devices) _ _
+    c.advance-in_default.result c.pc-pc.ensures
     c.advance-in_default.ensures.owed
 
 pub returns-in_default-clause-ended : goal.returns-in_default-clause-ended
 returns-in_default-clause-ended c = λ some lab b traffic s.
-    keeps_owed lab b traffic _ _ _ _ _ s (c.settled_step-kind.ensures.step b.past s.devices) _ _ c.advance-in_default.result
+    keeps_owed lab b traffic _ _ _ _ _ s (c.settled_step-kind.ensures.step b.past s.devices) _ _
+    c.advance-in_default.result
     c.advance-in_default.ensures.owed some
 
 pub returns-in_default-clause-made : goal.returns-in_default-clause-made
 returns-in_default-clause-made c = λ none lab b traffic s.
-    let calm = c.requires.ready.calm in
-    advances_owed lab b traffic _ _ _ _ _ s (c.settled_step-kind.ensures.step b.past s.devices) _ _ c.advance-in_default.result c.pc-pc.ensures
-    c.settled_step-kind.ensures.sp calm.has_moved c.advance-in_default.ensures.owed none
+    let only_fetch = c.requires.ready.only_fetch in
+    advances_owed lab b traffic _ _ _ _ _ s (c.settled_step-kind.ensures.step b.past s.devices) _ _
+    c.advance-in_default.result c.pc-pc.ensures
+    c.settled_step-kind.ensures.sp only_fetch.has_moved c.advance-in_default.ensures.owed none
 
 pub returns-in_default-clause-on : goal.returns-in_default-clause-on
 returns-in_default-clause-on c = λ now is.
-    owed_in_burst c.settled_step-kind.result _ _ _ _ _ _ _ now c.advance-in_default.result c.requires.ready c.settled_step-kind.ensures.unlatched
+    owed_in_burst c.settled_step-kind.result _ _ _ _ _ _ _ now c.advance-in_default.result c.requires.ready
+    c.settled_step-kind.ensures.unlatched
     c.settled_step-kind.ensures.settles c.advance-in_default.ensures.owed c.advance-in_default.ensures.on is

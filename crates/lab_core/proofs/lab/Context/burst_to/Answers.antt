@@ -41,7 +41,8 @@ returns-in-Last-clause-made c =
     let spare = c.in-Last.ensures.spare in
     record {
       makes = λ lab b traffic s.
-          makes_more (c.args.most - c.loop-left.left) b traffic lab _ _ _ _ (inv.makes lab b traffic s) inv.free
+          makes_more (c.args.most - c.loop-left.left) b traffic lab _ _ _ _ (inv.makes lab b traffic s)
+          inv.free
           c.in-Last.ensures.undefined (c.in-Last.ensures.made refl);
       few = omega arith;
       some = λ is. cc;
@@ -81,7 +82,8 @@ returns-then-is_at-clause-made c =
     let one : c.args.most - (c.loop-left.left - 1) ≡ c.args.most - c.loop-left.left + 1 = omega arith in
     record {
       makes = λ lab b traffic s.
-          rw one (makes_more (c.args.most - c.loop-left.left) b traffic lab _ _ _ _ (inv.makes lab b traffic s)
+          rw one (makes_more (c.args.most - c.loop-left.left) b traffic lab _ _ _ _
+          (inv.makes lab b traffic s)
           inv.free c.in-Within.ensures.undefined (c.in-Within.ensures.made refl));
       few = omega arith;
       some = λ is. cc;
@@ -108,7 +110,8 @@ returns-in-Some-clause-made c =
     let one : c.args.most - (c.loop-left.left - 1) ≡ c.args.most - c.loop-left.left + 1 = omega arith in
     record {
       makes = λ lab b traffic s.
-          rw one (makes_more (c.args.most - c.loop-left.left) b traffic lab _ _ _ _ (inv.makes lab b traffic s)
+          rw one (makes_more (c.args.most - c.loop-left.left) b traffic lab _ _ _ _
+          (inv.makes lab b traffic s)
           inv.free c.in-Within.ensures.undefined (c.in-Within.ensures.made refl));
       few = omega arith;
       some = λ is. cc;

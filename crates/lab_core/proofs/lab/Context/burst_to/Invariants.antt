@@ -1,7 +1,7 @@
 use Rattle.std.proofs.Common.{◌≡◌, ◌≤◌, ◌+◌, ◌-◌, List, None}
 use Rattle.i80_exec.specs.declared.ports.PortOperation.{PortOperation}
 use Rattle.lab_core.specs.Board.{Board}
-use Rattle.lab_core.specs.Slices.{reason_apart}
+use Rattle.lab_core.specs.Slices.{reason_before_fetch}
 use Rattle.lab_core.specs.Labs.{LabState, StandsAmid, Makes, FindsIn, IsInBurst, LooksUp, KeepsAsked, amid}
 use Rattle.lab_core.specs.Marks.{Passes}
 use Rattle.lab_core.proofs.lab.Context.burst_to.Given as goal
@@ -12,10 +12,10 @@ invariant-loop-left l = record {
   makes : (lab : LabState) (b : Board) (traffic : List PortOperation)
       → StandsAmid (amid lab l.fn.machine l.fn.self) b traffic
       → Makes (l.most - l.left) None b traffic (amid lab l.machine l.self);
-  -- no mark was met, so that one step more may be made
+  -- no mark was reached, so one more step may be made
   passes : (lab : LabState) (b : Board) (traffic : List PortOperation)
       → StandsAmid (amid lab l.fn.machine l.fn.self) b traffic → Passes l.marks (l.most - l.left + 1) b;
-  free : FindsIn reason_apart None l.machine l.self;
+  free : FindsIn reason_before_fetch None l.machine l.self;
   ready : IsInBurst l.reach l.machine l.self;
   room : l.left ≤ l.self.devices.spare;
   was : l.fn.self.devices.spare + l.left ≤ l.self.devices.spare + l.most;

@@ -7,7 +7,8 @@ returns-in-Some-clause-made c =
     let some = c.requires.some in
     record {
       makes = λ lab b traffic s.
-          makes_found c.in-Some.outcome b traffic _ s (sym c.in-Some.is ∙ c.look.ensures lab b traffic s);
+          makes_found c.in-Some.outcome b traffic _ s
+          (sym c.in-Some.is ∙ c.reason_before.ensures lab b traffic s);
       few = omega arith;
       some = λ is. omega arith;
       progress = λ one none. cc;
@@ -17,3 +18,35 @@ returns-in-Some-clause-made c =
 
 pub returns-then-not-is_ready-clause-made : goal.returns-then-not-is_ready-clause-made
 returns-then-not-is_ready-clause-made c = makes_within c.args.most c.requires.some c.single.ensures
+
+pub burst_apart-requires-clause-may : goal.burst_apart-requires-clause-may
+burst_apart-requires-clause-may c = record {
+  room = c.requires.room;
+  ready = c.is_ready.ensures.ready cc;
+  free = c.in_default.ensures;
+  asked = cc;
+}
+
+pub burst_apart-requires-then-is_some-clause-may : goal.burst_apart-requires-then-is_some-clause-may
+burst_apart-requires-then-is_some-clause-may c = record {
+  room = c.requires.room;
+  ready = c.is_ready.ensures.ready cc;
+  free = c.in_default.ensures;
+  asked = cc;
+}
+
+pub burst_apart-requires-then-looks_up-2-clause-may : goal.burst_apart-requires-then-looks_up-2-clause-may
+burst_apart-requires-then-looks_up-2-clause-may c = record {
+  room = c.requires.room;
+  ready = c.is_ready.ensures.ready cc;
+  free = c.in_default.ensures;
+  asked = cc;
+}
+
+pub burst_apart-requires-2-clause-may : goal.burst_apart-requires-2-clause-may
+burst_apart-requires-2-clause-may c = record {
+  room = c.requires.room;
+  ready = c.is_ready.ensures.ready cc;
+  free = c.in_default.ensures;
+  asked = cc;
+}

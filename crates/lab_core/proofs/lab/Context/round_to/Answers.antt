@@ -8,7 +8,8 @@ returns-in-Some-clause-made c =
     let some = c.requires.some in
     record {
       makes = λ lab b traffic s.
-          makes_found c.in-Some.outcome b traffic _ s (sym c.in-Some.is ∙ c.look.ensures lab b traffic s);
+          makes_found c.in-Some.outcome b traffic _ s
+          (sym c.in-Some.is ∙ c.reason_before.ensures lab b traffic s);
       few = omega arith;
       some = λ is. omega arith;
       progress = λ one none. cc;

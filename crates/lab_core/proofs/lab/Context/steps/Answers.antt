@@ -71,7 +71,7 @@ returns-clause-slice c = λ lab b s.
       early = λ below. absurd (omega arith);
       last =
           λ _. c.unwrap_or.ensures ∙ ap (λ o. unwrap_or o More)
-          (c.early-early.ensures lab (after_steps n b) (traffic_of n b) stands);
+          (c.reason_after-reason.ensures lab (after_steps n b) (traffic_of n b) stands);
     }
 
 pub returns-clause-stands : goal.returns-clause-stands

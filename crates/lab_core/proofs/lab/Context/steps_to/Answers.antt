@@ -120,7 +120,8 @@ returns-then-is_at-clause-slice c = λ lab b s.
       early = λ below. absurd (omega arith);
       last =
           λ _. c.unwrap_or.ensures ∙ ap (λ o. unwrap_or o More)
-          (c.early-last.ensures lab (after_steps (k + made.result.0) b) (traffic_of (k + made.result.0) b)
+          (c.reason_after-last.ensures lab (after_steps (k + made.result.0) b)
+          (traffic_of (k + made.result.0) b)
           m.stands);
     })
 
@@ -163,7 +164,7 @@ returns-clause-slice c = λ lab b s.
       early = λ below. absurd (omega arith);
       last =
           λ _. c.unwrap_or-2.ensures ∙ ap (λ o. unwrap_or o More)
-          (c.early-early.ensures lab (after_steps n b) (traffic_of n b) stands);
+          (c.reason_after-reason.ensures lab (after_steps n b) (traffic_of n b) stands);
     })
 
 pub returns-clause-stands : goal.returns-clause-stands

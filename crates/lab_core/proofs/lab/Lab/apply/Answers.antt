@@ -1,12 +1,15 @@
 use Rattle.lab_core.proofs.GivenLemmas.{does_given, few_operations}
 use Rattle.lab_core.proofs.lab.Lab.apply.Goals as goal
 
-pub returns-clause-given : goal.returns-clause-given
-returns-clause-given c =
-    does_given c.args.self.now c.apply_one.new.self c.args.event.now c.apply_one.result
-    c.apply_one.ensures.applied
-
-pub returns-clause-few : goal.returns-clause-few
-returns-clause-few c =
-    few_operations c.args.self.now c.apply_one.new.self c.args.event.now c.apply_one.result
-    c.apply_one.ensures.applied
+pub returns : goal.returns
+returns c = record {
+  applied = c.apply_one.ensures.applied;
+  given =
+      does_given c.args.self.now c.apply_one.new.self c.args.event.now c.apply_one.result
+      c.apply_one.ensures.applied;
+  few =
+      few_operations c.args.self.now c.apply_one.new.self c.args.event.now c.apply_one.result
+      c.apply_one.ensures.applied;
+  err = c.apply_one.ensures.err;
+  memory = c.apply_one.ensures.memory;
+}

@@ -31,47 +31,68 @@ loop-event-preserved c =
           ∙ ap (λ n. n + 1) inv.count);
     }
 
-pub returns-then-is_err-clause-stopped : goal.returns-then-is_err-clause-stopped
-returns-then-is_err-clause-stopped c =
-    rw (c.from.ensures, c.reserve.ensures.items, c.loop-event.invariant.count) c.loop-event.invariant.runs
+pub returns-then-is_err : goal.returns-then-is_err
+returns-then-is_err c = record {
+  ok = tt;
+  stopped =
+      rw (c.from.ensures, c.reserve.ensures.items, c.loop-event.invariant.count) c.loop-event.invariant.runs;
+  fewer =
+      rw (c.from.ensures, c.reserve.ensures.items, c.loop-event.invariant.count) c.loop-event-test.true;
+  wanted = λ is. cc;
+}
 
--- an event that ran out of memory left the lab as it was
+-- an event that ran out of memory left the lab unchanged
 unchanged : (c : goal.Joined-answer) → c.apply-answer.new.self ≡ c.loop-event.self
 unchanged c =
-    let wanting : c.apply-answer.result ≡ Err OutOfMemory =
+    let lacking : c.apply-answer.result ≡ Err OutOfMemory =
     c.is_out_of_memory.ensures.0 c.if-is_out_of_memory.true in
-    rw wanting at c.apply-answer.ensures.err
+    rw lacking at c.apply-answer.ensures.err
 
-pub returns-then-is_out_of_memory-clause-stopped : goal.returns-then-is_out_of_memory-clause-stopped
-returns-then-is_out_of_memory-clause-stopped c =
-    rw (
-      c.from-then-is_out_of_memory.ensures,
-      c.reserve.ensures.items,
-      c.loop-event.invariant.count,
-      unchanged c,
-    )
-    c.loop-event.invariant.runs
-
-pub returns-then-is_out_of_memory-clause-wanted : goal.returns-then-is_out_of_memory-clause-wanted
-returns-then-is_out_of_memory-clause-wanted c = λ _.
+pub returns-then-is_out_of_memory : goal.returns-then-is_out_of_memory
+returns-then-is_out_of_memory c =
     let events = c.args.events.now in
     let i = c.loop-event.event-index in
-    let wanting : c.apply-answer.result ≡ Err OutOfMemory =
+    let lacking : c.apply-answer.result ≡ Err OutOfMemory =
     c.is_out_of_memory.ensures.0 c.if-is_out_of_memory.true in
     let there : slice_get events i ≡ Some c.event-item.result =
     slice_get_read events (length events) i c.event-item.result refl c.loop-event-test.true c.event-item.is in
-    rw (
-      c.from-then-is_out_of_memory.ensures,
-      c.reserve.ensures.items,
-      c.loop-event.invariant.count,
-      there,
-      unchanged c,
-    ) (c.apply-answer.ensures.memory wanting)
+    record {
+      ok = tt;
+      stopped =
+          rw (
+            c.from-then-is_out_of_memory.ensures,
+            c.reserve.ensures.items,
+            c.loop-event.invariant.count,
+            unchanged c,
+          )
+          c.loop-event.invariant.runs;
+      fewer =
+          rw (
+            c.from-then-is_out_of_memory.ensures,
+            c.reserve.ensures.items,
+            c.loop-event.invariant.count,
+          )
+          c.loop-event-test.true;
+      wanted = λ _.
+          rw (
+            c.from-then-is_out_of_memory.ensures,
+            c.reserve.ensures.items,
+            c.loop-event.invariant.count,
+            there,
+            unchanged c,
+          ) (c.apply-answer.ensures.memory lacking);
+    }
 
-pub returns-clause-ok : goal.returns-clause-ok
-returns-clause-ok c =
+pub returns : goal.returns
+returns c =
     let P : List Event → Type 0 = λ events.
     RunsOn c.args.self.now events c.loop-event.answers.items c.loop-event.self in
-    rw c.from-2.ensures
-    (subst P (take_all c.loop-event.event-index c.args.events.now c.loop-event-test.false)
-    c.loop-event.invariant.runs)
+    record {
+      ok =
+          rw c.from-2.ensures
+          (subst P (take_all c.loop-event.event-index c.args.events.now c.loop-event-test.false)
+          c.loop-event.invariant.runs);
+      stopped = tt;
+      fewer = tt;
+      wanted = tt;
+    }

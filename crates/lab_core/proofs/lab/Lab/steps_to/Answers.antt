@@ -3,7 +3,7 @@ use Rattle.lab_core.specs.Slices.{after_steps, traffic_of}
 use Rattle.lab_core.specs.Labs.{LabState, StandsFor, StandsAmid, amid}
 use Rattle.lab_core.proofs.lab.Lab.steps_to.Goals as goal
 
--- the lab is that of its parts
+-- a lab is `amid` of its own machine and context
 pub returns-clause-slice : goal.returns-clause-slice
 returns-clause-slice c = λ b s.
     let P : LabState → Type 0 = λ lab. amid lab c.self.inside.machine c.self.inside.context ≡ lab in

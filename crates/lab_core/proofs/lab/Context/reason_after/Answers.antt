@@ -1,6 +1,6 @@
 use Rattle.std.proofs.Common.{◌≡◌, ◌∙◌, Some, None, false, sym, refl}
 use Rattle.lab_core.specs.Slices.{halted}
-use Rattle.lab_core.proofs.lab.Context.early.Goals as goal
+use Rattle.lab_core.proofs.lab.Context.reason_after.Goals as goal
 
 pub returns-in-Some : goal.returns-in-Some
 returns-in-Some c = λ lab b traffic s.
