@@ -1,4 +1,4 @@
--- The devices, as the list of all operations on them makes them.
+-- The devices, as a function of the list of all operations on them.
 use Rattle.std.specs.Prelude.{
   ◌≡◌,
   ℕ,
@@ -19,7 +19,7 @@ use Rattle.std.specs.List.{fold, filter_map, last_or}
 use Rattle.i80_exec.specs.declared.ports.PortOperation.{PortOperation}
 use Rattle.i80_exec.specs.declared.ports.PortOperation.TheVariants.{In, Out}
 
--- by the program, at the console, at the panel, or by the board that accepts a request
+-- an operation: by the program, at the console, at the panel, or by the board that accepts a request
 pub data Operation : Type 0 where
   Port : PortOperation → Operation
   Typed : List ℕ → Operation
@@ -43,20 +43,20 @@ abbrev pub lamps_of : Operation → Option ℕ
 lamps_of (Port (Out port byte)) = if port == 2 then (Some byte) else None
 lamps_of _ = None
 
--- a press latches a request, and its taking leaves none
+-- a press latches a request, and taking it leaves none
 abbrev pub latched_of : Operation → Option (Option ℕ)
 latched_of (Press n) = Some (Some n)
 latched_of Taken = Some None
 latched_of _ = None
 
--- what the answers of the devices rest on
+-- the state that the answers of the devices depend on
 pub record PanelState : Type 0 where
   pub waiting : List ℕ
   pub switches : ℕ
   pub lamps : ℕ
   pub latched : Option ℕ
 
--- what the operations last set a part of the panel to, or first where none sets it
+-- what the operations last set a part of the panel to, or its first value if none sets it
 abbrev pub last_set : {A : Type 0} → A → (Operation → Option A) → List Operation → A
 last_set first set_to past = unwrap_or (last_or None (filter_map set_to past)) first
 
@@ -77,7 +77,7 @@ abbrev pub first_or_zero : List ℕ → ℕ
 first_or_zero [] = 0
 first_or_zero (byte ∷ bytes) = byte
 
--- IN 0 reports whether a byte waits, with bit 1 set; IN 1 gives it; IN 2 gives the switches; others FFh
+-- IN 0 returns whether a byte waits, with bit 1 set; IN 1 this byte, or 0; IN 2 the switches; all others FFh
 abbrev pub answer : PanelState → ℕ → ℕ
 answer p port =
     if port == 0 then (2 + one_if_any p.waiting) else
@@ -106,12 +106,12 @@ pub record DeviceState : Type 0 where
 abbrev pub StandsFor : DeviceState → List Operation → Type 0
 StandsFor d past = d.panel ≡ panel_after past
 
--- whatever the past was, this operation comes after it
+-- whatever the past was, it has this operation more
 abbrev pub Appends : Operation → DeviceState → DeviceState → Type 0
 Appends operation old new = (past : List Operation) → StandsFor old past
     → StandsFor new (past ++ operation ∷ [])
 
--- port operations and room stay
+-- the port operations and the room for more are unchanged
 pub record SamePorts (old new : DeviceState) : Type 0 where
   pub operations : new.operations ≡ old.operations
   pub spare : new.spare ≡ old.spare

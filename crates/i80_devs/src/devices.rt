@@ -1,6 +1,5 @@
 //! The devices: a console (ports 0, 1 and 3), switches and lamps (port 2), and a request button.
-ghost use Rattle.std.specs.Prelude.{◌≡◌, ◌+◌, ◌≤◌, ◌<◌, ◌++◌, ◌∷◌, ◌↔◌, [], List, length, OnOk};
-ghost use Rattle.std.specs.Prelude.{OnErr, IfOk, IfSome, IsSome, Err};
+ghost use Rattle.std.specs.Prelude.{◌≡◌, ◌+◌, ◌≤◌, ◌++◌, ◌∷◌, [], List, length, OnOk, OnErr, IfOk, IfSome};
 
 use crate::panel::Panel;
 use crate::traffic::Traffic;
@@ -75,10 +74,11 @@ impl Ports for Devices {
 }
 
 impl Devices {
-    ghost use Rattle.i80_devs.specs.Past.{panel_after, Operation, Typed, Switches, Press, Taken};
+    ghost use Rattle.i80_devs.specs.Past.{panel_after, Operation, Typed, Switches, Taken};
     ghost use Rattle.i80_devs.specs.Past.{StandsFor, Appends, SamePorts};
+    ghost use Rattle.i80_devs.specs.Presses.{Presses};
 
-    /// Devices to which nothing was done: no input, switches and lamps 0, no request.
+    /// Devices after power-on: no input, switches and lamps 0, no request.
     pub fn new(alloc: Global) -> Devices
         ensures past { StandsFor result [] }
         ensures operations { result.operations ≡ [] }
@@ -91,7 +91,7 @@ impl Devices {
         }
     }
 
-    /// Devices on which the same was done, with no port operations and no room for any.
+    /// A copy of the devices, with the same past but no port operations and no room for any.
     pub fn copy(&self) -> Result<Devices, AllocError>
         ensures { IfOk result (λ d. d ≡ record { panel = self.now.panel; operations = []; spare = 0 }) }
     {
@@ -103,7 +103,7 @@ impl Devices {
         })
     }
 
-    /// Types bytes at the console: they wait as input.
+    /// Types bytes at the console, where they wait as input.
     pub fn type_bytes(&mut self, bytes: &[u8]) -> Result<(), AllocError>
         ensures ok { OnOk result (Appends (Typed bytes.now) self.old self.new) }
         ensures ports { SamePorts self.old self.new }
@@ -113,7 +113,7 @@ impl Devices {
         Ok(())
     }
 
-    /// How many typed bytes wait.
+    /// The number of typed bytes that wait.
     pub fn bytes_waiting(&self) -> usize
         ensures { (past : List Operation) → StandsFor self.now past
             → result ≡ length (panel_after past).waiting }
@@ -145,15 +145,10 @@ impl Devices {
         self.panel.lamps()
     }
 
-    /// Presses button n, which latches a request for RST n where none is latched.
+    /// Presses button n of 0 to 7, which latches a request for RST n. Fails with `Vector` if there is no such
+    /// button, and otherwise with `Latched` if a request is latched already.
     pub fn press(&mut self, n: u8) -> Result<(), PressFault>
-        ensures ok { OnOk result (Appends (Press n) self.old self.new) }
-        ensures ports { SamePorts self.old self.new }
-        // The number is looked at first.
-        ensures vector { (result ≡ Err PressFault.Vector) ↔ (8 ≤ n) }
-        ensures latched { (past : List Operation) → StandsFor self.old past
-            → (result ≡ Err PressFault.Latched) ↔ ((n < 8) × IsSome (panel_after past).latched) }
-        ensures err { OnErr result (self.new ≡ self.old) }
+        ensures { Presses n self.old self.new result }
     {
         if n > 7 {
             return Err(PressFault::Vector);
@@ -175,7 +170,7 @@ impl Devices {
         self.panel.latched_request()
     }
 
-    /// Takes the latched request away, as its acceptance does. Where there is none, nothing changes.
+    /// Removes the latched request, as its acceptance does. Without one, nothing changes.
     pub fn take_request(&mut self)
         ensures past { Appends Taken self.old self.new }
         ensures ports { SamePorts self.old self.new }
@@ -193,7 +188,7 @@ impl Devices {
         self.operations.reserve(n)
     }
 
-    /// Takes the port operations since the last take. No room is left for more.
+    /// Takes the port operations since the last call, and leaves no room for more.
     pub fn take_out(&mut self) -> Traffic
         ensures taken { result ≡ self.old.operations }
         ensures rest { self.new ≡ record { panel = self.old.panel; operations = []; spare = 0 } }
@@ -201,8 +196,8 @@ impl Devices {
         Traffic::from(mem::replace(&mut self.operations, Vec::new(self.alloc)))
     }
 
-    /// Makes the devices those to which nothing was done, as at power-on. Takes no memory; no room is
-    /// left for port operations.
+    /// Resets the devices to their state after power-on. Allocates nothing, and leaves no room for port
+    /// operations.
     pub fn clear(&mut self)
         ensures past { StandsFor self.new [] }
         ensures operations { self.new.operations ≡ [] }

@@ -1,4 +1,4 @@
-//! What the answers of the devices rest on.
+//! The state that the answers of the devices depend on.
 ghost use Rattle.std.specs.Prelude.{◌≡◌, ◌≤◌, ◌+◌, ◌++◌, [], drop, length, OnOk, OnErr, IfOk, IfSome};
 ghost use Rattle.i80_devs.specs.Past.{first_or_zero, one_if_any};
 
@@ -6,7 +6,7 @@ use std::alloc::{AllocError, Global};
 use std::collections::VecDeque;
 use std::marker::Model;
 
-/// The input bytes that wait, the switches, the lamps and the latched request.
+/// The waiting input bytes, the switches, the lamps and the latched request.
 #[derive(Drop)]
 pub struct Panel {
     waiting: VecDeque<u8>,
@@ -35,6 +35,7 @@ impl Model for Panel {
 impl Panel {
     ghost use Rattle.i80_devs.specs.Past.{panel_after};
 
+    /// The panel after power-on.
     pub fn new(alloc: Global) -> Panel
         ensures { result ≡ panel_after [] }
     {
@@ -46,7 +47,7 @@ impl Panel {
         }
     }
 
-    /// The same panel once more.
+    /// A copy of the panel.
     pub fn copy(&self) -> Result<Panel, AllocError>
         ensures { IfOk result (λ panel. panel ≡ self.now) }
     {

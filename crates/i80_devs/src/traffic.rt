@@ -2,5 +2,5 @@
 use base_text::sequence::Sequence;
 use i80_exec::ports::PortOperation;
 
-/// Port operations in the order in which they were done.
+/// Port operations, in their order.
 pub type Traffic = Sequence<PortOperation>;

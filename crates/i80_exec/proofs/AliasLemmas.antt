@@ -11,8 +11,8 @@ use Rattle.i80_exec.specs.declared.registers.Kind.{Kind}
 use Rattle.i80_exec.specs.declared.registers.Kind.TheVariants as kind
 use Rattle.i80_exec.specs.State.{MachineState, byte_at}
 use Rattle.i80_exec.specs.declared.registers.Stepped.{Stepped}
-use Rattle.i80_exec.specs.declared.ports.PortOperation.{PortOperation}
-use Rattle.i80_exec.specs.Step.{by_row, by_opcode, answer_of, IsOutcome, IsWithoutPort, Performs}
+use Rattle.i80_exec.specs.Step.{by_row, by_opcode, answer_of, PortDevices}
+use Rattle.i80_exec.specs.Step.{IsOutcome, IsWithoutPort, Performs}
 use Rattle.i80_exec.proofs.PortLemmas.{outcome_without_port}
 use Rattle.i80_exec.proofs.UndefinedLemmas.{Nothing, row-nothing, row-kind}
 
@@ -41,10 +41,10 @@ alias_named opcode low undefined =
 other : (opcode code : ℕ) → (opcode ≡ code → ⊥) → (opcode == code) ≡ false
 other opcode code differs = grind (arith, nat_tests)
 
-pub nop_alias : (opcode : ℕ) → opcode < 256 → is_undefined (row opcode) ≡ true
+pub nop : (opcode : ℕ) → opcode < 256 → is_undefined (row opcode) ≡ true
     → (opcode ≡ 203 → ⊥) → (opcode ≡ 217 → ⊥) → (opcode ≡ 221 → ⊥) → (opcode ≡ 237 → ⊥) → (opcode ≡ 253 → ⊥)
     → alias_row opcode ≡ Alone Nop
-nop_alias opcode low undefined jmp ret call_dd call_ed call_fd =
+nop opcode low undefined jmp ret call_dd call_ed call_fd =
     alias_named opcode low undefined
     ∙ rw (
       other opcode 203 jmp,
@@ -125,21 +125,19 @@ row_is_strict opcode input m after k answer strict =
     strict_by opcode input m after k answer strict (is_undefined_or_not k)
 
 -- where it answered Undefined and they act, what the alias does then is the outcome
-pub aliased : {S : Type 0} (opcode : ℕ) (input : ℕ → ℕ) (m after new : MachineState) (k : Kind)
-    (answer : Stepped)
-    (next : S → PortOperation → S) (operations operations' : List PortOperation) (state state' : S)
-    (spare spare' : ℕ) → k ≡ kind.Undefined → acts m.board ≡ true
-    → IsOutcome (by_row (row opcode) input m) after (answer_of k after)
-    × Performs (by_row (row opcode) input m).operation next operations operations' state state' spare spare'
+pub aliased : {S : Type 0} (opcode : ℕ) (m after new : MachineState) (k : Kind) (answer : Stepped)
+    (devices devices' : PortDevices S) → k ≡ kind.Undefined → acts m.board ≡ true
+    → IsOutcome (by_row (row opcode) devices.input m) after (answer_of k after)
+    × Performs (by_row (row opcode) devices.input m) devices devices'
     → IsWithoutPort (by_row (alias_row opcode) (λ _. 0) after) new answer
-    → IsOutcome (by_opcode opcode input m) new answer
-    × Performs (by_opcode opcode input m).operation next operations operations' state state' spare spare'
-aliased opcode input m after new k answer next operations operations' state state' spare spare' undefined act
-    strict alias =
-    let n = undefined_left opcode input m after k undefined strict.0.answer_is in
+    → IsOutcome (by_opcode opcode devices.input m) new answer
+    × Performs (by_opcode opcode devices.input m) devices devices'
+aliased opcode m after new k answer devices devices' undefined act strict alias =
+    let n = undefined_left opcode devices.input m after k undefined strict.0.answer_is in
     let same : after ≡ m = strict.0.after_is ∙ n.after_is in
-    let nothing = rw (n.operation_is) at strict.1 in
     let row = acts_on (row opcode) m.board (alias_row opcode) n.row_is act in
-    rw row (outcome_without_port (alias_row opcode) input m new answer next operations operations' state state'
-    spare spare' (rw same at alias) (nothing.appended ∙ append-nil operations) nothing.state_is
-    (sym (add-zero spare') ∙ nothing.spare_is))
+    let operations = rw (n.operation_is) at strict.1.appended in
+    let state = rw (n.operation_is) at strict.1.state_is in
+    let spare = rw (n.operation_is) at strict.1.spare_is in
+    rw row (outcome_without_port (alias_row opcode) m new answer devices devices' (rw same at alias)
+    (operations ∙ append-nil devices.operations) state (sym (add-zero devices'.spare) ∙ spare))

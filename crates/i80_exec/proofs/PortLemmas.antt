@@ -1,14 +1,14 @@
 -- A row that asks no port is the same whatever the ports answer.
-use Rattle.std.proofs.Common.{◌≡◌, ℕ, ◌+◌, List, None, refl, ap, sym, ◌∙◌, append-nil, add-zero}
+use Rattle.std.proofs.Common.{◌≡◌, ℕ, ◌+◌, None, refl, ap, sym, ◌∙◌, append-nil, add-zero}
 use Rattle.std.proofs.lemmas.Option.{none-some}
 use Rattle.i80_rows.specs.declared.instruction.Instr.{Instr}
 use Rattle.i80_rows.specs.declared.instruction.Instr.TheVariants.{In}
 use Rattle.i80_rows.specs.Rows.{Row, Undefined, Alone, Byte, Word}
 use Rattle.i80_exec.specs.declared.registers.Stepped.{Stepped}
-use Rattle.i80_exec.specs.declared.ports.PortOperation.{PortOperation}
 use Rattle.i80_exec.specs.State.{MachineState, wrapped, byte_at, word_at, with_pc}
 use Rattle.i80_exec.specs.Effect.{effect}
-use Rattle.i80_exec.specs.Step.{by_row, with_interrupts_after, IsOutcome, IsWithoutPort, Performs}
+use Rattle.i80_exec.specs.Step.{by_row, with_interrupts_after, PortDevices}
+use Rattle.i80_exec.specs.Step.{IsOutcome, IsWithoutPort, Performs}
 
 -- so does an effect
 unasked_effect : (i : Instr) (input : ℕ → ℕ) (m : MachineState) → (effect i (λ _. 0) m).operation ≡ None
@@ -33,22 +33,17 @@ unasked_row (Word f) input m silent =
     (unasked_effect i input (with_pc m (wrapped (m.regs.pc + 3))) silent)
 
 -- what asked no port is the outcome, whatever the ports would answer, and nothing was done at them
-pub outcome_without_port : {S : Type 0} (r : Row) (input : ℕ → ℕ) (m after : MachineState)
-    (answer : Stepped)
-    (next : S → PortOperation → S) (operations operations' : List PortOperation) (state state' : S)
-    (spare spare' : ℕ)
-    → IsWithoutPort (by_row r (λ _. 0) m) after answer
-    → operations' ≡ operations → state' ≡ state → spare' ≡ spare
-    → IsOutcome (by_row r input m) after answer
-    × Performs (by_row r input m).operation next operations operations' state state' spare spare'
-outcome_without_port r input m after answer next operations operations' state state' spare spare' does
-    same_operations same_state same_spare =
-    let row = unasked_row r input m does.operation_is in (
+pub outcome_without_port : {S : Type 0} (r : Row) (m after : MachineState) (answer : Stepped)
+    (devices devices' : PortDevices S) → IsWithoutPort (by_row r (λ _. 0) m) after answer
+    → devices'.operations ≡ devices.operations → devices'.state ≡ devices.state
+    → devices'.spare ≡ devices.spare
+    → IsOutcome (by_row r devices.input m) after answer × Performs (by_row r devices.input m) devices devices'
+outcome_without_port r m after answer devices devices' does same_operations same_state same_spare =
+    let row = unasked_row r devices.input m does.operation_is in (
       rw row (record { after_is = does.after_is; answer_is = does.answer_is }),
-      rw (row, does.operation_is)
-          (record {
-            appended = same_operations ∙ sym (append-nil _);
-            state_is = same_state;
-            spare_is = add-zero _ ∙ same_spare;
-          }),
+      record {
+        appended = rw (row, does.operation_is) (same_operations ∙ sym (append-nil _));
+        state_is = rw (row, does.operation_is) same_state;
+        spare_is = rw (row, does.operation_is) (add-zero _ ∙ same_spare);
+      },
     )

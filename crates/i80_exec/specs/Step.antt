@@ -7,6 +7,7 @@ use Rattle.std.specs.Prelude.{
   List,
   [],
   ◌∷◌,
+  ◌≤◌,
   ◌++◌,
   length,
   Bool,
@@ -134,9 +135,45 @@ abbrev pub state_after : {S : Type 0} → (S → PortOperation → S) → S → 
 state_after next s None = s
 state_after next s (Some p) = next s p
 
--- the devices did this operation, or none, and nothing else
-pub record Performs {S : Type 0} (operation : Option PortOperation) (next : S → PortOperation → S)
-    (operations operations' : List PortOperation) (state state' : S) (spare spare' : ℕ) : Type 0 where
-  pub appended : operations' ≡ operations ++ operation_list operation
-  pub state_is : state' ≡ state_after next state operation
-  pub spare_is : spare' + length (operation_list operation) ≡ spare
+-- Devices at the ports, as a contract sees them: the byte that an IN from each port returns, the state after
+-- an operation, the operations since they were last taken, the state, and how many more there is room for.
+pub record PortDevices (S : Type 0) : Type 0 where
+  pub input : ℕ → ℕ
+  pub next : S → PortOperation → S
+  pub operations : List PortOperation
+  pub state : S
+  pub spare : ℕ
+
+-- the devices that the members of `Ports` show
+abbrev pub devices_by : {D S : Type 0} → (S → ℕ → ℕ) → (S → PortOperation → S) → (D → List PortOperation)
+    → (D → S) → (D → ℕ) → D → PortDevices S
+devices_by answer next operations state spare d = record {
+  input = answer (state d);
+  next = next;
+  operations = operations d;
+  state = state d;
+  spare = spare d;
+}
+
+-- the devices did the outcome's operation, if it has one, and nothing else
+pub record Performs {S : Type 0} (o : Outcome) (before after : PortDevices S) : Type 0 where
+  pub appended : after.operations ≡ before.operations ++ operation_list o.operation
+  pub state_is : after.state ≡ state_after before.next before.state o.operation
+  pub spare_is : after.spare + length (operation_list o.operation) ≡ before.spare
+
+-- A step of this kind, with this outcome, from the one machine to the other, and of the devices.
+pub record IsStepOfKind {S : Type 0} (kind : Kind) (o : Outcome) (machine : MachineState × MachineState)
+    (before after : PortDevices S) : Type 0 where
+  pub outcome : IsOutcome o machine.1 (answer_of kind machine.1) × Performs o before after
+  pub settles : Settles kind machine.0 machine.1
+
+-- EI wasn't the machine's last instruction, and there is room for a port operation
+pub record CanStepSettled (m : MachineState) (room : ℕ) : Type 0 where
+  pub settled : is_arming m.regs.interrupts ≡ false
+  pub spare : 1 ≤ room
+
+-- this is the opcode at PC of such a machine, and there is room as well
+pub record IsAtOpcode (code : ℕ) (m : MachineState) (room : ℕ) : Type 0 where
+  pub opcode : code ≡ byte_at m m.regs.pc
+  pub settled : is_arming m.regs.interrupts ≡ false
+  pub spare : 1 ≤ room

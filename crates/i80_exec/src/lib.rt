@@ -1,8 +1,8 @@
 // An Intel 8080 with its 65,536 bytes of memory, and the ports of its devices.
-// `Machine::step` does one instruction, for each of the 256 opcodes and whatever devices there are:
-// the machine, the port traffic and the answer afterwards are what the written table gives.
-// `Machine::accept` does RST n for an interrupt request where interrupts are on.
-// Only `Machine::new` allocates. Addresses, SP and PC wrap modulo 65,536.
+// `Machine::step` executes one instruction, for each of the 256 opcodes and with any devices: the machine
+// afterwards, the port operation and the result are what the opcode's definition says.
+// `Machine::accept` executes RST n for an interrupt request if interrupts are on.
+// Only `Machine::new` and `Machine::copy` allocate. Addresses, SP and PC wrap modulo 65,536.
 #![tactic(auto)]
 
 pub mod machine;

@@ -1,5 +1,5 @@
-//! The processor and its memory, what its instructions are made of, and one step at a time.
-ghost use Rattle.std.specs.Prelude.{◌≡◌, ◌+◌, ◌*◌, ◌≤◌, ◌++◌, List, ℕ, length, replicate, IfOk};
+//! The processor with its memory, the operations that its instructions are made of, and its single step.
+ghost use Rattle.std.specs.Prelude.{◌≡◌, ◌+◌, ◌*◌, ◌<◌, ◌≤◌, ◌++◌, List, ℕ, length, replicate, IfOk};
 ghost use Rattle.std.specs.Prelude.{IfSome, IfNone, Some, None, true, false};
 ghost use Rattle.i80_rows.specs.declared.arithmetic.AluResult.{AluResult};
 ghost use Rattle.i80_rows.specs.declared.instruction.Instr.TheVariants.{Xthl};
@@ -8,8 +8,10 @@ ghost use Rattle.i80_exec.specs.State.{get_stack_pair, put_stack_pair, with_regs
 ghost use Rattle.i80_exec.specs.State.{with_pc, with_a, with_flags, with_interrupts, power_on};
 ghost use Rattle.i80_exec.specs.Effect.{effect, to_a, operated, holds, added_to_hl, pushed};
 ghost use Rattle.i80_exec.specs.Effect.{popped, called, returned, exchanged};
+ghost use Rattle.i80_exec.specs.Opcodes.{reg_at};
 ghost use Rattle.i80_exec.specs.Step.{instruction, acceptance, operation_list, state_after, answer_of};
-ghost use Rattle.i80_exec.specs.Step.{is_arming, settled, armed_again, IsOutcome, Performs, Settles};
+ghost use Rattle.i80_exec.specs.Step.{is_arming, settled, armed_again, devices_by, IsOutcome, Performs};
+ghost use Rattle.i80_exec.specs.Step.{IsStepOfKind, CanStepSettled};
 
 mod opcodes;
 
@@ -18,7 +20,7 @@ use crate::registers::{Interrupts, Kind, Registers, Stepped};
 use i80_rows::arithmetic::{AluResult, alu_add, alu_and, alu_or, alu_sub, alu_xor};
 use i80_rows::board::Board;
 use i80_rows::flags::Flags;
-use i80_rows::instruction::{Cond, Operation, Pair, StackPair};
+use i80_rows::instruction::{Cond, Operation, Pair, Reg, StackPair};
 use i80_rows::memory::MEMORY_SIZE;
 use std::alloc::{AllocError, Global};
 use std::marker::Model;
@@ -44,7 +46,7 @@ impl Model for Machine {
 
 impl Machine {
     /// A machine after power-on: registers and memory 0, flags clear, interrupts off, and a strict board.
-    /// Its memory is the one thing that is allocated here.
+    /// Allocates its memory.
     pub fn new(alloc: Global) -> Result<Machine, AllocError>
         ensures { IfOk result (λ m. m ≡ power_on) }
     {
@@ -69,7 +71,7 @@ impl Machine {
         })
     }
 
-    /// The same machine once more, with a memory of its own.
+    /// A copy of the machine, with its own memory.
     pub fn copy(&self) -> Result<Machine, AllocError>
         ensures { IfOk result (λ m. m ≡ self.now) }
     {
@@ -143,7 +145,7 @@ impl Machine {
         self.board
     }
 
-    /// Sets whether they do.
+    /// Sets whether the twelve undefined opcodes act.
     pub fn set_board(&mut self, board: Board)
         ensures { self.new ≡ with_board self.old board }
     {
@@ -157,20 +159,19 @@ impl Machine {
         self.regs.pc = address;
     }
 
-    #[inline(always)]
     /// Does the instruction at PC, by the board's table. An undefined opcode changes nothing.
+    #[inline(always)]
     pub fn step<P: Ports>(&mut self, ports: &mut P) -> Stepped
         requires { 1 ≤ P.spare ports.old }
-        ensures { let outcome = instruction (P.answer (P.state ports.old)) self.old in
-            IsOutcome outcome self.new result
-            × Performs outcome.operation P.after (P.operations ports.old) (P.operations ports.new)
-            (P.state ports.old) (P.state ports.new) (P.spare ports.old) (P.spare ports.new) }
+        ensures { let devices = devices_by P.answer P.after P.operations P.state P.spare in
+            let outcome = instruction (devices ports.old).input self.old in
+            IsOutcome outcome self.new result × Performs outcome (devices ports.old) (devices ports.new) }
     {
         self.step_at_pc(ports)
     }
 
-    /// Accepts an interrupt request for RST `vector`, where interrupts are on: PC is pushed as it
-    /// stands, and interrupts are off afterwards. Else nothing changes.
+    /// Accepts an interrupt request for RST `vector` if interrupts are on: PC is pushed as it is, and
+    /// interrupts are off afterwards. Returns `None` and changes nothing otherwise.
     pub fn accept(&mut self, vector: u8) -> Option<Stepped>
         requires { vector ≤ 7 }
         ensures on { IfSome result (λ answer. acceptance vector self.old
@@ -209,22 +210,19 @@ impl Machine {
         answer
     }
 
-    /// The same if EI wasn't the last instruction, and returns the step's kind.
+    /// Does the same where EI wasn't the last instruction. Returns the step's kind.
     #[inline(always)]
     pub fn step_settled<P: Ports>(&mut self, ports: &mut P) -> Kind
-        requires settled { is_arming self.old.regs.interrupts ≡ false }
-        requires spare { 1 ≤ P.spare ports.old }
-        ensures outcome { let outcome = instruction (P.answer (P.state ports.old)) self.old in
-            IsOutcome outcome self.new (answer_of result self.new)
-            × Performs outcome.operation P.after (P.operations ports.old) (P.operations ports.new)
-            (P.state ports.old) (P.state ports.new) (P.spare ports.old) (P.spare ports.new) }
-        ensures settles { Settles result self.old self.new }
+        requires { CanStepSettled self.old (P.spare ports.old) }
+        ensures { let devices = devices_by P.answer P.after P.operations P.state P.spare in
+            let outcome = instruction (devices ports.old).input self.old in
+            IsStepOfKind result outcome (self.old, self.new) (devices ports.old) (devices ports.new) }
     {
         let opcode = self.peek(self.regs.pc);
         self.step_opcode(opcode, ports)
     }
 
-    /// What a step of this kind answers, which left the machine so.
+    /// What a step of this kind did, read off the machine that it left.
     #[inline(always)]
     pub fn report(&self, kind: Kind) -> Stepped
         ensures { result ≡ answer_of kind self.now }
@@ -245,7 +243,7 @@ impl Machine {
         }
     }
 
-    // Turns interrupts on where EI was the last instruction, as the one after it does. Whether it was.
+    // Turns interrupts on if EI was the last instruction, as the one after it does. Returns whether it was.
     #[inline(always)]
     fn settle(&mut self) -> bool
         ensures settled { self.new ≡ settled self.old }
@@ -259,7 +257,7 @@ impl Machine {
         was_arming
     }
 
-    // An undefined opcode changes nothing, arming neither.
+    // An undefined opcode changes nothing, so it leaves arming as it was.
     #[inline(always)]
     fn arm_again(&mut self, answer: Stepped)
         ensures { self.new ≡ armed_again answer self.old }
@@ -442,7 +440,7 @@ impl Machine {
         ensures after { self.new ≡ (returned self.old).after }
         ensures answer { answer_of result self.new ≡ (returned self.old).answer }
     {
-        // It is read, so that it is known to be an address: two below SP after the pop.
+        // It is read so that the proof knows it to be an address: two below SP after the pop.
         let _slot = self.regs.sp;
         let target = self.pop_word();
         self.jump(target);
@@ -464,9 +462,9 @@ impl Machine {
         requires settled { is_arming self.old.regs.interrupts ≡ false }
         ensures { self.new ≡ exchanged self.old }
     {
-        // The compiler doesn't know that these are 0, so it sees no exchange. For one among the values of a
-        // loop it moves two or more of them at each step, whichever arm that is: D and E, or H and L, by the
-        // order in which it copies them. `step` tells it the third, and so adds only the others there.
+        // The compiler doesn't know that these are 0, so it sees no exchange. If it sees one among a loop's
+        // variables, it moves two or more of them on every step, in every arm: D and E, or H and L, by the
+        // order in which it copies them. In `step` it knows that `arming` is 0, so it adds only the others.
         let low = (self.memory.len() % 256) as u8;
         let high = (self.memory.len() / 4_294_967_296 % 256) as u8;
         let arming = self.is_arming() as u8;
@@ -476,6 +474,25 @@ impl Machine {
         self.regs.l = self.regs.e.wrapping_add(arming);
         self.regs.d = h.wrapping_add(low);
         self.regs.e = l.wrapping_add(high);
+    }
+}
+
+/// The register of a code of three bits, or the byte in memory at HL.
+#[inline]
+fn reg_at(code: u8) -> Reg
+    requires { code < 8 }
+    ensures { result ≡ reg_at code }
+{
+    match code {
+        0 => Reg::B,
+        1 => Reg::C,
+        2 => Reg::D,
+        3 => Reg::E,
+        4 => Reg::H,
+        5 => Reg::L,
+        6 => Reg::M,
+        7 => Reg::A,
+        _ => unreachable!(),
     }
 }
 

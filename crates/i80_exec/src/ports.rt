@@ -1,4 +1,4 @@
-//! The ports of the processor, and what every device at them keeps to.
+//! The ports of the processor, and what devices at them promise.
 ghost use Rattle.std.specs.Prelude.{◌≡◌, ◌+◌, ◌≤◌, ◌++◌, ◌∷◌, [], List, ℕ};
 ghost use Rattle.i80_exec.specs.declared.ports.PortOperation.{PortOperation};
 ghost use Rattle.i80_exec.specs.declared.ports.PortOperation.TheVariants.{In, Out};
@@ -11,9 +11,9 @@ pub enum PortOperation {
 }
 
 /// The devices at the ports. A contract sees them as the list of operations since the last
-/// time that they were taken, a state, and how many more operations there is room for.
+/// time that they were taken, a state, and the number of operations that there is room for.
 pub trait Ports {
-    /// What the answers of the devices rest on.
+    /// The state that the answers of the devices depend on.
     type State;
 
     ghost operations: { Self → List PortOperation };
@@ -22,13 +22,13 @@ pub trait Ports {
 
     ghost spare: { Self → ℕ };
 
-    // what an IN from a port answers in a state
+    // the byte that an IN from a port returns in a state
     ghost answer: { Self.State → ℕ → ℕ };
 
     // the state after an operation
     ghost after: { Self.State → PortOperation → Self.State };
 
-    /// IN: the byte that the port answers.
+    /// IN: returns a byte of the port.
     fn input(&mut self, port: u8) -> u8
         requires { 1 ≤ spare self.old }
         ensures value { result ≡ answer (state self.old) port }
@@ -36,7 +36,7 @@ pub trait Ports {
         ensures state { state self.new ≡ after (state self.old) (In port result) }
         ensures spare { spare self.new + 1 ≡ spare self.old };
 
-    /// OUT: gives the port a byte.
+    /// OUT: sends a byte to the port.
     fn output(&mut self, port: u8, byte: u8)
         requires { 1 ≤ spare self.old }
         ensures operations { operations self.new ≡ operations self.old ++ Out port byte ∷ [] }

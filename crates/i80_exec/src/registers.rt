@@ -1,8 +1,8 @@
-//! What the processor holds beside its memory, and what one step of it reports.
+//! The registers of the processor, and what a step reports.
 use i80_rows::flags::Flags;
 
-/// Whether interrupt requests are accepted. EI leaves `Arming`, so that the instruction after it
-/// is done before a request is accepted.
+/// Whether interrupt requests are accepted. EI sets `Arming`, so that the instruction after it is
+/// executed before a request is accepted.
 #[derive(Clone, Copy, PartialEq, Eq)]
 pub enum Interrupts {
     Off,
@@ -41,13 +41,13 @@ pub enum Stepped {
     Undefined { opcode: u8 },
 }
 
-/// What a step did, in one byte: less than `Stepped` where the machine tells the rest, and more for a loop of
-/// steps, which needn't look again after a quiet one.
+/// What a step did, in one byte. The slot, target and opcode of `Stepped` are read off the machine; in return
+/// a loop of steps learns whether SP may have changed, and needn't look at it after a quiet step.
 #[derive(Clone, Copy, PartialEq, Eq)]
 pub enum Kind {
-    /// Done, with SP as it was.
+    /// Done, with SP unchanged.
     Quiet,
-    /// Done; SP may be another.
+    /// Done; SP may have changed.
     Moved,
     /// EI.
     Armed,

@@ -1,6 +1,6 @@
--- What the twelve opcodes that Intel's table leaves undefined act as where a board has aliases: a real 8080
--- decodes them as copies of others, which emulators name so (MAME's i8085 core, in its i8080 tables: nop,
--- jmp, ret, call). And the table of a board, with what bytes read as by it.
+-- What the twelve opcodes that Intel's table leaves undefined do on a board with aliases: a real 8080 decodes
+-- them as copies of others, which emulators list too (MAME's i8085 core, in its i8080 tables: nop, jmp, ret,
+-- call). Then the table of a board, and what bytes read as by it.
 use Rattle.std.specs.Prelude.{ℕ, List, [], ◌∷◌, Result, Err, ◌==◌, if◌then◌else◌, Bool, true, false}
 use Rattle.i80_rows.specs.declared.board.Board.{Board}
 use Rattle.i80_rows.specs.declared.board.Board.TheVariants.{Strict, Aliases}

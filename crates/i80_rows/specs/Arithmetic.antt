@@ -37,7 +37,7 @@ with_flags value ac cy = record { value = value; flags = shown_by value ac cy }
 abbrev pub with_carry : Bool → AluResult → AluResult
 with_carry cy r = record { value = r.value; flags = record r.flags { cy = cy } }
 
--- CY where the total is above 255, AC where the total of the low hexadecimal digits is above 15
+-- CY is set if the total is above 255, AC if the total of the low hexadecimal digits is above 15
 abbrev pub sum : ℕ → ℕ → Bool → AluResult
 sum x y c =
     let total = x + y + from_bool c in
@@ -55,8 +55,8 @@ increment x cy = with_carry cy (sum x 1 false)
 abbrev pub decrement : ℕ → Bool → AluResult
 decrement x cy = with_carry cy (difference x 1 false)
 
--- DAA: 6 is added where the low digit is above 9 or AC is set, 60h where A is above 99h or CY is set;
--- CY stays where it was set and is set where A was above 99h
+-- DAA: 6 is added if the low digit is above 9 or AC is set, and 60h if A is above 99h or CY is set;
+-- CY is set if it was set before or A was above 99h
 abbrev pub adjusted : ℕ → FlagValues → AluResult
 adjusted a f =
     let low = if (nat_lt 9 (a % 16) || f.ac) then 6 else 0 in
@@ -72,7 +72,7 @@ by_digits f x y =
     + 8 * f (digit x 3) (digit y 3) + 4 * f (digit x 2) (digit y 2)
     + 2 * f (digit x 1) (digit y 1) + f (digit x 0) (digit y 0)
 
--- AC is set where bit 3 of an operand is, and CY is cleared
+-- AC is set if bit 3 of an operand is, and CY is cleared
 abbrev pub conjunction : ℕ → ℕ → AluResult
 conjunction x y = with_flags (by_digits (λ a b. a * b) x y) (is_set x 3 || is_set y 3) false
 

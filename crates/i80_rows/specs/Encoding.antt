@@ -1,5 +1,5 @@
 -- Which bytes are the encoding of an instruction: by the table of rows, and as numbers.
-use Rattle.std.specs.Prelude.{◌≡◌, ℕ, ◌+◌, ◌*◌, ◌/◌, ◌%◌, List, [], ◌∷◌}
+use Rattle.std.specs.Prelude.{◌≡◌, ℕ, ◌+◌, ◌*◌, ◌/◌, ◌%◌, List, [], ◌∷◌, ◌++◌, length, Result, Ok}
 use Rattle.i80_rows.specs.declared.instruction.Instr.{Instr}
 use Rattle.i80_rows.specs.declared.instruction.Instr.TheVariants.{Nop, Lxi, Stax, Ldax, Shld, Lhld, Sta, Lda}
 use Rattle.i80_rows.specs.declared.instruction.Instr.TheVariants.{Inx, Dcx, Dad, Inr, Dcr, Mvi, Rotate, Daa}
@@ -7,6 +7,7 @@ use Rattle.i80_rows.specs.declared.instruction.Instr.TheVariants.{Cma, Stc, Cmc,
 use Rattle.i80_rows.specs.declared.instruction.Instr.TheVariants.{Alu, AluImmediate, Jmp, JumpIf, Call}
 use Rattle.i80_rows.specs.declared.instruction.Instr.TheVariants.{CallIf, Ret, RetIf, Rst, Push, Pop, Xthl}
 use Rattle.i80_rows.specs.declared.instruction.Instr.TheVariants.{Xchg, Pchl, Sphl, Out, In, Di, Ei}
+use Rattle.i80_rows.specs.declared.instruction.DecodeFault.{DecodeFault}
 use Rattle.i80_rows.specs.Codes.{reg_of, reg_code, pair_code, stack_pair_code, index_pair_code, cond_code}
 use Rattle.i80_rows.specs.Codes.{operation_code, rotation_code, vector_code}
 use Rattle.i80_rows.specs.Rows.{Row, Alone, Byte, Word, row}
@@ -24,6 +25,11 @@ IsOperand _ i _ = ⊥
 abbrev pub Encodes : Instr → List ℕ → Type 0
 Encodes i [] = ⊥
 Encodes i (opcode ∷ operand) = IsOperand (row opcode) i operand
+
+-- An instruction that is encoded at the front of the bytes is what was read, whatever follows it.
+abbrev pub ReadsEncoded : List ℕ → Result (Instr × ℕ) DecodeFault → Type 0
+ReadsEncoded bytes result = (i : Instr) (code rest : List ℕ) → Encodes i code → bytes ≡ code ++ rest
+    → result ≡ Ok (i, length code)
 
 -- ---- as numbers (8080 User's Manual, chapter 4)
 

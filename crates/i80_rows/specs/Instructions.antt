@@ -1,4 +1,4 @@
--- Instructions that lack their operand, once it is given.
+-- Instructions that lack their operand, with this operand.
 use Rattle.std.specs.Prelude.{ℕ}
 use Rattle.i80_rows.specs.declared.instruction.Instr.{Instr}
 use Rattle.i80_rows.specs.declared.instruction.Instr.TheVariants as instr

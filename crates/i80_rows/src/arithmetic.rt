@@ -7,7 +7,7 @@ ghost use Rattle.i80_rows.specs.Arithmetic.{conjunction, exclusive, inclusive, r
 use crate::flags::Flags;
 use crate::instruction::Rotation;
 
-/// What an operation gives: a byte, and all five flags as they are afterwards.
+/// The result of an operation: a byte, and all five flags afterwards.
 #[derive(Clone, Copy, PartialEq, Eq)]
 pub struct AluResult {
     pub value: u8,
@@ -72,7 +72,7 @@ pub fn alu_or(x: u8, y: u8) -> AluResult
     with_result(x | y, false, false)
 }
 
-/// One more, modulo 256: INR. CY stays as it is given.
+/// The byte plus 1, modulo 256: INR. CY is left as it was.
 #[inline]
 pub fn inr(x: u8, carry: bool) -> AluResult
     ensures { result ≡ increment x carry }
@@ -81,7 +81,7 @@ pub fn inr(x: u8, carry: bool) -> AluResult
     with_result(value, value & 0x0f == 0, carry)
 }
 
-/// One less, modulo 256: DCR. CY stays as it is given.
+/// The byte minus 1, modulo 256: DCR. CY is left as it was.
 #[inline]
 pub fn dcr(x: u8, carry: bool) -> AluResult
     ensures { result ≡ decrement x carry }
@@ -90,7 +90,7 @@ pub fn dcr(x: u8, carry: bool) -> AluResult
     with_result(value, value & 0x0f != 0x0f, carry)
 }
 
-/// A as two decimal digits again, after a sum of two such bytes: DAA.
+/// A adjusted to two decimal digits after a sum of two such bytes: DAA.
 #[inline]
 pub fn daa(a: u8, flags: Flags) -> AluResult
     ensures { result ≡ adjusted a flags }
@@ -102,7 +102,7 @@ pub fn daa(a: u8, flags: Flags) -> AluResult
     with_result(value, (a ^ value) & 0x10 != 0, carry)
 }
 
-/// A rotated by one bit; of the flags CY alone changes.
+/// A rotated by one bit. Of the flags, only CY changes.
 #[inline]
 pub fn rotate(rotation: Rotation, a: u8, flags: Flags) -> AluResult
     ensures { result ≡ rotated rotation a flags }

@@ -1,9 +1,9 @@
 //! Reading an instruction from bytes, by the table of 256 rows and the board's list of aliases.
-ghost use Rattle.std.specs.Prelude.{◌≡◌, ◌++◌, List, ℕ, length, take, IfOk, Ok};
+ghost use Rattle.std.specs.Prelude.{◌≡◌, take, IfOk};
 ghost use Rattle.i80_rows.specs.Rows.{Byte, Word, read, read_row};
 ghost use Rattle.i80_rows.specs.AliasRows.{read_on};
 ghost use Rattle.i80_rows.specs.Instructions.{byte_instruction, word_instruction};
-ghost use Rattle.i80_rows.specs.Encoding.{Encodes};
+ghost use Rattle.i80_rows.specs.Encoding.{Encodes, ReadsEncoded};
 
 mod rows;
 
@@ -13,22 +13,20 @@ use crate::instruction::{ByteOperation, DecodeFault, Instr, WordOperation};
 
 /// The instruction that the bytes begin with, and its length of 1 to 3 bytes.
 pub fn decode(bytes: &[u8]) -> Result<(Instr, u8), DecodeFault>
-    // What is found is encoded by as many bytes at the front,
+    // The instruction is what that many bytes at the front encode, and what is encoded there is returned.
     ensures found { IfOk result (λ p. Encodes p.0 (take p.1 bytes.now)) }
-    // and what is encoded at the front is found, whatever follows it.
-    ensures only { (i : Instr) (code rest : List ℕ) → Encodes i code → bytes.now ≡ code ++ rest
-        → result ≡ Ok (i, length code) }
-    // Which it is, undefined and cut off opcodes too, is read off the table.
+    ensures only { ReadsEncoded bytes.now result }
+    // The opcode table gives the result, and the error for undefined opcodes and missing operands.
     ensures table { result ≡ read bytes.now }
 {
     decode_on(bytes, Board::Strict)
 }
 
 /// The instruction that the bytes begin with on a board. With `Board::Aliases` none of the 256 opcodes is
-/// undefined, and twelve instructions have a second encoding, which `encode` never writes.
+/// undefined: the twelve are further encodings of NOP, JMP, RET and CALL, which `encode` never writes.
 pub fn decode_on(bytes: &[u8], board: Board) -> Result<(Instr, u8), DecodeFault>
     ensures table { result ≡ read_on board bytes.now }
-    // On a strict board it is what `decode` reads.
+    // On a strict board it is what `decode` returns.
     ensures strict { board ≡ Board.Strict → result ≡ read bytes.now }
 {
     read_instruction(bytes, board)

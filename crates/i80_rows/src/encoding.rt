@@ -196,7 +196,7 @@ pub fn encode(instr: Instr) -> Encoded
     opcode_and_operand(instr)
 }
 
-// What `encode` answers, by the mnemonic.
+// The bytes that `encode` returns, by the mnemonic.
 #[tactic(auto, unfolding(crate::specs::Encoding::encoding_of))]
 fn opcode_and_operand(instr: Instr) -> Encoded
     ensures { result ≡ encoding_of instr }

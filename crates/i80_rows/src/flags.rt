@@ -27,7 +27,7 @@ impl Model for Flags {
     ghost inverse_ok = { λ f same. ap (λ byte. record { byte = byte }) same };
 }
 
-/// The flag byte of each result, but for AC and CY: S, Z and P as the result shows them, and bit 1.
+/// For each result the flag byte without AC and CY: S, Z and P of the result, and bit 1, which is set.
 static SHOWN: [u8; 256] = [
     0x46, 0x02, 0x02, 0x06, 0x02, 0x06, 0x06, 0x02, 0x02, 0x06, 0x06, 0x02, 0x06, 0x02, 0x02, 0x06,
     0x02, 0x06, 0x06, 0x02, 0x06, 0x02, 0x02, 0x06, 0x06, 0x02, 0x02, 0x06, 0x02, 0x06, 0x06, 0x02,
@@ -61,7 +61,7 @@ impl Flags {
         Flags { byte }
     }
 
-    /// The flags of a result: its sign, zero and parity, looked up, with these carries.
+    /// The flags of a result: sign, zero and parity from the table, with these carries.
     #[inline]
     pub(crate) fn of_result(value: u8, auxiliary_carry: bool, carry: bool) -> Flags
         ensures { result ≡ shown_by value auxiliary_carry carry }
@@ -129,7 +129,7 @@ impl Flags {
         self.byte & 1 != 0
     }
 
-    /// The same flags but for CY.
+    /// The same flags with this CY.
     #[inline]
     pub fn with_carry(self, carry: bool) -> Flags
         ensures { result ≡ record self { cy = carry } }

@@ -2,7 +2,7 @@
 ghost use Rattle.std.specs.Prelude.{◌≡◌};
 ghost use Rattle.i80_rows.specs.Instructions.{byte_instruction, word_instruction};
 
-/// What a three-bit register code names: a register, or `M`, the byte in memory at HL.
+/// What a three-bit code names: a register, or `M`, the byte in memory at HL.
 #[derive(Clone, Copy, PartialEq, Eq)]
 pub enum Reg {
     B,
@@ -118,8 +118,8 @@ pub enum Vector {
     V7,
 }
 
-/// An instruction with its operand. What has no encoding can't be written: MOV is three
-/// instructions, as in the manual, so that there is no `MOV M,M`.
+/// An instruction with its operand. Each value has an encoding: MOV is three instructions, as in
+/// the manual, so that there is no `MOV M,M`.
 #[derive(Clone, Copy, PartialEq, Eq)]
 pub enum Instr {
     Nop,
@@ -232,6 +232,6 @@ impl WordOperation {
 pub enum DecodeFault {
     /// The first byte is one of the twelve undefined opcodes.
     Undefined,
-    /// The bytes end before the instruction does, which needs this many.
+    /// The bytes end before the instruction does. It needs this many.
     Short { needed: u8 },
 }

@@ -1,8 +1,8 @@
-// The instruction set of the Intel 8080: its 256 rows, its flags and its arithmetic. `decode` reads an
-// instruction exactly if bytes begin with its encoding by the table of rows, and tells undefined opcodes from
-// missing operands; `encode` writes that encoding, which `laws` says is one, by the table as in numbers. Each
-// arithmetic function returns the result and the five flags of sums of whole numbers. Nothing allocates, and
-// only `decode` can fail.
+// The instruction set of the Intel 8080: its opcode table of 256 rows, its flags and its arithmetic.
+// `decode` returns an instruction exactly if the bytes begin with its encoding, and else says whether the
+// opcode is undefined or operands are missing. `encode` writes the encoding; by `laws` there is only one.
+// Each arithmetic function returns a result with its five flags, which are defined by sums of whole numbers.
+// Nothing allocates, and only decoding can fail.
 #![tactic(auto)]
 
 pub mod arithmetic;

@@ -1,4 +1,4 @@
 //! The size of memory.
 
-/// How many bytes an address of 16 bits can name.
+/// The number of bytes that a 16-bit address can name.
 pub const MEMORY_SIZE: usize = 65_536;

@@ -10,6 +10,7 @@ use Rattle.i80_exec.specs.Effect.{Outcome}
 use Rattle.i80_exec.specs.Step.{instruction, operation_list, state_after, IsOutcome, Performs}
 use Rattle.i80_devs.specs.Past.{Operation, Port, PanelState, DeviceState, StandsFor, answer, after}
 use Rattle.i80_devs.specs.Past.{panel_after, panel_next}
+use Rattle.lab_frames.specs.BoardSteps.{at_ports}
 use Rattle.lab_frames.specs.Steps.{accepted, acceptance_of, or_instruction, taken_or_done, IsBoardStep}
 
 -- a step does one port operation at most
@@ -33,8 +34,7 @@ pub by_instruction : PanelLaw
     → (past : List Operation) (old new : MachineState) (devices devices' : DeviceState) (did : Stepped)
     → accepted old past ≡ None → StandsFor devices past
     → IsOutcome (instruction (answer devices.panel) old) new did
-    → Performs (instruction (answer devices.panel) old).operation after devices.operations devices'.operations
-    devices.panel devices'.panel devices.spare devices'.spare
+    → Performs (instruction (answer devices.panel) old) (at_ports devices) (at_ports devices')
     → IsBoardStep past old devices new devices' did
 by_instruction law past old new devices devices' did none stands o p =
     let P : Option Outcome → Type 0 =

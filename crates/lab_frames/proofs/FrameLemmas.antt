@@ -11,7 +11,7 @@ use Rattle.i80_exec.specs.declared.registers.Stepped.TheVariants.{Called, Done, 
 use Rattle.lab_frames.specs.declared.frame.Frame.{Frame}
 use Rattle.lab_frames.specs.Live.{BoardStep, Entry, Step, live, made_by, ended_by}
 use Rattle.lab_frames.specs.Frames.{survivors, Advances, LeavesOldest, Falls, AtLeast, ReturnsBelow, CallsAt}
-use Rattle.lab_frames.specs.Frames.{IsStep, is_from_above}
+use Rattle.lab_frames.specs.Frames.{IsStep, FollowsStep, is_from_above}
 use Rattle.lab_frames.proofs.LiveLemmas.{advances}
 
 falls-more : (low high : ℕ) (fs : List Frame) → low ≤ high → Falls low fs → Falls high fs
@@ -269,18 +269,11 @@ leaves_oldest answer sp bound fs falls older newer split returns =
     let F : List Frame → Type 0 = λ xs. Falls bound xs in
     rw split (older-of-all answer sp bound older newer (subst F split falls) returns)
 
--- what holds of the frames after a step, from those that were popped and pushed
-pub record Advanced (answer : Stepped) (site sp : ℕ) (old popped new : List Frame) : Type 0 where
-  pub live : Advances answer site sp old new
-  pub oldest : LeavesOldest answer sp old (length popped)
-  pub falls : Falls 65536 new
-  pub above : AtLeast sp new
-  pub few : length new ≤ 65536
-
+-- what following a step makes of the frames, from those that were popped and pushed
 pub advanced : (answer : Stepped) (site sp : ℕ) (old inside popped new : List Frame) → inside ≡ old
     → sp < 65536 → CallsAt answer sp → Falls 65536 inside
     → popped ≡ survivors answer sp inside → new ≡ popped ++ made_by answer site
-    → Advanced answer site sp old popped new
+    → FollowsStep answer site sp (old, new) (length popped)
 advanced answer site sp old inside popped new view-is h calls falls popped-is new-is =
     let F : List Frame → Type 0 = λ xs. Falls 65536 xs in
     let A : List Frame → Type 0 = λ xs. AtLeast sp xs in
@@ -290,14 +283,14 @@ advanced answer site sp old inside popped new view-is h calls falls popped-is ne
     sym (new-is ∙ ap (λ xs. xs ++ made_by answer site) left) in
     let falls-old : Falls 65536 old = subst F view-is falls in
     let falls-new : Falls 65536 new = subst F now (advanced-falls answer site sp old h calls falls-old) in
+    let count : length popped ≡ length (survivors answer sp old) = ap (λ (xs : List Frame). length xs) left in
     record {
       live = advances answer site sp old new (sym now);
-      oldest =
-          subst L (ap (λ (xs : List Frame). length xs) (sym left))
-          (leaves_oldest answer sp 65536 old falls-old);
+      frames = sym now;
+      left = count;
+      oldest = subst L (sym count) (leaves_oldest answer sp 65536 old falls-old);
       falls = falls-new;
       above = subst A now (advanced-above answer site sp old calls);
-      few = falls-length 65536 new falls-new;
     }
 
 -- of the frames that a stretch of a run makes, none lies below SP after a step that ends it, wherever SP

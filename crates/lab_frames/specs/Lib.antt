@@ -1,3 +1,4 @@
 pub mod Live
 pub mod Frames
 pub mod Steps
+pub mod BoardSteps

@@ -8,7 +8,7 @@ use Rattle.i80_exec.specs.declared.ports.PortOperation.{PortOperation}
 use Rattle.i80_exec.specs.State.{MachineState}
 use Rattle.lab_frames.specs.declared.frame.Frame.{Frame}
 
--- what was done to the machine: the machine before it, what was answered, the port operation, and the machine
+-- what was done to the machine: the machine before it, what was reported, the port operation, and the machine
 -- after it
 pub record Change : Type 0 where
   pub before : MachineState
@@ -25,7 +25,7 @@ abbrev pub change_of : BoardStep → Change
 change_of (Instruction change) = change
 change_of (Acceptance change) = change
 
--- what a run's trace lists: its steps, and the changes of the machine by hand, of which none is a step
+-- an entry of a run's trace: a step, or a change of the machine by hand, which is no step
 pub data Entry : Type 0 where
   Step : BoardStep → Entry
   -- the machine before and after
@@ -47,7 +47,7 @@ returned_or_covered (Called called target) slot = nat_le slot called
 returned_or_covered (Returned from) slot = slot == from
 returned_or_covered answer slot = false
 
--- or where SP is left above the slot
+-- or by a step that leaves SP above the slot
 abbrev pub ended_by : Stepped → ℕ → ℕ → Bool
 ended_by answer sp slot = nat_lt slot sp || returned_or_covered answer slot
 

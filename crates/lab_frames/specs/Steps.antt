@@ -30,7 +30,7 @@ taken_or_done None o = map Port (operation_list o.operation)
 abbrev pub operations : MachineState → List Operation → List Operation
 operations m past = taken_or_done (accepted m past) (outcome m past)
 
--- machine and devices did the step, where this is the devices' past, and it answered so
+-- machine and devices did the step, if this was the devices' past, and it reported this answer
 pub record IsBoardStep (past : List Operation) (old : MachineState) (devices : DeviceState)
     (new : MachineState) (devices' : DeviceState) (answer : Stepped) : Type 0 where
   pub after_is : new ≡ (outcome old past).after

@@ -1,21 +1,21 @@
 //! One step of the board.
 ghost use Rattle.std.specs.Prelude.{◌≡◌, ◌+◌, ◌≤◌, List, IfSome, IfNone, None, false};
-ghost use Rattle.i80_exec.specs.Step.{answer_of, is_arming, Settles};
+ghost use Rattle.i80_exec.specs.Step.{is_arming};
 ghost use Rattle.i80_devs.specs.Past.{Operation, StandsFor, Taken, Appends, SamePorts};
 ghost use Rattle.lab_frames.specs.Frames.{TellsSp};
 ghost use Rattle.lab_frames.specs.Steps.{accepted, IsBoardStep};
+ghost use Rattle.lab_frames.specs.BoardSteps.{StepsBoard, StepsWithoutRequest};
 
 use i80_devs::devices::Devices;
 use i80_devs::laws::panel_after_one_more;
 use i80_exec::machine::Machine;
 use i80_exec::registers::{Kind, Stepped};
 
-/// The acceptance of the latched request, or else the instruction at PC.
+/// Accepts the latched request if interrupts are on, and else executes the instruction at PC.
 #[inline(always)]
 pub fn board_step(machine: &mut Machine, devices: &mut Devices) -> Stepped
     requires room { 1 ≤ devices.old.spare }
-    ensures step { (past : List Operation) → StandsFor devices.old past
-        → IsBoardStep past machine.old devices.old machine.new devices.new result }
+    ensures step { StepsBoard (machine.old, machine.new) (devices.old, devices.new) result }
     ensures sp { TellsSp result machine.old.regs.sp machine.new.regs.sp }
     ensures spare { devices.old.spare ≤ devices.new.spare + 1 }
 {
@@ -26,18 +26,13 @@ pub fn board_step(machine: &mut Machine, devices: &mut Devices) -> Stepped
     }
 }
 
-/// The same where no request is latched and EI wasn't the last instruction, told by its kind.
+/// Does the same where no request is latched and EI wasn't the last instruction. Returns the step's kind.
 #[inline(always)]
 pub fn settled_step(machine: &mut Machine, devices: &mut Devices) -> Kind
     requires room { 1 ≤ devices.old.spare }
     requires settled { is_arming machine.old.regs.interrupts ≡ false }
     requires unlatched { devices.old.panel.latched ≡ None }
-    ensures step { (past : List Operation) → StandsFor devices.old past
-        → IsBoardStep past machine.old devices.old machine.new devices.new (answer_of result machine.new) }
-    ensures sp { TellsSp (answer_of result machine.new) machine.old.regs.sp machine.new.regs.sp }
-    ensures settles { Settles result machine.old machine.new }
-    ensures spare { devices.old.spare ≤ devices.new.spare + 1 }
-    ensures unlatched { devices.new.panel.latched ≡ None }
+    ensures { StepsWithoutRequest (machine.old, machine.new) (devices.old, devices.new) result }
 {
     panel_after_one_more();
     machine.step_settled(devices)
@@ -60,7 +55,7 @@ fn accept(machine: &mut Machine, devices: &mut Devices) -> Option<Stepped>
     Some(answer)
 }
 
-// Takes the request that was accepted. It is a cold function, so that the way to it is laid out apart from
+// Takes the request that was accepted. It is a cold function, so that the path to it is laid out apart from
 // the usual one.
 #[cold]
 #[inline(never)]

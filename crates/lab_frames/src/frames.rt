@@ -2,7 +2,7 @@
 ghost use Rattle.std.specs.Prelude.{◌≡◌, ℕ, ◌+◌, ◌<◌, ◌≤◌, ◌++◌, [], length, reverse, IfOk};
 ghost use Rattle.std.specs.Prelude.{slice_get, vec_len, vec_capacity};
 ghost use Rattle.lab_frames.specs.Live.{made_by, ended_by};
-ghost use Rattle.lab_frames.specs.Frames.{survivors, Advances, LeavesOldest, Falls, AtLeast};
+ghost use Rattle.lab_frames.specs.Frames.{survivors, FollowsStep, Falls, AtLeast};
 ghost use Rattle.lab_frames.specs.Frames.{CallsAt, is_from_above, reach_of};
 
 use crate::frame::Frame;
@@ -11,7 +11,7 @@ use i80_rows::memory::MEMORY_SIZE;
 use std::alloc::{AllocError, Global};
 use std::marker::Model;
 
-/// How many frames are live at most: one for each slot.
+/// The most frames that can be live at once: one for each slot.
 const ROOM: usize = MEMORY_SIZE;
 
 /// The live frames of a run. A contract sees them as a list, oldest first.
@@ -34,7 +34,7 @@ impl Model for Frames {
 }
 
 impl Frames {
-    /// No frame, as before the first step of a run, with room for all that can be live together.
+    /// No frames, as before the first step of a run, with room for all that can be live at once.
     pub fn new(alloc: Global) -> Result<Frames, AllocError>
         ensures { IfOk result (λ frames. frames ≡ []) }
     {
@@ -42,7 +42,7 @@ impl Frames {
         Ok(Frames { frames })
     }
 
-    /// The same frames once more, with room for all that can be live together.
+    /// A copy of the frames, with room for all that can be live at once.
     pub fn copy(&self, alloc: Global) -> Result<Frames, AllocError>
         ensures { IfOk result (λ frames. frames ≡ self.now) }
     {
@@ -51,22 +51,15 @@ impl Frames {
         Ok(Frames { frames })
     }
 
-    /// One more step, which answered so, with PC at `site` before it and SP at `sp` after it:
-    /// the frames that it ends go, and the one that it makes comes.
-    /// Answers how many of the frames before it are left.
+    /// Follows one more step, which reported `answer`, with PC at `site` before it and SP at `sp` after it:
+    /// drops the frames that it ends, and adds the one that it makes, if any. Returns how many of the frames
+    /// before it are left.
     #[inline]
     pub fn advance(&mut self, answer: Stepped, site: u16, sp: u16) -> usize
-        // It holds of each instruction and each accepted request (proofs/StepLemmas.antt). Where SP was
-        // before the step doesn't matter: SP may have been changed by hand, and live slots may lie below it.
+        // This holds of each instruction and each accepted request (proofs/StepLemmas.antt). Where SP was
+        // before the step doesn't matter: it may have been changed by hand, with live slots below it.
         requires calls { CallsAt answer sp }
-        ensures live { Advances answer site sp self.old self.new }
-        ensures frames { self.new ≡ survivors answer sp self.old ++ made_by answer site }
-
-        ensures left { result ≡ length (survivors answer sp self.old) }
-        ensures oldest { LeavesOldest answer sp self.old result }
-
-        ensures falls { Falls 65536 self.new }
-        ensures above { AtLeast sp self.new }
+        ensures { FollowsStep answer site sp (self.old, self.new) result }
     {
         drop_ended(&mut self.frames, answer, sp);
         let left = self.frames.len();
@@ -81,7 +74,7 @@ impl Frames {
         self.frames.clear();
     }
 
-    /// How many frames are live.
+    /// The number of live frames.
     pub fn len(&self) -> usize
         ensures len { result ≡ length self.now }
         ensures few { result ≤ 65536 }
@@ -97,7 +90,7 @@ impl Frames {
         self.frames.last().copied()
     }
 
-    /// One above the newest slot, or 65536 where no frame is live. A step that neither calls nor returns and
+    /// One above the newest slot, or 65536 if no frame is live. A step that neither calls nor returns and
     /// leaves SP below this ends no frame.
     #[inline]
     pub fn reach(&self) -> u32
@@ -110,7 +103,7 @@ impl Frames {
         }
     }
 
-    /// A frame by its age: 0 is the innermost. There is none from `len` on.
+    /// A frame by its age, where 0 is the innermost. `None` from `len` on.
     pub fn get(&self, age: usize) -> Option<Frame>
         ensures { result ≡ slice_get (reverse self.now) age }
     {
@@ -121,8 +114,8 @@ impl Frames {
     }
 }
 
-/// Whether a step that answered so and left SP at `sp` ends a frame of this slot: it is a return
-/// from the slot, it is a call with a slot at or above it, or it leaves SP above it.
+/// Whether a step that reported `answer` and left SP at `sp` ends a frame of this slot: it is a
+/// return from the slot, a call with a slot at or above it, or it leaves SP above it.
 #[inline]
 pub fn is_ended(answer: Stepped, sp: u16, slot: u16) -> bool
     ensures { result ≡ ended_by answer sp slot }
@@ -146,7 +139,7 @@ fn returns_from_above(answer: Stepped, slot: u16) -> bool
 }
 
 // Since slots fall, the frames that a step ends are the newest ones: those below SP after it, and those that
-// a call covers. A return ends the frame of its slot too. That one lies among frames that stay only where SP
+// a call covers. A return also ends the frame of its slot. This one lies among frames that stay only if SP
 // was changed by hand and wraps: a return from FFFEh or FFFFh leaves SP at 0 or 1.
 #[inline]
 fn drop_ended(frames: &mut Vec<Frame>, answer: Stepped, sp: u16)
@@ -167,8 +160,8 @@ fn drop_ended(frames: &mut Vec<Frame>, answer: Stepped, sp: u16)
     }
 }
 
-// The same, wherever the frames that are ended lie. It stands apart, so that the usual way is one comparison
-// with the newest slot.
+// The same, wherever the ended frames are. It is a function of its own, so that the usual path is one
+// comparison with the newest slot.
 #[cold]
 #[inline(never)]
 fn drop_among(frames: &mut Vec<Frame>, answer: Stepped, sp: u16)

@@ -4,7 +4,7 @@ use Rattle.std.specs.Prelude.{◌≡◌, ℕ, List, Bool, true, false, slice_ind
 abbrev pub has : List Bool → ℕ → Bool
 has members address = slice_index_or members address false
 
--- none is in it
+-- no address is in it
 abbrev pub IsEmpty : List Bool → Type 0
 IsEmpty members = (address : ℕ) → has members address ≡ false
 

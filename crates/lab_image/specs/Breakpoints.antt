@@ -10,12 +10,12 @@ use Rattle.lab_image.specs.Addresses.{has}
 
 -- ---- the lists
 
--- the list of a source, where it has a line
+-- the list of a source, if it has a line
 abbrev pub list_of : ℕ → List ℕ → List BreakpointList
 list_of source [] = []
 list_of source (line ∷ lines) = record { source = source; lines = line ∷ lines } ∷ []
 
--- A source is given its lines: its list keeps its place, a new one goes last, an empty one goes.
+-- A source is given its lines: its list keeps its place, a new one comes last, an empty one is removed.
 abbrev pub with_lines : ℕ → List ℕ → List BreakpointList → List BreakpointList
 with_lines source lines [] = list_of source lines
 with_lines source lines (l ∷ ls) =

@@ -33,20 +33,20 @@ told_by address source row =
 abbrev pub told_in : ℕ → Load → List Origin
 told_in address load = filter_map (told_by address load.source) load.rows
 
--- the last that all loads give an address
+-- the last origin that all loads give an address
 abbrev pub origin_of : List Load → ℕ → Option Origin
 origin_of loads address = last_or None (flat_map (told_in address) loads)
 
 -- ---- what is kept
 
--- the new spans give an address the last that these rows of a source give it, or else its old origin
+-- the new spans give an address the last origin that these rows of a source give it, or else its old one
 abbrev pub Tells : ℕ → List Row → List Span → List Span → Type 0
 Tells source rows old new =
     (address : ℕ) → address < 65536
     → origin_in new address
     ≡ last_or (origin_in old address) (told_in address (record { source = source; rows = rows }))
 
--- the rows in front of the later ones are told, at least one where there are later ones
+-- the rows before the later ones are told, at least one if there are later ones
 pub record Fronts (source : ℕ) (rows later : List Row) (old new : List Span) : Type 0 where
   pub done : List Row
   pub whole : rows ≡ done ++ later
@@ -59,6 +59,6 @@ abbrev pub StandsFor : List Span → List Load → Type 0
 StandsFor spans loads =
     (address : ℕ) → address < 65536 → origin_in spans address ≡ origin_of loads address
 
--- whatever was loaded before, this load follows it
+-- whatever was loaded before, this load comes after it
 abbrev pub Appends : Load → List Span → List Span → Type 0
 Appends load old new = (loads : List Load) → StandsFor old loads → StandsFor new (loads ++ load ∷ [])

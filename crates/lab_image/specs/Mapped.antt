@@ -13,7 +13,7 @@ mapped_by address None = []
 mapped_by address (Some o) =
     if o.is_first then (record { address = address; source = o.source; line = o.line } ∷ []) else []
 
--- What these loads map: of each address one, with its origin, if it is the first of its statement.
+-- What these loads map: each address once, with its origin, if its byte is the first of its statement.
 abbrev pub AreMapped : List Load → List MappedAddress → Type 0
 AreMapped loads all =
     (address : ℕ) → address < 65536
@@ -21,7 +21,7 @@ AreMapped loads all =
 
 -- ---- what is kept
 
--- where a row began, if the span still has that address
+-- the address of a row, if the span still has it
 abbrev pub first_of : Span → Option MappedAddress
 first_of r =
     if lies_in r r.start then Some (record { address = r.start; source = r.source; line = r.line }) else None

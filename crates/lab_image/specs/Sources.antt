@@ -7,7 +7,7 @@ use Rattle.lab_image.specs.declared.sources.Source.{Source}
 use Rattle.lab_image.specs.declared.sources.SourceFault.{SourceFault}
 use Rattle.lab_image.specs.declared.sources.SourceFault.TheVariants.{NameTaken, Full}
 
--- the number of the source with this path, where the first one has number n, and its text
+-- the number of the source with this path, and its text; the first source has number n
 unfoldable pub source_from : ℕ → List Source → List ℕ → Option (ℕ × List ℕ)
 source_from n [] path = None
 source_from n (s ∷ ss) path =
@@ -21,7 +21,7 @@ abbrev pub with_text : List ℕ → Option (ℕ × List ℕ) → ℕ → Result 
 with_text text (Some (n, kept)) count = if bytes_eq kept text then Ok (Some n) else Err NameTaken
 with_text text None count = if nat_lt count 1024 then Ok None else Err Full
 
--- Whether a source may be kept: it is there already, under its number, or it is new and has room.
+-- Whether a source may be kept: it is there already, under its number, or it is new and there is room.
 abbrev pub place_of : Source → List Source → Result (Option ℕ) SourceFault
 place_of s sources = with_text s.text (source_at sources s.path) (length sources)
 

@@ -28,7 +28,7 @@ origin_in (r ∷ rs) address =
 abbrev pub no_span : Span
 no_span = record { from = 0; to = 0; start = 0; source = 0; line = 0 }
 
--- so many spans end by an address, and the others beyond it
+-- that many spans end at or below an address, and the others above it
 pub record EndBy (spans : List Span) (address count : ℕ) : Type 0 where
   pub within : count ≤ length spans
   pub ended : (i : ℕ) → i < count → (slice_index_or spans i no_span).to ≤ address
@@ -58,6 +58,6 @@ whole_span source row = record {
   line = row.line;
 }
 
--- a row has a span where it gives bytes
+-- a row has a span if it gives bytes
 abbrev pub span_of : ℕ → Row → Option Span
 span_of source row = if row.length == 0 then None else Some (whole_span source row)

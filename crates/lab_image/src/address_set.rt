@@ -5,11 +5,11 @@ ghost use Rattle.lab_image.specs.Addresses.{IsEmpty};
 use std::alloc::{AllocError, Global};
 use std::marker::Model;
 
-/// How many addresses there are.
+/// The number of addresses.
 const ADDRESS_COUNT: usize = 65_536;
 
-/// A set of addresses: whether each is in it. One byte for each is looked up faster than one bit, which matters since
-/// a slice looks after each step.
+/// A set of addresses: whether each is in it. One byte for each is looked up faster than one bit, which
+/// matters since a slice looks after each step.
 #[derive(Drop)]
 pub struct AddressSet {
     members: Vec<bool>,
@@ -31,7 +31,7 @@ impl Model for AddressSet {
 impl AddressSet {
     ghost use Rattle.lab_image.specs.Addresses.{has, TellsEmpty};
 
-    /// No address.
+    /// The empty set.
     pub fn new(alloc: Global) -> Result<AddressSet, AllocError>
         ensures { IfOk result (λ set. (a : ℕ) → has set a ≡ false) }
     {
@@ -66,7 +66,7 @@ impl AddressSet {
         self.is_empty = false;
     }
 
-    /// Takes out each address.
+    /// Removes all addresses.
     pub fn clear(&mut self)
         ensures { (a : ℕ) → has self.new a ≡ false }
     {
@@ -75,7 +75,7 @@ impl AddressSet {
     }
 }
 
-// A set of so many addresses, with none in it.
+// That many entries, all of them false.
 fn none(alloc: Global, count: usize) -> Result<Vec<bool>, AllocError>
     ensures count { IfOk result (λ members. length members.items ≡ count) }
     ensures empty { IfOk result (λ members. IsEmpty members.items) }
@@ -83,7 +83,7 @@ fn none(alloc: Global, count: usize) -> Result<Vec<bool>, AllocError>
     vec![in alloc; false; count]
 }
 
-// Takes out each.
+// Makes all entries false.
 fn take_out(members: &mut [bool])
     ensures { IsEmpty members.new }
 {

@@ -14,8 +14,8 @@ use std::marker::Model;
 
 /// The breakpoints, and the addresses at which they are met.
 ///
-/// Each source is named by a number, as in the loads. `set` and `refresh` go over the statements in
-/// memory once, and look for the source of each among the lists.
+/// Sources are numbered as in the loads. `set` and `refresh` go over the statements in memory once,
+/// and search the lists for the source of each.
 #[derive(Drop)]
 pub struct Breakpoints {
     lists: Vec<BreakpointList>,
@@ -34,7 +34,7 @@ impl Model for Breakpoints {
 impl Breakpoints {
     ghost use Rattle.lab_image.specs.Breakpoints.{with_lines, is_set, CanBeMet, StandsFor};
 
-    /// No breakpoint. The room that the addresses need is made here.
+    /// No breakpoints. Allocates the room that the addresses need.
     pub fn new(alloc: Global) -> Result<Breakpoints, AllocError>
         ensures lists { IfOk result (λ b. b.lists ≡ []) }
         ensures stands { IfOk result (λ b. (loads : List Load) → StandsFor b loads) }
@@ -47,8 +47,8 @@ impl Breakpoints {
         })
     }
 
-    /// The sources that have breakpoints, each with its lines, in the order in which each last got
-    /// its first ones.
+    /// The sources that have breakpoints, each with its lines. A source stands behind those that had
+    /// breakpoints when it last got its first ones.
     pub fn lists(&self) -> &[BreakpointList]
         ensures { result.now ≡ self.now.lists }
     {
@@ -73,7 +73,7 @@ impl Breakpoints {
         !self.addresses.is_empty()
     }
 
-    /// Gives a source these lines in place of those that it had, also no line.
+    /// Replaces the lines of a source by these, which may be none.
     pub fn set(&mut self, source: u32, lines: &[u32], origins: &Origins) -> Result<(), AllocError>
         ensures lists { OnOk result (self.new.lists ≡ with_lines source lines.now self.old.lists) }
         ensures stands { OnOk result ((loads : List Load) → image.StandsFor origins.now loads
@@ -85,7 +85,7 @@ impl Breakpoints {
         Ok(())
     }
 
-    /// Finds anew where breakpoints are met, after a load.
+    /// Finds out again where breakpoints are met, after a load.
     pub fn refresh(&mut self, origins: &Origins)
         ensures lists { self.new.lists ≡ self.old.lists }
         ensures stands { (loads : List Load) → image.StandsFor origins.now loads
@@ -94,7 +94,7 @@ impl Breakpoints {
         mark(&mut self.addresses, &self.lists, origins);
     }
 
-    /// Takes all breakpoints away.
+    /// Removes all breakpoints.
     pub fn clear(&mut self)
         ensures lists { self.new.lists ≡ [] }
         ensures stands { (loads : List Load) → StandsFor self.new loads }

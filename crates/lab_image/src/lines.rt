@@ -1,8 +1,8 @@
-//! How many lines a text has.
+//! The number of lines of a text.
 ghost use Rattle.std.specs.Prelude.{◌≡◌};
 ghost use Rattle.lab_image.specs.Sources.{line_count};
 
-/// How many lines a text has: one more than it has LFs.
+/// The number of lines of a text: one more than it has LFs.
 #[tactic(auto, using(crate::proofs::LineLemmas::one_more, crate::proofs::LineLemmas::all_lines))]
 pub fn line_count(text: &str) -> usize
     ensures { result ≡ line_count text.now }

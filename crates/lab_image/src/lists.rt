@@ -11,7 +11,7 @@ use std::alloc::{AllocError, Global};
 pub struct BreakpointList {
     /// The number of the source.
     pub source: u32,
-    /// Its lines, from 1, as they were set: also repeated ones and those that the text doesn't have.
+    /// Its lines, from 1, as they were set: also repeated ones, and ones that the text doesn't have.
     pub lines: Sequence<u32>,
 }
 
@@ -26,14 +26,14 @@ fn list_of(alloc: Global, source: u32, lines: &[u32]) -> Result<BreakpointList, 
     })
 }
 
-// The place of a source's list, if it has one.
+// The index of a source's list, if it has one.
 fn place_of(lists: &[BreakpointList], source: u32) -> Option<usize>
     ensures { result ≡ position (λ l. l.source == source) lists.now }
 {
     lists.iter().position(|list| list.source == source)
 }
 
-/// Gives a source these lines: its list keeps its place, a new one goes last, an empty one goes.
+/// Gives a source these lines: its list keeps its index, a new one comes last, an empty one is removed.
 pub(crate) fn set_lines(
     alloc: Global,
     lists: &mut Vec<BreakpointList>,

@@ -16,8 +16,8 @@ pub struct MappedAddress {
     pub line: usize,
 }
 
-/// A walk over mapped addresses, seen as the list of those that are left.
-/// It takes no memory, and looks at each span of addresses once.
+/// An iterator over mapped addresses, seen as the list of those that are left.
+/// It allocates nothing, and looks at each span of addresses once.
 #[derive(Drop)]
 pub struct MappedAddresses<'a> {
     spans: &'a [Span],
@@ -34,7 +34,7 @@ impl<'a> Model for MappedAddresses<'a> {
 }
 
 impl<'a> MappedAddresses<'a> {
-    /// A walk over the mapped addresses of these spans.
+    /// An iterator over the mapped addresses of these spans.
     pub(crate) fn new(spans: &'a [Span]) -> MappedAddresses<'a>
         ensures { result ≡ firsts_of spans.now }
     {
@@ -56,7 +56,7 @@ impl<'a> Iterator for MappedAddresses<'a> {
     }
 }
 
-// The first address that these spans map, and the spans behind its own.
+// The first address that these spans map, and the spans after its own.
 fn next_mapped(spans: &[Span]) -> Option<(MappedAddress, &[Span])>
     ensures { MatchOption result (firsts_of spans.now ≡ [])
         (λ next. firsts_of spans.now ≡ next.0 ∷ firsts_of next.1.now) }

@@ -33,7 +33,7 @@ impl Origins {
     ghost use Rattle.lab_image.specs.Loads.{Load, load_of, origin_of, StandsFor, Appends};
     ghost use Rattle.lab_image.specs.Mapped.{AreMapped};
 
-    /// Before any load: no address has an origin.
+    /// The origins before any load: no address has one.
     pub fn new(alloc: Global) -> Origins
         ensures { StandsFor result [] }
     {
@@ -43,10 +43,10 @@ impl Origins {
         }
     }
 
-    /// Writes the bytes that a cell gives to the machine, in order, and takes its rows as origins.
+    /// Writes the bytes of a cell to the machine, in order, and takes its rows as origins.
     ///
-    /// The caller numbers the sources. A row covers its address and those after it, as many as it
-    /// has bytes, up to FFFFH. An address that no row covers keeps the origin that it had.
+    /// The caller numbers the sources. A row covers as many addresses as it has bytes, from its own on,
+    /// up to FFFFH. An address that no row covers keeps the origin that it had.
     pub fn load(
         &mut self,
         machine: &mut Machine,

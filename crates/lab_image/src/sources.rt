@@ -17,7 +17,7 @@ pub enum SourceFault {
     /// The path is kept with another text.
     #[error("the path has another text")]
     NameTaken,
-    /// As many texts are kept as may be, and this path isn't among them.
+    /// The path is new, and 1,024 texts are kept already.
     #[error("there are 1,024 sources")]
     Full,
 }
@@ -42,7 +42,7 @@ impl Source {
     }
 }
 
-/// The texts that are kept, seen as a list in order of their numbers, which count from 0.
+/// The texts that are kept, seen as a list in the order of their numbers, which count from 0.
 #[derive(Drop)]
 pub struct Sources {
     sources: Vec<Source>,
@@ -56,14 +56,14 @@ impl Model for Sources {
 
     ghost view = { λ s. s.sources.items };
 
-    // Room for all is made at the start.
+    // There is room for all from the start.
     ghost invariant = { λ s. (length s.sources.items ≤ 1024) × (1024 ≤ vec_capacity s.sources) };
 }
 
 impl Sources {
     ghost use Rattle.lab_image.specs.Sources.{place_of, number_at};
 
-    /// No text, with room for as many as may be kept.
+    /// No texts, with room for `MOST_SOURCES`.
     pub fn new(alloc: Global) -> Result<Sources, AllocError>
         ensures { IfOk result (λ sources. sources ≡ []) }
     {
@@ -71,14 +71,14 @@ impl Sources {
         Ok(Sources { sources })
     }
 
-    /// How many there are.
+    /// The number of texts.
     pub fn len(&self) -> usize
         ensures { result ≡ length self.now }
     {
         self.sources.len()
     }
 
-    /// The number of a text that is kept already, or none where it is new and may be kept.
+    /// The number of a text that is kept already, or `None` if it is new and there is room for it.
     pub fn place(&self, path: &str, text: &str) -> Result<Option<usize>, SourceFault>
         ensures place { result ≡ place_of (record { path = path.now; text = text.now }) self.now }
         ensures few { IfOk result (λ place. number_at place self.now < 1024) }

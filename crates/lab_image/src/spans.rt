@@ -9,23 +9,23 @@ use asm_build::built::Row;
 use i80_rows::memory::MEMORY_SIZE;
 use std::alloc::{AllocError, Global};
 
-/// How many addresses there are.
+/// The number of addresses.
 const ADDRESSES: u32 = MEMORY_SIZE as u32;
 
-/// Addresses of a row that follow each other.
+/// Consecutive addresses of a row.
 #[derive(Clone, Copy)]
 pub(crate) struct Span {
     /// The first of them.
     pub(crate) from: u32,
     /// One more than the last of them.
     pub(crate) to: u32,
-    /// Where the row began, which a cut leaves as it is.
+    /// The address of the row, which stays when the span is cut.
     pub(crate) start: u16,
     pub(crate) source: u32,
     pub(crate) line: usize,
 }
 
-// How many spans end by an address, so that they lie below it.
+// The number of spans that end at or below an address.
 fn count_ended(spans: &[Span], address: u32) -> usize
     requires { AreSpans 0 spans.now 65536 }
     ensures { EndBy spans.now address result }
@@ -172,7 +172,7 @@ fn put_row(alloc: Global, spans: &mut Vec<Span>, source: u32, row: &Row) -> Resu
     }
 }
 
-// Puts the rows in front, as long as each lies behind those before it. Answers how many these are.
+// Puts the rows at the front, as long as each lies behind those before it. Returns how many these are.
 fn put_in_order(
     alloc: Global,
     spans: &mut Vec<Span>,
@@ -194,7 +194,7 @@ fn put_in_order(
     Ok(rows.len())
 }
 
-// Puts the rows in front that come in order, and the one after them. Answers the rows after these.
+// Puts the rows at the front that come in order, and the one after them. Returns the rows after these.
 fn put_front<'a>(
     alloc: Global,
     spans: &mut Vec<Span>,
@@ -230,8 +230,8 @@ fn overlaid_twice(
 
 /// The spans of the rows of a source, put in order.
 ///
-/// Rows in the order of their addresses are put one by one. Of others, the later half goes over the
-/// earlier one, so that none is copied more often than the rows can be halved.
+/// Rows in the order of their addresses are put one by one. Of the others, the later half is laid over
+/// the earlier one, so that no row is copied more often than the rows can be halved.
 pub(crate) fn spans_of_rows(
     alloc: Global,
     source: u32,

@@ -5,13 +5,13 @@ use base_text::text::Text;
 /// A frame of the run.
 #[derive(Clone, Drop)]
 pub struct StackFrame {
-    /// 1 for the innermost, and one more for each that is further out.
+    /// 1 for the innermost frame, and one more for each further out.
     pub id: u32,
     /// The routine: its first label, or its address as `hhhhH`; `main` for the outermost frame.
     pub name: Text,
-    /// The path of the text that the byte at the address was loaded from, where it was.
+    /// The path of the text that the byte at the address was loaded from, if it was.
     pub source: Option<Text>,
-    /// The line in that text, from 1; 0 where there is none.
+    /// The line in that text, from 1; 0 without a text.
     pub line: usize,
     /// PC for the innermost frame, and the call's address for the others.
     pub address: u16,
@@ -30,7 +30,7 @@ pub struct CodeLine {
     pub address: u16,
     /// The bytes that it shows, 1 to 3.
     pub bytes: Bytes,
-    /// An instruction, as `MVI A,06CH`, or a byte that is none, as `DB 008H`.
+    /// An instruction, as `MVI A,06CH`, or a byte that is no instruction, as `DB 008H`.
     pub text: Text,
 }
 
@@ -51,7 +51,7 @@ pub struct SourceBreakpoints {
 /// What a board shows.
 #[derive(Drop)]
 pub enum Shown {
-    /// Some of the frames, innermost first, and how many there are in all.
+    /// Some of the frames, innermost first, and the number of all.
     Frames {
         frames: Sequence<StackFrame>,
         total: u32,

@@ -23,12 +23,12 @@ line_at m address = record {
 abbrev pub next_address : MachineState → ℕ → ℕ
 next_address m address = wrapped (address + line_length m address)
 
--- so many lines from an address on
+-- that many lines from an address on
 unfoldable pub lines_from : MachineState → ℕ → ℕ → List CodeLine
 lines_from m address zero = []
 lines_from m address (suc count) = line_at m address ∷ lines_from m (next_address m address) count
 
--- the address after so many
+-- the address after that many
 unfoldable pub after_instructions : MachineState → ℕ → ℕ → ℕ
 after_instructions m address zero = address
 after_instructions m address (suc count) = after_instructions m (next_address m address) count

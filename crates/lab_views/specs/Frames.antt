@@ -24,7 +24,7 @@ is_label Set = false
 abbrev pub labels : ℕ → List ℕ × Symbol → Bool
 labels address e = is_label e.1.kind && e.1.value == address
 
--- the first label that stands for an address, in order of definition
+-- the first label with an address, in order of definition
 abbrev pub label_of : Entries → ℕ → Option (List ℕ)
 label_of symbols address = option_map (λ e. e.0) (find (labels address) symbols)
 

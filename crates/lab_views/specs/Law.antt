@@ -1,6 +1,6 @@
 -- What the scopes show after a change by hand.
-use Rattle.std.specs.Prelude.{◌≡◌, ◌≤◌, ◌<◌, ◌+◌, ℕ, List, map, length, Contains, Result, Ok, Err, IsOkAnd}
-use Rattle.std.specs.Prelude.{if◌then◌else◌}
+use Rattle.std.specs.Prelude.{◌≡◌, ◌≢◌, ◌≤◌, ◌<◌, ◌+◌, ℕ, List, map, length, Contains}
+use Rattle.std.specs.Prelude.{Result, Ok, Err, IsOkAnd, if◌then◌else◌}
 use Rattle.std.specs.Str.{bytes_eq}
 use Rattle.i80_exec.specs.State.{MachineState}
 use Rattle.lab_shown.specs.declared.shown.Variable.{Variable}
@@ -56,3 +56,12 @@ abbrev pub ShowsTheSame : Parts → ℕ → Place → ℕ → Type 0
 ShowsTheSame p reference place value = (start count : ℕ)
     → variables_of (parts_changed_at place value p) reference start count
     ≡ variables_of p reference start count
+
+-- ---- together
+
+-- A place of this scope gets a value: the scope shows it in the place's row, and its other rows as before;
+-- the other scopes show what they showed.
+pub record ShowsChange (p : Parts) (reference : ℕ) (at : Place) (value : ℕ) : Type 0 where
+  pub rows : IsWhole p.machine → ShowsValue p reference at value
+  pub row : IsWhole p.machine → HasRow p reference at value
+  pub others : (other : ℕ) → other ≢ reference → ShowsTheSame p other at value

@@ -1,4 +1,4 @@
--- The parts of a board that views are of, and what the code has of them.
+-- The parts of a board that views show, and what the code has of them.
 use Rattle.std.specs.Prelude.{◌≡◌, List, Bool}
 use Rattle.i80_exec.specs.State.{MachineState}
 use Rattle.i80_devs.specs.Past.{Operation}

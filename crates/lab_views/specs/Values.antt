@@ -19,7 +19,7 @@ abbrev pub begins_with_digit : List ℕ → Bool
 begins_with_digit [] = false
 begins_with_digit (c ∷ cs) = is_ascii_digit c
 
--- the number that a text is to the assembler
+-- the number that the assembler reads from a text
 abbrev pub number_spelled : List ℕ → Option ℕ
 number_spelled text = if begins_with_digit text then number_of text else None
 

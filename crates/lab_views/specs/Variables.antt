@@ -82,7 +82,7 @@ symbol_variables symbols = map symbol_variable symbols
 abbrev pub memory_variable : MachineState → ℕ → Variable
 memory_variable m address = variable (upper_word address) (byte_text (byte_at m address))
 
--- so many bytes from an address on, but none past the last address
+-- that many bytes from an address on, but none past the last address
 abbrev pub memory_variables : MachineState → ℕ → ℕ → List Variable
 memory_variables m start count = map (memory_variable m) (range_with_len start (min count (65536 - start)))
 

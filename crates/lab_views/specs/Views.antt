@@ -59,9 +59,9 @@ view_of (view.Code address count) p = code_shown p address count
 view_of (view.Source path) p = source_shown p path
 view_of view.Info p = info_shown p
 
--- ---- what the code answers
+-- ---- what the code returns
 
--- out of memory may come only where the view isn't refused
+-- the code runs out of memory only if the view isn't refused
 abbrev pub Fails : ViewFault → Result Shown ViewFault → Type 0
 Fails OutOfMemory given = IsOk given
 Fails NotStopped given = given ≡ Err NotStopped
@@ -69,7 +69,7 @@ Fails BadFrame given = given ≡ Err BadFrame
 Fails BadReference given = given ≡ Err BadReference
 Fails NoSource given = given ≡ Err NoSource
 
--- it answers what is shown, the refusal, or out of memory
+-- it returns what is shown, the refusal, or out of memory
 abbrev pub Answers : Result Shown ViewFault → Result Shown ViewFault → Type 0
 Answers (Ok s) given = given ≡ Ok s
 Answers (Err fault) given = Fails fault given

@@ -10,7 +10,7 @@ use i80_rows::decoding::decode;
 use lab_shown::shown::CodeLine;
 use std::alloc::{AllocError, Global};
 
-/// The bytes from an address on, as many as the longest instruction has.
+/// The three bytes from an address on, which is what the longest instruction has.
 fn bytes_at(machine: &Machine, address: u16) -> [u8; 3]
     ensures { result ≡ code.bytes_at machine.now address }
 {
@@ -47,7 +47,7 @@ fn code_line(alloc: Global, machine: &Machine, address: u16) -> Result<CodeLine,
     })
 }
 
-/// So many lines from an address on.
+/// That many lines from an address on.
 pub(crate) fn lines(
     alloc: Global,
     machine: &Machine,
@@ -66,7 +66,7 @@ pub(crate) fn lines(
     Ok(lines)
 }
 
-/// The address after so many instructions, as the lines of a listing count them.
+/// The address after that many instructions, which are counted as lines of a listing.
 pub(crate) fn after(machine: &Machine, address: u16, count: u16) -> u16
     ensures { result ≡ code.after_instructions machine.now address count }
 {

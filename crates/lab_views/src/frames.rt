@@ -18,7 +18,7 @@ use lab_image::sources::Sources;
 use lab_shown::shown::StackFrame;
 use std::alloc::{AllocError, Global};
 
-/// The most frames of an answer.
+/// The most frames that are shown at once.
 const MOST_FRAMES: u32 = 64;
 
 fn is_label(kind: SymbolKind) -> bool
@@ -37,7 +37,7 @@ fn labels(address: u16, symbol: Symbol) -> bool
     is_label(symbol.kind) && symbol.value == address
 }
 
-/// The name and the symbol at a place, from 0.
+/// The name and the symbol at an index.
 pub(crate) fn symbol_at(symbols: &Symbols, index: usize) -> (&str, Symbol)
     requires { index < length symbols.now }
     ensures { slice_get symbols.now index ≡ Some (result.0.now, result.1) }
@@ -48,7 +48,7 @@ pub(crate) fn symbol_at(symbols: &Symbols, index: usize) -> (&str, Symbol)
     }
 }
 
-/// The first label that stands for an address.
+/// The first label with an address.
 fn label_of(symbols: &Symbols, address: u16) -> Option<&str>
     ensures { option_map (λ name. name.now) result ≡ frames.label_of symbols.now address }
 {
@@ -128,7 +128,7 @@ fn frame_at(
     }
 }
 
-/// Where a frame stands, by its place.
+/// The address at which a frame stands, by its index.
 fn address_of(parts: &Parts, index: usize) -> u16
     requires { index ≤ length parts.now.frames.now }
     ensures { slice_get (parts.now.machine.now.regs.pc
@@ -154,7 +154,7 @@ fn name_of(alloc: Global, parts: &Parts, index: usize) -> Result<Text, AllocErro
     }
 }
 
-/// A frame by its place, from 0 for the innermost to the number of live frames.
+/// A frame by its index, from 0 for the innermost to the number of live frames.
 fn frame(alloc: Global, parts: &Parts, index: usize) -> Result<StackFrame, AllocError>
     requires inside { index ≤ length parts.now.frames.now }
     requires few { index ≤ 65536 }
@@ -168,14 +168,14 @@ fn frame(alloc: Global, parts: &Parts, index: usize) -> Result<StackFrame, Alloc
     Ok(frame)
 }
 
-/// How many frames there are.
+/// The number of frames.
 pub(crate) fn frame_count(parts: &Parts) -> u32
     ensures { result ≡ length parts.now.frames.now + 1 }
 {
     parts.frames.len() as u32 + 1
 }
 
-/// The frames from one on, where 0 is the innermost: at most 64, which no levels mean too.
+/// The frames from one on, where 0 is the innermost: at most `levels`, and at most 64. 0 levels mean 64.
 pub(crate) fn frames(
     alloc: Global,
     parts: &Parts,

@@ -1,5 +1,5 @@
 //! Laws of the definitions.
-ghost use Rattle.std.specs.Prelude.{◌≡◌, ◌≢◌, ◌≤◌, ◌<◌, ℕ, List, All, map, Ok};
+ghost use Rattle.std.specs.Prelude.{◌≡◌, ◌≤◌, ◌<◌, ℕ, List, All, map, Ok};
 ghost use Rattle.std.specs.Char.{to_ascii_uppercase};
 ghost use Rattle.base_text.specs.Hexadecimal.{upper_word};
 ghost use Rattle.lab_views.specs.Parts.{Parts};
@@ -7,21 +7,14 @@ ghost use Rattle.lab_views.specs.declared.place.Place.{Place};
 ghost use Rattle.lab_views.specs.declared.place.Place.TheVariants.{Memory};
 ghost use Rattle.lab_views.specs.Places.{registers, shown_name, place_named};
 ghost use Rattle.lab_views.specs.Values.{largest_at, text_at, value_spelled};
-ghost use Rattle.lab_views.specs.Law.{IsWhole, ShowsValue, HasRow, ShowsTheSame};
+ghost use Rattle.lab_views.specs.Law.{ShowsChange};
 
-/// After a change by hand, the scope in which the place was found shows the value in the place's row, where
-/// that is among the rows that are asked for, and all its other rows as before; each other scope shows what
-/// it showed.
+/// After a change by hand, the scope in which the place was found shows the value in the place's row, if
+/// that is among the rows that are asked for, and all its other rows as before. All other scopes show what
+/// they showed.
 pub fn change_is_shown()
-    ensures rows { (p : Parts) (reference : ℕ) (name : List ℕ) (place : Place) (value : ℕ)
-        → IsWhole p.machine → place_named reference name ≡ Ok place
-        → ShowsValue p reference place value }
-    ensures row { (p : Parts) (reference : ℕ) (name : List ℕ) (place : Place) (value : ℕ)
-        → IsWhole p.machine → place_named reference name ≡ Ok place
-        → HasRow p reference place value }
-    ensures others { (p : Parts) (reference other : ℕ) (name : List ℕ) (place : Place) (value : ℕ)
-        → place_named reference name ≡ Ok place → other ≢ reference
-        → ShowsTheSame p other place value }
+    ensures { (p : Parts) (reference : ℕ) (name : List ℕ) (place : Place) (value : ℕ)
+        → place_named reference name ≡ Ok place → ShowsChange p reference place value }
 {}
 
 /// A name finds the place that is shown under it, with its digits in upper case; and each register, and the

@@ -1,4 +1,4 @@
-//! The parts of a board that views are of.
+//! The parts of a board that views show.
 
 use asm_build::symbols::Symbols;
 use i80_devs::devices::Devices;

@@ -47,11 +47,11 @@ fn byte_of(name: &str) -> Option<Place>
     }
 }
 
-/// The place of a name in a scope, which the view of its variables has as its reference: 1, where a register
-/// has the name under which it is shown; or 5, where a byte of memory has its address as four hexadecimal
-/// digits, in either case.
+/// The place of a name in a scope, which is given by its reference, as in the view of its variables. In scope
+/// 1 a register has the name under which it is shown; in scope 5 a byte of memory has its address as four
+/// hexadecimal digits, in either case.
 ///
-/// Any other scope is refused with `BadReference`, and in these two any other name with `UnknownName`.
+/// Fails with `BadReference` for any other scope, and with `UnknownName` for any other name in these two.
 pub fn place_of(reference: u32, name: &str) -> Result<Place, PokeFault>
     ensures { result ≡ place_named reference name.now }
 {

@@ -10,7 +10,7 @@ pub enum PokeFault {
     BadReference,
     /// The scope has no place of this name.
     UnknownName,
-    /// The text is no number of the assembler, or one that the place doesn't hold.
+    /// The text is no number of the assembler, or one that doesn't fit the place.
     BadValue,
 }
 

@@ -11,7 +11,7 @@ use base_text::text::Text;
 use i80_dis::numeral::{push_byte, push_word};
 use std::alloc::{AllocError, Global};
 
-/// The number that a text is to the assembler, which takes a word that begins with a digit for one.
+/// The number that the assembler reads from a text. It must begin with a digit.
 fn read_number(text: &[u8]) -> Option<u16>
     ensures { result ≡ number_spelled text.now }
 {
@@ -31,7 +31,7 @@ fn largest(place: Place) -> u16
 }
 
 /// The value that a text gives a place: a number as the assembler reads them, which begins with a digit from
-/// 0 to 9; at most 65,535 for SP and PC, and 255 for the others. Any other text is refused with `BadValue`.
+/// 0 to 9; at most 65,535 for SP and PC, and 255 for the others. Fails with `BadValue` for any other text.
 pub fn value_of(place: Place, text: &str) -> Result<u16, PokeFault>
     ensures value { result ≡ value_spelled place text.now }
     ensures fits { IfOk result (λ value. value ≤ largest_at place) }
@@ -42,7 +42,7 @@ pub fn value_of(place: Place, text: &str) -> Result<u16, PokeFault>
     }
 }
 
-/// The text of a value as the view of its scope shows it at a place: `0hhhhH` for SP and PC, and else `0hhH`.
+/// The text by which a view shows a value at a place: `0hhhhH` for SP and PC, and `0hhH` for the others.
 pub fn text_of(alloc: Global, place: Place, value: u16) -> Result<Text, AllocError>
     requires { value ≤ largest_at place }
     ensures { IfOk result (λ text. text ≡ text_at place value) }

@@ -20,13 +20,13 @@ use i80_rows::memory::MEMORY_SIZE;
 use lab_shown::shown::Variable;
 use std::alloc::{AllocError, Global};
 
-/// The most variables of an answer, and how many symbols are the usual count.
+/// The most variables that are shown at once, and the usual count of symbols.
 const MOST_VARIABLES: u32 = 256;
 
-/// How many addresses there are.
+/// The number of addresses.
 const ADDRESSES: u32 = MEMORY_SIZE as u32;
 
-/// How many bytes of memory are the usual count.
+/// The usual count of bytes of memory.
 const USUAL_BYTES: u32 = 16;
 
 // ---- values
@@ -80,7 +80,7 @@ fn latched_text(alloc: Global, latched: Option<u8>) -> Result<Text, AllocError>
     }
 }
 
-// ---- one variable more
+// ---- one more variable
 
 fn push(
     alloc: Global,

@@ -21,13 +21,13 @@ use i80_exec::machine::Machine;
 use lab_shown::shown::{Shown, Variable};
 use std::alloc::{AllocError, Global};
 
-/// The most lines of disassembly of an answer.
+/// The most lines of disassembly that are shown at once.
 const MOST_LINES: u32 = 256;
 
 /// What a view shows.
 ///
-/// `Frames` and `Scopes` are refused with `NotStopped` where no run is stopped, and then `Scopes` with
-/// `BadFrame`; `Variables` is refused with `BadReference`, and `Source` with `NoSource`.
+/// `Frames` and `Scopes` fail with `NotStopped` if no run is stopped, and then `Scopes` with `BadFrame` if
+/// there is no such frame. `Variables` fails with `BadReference`, and `Source` with `NoSource`.
 pub fn show(alloc: Global, parts: &Parts, view: &View) -> Result<Shown, ViewFault>
     ensures { (p : BoardParts) → StandsFor parts.now p → Answers result (view_of view.now p) }
 {
@@ -45,15 +45,15 @@ pub fn show(alloc: Global, parts: &Parts, view: &View) -> Result<Shown, ViewFaul
     }
 }
 
-/// The address after so many instructions from one on, which is where the line after as many lines of
-/// a `Code` view stands. Addresses wrap after FFFFH.
+/// The address after that many instructions from an address on: where the line after as many lines of a
+/// `Code` view stands. Addresses wrap after FFFFH.
 pub fn after_instructions(machine: &Machine, address: u16, count: u16) -> u16
     ensures { result ≡ code.after_instructions machine.now address count }
 {
     code::after(machine, address, count)
 }
 
-/// What variables show, where there was memory for them.
+/// Variables as a view, or out of memory.
 fn as_shown(variables: Result<Sequence<Variable>, AllocError>) -> Result<Shown, ViewFault>
     ensures { MatchResult variables (λ v. result ≡ Ok (Shown.Variables v))
         (λ _. result ≡ Err ViewFault.OutOfMemory) }

@@ -1,4 +1,4 @@
-//! The 256 opcodes: one arm each, with its registers written into it.
+//! The 256 opcodes, each with an arm that names its registers.
 ghost use Rattle.std.specs.Prelude.{◌≡◌, ◌≢◌, ◌+◌, ◌*◌, ◌<◌, ◌≤◌, ◌⊎◌, None, true, false};
 ghost use Rattle.i80_rows.specs.Rows.{row, is_undefined, Alone, Byte, Word};
 ghost use Rattle.i80_rows.specs.AliasRows.{acts, alias_row};
@@ -10,9 +10,10 @@ ghost use Rattle.i80_exec.specs.State.{with_pc, with_interrupts};
 ghost use Rattle.i80_exec.specs.Effect.{operated, to_reg};
 ghost use Rattle.i80_exec.specs.Opcodes.{reg_at, operation_at};
 ghost use Rattle.i80_exec.specs.Step.{by_row, by_opcode, interrupts_after, answer_of, is_arming};
-ghost use Rattle.i80_exec.specs.Step.{IsOutcome, Executes, Performs, Settles};
+ghost use Rattle.i80_exec.specs.Step.{devices_by, IsOutcome, IsStepOfKind, IsAtOpcode, Executes};
+ghost use Rattle.i80_exec.specs.Step.{Performs, Settles};
 
-use crate::machine::Machine;
+use crate::machine::{Machine, reg_at};
 use crate::ports::Ports;
 use crate::registers::{Interrupts, Kind};
 use i80_rows::arithmetic::{AluResult, daa, dcr, inr, rotate};
@@ -161,19 +162,15 @@ macro_rules! groups {
 }
 
 impl Machine {
-    /// Does the instruction of this opcode, which is the one at PC.
+    /// Executes the instruction of this opcode, which is the one at PC.
     #[inline(always)]
     pub(super) fn step_opcode<P: Ports>(&mut self, opcode: u8, ports: &mut P) -> Kind
-        requires opcode { opcode ≡ byte_at self.old self.old.regs.pc }
-        requires settled { is_arming self.old.regs.interrupts ≡ false }
-        requires spare { 1 ≤ P.spare ports.old }
-        ensures outcome { let outcome = by_opcode opcode (P.answer (P.state ports.old)) self.old in
-            IsOutcome outcome self.new (answer_of result self.new)
-            × Performs outcome.operation P.after (P.operations ports.old) (P.operations ports.new)
-            (P.state ports.old) (P.state ports.new) (P.spare ports.old) (P.spare ports.new) }
-        ensures settles { Settles result self.old self.new }
+        requires { IsAtOpcode opcode self.old (P.spare ports.old) }
+        ensures { let devices = devices_by P.answer P.after P.operations P.state P.spare in
+            let outcome = by_opcode opcode (devices ports.old).input self.old in
+            IsStepOfKind result outcome (self.old, self.new) (devices ports.old) (devices ports.new) }
     {
-        // The board is looked at only here, so that a defined instruction costs nothing more for it.
+        // The board is looked at only here, so that defined instructions don't pay for it.
         let kind = self.step_strict(opcode, ports);
         if self.is_alias(kind) {
             return self.step_alias(opcode);
@@ -181,7 +178,7 @@ impl Machine {
         kind
     }
 
-    /// What a step of this kind left undone is an undefined opcode, and these act.
+    /// Whether a strict step of this kind met an undefined opcode on a board where these act.
     #[inline(always)]
     fn is_alias(&self, kind: Kind) -> bool
         ensures alias { result ≡ true → (kind ≡ Kind.Undefined) × (acts self.now.board ≡ true) }
@@ -193,24 +190,20 @@ impl Machine {
         }
     }
 
-    /// The same by the strict table.
+    /// Executes it by the strict table.
     #[inline(always)]
     fn step_strict<P: Ports>(&mut self, opcode: u8, ports: &mut P) -> Kind
-        requires opcode { opcode ≡ byte_at self.old self.old.regs.pc }
-        requires settled { is_arming self.old.regs.interrupts ≡ false }
-        requires spare { 1 ≤ P.spare ports.old }
-        ensures outcome { let outcome = by_row (row opcode) (P.answer (P.state ports.old)) self.old in
-            IsOutcome outcome self.new (answer_of result self.new)
-            × Performs outcome.operation P.after (P.operations ports.old) (P.operations ports.new)
-            (P.state ports.old) (P.state ports.new) (P.spare ports.old) (P.spare ports.new) }
-        ensures settles { Settles result self.old self.new }
+        requires { IsAtOpcode opcode self.old (P.spare ports.old) }
+        ensures { let devices = devices_by P.answer P.after P.operations P.state P.spare in
+            let outcome = by_row (row opcode) (devices ports.old).input self.old in
+            IsStepOfKind result outcome (self.old, self.new) (devices ports.old) (devices ports.new) }
     {
         self.step_in_group(opcode, ports)
     }
 
-    /// What one of the twelve opcodes does that the table leaves undefined, where they act.
+    /// Executes one of the twelve opcodes that the table leaves undefined, on a board where they act.
     #[inline(always)]
-    #[tactic(auto, unfolding(i80_rows::specs::AliasRows::alias_row), using(crate::proofs::AliasLemmas::nop_alias))]
+    #[tactic(auto, unfolding(i80_rows::specs::AliasRows::alias_row), using(crate::proofs::AliasLemmas::nop))]
     fn step_alias(&mut self, opcode: u8) -> Kind
         requires opcode { opcode ≡ byte_at self.old self.old.regs.pc }
         requires settled { is_arming self.old.regs.interrupts ≡ false }
@@ -235,11 +228,9 @@ impl Machine {
         requires settled { is_arming self.old.regs.interrupts ≡ false }
         requires output { opcode ≡ 211 }
         requires spare { 1 ≤ P.spare ports.old }
-        ensures outcome { let outcome = by_row (row opcode) (P.answer (P.state ports.old)) self.old in
-            IsOutcome outcome self.new (answer_of result self.new)
-            × Performs outcome.operation P.after (P.operations ports.old) (P.operations ports.new)
-            (P.state ports.old) (P.state ports.new) (P.spare ports.old) (P.spare ports.new) }
-        ensures settles { Settles result self.old self.new }
+        ensures { let devices = devices_by P.answer P.after P.operations P.state P.spare in
+            let outcome = by_row (row opcode) (devices ports.old).input self.old in
+            IsStepOfKind result outcome (self.old, self.new) (devices ports.old) (devices ports.new) }
     {
         let port = self.operand();
         self.advance(2);
@@ -255,11 +246,9 @@ impl Machine {
         requires settled { is_arming self.old.regs.interrupts ≡ false }
         requires input { opcode ≡ 219 }
         requires spare { 1 ≤ P.spare ports.old }
-        ensures outcome { let outcome = by_row (row opcode) (P.answer (P.state ports.old)) self.old in
-            IsOutcome outcome self.new (answer_of result self.new)
-            × Performs outcome.operation P.after (P.operations ports.old) (P.operations ports.new)
-            (P.state ports.old) (P.state ports.new) (P.spare ports.old) (P.spare ports.new) }
-        ensures settles { Settles result self.old self.new }
+        ensures { let devices = devices_by P.answer P.after P.operations P.state P.spare in
+            let outcome = by_row (row opcode) (devices ports.old).input self.old in
+            IsStepOfKind result outcome (self.old, self.new) (devices ports.old) (devices ports.new) }
     {
         let port = self.operand();
         self.advance(2);
@@ -267,18 +256,16 @@ impl Machine {
         Kind::Quiet
     }
 
-    // One match of all opcodes makes one jump table; each arm is then the one of its group. Only two arms
-    // have to do with ports.
+    // One match over all opcodes compiles to one jump table, and each of its arms to one arm of its group.
+    // Only two arms use the ports.
     #[inline(always)]
     fn step_in_group<P: Ports>(&mut self, opcode: u8, ports: &mut P) -> Kind
-        requires opcode { opcode ≡ byte_at self.old self.old.regs.pc }
-        requires settled { is_arming self.old.regs.interrupts ≡ false }
-        requires spare { 1 ≤ P.spare ports.old }
-        ensures outcome { let outcome = by_row (row opcode) (P.answer (P.state ports.old)) self.old in
+        requires { IsAtOpcode opcode self.old (P.spare ports.old) }
+        ensures outcome { let devices = devices_by P.answer P.after P.operations P.state P.spare in
+            let outcome = by_row (row opcode) (devices ports.old).input self.old in
             (Executes (row opcode) self.old self.new result × (ports.new ≡ ports.old))
             ⊎ (IsOutcome outcome self.new (answer_of result self.new)
-            × Performs outcome.operation P.after (P.operations ports.old) (P.operations ports.new)
-            (P.state ports.old) (P.state ports.new) (P.spare ports.old) (P.spare ports.new)) }
+            × Performs outcome (devices ports.old) (devices ports.new)) }
         ensures settles { Settles result self.old self.new }
     {
         groups! { self ports opcode;
@@ -343,7 +330,7 @@ impl Machine {
         self.poke(address, byte);
     }
 
-    // What an instruction does whose register, pair, condition or operation its opcode has.
+    // The instructions whose opcode names a register, a pair, a condition or an operation.
 
     /// A register, or the byte in memory at HL.
     #[inline]
@@ -633,7 +620,7 @@ impl Machine {
         }
     }
 
-    /// Does ADD to CMP, of a code of three bits, on A and a byte.
+    /// Does the operation of a three-bit code, from ADD to CMP, on A and a byte.
     #[inline]
     fn operate_by(&mut self, code: u8, byte: u8)
         requires { code < 8 }
@@ -653,7 +640,8 @@ impl Machine {
         self.operate(operation, byte);
     }
 
-    /// SBB A, which gives 0 or FF by the carry alone: the compiler sees it only where it stands by itself.
+    /// SBB A, whose result of 0 or FF depends on the carry alone. The compiler sees that only if this case
+    /// stands by itself.
     #[inline]
     fn sbb_a(&mut self)
         ensures { self.new ≡ operated Operation.Sbb self.old self.old.regs.a }
@@ -661,7 +649,7 @@ impl Machine {
         self.operate(Operation::Sbb, self.regs.a);
     }
 
-    /// MOV, whose opcode has the codes of its registers, and HLT among them.
+    /// MOV, whose opcode has the codes of its registers, and HLT, whose opcode would be `MOV M,M`.
     #[inline]
     fn step_40(&mut self, opcode: u8) -> Kind
         requires opcode { opcode ≡ byte_at self.old self.old.regs.pc }
@@ -798,27 +786,8 @@ impl Machine {
     }
 }
 
-/// The register of a code of three bits, or the byte in memory at HL.
-#[inline]
-fn reg_at(code: u8) -> Reg
-    requires { code < 8 }
-    ensures { result ≡ reg_at code }
-{
-    match code {
-        0 => Reg::B,
-        1 => Reg::C,
-        2 => Reg::D,
-        3 => Reg::E,
-        4 => Reg::H,
-        5 => Reg::L,
-        6 => Reg::M,
-        7 => Reg::A,
-        _ => unreachable!(),
-    }
-}
-
-// It is inlined: a call in the loop that makes the steps, however cold, would take from it all registers that
-// a call doesn't keep.
+// Inlined, since a call in the loop of steps, however cold, would cost the loop all registers that a call
+// doesn't preserve.
 #[inline(always)]
 fn has_aliases(board: Board) -> bool
     ensures { result ≡ acts board }

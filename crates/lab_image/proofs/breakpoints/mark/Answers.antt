@@ -4,4 +4,5 @@ use Rattle.lab_image.proofs.breakpoints.mark.Goals as goal
 pub returns : goal.returns
 returns c loads stands a within =
     rw (c.mark_among.ensures a, c.clear.ensures a)
-    (met_among c.args.lists.now loads c.mapped_addresses.result a (c.mapped_addresses.ensures loads stands) within)
+    (met_among c.args.lists.now loads c.mapped_addresses.result a (c.mapped_addresses.ensures loads stands)
+    within)

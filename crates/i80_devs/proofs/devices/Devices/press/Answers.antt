@@ -1,10 +1,16 @@
-use Rattle.std.proofs.Common.{◌∙◌, ap}
+use Rattle.std.proofs.Common.{◌∙◌, ap, rules}
 use Rattle.i80_devs.specs.Past.{DeviceState, panel_next, Press}
 use Rattle.i80_devs.proofs.PastLemmas.{next_after}
 use Rattle.i80_devs.proofs.devices.Devices.press.Goals as goal
 
-pub returns-clause-ok : goal.returns-clause-ok
-returns-clause-ok c past stands =
-    let operation = Press c.args.n in
-    next_after operation c.args.self.now.panel c.set_latched.new.self past
-    (c.set_latched.ensures ∙ ap (λ (d : DeviceState). panel_next d.panel operation) c.self.view_is) stands
+pub returns : goal.returns
+returns c = record {
+  ok = λ past stands.
+      (let operation = Press c.args.n in
+      next_after operation c.args.self.now.panel c.set_latched.new.self past
+      (c.set_latched.ensures ∙ ap (λ (d : DeviceState). panel_next d.panel operation) c.self.view_is) stands);
+  ports = search rules;
+  vector = search rules;
+  latched = search rules;
+  err = search rules;
+}

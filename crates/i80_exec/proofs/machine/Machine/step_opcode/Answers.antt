@@ -20,25 +20,26 @@ step_alias-requires-clause-undefined g c =
     c.step_strict-kind.ensures.outcome.0.answer_is in
     n.row_is
 
-pub returns-then-is_alias-clause-outcome : goal.returns-then-is_alias-clause-outcome
-returns-then-is_alias-clause-outcome g c =
+pub returns-then-is_alias : goal.returns-then-is_alias
+returns-then-is_alias g c =
     let alias = c.is_alias.ensures.alias c.if-is_alias.true in
     let o = c.step_strict-kind.ensures.outcome in
     let same = undefined_keeps c.args.opcode _ c.args.self.now _ _ alias.0 o.0 in
-    aliased c.args.opcode _ c.args.self.now _ _ _ _ _ _ _ _ _ _ _ alias.0 (rw same at alias.1) o
-    c.step_alias.ensures.outcome
+    record {
+      outcome =
+          aliased c.args.opcode c.args.self.now _ _ _ _ _ _ alias.0 (rw same at alias.1) o
+          c.step_alias.ensures.outcome;
+      settles = rw same at c.step_alias.ensures.settles;
+    }
 
-pub returns-then-is_alias-clause-settles : goal.returns-then-is_alias-clause-settles
-returns-then-is_alias-clause-settles g c =
-    let alias = c.is_alias.ensures.alias c.if-is_alias.true in
-    let same = undefined_keeps c.args.opcode _ c.args.self.now _ _ alias.0
-    c.step_strict-kind.ensures.outcome.0 in
-    rw same at c.step_alias.ensures.settles
-
-pub returns-clause-outcome : goal.returns-clause-outcome
-returns-clause-outcome g c =
+pub returns : goal.returns
+returns g c =
     let o = c.step_strict-kind.ensures.outcome in
     let strict = c.is_alias.ensures.other c.if-is_alias.false in
-    rw (row_is_strict c.args.opcode _ c.args.self.now _ _ o.0.answer_is (λ undefined.
-    (let same = undefined_keeps c.args.opcode _ c.args.self.now _ _ undefined o.0 in
-    rw same at (strict undefined)))) o
+    record {
+      outcome =
+          rw (row_is_strict c.args.opcode _ c.args.self.now _ _ o.0.answer_is (λ undefined.
+          (let same = undefined_keeps c.args.opcode _ c.args.self.now _ _ undefined o.0 in
+          rw same at (strict undefined)))) o;
+      settles = c.step_strict-kind.ensures.settles;
+    }

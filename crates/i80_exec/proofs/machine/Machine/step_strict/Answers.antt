@@ -3,10 +3,13 @@ use Rattle.i80_rows.specs.Rows.{row}
 use Rattle.i80_exec.proofs.PortLemmas.{outcome_without_port}
 use Rattle.i80_exec.proofs.machine.Machine.step_strict.Goals as goal
 
-pub returns-clause-outcome : goal.returns-clause-outcome
-returns-clause-outcome g c =
-    elim c.step_in_group.ensures.outcome [
-      | inl w ↦ outcome_without_port (row c.args.opcode) _ _ _ _ _ _ _ _ _ _ _ w.0
-          (ap g.P.Ports.operations w.1) (ap g.P.Ports.state w.1) (ap g.P.Ports.spare w.1)
-      | inr w ↦ w
-    ]
+pub returns : goal.returns
+returns g c = record {
+  outcome =
+      elim c.step_in_group.ensures.outcome [
+        | inl w ↦ outcome_without_port (row c.args.opcode) _ _ _ _ _ w.0 (ap g.P.Ports.operations w.1)
+            (ap g.P.Ports.state w.1) (ap g.P.Ports.spare w.1)
+        | inr w ↦ w
+      ];
+  settles = c.step_in_group.ensures.settles;
+}
