@@ -13,11 +13,12 @@ use Rattle.asm_syntax.specs.declared.fault.FaultKind.TheVariants as fault
 use Rattle.asm_syntax.specs.declared.statement.Operation.{Operation}
 use Rattle.asm_syntax.specs.declared.statement.Statement.{Statement}
 use Rattle.asm_syntax.specs.Outcome.{Fault, ◌>>=◌}
+use Rattle.asm_encode.specs.Bytes.{bytes_of, start_of}
 use Rattle.asm_build.specs.declared.laid.Laid.{Laid}
 use Rattle.asm_build.specs.Images.{has}
 use Rattle.asm_build.specs.Statements.{late_in}
 use Rattle.asm_build.specs.Reading.{Entries, Lines, late_value}
-use Rattle.asm_build.specs.Meaning.{Output, at_address, overlaps, with_bytes, put_bytes, bytes_of, start_of}
+use Rattle.asm_build.specs.Meaning.{Output, at_address, overlaps, with_bytes, put_bytes}
 use Rattle.asm_build.specs.Meaning.{with_operation, with_line}
 use Rattle.asm_build.specs.Refusals.{Part, TheDefinition, TheOperand, TheOperation, bytes_given, GivesByte}
 use Rattle.asm_build.specs.Refusals.{WrongInValues, StandsOn}

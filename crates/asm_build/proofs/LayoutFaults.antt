@@ -15,11 +15,13 @@ use Rattle.asm_syntax.specs.declared.statement.Operation.{Operation}
 use Rattle.asm_syntax.specs.declared.statement.Statement.{Statement}
 use Rattle.asm_syntax.specs.Outcome.{Fault, ComesBefore, ◌>>=◌}
 use Rattle.asm_syntax.proofs.FirstFaults.{fault_is}
+use Rattle.asm_encode.specs.Lengths.{length_of}
+use Rattle.asm_encode.specs.Values.{or_fault}
 use Rattle.asm_build.specs.declared.laid.Laid.{Laid}
-use Rattle.asm_build.specs.Statements.{on_action, definition_of, early_in, length_of}
+use Rattle.asm_build.specs.Statements.{on_action, definition_of, early_in}
 use Rattle.asm_build.specs.Reading.{Entries, Lines, early_value, place_after, parts_after, has_ended}
 use Rattle.asm_build.specs.Reading.{is_selected, Fits}
-use Rattle.asm_build.specs.Layout.{past, check_definition, or_fault, early, within, lay_statement, laid_out}
+use Rattle.asm_build.specs.Layout.{past, check_definition, early, within, lay_statement, laid_out}
 use Rattle.asm_build.specs.Layout.{laid_after}
 use Rattle.asm_build.specs.Refusals.{Part, TheDefinition, TheOperand, TheOperation, WrongEarly, IsPastEnd}
 use Rattle.asm_build.specs.Refusals.{WrongInLayout, StandsAfter, rank}

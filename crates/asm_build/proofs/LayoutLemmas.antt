@@ -1,6 +1,6 @@
 -- What the layout round knows stands for the lines before, and its steps are those of the definition.
-use Rattle.std.proofs.Common.{◌≡◌, ℕ, suc, ◌+◌, ◌<◌, ◌≤◌, List, [], ◌∷◌, ◌++◌, Bool, true, false, cond, ◌||◌}
-use Rattle.std.proofs.Common.{Option, Some, None, Result, Ok, Err, length, get_or, drop, drop-cons, add-one}
+use Rattle.std.proofs.Common.{◌≡◌, ℕ, ◌+◌, ◌<◌, ◌≤◌, List, [], ◌∷◌, ◌++◌, Bool, true, false, cond, ◌||◌}
+use Rattle.std.proofs.Common.{Option, Some, None, Result, Ok, Err, length, get_or, drop}
 use Rattle.std.proofs.Common.{refl, sym, ap, ◌∙◌, arith}
 use Rattle.std.proofs.lemmas.List.{drop_all}
 use Rattle.std.proofs.lemmas.Slice.Eq.{bytes_eq-Decides}
@@ -11,6 +11,7 @@ use Rattle.asm_syntax.specs.declared.fault.AsmFault.TheVariants as asm
 use Rattle.asm_syntax.specs.declared.statement.Label.{Label}
 use Rattle.asm_syntax.specs.declared.statement.Statement.{Statement}
 use Rattle.asm_syntax.specs.Outcome.{Fault, CellFault, Fails, at_line}
+use Rattle.asm_encode.proofs.BytesLemmas.{next}
 use Rattle.asm_build.specs.declared.symbols.SymbolKind.{SymbolKind}
 use Rattle.asm_build.specs.declared.symbols.Symbol.{Symbol}
 use Rattle.asm_build.specs.declared.laid.Laid.{Laid}
@@ -20,7 +21,7 @@ use Rattle.asm_build.specs.Reading.{Entries, Lines, symbol_at, or_else, given_by
 use Rattle.asm_build.specs.Reading.{last_definition, parts_past, place_after, has_ended, is_selected}
 use Rattle.asm_build.specs.Layout.{Past, past, is_among, needs, uses, laid_out, laid_after, layout}
 use Rattle.asm_build.specs.Meaning.{with_symbol, with_definition, definitions}
-use Rattle.asm_build.specs.State.{lines_of, past_of, with_line_definition, Advances, Stands}
+use Rattle.asm_build.specs.State.{lines_of, past_of, with_line_definition, Advances, IsLayoutAfter}
 
 -- ---- look-ups in the cell's own symbols
 
@@ -76,8 +77,8 @@ definitions_at (p ∷ ps) x =
 
 -- ---- what stands for the lines before
 
-pub stands_next : (earlier : Lines) (old new : Layout) (s : Statement) (r : Laid) → Stands earlier old
-    → Advances old new s r → Stands ((s, r) ∷ earlier) new
+pub stands_next : (earlier : Lines) (old new : Layout) (s : Statement) (r : Laid) → IsLayoutAfter earlier old
+    → Advances old new s r → IsLayoutAfter ((s, r) ∷ earlier) new
 stands_next earlier old new s r was goes = record {
   own = goes.own ∙ ap (λ es. with_line_definition es s r) was.own;
   needed = λ x. goes.needed x ∙ ap (λ b. needs (s, r) x || b) (was.needed x);
@@ -94,7 +95,7 @@ abbrev past_with : Entries → (List ℕ → Option Symbol) → (List ℕ → Bo
 past_with kept defined needed used =
     record { kept = symbol_at kept; defined = defined; needed = needed; used = used }
 
-same_past : (kept : Entries) (earlier : Lines) (l : Layout) → Stands earlier l
+same_past : (kept : Entries) (earlier : Lines) (l : Layout) → IsLayoutAfter earlier l
     → past_of kept l ≡ past kept earlier
 same_past kept earlier l was =
     ap (λ f. past_with kept f (λ x. is_among x l.needed) (λ x. is_among x l.used))
@@ -108,7 +109,7 @@ same_past kept earlier l was =
 abbrev laid_in : Entries → Layout → Statement → Result Laid Fault
 laid_in kept l s = laid_out (past_of kept l) l.place (is_selected l.has_ended l.parts s) s
 
-same_laid : (kept : Entries) (earlier : Lines) (l : Layout) (s : Statement) → Stands earlier l
+same_laid : (kept : Entries) (earlier : Lines) (l : Layout) (s : Statement) → IsLayoutAfter earlier l
     → laid_in kept l s ≡ laid_after kept earlier s
 same_laid kept earlier l s was =
     ap (λ before. laid_out before l.place (is_selected l.has_ended l.parts s) s)
@@ -145,15 +146,10 @@ lines_length earlier (s ∷ ss) (r ∷ rs) le =
     lines_length ((s, r) ∷ earlier) ss rs (omega (arith, le)) in
     omega (arith, more)
 
-pub next : {A : Type 0} (xs : List A) (i : ℕ) (y : A) → i < length xs → y ≡ get_or xs i y
-    → drop i xs ≡ y ∷ drop (i + 1) xs
-next xs i y lt e =
-    drop-cons xs i y lt ∙ ap (λ m. m ∷ drop (suc i) xs) (sym e) ∙ ap (λ k. y ∷ drop k xs) (sym (add-one i))
-
 -- ---- steps
 
 step : (kept : Entries) (earlier : Lines) (l : Layout) (i : ℕ) (s : Statement) (o : Result Laid CellFault)
-    → Stands earlier l → length earlier ≡ i
+    → IsLayoutAfter earlier l → length earlier ≡ i
     → at_line (i + 1) (laid_in kept l s) ≡ o → at_line (length earlier + 1) (laid_after kept earlier s) ≡ o
 step kept earlier l i s o was n e =
     ap (λ k. at_line (k + 1) (laid_after kept earlier s)) n
@@ -161,7 +157,7 @@ step kept earlier l i s o was n e =
 
 pub layout_goes : (kept : Entries) (earlier : Lines) (ss : List Statement) (l : Layout) (i : ℕ)
     (s : Statement) (r : Laid) (total : Result Lines CellFault)
-    → i < length ss → s ≡ get_or ss i s → Stands earlier l → length earlier ≡ i
+    → i < length ss → s ≡ get_or ss i s → IsLayoutAfter earlier l → length earlier ≡ i
     → at_line (i + 1) (laid_in kept l s) ≡ Ok r
     → layout kept earlier (drop i ss) ≡ total → layout kept ((s, r) ∷ earlier) (drop (i + 1) ss) ≡ total
 unfolding layout
@@ -172,7 +168,7 @@ layout_goes kept earlier ss l i s r total lt is was n e h =
 
 pub layout_fails : (f : AsmFault) (kept : Entries) (earlier : Lines) (ss : List Statement) (l : Layout)
     (i : ℕ) (s : Statement) (total : Result Lines CellFault)
-    → i < length ss → s ≡ get_or ss i s → Stands earlier l → length earlier ≡ i
+    → i < length ss → s ≡ get_or ss i s → IsLayoutAfter earlier l → length earlier ≡ i
     → Fails f (at_line (i + 1) (laid_in kept l s))
     → layout kept earlier (drop i ss) ≡ total → Fails f total
 unfolding layout

@@ -4,7 +4,7 @@ use Rattle.std.proofs.Common.{refl, sym, ap, ◌∙◌, subst, arith, Result, Ok
 use Rattle.asm_syntax.specs.declared.statement.Statement.{Statement}
 use Rattle.asm_syntax.specs.Outcome.{Fault, CellFault, ComesBefore, ◌>>=◌, at_line}
 use Rattle.asm_build.specs.declared.laid.Laid.{Laid}
-use Rattle.asm_build.specs.Reading.{Entries, Lines, Fits, Reads, IsReading}
+use Rattle.asm_build.specs.Reading.{Entries, Lines, Fits, LaysOut, IsReading}
 use Rattle.asm_build.specs.Layout.{laid_after, layout}
 use Rattle.asm_build.specs.Refusals.{Part, StandsAfter, LayoutFault, rank, NoneStands, IsFirst}
 use Rattle.asm_build.proofs.ReadingLemmas.{one_row}
@@ -25,16 +25,16 @@ abbrev Split : Entries → Lines → List Statement → Part → CellFault → T
 Split kept earlier ss part f =
     (before : List Statement) × (s : Statement) × (after : List Statement)
     × (ss ≡ before ++ (s ∷ after)) × (upto : Lines) × (f.0 ≡ length upto + 1)
-    × Reads kept earlier before upto × StandsAfter kept upto s part (f.1, f.2)
+    × LaysOut kept earlier before upto × StandsAfter kept upto s part (f.1, f.2)
 
-reads_length : (ss : List Statement) (kept : Entries) (earlier all : Lines) → Reads kept earlier ss all
+reads_length : (ss : List Statement) (kept : Entries) (earlier all : Lines) → LaysOut kept earlier ss all
     → length all ≡ length ss + length earlier
 reads_length [] kept earlier all h = let e = ap length h in omega (arith, e)
 reads_length (s ∷ ss) kept earlier all h =
     let more = reads_length ss kept ((s, h.0) ∷ earlier) all h.2 in omega (arith, more)
 
 into : (before : List Statement) (kept : Entries) (earlier upto : Lines) (s : Statement)
-    (after : List Statement) (part : Part) (f : CellFault) → Reads kept earlier before upto
+    (after : List Statement) (part : Part) (f : CellFault) → LaysOut kept earlier before upto
     → f.0 ≡ length upto + 1 → StandsAfter kept upto s part (f.1, f.2)
     → From kept earlier (before ++ (s ∷ after)) part f
 unfolding From
@@ -74,7 +74,7 @@ from_line (s ∷ ss) kept earlier part f (inr x) =
 -- ---- the round
 
 abbrev RoundVerdict : Entries → Lines → List Statement → Result Lines CellFault → Type 0
-RoundVerdict kept earlier ss (Ok all) = Reads kept earlier ss all × NoneStands (From kept earlier ss)
+RoundVerdict kept earlier ss (Ok all) = LaysOut kept earlier ss all × NoneStands (From kept earlier ss)
 RoundVerdict kept earlier ss (Err f) = IsFirst (From kept earlier ss) f
 
 -- what follows a fault of a line

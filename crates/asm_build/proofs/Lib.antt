@@ -2,7 +2,6 @@ pub mod NameLemmas
 pub mod ListLemmas
 pub mod UseLemmas
 pub mod LayoutLemmas
-pub mod BytesLemmas
 pub mod ImageLemmas
 pub mod ValueLemmas
 pub mod ReadingLemmas

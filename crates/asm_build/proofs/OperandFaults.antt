@@ -28,10 +28,10 @@ use Rattle.asm_syntax.specs.declared.statement.Action.TheVariants as action
 use Rattle.i80_rows.specs.Instructions.{byte_instruction, word_instruction}
 use Rattle.asm_syntax.specs.Outcome.{Fault, ◌>>=◌}
 use Rattle.asm_syntax.proofs.FirstFaults.{fault_is}
-use Rattle.asm_build.specs.Statements.{late_in, operands_in_data, length_of_datum}
-use Rattle.asm_build.specs.Layout.{or_fault}
-use Rattle.asm_build.specs.Meaning.{as_byte, vector, as_vector, all_bytes, number, byte, restart}
-use Rattle.asm_build.specs.Meaning.{instruction_bytes, datum_bytes, word_bytes, bytes_of, start_of}
+use Rattle.asm_encode.specs.Bytes.{all_bytes, instruction_bytes, datum_bytes, word_bytes, bytes_of, start_of}
+use Rattle.asm_encode.specs.Lengths.{length_of_datum}
+use Rattle.asm_encode.specs.Values.{or_fault, as_byte, vector, as_vector, number, byte, restart}
+use Rattle.asm_build.specs.Statements.{late_in, operands_in_data}
 use Rattle.asm_build.specs.Refusals.{IsOutOfRange, WrongOperand, bytes_given}
 use Rattle.asm_build.proofs.DefinitionFaults.{no_more, some_is, ok_err}
 

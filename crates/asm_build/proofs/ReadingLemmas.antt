@@ -10,12 +10,13 @@ use Rattle.asm_syntax.specs.declared.statement.Operand.{Operand}
 use Rattle.asm_syntax.specs.declared.statement.Statement.{Statement}
 use Rattle.asm_syntax.specs.declared.fault.FaultKind.TheVariants as fault
 use Rattle.asm_syntax.specs.Outcome.{Fault, ◌>>=◌, at_line, Gives}
+use Rattle.asm_encode.specs.Values.{or_fault}
 use Rattle.asm_build.specs.declared.laid.Laid.{Laid}
 use Rattle.asm_build.specs.declared.built.Built.{Built}
 use Rattle.asm_build.specs.Statements.{on_action, definition_of, early_in}
 use Rattle.asm_build.specs.Reading.{Entries, Lines, early_value, place_after, parts_after, has_ended}
-use Rattle.asm_build.specs.Reading.{is_selected, EarlyIs, ValueIs, Fits, Reads, IsReading}
-use Rattle.asm_build.specs.Layout.{past, check_definition, or_fault, early, within, lay_statement, laid_out}
+use Rattle.asm_build.specs.Reading.{is_selected, EarlyIs, ValueIs, Fits, LaysOut, IsReading}
+use Rattle.asm_build.specs.Layout.{past, check_definition, early, within, lay_statement, laid_out}
 use Rattle.asm_build.specs.Layout.{laid_after, layout}
 use Rattle.asm_build.specs.Meaning.{Meaning, meaning_of, built_of, meaning_in, IsMeaning, IsOnlyMeaning}
 
@@ -86,7 +87,7 @@ fits kept earlier s r e =
     fits_by (is_selected (has_ended earlier) (parts_after earlier) s) kept earlier s r refl e
 
 layout_reads : (ss : List Statement) (kept : Entries) (earlier all : Lines) → layout kept earlier ss ≡ Ok all
-    → Reads kept earlier ss all
+    → LaysOut kept earlier ss all
 unfolding layout
 layout_reads [] kept earlier all e = let same : earlier ≡ all = cc in sym same
 layout_reads (s ∷ ss) kept earlier all e =
@@ -134,13 +135,13 @@ one_row kept earlier s q r a b =
     ap (λ (x : ℕ). row x q.is_assembled q.value) (sym p) ∙ ap (λ (x : Bool). row r.place x q.value) (sym on)
     ∙ ap (λ (x : ℕ). row r.place r.is_assembled x) v
 
-pub one_reading : (ss : List Statement) (kept : Entries) (earlier l m : Lines) → Reads kept earlier ss l
-    → Reads kept earlier ss m → l ≡ m
+pub one_reading : (ss : List Statement) (kept : Entries) (earlier l m : Lines) → LaysOut kept earlier ss l
+    → LaysOut kept earlier ss m → l ≡ m
 one_reading [] kept earlier l m a b = a ∙ sym b
 one_reading (s ∷ ss) kept earlier l m a b =
     let same : a.0 ≡ b.0 = one_row kept earlier s a.0 b.0 a.1 b.1 in
     one_reading ss kept ((s, b.0) ∷ earlier) l m
-    (subst (λ (r : Laid). Reads kept ((s, r) ∷ earlier) ss l) same a.2) b.2
+    (subst (λ (r : Laid). LaysOut kept ((s, r) ∷ earlier) ss l) same a.2) b.2
 
 pub same_reading : (kept : Entries) (ss : List Statement) (lines lines' : Lines) → IsReading kept ss lines
     → IsReading kept ss lines' → lines ≡ lines'

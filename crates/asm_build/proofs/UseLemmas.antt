@@ -10,7 +10,7 @@ use Rattle.asm_syntax.specs.declared.statement.Data.{Data}
 use Rattle.asm_syntax.specs.declared.statement.Data.TheVariants as datum
 use Rattle.asm_build.specs.Statements.{names_in, names_in_datum, operands_in_data}
 use Rattle.asm_build.specs.Layout.{is_among}
-use Rattle.asm_build.proofs.LayoutLemmas.{next}
+use Rattle.asm_encode.proofs.BytesLemmas.{next}
 
 shifted : (a b c : Bool) → ((a || b) || c) ≡ (b || (a || c))
 shifted true true c = refl

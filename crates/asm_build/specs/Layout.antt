@@ -1,23 +1,23 @@
--- The layout round: where each statement stands, or the first fault on the way.
+-- The layout round: the place of each statement, or the first fault of the layout.
 use Rattle.std.specs.Prelude.{◌≡◌, ℕ, ◌+◌, ◌%◌, List, [], ◌∷◌, length, Bool, true, false, ◌&&◌, ◌||◌, Option}
 use Rattle.std.specs.Prelude.{Some, None, is_some, Result, Ok, Err, if◌then◌else◌, nat_lt}
 use Rattle.std.specs.Str.{bytes_eq}
 use Rattle.std.specs.List.{list_any}
 use Rattle.asm_expr.specs.Value.{value_of}
-use Rattle.asm_expr.specs.declared.evaluation.ExprFault.{ExprFault}
 use Rattle.asm_expr.specs.declared.evaluation.ExprFault.TheVariants as expr
-use Rattle.asm_syntax.specs.declared.fault.FaultKind.{FaultKind}
 use Rattle.asm_syntax.specs.declared.fault.FaultKind.TheVariants as fault
 use Rattle.asm_syntax.specs.declared.statement.Label.{Label}
 use Rattle.asm_syntax.specs.declared.statement.Operand.{Operand}
 use Rattle.asm_syntax.specs.declared.statement.Operation.{Operation}
 use Rattle.asm_syntax.specs.declared.statement.Statement.{Statement}
 use Rattle.asm_syntax.specs.Outcome.{Fault, CellFault, ◌>>=◌, at_line}
+use Rattle.asm_encode.specs.Lengths.{length_of}
+use Rattle.asm_encode.specs.Values.{or_fault}
 use Rattle.asm_build.specs.declared.symbols.SymbolKind.{SymbolKind}
 use Rattle.asm_build.specs.declared.symbols.Symbol.{Symbol}
 use Rattle.asm_build.specs.declared.laid.Laid.{Laid}
 use Rattle.asm_build.specs.Statements.{on_action, definition_of, is_set, early_in, late_in, names_in}
-use Rattle.asm_build.specs.Statements.{names_in_early, length_of}
+use Rattle.asm_build.specs.Statements.{names_in_early}
 use Rattle.asm_build.specs.Reading.{Entries, Lines, symbol_at, or_else, value_in, last_definition}
 use Rattle.asm_build.specs.Reading.{place_after, parts_after, has_ended, is_selected}
 
@@ -25,11 +25,11 @@ use Rattle.asm_build.specs.Reading.{place_after, parts_after, has_ended, is_sele
 abbrev pub is_among : List ℕ → List (List ℕ) → Bool
 is_among x names = list_any (bytes_eq x) names
 
--- from old to new a set of names has got those that pass
+-- the new set has the names that pass and those of the old one, and no others
 abbrev pub Adds : (List ℕ → Bool) → List (List ℕ) → List (List ℕ) → Type 0
 Adds passes old new = (x : List ℕ) → is_among x new ≡ (passes x || is_among x old)
 
--- it has got these names
+-- the same for the names of a list
 abbrev pub Notes : List (List ℕ) → List (List ℕ) → List (List ℕ) → Type 0
 Notes names old new = Adds (λ x. is_among x names) old new
 
@@ -63,8 +63,8 @@ past kept earlier = record {
 
 -- ---- definitions
 
--- the first definition of a name is late where a value that was kept was taken for it, by this
--- statement itself or an earlier one; that of a SET also where an earlier statement names it
+-- the first definition of a name is late if an early operand took a kept value for it, in this
+-- statement or an earlier one; that of a SET also if any operand of an earlier statement names it
 abbrev pub is_late : Past → List ℕ → SymbolKind → Bool → Bool
 is_late before x k itself =
     (is_some (before.kept x) && (before.needed x || itself))
@@ -95,12 +95,6 @@ check_definition before o (Some d) = check_defined before o d (before.defined d.
 
 -- ---- values that the layout needs
 
--- a value, or why there is none: where a name has none, this fault
-abbrev pub or_fault : FaultKind → ℕ → Result ℕ ExprFault → Result ℕ Fault
-or_fault missing column (Ok v) = Ok v
-or_fault missing column (Err expr.Undefined) = Err (column, missing)
-or_fault missing column (Err expr.Divisor) = Err (column, fault.Divisor)
-
 -- the value of an early operand, 0 where there is none
 abbrev pub early : Past → ℕ → Option Operand → Result ℕ Fault
 early before here None = Ok 0
@@ -108,7 +102,7 @@ early before here (Some o) =
     or_fault fault.Early o.column
     (value_of (λ x. value_in (or_else (before.defined x) (before.kept x))) here o.expr)
 
--- ---- places: no statement passes over a byte past the last address
+-- ---- places: no statement's bytes pass the last address
 
 -- an operation's bytes are within memory
 abbrev pub within : ℕ → ℕ → Option Operation → Result (Unit {0}) Fault

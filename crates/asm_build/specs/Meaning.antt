@@ -1,27 +1,16 @@
--- The value round: what a reading of a cell gives, or the first fault on the way.
-use Rattle.std.specs.Prelude.{◌≡◌, ℕ, ◌+◌, ◌/◌, ◌%◌, List, [], ◌∷◌, ◌++◌, length, Bool, ◌||◌, ◌==◌, Option}
-use Rattle.std.specs.Prelude.{Some, None, Result, Ok, Err, if◌then◌else◌, nat_lt, nat_le, fold}
+-- The value round: what a reading of a cell gives, or the first fault of its values.
+use Rattle.std.specs.Prelude.{◌≡◌, ℕ, ◌+◌, ◌%◌, List, [], ◌∷◌, ◌++◌, length, Bool, Option}
+use Rattle.std.specs.Prelude.{Some, None, Result, Ok, Err, if◌then◌else◌, fold}
 use Rattle.std.specs.Str.{bytes_eq}
 use Rattle.std.specs.List.{list_any}
 use Rattle.indexmap.specs.IndexMap.{insert_entry}
-use Rattle.asm_expr.specs.Value.{value_of}
-use Rattle.i80_rows.specs.declared.instruction.Instr.TheVariants.{Rst}
-use Rattle.i80_rows.specs.declared.instruction.Vector.{Vector}
-use Rattle.i80_rows.specs.declared.instruction.Vector.TheVariants.{V0, V1, V2, V3, V4, V5, V6, V7}
-use Rattle.i80_rows.specs.Encoding.{encoding_of}
 use Rattle.asm_syntax.specs.declared.fault.FaultKind.TheVariants as fault
 use Rattle.asm_syntax.specs.declared.statement.Label.{Label}
-use Rattle.asm_syntax.specs.declared.statement.Operand.{Operand}
-use Rattle.asm_syntax.specs.declared.statement.Instruction.{Instruction}
-use Rattle.asm_syntax.specs.declared.statement.Instruction.TheVariants as instruction
-use Rattle.asm_syntax.specs.declared.statement.Data.{Data}
-use Rattle.asm_syntax.specs.declared.statement.Data.TheVariants as datum
-use Rattle.asm_syntax.specs.declared.statement.Action.{Action}
 use Rattle.asm_syntax.specs.declared.statement.Action.TheVariants as action
 use Rattle.asm_syntax.specs.declared.statement.Operation.{Operation}
 use Rattle.asm_syntax.specs.declared.statement.Statement.{Statement}
 use Rattle.asm_syntax.specs.Outcome.{Fault, CellFault, ◌>>=◌, at_line}
-use Rattle.i80_rows.specs.Instructions.{byte_instruction, word_instruction}
+use Rattle.asm_encode.specs.Bytes.{bytes_of, start_of}
 use Rattle.asm_build.specs.declared.symbols.SymbolKind.{SymbolKind}
 use Rattle.asm_build.specs.declared.symbols.Symbol.{Symbol}
 use Rattle.asm_build.specs.declared.laid.Laid.{Laid}
@@ -30,100 +19,11 @@ use Rattle.asm_build.specs.declared.built.Built.{Built}
 use Rattle.asm_build.specs.Images.{has}
 use Rattle.asm_build.specs.Statements.{definition_of}
 use Rattle.asm_build.specs.Reading.{Entries, Lines, IsReading, given_as, late_value}
-use Rattle.asm_build.specs.Layout.{or_fault, layout}
+use Rattle.asm_build.specs.Layout.{layout}
 
--- ---- the bytes of an action, where names have these values and `$` is here
+-- ---- the output of lines
 
--- a byte operand: its low byte, in 0 to FFh or FF00h to FFFFh
-abbrev pub as_byte : ℕ → ℕ → Result ℕ Fault
-as_byte column v =
-    if nat_lt v 256 || nat_le 65280 v then Ok (v % 256) else Err (column, fault.ByteRange)
-
--- the vector of a restart
-abbrev pub vector : ℕ → Option Vector
-vector v =
-    if v == 0 then Some V0 else
-    if v == 1 then Some V1 else
-    if v == 2 then Some V2 else
-    if v == 3 then Some V3 else
-    if v == 4 then Some V4 else
-    if v == 5 then Some V5 else
-    if v == 6 then Some V6 else
-    if v == 7 then Some V7 else None
-
--- a vector, else ByteRange
-abbrev pub as_vector : ℕ → Option Vector → Result Vector Fault
-as_vector column None = Err (column, fault.ByteRange)
-as_vector column (Some n) = Ok n
-
--- the bytes of each in turn, up to the first fault
-abbrev pub all_bytes : {A : Type 0} → (A → Result (List ℕ) Fault) → List A → Result (List ℕ) Fault
-all_bytes f [] = Ok []
-all_bytes f (x ∷ xs) = do
-  bs ← f x
-  more ← all_bytes f xs
-  Ok (bs ++ more)
-
-module _ (names : List ℕ → Option ℕ) (here : ℕ) where
-  -- an operand's value
-  abbrev pub number : Operand → Result ℕ Fault
-  number o = or_fault fault.Undefined o.column (value_of names here o.expr)
-
-  -- an operand that is a byte
-  abbrev pub byte : Operand → Result ℕ Fault
-  byte o = do
-    v ← number o
-    as_byte o.column v
-
-  -- an operand that is a vector
-  abbrev pub restart : Operand → Result Vector Fault
-  restart o = do
-    v ← number o
-    as_vector o.column (vector v)
-
-  -- an instruction's bytes
-  abbrev pub instruction_bytes : Instruction → Result (List ℕ) Fault
-  instruction_bytes (instruction.Alone i) = Ok (encoding_of i)
-  instruction_bytes (instruction.Byte op o) = do
-    b ← byte o
-    Ok (encoding_of (byte_instruction op b))
-  instruction_bytes (instruction.Word op o) = do
-    w ← number o
-    Ok (encoding_of (word_instruction op w))
-  instruction_bytes (instruction.Restart o) = do
-    n ← restart o
-    Ok (encoding_of (Rst n))
-
-  -- an operand of DB
-  abbrev pub datum_bytes : Data → Result (List ℕ) Fault
-  datum_bytes (datum.Text t) = Ok t
-  datum_bytes (datum.Byte o) = do
-    b ← byte o
-    Ok (b ∷ [])
-
-  -- an operand of DW, low byte first
-  abbrev pub word_bytes : Operand → Result (List ℕ) Fault
-  word_bytes o = do
-    w ← number o
-    Ok (w % 256 ∷ (w / 256 ∷ []))
-
-  -- an action's bytes
-  abbrev pub bytes_of : Action → Result (List ℕ) Fault
-  bytes_of (action.Instruction i) = instruction_bytes i
-  bytes_of (action.Bytes ds) = all_bytes datum_bytes ds
-  bytes_of (action.Words os) = all_bytes word_bytes os
-  bytes_of _ = Ok []
-
-  -- END's operand is where to start
-  abbrev pub start_of : Option ℕ → Action → Result (Option ℕ) Fault
-  start_of before (action.End (Some o)) = do
-    v ← number o
-    Ok (Some v)
-  start_of before _ = Ok before
-
--- ---- what lines give together
-
--- the bytes with their addresses, the lines that give bytes, and where to start
+-- the bytes with their addresses, the lines that have bytes, and where to start
 pub record Output : Type 0 where
   pub image : List (ℕ × ℕ)
   pub rows : List Row
@@ -144,7 +44,7 @@ rows_of line address [] = []
 rows_of line address (b ∷ bs) =
     record { address = address; length = length (b ∷ bs); line = line } ∷ []
 
--- what there is with these bytes, and this start
+-- the output with these bytes, and this start
 abbrev pub with_bytes : Output → ℕ → ℕ → List ℕ → Option ℕ → Output
 with_bytes out line address bytes start = record {
   image = out.image ++ at_address address bytes;
@@ -152,13 +52,13 @@ with_bytes out line address bytes start = record {
   start = start;
 }
 
--- the same, where no byte overlaps
+-- the same, if no byte overlaps
 abbrev pub put_bytes : ℕ → Output → ℕ → ℕ → List ℕ → Option ℕ → Result Output Fault
 put_bytes column out line address bytes start =
     if overlaps out.image (at_address address bytes)
     then Err (column, fault.Overlap) else Ok (with_bytes out line address bytes start)
 
--- what there is with an assembled operation of this line
+-- the output with an assembled operation of this line
 abbrev pub with_operation : (List ℕ → Option ℕ) → Output → ℕ → ℕ → Option Operation
     → Result Output Fault
 with_operation names out line here None = Ok out
@@ -167,13 +67,13 @@ with_operation names out line here (Some o) = do
   start ← start_of names here out.start o.action
   put_bytes o.column out line here bytes start
 
--- what there is with a line
+-- the output with a line
 abbrev pub with_line : (List ℕ → Option ℕ) → Output → ℕ → Statement × Laid → Result Output Fault
 with_line names out line p =
     if p.1.is_assembled
     then with_operation names out line (p.1.place % 65536) p.0.operation else Ok out
 
--- what lines, the latest first, give, where all are all of the cell's
+-- the output of lines, the latest first, where `all` are all of the cell's lines
 unfoldable pub output_of : Entries → Lines → Lines → Result Output CellFault
 output_of kept all [] = Ok (record { image = []; rows = []; start = None })
 output_of kept all (p ∷ ps) = do
@@ -182,7 +82,7 @@ output_of kept all (p ∷ ps) = do
 
 -- ---- symbols
 
--- names with what they stand for: one that is there keeps its place, a new one goes last
+-- a symbol for a name: one that is there keeps its place, a new one is last
 abbrev pub with_symbol : Entries → List ℕ → Symbol → Entries
 with_symbol es x d = insert_entry bytes_eq es x d
 

@@ -1,4 +1,4 @@
--- What a consistent reading of a cell is: a condition, whichever way it is found.
+-- What a consistent reading of a cell is: a condition, however it is found.
 use Rattle.std.specs.Prelude.{◌≡◌, ℕ, ◌+◌, ◌%◌, List, [], ◌∷◌, Bool, true, false, not, ◌&&◌, ◌==◌, Option}
 use Rattle.std.specs.Prelude.{Some, None, Ok, if◌then◌else◌}
 use Rattle.std.specs.Str.{bytes_eq}
@@ -10,17 +10,18 @@ use Rattle.asm_syntax.specs.declared.statement.Operand.{Operand}
 use Rattle.asm_syntax.specs.declared.statement.Action.{Action}
 use Rattle.asm_syntax.specs.declared.statement.Action.TheVariants as action
 use Rattle.asm_syntax.specs.declared.statement.Statement.{Statement}
+use Rattle.asm_encode.specs.Lengths.{length_of}
 use Rattle.asm_build.specs.declared.symbols.SymbolKind.{SymbolKind}
 use Rattle.asm_build.specs.declared.symbols.SymbolKind.TheVariants as kind
 use Rattle.asm_build.specs.declared.symbols.Symbol.{Symbol}
 use Rattle.asm_build.specs.declared.laid.Laid.{Laid}
-use Rattle.asm_build.specs.Statements.{on_action, is_end, definition_of, is_set, early_in, length_of}
+use Rattle.asm_build.specs.Statements.{on_action, is_end, definition_of, is_set, early_in}
 
--- names with what they stand for
+-- names with their values
 abbrev pub Entries : Type 0
 Entries = List (List ℕ × Symbol)
 
--- what a name stands for
+-- the symbol of a name
 abbrev pub symbol_at : Entries → List ℕ → Option Symbol
 symbol_at es x = lookup (bytes_eq x) es
 
@@ -28,7 +29,7 @@ symbol_at es x = lookup (bytes_eq x) es
 abbrev pub Lines : Type 0
 Lines = List (Statement × Laid)
 
--- the first of two that is there
+-- the first of two, else the second
 abbrev pub or_else : {A : Type 0} → Option A → Option A → Option A
 or_else (Some v) o = Some v
 or_else None o = o
@@ -40,7 +41,7 @@ value_in (Some d) = Some d.value
 
 -- ---- names
 
--- a label stands for its place modulo 65,536, an EQU or SET name for its operand
+-- a label has its place modulo 65,536 as its value, an EQU or SET name its operand
 abbrev pub given_as : SymbolKind → Laid → Symbol
 given_as kind.Label r = record { value = r.place % 65536; kind = kind.Label }
 given_as kind.Equ r = record { value = r.value; kind = kind.Equ }
@@ -96,19 +97,19 @@ place_past r a = r.place + length_of a r.value
 abbrev pub next_place : Statement × Laid → ℕ
 next_place p = if p.1.is_assembled then on_action (place_past p.1) p.1.place p.0 else p.1.place
 
--- where a statement stands after these
+-- the place of a statement after these
 abbrev pub place_after : Lines → ℕ
 place_after [] = 0
 place_after (p ∷ ps) = next_place p
 
--- ---- parts: for each open IF whether its selected part stands here, the innermost first
+-- ---- parts: for each open IF whether this is its selected part, the innermost first
 
 -- an ELSE switches the innermost IF to its other part
 abbrev pub switch_innermost : List Bool → List Bool
 switch_innermost [] = []
 switch_innermost (b ∷ bs) = not b ∷ bs
 
--- the parts round the innermost IF
+-- the parts around the innermost IF
 abbrev pub outer : List Bool → List Bool
 outer [] = []
 outer (b ∷ bs) = bs
@@ -125,7 +126,7 @@ abbrev pub parts_after : Lines → List Bool
 parts_after [] = []
 parts_after (p ∷ ps) = on_action (parts_past (parts_after ps) p.1.value) (parts_after ps) p.0
 
--- an ELSE or ENDIF stands outside of its own IF
+-- an ELSE or ENDIF is outside of its own IF
 abbrev pub parts_around : List Bool → Action → List Bool
 parts_around parts action.Else = outer parts
 parts_around parts action.EndIf = outer parts
@@ -135,7 +136,7 @@ parts_around parts _ = parts
 abbrev pub has_ended : Lines → Bool
 has_ended ps = list_any (λ p. on_action is_end false p.0) ps
 
--- a statement is assembled: no END came, and each IF selects the part that it stands in
+-- a statement is assembled: no END came before it, and each IF selects the part that it is in
 abbrev pub is_selected : Bool → List Bool → Statement → Bool
 is_selected ended parts s = not ended && list_all (λ b. b) (on_action (parts_around parts) parts s)
 
@@ -159,11 +160,11 @@ pub record Fits (kept : Entries) (earlier : Lines) (s : Statement) (r : Laid) : 
   pub value : ValueIs kept earlier r (on_action early_in None s) r.is_assembled
 
 -- the statements, each laid out as it fits after those before it, give these lines
-abbrev pub Reads : Entries → Lines → List Statement → Lines → Type 0
-Reads kept earlier [] lines = lines ≡ earlier
-Reads kept earlier (s ∷ ss) lines =
-    (r : Laid) × Fits kept earlier s r × Reads kept ((s, r) ∷ earlier) ss lines
+abbrev pub LaysOut : Entries → Lines → List Statement → Lines → Type 0
+LaysOut kept earlier [] lines = lines ≡ earlier
+LaysOut kept earlier (s ∷ ss) lines =
+    (r : Laid) × Fits kept earlier s r × LaysOut kept ((s, r) ∷ earlier) ss lines
 
 -- the lines are a consistent reading of the statements over the symbols that were kept
 abbrev pub IsReading : Entries → List Statement → Lines → Type 0
-IsReading kept ss lines = Reads kept [] ss lines
+IsReading kept ss lines = LaysOut kept [] ss lines

@@ -1,5 +1,5 @@
 -- What is wrong with a cell (8080/8085 Assembly Language Programming Manual, chapters 2 and 4): for
--- each fault, what stands at the place that it names, over a reading; and which of several is told.
+-- each fault, what is at the place that it names, over a reading; and which of several is reported.
 use Rattle.std.specs.Prelude.{◌≡◌, ◌<◌, ◌⊎◌, ℕ, ◌+◌, ◌%◌, List, [], ◌∷◌, ◌++◌, length, true, Some}
 use Rattle.std.specs.Prelude.{None, IsSome, Result, Ok, Err, slice_get, Any, Contains}
 use Rattle.asm_expr.specs.Value.{value_of}
@@ -16,12 +16,12 @@ use Rattle.asm_syntax.specs.declared.statement.Action.TheVariants as action
 use Rattle.asm_syntax.specs.declared.statement.Operation.{Operation}
 use Rattle.asm_syntax.specs.declared.statement.Statement.{Statement}
 use Rattle.asm_syntax.specs.Outcome.{Fault, CellFault, ComesBefore}
+use Rattle.asm_encode.specs.Lengths.{length_of}
 use Rattle.asm_build.specs.declared.symbols.SymbolKind.{SymbolKind}
 use Rattle.asm_build.specs.declared.symbols.SymbolKind.TheVariants as kind
 use Rattle.asm_build.specs.declared.symbols.Symbol.{Symbol}
 use Rattle.asm_build.specs.declared.laid.Laid.{Laid}
 use Rattle.asm_build.specs.Statements.{on_action, definition_of, early_in, late_in, names_in, names_in_early}
-use Rattle.asm_build.specs.Statements.{length_of}
 use Rattle.asm_build.specs.Reading.{Entries, Lines, symbol_at, last_definition, last_set, early_value}
 use Rattle.asm_build.specs.Reading.{late_value, place_after, parts_after, has_ended, is_selected, Fits}
 use Rattle.asm_build.specs.Reading.{IsReading}

@@ -1,8 +1,7 @@
--- What the rounds know on the way, and how it stands for the lines before.
-use Rattle.std.specs.Prelude.{◌≡◌, ℕ, List, [], ◌∷◌, ◌++◌, false, ◌||◌, Option, Result, Ok, if◌then◌else◌}
+-- What the rounds keep of the lines so far, as definitions see it.
+use Rattle.std.specs.Prelude.{◌≡◌, ℕ, List, [], ◌∷◌, ◌++◌, false, ◌||◌, Option, if◌then◌else◌, length}
 use Rattle.std.specs.List.{list_any}
 use Rattle.asm_syntax.specs.declared.statement.Statement.{Statement}
-use Rattle.asm_syntax.specs.Outcome.{Fault, ◌>>=◌}
 use Rattle.asm_syntax.specs.declared.fault.LineFault.{LineFault}
 use Rattle.asm_syntax.specs.declared.fault.LineFault.TheVariants as line
 use Rattle.asm_syntax.specs.declared.fault.AsmFault.{AsmFault}
@@ -40,7 +39,7 @@ abbrev pub with_line_definition : Entries → Statement → Laid → Entries
 with_line_definition es s r =
     if r.is_assembled then with_definition (definition_of s) r es else es
 
--- from old to new a layout has gone past a statement that is laid out so
+-- the new layout is the old one after a statement that is laid out so
 pub record Advances (old new : Layout) (s : Statement) (r : Laid) : Type 0 where
   pub own : new.own ≡ with_line_definition old.own s r
   pub needed : Adds (needs (s, r)) old.needed new.needed
@@ -56,7 +55,7 @@ fault_on_line n line.OutOfMemory = asm.OutOfMemory
 fault_on_line n (line.At column kind) = asm.At n column kind
 
 -- a layout is what is known after these lines
-pub record Stands (earlier : Lines) (l : Layout) : Type 0 where
+pub record IsLayoutAfter (earlier : Lines) (l : Layout) : Type 0 where
   pub own : l.own ≡ definitions earlier
   pub needed : (x : List ℕ) → is_among x l.needed ≡ list_any (λ p. needs p x) earlier
   pub used : (x : List ℕ) → is_among x l.used ≡ list_any (λ p. uses p x) earlier
@@ -64,17 +63,16 @@ pub record Stands (earlier : Lines) (l : Layout) : Type 0 where
   pub place : l.place ≡ place_after earlier
   pub ended : l.has_ended ≡ has_ended earlier
 
--- bytes after those that are there
-abbrev pub append_to : List ℕ → Result (List ℕ) Fault → Result (List ℕ) Fault
-append_to front r = do
-  bs ← r
-  Ok (front ++ bs)
-
 -- what the cell's symbols, its SETs so far and the kept symbols give a late operand
 abbrev pub late_in : Entries → Entries → Entries → List ℕ → Option ℕ
 late_in own sets kept x =
     value_in (late_symbol (symbol_at own x) (symbol_at sets x) (symbol_at kept x))
 
--- what the value round has put together
+-- the output of the value round so far
 abbrev pub output_in : Values → Output
 output_in v = record { image = v.image; rows = v.rows.items; start = v.start }
+
+-- a layout is that of these statements: a row for each, and the symbols that they define
+pub record IsLaidOut (l : Layout) (ss : List Statement) : Type 0 where
+  pub rows : length l.rows.items ≡ length ss
+  pub own : l.own ≡ definitions (lines_of [] ss l.rows.items)

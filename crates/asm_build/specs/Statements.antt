@@ -1,6 +1,6 @@
 -- What a statement says by itself (8080/8085 Assembly Language Programming Manual, chapters 2
 -- and 4).
-use Rattle.std.specs.Prelude.{ℕ, ◌*◌, List, [], ◌∷◌, length, sum, map, Bool, true, false, Option, Some, None}
+use Rattle.std.specs.Prelude.{ℕ, List, [], ◌∷◌, Bool, true, false, Option, Some, None}
 use Rattle.std.specs.Option.{option_map_or}
 use Rattle.std.specs.List.{flat_map}
 use Rattle.asm_expr.specs.Tree.{names_of}
@@ -93,25 +93,3 @@ names_in_datum (datum.Byte o) = names_of o.expr
 abbrev pub names_in_early : Option Operand → List (List ℕ)
 names_in_early None = []
 names_in_early (Some o) = names_of o.expr
-
--- ---- lengths
-
--- how many bytes an instruction has
-abbrev pub length_of_instruction : Instruction → ℕ
-length_of_instruction (instruction.Alone i) = 1
-length_of_instruction (instruction.Byte op o) = 2
-length_of_instruction (instruction.Word op o) = 3
-length_of_instruction (instruction.Restart o) = 1
-
--- how many bytes an operand of DB gives
-abbrev pub length_of_datum : Data → ℕ
-length_of_datum (datum.Text t) = length t
-length_of_datum (datum.Byte o) = 1
-
--- how many bytes an action passes over, where its early operand has this value
-abbrev pub length_of : Action → ℕ → ℕ
-length_of (action.Instruction i) value = length_of_instruction i
-length_of (action.Bytes ds) value = sum (map length_of_datum ds)
-length_of (action.Words os) value = 2 * length os
-length_of (action.Space o) value = value
-length_of _ value = 0

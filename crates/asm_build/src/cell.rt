@@ -1,9 +1,9 @@
 //! Assembling a cell.
 ghost use Rattle.std.specs.Prelude.{◌≡◌, ◌≤◌, [], length, fold, IfOk};
 ghost use Rattle.asm_syntax.specs.Outcome.{Gives};
-ghost use Rattle.asm_build.specs.Meaning.{with_symbol, definitions, meaning_of, built_of, meaning_in};
+ghost use Rattle.asm_build.specs.Meaning.{with_symbol, meaning_of, built_of, meaning_in};
 ghost use Rattle.asm_build.specs.Meaning.{IsMeaning, IsOnlyMeaning};
-ghost use Rattle.asm_build.specs.State.{lines_of, output_in};
+ghost use Rattle.asm_build.specs.State.{lines_of, output_in, IsLaidOut};
 
 use crate::built::Built;
 use crate::layout::{Layout, lay_out};
@@ -13,7 +13,7 @@ use asm_syntax::fault::AsmFault;
 use asm_syntax::statement::{MOST_LINES, Statement, Statements};
 use std::alloc::{AllocError, Global};
 
-// Those that were kept, with the cell's own.
+// The kept symbols with the cell's own.
 fn symbols_after(alloc: Global, kept: &Symbols, own: &Symbols) -> Result<Symbols, AllocError>
     ensures { IfOk result (λ s. s ≡ fold (λ es e. with_symbol es e.0 e.1) kept.now own.now) }
 {
@@ -22,7 +22,7 @@ fn symbols_after(alloc: Global, kept: &Symbols, own: &Symbols) -> Result<Symbols
     Ok(symbols)
 }
 
-// What the value round gave, with the symbols to keep.
+// The output of the value round, with the symbols to keep.
 fn with_symbols(values: Values, symbols: Symbols) -> Built
     ensures { meaning_in result ≡ record { output = output_in values; symbols = symbols } }
 {
@@ -35,15 +35,14 @@ fn with_symbols(values: Values, symbols: Symbols) -> Built
     }
 }
 
-// The value round, and the symbols to keep after it.
+// The value round, and then the symbols to keep.
 fn value_round(
     alloc: Global,
     kept: &Symbols,
     layout: &Layout<'_>,
     statements: &[Statement],
 ) -> Result<Built, AsmFault>
-    requires rows { length layout.now.rows.items ≡ length statements.now }
-    requires own { layout.now.own ≡ definitions (lines_of [] statements.now layout.now.rows.items) }
+    requires { IsLaidOut layout.now statements.now }
     ensures { Gives meaning_in result
         (meaning_of kept.now (lines_of [] statements.now layout.now.rows.items)) }
 {
@@ -54,7 +53,7 @@ fn value_round(
     }
 }
 
-// The layout round, and after it the value round.
+// The layout round, and then the value round.
 fn both_rounds(alloc: Global, statements: &[Statement], kept: &Symbols) -> Result<Built, AsmFault>
     requires { length statements.now ≤ MOST_LINES }
     ensures { Gives meaning_in result (built_of kept.now statements.now) }
@@ -63,13 +62,13 @@ fn both_rounds(alloc: Global, statements: &[Statement], kept: &Symbols) -> Resul
     value_round(alloc, kept, &layout, statements)
 }
 
-/// Assembles the statements of a cell over the symbols that were kept, which stay as they are.
+/// Assembles the statements of a cell over the kept symbols.
 ///
-/// The location counter begins at 0. The first fault is that of the layout, statement by
-/// statement: `Twice` and `Early` at a name that is defined, `Early` and `Divisor` at an operand
-/// of ORG, DS, EQU, SET or IF, `PastEnd` at the operation. Only a cell that can be laid out has
-/// faults of values: `Undefined`, `Divisor` and `ByteRange` at an operand, `Overlap` at the
-/// operation. Out of memory may be reported in place of a fault that is found later.
+/// The location counter begins at 0. Faults of the layout come first, statement by statement:
+/// `Twice` and `Early` at a name that is defined, `Early` and `Divisor` at an operand of ORG, DS,
+/// EQU, SET or IF, `PastEnd` at the operation. Only a cell that can be laid out has faults of
+/// values: `Undefined`, `Divisor` and `ByteRange` at an operand, `Overlap` at the operation. Out of
+/// memory may be returned instead of a fault that would be found later.
 ///
 /// 8080/8085 Assembly Language Programming Manual, chapters 2 and 4.
 pub fn build(alloc: Global, statements: &Statements, kept: &Symbols) -> Result<Built, AsmFault>

@@ -1,10 +1,10 @@
-//! Where faults stand.
+//! Faults at their places.
 ghost use Rattle.std.specs.Prelude.{◌≡◌};
 ghost use Rattle.asm_build.specs.State.{fault_on_line};
 
 use asm_syntax::fault::{AsmFault, FaultKind, LineFault};
 
-/// A fault on its line.
+/// The fault of a line, with the number of the line.
 pub(crate) fn on_line(line: usize, fault: LineFault) -> AsmFault
     ensures { result ≡ fault_on_line line fault }
 {

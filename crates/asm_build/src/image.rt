@@ -8,8 +8,8 @@ use i80_rows::memory::MEMORY_SIZE;
 use std::alloc::{AllocError, Global};
 use std::marker::Model;
 
-/// Bytes with their addresses, in the order in which they came, and for each address whether it
-/// has one.
+/// Bytes with their addresses, in the order in which they were added, and for each address whether
+/// it has one.
 #[derive(Drop)]
 pub(crate) struct Image {
     bytes: Vec<(u16, u8)>,
@@ -28,7 +28,7 @@ impl Model for Image {
         × ((a : ℕ) → a < 65536 → slice_index_or i.is_taken.items a false ≡ has i.bytes.items a) };
 }
 
-// So many times false.
+// `count` times `false`.
 fn all_false(alloc: Global, count: usize) -> Result<Vec<bool>, AllocError>
     ensures count { IfOk result (λ v. length v.items ≡ count) }
     ensures none { IfOk result (λ v. (a : ℕ) → slice_index_or v.items a false ≡ false) }
@@ -61,7 +61,7 @@ impl Image {
         Ok(())
     }
 
-    // Whether one of the addresses from this one on, for as many bytes, has a byte.
+    // Whether one of the addresses of these bytes, from the first on, has a byte already.
     pub(crate) fn overlaps(&self, address: u16, bytes: &[u8]) -> bool
         ensures { result ≡ overlaps self.now (at_address address bytes.now) }
     {
@@ -75,7 +75,7 @@ impl Image {
         false
     }
 
-    // Puts bytes at the addresses from this one on.
+    // Adds bytes at the addresses from the first on.
     pub(crate) fn append(&mut self, address: u16, bytes: &[u8]) -> Result<(), AllocError>
         ensures { OnOk result (self.new ≡ self.old ++ at_address address bytes.now) }
     {

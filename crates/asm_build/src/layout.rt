@@ -7,22 +7,25 @@ ghost use Rattle.asm_expr.specs.Tree.{names_of};
 ghost use Rattle.asm_syntax.specs.Outcome.{Gives, LineGives, at_line};
 ghost use Rattle.asm_build.specs.Statements.{on_action, is_end, definition_of, early_in, late_in};
 ghost use Rattle.asm_build.specs.Statements.{names_in, names_in_datum, names_in_early};
-ghost use Rattle.asm_build.specs.Statements.{operands_in_instruction, length_of};
+ghost use Rattle.asm_build.specs.Statements.{operands_in_instruction};
+ghost use Rattle.asm_encode.specs.Lengths.{length_of};
 ghost use Rattle.asm_build.specs.Reading.{given_as, next_place, parts_around, parts_past};
 ghost use Rattle.asm_build.specs.Reading.{is_selected, symbol_at};
 ghost use Rattle.asm_build.specs.Meaning.{definitions};
 ghost use Rattle.asm_build.specs.Layout.{is_among, Adds, Notes, needs, uses, check_first, check_defined};
 ghost use Rattle.asm_build.specs.Layout.{check_definition, early, within, lay_statement, laid_out, layout};
-ghost use Rattle.asm_build.specs.State.{past_in, past_of, lines_of, with_line_definition, Advances, Stands};
+ghost use Rattle.asm_build.specs.State.{past_in, past_of, lines_of, with_line_definition};
+ghost use Rattle.asm_build.specs.State.{Advances, IsLayoutAfter};
 
-use crate::bytes::number_or;
 use crate::faults::{at, on_line};
 use crate::laid::Laid;
 use crate::look_up::EarlyNames;
 use crate::name_set::NameSet;
 use crate::parts::Parts;
-use crate::statements::{definition_of, early_operand, length_of};
+use crate::statements::{definition_of, early_operand};
 use crate::symbols::{Symbol, SymbolKind, Symbols};
+use asm_encode::length::length_of;
+use asm_encode::operand::number_or;
 use asm_syntax::fault::{AsmFault, FaultKind, LineFault};
 use asm_syntax::statement::{
     Action, Data, Instruction, Label, MOST_LINES, Operand, Operation, Statement,
@@ -30,15 +33,15 @@ use asm_syntax::statement::{
 use i80_rows::memory::MEMORY_SIZE;
 use std::alloc::{AllocError, Global};
 
-/// What is known after some lines.
+/// What is known after the lines so far.
 pub(crate) struct Layout<'a> {
     /// The cell's own symbols.
     pub(crate) own: Symbols,
-    /// How each line is laid out.
+    /// Where each line is laid out.
     pub(crate) rows: Vec<Laid>,
-    /// Names in operands that decided the layout.
+    /// The names in operands that the layout depends on.
     pub(crate) needed: NameSet<'a>,
-    /// Names in other operands.
+    /// The names in other operands.
     pub(crate) used: NameSet<'a>,
     pub(crate) parts: Parts,
     pub(crate) place: u32,
@@ -60,7 +63,7 @@ impl Drop for Layout<'_> {
     }
 }
 
-// Whether an operand names it.
+// Whether the name is in the operand, if there is one.
 fn is_in(alloc: Global, name: &str, operand: Option<&Operand>) -> Result<bool, AllocError>
     ensures { IfOk result
         (λ b. b ≡ is_among name.now (names_in_early (option_copied operand.entry))) }
@@ -73,7 +76,7 @@ fn is_in(alloc: Global, name: &str, operand: Option<&Operand>) -> Result<bool, A
     Ok(names.contains(name))
 }
 
-// The value of an operand that decides the layout.
+// The value of the operand that the layout depends on, 0 if there is none.
 fn early(names: EarlyNames<'_>, here: u16, operand: Option<&Operand>) -> Result<u16, LineFault>
     ensures { LineGives (λ v. v) result
         (early (past_in names.entry.kept.now names.entry.own.now [] []) here
@@ -85,7 +88,7 @@ fn early(names: EarlyNames<'_>, here: u16, operand: Option<&Operand>) -> Result<
     number_or(&names, here, operand, FaultKind::Early)
 }
 
-// That no byte lies past the last address.
+// Fails if the statement's bytes would pass 0FFFFH.
 fn within(place: u32, value: u16, operation: &Option<Operation>) -> Result<(), LineFault>
     requires { place ≤ 65536 }
     ensures exact { LineGives (λ _. tt) result (within place value operation.now) }
@@ -104,7 +107,7 @@ fn within(place: u32, value: u16, operation: &Option<Operation>) -> Result<(), L
     }
 }
 
-// What a name is defined as by a statement that is laid out so.
+// The symbol that a statement defines if it is laid out here.
 pub(crate) fn given_as(kind: SymbolKind, row: Laid) -> Symbol
     ensures { result ≡ given_as kind row }
 {
@@ -116,7 +119,7 @@ pub(crate) fn given_as(kind: SymbolKind, row: Laid) -> Symbol
     Symbol { value, kind }
 }
 
-// Makes the definition of a statement, where it is assembled.
+// Adds the symbol of a statement, if it is assembled and defines one.
 fn define(
     alloc: Global,
     own: &mut Symbols,
@@ -134,12 +137,12 @@ fn define(
     own.define(alloc, label.name.as_str(), given_as(kind, row))
 }
 
-// What names stand in: an operand of DW, or one of DB.
+// What has names in it: an operand of DW or DB.
 trait Naming {
     // Its names.
     ghost names: { Self → List (List ℕ) };
 
-    // Notes them.
+    // Adds them to the names.
     fn note<'a>(&'a self, alloc: Global, used: &mut NameSet<'a>) -> Result<(), AllocError>
         ensures { OnOk result (Notes (names self.now) used.old used.new) };
 }
@@ -163,7 +166,7 @@ impl Naming for Data {
     }
 }
 
-// Notes the names in each of the operands.
+// Adds the names in each of the operands.
 fn note_all<'a, T: Naming>(
     alloc: Global,
     used: &mut NameSet<'a>,
@@ -209,7 +212,7 @@ fn note_late<'a>(
     }
 }
 
-// Notes the names in a statement, where it is assembled.
+// Adds the names in a statement to one of the sets, if it is assembled.
 fn note_names<'a>(
     alloc: Global,
     needed: &mut NameSet<'a>,
@@ -232,7 +235,7 @@ fn note_names<'a>(
     }
 }
 
-// Opens, switches or closes an IF.
+// Enters, switches or leaves an IF.
 fn update_parts(parts: &mut Parts, statement: &Statement, value: u16) -> Result<(), AllocError>
     ensures { OnOk result
         (parts.new ≡ on_action (parts_past parts.old value) parts.old statement.now) }
@@ -286,7 +289,7 @@ fn next_place(statement: &Statement, row: Laid) -> u32
 impl<'a> Layout<'a> {
     fn new(alloc: Global) -> Self
         ensures rows { result.rows.items ≡ [] }
-        ensures stands { Stands [] result }
+        ensures stands { IsLayoutAfter [] result }
     {
         Layout {
             own: Symbols::new(alloc),
@@ -316,7 +319,7 @@ impl<'a> Layout<'a> {
         }
     }
 
-    // A name's first definition in the cell.
+    // Fails if a name's first definition in the cell comes after a use that needed it.
     fn check_first(
         &self,
         alloc: Global,
@@ -364,7 +367,7 @@ impl<'a> Layout<'a> {
         Err(at(label.column, FaultKind::Twice))
     }
 
-    // How the next statement is laid out where it is assembled.
+    // Where the next statement is laid out, if it is assembled.
     fn lay_out_assembled(
         &self,
         alloc: Global,
@@ -391,7 +394,7 @@ impl<'a> Layout<'a> {
         })
     }
 
-    // How the next statement is laid out.
+    // Where the next statement is laid out.
     fn lay_out(
         &self,
         alloc: Global,
@@ -414,7 +417,7 @@ impl<'a> Layout<'a> {
         })
     }
 
-    // Goes past the next statement, which is laid out so.
+    // Takes the next statement, which is laid out here.
     fn advance(
         &mut self,
         alloc: Global,
@@ -433,7 +436,7 @@ impl<'a> Layout<'a> {
         Ok(())
     }
 
-    // Lays the next statement out, on this line.
+    // Lays out the next statement, on this line.
     fn lay(
         &mut self,
         alloc: Global,
@@ -457,7 +460,7 @@ impl<'a> Layout<'a> {
         }
     }
 
-    // Lays statements out in turn, from the first line on.
+    // Lays out statements in turn, from the first line on.
     fn lay_all(
         &mut self,
         alloc: Global,
@@ -466,7 +469,7 @@ impl<'a> Layout<'a> {
     ) -> Result<(), AsmFault>
         requires few { length statements.now ≤ MOST_LINES }
         requires rows { self.old.rows.items ≡ [] }
-        requires stands { Stands [] self.old }
+        requires stands { IsLayoutAfter [] self.old }
         ensures exact { Gives (λ _. lines_of [] statements.now self.new.rows.items) result
             (layout kept.now [] statements.now) }
         ensures own { OnOk result
@@ -480,7 +483,7 @@ impl<'a> Layout<'a> {
     }
 }
 
-/// Lays the statements of a cell out, or reports the first fault on the way.
+/// Lays out the statements of a cell, or returns the first fault of its layout.
 pub(crate) fn lay_out<'a>(
     alloc: Global,
     kept: &Symbols,

@@ -5,7 +5,7 @@ ghost use Rattle.asm_build.specs.Reading.{symbol_at, or_else, value_in, late_sym
 use crate::symbols::Symbols;
 use asm_expr::env::Env;
 
-/// For operands that decide the layout: the cell's own definition before, else what was kept.
+/// For operands that the layout depends on: the cell's own definition so far, else the kept one.
 #[derive(Clone, Copy)]
 pub(crate) struct EarlyNames<'a> {
     pub(crate) own: &'a Symbols,
@@ -23,7 +23,7 @@ impl Env for EarlyNames<'_> {
     }
 }
 
-/// For other operands: the cell's label or EQU, or its latest SET, else what was kept.
+/// For other operands: the cell's label or EQU, or its latest SET, else the kept definition.
 #[derive(Clone, Copy)]
 pub(crate) struct LateNames<'a> {
     pub(crate) own: &'a Symbols,

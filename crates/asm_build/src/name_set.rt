@@ -6,7 +6,7 @@ use indexmap::IndexSet;
 use std::alloc::{AllocError, Global};
 use std::marker::Model;
 
-/// Names that statements hold.
+/// Names, borrowed from statements.
 pub(crate) struct NameSet<'a> {
     names: IndexSet<&'a str>,
 }

@@ -6,7 +6,7 @@ ghost use Rattle.asm_build.specs.Reading.{switch_innermost, outer};
 use std::alloc::{AllocError, Global};
 use std::marker::Model;
 
-/// For each open IF whether its selected part stands here, the innermost first.
+/// For each open IF whether this is its selected part, the innermost first.
 #[derive(Drop)]
 pub(crate) struct Parts {
     selected: Vec<bool>,
@@ -29,7 +29,7 @@ impl Parts {
         }
     }
 
-    // An IF.
+    // Enters an IF.
     pub(crate) fn open(&mut self, is_selected: bool) -> Result<(), AllocError>
         ensures { OnOk result (self.new ≡ is_selected ∷ self.old) }
     {
@@ -37,7 +37,7 @@ impl Parts {
         Ok(())
     }
 
-    // An ELSE switches the innermost IF to its other part.
+    // Switches the innermost IF to its other part, at an ELSE.
     pub(crate) fn switch(&mut self)
         ensures { self.new ≡ switch_innermost self.old }
     {
@@ -47,21 +47,21 @@ impl Parts {
         }
     }
 
-    // An ENDIF.
+    // Leaves the innermost IF, at an ENDIF.
     pub(crate) fn close(&mut self)
         ensures { self.new ≡ outer self.old }
     {
         let _ = self.selected.pop();
     }
 
-    // Whether each IF selects the part that stands here.
+    // Whether each IF selects this part.
     pub(crate) fn all(&self) -> bool
         ensures { result ≡ list_all (λ b. b) self.now }
     {
         are_true(&self.selected)
     }
 
-    // The same without the innermost.
+    // Whether each IF but the innermost does.
     pub(crate) fn all_outer(&self) -> bool
         ensures { result ≡ list_all (λ b. b) (outer self.now) }
     {

@@ -1,5 +1,5 @@
-//! Symbols: names with what they stand for (8080/8085 Assembly Language Programming Manual,
-//! chapter 2, "Symbols and symbol tables").
+//! Symbols: names with their values (8080/8085 Assembly Language Programming Manual, chapter 2,
+//! "Symbols and symbol tables").
 ghost use Rattle.std.specs.Prelude.{◌≡◌, [], length, option_map, slice_get, fold, OnOk, OnErr, IfOk};
 
 use indexmap::IndexMap;
@@ -28,14 +28,14 @@ impl SymbolKind {
     }
 }
 
-/// What a name stands for.
+/// The value of a name, and how it was defined.
 #[derive(Clone, Copy)]
 pub struct Symbol {
     pub value: u16,
     pub kind: SymbolKind,
 }
 
-/// Names, in upper case, with what they stand for, in order of definition.
+/// Names, in upper case, with their values, in the order of definition.
 pub struct Symbols {
     entries: IndexMap<String, Symbol>,
 }
@@ -71,21 +71,21 @@ impl Symbols {
         }
     }
 
-    /// How many there are.
+    /// The number of symbols.
     pub fn len(&self) -> usize
         ensures { result ≡ length self.now }
     {
         self.entries.len()
     }
 
-    /// What a name, in upper case, stands for.
+    /// The symbol of this name, which is in upper case.
     pub fn get(&self, name: &str) -> Option<Symbol>
         ensures { result ≡ symbol_at self.now name.now }
     {
         self.entries.get(name).copied()
     }
 
-    /// The name that was defined as the one of this index, from 0, and what it stands for.
+    /// The name at this index, from 0, in the order of definition, and its symbol.
     pub fn at(&self, index: usize) -> Option<(&str, Symbol)>
         ensures { option_map (λ e. (e.0.now, e.1)) result ≡ slice_get self.now index }
     {
@@ -93,7 +93,7 @@ impl Symbols {
         Some((name.as_str(), *symbol))
     }
 
-    // Lets a name stand for this from now on. One that is there keeps its place.
+    // Adds a symbol, or replaces the one of this name in its place.
     pub(crate) fn define(
         &mut self,
         alloc: Global,
@@ -108,7 +108,7 @@ impl Symbols {
         Ok(())
     }
 
-    // The same symbols again.
+    // A copy of the symbols.
     pub(crate) fn copy(&self) -> Result<Symbols, AllocError>
         ensures { IfOk result (λ s. s ≡ self.now) }
     {
@@ -116,7 +116,7 @@ impl Symbols {
         Ok(Symbols { entries })
     }
 
-    // Defines each of the others in turn.
+    // Adds the others, each in turn.
     pub(crate) fn define_all(&mut self, alloc: Global, others: &Symbols) -> Result<(), AllocError>
         ensures { OnOk result (self.new
             ≡ fold (λ es e. with_symbol es e.0 e.1) self.old others.now) }

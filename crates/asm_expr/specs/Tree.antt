@@ -10,7 +10,7 @@ use Rattle.asm_expr.specs.declared.expression.TreeFault.TheVariants.{OutOfMemory
 use Rattle.asm_expr.specs.declared.expression.Node.{Node}
 use Rattle.asm_expr.specs.declared.expression.Node.TheVariants as node
 
--- an expression: an atom, or an operator or a pair of parentheses with what it stands round
+-- an expression: an atom, an operator with its operands, or parentheses around an expression
 pub data Tree : Type 0 where
   Number : (n : ℕ) → Tree
   Here : Tree
@@ -25,7 +25,7 @@ atom_of (atom.Number n) = Number n
 atom_of atom.Here = Here
 atom_of (atom.Named x) = Named x
 
--- the tree that boxes in memory hold
+-- the tree that boxes in memory are
 abbrev pub tree_of : Node → Tree
 tree_of (node.Atom a) = atom_of a
 tree_of (node.Prefix' op p a) = Prefix op (tree_of a)

@@ -1,4 +1,4 @@
--- A tree in postfix order, as a list that gives it back: how a proof tells trees apart.
+-- A tree in postfix order, as a list from which it can be rebuilt: by it proofs tell trees apart.
 use Rattle.std.specs.Prelude.{◌≡◌, ℕ, List, [], ◌∷◌, ◌++◌, ◌⊎◌, zero, suc, refl}
 use Rattle.std.specs.Coded.{Coded, code_by, coded⊎, coded_ℕ, coded_list}
 use Rattle.std.proofs.Common.{inl, inr, ap, ◌∙◌}
@@ -44,7 +44,7 @@ abbrev pub first_tree : List Tree → Tree
 first_tree [] = Here
 first_tree (t ∷ ts) = t
 
--- the tree that items in postfix order are
+-- the tree of items in postfix order
 abbrev pub tree_from : List Item → Tree
 tree_from is = first_tree (stack_after is [])
 

@@ -1,5 +1,5 @@
--- What an expression is worth (8080/8085 Assembly Language Programming Manual, chapter 2,
--- "Assembly-time expression evaluation"): arithmetic without sign, modulo 65,536.
+-- The value of an expression (8080/8085 Assembly Language Programming Manual, chapter 2,
+-- "Assembly-time expression evaluation"): unsigned arithmetic, modulo 65,536.
 use Rattle.std.specs.Prelude.{ℕ, ◌+◌, ◌-◌, ◌*◌, ◌/◌, ◌%◌, ◌^◌, List, Bool, not, Option, Some, None, Result}
 use Rattle.std.specs.Prelude.{Ok, Err, if◌then◌else◌, nat_lt, nat_le, ◌==◌, is_some, unwrap_or, bit_and}
 use Rattle.std.specs.Prelude.{bit_or, bit_xor}
@@ -12,7 +12,7 @@ use Rattle.asm_expr.specs.Tree.{Tree, Number, Here, Named, Prefix, Infix, Parens
 use Rattle.asm_expr.specs.declared.evaluation.ExprFault.{ExprFault}
 use Rattle.asm_expr.specs.declared.evaluation.ExprFault.TheVariants.{Undefined, Divisor}
 
--- a comparison is worth FFFFh where it holds, else 0
+-- a comparison is FFFFh if it holds, else 0
 abbrev pub truth : Bool → ℕ
 truth b = if b then 65535 else 0
 
@@ -24,7 +24,7 @@ unary_of unary.Not x = 65535 - x
 unary_of unary.High x = x / 256
 unary_of unary.Low x = x % 256
 
--- what an operator between two operands gives: none where it divides by 0
+-- what an operator between two operands gives: none if it divides by 0
 abbrev pub binary_of : Binary → ℕ → ℕ → Option ℕ
 binary_of binary.Multiply x y = Some (x * y % 65536)
 binary_of binary.Divide x y = if y == 0 then None else Some (x / y)

@@ -1,4 +1,4 @@
-//! What names stand for.
+//! The values of names.
 ghost use Rattle.std.specs.Prelude.{◌≡◌, List, ℕ, Option};
 
 /// A finite map from names, in upper case, to 16-bit values.

@@ -1,4 +1,4 @@
-//! What an expression is worth.
+//! The value of an expression.
 ghost use Rattle.std.specs.Prelude.{◌≡◌};
 ghost use Rattle.asm_expr.specs.Tree.{tree_of};
 ghost use Rattle.asm_expr.specs.Value.{value_of, unary_of, binary_of, combine};
@@ -18,8 +18,8 @@ pub enum ExprFault {
     Divisor,
 }
 
-/// The value of an expression, where `env` has the values of names and `$` is `here`. Operators
-/// don't stop early: each part counts, whatever the others give.
+/// The value of an expression, where `env` has the values of names and `here` is that of `$`. All
+/// parts are evaluated: an `Undefined` anywhere comes before a `Divisor`.
 pub fn value<E: Env>(expression: &Expr, env: &E, here: u16) -> Result<u16, ExprFault>
     ensures { result ≡ value_of (E.values env.now) here expression.now }
 {

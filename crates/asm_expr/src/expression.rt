@@ -39,12 +39,12 @@ pub enum Binary {
     Xor,
 }
 
-/// What stands for itself in an expression.
+/// An operand without operators.
 #[derive(Drop)]
 pub enum Atom {
     /// A number, or the one or two characters of a string as a number.
     Number(u16),
-    /// `$`, the place of the statement.
+    /// `$`, the address of the statement.
     Here,
     /// A name.
     Named(Name),
@@ -59,7 +59,7 @@ pub(crate) enum Node {
     Parens(Box<Node>),
 }
 
-/// Why no tree was made.
+/// Why there is no tree.
 #[derive(Clone, Copy, Debug, PartialEq, Eq, Error)]
 pub enum TreeFault {
     /// Memory ran out.
@@ -80,8 +80,8 @@ impl<T: Drop> From<AllocFailed<T>> for TreeFault {
     }
 }
 
-/// An expression at most 64 deep, seen as its tree. An atom is 1 deep, an operator and a pair of
-/// parentheses 1 more than what they stand round.
+/// An expression at most 64 deep, seen as its tree. An atom is 1 deep, an operator with its operands
+/// 1 deeper than the deepest of them, and so is a pair of parentheses.
 #[derive(Drop)]
 pub struct Expr {
     node: Node,
@@ -103,7 +103,7 @@ impl Model for Expr {
 }
 
 impl Expr {
-    /// How deep the tree is, from 1 to 64.
+    /// The depth of the tree, from 1 to 64.
     pub fn depth(&self) -> u8
         ensures depth { result ≡ depth_of self.now }
         ensures within { result ≤ 64 }
@@ -167,7 +167,7 @@ impl Expr {
         Ok(Expr { node, depth })
     }
 
-    // The tree's top level.
+    // The root of the tree.
     pub(crate) fn node(&self) -> &Node
         ensures { tree_of result.now ≡ self.now }
     {
@@ -184,7 +184,7 @@ impl Expr {
     }
 }
 
-// Adds the names of a tree after those that are there.
+// Appends the names of a tree.
 fn add_names<'a>(node: &'a Node, names: &mut Vec<&'a Name>) -> Result<(), AllocError>
     ensures { OnOk result (map (λ n. n.now) names.new.items
         ≡ map (λ n. n.now) names.old.items ++ names_of (tree_of node.now)) }

@@ -1,8 +1,7 @@
-// Expressions of the 8080 assembly language: their trees, and what these are worth.
-// `Expr` is a tree at most 64 deep; `atom`, `prefix`, `infix` and `parens` make the tree that they
-// name, and refuse exactly the trees that would be deeper.
-// `value` is the number that a tree stands for, where names and `$` have given values: Undefined
-// where a name in it has none, else Divisor where a part of it divides by zero.
+// Expressions of the 8080 assembly language: their trees and values. `Expr` is a tree at most 64 deep;
+// `atom`, `prefix`, `infix` and `parens` build one, and refuse exactly the trees that would be deeper.
+// `value` returns the value of a tree, given those of names and of `$`: the fault is Undefined if a name in
+// it has no value, else Divisor if a part of it divides by zero.
 #![tactic(auto)]
 
 pub mod env;

@@ -21,7 +21,7 @@ impl Model for Name {
 }
 
 impl Name {
-    /// The name of these ASCII bytes, in upper case.
+    /// The name that these ASCII bytes are, in upper case.
     pub fn fold_case(alloc: Global, bytes: &[u8]) -> Result<Name, AllocError>
         requires { EachIndex bytes.now (λ k. slice_index bytes.now k < 128) }
         ensures { IfOk result (λ name. name ≡ map to_ascii_uppercase bytes.now) }
@@ -33,7 +33,7 @@ impl Name {
         Ok(Name { text })
     }
 
-    /// The same name again.
+    /// A copy of the name.
     pub fn copy(&self, alloc: Global) -> Result<Name, AllocError>
         ensures { IfOk result (λ name. name ≡ self.now) }
     {
@@ -41,7 +41,7 @@ impl Name {
         Ok(Name { text })
     }
 
-    /// The name's text.
+    /// The text of the name.
     pub fn as_str(&self) -> &str
         ensures { result.now ≡ self.now }
     {

@@ -11,3 +11,5 @@ pub mod Operands
 pub mod Shapes
 pub mod Trees
 pub mod OperandReadings
+pub mod HexNumerals
+pub mod SpelledLines

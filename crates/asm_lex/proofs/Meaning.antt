@@ -11,7 +11,7 @@ use Rattle.asm_lex.specs.declared.shape.Place.TheVariants.{BeforeOperand}
 use Rattle.asm_lex.specs.Operators.{symbols}
 use Rattle.asm_lex.specs.Shape.{shape, is_expression}
 use Rattle.asm_lex.specs.Climb.{expr_at, expression, first_column, whole}
-use Rattle.asm_lex.specs.Reading.{Spells, Reads, within_depth}
+use Rattle.asm_lex.specs.Reading.{Spells, IsTreeOf, within_depth}
 use Rattle.asm_lex.proofs.Shapes.{shape-spelled}
 use Rattle.asm_lex.proofs.Trees.{Found_whole, found_whole}
 use Rattle.asm_lex.proofs.OperandReadings.{reading_of}
@@ -22,7 +22,7 @@ shaped t ls s =
     ap (λ (r : List Lexeme). shape (Some (BeforeOperand 0)) r) (sym (append-nil ls))
     ∙ shape-spelled t 0 ls [] s
 
-pub expression_is : (column : ℕ) (ps : List Piece) (t : Tree) → Reads t ps
+pub expression_is : (column : ℕ) (ps : List Piece) (t : Tree) → IsTreeOf t ps
     → expression column ps ≡ within_depth (first_column ps) t
 unfolding expression
 expression_is column ps t r =
@@ -40,13 +40,13 @@ expression_is column ps t r =
         let deep : nat_le (depth_of t) 64 ≡ false = grind (arith, nat_tests) in
         rw (x.1, deep) refl
 
-pub shape_is : (ps : List Piece) → IsTrue (is_expression ps) ↔ ((t : Tree) × Reads t ps)
+pub shape_is : (ps : List Piece) → IsTrue (is_expression ps) ↔ ((t : Tree) × IsTreeOf t ps)
 shape_is ps = (
   λ h. let r = reading_of (symbols ps) h in (r.0, (r.1, r.2)),
   λ x. shaped x.0 (symbols ps) x.1.0,
 )
 
-pub no_expression : (column : ℕ) (ps : List Piece) → ((t : Tree) → Reads t ps → ⊥)
+pub no_expression : (column : ℕ) (ps : List Piece) → ((t : Tree) → IsTreeOf t ps → ⊥)
     → expression column ps ≡ Err (column, kind.Operands)
 unfolding expression
 no_expression column ps none = by (is_expression ps) refl

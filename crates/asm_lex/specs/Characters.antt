@@ -11,6 +11,6 @@ is_blank b = b == space || b == tab
 abbrev pub is_word_part : ℕ → Bool
 is_word_part b = is_ascii_alphanumeric b || (b == question_mark || b == at_sign)
 
--- a space, or an ASCII character that shows
+-- a space, or a visible ASCII character
 abbrev pub is_printed : ℕ → Bool
 is_printed b = nat_le space b && nat_le b tilde

@@ -27,7 +27,7 @@ Found = Result (Tree × List Lexeme) Fault
 unfoldable pub tree_or_nesting : ℕ → Tree → Result Tree Fault
 tree_or_nesting first t = if nat_le (depth_of t) 64 then Ok t else Err (first, kind.Nesting)
 
--- what stands in parentheses, after which the closing one must be
+-- the expression in parentheses, after which the closing one must be
 unfoldable pub after_parenthesis : ℕ → Tree → List Lexeme → Found
 after_parenthesis first a [] = Err (first, kind.Operands)
 after_parenthesis first a (l ∷ rest) =
@@ -37,7 +37,7 @@ after_parenthesis first a (l ∷ rest) =
       Ok (t, rest))
     else Err (first, kind.Operands)
 
--- a prefix operator takes what stronger operators join after it
+-- the operand of a prefix operator extends over stronger operators
 abbrev pub prefix_operation : ℕ → (ℕ → List Lexeme → Found) → Unary → List Lexeme → Found
 prefix_operation first expr op rest = do
   a ← expr (prefix_strength op + 1) rest
@@ -87,14 +87,14 @@ infix_operation first expr a ls next (Some x) = do
   t ← tree_or_nesting first (Infix x.0 a b.0)
   next t b.1
 
--- operators at least as strong as the level, joined to the left, fewer than `count` of them
+-- operators at least as strong as the level, associated to the left, fewer than `count` of them
 unfoldable pub chain : ℕ → (ℕ → List Lexeme → Found) → ℕ → ℕ → Tree → List Lexeme → Found
 chain first expr zero level a ls = Err (first, kind.Nesting)
 chain first expr (suc count) level a ls =
     infix_operation first expr a ls (chain first expr count level) (infix_at level ls)
 
--- the expression at the front whose operators are at least as strong as the level, in which at most
--- `n` expressions stand one inside of the other
+-- the expression at the front whose operators are at least as strong as the level, with at most `n`
+-- expressions nested in it
 unfoldable pub expr_at : ℕ → ℕ → ℕ → List Lexeme → Found
 expr_at first zero level ls = Err (first, kind.Nesting)
 expr_at first (suc n) level ls = do

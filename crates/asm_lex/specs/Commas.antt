@@ -1,7 +1,9 @@
--- Operands, which commas part, and operands that are one piece.
-use Rattle.std.specs.Prelude.{ℕ, List, [], ◌∷◌, Bool, Option, Some, None, if◌then◌else◌}
+-- Operands, which commas separate, and operands that are one piece.
+use Rattle.std.specs.Prelude.{ℕ, List, [], ◌∷◌, Bool, Option, Some, None, if◌then◌else◌, option_map}
+use denote.Ref.{Bor}
 use Rattle.asm_syntax.specs.Ascii.{comma}
-use Rattle.asm_syntax.specs.Lexemes.{Lexeme, Keyword, Text, Piece}
+use Rattle.asm_syntax.specs.Lexemes.{Lexeme, Keyword, Text, Piece, pieces_of}
+use Rattle.asm_syntax.specs.declared.token.Placed.{Placed}
 use Rattle.asm_syntax.specs.declared.keyword.Keyword.TheVariants as keyword
 use Rattle.asm_syntax.specs.declared.keyword.RegisterWord.{RegisterWord}
 use Rattle.asm_lex.specs.Operators.{is_sign}
@@ -38,6 +40,14 @@ next_operand (p ∷ ps) = if is_comma p.1 then ([], Some ps) else onto_front p (
 abbrev pub operands_after : Option (List Piece) → List (List Piece)
 operands_after None = []
 operands_after (Some ps) = operands_of ps
+
+-- the first operand, and those after it
+abbrev pub operands_in : List Piece × Option (List Piece) → List (List Piece)
+operands_in x = x.0 ∷ operands_after x.1
+
+-- the pieces of the tokens before a comma, and of those after it
+abbrev pub pieces_around : Bor (List Placed) × Option (Bor (List Placed)) → List Piece × Option (List Piece)
+pieces_around x = (pieces_of x.0.now, option_map (λ rest. pieces_of rest.now) x.1)
 
 -- the operand, where it is the only one
 abbrev pub single : List (List Piece) → Option (List Piece)

@@ -11,7 +11,7 @@ use Rattle.asm_syntax.specs.declared.keyword.Keyword.TheVariants as keyword
 use Rattle.asm_syntax.specs.Ascii.{dollar, asterisk, plus, minus, slash}
 use Rattle.asm_syntax.specs.Lexemes.{Lexeme, Name, Keyword, Number, Text, Sign, Piece}
 
--- a prefix operator takes what stronger operators join after it
+-- the operand of a prefix operator extends over stronger operators
 abbrev pub prefix_strength : Unary → ℕ
 prefix_strength unary.High = 7
 prefix_strength unary.Low = 7
@@ -60,7 +60,7 @@ infix_of (Sign s) =
 infix_of (Keyword (keyword.Infix op)) = Some op
 infix_of _ = None
 
--- what stands for itself: a number, a name, `$`
+-- an operand without operators: a number, a name, `$`
 abbrev pub atom_in : Lexeme → Option tree.Tree
 atom_in (Number n) = Some (tree.Number n)
 atom_in (Name x) = Some (tree.Named x)

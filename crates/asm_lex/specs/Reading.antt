@@ -1,4 +1,4 @@
--- When a tree is what lexemes say, whatever reads them.
+-- When a tree is the one that lexemes spell, however they are read.
 use Rattle.std.specs.Prelude.{◌≡◌, ℕ, ◌<◌, ◌≤◌, List, [], ◌∷◌, ◌++◌, Some, Result, Ok, Err, if◌then◌else◌}
 use Rattle.std.specs.Prelude.{nat_le, min}
 use Rattle.asm_expr.specs.Tree as tree
@@ -10,7 +10,7 @@ use Rattle.asm_syntax.specs.Outcome.{Fault}
 use Rattle.asm_lex.specs.Operators.{prefix_strength, infix_strength, prefix_of, infix_of, symbols}
 
 -- lexemes spell a tree: an atom by itself, an operator before its operand or between its operands,
--- and parentheses round what is inside
+-- and parentheses around what is inside
 abbrev pub Spells : tree.Tree → List Lexeme → Type 0
 Spells (tree.Number n) ls = ls ≡ Number n ∷ []
 Spells tree.Here ls = ls ≡ Sign dollar ∷ []
@@ -46,9 +46,9 @@ IsProper (tree.Infix op a b) =
 IsProper (tree.Parens a) = IsProper a
 IsProper _ = Unit {0}
 
--- a tree is what pieces say
-abbrev pub Reads : tree.Tree → List Piece → Type 0
-Reads t ps = Spells t (symbols ps) × IsProper t
+-- a tree is the one that pieces spell
+abbrev pub IsTreeOf : tree.Tree → List Piece → Type 0
+IsTreeOf t ps = Spells t (symbols ps) × IsProper t
 
 -- the operand with this tree, unless it is deeper than 64
 abbrev pub within_depth : ℕ → tree.Tree → Result Operand Fault

@@ -7,12 +7,12 @@ use Rattle.asm_lex.specs.Operators.{is_sign, prefix_of, infix_of, atom_in, symbo
 use Rattle.asm_lex.specs.declared.shape.Place.{Place}
 use Rattle.asm_lex.specs.declared.shape.Place.TheVariants.{BeforeOperand, AfterOperand}
 
--- where one stands after a closing parenthesis, if one is open
+-- the place after a closing parenthesis, if one is open
 abbrev pub closing : ℕ → Option Place
 closing zero = None
 closing (suc opened) = Some (AfterOperand opened)
 
--- where one stands after a lexeme, if it may stand there
+-- the place after a lexeme, if it is allowed here
 abbrev pub next_place : Place → Lexeme → Option Place
 next_place (BeforeOperand opened) l =
     if is_some (prefix_of l) then Some (BeforeOperand opened)
@@ -37,7 +37,7 @@ shape (Some place) (l ∷ ls) = shape (next_place place l) ls
 abbrev pub is_expression : List Piece → Bool
 is_expression ps = shape (Some (BeforeOperand 0)) (symbols ps)
 
--- how many parentheses are open
+-- the number of open parentheses
 abbrev pub opened_in : Place → ℕ
 opened_in (BeforeOperand opened) = opened
 opened_in (AfterOperand opened) = opened

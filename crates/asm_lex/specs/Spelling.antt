@@ -11,12 +11,12 @@ use Rattle.asm_syntax.specs.Outcome.{Fault}
 use Rattle.asm_lex.specs.Characters.{is_blank, is_word_part, is_printed}
 use Rattle.asm_lex.specs.Numbers.{number_of}
 
--- a character that passes stands at the front
+-- a character that passes is at the front
 abbrev pub Begins : (ℕ → Bool) → List ℕ → Type 0
 Begins p [] = ⊥
 Begins p (b ∷ rest) = p b ≡ true
 
--- no character that passes stands at the front
+-- no character that passes is at the front
 abbrev pub Stops : (ℕ → Bool) → List ℕ → Type 0
 Stops p [] = Unit {0}
 Stops p (b ∷ rest) = p b ≡ false
@@ -37,7 +37,7 @@ pub record IsDigits (text rest : List ℕ) : Type 0 where
   pub begins : Begins is_ascii_digit text
   pub span : IsSpan is_ascii_alphanumeric text rest
 
--- the character round strings
+-- the character around strings
 abbrev pub is_quote : ℕ → Bool
 is_quote b = b == quote
 
@@ -93,7 +93,7 @@ abbrev pub Spells : ℕ → List Piece → List ℕ → Type 0
 Spells column ps line =
     (last : ℕ) × (rest : List ℕ) × SpellsUpTo column ps line last rest × IsTail rest
 
--- what stands at the front is wrong in this way
+-- this is what is wrong at the front
 abbrev pub IsWrong : FaultKind → List ℕ → Type 0
 IsWrong kind.Character line = Begins (λ b. not (is_blank b || is_printed b)) line
 IsWrong kind.Number line =

@@ -1,20 +1,18 @@
-//! Operands, which commas part, and operands that are one token.
-ghost use Rattle.std.specs.Prelude.{◌≡◌, ◌<◌, ◌∷◌, length, option_map, IfSome};
+//! Operands, which commas separate, and operands that are one token.
+ghost use Rattle.std.specs.Prelude.{◌≡◌, ◌<◌, length, option_map, IfSome};
 ghost use Rattle.asm_syntax.specs.Lexemes.{pieces_of, characters_of};
-ghost use Rattle.asm_lex.specs.Commas.{operands_of, operands_after, split_commas, next_operand, single};
-ghost use Rattle.asm_lex.specs.Commas.{pair, register_of, text_of};
+ghost use Rattle.asm_lex.specs.Commas.{pieces_around, operands_in, operands_of, split_commas};
+ghost use Rattle.asm_lex.specs.Commas.{next_operand, single, pair, register_of, text_of};
 
 use crate::operators::is_sign;
 use asm_syntax::keyword::{Keyword, RegisterWord};
 use asm_syntax::token::{Placed, Token};
 
-/// The tokens before the first comma, and those after it if there is one: the first operand, and
-/// what the operands after it are read from. With no token there is one empty operand.
+/// The tokens before the first comma, which are the first operand, and those after it, if there is a
+/// comma. No tokens are one empty operand.
 pub fn next_operand<'a>(tokens: &'a [Placed<'a>]) -> (&'a [Placed<'a>], Option<&'a [Placed<'a>]>)
-    ensures value { (pieces_of result.0.now, option_map (λ rest. pieces_of rest.now) result.1)
-        ≡ next_operand (pieces_of tokens.now) }
-    ensures operands { operands_of (pieces_of tokens.now) ≡ pieces_of result.0.now
-        ∷ operands_after (option_map (λ rest. pieces_of rest.now) result.1) }
+    ensures value { pieces_around result ≡ next_operand (pieces_of tokens.now) }
+    ensures operands { operands_of (pieces_of tokens.now) ≡ operands_in (pieces_around result) }
     ensures shorter { IfSome result.1 (λ rest. length rest.now < length tokens.now) }
 {
     for (i, piece) in tokens.iter().enumerate() {
@@ -25,7 +23,7 @@ pub fn next_operand<'a>(tokens: &'a [Placed<'a>]) -> (&'a [Placed<'a>], Option<&
     (tokens, None)
 }
 
-/// The operand, where tokens are exactly one.
+/// The operand, if the tokens are exactly one.
 pub fn single<'a>(tokens: &'a [Placed<'a>]) -> Option<&'a [Placed<'a>]>
     ensures { option_map (λ operand. pieces_of operand.now) result
         ≡ single (split_commas (pieces_of tokens.now)) }
@@ -39,7 +37,7 @@ pub fn single<'a>(tokens: &'a [Placed<'a>]) -> Option<&'a [Placed<'a>]>
     }
 }
 
-/// The two operands, where tokens are exactly two.
+/// The two operands, if the tokens are exactly two.
 pub fn pair<'a>(tokens: &'a [Placed<'a>]) -> Option<(&'a [Placed<'a>], &'a [Placed<'a>])>
     ensures { option_map (λ x. (pieces_of x.0.now, pieces_of x.1.now)) result
         ≡ pair (split_commas (pieces_of tokens.now)) }
@@ -52,7 +50,7 @@ pub fn pair<'a>(tokens: &'a [Placed<'a>]) -> Option<(&'a [Placed<'a>], &'a [Plac
     }
 }
 
-/// The word of an operand that is one register or pair word.
+/// The word of an operand that is the name of a register or a pair.
 pub fn register(operand: &[Placed<'_>]) -> Option<RegisterWord>
     ensures { result ≡ register_of (pieces_of operand.now) }
 {

@@ -20,7 +20,7 @@ use asm_syntax::statement::Operand;
 use asm_syntax::token::Placed;
 use std::alloc::Global;
 
-// How deep an expression may be.
+// The greatest depth of an expression.
 const MOST_DEPTH: usize = 64;
 
 fn fault_at(column: usize, fault: TreeFault) -> LineFault
@@ -92,7 +92,7 @@ fn too_deep(first: usize) -> LineFault
     }
 }
 
-// The operator at the front and what is after it, if it is at least as strong as the level.
+// The operator at the front and the tokens after it, if it is at least as strong as the level.
 fn infix_at<'a>(level: u8, tokens: &'a [Placed<'a>]) -> Option<(Binary, &'a [Placed<'a>])>
     ensures { option_map (λ x. (x.0, symbols (pieces_of x.1.now))) result
         ≡ infix_at level (symbols (pieces_of tokens.now)) }
@@ -105,7 +105,7 @@ fn infix_at<'a>(level: u8, tokens: &'a [Placed<'a>]) -> Option<(Binary, &'a [Pla
     Some((operator, rest))
 }
 
-// What stands in parentheses, where the closing one is at the front.
+// The expression in parentheses, if the closing one is at the front.
 #[tactic(auto, unfolding(crate::specs::Climb::after_parenthesis))]
 fn close<'a>(
     alloc: Global,
@@ -155,9 +155,8 @@ fn operand_at<'a>(
     }
 }
 
-// The expression at the front whose operators are at least as strong as the level, in which at most
-// `n` expressions stand one inside of the other. More than 64 operators that join to the left are
-// deeper than 64.
+// The expression at the front whose operators are at least as strong as the level, with at most `n`
+// expressions nested in it. More than 64 operators that associate to the left are deeper than 64.
 #[cycle(climb)]
 #[tactic(auto, unfolding(crate::specs::Climb::expr_at))]
 fn expr_at<'a>(
@@ -186,12 +185,12 @@ fn expr_at<'a>(
     Err(too_deep(first))
 }
 
-/// The expression that an operand is, for an operation at this column: Operands at the operation
-/// where it is none, else Nesting at the operand's first character where its tree would be deeper
-/// than 64. HIGH and LOW bind strongest, then `*`, `/`, MOD, SHL and SHR, then `+` and `-`, also
-/// before an operand, then EQ to GE, then NOT, then AND, then OR and XOR (8080/8085 Assembly
+/// The expression of an operand, for an operation at this column. If it is no expression, the fault
+/// is `Operands` at the operation; if its tree would be deeper than 64, `Nesting` at the operand's
+/// first character. HIGH and LOW bind strongest, then `*`, `/`, MOD, SHL and SHR, then `+` and `-`,
+/// also before an operand, then EQ to GE, then NOT, then AND, then OR and XOR (8080/8085 Assembly
 /// Language Programming Manual, chapter 2, "Operand field"). Operators between operands associate
-/// to the left; one before an operand takes what stronger operators join after it.
+/// to the left; the operand of one before an operand extends over stronger operators.
 #[tactic(auto, unfolding(crate::specs::Climb::expression))]
 pub fn expression(
     alloc: Global,

@@ -16,7 +16,7 @@ use asm_syntax::token::{Placed, Token, Word};
 use asm_syntax::word::word_token;
 use std::alloc::Global;
 
-// How many letters and digits stand at the front.
+// The number of letters and digits at the front.
 fn span_len(bytes: &[u8]) -> usize
     ensures { result ≡ length (take_while is_ascii_alphanumeric bytes.now) }
 {
@@ -26,7 +26,7 @@ fn span_len(bytes: &[u8]) -> usize
         .count()
 }
 
-// How many characters of a word stand at the front.
+// The number of characters of a word at the front.
 fn word_len(bytes: &[u8]) -> usize
     ensures ascii { (k : ℕ) → k < result → slice_index bytes.now k < 128 }
     ensures value { result ≡ length (take_while is_word_part bytes.now) }
@@ -47,7 +47,7 @@ fn number_at(bytes: &[u8]) -> Result<(Token<'_>, usize), FaultKind>
     }
 }
 
-// The string whose opening quote stands at the front.
+// The string whose opening quote is at the front.
 fn text_at(bytes: &[u8]) -> Result<(Token<'_>, usize), FaultKind>
     requires { 0 < length bytes.now }
     ensures value { read_of result ≡ text_read (drop 1 bytes.now) (closing_quote (drop 1 bytes.now)) }
@@ -95,13 +95,13 @@ fn token_at(bytes: &[u8]) -> Result<(Token<'_>, usize), FaultKind>
 
 /// The tokens of a line up to its end or its comment, with their columns from 1.
 ///
-/// What is wrong is the leftmost of these, and there is no other fault than these and `OutOfMemory`:
-/// - `Character`: a character outside of 20h to 7Eh that is no tab, and in no string;
-/// - `Number`, at its first digit: above 65,535, or a digit that its base doesn't have;
-/// - `Text`, at its opening quote: a string that isn't closed, that has no character or more than
-///   128, or one outside of 20h to 7Eh.
+/// The fault is the leftmost of these, or `OutOfMemory`:
+/// - `Character`: a character outside of 20h to 7Eh other than a tab, and not in a string;
+/// - `Number`, at its first digit: a number above 65,535, or a digit that its base doesn't have;
+/// - `Text`, at its opening quote: a string that isn't closed, that is empty or longer than 128, or
+///   that has a character outside of 20h to 7Eh.
 ///
-/// Anything may stand in a comment.
+/// A comment may have any characters.
 pub fn tokens<'a>(alloc: Global, line: &'a [u8]) -> Result<Vec<Placed<'a>>, LineFault>
     ensures { LineGives (λ v. pieces_of v.items) result (tokens_of line.now) }
 {

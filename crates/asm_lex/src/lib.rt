@@ -1,8 +1,8 @@
-// From a line of 8080 assembly language to its tokens, and from the tokens after an operation to its operands.
-// `tokens` returns exactly the tokens that the line spells, or its first fault at its column; each line spells
-// one list or one fault, as `laws` says. Tokens borrow the line, in time proportional to its length.
-// `misplaced_word` finds the leftmost word that can't stand where it does; `next_operand` cuts at commas.
-// `expression` makes a tree by the strength of its operators, unless that is deeper than 64.
+// The tokens of a line of 8080 assembly language, and the operands in the tokens after an operation.
+// `tokens` returns the tokens that the line spells, or its first fault at its column; `laws` says that each
+// line spells one list or one fault. Tokens borrow from the line; time is proportional to its length.
+// `misplaced_word` finds the leftmost word that can't stand where it does; `next_operand` splits at commas;
+// `expression` builds a tree by the precedence of its operators, at most 64 deep.
 #![tactic(auto)]
 
 mod class;

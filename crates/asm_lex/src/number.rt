@@ -15,7 +15,7 @@ fn digit(b: u8) -> u32
     }
 }
 
-// The number that the digits spell, if it is below 65,536 and each is a digit of the base.
+// The number of these digits, if it is below 65,536 and each is a digit of the base.
 fn in_base(base: u32, digits: &[u8]) -> Option<u16>
     requires low { 2 ≤ base }
     requires high { base ≤ 16 }
@@ -35,7 +35,7 @@ fn in_base(base: u32, digits: &[u8]) -> Option<u16>
     Some(n as u16)
 }
 
-/// The number that letters and digits are.
+/// The number that letters and digits spell, if they do.
 pub fn number_of(digits: &[u8]) -> Option<u16>
     requires { 0 < length digits.now }
     ensures { result ≡ number_of digits.now }

@@ -54,7 +54,7 @@ pub(crate) fn is_sign(character: u8, token: Token<'_>) -> bool
     }
 }
 
-// The token that stands in an expression for this one: a number for one or two characters.
+// The token that an expression takes for this one: a number for a string of one or two characters.
 pub(crate) fn plain(token: Token<'_>) -> Token<'_>
     ensures { lexeme_of result ≡ plain (lexeme_of token.entry) }
 {

@@ -7,7 +7,7 @@ ghost use Rattle.asm_lex.specs.Texts.{closing_quote, is_text};
 
 use crate::class::is_printed;
 
-// Where the closing quote stands after an opening one.
+/// The index of the closing quote, in the bytes after the opening one.
 pub fn find_closing_quote(bytes: &[u8]) -> Option<usize>
     ensures value { result ≡ closing_quote bytes.now }
     ensures within { IfSome result (λ n. n < length bytes.now) }
@@ -28,7 +28,7 @@ pub fn find_closing_quote(bytes: &[u8]) -> Option<usize>
     None
 }
 
-// The number of characters, a doubled quote as one.
+// The number of characters, where a doubled quote counts once.
 fn character_count(text: &[u8]) -> usize
     ensures { result ≡ length (characters_of text.now) }
 {
@@ -52,7 +52,7 @@ fn all_printed(text: &[u8]) -> bool
     text.iter().all(|b| is_printed(*b))
 }
 
-// Whether this may stand between a string's quotes.
+/// Whether this may be between a string's quotes: from 1 to 128 characters of 20h to 7Eh.
 pub fn is_text(text: &[u8]) -> bool
     ensures { result ≡ is_text text.now }
 {

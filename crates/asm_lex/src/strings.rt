@@ -6,7 +6,7 @@ ghost use Rattle.asm_lex.specs.Operators.{number_of};
 use base_text::sequence::Sequence;
 use std::alloc::{AllocError, Global};
 
-// The first character and what stands after it, where a doubled quote is one character.
+// The first character and what is after it, where a doubled quote is one character.
 fn next_character(text: &[u8]) -> Option<(u8, &[u8])>
     ensures read { MatchOption result (text.now ≡ [])
         (λ x. characters_of text.now ≡ x.0 ∷ characters_of x.1.now) }
@@ -19,7 +19,7 @@ fn next_character(text: &[u8]) -> Option<(u8, &[u8])>
     }
 }
 
-// The number that one or two characters are, the first one high.
+// One or two characters as a number, with the first in the high byte.
 pub(crate) fn number(text: &[u8]) -> Option<u16>
     ensures { result ≡ number_of (characters_of text.now) }
 {
@@ -34,7 +34,7 @@ pub(crate) fn number(text: &[u8]) -> Option<u16>
     }
 }
 
-/// The characters of a string, where `text` is what stands between its outer quotes: a doubled
+/// The characters of a string, where `text` is what is between its outer quotes: a doubled
 /// quote in it is one character (8080/8085 Assembly Language Programming Manual, chapter 2).
 pub fn string_bytes(alloc: Global, text: &[u8]) -> Result<Sequence<u8>, AllocError>
     ensures { IfOk result (λ bytes. bytes ≡ characters_of text.now) }

@@ -55,9 +55,8 @@ fn is_misplaced(
 }
 
 /// The column of the leftmost word that can't stand where it does: a word of more than 31
-/// characters anywhere, and where an atom of an expression should begin any word that means
-/// something by itself, but for the prefix operators HIGH, LOW and NOT, and but for a register, a
-/// pair, SP or PSW that is a whole operand.
+/// characters, or a keyword where an atom of an expression should begin. HIGH, LOW and NOT may stand
+/// there, and so may a register, a pair, SP or PSW that is a whole operand.
 #[tactic(auto, unfolding(crate::specs::Words::misplaced_from))]
 pub fn misplaced_word(operands: &[Placed<'_>]) -> Option<usize>
     ensures { result ≡ misplaced_word (pieces_of operands.now) }

@@ -17,14 +17,14 @@ pub data Lexeme : Type 0 where
   Text : (characters : List ℕ) → Lexeme
   Sign : (character : ℕ) → Lexeme
 
--- the characters of what stands between a string's outer quotes: a doubled quote counts once
+-- the characters of what is between a string's outer quotes: a doubled quote counts once
 abbrev pub characters_of : List ℕ → List ℕ
 characters_of [] = []
 characters_of (c ∷ []) = c ∷ []
 characters_of (c ∷ d ∷ rest) =
     if c == quote then c ∷ characters_of rest else c ∷ characters_of (d ∷ rest)
 
--- a word that means this by itself is a keyword, else a name
+-- a word with a meaning of its own is a keyword, else a name
 abbrev pub name_or_keyword : List ℕ → Option keyword.Keyword → Lexeme
 name_or_keyword word None = Name word
 name_or_keyword word (Some k) = Keyword k

@@ -1,4 +1,4 @@
--- What a line or a cell gives, or what is wrong with it, and how a function's answer shows that.
+-- What a line or a cell gives, or what is wrong with it, and when a function's result is that.
 use Rattle.std.specs.Prelude.{◌≡◌, ◌<◌, ◌⊎◌, ℕ, List, ◌∷◌, Result, Ok, Err}
 use Rattle.asm_syntax.specs.declared.fault.FaultKind.{FaultKind}
 use Rattle.asm_syntax.specs.declared.fault.LineFault.{LineFault}
@@ -14,7 +14,7 @@ Fault = ℕ × FaultKind
 abbrev pub CellFault : Type 0
 CellFault = ℕ × ℕ × FaultKind
 
--- where a fault comes among others is a list of numbers: the first that differ decide
+-- faults are ordered by lists of numbers: the first numbers that differ decide
 abbrev pub ComesBefore : List ℕ → List ℕ → Type 0
 ComesBefore (a ∷ more) (b ∷ others) = (a < b) ⊎ ((a ≡ b) × ComesBefore more others)
 ComesBefore _ _ = ⊥
@@ -30,7 +30,7 @@ abbrev pub LineFails : {Y : Type 0} → LineFault → Result Y Fault → Type 0
 LineFails line.OutOfMemory read = Unit {0}
 LineFails (line.At column kind) read = read ≡ Err (column, kind)
 
--- what it answers, seen by view, is what was read
+-- what it returns, seen by view, is what was read
 abbrev pub LineGives : {X Y : Type 0} → (X → Y) → Result X LineFault → Result Y Fault → Type 0
 LineGives view (Ok x) read = read ≡ Ok (view x)
 LineGives view (Err e) read = LineFails e read
@@ -40,7 +40,7 @@ abbrev pub Fails : {Y : Type 0} → AsmFault → Result Y CellFault → Type 0
 Fails asm.OutOfMemory read = Unit {0}
 Fails (asm.At line column kind) read = read ≡ Err (line, column, kind)
 
--- and its answer
+-- and its result
 abbrev pub Gives : {X Y : Type 0} → (X → Y) → Result X AsmFault → Result Y CellFault → Type 0
 Gives view (Ok x) read = read ≡ Ok (view x)
 Gives view (Err e) read = Fails e read

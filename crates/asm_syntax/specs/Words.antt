@@ -1,4 +1,4 @@
--- Words that mean something by themselves (8080/8085 Assembly Language Programming Manual): the
+-- Keywords, the words that can't be names (8080/8085 Assembly Language Programming Manual): the
 -- instructions by the groups of its chapter 1, "Instruction set", the directives of chapter 4, the
 -- operators of chapter 2, "Operand field", and the names of registers and pairs.
 use Rattle.std.specs.Prelude.{ℕ, List, [], ◌∷◌, ◌++◌, Option, codes}
@@ -195,6 +195,6 @@ reserved_words =
     transfer_words ++ (arithmetic_words ++ (logical_words ++ (branch_words ++ (stack_words
     ++ (directive_words ++ (operator_words ++ register_words))))))
 
--- what a word in upper case means, if it is no name
+-- the meaning of a word in upper case, if it can't be a name
 unfoldable pub keyword_of : List ℕ → Option Keyword
 keyword_of word = lookup (bytes_eq word) reserved_words

@@ -6,16 +6,16 @@ use std::alloc::{AllocError, AllocFailed};
 use std::fmt;
 use thiserror::Error;
 
-/// What is wrong at a place of a cell.
+/// What is wrong at a place in a cell.
 #[derive(Clone, Copy, PartialEq, Eq, Error)]
 pub enum FaultKind {
-    /// A character that can't stand outside of comments.
+    /// A character that is only allowed in comments.
     Character,
     /// A number above 65,535, or with a digit that its base doesn't have.
     Number,
-    /// A string that isn't closed, is empty or too long, or has a character that none may have.
+    /// A string that isn't closed, is empty or too long, or has a character that isn't allowed in strings.
     Text,
-    /// A word that stands where a name must, and can't be one.
+    /// A word that can't be a name, where one must stand.
     Name,
     /// No mnemonic or directive where one must stand.
     Mnemonic,
@@ -33,18 +33,18 @@ pub enum FaultKind {
     Nesting,
     /// A second definition of a name.
     Twice,
-    /// A value that is needed before it is there, or a definition that comes too late.
+    /// A value that is needed before its definition, or a definition that comes too late.
     Early,
-    /// A value that doesn't fit its byte, or no number of a restart.
+    /// A value that doesn't fit in a byte, or isn't the number of a restart.
     ByteRange,
-    /// A byte at an address that has one.
+    /// A second byte at an address.
     Overlap,
-    /// A byte past the last address, 65,535.
+    /// A byte past the last address, 0FFFFH.
     PastEnd,
 }
 
 impl FaultKind {
-    /// What is wrong, in one word, as it is shown after a line and a column.
+    /// The fault in one word, as it is shown after a line and a column.
     pub fn name(self) -> &'static str
         ensures { result.now ≡ fault_name self }
     {
@@ -81,7 +81,7 @@ impl fmt::Debug for FaultKind {
     }
 }
 
-/// Why a line isn't read: memory ran out, or what is wrong at a column from 1.
+/// Why a line has no statement: out of memory, or a fault at a column, from 1.
 #[derive(Clone, Copy, Debug, PartialEq, Eq, Error)]
 pub enum LineFault {
     #[error("OutOfMemory")]
@@ -110,7 +110,7 @@ impl<T: Drop> From<AllocFailed<T>> for LineFault {
     }
 }
 
-/// Why a cell isn't assembled: memory ran out, or what is wrong at a line and a column from 1.
+/// Why a cell isn't assembled: out of memory, or a fault at a line and a column, from 1.
 #[derive(Clone, Copy, Debug, PartialEq, Eq, Error)]
 pub enum AsmFault {
     #[error("OutOfMemory")]

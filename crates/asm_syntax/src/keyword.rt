@@ -1,4 +1,4 @@
-//! Words that mean something by themselves, in upper case.
+//! Keywords: the words that can't be names.
 ghost use Rattle.std.specs.Prelude.{◌≡◌, map};
 ghost use Rattle.std.specs.Char.{to_ascii_uppercase};
 ghost use Rattle.std.specs.Str.{bytes_eq};
@@ -8,7 +8,7 @@ ghost use Rattle.asm_syntax.specs.Words.{keyword_of};
 use asm_expr::expression::{Binary, Unary};
 use i80_rows::instruction::{ByteOperation, Cond, Instr, Operation, Rotation, WordOperation};
 
-/// An instruction that lacks a register.
+/// An instruction but for its register.
 #[derive(Clone, Copy)]
 pub enum RegisterOperation {
     /// INR.
@@ -19,7 +19,7 @@ pub enum RegisterOperation {
     Alu(Operation),
 }
 
-/// An instruction that lacks a pair.
+/// An instruction but for its pair.
 #[derive(Clone, Copy)]
 pub enum PairOperation {
     /// INX.
@@ -30,7 +30,7 @@ pub enum PairOperation {
     Add,
 }
 
-/// An instruction that lacks the pair with its address.
+/// An instruction but for the pair with its address.
 #[derive(Clone, Copy)]
 pub enum IndexOperation {
     /// STAX.
@@ -39,7 +39,7 @@ pub enum IndexOperation {
     Load,
 }
 
-/// An instruction that lacks what it moves to or from the stack.
+/// An instruction but for what it moves to or from the stack.
 #[derive(Clone, Copy)]
 pub enum StackOperation {
     Push,
@@ -89,7 +89,7 @@ pub enum Directive {
     End,
 }
 
-/// A register, a pair by its first register, SP or PSW.
+/// A register, a pair, named by its first register, SP or PSW.
 #[derive(Clone, Copy, PartialEq, Eq)]
 pub enum RegisterWord {
     A,
@@ -104,7 +104,7 @@ pub enum RegisterWord {
     Psw,
 }
 
-/// What a word that can't be a name means.
+/// The meaning of a word that can't be a name.
 #[derive(Clone, Copy)]
 pub enum Keyword {
     Mnemonic(Mnemonic),
@@ -396,7 +396,7 @@ pub const KEYWORDS: [(&str, Keyword); 113] = [
     ("PSW", Keyword::Register(RegisterWord::Psw)),
 ];
 
-// Whether a word in either case is this text.
+// Whether a word is this text, whatever its case.
 fn is_word(word: &[u8], text: &[u8]) -> bool
     ensures { result ≡ bytes_eq (map to_ascii_uppercase word.now) text.now }
 {
@@ -412,7 +412,7 @@ fn is_word(word: &[u8], text: &[u8]) -> bool
     found.is_empty()
 }
 
-// What a word in either case means by a table.
+// The meaning of a word in a table, whatever its case.
 fn found_in(table: &[(&str, Keyword)], word: &[u8]) -> Option<Keyword>
     ensures { result ≡ lookup (bytes_eq (map to_ascii_uppercase word.now))
         (map (λ e. (e.0.now, e.1)) table.now) }
@@ -425,7 +425,7 @@ fn found_in(table: &[(&str, Keyword)], word: &[u8]) -> Option<Keyword>
     None
 }
 
-/// What a word in either case means, if it can't be a name.
+/// The meaning of a word, whatever its case, if it can't be a name.
 #[tactic(auto, using(crate::proofs::Tables::keywords_are))]
 pub fn keyword_of(word: &[u8]) -> Option<Keyword>
     ensures { result ≡ keyword_of (map to_ascii_uppercase word.now) }

@@ -1,4 +1,4 @@
-//! What a line says.
+//! Statements: what lines say.
 ghost use Rattle.std.specs.Prelude.{◌≡◌, ◌≤◌, ◌<◌, ◌++◌, ◌∷◌, [], length, OnOk, OnErr};
 
 use asm_expr::expression::Expr;
@@ -8,7 +8,7 @@ use i80_rows::instruction::{ByteOperation, Instr, WordOperation};
 use std::alloc::{AllocError, Global};
 use std::marker::Model;
 
-/// The most lines that a cell has.
+/// The most lines of a cell.
 pub const MOST_LINES: usize = 65_537;
 
 /// An expression and the column, from 1, of its first character.
@@ -18,17 +18,17 @@ pub struct Operand {
     pub expr: Expr,
 }
 
-/// A name that a statement defines, and the column at which it stands.
+/// A name that a statement defines, and its column.
 #[derive(Drop)]
 pub struct Label {
     pub column: usize,
     pub name: Name,
 }
 
-/// An instruction, with the expression that its operand is.
+/// An instruction, with the expression of its operand if it has one.
 #[derive(Drop)]
 pub enum Instruction {
-    /// One byte long, with no expression.
+    /// One byte, without an expression.
     Alone(Instr),
     Byte(ByteOperation, Operand),
     Word(WordOperation, Operand),
@@ -39,7 +39,7 @@ pub enum Instruction {
 /// An operand of DB.
 #[derive(Drop)]
 pub enum Data {
-    /// The bytes of a string that stands alone, from 1 to 128.
+    /// The bytes of a string that is a whole operand, from 1 to 128.
     Text(Sequence<u8>),
     Byte(Operand),
 }

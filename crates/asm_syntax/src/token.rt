@@ -4,25 +4,25 @@ ghost use Rattle.std.specs.Prelude.{◌<◌, EachIndex, slice_index};
 
 use crate::keyword::Keyword;
 
-/// Letters, digits, `?` and `@`, the first no digit, as they stand in the line.
+/// Letters, digits, `?` and `@`, the first not a digit, as they are in the line.
 #[derive(Clone, Copy)]
 pub struct Word<'a> {
     pub letters: &'a [u8],
     ghost ascii: { EachIndex letters.now (λ k. slice_index letters.now k < 128) },
 }
 
-/// A piece of a line, which it borrows.
+/// A piece of a line, borrowed from it.
 #[derive(Clone, Copy)]
 pub enum Token<'a> {
-    /// A word that can be a name: at most 31 characters, and no keyword.
+    /// A word that can be a name: at most 31 characters, and not a keyword.
     Name(Word<'a>),
-    /// A word that means something by itself.
+    /// A word that can't be a name.
     Keyword(Keyword),
     /// A word of more than 31 characters.
     Overlong,
     /// A number.
     Number(u16),
-    /// What stands between a string's outer quotes: a quote in it is still doubled.
+    /// What is between a string's outer quotes; a quote in it is still doubled.
     Text(&'a [u8]),
     /// Any other character of 21h to 7Eh.
     Sign(u8),

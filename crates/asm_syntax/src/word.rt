@@ -1,4 +1,4 @@
-//! What words are.
+//! Words as tokens.
 ghost use Rattle.std.specs.Prelude.{◌≡◌, map};
 ghost use Rattle.std.specs.Char.{to_ascii_uppercase};
 ghost use Rattle.asm_syntax.specs.Lexemes.{lexeme_of, word_lexeme};
@@ -6,7 +6,7 @@ ghost use Rattle.asm_syntax.specs.Lexemes.{lexeme_of, word_lexeme};
 use crate::keyword::keyword_of;
 use crate::token::{Token, Word};
 
-/// The token that a word is, in whichever case it stands.
+/// The token of a word, whatever its case.
 pub fn word_token(word: Word<'_>) -> Token<'_>
     ensures { lexeme_of result ≡ word_lexeme (map to_ascii_uppercase word.entry.letters.now) }
 {

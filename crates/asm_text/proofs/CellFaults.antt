@@ -15,7 +15,7 @@ use Rattle.asm_syntax.specs.Lexemes.{Lexeme, Piece, Name, Keyword, Overlong}
 use Rattle.asm_syntax.specs.Outcome.{Fault, CellFault, ComesBefore, ◌>>=◌, at_line}
 use Rattle.asm_lex.specs.Spelling.{IsWrong}
 use Rattle.asm_text.specs.declared.open_if.OpenIf.{OpenIf}
-use Rattle.asm_text.specs.Cells.{LinesSay, Ends, LineFault, left_open, Unmatched, Unclosed, IfFault}
+use Rattle.asm_text.specs.Cells.{LinesSay, EndsText, LineFault, left_open, Unmatched, Unclosed, IfFault}
 use Rattle.asm_text.specs.Cells.{IsTooLong, StandsInText, stage, order, IsFaultOf}
 use Rattle.asm_text.specs.Conditionals.{with_else, at_if, at_else, open_after_action, open_after, all_closed}
 use Rattle.asm_text.specs.Faults.{IsNoName, StandsAfter, StandsIn, StandsOn, WrongLabel, rank}
@@ -270,7 +270,7 @@ broken n os l ls f v = (inl (inl (refl, v.0)), first)
 
 -- what else is wrong, given what the line says
 abbrev Rest : ℕ → List OpenIf → List ℕ → List (List ℕ) → Statement → CellFault → Type 0
-Rest n os l ls s h = ((Ends l → ⊥) × LineFault (n + 1) ls h) ⊎ Here n os ls h s
+Rest n os l ls s h = ((EndsText l → ⊥) × LineFault (n + 1) ls h) ⊎ Here n os ls h s
 
 rest_of : (n : ℕ) (os : List OpenIf) (l : List ℕ) (ls : List (List ℕ)) (s : Statement) → OnLine l (Ok s)
     → (h : CellFault) → LinesFault n os (l ∷ ls) h → Rest n os l ls s h
@@ -394,7 +394,7 @@ goes_on n os ps l ls s v w e (Ok ss) m =
         ap (λ (x : Statement). x ∷ ts) is ∙ ap (λ (x : List Statement). s ∷ x) more
 goes_on n os ps l ls s v w e (Err g) m = (fault_of n os l ls s v g (stands m.0), first)
   where
-    no_end : Ends l → ⊥
+    no_end : EndsText l → ⊥
     no_end x =
         let is : is_end_action x.0.operation ≡ is_end_action s.operation =
         ap (λ (t : Statement). is_end_action t.operation) (v.2 x.0 x.1) in

@@ -19,7 +19,7 @@ use Rattle.asm_syntax.specs.Outcome.{Fault, ◌>>=◌}
 use Rattle.asm_lex.specs.Climb.{expression, first_column}
 use Rattle.asm_lex.specs.Commas.{is_comma, onto_first, operands_of, split_commas, text_in, text_of}
 use Rattle.asm_lex.specs.Operators.{number_of}
-use Rattle.asm_lex.specs.Reading.{Reads}
+use Rattle.asm_lex.specs.Reading.{IsTreeOf}
 use Rattle.asm_lex.specs.Shape.{is_expression, shape}
 use Rattle.asm_lex.proofs.Meaning.{expression_is, shape_is}
 use Rattle.asm_text.specs.Faults.{IsDeep}
@@ -41,7 +41,7 @@ abbrev pub InOrder : List (List Piece) → Type 0
 InOrder [] = Unit {0}
 InOrder (o ∷ os) = ((k : ℕ) → IsDeep os k → first_column o ≤ k) × InOrder os
 
-nothing_read : (t : Tree) → Reads t [] → ⊥
+nothing_read : (t : Tree) → IsTreeOf t [] → ⊥
 unfolding shape
 nothing_read t r =
     let h : is_expression [] ≡ true = (shape_is []).1 (t, r) in
@@ -96,9 +96,9 @@ in_order (p ∷ ps) column r = (order_from (p ∷ ps) column r).0
 -- what is known of one of them that has its form
 abbrev OneJudged : {A : Type 0} → (A → List Piece → Type 0) → List Piece → Result A Fault → Type 0
 OneJudged {A} says o (Ok a) =
-    says a o × ((t : Tree) → Reads t o → depth_of t ≤ 64) × ((b : A) → says b o → b ≡ a)
+    says a o × ((t : Tree) → IsTreeOf t o → depth_of t ≤ 64) × ((b : A) → says b o → b ≡ a)
 OneJudged {A} says o (Err g) =
-    (g ≡ (first_column o, kind.Nesting)) × (t : Tree) × Reads t o × (64 < depth_of t) × (a : A) × says a o
+    (g ≡ (first_column o, kind.Nesting)) × (t : Tree) × IsTreeOf t o × (64 < depth_of t) × (a : A) × says a o
 
 abbrev EachJudged : {A : Type 0} → (A → List Piece → Type 0) → List (List Piece) → Result (List A) Fault
     → Type 0
@@ -123,7 +123,7 @@ each_more says o os a xs one more [] e = absurd e
 each_more {A} says o os a xs one more (b ∷ bs) e =
     ap (λ (x : A). x ∷ bs) (one b e.0) ∙ ap (λ (xs : List A). a ∷ xs) (more bs e.1)
 
-deep_later : (o : List Piece) (os : List (List Piece)) (k : ℕ) → ((t : Tree) → Reads t o → depth_of t ≤ 64)
+deep_later : (o : List Piece) (os : List (List Piece)) (k : ℕ) → ((t : Tree) → IsTreeOf t o → depth_of t ≤ 64)
     → IsDeep (o ∷ os) k → IsDeep os k
 deep_later o os k low (inl d) = let le = low d.1 d.2 in let gt = d.3 in absurd (omega (arith, le, gt))
 deep_later o os k low (inr d) = d
@@ -246,25 +246,26 @@ is_text t (p ∷ []) h = word_text t p.0 p.1 h
 is_text t (p ∷ q ∷ ps) h = absurd (none_some t h)
 
 number_shallow : (column : ℕ) (t : List ℕ) (n : ℕ) → number_of t ≡ Some n
-    → (u : Tree) → Reads u ((column, Text t) ∷ []) → depth_of u ≤ 64
+    → (u : Tree) → IsTreeOf u ((column, Text t) ∷ []) → depth_of u ≤ 64
 number_shallow column t n is u r =
-    let reads : Reads (tree.Number n) ((column, Text t) ∷ []) = (rw is refl, tt) in
+    let reads : IsTreeOf (tree.Number n) ((column, Text t) ∷ []) = (rw is refl, tt) in
     let read : expression 0 ((column, Text t) ∷ []) ≡ Ok (record { column = column; expr = tree.Number n }) =
     expression_is 0 ((column, Text t) ∷ []) (tree.Number n) reads in
     shallow 0 ((column, Text t) ∷ []) (record { column = column; expr = tree.Number n })
     (subst (Judged 0 ((column, Text t) ∷ [])) read (judged 0 ((column, Text t) ∷ []))) u r
 
-long_text : (column : ℕ) (t : List ℕ) → number_of t ≡ None → (u : Tree) → Reads u ((column, Text t) ∷ []) → ⊥
+long_text : (column : ℕ) (t : List ℕ) → number_of t ≡ None → (u : Tree) → IsTreeOf u ((column, Text t) ∷ [])
+    → ⊥
 unfolding shape
 long_text column t is u r =
     let h : is_expression ((column, Text t) ∷ []) ≡ true = (shape_is ((column, Text t) ∷ [])).1 (u, r) in
     false≢true (rw is at h)
 
-text_shallow : (t : List ℕ) (o : List Piece) → IsText t o → (u : Tree) → Reads u o → depth_of u ≤ 64
+text_shallow : (t : List ℕ) (o : List Piece) → IsText t o → (u : Tree) → IsTreeOf u o → depth_of u ≤ 64
 text_shallow t o x u r = by (number_of t) refl
   where
-    reads : Reads u ((x.0, Text t) ∷ [])
-    reads = subst (Reads u) x.1 r
+    reads : IsTreeOf u ((x.0, Text t) ∷ [])
+    reads = subst (IsTreeOf u) x.1 r
 
     by : (n : Option ℕ) → number_of t ≡ n → depth_of u ≤ 64
     by None e = absurd (long_text x.0 t e u reads)

@@ -18,7 +18,7 @@ use Rattle.asm_syntax.specs.Lexemes.{Piece}
 use Rattle.asm_syntax.specs.Outcome.{Fault, ◌>>=◌}
 use Rattle.asm_lex.specs.Climb.{expression, first_column}
 use Rattle.asm_lex.specs.Commas.{register_of, pair, split_commas}
-use Rattle.asm_lex.specs.Reading.{Reads}
+use Rattle.asm_lex.specs.Reading.{IsTreeOf}
 use Rattle.asm_text.specs.Faults.{IsDeep}
 use Rattle.asm_text.specs.Forms.{fitting, named_by, two_operands, move_of, move_between, instruction_of}
 use Rattle.asm_text.specs.Forms.{register_instruction, pair_instruction, index_instruction, stack_instruction}
@@ -37,7 +37,7 @@ SaysBoth {A} {B} meaning f os said =
 abbrev both_read : {A B : Type 0} → ℕ → (B → Operand → A) → Option B → Result Operand Fault → Result A Fault
 both_read column f o read = fitting column o >>= λ r. read >>= λ e. Ok (f r e)
 
-both_deep : (o p : List Piece) (k : ℕ) → ((t : Tree) → Reads t o → ⊥) → IsDeep (o ∷ p ∷ []) k
+both_deep : (o p : List Piece) (k : ℕ) → ((t : Tree) → IsTreeOf t o → ⊥) → IsDeep (o ∷ p ∷ []) k
     → IsDeep (p ∷ []) k
 both_deep o p k none (inl d) = absurd (none d.1 d.2)
 both_deep o p k none (inr d) = d

@@ -9,3 +9,5 @@ pub mod Operands
 pub mod StatementFaults
 pub mod Texts
 pub mod WordFaults
+pub mod PlainLines
+pub mod TextLines

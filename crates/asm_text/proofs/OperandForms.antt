@@ -13,7 +13,7 @@ use Rattle.asm_syntax.specs.Lexemes.{Lexeme, Piece, Keyword}
 use Rattle.asm_syntax.specs.Outcome.{Fault, ◌>>=◌}
 use Rattle.asm_lex.specs.Climb.{expression, first_column}
 use Rattle.asm_lex.specs.Commas.{register_in, register_of, single, split_commas}
-use Rattle.asm_lex.specs.Reading.{Reads, within_depth}
+use Rattle.asm_lex.specs.Reading.{IsTreeOf, within_depth}
 use Rattle.asm_lex.specs.Shape.{is_expression, shape}
 use Rattle.asm_lex.proofs.Meaning.{expression_is, shape_is, no_expression}
 use Rattle.asm_lex.proofs.Operands.{operands_step}
@@ -28,7 +28,7 @@ abbrev pub Judged : ℕ → List Piece → Result Operand Fault → Type 0
 Judged column o (Ok e) = Tells e o × (depth_of e.expr ≤ 64) × ((x : Operand) → Tells x o → x ≡ e)
 Judged column o (Err f) =
     ((f ≡ (column, kind.Operands)) × ((x : Operand) → Tells x o → ⊥))
-    ⊎ ((f ≡ (first_column o, kind.Nesting)) × (t : Tree) × Reads t o × (64 < depth_of t))
+    ⊎ ((f ≡ (first_column o, kind.Nesting)) × (t : Tree) × IsTreeOf t o × (64 < depth_of t))
 
 err_ok : {A : Type 0} (f : Fault) (a : A) → Err f ≡ Ok a → ⊥
 err_ok f a h = cc
@@ -52,7 +52,7 @@ same_tree first t u h = by (nat_le (depth_of u) 64) refl
         let no_way : Err (first, kind.Nesting) ≡ Ok (record { column = first; expr = t }) = rw e at h in
         absurd (err_ok _ _ no_way)
 
-with_tree : (column : ℕ) (o : List Piece) (t : Tree) → Reads t o → Judged column o (expression column o)
+with_tree : (column : ℕ) (o : List Piece) (t : Tree) → IsTreeOf t o → Judged column o (expression column o)
 with_tree column o t r = by (nat_le (depth_of t) 64) refl
   where
     is : expression column o ≡ within_depth (first_column o) t
@@ -81,13 +81,13 @@ judged column o = by (is_expression o) refl
     by : (b : Bool) → is_expression o ≡ b → Judged column o (expression column o)
     by true e = let r = (shape_is o).0 e in with_tree column o r.0 r.1
     by false e =
-        let none : (t : Tree) → Reads t o → ⊥ = λ t r. false≢true (sym e ∙ (shape_is o).1 (t, r)) in
+        let none : (t : Tree) → IsTreeOf t o → ⊥ = λ t r. false≢true (sym e ∙ (shape_is o).1 (t, r)) in
         subst (Judged column o) (sym (no_expression column o none))
         (inl (refl, λ x tells. none x.expr tells.1))
 
 -- what was read is no deeper than 64
 pub shallow : (column : ℕ) (o : List Piece) (e : Operand) → Judged column o (Ok e)
-    → (t : Tree) → Reads t o → depth_of t ≤ 64
+    → (t : Tree) → IsTreeOf t o → depth_of t ≤ 64
 shallow column o e j t r =
     let same : record { column = first_column o; expr = t } ≡ e = j.2 _ (refl, r) in
     let depth : depth_of t ≡ depth_of e.expr = ap (λ (x : Operand). depth_of x.expr) same in
@@ -115,7 +115,7 @@ names meaning a (p ∷ []) h = word_names meaning a p.0 p.1 h
 names meaning a (p ∷ q ∷ ps) h = absurd (none_some a h)
 
 register_no_tree : (column : ℕ) (r : RegisterWord) (t : Tree)
-    → Reads t ((column, Keyword (keyword.Register r)) ∷ []) → ⊥
+    → IsTreeOf t ((column, Keyword (keyword.Register r)) ∷ []) → ⊥
 unfolding shape
 register_no_tree column r t x =
     let h : is_expression ((column, Keyword (keyword.Register r)) ∷ []) ≡ true =
@@ -123,8 +123,8 @@ register_no_tree column r t x =
     false≢true h
 
 pub no_tree : {A : Type 0} (meaning : RegisterWord → Option A) (a : A) (o : List Piece) → Names meaning a o
-    → (t : Tree) → Reads t o → ⊥
-no_tree meaning a o n t r = register_no_tree n.0 n.1 t (subst (Reads t) n.2 r)
+    → (t : Tree) → IsTreeOf t o → ⊥
+no_tree meaning a o n t r = register_no_tree n.0 n.1 t (subst (IsTreeOf t) n.2 r)
 
 -- ---- operations
 
@@ -136,7 +136,8 @@ Verdict {A} says os column (Err f) =
     ((f ≡ (column, kind.Operands)) × ((b : A) → says b → ⊥))
     ⊎ ((f.1 ≡ kind.Nesting) × IsDeep os f.0 × ((k : ℕ) → IsDeep os k → f.0 ≤ k) × (a : A) × says a)
 
-pub not_deep : (o : List Piece) (k : ℕ) → ((t : Tree) → Reads t o → depth_of t ≤ 64) → IsDeep (o ∷ []) k → ⊥
+pub not_deep : (o : List Piece) (k : ℕ) → ((t : Tree) → IsTreeOf t o → depth_of t ≤ 64) → IsDeep (o ∷ []) k
+    → ⊥
 not_deep o k low (inl d) = let le = low d.1 d.2 in let gt = d.3 in absurd (omega (arith, le, gt))
 not_deep o k low (inr d) = d
 

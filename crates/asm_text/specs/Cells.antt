@@ -1,6 +1,6 @@
--- What the lines of a text say, what is wrong with it, and which of several faults is told (8080/8085
--- Assembly Language Programming Manual, chapters 2 and 4). END ends the text wherever it stands, also
--- in a part that an IF leaves out.
+-- What the lines of a text say, what is wrong with it, and which of several faults is reported
+-- (8080/8085 Assembly Language Programming Manual, chapters 2 and 4). END ends the text wherever it is,
+-- also in a part that an IF leaves out.
 use Rattle.std.specs.Prelude.{◌≡◌, ◌<◌, ◌≤◌, ◌⊎◌, ℕ, ◌+◌, List, [], ◌∷◌, true, false, Option, Some, None}
 use Rattle.std.specs.Prelude.{length, MatchBool}
 use Rattle.std.specs.Str.Lines.{lines}
@@ -26,18 +26,18 @@ LinesSay _ _ = ⊥
 -- ---- faults of one line
 
 -- a line ends the text
-abbrev pub Ends : List ℕ → Type 0
-Ends l = (s : Statement) × LineSays l s × (is_end_action s.operation ≡ true)
+abbrev pub EndsText : List ℕ → Type 0
+EndsText l = (s : Statement) × LineSays l s × (is_end_action s.operation ≡ true)
 
 -- a fault stands on one of the lines, of which the first has this number, up to the one with END
 abbrev pub LineFault : ℕ → List (List ℕ) → CellFault → Type 0
 LineFault n [] g = ⊥
 LineFault n (l ∷ ls) g =
-    ((g.0 ≡ n) × StandsOn l (g.1, g.2)) ⊎ ((Ends l → ⊥) × LineFault (n + 1) ls g)
+    ((g.0 ≡ n) × StandsOn l (g.1, g.2)) ⊎ ((EndsText l → ⊥) × LineFault (n + 1) ls g)
 
 -- ---- faults of IF, ELSE and ENDIF
 
--- the IFs that are open after an action in this line and column, where these were, the innermost first
+-- the IFs that are open after an action at this line and column, where these were, the innermost first
 abbrev pub open_past : ℕ → ℕ → Action → List OpenIf → List OpenIf
 open_past line column (action.If e) os = record { line = line; column = column; has_else = false } ∷ os
 open_past line column action.Else (o ∷ os) = with_else o ∷ os

@@ -13,17 +13,17 @@ use Rattle.asm_text.specs.declared.open_if.OpenIf.{OpenIf}
 abbrev pub with_else : OpenIf → OpenIf
 with_else o = record o { has_else = true }
 
--- an ELSE in this column: the innermost IF has none yet
+-- an ELSE at this column: the innermost IF has none yet
 abbrev pub at_else : ℕ → List OpenIf → Result (List OpenIf) Fault
 at_else column [] = Err (column, Conditional false)
 at_else column (o ∷ os) = if o.has_else then Err (column, Conditional false) else Ok (with_else o ∷ os)
 
--- an ENDIF in this column closes the innermost IF
+-- an ENDIF at this column closes the innermost IF
 abbrev pub at_endif : ℕ → List OpenIf → Result (List OpenIf) Fault
 at_endif column [] = Err (column, Conditional false)
 at_endif column (o ∷ os) = Ok os
 
--- an IF in this line and column
+-- an IF at this line and column
 abbrev pub at_if : ℕ → ℕ → List OpenIf → Result (List OpenIf) Fault
 at_if line column os =
     if nat_lt (length os) 16

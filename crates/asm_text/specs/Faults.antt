@@ -1,5 +1,5 @@
 -- What is wrong with a line (8080/8085 Assembly Language Programming Manual, chapters 2 to 4): for
--- each fault, what stands at the column that it names, and which of several faults is told.
+-- each fault, what is at the column that it names, and which of several faults is reported.
 use Rattle.std.specs.Prelude.{◌≡◌, ◌<◌, ◌⊎◌, ℕ, List, [], ◌∷◌, ◌++◌, Bool, true, Option, Some, None, is_some}
 use Rattle.asm_expr.specs.Tree.{Tree, depth_of}
 use Rattle.asm_syntax.specs.declared.fault.FaultKind.{FaultKind}
@@ -12,7 +12,7 @@ use Rattle.asm_syntax.specs.Outcome.{Fault, ComesBefore}
 use Rattle.asm_lex.specs.Spelling.{Spells, Breaks}
 use Rattle.asm_lex.specs.Climb.{first_column}
 use Rattle.asm_lex.specs.Commas.{is_comma}
-use Rattle.asm_lex.specs.Reading.{Reads}
+use Rattle.asm_lex.specs.Reading.{IsTreeOf}
 use Rattle.asm_lex.specs.Words.{leads, is_misplaced}
 use Rattle.asm_text.specs.Fields.{Field, Empty, Defines, Does, operands_in, operand_pieces}
 use Rattle.asm_text.specs.Fields.{label_of, operation_of}
@@ -33,12 +33,12 @@ IsNoOperation (Keyword (keyword.Mnemonic m)) = ⊥
 IsNoOperation (Keyword (keyword.Directive d)) = ⊥
 IsNoOperation _ = Unit {0}
 
--- the last of some pieces passes; where there is none, this is the answer
+-- whether the last of some pieces passes; if there are none, this
 abbrev pub ends_with : (Lexeme → Bool) → Bool → List Piece → Bool
 ends_with test none [] = none
 ends_with test none (p ∷ ps) = ends_with test (test p.1) ps
 
--- among the operands' pieces a word in this column can't stand where it does: after a comma an
+-- among the operands' pieces a word at this column can't stand where it does: after a comma an
 -- operand begins, and after what leads to one an atom
 abbrev pub IsMisplaced : List Piece → ℕ → Type 0
 IsMisplaced ps column =
@@ -63,7 +63,7 @@ WrongWord ps f = (f.1 ≡ kind.Name) × IsMisplaced ps f.0
 
 -- ---- operands
 
--- operands that an operation, in the column of its word, doesn't have
+-- operands that an operation, at the column of its word, doesn't have
 abbrev pub WrongOperands : Bool → Field → Fault → Type 0
 WrongOperands labelled Empty f = ⊥
 WrongOperands labelled (Defines p column d rest) f =
@@ -73,11 +73,11 @@ WrongOperands labelled (Does p rest) f =
     (f ≡ (p.0, kind.Operands)) × (IsNoOperation p.1 → ⊥)
     × ((a : Action) → ActionSays p.1 (operands_in (Does p rest)) a → ⊥)
 
--- an operand that begins in this column is an expression deeper than 64
+-- an operand that begins at this column is an expression deeper than 64
 abbrev pub IsDeep : List (List Piece) → ℕ → Type 0
 IsDeep [] column = ⊥
 IsDeep (o ∷ os) column =
-    ((column ≡ first_column o) × (t : Tree) × Reads t o × (64 < depth_of t)) ⊎ IsDeep os column
+    ((column ≡ first_column o) × (t : Tree) × IsTreeOf t o × (64 < depth_of t)) ⊎ IsDeep os column
 
 -- an expression that is too deep
 abbrev pub WrongDepth : List (List Piece) → Fault → Type 0
@@ -112,7 +112,7 @@ rank _ = 0
 abbrev pub order_in_line : Fault → List ℕ
 order_in_line f = rank f.1 ∷ f.0 ∷ []
 
--- what stands and in this order comes before all else that does
+-- what is so and comes before all others that are, in this order
 abbrev pub StandsFirst : {F : Type 0} → (F → List ℕ) → (F → Type 0) → F → Type 0
 StandsFirst {F} order stands f =
     stands f × ((g : F) → stands g → (g ≡ f) ⊎ ComesBefore (order f) (order g))

@@ -27,7 +27,7 @@ use Rattle.i80_rows.specs.declared.instruction.WordOperation.TheVariants.{Lxi}
 use Rattle.asm_syntax.specs.Lexemes.{Lexeme, Piece, Name, Keyword, Text}
 use Rattle.asm_lex.specs.Spelling.{Spells}
 use Rattle.asm_lex.specs.Climb.{first_column}
-use Rattle.asm_lex.specs.Reading.{Reads}
+use Rattle.asm_lex.specs.Reading.{IsTreeOf}
 use Rattle.asm_text.specs.Fields.{Field, Empty, Defines, Does, operands_in, label_of, operation_of}
 use Rattle.asm_text.specs.Forms.{register_instruction, pair_instruction, index_instruction}
 use Rattle.asm_text.specs.Forms.{stack_instruction, move_between}
@@ -42,9 +42,9 @@ Names meaning a o =
     (column : ℕ) × (r : RegisterWord)
     × (o ≡ (column, Keyword (keyword.Register r)) ∷ []) × (meaning r ≡ Some a)
 
--- an operand is this expression, which begins in this column
+-- an operand is this expression, which begins at this column
 abbrev pub Tells : Operand → List Piece → Type 0
-Tells e o = (e.column ≡ first_column o) × Reads e.expr o
+Tells e o = (e.column ≡ first_column o) × IsTreeOf e.expr o
 
 -- an operand is one string
 abbrev pub IsText : List ℕ → List Piece → Type 0

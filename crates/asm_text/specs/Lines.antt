@@ -50,7 +50,7 @@ label_at ps = Ok (None, ps)
 
 -- ---- the operation
 
--- pieces, unless a word in this column is misplaced
+-- pieces, unless a word at this column is misplaced
 abbrev pub unless_misplaced : List Piece → Option ℕ → Result (List Piece) Fault
 unless_misplaced ps None = Ok ps
 unless_misplaced ps (Some column) = Err (column, Name)
@@ -80,7 +80,7 @@ abbrev pub only_operand : Bool → ℕ → List Piece → Result Operand Fault
 only_operand is_labelled column ps =
     if is_labelled then Err (column, Operands) else only_expression column ps
 
--- a name, EQU or SET in this column, and what stands after it
+-- a name, EQU or SET at this column, and what stands after it
 unfoldable pub definition_at : Bool → Piece → ℕ → Definition → List Piece → Result Operation Fault
 definition_at is_labelled p column d rest = do
   l ← name_at p.0 p.1

@@ -9,7 +9,7 @@ use asm_syntax::fault::{AsmFault, FaultKind, LineFault};
 use asm_syntax::statement::{Action, Operation};
 use std::marker::Model;
 
-/// The IFs that are open at a place of the text, the innermost first.
+/// The open IFs at a place of the text, the innermost first.
 #[derive(Drop)]
 pub struct OpenIfs {
     items: [OpenIf; MOST_OPEN],
@@ -29,7 +29,7 @@ impl Model for OpenIfs {
 }
 
 impl OpenIfs {
-    /// No IF is open.
+    /// No open IFs.
     pub fn new() -> OpenIfs
         ensures { result ≡ [] }
     {
@@ -44,7 +44,7 @@ impl OpenIfs {
         }
     }
 
-    // An IF in this line and column.
+    // An IF on this line, at this column.
     #[tactic(auto, using(crate::proofs::Conditionals::one_more, crate::proofs::Conditionals::length_is))]
     fn open(&mut self, line: usize, column: usize) -> Result<(), LineFault>
         ensures { LineGives (λ _. self.new) result (at_if line column self.old) }
@@ -61,7 +61,7 @@ impl OpenIfs {
         Ok(())
     }
 
-    // An ELSE in this column, which switches the innermost IF to its other part.
+    // An ELSE at this column, which switches the innermost IF to its other part.
     #[tactic(auto, using(crate::proofs::Conditionals::last_first_top))]
     fn switch(&mut self, column: usize) -> Result<(), LineFault>
         ensures { LineGives (λ _. self.new) result (at_else column self.old) }
@@ -81,7 +81,7 @@ impl OpenIfs {
         Ok(())
     }
 
-    // An ENDIF in this column.
+    // An ENDIF at this column.
     fn close(&mut self, column: usize) -> Result<(), LineFault>
         ensures { LineGives (λ _. self.new) result (at_endif column self.old) }
     {
@@ -92,7 +92,7 @@ impl OpenIfs {
         Ok(())
     }
 
-    /// Goes past a statement of this line.
+    /// Takes the operation of the next statement, which is on this line.
     pub fn pass(&mut self, line: usize, operation: &Option<Operation>) -> Result<(), LineFault>
         ensures { LineGives (λ _. self.new) result (open_after line operation.now self.old) }
     {
@@ -107,7 +107,7 @@ impl OpenIfs {
         }
     }
 
-    /// The end of the text: a value, where each IF has its ENDIF.
+    /// Returns the value at the end of the text, or fails at the innermost open IF.
     pub fn end<T: Drop>(&self, value: T) -> Result<T, AsmFault>
         ensures { Gives (λ x. x) result (all_closed value self.now) }
     {

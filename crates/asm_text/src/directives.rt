@@ -20,7 +20,7 @@ use asm_syntax::token::Placed;
 use base_text::sequence::Sequence;
 use std::alloc::Global;
 
-// The fault of an operation in this column.
+// The fault of an operation at this column whose operands don't fit.
 fn unfit(column: usize) -> LineFault
     ensures { result ≡ LineFault.At column FaultKind.Operands }
 {
@@ -30,9 +30,9 @@ fn unfit(column: usize) -> LineFault
     }
 }
 
-// An operand of a directive that takes several.
+// An operand of a directive that may have several.
 trait Listed: Sized + Drop {
-    // Which tokens are one, and what they say, for an operation in a column.
+    // Which tokens are such an operand, and its meaning for an operation at a column.
     ghost fits: { List Piece → Bool };
 
     ghost reading: { ℕ → List Piece → Result Self Fault };
@@ -44,7 +44,7 @@ trait Listed: Sized + Drop {
         ensures { LineGives (λ x. x) result (reading column (pieces_of operand.now)) };
 }
 
-// An operand of DB: a string alone, or an expression.
+// An operand of DB: a string by itself, or an expression.
 impl Listed for Data {
     ghost fits = { is_data };
 
@@ -109,7 +109,7 @@ fn list<'a, T: Listed>(
     Ok(Sequence::from(list))
 }
 
-// The operands of DB, or of DW.
+// The operands of DB or DW, of which there is at least one.
 fn some_operands<T: Listed>(
     alloc: Global,
     column: usize,
@@ -134,7 +134,8 @@ fn end_of(alloc: Global, column: usize, tokens: &[Placed]) -> Result<Option<Oper
     Ok(Some(only_expression(alloc, column, tokens)?))
 }
 
-/// What a directive in this column says with the operands after it, where no name stands before it.
+/// The action of a directive at this column with the operands after it. EQU and SET are `Operands`
+/// here: they need a name before them.
 #[tactic(auto, unfolding(crate::specs::Forms::directive_of))]
 pub fn directive(
     alloc: Global,

@@ -1,4 +1,4 @@
-//! The operands that stand after an operation: how many, and what the only one says.
+//! The operands after an operation: how many there are, and the meaning of a single one.
 ghost use Rattle.std.specs.Prelude.{◌≡◌};
 ghost use Rattle.asm_syntax.specs.Lexemes.{pieces_of};
 ghost use Rattle.asm_syntax.specs.Outcome.{LineGives};
@@ -12,7 +12,7 @@ use asm_syntax::statement::Operand;
 use asm_syntax::token::Placed;
 use std::alloc::Global;
 
-/// A value, where no operand stands after the operation.
+/// The value, if the operation has no operand; else `Operands` at its column, as in all of these.
 pub fn no_operand<T: Drop>(column: usize, value: T, tokens: &[Placed]) -> Result<T, LineFault>
     ensures { LineGives (λ x. x) result (no_operand column value (pieces_of tokens.now)) }
 {
@@ -26,7 +26,7 @@ pub fn no_operand<T: Drop>(column: usize, value: T, tokens: &[Placed]) -> Result
     }
 }
 
-/// The operand, where one stands after the operation.
+/// The operand, if the operation has one.
 pub fn one_operand<'a>(
     column: usize,
     tokens: &'a [Placed<'a>],
@@ -36,7 +36,7 @@ pub fn one_operand<'a>(
     fit(column, single(tokens))
 }
 
-/// The operands, where two stand after the operation.
+/// The operands, if the operation has two.
 pub fn two_operands<'a>(
     column: usize,
     tokens: &'a [Placed<'a>],
@@ -47,7 +47,7 @@ pub fn two_operands<'a>(
     fit(column, pair(tokens))
 }
 
-/// The expression, where one operand stands after the operation.
+/// The expression, if the operation has one operand.
 pub fn only_expression(
     alloc: Global,
     column: usize,
@@ -58,7 +58,7 @@ pub fn only_expression(
     expression(alloc, column, one_operand(column, tokens)?)
 }
 
-/// What the word stands for that is the only operand after the operation.
+/// What the operand names, if the operation has one.
 pub fn only_named<T: Named>(column: usize, tokens: &[Placed]) -> Result<T, LineFault>
     ensures { LineGives (λ x. x) result (only_named column T.meaning (pieces_of tokens.now)) }
 {

@@ -112,7 +112,7 @@ fn load_pair(alloc: Global, column: usize, tokens: &[Placed]) -> Result<Instruct
     Ok(Instruction::Word(WordOperation::Lxi(pair), word))
 }
 
-/// The instruction that a mnemonic in this column names with the operands after it.
+/// The instruction of a mnemonic at this column with the operands after it.
 #[tactic(auto, unfolding(crate::specs::Forms::instruction_of))]
 pub fn instruction(
     alloc: Global,

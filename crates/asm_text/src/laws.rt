@@ -1,4 +1,5 @@
-//! Laws of the definitions: what a line and a text say, and which fault is told, as conditions on them.
+//! Laws of the definitions: what a line and a text say, and which fault is reported, as conditions
+//! on them.
 ghost use Rattle.std.specs.Prelude.{◌≡◌, ◌↔◌, ℕ, List, Ok, Err};
 ghost use Rattle.std.specs.Str.Lines.{lines};
 ghost use Rattle.asm_syntax.specs.declared.statement.Statement.{Statement};
@@ -9,16 +10,16 @@ ghost use Rattle.asm_text.specs.Grammar.{LineSays};
 ghost use Rattle.asm_text.specs.Lines.{line_of};
 ghost use Rattle.asm_text.specs.Statements.{statements_of};
 
-/// A line's statement is what it says where no fault stands on it; a line's fault is the one that
-/// stands there and comes before each other.
+/// A line's statement is what it says if it has no fault; its fault is the first of those that it
+/// has.
 pub fn line_is_judged()
     ensures says { (line : List ℕ) (s : Statement)
         → (line_of line ≡ Ok s) ↔ (LineSays line s × ((f : Fault) → StandsOn line f → ⊥)) }
     ensures fault { (line : List ℕ) (f : Fault) → (line_of line ≡ Err f) ↔ IsFirst (StandsOn line) f }
 {}
 
-/// A text's statements are what its lines say where no fault stands in it; a text's fault is the one
-/// that stands in it and comes before each other.
+/// A text's statements are what its lines say if it has no fault; its fault is the first of those
+/// that it has.
 pub fn text_is_judged()
     ensures says { (text : List ℕ) (ss : List Statement)
         → (statements_of text ≡ Ok ss)

@@ -1,4 +1,4 @@
-//! What a line says.
+//! The statement of a line.
 ghost use Rattle.std.specs.Prelude.{◌≡◌, is_some};
 ghost use Rattle.asm_syntax.specs.Lexemes.{pieces_of, piece_of, lexeme_of};
 ghost use Rattle.asm_syntax.specs.Outcome.{LineGives};
@@ -20,14 +20,21 @@ use asm_syntax::statement::{Action, Label, Operand, Operation, Statement};
 use asm_syntax::token::{Placed, Token};
 use std::alloc::Global;
 
-/// The directives that a name stands before.
+/// The directives that define the name before them.
 #[derive(Clone, Copy)]
 pub enum Definition {
     Equate,
     Set,
 }
 
-// The name that a word is, if a word stands here.
+// EQU or SET, and the column at which it stands.
+#[derive(Clone, Copy)]
+struct DefinitionWord {
+    column: usize,
+    definition: Definition,
+}
+
+// The name that a word is, or `None` if this is no word.
 fn name_at(alloc: Global, placed: &Placed) -> Result<Option<Label>, LineFault>
     ensures { LineGives (λ x. x) result (name_at placed.now.column (lexeme_of placed.now.token)) }
 {
@@ -54,7 +61,7 @@ fn is_colon(token: &Token) -> bool
     }
 }
 
-// The label of a line, and what stands after it.
+// The label of a line, and the tokens after it.
 #[tactic(auto, unfolding(crate::specs::Lines::label_at))]
 fn label_at<'a>(
     alloc: Global,
@@ -77,7 +84,7 @@ fn label_at<'a>(
     }
 }
 
-// Whether each word may stand where it does.
+// Fails if a word can't stand where it does.
 fn placed_well(tokens: &[Placed]) -> Result<(), LineFault>
     ensures { LineGives (λ _. pieces_of tokens.now) result (placed_well (pieces_of tokens.now)) }
 {
@@ -138,19 +145,20 @@ fn only_operand(
     only_expression(alloc, column, tokens)
 }
 
-// A name with EQU or SET, which stands in this column, and what stands after it.
+// The operation of a name, EQU or SET, and the tokens after that.
 #[tactic(auto, unfolding(crate::specs::Lines::definition_at))]
 fn definition_at(
     alloc: Global,
     is_labelled: bool,
     first: &Placed,
-    column: usize,
-    definition: Definition,
+    word: DefinitionWord,
     rest: &[Placed],
 ) -> Result<Operation, LineFault>
     ensures { LineGives (λ x. x) result
-        (definition_at is_labelled (piece_of first.now) column definition (pieces_of rest.now)) }
+        (definition_at is_labelled (piece_of first.now) word.column word.definition
+        (pieces_of rest.now)) }
 {
+    let DefinitionWord { column, definition } = word;
     let name = or_mnemonic(first.column, name_at(alloc, first)?)?;
     placed_well(rest)?;
     let operand = only_operand(alloc, is_labelled, column, rest)?;
@@ -158,7 +166,7 @@ fn definition_at(
     Ok(Operation { column, action })
 }
 
-// What the word of an operation says with the operands after it.
+// The action of an operation's word and the operands after it.
 #[tactic(auto, unfolding(crate::specs::Lines::action_of))]
 fn action_of(
     alloc: Global,
@@ -192,7 +200,7 @@ fn plain_at(alloc: Global, first: &Placed, rest: &[Placed]) -> Result<Operation,
     Ok(Operation { column, action })
 }
 
-// The operation after a label, or after none.
+// The operation of a line, after its label if it has one.
 #[tactic(auto, unfolding(crate::specs::Lines::operation_at))]
 fn operation_at(
     alloc: Global,
@@ -209,21 +217,15 @@ fn operation_at(
     };
     match definition_in(&second.token) {
         Some(definition) => {
-            let operation = definition_at(
-                alloc,
-                is_labelled,
-                first,
-                second.column,
-                definition,
-                rest,
-            )?;
-            Ok(Some(operation))
+            let column = second.column;
+            let word = DefinitionWord { column, definition };
+            Ok(Some(definition_at(alloc, is_labelled, first, word, rest)?))
         }
         None => Ok(Some(plain_at(alloc, first, others)?)),
     }
 }
 
-/// What a line says, or its first fault.
+/// The statement of a line, or its first fault.
 #[tactic(auto, unfolding(crate::specs::Lines::line_of))]
 pub fn statement(alloc: Global, line: &[u8]) -> Result<Statement, LineFault>
     ensures { LineGives (λ x. x) result (line_of line.now) }

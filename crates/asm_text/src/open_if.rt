@@ -1,9 +1,9 @@
 //! An IF that is open.
 
-/// The most IFs that may be open, one inside of the other.
+/// The most IFs that may be open at once.
 pub const MOST_OPEN: usize = 16;
 
-/// An IF that is open: where its word stands, and whether its ELSE came.
+/// An open IF: the line and column of its word, and whether its ELSE came.
 #[derive(Clone, Copy)]
 pub struct OpenIf {
     pub line: usize,

@@ -1,4 +1,4 @@
-//! What an operand's word names.
+//! The registers and pairs that operands name.
 ghost use Rattle.std.specs.Prelude.{◌≡◌, Option};
 ghost use Rattle.asm_syntax.specs.Lexemes.{pieces_of};
 ghost use Rattle.asm_syntax.specs.Outcome.{LineGives};
@@ -12,11 +12,11 @@ use asm_syntax::keyword::RegisterWord;
 use asm_syntax::token::Placed;
 use i80_rows::instruction::{IndexPair, Pair, Reg, Register, StackPair};
 
-/// What a word can stand for where an operation takes one of some registers or pairs.
+/// What a word can name for an operation that takes certain registers or pairs.
 pub trait Named: Copy {
     ghost meaning: { RegisterWord → Option Self };
 
-    /// What the word stands for, if anything here.
+    /// What the word names, if it is one of these.
     fn from_word(word: RegisterWord) -> Option<Self>
         ensures { result ≡ meaning word };
 }
@@ -40,7 +40,7 @@ impl Named for Reg {
     }
 }
 
-// A pair by its first register, or SP.
+// A pair, named by its first register, or SP.
 impl Named for Pair {
     ghost meaning = { pair_of };
 
@@ -68,7 +68,7 @@ impl Named for IndexPair {
     }
 }
 
-// A pair by its first register, or PSW.
+// A pair, named by its first register, or PSW.
 impl Named for StackPair {
     ghost meaning = { stack_of };
 
@@ -83,7 +83,7 @@ impl Named for StackPair {
     }
 }
 
-/// The register, where it is not M.
+/// The register, unless it is M.
 pub fn register_of(reg: Reg) -> Option<Register>
     ensures { result ≡ register_of reg }
 {
@@ -99,7 +99,7 @@ pub fn register_of(reg: Reg) -> Option<Register>
     }
 }
 
-/// What fits, or the fault of the operation at this column.
+/// The value, or `Operands` at the column of the operation.
 pub fn fit<T>(column: usize, found: Option<T>) -> Result<T, LineFault>
     ensures { LineGives (λ x. x) result (fitting column found) }
 {
@@ -112,7 +112,7 @@ pub fn fit<T>(column: usize, found: Option<T>) -> Result<T, LineFault>
     }
 }
 
-/// What the word stands for that an operand is.
+/// What the operand names.
 pub fn named_operand<T: Named>(column: usize, operand: &[Placed]) -> Result<T, LineFault>
     ensures { LineGives (λ x. x) result (named_by column T.meaning (pieces_of operand.now)) }
 {

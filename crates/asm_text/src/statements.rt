@@ -1,4 +1,4 @@
-//! From a text to its statements.
+//! The statements of a text.
 ghost use Rattle.std.specs.Prelude.{◌≡◌, ◌≤◌, [], length, IfOk, MatchResult};
 ghost use Rattle.std.specs.Str.Lines.{lines};
 ghost use Rattle.asm_syntax.specs.Outcome.{LineGives, Gives};
@@ -14,10 +14,10 @@ use asm_syntax::fault::{AsmFault, FaultKind, LineFault};
 use asm_syntax::statement::{Action, MOST_LINES, Operation, Statement, Statements};
 use std::alloc::{AllocError, Global};
 
-/// The most bytes that a cell has.
+/// The most bytes of a cell.
 pub const MOST_BYTES: usize = 1_048_576;
 
-// The statement of a line, which opens or closes IFs.
+// The statement of a line, which may open, switch or close an IF.
 fn read_line(
     alloc: Global,
     number: usize,
@@ -37,7 +37,7 @@ fn unless_fault(passed: Result<(), LineFault>, statement: Statement) -> Result<S
     match passed {
         Ok(()) => Ok(statement),
         Err(fault) => {
-            // A call, in place of a case for each kind of statement here.
+            // Calls the one drop function; else its match would be inlined here.
             drop(statement);
             Err(fault)
         }
@@ -101,7 +101,7 @@ fn count_lines(text: &str) -> usize
 #[tactic(auto, unfolding(crate::specs::Statements::statements_of))]
 pub fn statements(alloc: Global, text: &str) -> Result<Statements, AsmFault>
     ensures exact { Gives (λ x. x) result (statements_of text.now) }
-    // This takes no memory, so it isn't answered by want of it.
+    // This allocates nothing, so it never is `OutOfMemory`.
     ensures long { IsTooLong text.now → result ≡ Err (asm.At 1 1 kind.TooLong) }
 {
     if text.len() > MOST_BYTES || count_lines(text) > MOST_LINES {

@@ -1,4 +1,4 @@
--- The text and the status with which the word `asm` answers its input.
+-- The text that the word `asm` writes for its input, and its status.
 use Rattle.std.specs.Prelude.{ℕ, List, [], ◌++◌, Option, Some, None, Result, Ok, Err, codes, if◌then◌else◌}
 use Rattle.std.specs.Fmt.{decimal}
 use Rattle.std.specs.Str.{is_utf8}
@@ -19,7 +19,7 @@ use Rattle.cli_engines.specs.Image.{image_text}
 abbrev pub begun_at : ℕ → List (ℕ × ℕ) → Computer
 begun_at address image = fresh (with_pc (loaded power_on image) address)
 
--- where the program starts and how it ends after 100,000 steps at most, if the cell says where
+-- the start of the program and how it ends after at most 100,000 steps, if the cell has a start
 abbrev pub start_text : List (ℕ × ℕ) → Option ℕ → List ℕ
 start_text image None = []
 start_text image (Some address) =
@@ -46,7 +46,7 @@ abbrev pub cell_status : Result Meaning CellFault → Status
 cell_status (Ok m) = Success
 cell_status (Err f) = Refused
 
--- input that isn't UTF-8 has no text, so that it is refused whatever else is wrong with it
+-- input that isn't UTF-8 is no text, and is refused whatever else is wrong with it
 abbrev pub asm_text : List ℕ → List ℕ
 asm_text input = if (is_utf8 input) then (cell_text (cell_of input)) else (line (codes "bad text"))
 

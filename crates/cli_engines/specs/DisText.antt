@@ -1,4 +1,4 @@
--- The text and the status with which the word `dis` answers its input.
+-- The text that the word `dis` writes for its input, and its status.
 use Rattle.std.specs.Prelude.{ℕ, ◌+◌, List, Bool, nat_lt, length, codes, if◌then◌else◌}
 use Rattle.i80_dis.specs.Text.{listing_of}
 use Rattle.cli_io.specs.HexInput.{input_of}
@@ -6,7 +6,7 @@ use Rattle.cli_io.specs.declared.status.Status.{Status}
 use Rattle.cli_io.specs.declared.status.Status.TheVariants.{Success, Refused}
 use Rattle.cli_io.specs.Report.{line, text_for, status_for}
 
--- whether bytes from this address on go past the end of memory
+-- whether bytes from this address on pass the end of memory
 abbrev pub is_past_end : ℕ → List ℕ → Bool
 is_past_end origin bytes = nat_lt 65536 (origin + length bytes)
 

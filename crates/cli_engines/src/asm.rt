@@ -26,16 +26,16 @@ use cli_run::runner::Runner;
 use i80_exec::machine::Machine;
 use std::alloc::{AllocError, Global};
 
-/// How many steps a run may have.
+/// The most steps of a run.
 pub const RUN_LIMIT: u64 = 100_000;
 
-/// Reads a cell of assembler text, assembles it over no symbols, and writes the bytes that it
-/// gives in order of address; where the cell says where to start, also how the program ends on a
-/// machine after power-on that has those bytes.
-/// What is refused is answered by one line: `bad text` where the input isn't UTF-8, else the line,
-/// the column and the name of the cell's first fault. Of a text longer than a cell's may be no more is
-/// kept than of the longest cell.
-/// Nothing is written before all is read.
+/// Reads a cell of assembler text, assembles it over no symbols, and writes its bytes in the order of
+/// addresses; if the cell has a start, also how the program ends on a machine after power-on with
+/// those bytes.
+///
+/// For input that is refused it writes one line: `bad text` if the input isn't UTF-8, else the line,
+/// the column and the name of the cell's first fault. Of a text that is too long for a cell it keeps
+/// no more than of the longest cell. It writes nothing before all of the input is read.
 pub fn run_asm<R: Inlet, W: Outlet>(alloc: Global, reader: &mut R, writer: &mut W) -> Status
     ensures answers { AnswersInput asm_status asm_text result (R.state reader.old)
         (W.state writer.old) (W.state writer.new) }
@@ -59,7 +59,7 @@ fn asm_report<R: Inlet>(alloc: Global, reader: &mut R) -> Result<Report, Status>
     }
 }
 
-/// The report of an input that is a text; none was kept where it is longer than a cell's may be.
+/// The report of a text, or of one that is too long for a cell and wasn't kept.
 fn text_report(alloc: Global, text: Option<String>) -> Result<Report, AllocError>
     ensures { IfOk result (λ report. (input : List ℕ) → IsText MOST_BYTES (Ok text) input
         → IsReport report (asm_status input) (asm_text input)) }
@@ -70,7 +70,7 @@ fn text_report(alloc: Global, text: Option<String>) -> Result<Report, AllocError
     }
 }
 
-/// The report of a text that is longer than a cell's may be.
+/// The report of a text that is too long for a cell.
 fn long_report(alloc: Global) -> Result<Report, AllocError>
     ensures { IfOk result (λ report.
         IsReport report Status.Refused (fault_line 1 1 (fault_name FaultKind.TooLong))) }
@@ -92,7 +92,7 @@ fn cell_report(alloc: Global, text: &str) -> Result<Report, AllocError>
     }
 }
 
-/// What a cell gives over no symbols.
+/// Assembles a cell over no symbols.
 fn assemble(alloc: Global, text: &str) -> Result<Built, AsmFault>
     ensures { Gives meaning_in result (cell_of text.now) }
 {
@@ -100,8 +100,7 @@ fn assemble(alloc: Global, text: &str) -> Result<Built, AsmFault>
     build(alloc, &statements, &Symbols::new(alloc))
 }
 
-/// The report of what was assembled: the image and, where the cell says where to start, how a run
-/// of it ends.
+/// The report of an assembled cell: the image and, if it has a start, how a run of it ends.
 fn built_report(
     alloc: Global,
     image: &[(u16, u8)],
@@ -121,7 +120,7 @@ fn built_report(
     })
 }
 
-/// Adds where the program starts, and how a run of it ends.
+/// Appends the start of the program, and how a run of it ends.
 fn push_start(
     alloc: Global,
     text: &mut String,

@@ -13,9 +13,8 @@ use i80_dis::listing::listing;
 use i80_rows::memory::MEMORY_SIZE;
 use std::alloc::{AllocError, Global};
 
-/// Reads bytes as hexadecimal text and writes their listing, of which the first stands at this
-/// address.
-/// What is refused is answered by one line, and nothing is written before all of the text is read.
+/// Reads bytes as hexadecimal text and writes their listing, the first of which is at this address.
+/// For input that is refused it writes one line. It writes nothing before all of the text is read.
 pub fn run_dis<R: Inlet, W: Outlet>(
     alloc: Global,
     origin: u16,
@@ -44,7 +43,7 @@ fn dis_report<R: Inlet>(alloc: Global, origin: u16, reader: &mut R) -> Result<Re
     }
 }
 
-/// The report of bytes, of which the first is to stand at this address.
+/// The report of bytes, the first of which is at this address.
 fn listed_report(alloc: Global, origin: u16, bytes: &[u8]) -> Result<Report, AllocError>
     ensures { IfOk result (λ report. IsReport report
         (listed_status origin bytes.now) (listed_text origin bytes.now)) }

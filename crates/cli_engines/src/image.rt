@@ -1,4 +1,4 @@
-//! The image of a cell: bytes with their addresses, put into a machine, and printed.
+//! The image of a cell, bytes with their addresses: stored in a machine, and printed.
 ghost use Rattle.std.specs.Prelude.{◌≡◌, ◌<◌, ◌≤◌, ◌+◌, ◌++◌, ◌∷◌, List, ℕ, OnOk, IfOk, length, drop, take};
 ghost use Rattle.std.specs.Prelude.{string_bytes};
 ghost use Rattle.i80_exec.specs.State.{loaded};
@@ -11,7 +11,7 @@ use i80_exec::machine::Machine;
 use i80_rows::memory::MEMORY_SIZE;
 use std::alloc::{AllocError, Global};
 
-/// The most bytes that stand on one line.
+/// The most bytes on a line.
 const LINE_BYTES: usize = 16;
 
 /// Stores each byte of an image at its address.
@@ -23,8 +23,8 @@ pub fn store_image(machine: &mut Machine, image: &[(u16, u8)])
     }
 }
 
-/// Adds the lines of an image in order of address, as `0000: 3E 05 76`. A line ends before an
-/// address that has no byte, and after 16 bytes.
+/// Appends the lines of an image in the order of addresses, such as `0000: 3E 05 76`. A line ends
+/// before an address without a byte, and after 16 bytes.
 pub fn push_image(alloc: Global, text: &mut String, image: &[(u16, u8)]) -> Result<(), AllocError>
     ensures { OnOk result (string_bytes text.new ≡ string_bytes text.old ++ image_text image.now) }
 {
@@ -32,7 +32,7 @@ pub fn push_image(alloc: Global, text: &mut String, image: &[(u16, u8)]) -> Resu
     push_lines(text, cells.as_slice())
 }
 
-/// The byte at each of the addresses, where the image has one.
+/// The byte at each of the addresses, if the image has one.
 fn cells(alloc: Global, image: &[(u16, u8)]) -> Result<Vec<Option<u8>>, AllocError>
     ensures { IfOk result (λ cells. cells.items ≡ cells_of image.now) }
 {
@@ -56,8 +56,8 @@ fn push_lines(text: &mut String, cells: &[Option<u8>]) -> Result<(), AllocError>
     Ok(())
 }
 
-/// Adds the line that begins at the first of the cells, if one does, where `printed` of them stand
-/// on a line already. Reports how many of those after the first stand on a line then.
+/// Appends the line that begins at the first of the cells, if one does, where `printed` of them are on a
+/// line already. Returns the number of those after the first that are on a line then.
 fn push_cell(
     text: &mut String,
     address: u16,
@@ -83,7 +83,7 @@ fn push_cell(
     Ok(count.saturating_sub(1))
 }
 
-/// Adds the bytes up to the first cell that has none, and reports how many they are.
+/// Appends the bytes up to the first cell that has none, and returns their number.
 fn push_bytes(text: &mut String, cells: &[Option<u8>]) -> Result<usize, AllocError>
     ensures text { OnOk result
         (string_bytes text.new ≡ string_bytes text.old ++ spaced_bytes (leading cells.now)) }

@@ -1,7 +1,7 @@
-// The engines of the words `asm` and `dis`, each over any inlet and any outlet: what it writes is the
-// stated text of what it reads (AsmText.antt, DisText.antt), or a front of it, where it answers that it ran
-// out of memory, or that a read or a write failed, which it answers where one did.
-// `run_asm` runs the program of a cell on a computer of its own (cli_run); `run_dis` lists bytes.
+// The engines of the words `asm` and `dis`, over any inlet and outlet. `run_asm` assembles a cell and runs
+// its program on a computer of its own (cli_run); `run_dis` lists bytes. An engine writes the text that
+// AsmText.antt or DisText.antt states for what it reads; or a prefix of it, if its status is that it ran out
+// of memory, or that a read or a write failed, which it returns exactly if one did.
 #![tactic(auto)]
 
 pub mod asm;

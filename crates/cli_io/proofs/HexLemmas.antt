@@ -12,7 +12,7 @@ use Rattle.std.proofs.lemmas.List.{map-append, length-map, length-take, take_all
 use Rattle.cli_io.specs.HexInput.{characters, is_blank, is_hex_digit, digit_value, byte_pairs, BadHex}
 use Rattle.cli_io.specs.HexInput.{PastEnd}
 use Rattle.cli_io.specs.HexInput.{Bytes, input_of}
-use Rattle.cli_io.specs.HexState.{HexState, most_digits, state_of, kept_more, StandsFor, Reads, IsBad}
+use Rattle.cli_io.specs.HexState.{HexState, most_digits, state_of, kept_more, StandsFor, TakesPiece, IsBad}
 
 take_kept : (n : ℕ) (xs : List ℕ) (x : ℕ)
     → take n (xs ++ x ∷ []) ≡ cond (nat_lt (length (take n xs)) n) (take n xs ++ x ∷ []) (take n xs)
@@ -60,7 +60,7 @@ state_more ds d =
 characters-append : (text piece : List ℕ) → characters (text ++ piece) ≡ characters text ++ characters piece
 characters-append text piece = filter-append (λ c. not (is_blank c)) text piece
 
-pub reads_blank : (byte : ℕ) (h : HexState) → is_blank byte ≡ true → Reads (byte ∷ []) h h
+pub reads_blank : (byte : ℕ) (h : HexState) → is_blank byte ≡ true → TakesPiece (byte ∷ []) h h
 reads_blank byte h blank text s =
     let same : characters (text ++ byte ∷ []) ≡ characters text =
     characters-append text (byte ∷ []) ∙ (rw blank (append-nil (characters text))) in
@@ -70,7 +70,7 @@ reads_blank byte h blank text s =
     }
 
 pub reads_digit : (byte : ℕ) (h h' : HexState) → is_blank byte ≡ false → is_hex_digit byte ≡ true
-    → h' ≡ kept_more h (digit_value byte) → Reads (byte ∷ []) h h'
+    → h' ≡ kept_more h (digit_value byte) → TakesPiece (byte ∷ []) h h'
 reads_digit byte h h' blank digit kept text s =
     let more : characters (text ++ byte ∷ []) ≡ characters text ++ byte ∷ [] =
     characters-append text (byte ∷ []) ∙ (rw blank refl) in

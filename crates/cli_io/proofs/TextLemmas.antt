@@ -11,7 +11,8 @@ use Rattle.std.specs.Prelude.{String}
 use Rattle.std.specs.Str.{is_utf8}
 use Rattle.cli_io.specs.declared.text_input.TextFault.{TextFault}
 use Rattle.cli_io.specs.declared.text_input.TextFault.TheVariants as fault
-use Rattle.cli_io.specs.TextState.{TextState, IsCut, StandsFor, Takes, NeverText, IsBad, Splits, IsDecoded}
+use Rattle.cli_io.specs.TextState.{TextState, IsCut, StandsFor, TakesPiece, NeverText, IsBad, Splits}
+use Rattle.cli_io.specs.TextState.{IsDecoded}
 use Rattle.cli_io.specs.TextState.{IsText}
 use Rattle.cli_io.proofs.Utf8Lemmas.{after_whole, never_behind}
 
@@ -21,7 +22,7 @@ state kept limit is_long = record { kept = kept; limit = limit; is_long = is_lon
 -- all of it is kept
 pub takes_within : (kept piece : List ℕ) (limit : ℕ) (is_long : Bool)
     → (is_long || nat_lt limit (length (kept ++ piece))) ≡ false
-    → Takes piece (state kept limit is_long) (state (kept ++ piece) limit is_long)
+    → TakesPiece piece (state kept limit is_long) (state (kept ++ piece) limit is_long)
 takes_within kept piece limit true within text s = let odd : true ≡ false = within in cc
 takes_within kept piece limit false within text s =
     let same : kept ++ piece ≡ text ++ piece = ap (λ xs. xs ++ piece) (s.keeps refl) in record {
@@ -55,7 +56,7 @@ cut_on front text kept n whole is s = record {
 -- no more is kept than follows the last whole character
 pub takes_past : (kept piece : List ℕ) (limit : ℕ) (is_long : Bool) (n : ℕ)
     → (is_long || nat_lt limit (length (kept ++ piece))) ≡ true → Splits (kept ++ piece) n
-    → Takes piece (state kept limit is_long) (state (drop n (kept ++ piece)) limit true)
+    → TakesPiece piece (state kept limit is_long) (state (drop n (kept ++ piece)) limit true)
 takes_past kept piece limit true n past splits text s =
     let cut : IsCut kept text = s.cuts refl in record {
       long = longer limit text piece s.long;
@@ -135,14 +136,14 @@ decoded_wrong bytes never = by (is_utf8 bytes) refl
 
 pub takes_cut : (v mid new : TextState) (piece : List ℕ) (n : ℕ) → mid ≡ record v { kept = v.kept ++ piece }
     → (mid.is_long || nat_lt mid.limit (length mid.kept)) ≡ true → Splits mid.kept n
-    → new ≡ record mid { kept = drop n mid.kept; is_long = true } → Takes piece v new
+    → new ≡ record mid { kept = drop n mid.kept; is_long = true } → TakesPiece piece v new
 takes_cut v mid new piece n kept past splits cut =
     let P : TextState → Type 0 = λ m.
     (m.is_long || nat_lt m.limit (length m.kept)) ≡ true → Splits m.kept n
-    → Takes piece v (record m { kept = drop n m.kept; is_long = true }) in
+    → TakesPiece piece v (record m { kept = drop n m.kept; is_long = true }) in
     let there : P (record v { kept = v.kept ++ piece }) =
     λ p s. takes_past v.kept piece v.limit v.is_long n p s in
-    subst (Takes piece v) (sym cut) (subst P (sym kept) there past splits)
+    subst (TakesPiece piece v) (sym cut) (subst P (sym kept) there past splits)
 
 pub bad_kept : (v mid : TextState) (piece : List ℕ) → mid ≡ record v {
   kept = v.kept ++ piece;

@@ -27,7 +27,7 @@ one_word word =
     if bytes_eq word (codes "step") then Some step else
     (if bytes_eq word (codes "asm") then Some asm else None)
 
--- an origin is four digits of base 16
+-- an origin is four hexadecimal digits
 abbrev pub with_origin : List ℕ → Option Task
 with_origin origin = option_map dis (word_spelled origin)
 
@@ -37,8 +37,8 @@ two_words word other =
     (if bytes_eq word (codes "kernel") then Some (kernel other) else
     (if bytes_eq word (codes "term") then Some (term other) else None))
 
--- what the words after the program's name ask for: `step`, `asm`, `dis` and an origin, or `kernel` or `term`
--- and a file; nothing else is known
+-- what the words after the program's name ask for: `step`, `asm`, `dis` with an origin, or `kernel` or `term`
+-- with a file; there are no others
 abbrev pub command_of : List (List ℕ) → Option Task
 command_of [] = None
 command_of (word ∷ []) = one_word word

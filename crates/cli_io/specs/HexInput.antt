@@ -4,11 +4,11 @@ use Rattle.std.specs.Prelude.{unwrap_or, filter, map, length, if◌then◌else�
 use Rattle.base_text.specs.Hexadecimal as hexadecimal
 use Rattle.std.specs.List.{list_all}
 
--- space, tab, line feed and carriage return, which are ignored wherever they stand
+-- space, tab, line feed and carriage return, which are ignored everywhere
 abbrev pub is_blank : ℕ → Bool
 is_blank c = c == 32 || c == 9 || c == 10 || c == 13
 
--- a digit of base 16, in either case
+-- a hexadecimal digit, in either case
 abbrev pub is_hex_digit : ℕ → Bool
 is_hex_digit c = is_some (hexadecimal.digit_value c)
 

@@ -1,4 +1,4 @@
--- What is kept of hexadecimal text while it comes in.
+-- What is kept of hexadecimal text while it is read.
 use Rattle.std.specs.Prelude.{◌≡◌, ℕ, ◌%◌, List, [], ◌∷◌, ◌++◌, Bool, true, false, not, if◌then◌else◌, ◌==◌}
 use Rattle.std.specs.Prelude.{nat_lt, map, length, take}
 use Rattle.std.specs.List.{list_all}
@@ -25,20 +25,20 @@ state_of digits = record {
   is_long = nat_lt most_digits (length digits);
 }
 
--- the text so far has digits alone beside blanks, and this is kept of them
+-- the text so far has only digits and blanks, and this is kept of them
 pub record StandsFor (h : HexState) (text : List ℕ) : Type 0 where
   pub all_digits : list_all is_hex_digit (characters text) ≡ true
   pub kept : h ≡ state_of (characters text)
 
 -- whatever text the old one stands for, the new one stands for it and this piece
-abbrev pub Reads : List ℕ → HexState → HexState → Type 0
-Reads piece old new = (text : List ℕ) → StandsFor old text → StandsFor new (text ++ piece)
+abbrev pub TakesPiece : List ℕ → HexState → HexState → Type 0
+TakesPiece piece old new = (text : List ℕ) → StandsFor old text → StandsFor new (text ++ piece)
 
 -- something in the piece is neither a digit nor a blank
 abbrev pub IsBad : List ℕ → Type 0
 IsBad piece = list_all is_hex_digit (characters piece) ≡ false
 
--- one more digit, which is kept where there is room
+-- one more digit, which is kept if there is room
 abbrev pub kept_more : HexState → ℕ → HexState
 kept_more h value = record {
   digits = if (nat_lt (length h.digits) most_digits) then (h.digits ++ value ∷ []) else h.digits;

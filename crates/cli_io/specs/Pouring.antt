@@ -1,4 +1,4 @@
--- What was made of all that a reader had.
+-- What became of all that a reader had.
 use Rattle.std.specs.Prelude.{ℕ, List, Result, Ok, Err}
 use Rattle.cli_io.specs.declared.intake.PourFault.{PourFault}
 use Rattle.cli_io.specs.declared.intake.PourFault.TheVariants as fault
@@ -11,7 +11,7 @@ IsPoured Stands Refuses (Err fault.Bad) input = Refuses input
 IsPoured Stands Refuses (Err fault.OutOfMemory) input = Unit {0}
 IsPoured Stands Refuses (Err fault.Read) input = Unit {0}
 
--- the one where the fault is that a read failed, else the other
+-- the first if the fault is that a read failed, else the second
 abbrev pub IfPourFailed : PourFault → Type 0 → Type 0 → Type 0
 IfPourFailed fault.Read some none = some
 IfPourFailed fault.Bad some none = none

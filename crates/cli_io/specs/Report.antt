@@ -15,7 +15,7 @@ pub record IsReport (report : Report) (status : Status) (text : List ℕ) : Type
   pub status_is : answer_status report.is_refused ≡ status
   pub text_is : string_bytes report.text ≡ text
 
--- for every input that the reader has left: the report, if there is one, has the input's status and text
+-- the report, if there is one, has the status and the text of the input that the reader has left
 abbrev pub ReportsInput : (List ℕ → Status) → (List ℕ → List ℕ) → Result Report Status → InletState → Type 0
 ReportsInput status_of text_of result reader =
     IfSome reader.left (λ input. IfOk result (λ report. IsReport report (status_of input) (text_of input)))

@@ -1,4 +1,4 @@
--- What was found in all that a reader had.
+-- What all that a reader had means.
 use Rattle.std.specs.Prelude.{◌≡◌, ◌≤◌, ◌⊎◌, ℕ, List, length, true, IfSome, Result, Ok, Err, MatchResult}
 use Rattle.std.specs.Global.{Vec}
 use Rattle.base_streams.specs.States.{InletState}
@@ -9,16 +9,16 @@ use Rattle.cli_io.specs.declared.hex_input.HexFault.TheVariants as fault
 use Rattle.cli_io.specs.declared.text_input.TextFault.{TextFault}
 use Rattle.cli_io.specs.declared.text_input.TextFault.TheVariants as text
 
--- a reader is asked no more often
+-- the most reads of an input
 unfoldable pub most_reads : ℕ
 most_reads = 4294967295
 
--- so many reads, of which each gave a byte at least, didn't come to the end of what the reader has left, if
--- that is known
+-- that many reads, each of at least one byte, don't come to the end of what the reader has left, if that is
+-- known
 abbrev pub IsEndless : InletState → Type 0
 IsEndless inlet = IfSome inlet.left (λ input. most_reads ≤ length input)
 
--- the one where the fault is that a read failed, else the other
+-- the first if the fault is that a read failed, else the second
 abbrev pub IfReadFailed : HexFault → Type 0 → Type 0 → Type 0
 IfReadFailed fault.Read some none = some
 IfReadFailed _ some none = none
@@ -28,8 +28,8 @@ IfTextFailed text.Read some none = some
 IfTextFailed text.BadText some none = none
 IfTextFailed text.OutOfMemory some none = none
 
--- A failed read is reported where one failed, or where the input didn't end; any other answer says that none
--- failed. `IfReported` is the first of two facts at a fault that reports a failed read, else the second.
+-- A failed read is reported exactly if one failed, or the input didn't end. `IfReported` is the first of two
+-- facts at a fault that reports a failed read, else the second.
 abbrev pub BlamesReader : {A E : Type 0} → (E → Type 0 → Type 0 → Type 0) → Result A E → InletState
     → InletState → Type 0
 BlamesReader IfReported result old new =

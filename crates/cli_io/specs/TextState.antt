@@ -1,4 +1,4 @@
--- What is kept of a text while it comes in, and what is found of it at its end.
+-- What is kept of a text while it is read, and what is known of it at its end.
 use Rattle.std.specs.Prelude.{◌≡◌, ℕ, ◌+◌, ◌<◌, ◌≤◌, List, [], ◌++◌, Bool, true, false, Option, Some, None}
 use Rattle.std.specs.Prelude.{Result, Ok, Err, nat_lt, length, take, drop, IsUtf8, String, string_bytes}
 use Rattle.std.specs.Global.{Global}
@@ -12,22 +12,22 @@ pub record TextState : Type 0 where
   pub limit : ℕ
   pub is_long : Bool
 
--- the text is whole characters and then these bytes, which are none
+-- the text is whole characters and then these bytes, which are no whole characters
 pub record IsCut (kept text : List ℕ) : Type 0 where
   pub front : List ℕ
   pub whole : IsUtf8 front
   pub text_is : text ≡ front ++ kept
   pub alone : IsUtf8 kept → kept ≡ []
 
--- the text so far has more bytes than the limit or hasn't, and this is kept of it
+-- whether the text so far has more bytes than the limit, and what is kept of it
 pub record StandsFor (t : TextState) (text : List ℕ) : Type 0 where
   pub long : t.is_long ≡ nat_lt t.limit (length text)
   pub keeps : t.is_long ≡ false → t.kept ≡ text
   pub cuts : t.is_long ≡ true → IsCut t.kept text
 
 -- whatever text the old one stands for, the new one stands for it and this piece
-abbrev pub Takes : List ℕ → TextState → TextState → Type 0
-Takes piece old new = (text : List ℕ) → StandsFor old text → StandsFor new (text ++ piece)
+abbrev pub TakesPiece : List ℕ → TextState → TextState → Type 0
+TakesPiece piece old new = (text : List ℕ) → StandsFor old text → StandsFor new (text ++ piece)
 
 -- whatever follows, it isn't UTF-8
 abbrev pub NeverText : List ℕ → Type 0
@@ -37,14 +37,14 @@ NeverText bytes = (more : List ℕ) → is_utf8 (bytes ++ more) ≡ false
 abbrev pub IsBad : List ℕ → TextState → Type 0
 IsBad piece old = (text : List ℕ) → StandsFor old text → NeverText (text ++ piece)
 
--- so many bytes at the front are whole characters, and those behind them, three at most, are none
+-- so many bytes at the front are whole characters, and the others, at most three, are no whole characters
 pub record Splits (bytes : List ℕ) (n : ℕ) : Type 0 where
   pub within : n ≤ length bytes
   pub few : length bytes < n + 4
   pub whole : IsUtf8 (take n bytes)
   pub alone : IsUtf8 (drop n bytes) → drop n bytes ≡ []
 
--- what follows some whole characters was kept
+-- only what follows some whole characters was kept
 abbrev pub Cuts : TextState → TextState → Type 0
 Cuts old new = (n : ℕ) × Splits old.kept n × (new ≡ record old { kept = drop n old.kept })
 

@@ -1,19 +1,19 @@
-//! What the words of the command line ask for.
+//! The command that the words on the command line are.
 ghost use Rattle.std.specs.Prelude.{◌≡◌, map, option_map, string_bytes};
 ghost use Rattle.cli_io.specs.Command.{task_of, command_of, one_word, with_origin, two_words};
 
 use base_text::hexadecimal::read_word;
 
-/// What lab80 is to do.
+/// A command of lab80.
 #[derive(Clone, Copy, PartialEq, Eq)]
 pub enum Command<'a> {
     /// Runs bytes and prints each step.
     Step,
     /// Assembles a cell and runs it.
     Asm,
-    /// Lists bytes, from this address on.
+    /// Lists bytes, the first of which is at this address.
     Dis(u16),
-    /// Serves as the kernel of the connection file of this name.
+    /// Runs the kernel of the connection file of this name.
     Kernel(&'a str),
     /// Runs a cell on the kernel of the connection file of this name.
     Term(&'a str),
@@ -55,7 +55,7 @@ fn two_words<'a>(word: &str, other: &'a str) -> Option<Command<'a>>
     None
 }
 
-/// What the words after the program's name ask for, if they are words of lab80.
+/// The command that the words after the program's name are, if they are one.
 pub fn read_command(words: &[String]) -> Option<Command<'_>>
     ensures { option_map task_of result ≡ command_of (map string_bytes words.now) }
 {

@@ -1,4 +1,4 @@
-//! Hexadecimal text that comes in pieces.
+//! Hexadecimal text, read piece by piece.
 ghost use Rattle.std.specs.Prelude.{◌≡◌, ◌<◌, ◌∷◌, [], List, ℕ, Some, OnOk, IsErrOf, IfOk, All};
 ghost use Rattle.cli_io.specs.HexInput.{digit_value, input_of, byte_pairs};
 ghost use Rattle.cli_io.specs.HexState.{kept_more};
@@ -10,10 +10,10 @@ use std::alloc::{AllocError, AllocFailed, Global};
 use std::marker::Model;
 use thiserror::Error;
 
-/// How many digits the bytes of a whole memory have.
+/// The number of digits of a whole memory.
 const MOST_DIGITS: usize = 2 * MEMORY_SIZE;
 
-/// Why hexadecimal text gives no bytes.
+/// Why hexadecimal text is refused.
 #[derive(Clone, Copy, PartialEq, Eq, Debug, Error)]
 pub enum HexFault {
     /// A character is neither a digit nor a blank, or the number of digits is odd.
@@ -24,7 +24,7 @@ pub enum HexFault {
     PastEnd,
     #[error("out of memory")]
     OutOfMemory,
-    /// A read failed, or 4,294,967,295 reads didn't come to the end.
+    /// A read failed, or the end didn't come within 4,294,967,295 reads.
     #[error("a read failed")]
     Read,
 }
@@ -51,7 +51,7 @@ impl From<AllocFailed<u8>> for HexFault {
     }
 }
 
-/// The digits of hexadecimal text so far, of which no more are kept than memory has room for.
+/// The digits of hexadecimal text so far, at most as many as those of a whole memory.
 #[derive(Drop)]
 pub struct HexInput {
     digits: Vec<u8>,
@@ -93,7 +93,7 @@ impl Intake for HexInput {
 }
 
 impl HexInput {
-    ghost use Rattle.cli_io.specs.HexState.{StandsFor, Reads, IsBad, Finds};
+    ghost use Rattle.cli_io.specs.HexState.{StandsFor, TakesPiece, IsBad, Finds};
 
     /// No text yet.
     pub fn new(alloc: Global) -> HexInput
@@ -106,9 +106,9 @@ impl HexInput {
         }
     }
 
-    /// Takes the next piece of text. After an `Err` the rest of the text is of no use.
+    /// Takes the next piece of text. An `Err` is final: the rest of the text can't change it.
     pub fn feed(&mut self, piece: &[u8]) -> Result<(), HexFault>
-        ensures ok { OnOk result (Reads piece.now self.old self.new) }
+        ensures ok { OnOk result (TakesPiece piece.now self.old self.new) }
         ensures bad { IsErrOf result HexFault.BadHex → IsBad piece.now }
     {
         for byte in piece {
@@ -119,7 +119,7 @@ impl HexInput {
         Ok(())
     }
 
-    /// The values of the digits, high one of each byte first, once all of the text is there.
+    /// The values of the digits, the high one of each byte first, at the end of the text.
     pub fn digits(&self) -> Result<&[u8], HexFault>
         ensures found { (text : List ℕ) → StandsFor self.now text
             → Finds (λ digits. digits.now) result (input_of text) }
@@ -135,7 +135,7 @@ impl HexInput {
     }
 
     fn feed_byte(&mut self, byte: u8) -> Result<(), HexFault>
-        ensures ok { OnOk result (Reads (byte ∷ []) self.old self.new) }
+        ensures ok { OnOk result (TakesPiece (byte ∷ []) self.old self.new) }
         ensures bad { IsErrOf result HexFault.BadHex → IsBad (byte ∷ []) }
     {
         if matches!(byte, b' ' | b'\t' | b'\n' | b'\r') {
@@ -163,8 +163,8 @@ impl HexInput {
     }
 }
 
-/// The bytes whose digits have these values, the high digit of each first. A digit that is left over
-/// makes no byte.
+/// The bytes whose digits have these values, the high digit of each first. An odd digit at the end is
+/// dropped.
 pub fn pair_digits(alloc: Global, digits: &[u8]) -> Result<Vec<u8>, AllocError>
     requires { All (λ d. d < 16) digits.now }
     ensures { IfOk result (λ bytes. bytes.items ≡ byte_pairs digits.now) }

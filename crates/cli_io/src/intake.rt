@@ -1,37 +1,37 @@
-//! An input that is read to its end, piece by piece, into what takes it.
+//! Input, read to its end, piece by piece, into an intake.
 ghost use Rattle.std.specs.Prelude.{◌≡◌, ◌<◌, ◌++◌, ℕ, List, [], OnOk, IsErrOf, IfOk, IfSome, length};
 ghost use Rattle.cli_io.specs.Streams.{BlamesReader};
 ghost use Rattle.cli_io.specs.Pouring.{IsPoured, IfPourFailed};
 
 use base_streams::ports::Inlet;
 
-/// Why a piece isn't taken.
+/// Why a piece is refused.
 #[derive(Clone, Copy)]
 pub(crate) enum IntakeFault {
     Bad,
     OutOfMemory,
 }
 
-/// Why an input wasn't taken to its end.
+/// Why an input wasn't read to its end.
 #[derive(Clone, Copy)]
 pub(crate) enum PourFault {
-    /// It is one that is refused.
+    /// The input is refused.
     Bad,
     OutOfMemory,
-    /// A read failed, or 4,294,967,295 reads didn't come to the end.
+    /// A read failed, or the end didn't come within 4,294,967,295 reads.
     Read,
 }
 
 /// What takes an input piece by piece.
 pub(crate) trait Intake: Drop {
-    // The text so far that it stands for, the inputs that it refuses, and a limit that it has.
+    // The text so far that it stands for, the inputs that it refuses, and its limit.
     ghost stands: { Self → List ℕ → Type 0 };
 
     ghost refuses: { List ℕ → Type 0 };
 
     ghost limit: { Self → ℕ };
 
-    /// Takes the next piece. After an `Err` the rest is of no use.
+    /// Takes the next piece. An `Err` is final: the rest can't change it.
     fn take(&mut self, piece: &[u8]) -> Result<(), IntakeFault>
         ensures limit { limit self.new ≡ limit self.old }
         ensures ok { OnOk result
@@ -58,7 +58,7 @@ impl Intake for Vec<u8> {
     }
 }
 
-/// Reads to the end, through the buffer.
+/// Reads to the end, a buffer at a time.
 pub(crate) fn pour<R: Inlet, I: Intake>(
     reader: &mut R,
     buffer: &mut [u8],

@@ -1,4 +1,4 @@
-//! Reading all that a reader has: hexadecimal text as the bytes that it means, or bytes as they are.
+//! Reading to the end: hexadecimal text as the bytes that it means, text, or bytes as they are.
 ghost use Rattle.std.specs.Prelude.{◌≡◌, ◌<◌, [], IfSome, IfOk, IfErr, length, vec_len};
 ghost use Rattle.cli_io.specs.Engine.{IsFailure, IfFailed};
 ghost use Rattle.cli_io.specs.Streams.{IsReading, IsHex, IfReadFailed, IfTextFailed, BlamesReader};
@@ -13,7 +13,7 @@ use crate::text_input::TextInput;
 use base_streams::ports::Inlet;
 use std::alloc::{AllocError, Global};
 
-/// How many bytes are asked for at a time.
+/// The number of bytes of a read.
 const PIECE_SIZE: usize = 4096;
 
 fn new_buffer(alloc: Global) -> Result<Vec<u8>, AllocError>
@@ -22,8 +22,8 @@ fn new_buffer(alloc: Global) -> Result<Vec<u8>, AllocError>
     vec![in alloc; 0; PIECE_SIZE]
 }
 
-/// Reads hexadecimal text to its end, piece by piece, and gives the bytes that it means. What
-/// follows a character that is neither a digit nor a blank isn't read.
+/// Reads hexadecimal text to its end, piece by piece, and returns the bytes that it means. It stops at
+/// a piece with a character that is neither a digit nor a blank.
 pub fn read_hex<R: Inlet>(alloc: Global, reader: &mut R) -> Result<Vec<u8>, HexFault>
     ensures bytes { IfSome (R.state reader.old).left (IsHex result) }
     ensures blame { BlamesReader IfReadFailed result (R.state reader.old) (R.state reader.new) }
@@ -53,8 +53,8 @@ fn read_digits<R: Inlet>(
     }
 }
 
-/// Reads text to its end, piece by piece: the text, or none where it is longer than so many bytes. Past
-/// those nothing is kept, and what isn't UTF-8 is reported at the first byte that shows it.
+/// Reads text to its end, piece by piece, and returns it, or `None` if it is longer than `limit` bytes.
+/// Past the limit nothing is kept, and it stops at the first piece that can't be UTF-8.
 pub fn read_text<R: Inlet>(
     alloc: Global,
     limit: usize,

@@ -1,7 +1,7 @@
-//! What an engine has to say, and its way to the writer.
-ghost use Rattle.std.specs.Prelude.{◌≡◌, ◌⊎◌, true, IfOk, IfErr, string_bytes};
+//! What an engine reports, and how it is written.
+ghost use Rattle.std.specs.Prelude.{◌≡◌, ◌⊎◌, IfOk, IfErr, string_bytes};
 ghost use Rattle.std.specs.Io.KnownBytes.{Keeps};
-ghost use Rattle.cli_io.specs.Engine.{Answers, answer_status, IfFailed};
+ghost use Rattle.cli_io.specs.Engine.{WritesAnswer, answer_status, BlamesWriter};
 ghost use Rattle.cli_io.specs.Report.{IsReport, Refuses, RefusesText, IsToldBy, IsToldByText};
 
 use crate::reading::{HexFault, TextFault};
@@ -11,14 +11,14 @@ use base_streams::writing::write_all;
 use std::alloc::{AllocError, Global};
 use std::io::Write;
 
-/// A text, and whether it is an answer or a refusal.
+/// A text, and whether it says that the input is refused.
 #[derive(Drop)]
 pub struct Report {
     pub is_refused: bool,
     pub text: String,
 }
 
-/// The report that input is refused with this line.
+/// The report that the input is refused, with this line.
 pub fn refusal(alloc: Global, line: &str) -> Result<Report, AllocError>
     ensures { IfOk result (λ report. IsReport report Status.Refused line.now) }
 {
@@ -29,7 +29,7 @@ pub fn refusal(alloc: Global, line: &str) -> Result<Report, AllocError>
     })
 }
 
-/// The report that hexadecimal input is refused; or the status, where there is no more to say.
+/// The report that hexadecimal input is refused; or the status, if nothing is to be written.
 pub fn hex_refusal(alloc: Global, fault: HexFault) -> Result<Report, Status>
     ensures report { IfOk result (Refuses fault) }
     ensures failure { IfErr result (IsToldBy fault) }
@@ -42,7 +42,7 @@ pub fn hex_refusal(alloc: Global, fault: HexFault) -> Result<Report, Status>
     }
 }
 
-/// The report that text is refused; or the status, where there is no more to say.
+/// The report that text is refused; or the status, if nothing is to be written.
 pub fn text_refusal(alloc: Global, fault: TextFault) -> Result<Report, Status>
     ensures report { IfOk result (RefusesText fault) }
     ensures failure { IfErr result (IsToldByText fault) }
@@ -54,13 +54,11 @@ pub fn text_refusal(alloc: Global, fault: TextFault) -> Result<Report, Status>
     }
 }
 
-/// Writes the report's text, and answers its status where that went well.
+/// Writes the report's text and returns its status, or `Failed` if a write failed.
 pub fn deliver<W: Outlet>(writer: &mut W, report: &Report) -> Status
-    ensures answers { Answers (answer_status report.now.is_refused) (string_bytes report.now.text) result
+    ensures answers { WritesAnswer (answer_status report.now.is_refused) (string_bytes report.now.text) result
         (W.state writer.old) (W.state writer.new) }
-    ensures blame { IfFailed result
-        ((W.state writer.new).failed ≡ true)
-        ((W.state writer.new).failed ≡ (W.state writer.old).failed) }
+    ensures blame { BlamesWriter result (W.state writer.old) (W.state writer.new) }
 {
     if write_all(writer, report.text.as_bytes()).is_err() {
         return Status::Failed;
@@ -72,7 +70,7 @@ pub fn deliver<W: Outlet>(writer: &mut W, report: &Report) -> Status
     }
 }
 
-/// The status after a writer has written out what it kept back: where it can't, the write has failed.
+/// Flushes the writer and returns the status, or `Failed` if that failed.
 pub fn flush_report<W: Write>(status: Status, writer: &mut W) -> Status
     ensures status { (result ≡ status) ⊎ (result ≡ Status.Failed) }
     ensures kept { Keeps (W.contents writer.old) (W.contents writer.new) }

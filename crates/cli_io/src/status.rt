@@ -1,23 +1,23 @@
-//! What an engine answers, which is the program's exit status.
+//! The status of an engine, which is the program's exit status.
 ghost use Rattle.std.specs.Prelude.{◌≡◌};
 ghost use Rattle.cli_io.specs.Engine.{exit_status};
 
 #[derive(Clone, Copy, PartialEq, Eq)]
 pub enum Status {
-    /// The text is whole.
+    /// All of the text was written.
     Success,
     /// The input is refused; the text says why.
     Refused,
-    /// The words on the command line are none that the program knows.
+    /// The program doesn't know the words on the command line.
     Usage,
     /// Out of memory.
     OutOfMemory,
-    /// A read or a write failed, or a reader didn't end.
+    /// A read or a write failed, or the input didn't end.
     Failed,
 }
 
 impl Status {
-    /// The number that the program exits with.
+    /// The program's exit status, from 0 to 4.
     pub fn number(self) -> u8
         ensures { result ≡ exit_status self }
     {

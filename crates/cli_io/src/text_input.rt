@@ -1,7 +1,8 @@
-//! Text that comes in pieces, of which no more is kept than a limit allows.
+//! Text, read piece by piece and kept up to a limit.
 ghost use Rattle.std.specs.Prelude.{◌≡◌, ◌≢◌, ◌||◌, ◌++◌, true, false, ℕ, List, [], nat_lt, length, OnOk};
 ghost use Rattle.std.specs.Prelude.{IsErrOf, IfErr, IfSome, IfNone};
-ghost use Rattle.cli_io.specs.TextState.{StandsFor, Takes, IsBad, NeverText, IsText, IsDecoded, Splits, Cuts};
+ghost use Rattle.cli_io.specs.TextState.{StandsFor, TakesPiece, IsBad, NeverText, IsText, IsDecoded};
+ghost use Rattle.cli_io.specs.TextState.{Splits, Cuts};
 ghost use Rattle.cli_io.specs.TextState.{KeepsFew};
 
 use crate::intake::{Intake, IntakeFault};
@@ -10,7 +11,7 @@ use std::marker::Model;
 use std::str;
 use thiserror::Error;
 
-/// Why bytes give no text.
+/// Why text is refused.
 #[derive(Clone, Copy, PartialEq, Eq, Debug, Error)]
 pub enum TextFault {
     /// They aren't UTF-8.
@@ -18,13 +19,13 @@ pub enum TextFault {
     BadText,
     #[error("out of memory")]
     OutOfMemory,
-    /// A read failed, or 4,294,967,295 reads didn't come to the end.
+    /// A read failed, or the end didn't come within 4,294,967,295 reads.
     #[error("a read failed")]
     Read,
 }
 
-/// The bytes of a text so far: all of them up to the limit; past it only those of a character that has
-/// begun and isn't whole yet.
+/// The bytes of a text so far: all of them up to the limit; past it only those of a character that isn't
+/// whole yet.
 #[derive(Drop)]
 pub struct TextInput {
     kept: Vec<u8>,
@@ -73,11 +74,11 @@ impl TextInput {
         }
     }
 
-    /// Takes the next piece. After an `Err` the rest of the text is of no use. Only past the limit are
-    /// the bytes looked at: `BadText` then comes with the first that shows that they aren't UTF-8.
+    /// Takes the next piece. An `Err` is final: the rest of the text can't change it. Bytes are checked
+    /// only past the limit: `BadText` then comes with the first byte that can't be UTF-8.
     pub fn feed(&mut self, piece: &[u8]) -> Result<(), TextFault>
         ensures limit { self.new.limit ≡ self.old.limit }
-        ensures ok { OnOk result (Takes piece.now self.old self.new) }
+        ensures ok { OnOk result (TakesPiece piece.now self.old self.new) }
         ensures bad { IsErrOf result TextFault.BadText → IsBad piece.now self.old }
         ensures few { OnOk result (KeepsFew self.new) }
     {
@@ -107,7 +108,7 @@ impl TextInput {
         self.is_long || self.limit < self.kept.len()
     }
 
-    // Keeps no more than what follows the last whole character.
+    // Drops all whole characters.
     fn cut(&mut self) -> Result<(), TextFault>
         ensures limit { self.new.limit ≡ self.old.limit }
         ensures ok { OnOk result (Cuts self.old self.new) }
@@ -121,7 +122,7 @@ impl TextInput {
         Ok(())
     }
 
-    /// The text, once all of it is there; none where it is longer than the limit.
+    /// The text at its end, or `None` if it is longer than the limit.
     pub fn into_text(self) -> Result<Option<String>, TextFault>
         ensures text { (text : List ℕ) → StandsFor self text → IsText self.limit result text }
         ensures fault { IfErr result (λ fault. fault ≡ TextFault.BadText) }
@@ -154,7 +155,7 @@ fn decode(bytes: Vec<u8>) -> Result<Option<String>, TextFault>
     }
 }
 
-/// How many bytes at the front are whole characters; none where what comes next begins no character.
+/// The number of bytes of the whole characters at the front; `None` if no character can follow them.
 fn whole_characters(bytes: &[u8]) -> Option<usize>
     ensures some { IfSome result (Splits bytes.now) }
     ensures none { IfNone result (NeverText bytes.now) }

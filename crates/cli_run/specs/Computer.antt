@@ -13,7 +13,7 @@ use Rattle.i80_devs.specs.Past.{Operation, Port, answer, panel_after}
 use Rattle.cli_run.specs.declared.ending.Ending.{Ending}
 use Rattle.cli_run.specs.declared.ending.Ending.TheVariants as ending
 
--- the machine, all operations on its devices so far, and what the last step answered
+-- the machine, all operations on its devices so far, and the outcome of the last step
 pub record Computer : Type 0 where
   pub machine : MachineState
   pub past : List Operation
@@ -24,7 +24,7 @@ abbrev pub stored_from : ℕ → List ℕ → MachineState → MachineState
 stored_from address [] m = m
 stored_from address (byte ∷ bytes) m = stored_from (address + 1) bytes (stored m address byte)
 
--- a machine to whose devices nothing was done
+-- a machine with new devices
 abbrev pub fresh : MachineState → Computer
 fresh m = record { machine = m; past = []; last = stepped.Done }
 
@@ -49,8 +49,8 @@ halted_in Off = ending.Halted
 halted_in Arming = ending.Waiting
 halted_in On = ending.Waiting
 
--- How a run whose last step answered so ends at this machine, if it does: after HLT, after as many steps as
--- it may have, or before an undefined opcode.
+-- How a run with this outcome of its last step ends at this machine, if it does: after HLT, after as many
+-- steps as it may have, or before an undefined opcode.
 abbrev pub end_of : Bool → Stepped → MachineState → Option Ending
 end_of is_last last m =
     if (is_halt last) then (Some (halted_in m.regs.interrupts)) else
@@ -68,6 +68,6 @@ unfoldable pub least_from : {A : Type 0} → (ℕ → Option A) → ℕ → ℕ 
 least_from f k zero = k
 least_from f k (suc n) = if (is_some (f k)) then k else (least_from f (k + 1) n)
 
--- how many steps a run of at most limit steps has
+-- the number of steps of a run of at most limit steps
 abbrev pub run_length : ℕ → Computer → ℕ
 run_length limit start = least_from (end_at limit start) 0 limit

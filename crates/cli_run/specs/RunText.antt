@@ -22,13 +22,13 @@ abbrev pub end_line : Option Ending → List ℕ
 end_line None = []
 end_line (Some end) = line (word_of end)
 
--- the registers after each step, and last how the run ended
+-- the registers after each step, and then how the run ended
 unfoldable pub run_text : ℕ → Computer → List ℕ
 run_text limit start =
     let steps = run_length limit start in
     lines_of steps start ++ end_line (end_at limit start steps)
 
--- the registers where the run ends, and how it ended
+-- the registers at the end of the run, and how it ended
 unfoldable pub run_end_text : ℕ → Computer → List ℕ
 run_end_text limit start =
     let steps = run_length limit start in

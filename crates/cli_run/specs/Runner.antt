@@ -11,7 +11,7 @@ pub record RunnerState : Type 0 where
   pub devices : devices.DeviceState
   pub last : Stepped
 
--- the runner has the computer's machine and last answer, and devices that the computer's past made
+-- the runner has the computer's machine and last outcome, and devices with the computer's past
 pub record StandsFor (r : RunnerState) (b : Computer) : Type 0 where
   pub machine : r.machine ≡ b.machine
   pub devices : devices.StandsFor r.devices b.past

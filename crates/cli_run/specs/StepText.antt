@@ -1,4 +1,4 @@
--- The text and the status with which the word `step` answers its input.
+-- The text that the word `step` writes for its input, and its status.
 use Rattle.std.specs.Prelude.{ℕ, List}
 use Rattle.cli_io.specs.declared.status.Status.{Status}
 use Rattle.cli_io.specs.declared.status.Status.TheVariants.{Success}

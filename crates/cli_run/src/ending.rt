@@ -1,6 +1,6 @@
 //! How a run ends.
 
-/// Why a run of a program went no further.
+/// How a run of a program ended.
 #[derive(Clone, Copy, PartialEq, Eq)]
 pub enum Ending {
     /// HLT with interrupts off.
@@ -9,6 +9,6 @@ pub enum Ending {
     Waiting,
     /// The next opcode is undefined.
     Undefined(u8),
-    /// As many steps were done as a run may have.
+    /// The run had as many steps as it may have.
     Limit,
 }

@@ -1,4 +1,4 @@
-//! Registers and endings as text: hexadecimal digits are upper case and of fixed width.
+//! Registers and endings as text: hexadecimal numbers are upper case and of fixed width.
 ghost use Rattle.std.specs.Prelude.{◌≡◌, ◌++◌, OnOk, string_bytes, codes};
 ghost use Rattle.i80_rows.specs.FlagValues.{flag_byte};
 ghost use Rattle.base_text.specs.Hexadecimal.{upper_byte, upper_word};
@@ -11,7 +11,7 @@ use base_text::hexadecimal::{push_byte, push_word};
 use i80_exec::registers::Registers;
 use std::alloc::AllocError;
 
-/// Adds a name and a byte as two digits.
+/// Appends a name, and a byte as two digits.
 pub fn push_field(text: &mut String, name: &str, byte: u8) -> Result<(), AllocError>
     ensures { OnOk result (string_bytes text.new ≡ string_bytes text.old ++ field name.now byte) }
 {
@@ -56,7 +56,7 @@ fn push_hl_and_sp(text: &mut String, regs: &Registers) -> Result<(), AllocError>
     Ok(())
 }
 
-/// Adds a line as `PC=0002 A=6C F=02 B=00 C=00 D=00 E=00 H=00 L=00 SP=0000`.
+/// Appends a line such as `PC=0002 A=6C F=02 B=00 C=00 D=00 E=00 H=00 L=00 SP=0000`.
 pub fn push_registers(text: &mut String, regs: &Registers) -> Result<(), AllocError>
     ensures { OnOk result (string_bytes text.new ≡ string_bytes text.old ++ register_line regs.now) }
 {
@@ -67,7 +67,7 @@ pub fn push_registers(text: &mut String, regs: &Registers) -> Result<(), AllocEr
     Ok(())
 }
 
-/// Adds the line that says how a run ended.
+/// Appends the line that says how a run ended.
 pub fn push_ending(text: &mut String, ending: Ending) -> Result<(), AllocError>
     ensures { OnOk result (string_bytes text.new ≡ string_bytes text.old ++ line (word_of ending)) }
 {

@@ -14,7 +14,7 @@ use i80_rows::instruction::DecodeFault;
 use std::alloc::{AllocError, Global};
 use std::marker::Model;
 
-/// A machine and its devices, with the answer of the last step.
+/// A machine and its devices, with the outcome of the last step.
 #[derive(Drop)]
 pub struct Runner {
     machine: Machine,
@@ -33,7 +33,7 @@ impl Model for Runner {
 impl Runner {
     ghost use Rattle.cli_run.specs.Runner.{StandsFor, Steps, HasRun};
 
-    /// A runner of this machine, with devices to which nothing was done.
+    /// A runner of this machine, with new devices.
     pub fn new(alloc: Global, machine: Machine) -> Runner
         ensures { StandsFor result (fresh machine) }
     {
@@ -44,7 +44,7 @@ impl Runner {
         }
     }
 
-    /// Adds to the text the registers after each of at most `limit` steps, and how the run ended.
+    /// Appends the registers after each of at most `limit` steps, and how the run ended.
     pub fn print_run(&mut self, limit: u64, text: &mut String) -> Result<(), AllocError>
         ensures { OnOk result ((start : Computer) → StandsFor self.old start
             → string_bytes text.new ≡ string_bytes text.old ++ run_text limit start) }
@@ -67,7 +67,7 @@ impl Runner {
         Ok(())
     }
 
-    /// Adds to the text the registers where a run of at most `limit` steps ends, and how it ended.
+    /// Appends the registers at the end of a run of at most `limit` steps, and how it ended.
     pub fn print_end(&mut self, limit: u64, text: &mut String) -> Result<(), AllocError>
         ensures { OnOk result ((start : Computer) → StandsFor self.old start
             → string_bytes text.new ≡ string_bytes text.old ++ run_end_text limit start) }
@@ -80,7 +80,7 @@ impl Runner {
         Ok(())
     }
 
-    /// Does at most `limit` steps, up to the end of the run.
+    /// Makes at most `limit` steps, up to the end of the run.
     fn run(&mut self, limit: u64) -> Result<Option<Ending>, AllocError>
         ensures { IfOk result (λ ending. (start : Computer) → StandsFor self.old start
             → HasRun limit start self.new ending) }
@@ -94,7 +94,7 @@ impl Runner {
         Ok(self.ending(true))
     }
 
-    /// How the run ends here, if it does; `is_last` where it has had as many steps as it may have.
+    /// How the run ends here, if it does; `is_last` if it has had as many steps as it may have.
     fn ending(&self, is_last: bool) -> Option<Ending>
         ensures { result ≡ end_of is_last self.now.last self.now.machine }
     {

@@ -1,4 +1,4 @@
-//! The word `step`: what each instruction of a program did.
+//! The word `step`: what each instruction of a program does.
 ghost use Rattle.std.specs.Prelude.{IfOk, IfErr};
 ghost use Rattle.cli_io.specs.Engine.{AnswersInput, BlamesStreams, IsFailure, IfFailed};
 ghost use Rattle.cli_io.specs.Report.{IsReport, ReportsInput};
@@ -12,12 +12,12 @@ use cli_io::report::{Report, deliver, hex_refusal};
 use cli_io::status::Status;
 use std::alloc::{AllocError, Global};
 
-/// How many steps a run may have.
+/// The most steps of a run.
 pub const STEP_LIMIT: u64 = 1000;
 
 /// Reads the bytes of a program as hexadecimal text, runs it from address 0 on a machine after
-/// power-on, and writes the registers after each step and last how the run ended.
-/// What is refused is answered by one line, and nothing is written before all of the text is read.
+/// power-on, and writes the registers after each step and then how the run ended. For input that is
+/// refused it writes one line. It writes nothing before all of the text is read.
 pub fn run_step<R: Inlet, W: Outlet>(alloc: Global, reader: &mut R, writer: &mut W) -> Status
     ensures answers { AnswersInput step_status step_text result (R.state reader.old)
         (W.state writer.old) (W.state writer.new) }

@@ -1,11 +1,6 @@
 -- A listing is a cell: its lines, and their statements.
-use Rattle.std.proofs.Common.{◌≡◌, ℕ, zero, suc, ◌-◌, ◌<◌, ◌≤◌, inl, inr, List, [], ◌∷◌, ◌++◌, Bool, true}
-use Rattle.std.proofs.Common.{false, cond, length, map, get_or, refl, sym, ap, subst, ◌∙◌, arith, eqb}
-use Rattle.std.proofs.Common.{append_assoc}
-use Rattle.std.specs.Prelude.{codes, nat_lt, slice_index}
-use Rattle.std.specs.List.{list_all, slice_split, onto_first}
-use Rattle.std.specs.Str.Lines.{lines, lines_of_parts, strip_carriage_return}
-use Rattle.std.proofs.lemmas.Bool.{and_parts, ltb-true, ne_eqb}
+use Rattle.std.proofs.Common.{◌≡◌, ℕ, ◌-◌, ◌<◌, ◌≤◌, inl, inr, List, [], ◌∷◌, ◌++◌}
+use Rattle.std.proofs.Common.{length, map, get_or, refl, sym, ap, subst, ◌∙◌, arith}
 use Rattle.std.proofs.lemmas.List.{length-append}
 use Rattle.i80_rows.specs.declared.instruction.Instr.{Instr}
 use Rattle.i80_rows.specs.Encoding.{Encodes, encoding_of}
@@ -16,56 +11,8 @@ use Rattle.i80_dis.specs.declared.line.Shown.TheVariants.{Instruction, Datum}
 use Rattle.i80_dis.specs.Shown.{Lists}
 use Rattle.i80_dis.specs.Text.{text_of, text_line, text_of_lines}
 use Rattle.i80_dis.specs.Law.{AreBytes}
-use Rattle.i80_dis.proofs.Forms.{does}
+use Rattle.asm_text.proofs.PlainLines.{does}
 use Rattle.i80_dis.proofs.Instructions.{IsLine, action_by, instruction_is, datum_is}
-
--- ---- the lines of a text
-
-above_ends : (c : ℕ) → nat_lt 13 c ≡ true → eqb c 10 ≡ false
-above_ends c h = let lt : 13 < c = ltb-true 13 c h in ne_eqb c 10 (λ e. absurd (omega (arith, lt, e)))
-
-above_return : (c : ℕ) → nat_lt 13 c ≡ true → eqb c 13 ≡ false
-above_return c h = let lt : 13 < c = ltb-true 13 c h in ne_eqb c 13 (λ e. absurd (omega (arith, lt, e)))
-
-parts_first : (t rest : List ℕ) → list_all (nat_lt 13) t ≡ true
-    → slice_split (λ b. eqb b 10) (t ++ 10 ∷ rest) ≡ t ∷ slice_split (λ b. eqb b 10) rest
-parts_first [] rest h = refl
-parts_first (c ∷ t) rest h =
-    let p = and_parts (nat_lt 13 c) (list_all (nat_lt 13) t) h in
-    rw (above_ends c p.0, parts_first t rest p.1) refl
-
-abbrev Some_parts : List (List ℕ) → Type 0
-Some_parts ps = (y : List ℕ) × (more : List (List ℕ)) × (ps ≡ y ∷ more)
-
-parts_some_by : (b : Bool) (x : ℕ) (ps : List (List ℕ)) → Some_parts ps
-    → Some_parts (cond b ([] ∷ ps) (onto_first x ps))
-parts_some_by true x ps h = ([], ps, refl)
-parts_some_by false x ps (y, more, is) = (x ∷ y, more, ap (onto_first x) is)
-
-parts_some : (rest : List ℕ) → Some_parts (slice_split (λ b. eqb b 10) rest)
-parts_some [] = ([], [], refl)
-parts_some (x ∷ rest) = parts_some_by (eqb x 10) x (slice_split (λ b. eqb b 10) rest) (parts_some rest)
-
-no_return : (t : List ℕ) (i : ℕ) → list_all (nat_lt 13) t ≡ true → eqb (slice_index t i) 13 ≡ false
-no_return [] i h = refl
-no_return (c ∷ t) zero h = let p = and_parts (nat_lt 13 c) (list_all (nat_lt 13) t) h in above_return c p.0
-no_return (c ∷ t) (suc i) h = let p = and_parts (nat_lt 13 c) (list_all (nat_lt 13) t) h in no_return t i p.1
-
-strips_nothing : (t : List ℕ) → list_all (nat_lt 13) t ≡ true → strip_carriage_return t ≡ t
-strips_nothing t h = rw (no_return t (length t - 1) h) refl
-
-first_part : (t : List ℕ) (ps : List (List ℕ)) → Some_parts ps
-    → lines_of_parts (t ∷ ps) ≡ strip_carriage_return t ∷ lines_of_parts ps
-first_part t ps (y, more, is) = rw is refl
-
-pub first_line : (t rest : List ℕ) → list_all (nat_lt 13) t ≡ true
-    → lines (text_line t ++ rest) ≡ t ∷ lines rest
-first_line t rest h =
-    let parts = parts_some rest in
-    let front : text_line t ++ rest ≡ t ++ 10 ∷ rest = append_assoc t (codes "\n") rest in
-    ap lines front ∙ ap lines_of_parts (parts_first t rest h)
-    ∙ first_part t (slice_split (λ b. eqb b 10) rest) parts
-    ∙ ap (λ (s : List ℕ). s ∷ lines rest) (strips_nothing t h)
 
 -- ---- lines that give bytes, one behind the other
 
@@ -139,15 +86,16 @@ datum_given b rest shown lt more =
       most = omega (arith, most);
     }
 
+none_given : AreGiven [] []
+none_given = record { given = []; text = refl; all = refl; most = omega arith }
+
 data_given : (bytes : List ℕ) → AreBytes bytes → AreGiven bytes (map Datum bytes)
-data_given [] are = record { given = []; text = refl; all = refl; most = omega arith }
+data_given [] are = none_given
 data_given (b ∷ bytes) are = datum_given b bytes (map Datum bytes) are.0 (data_given bytes are.1)
 
 pub lines_given : (shown : List Shown) (bytes : List ℕ) → AreBytes bytes → Lists bytes shown
     → AreGiven bytes shown
-lines_given [] bytes are is =
-    subst (λ (bs : List ℕ). AreGiven bs []) (sym is)
-    (record { given = []; text = refl; all = refl; most = omega arith })
+lines_given [] bytes are is = subst (λ (bs : List ℕ). AreGiven bs []) (sym is) none_given
 lines_given (Instruction i ∷ shown) bytes are (code, rest, is, encodes, more) =
     let both = subst AreBytes is are in
     subst (λ (bs : List ℕ). AreGiven bs (Instruction i ∷ shown)) (sym is)

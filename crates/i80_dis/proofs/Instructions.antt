@@ -4,12 +4,7 @@ use Rattle.std.proofs.Common.{Option, Some, Ok, refl, arith}
 use Rattle.std.specs.Prelude.{codes}
 use Rattle.std.proofs.lemmas.Bool.{lt-ltb}
 use Rattle.i80_rows.specs.declared.instruction.Instr.{Instr}
-use Rattle.i80_rows.specs.declared.instruction.Instr.TheVariants.{Nop, Lxi, Stax, Ldax, Shld, Lhld, Sta, Lda}
-use Rattle.i80_rows.specs.declared.instruction.Instr.TheVariants.{Inx, Dcx, Dad, Inr, Dcr, Mvi, Rotate, Daa}
-use Rattle.i80_rows.specs.declared.instruction.Instr.TheVariants.{Cma, Stc, Cmc, Mov, MovFromM, MovToM, Hlt}
-use Rattle.i80_rows.specs.declared.instruction.Instr.TheVariants.{Alu, AluImmediate, Jmp, JumpIf, Call}
-use Rattle.i80_rows.specs.declared.instruction.Instr.TheVariants.{CallIf, Ret, RetIf, Rst, Push, Pop, Xthl}
-use Rattle.i80_rows.specs.declared.instruction.Instr.TheVariants.{Xchg, Pchl, Sphl, Out, In, Di, Ei}
+use Rattle.i80_rows.specs.declared.instruction.Instr.TheVariants as instr
 use Rattle.i80_rows.specs.declared.instruction.Pair.{Pair}
 use Rattle.i80_rows.specs.declared.instruction.Reg.{Reg}
 use Rattle.i80_rows.specs.declared.instruction.Reg.TheVariants as reg
@@ -44,24 +39,24 @@ use Rattle.asm_syntax.specs.Words.{keyword_of}
 use Rattle.asm_text.specs.Forms.{register_instruction, pair_instruction, index_instruction, stack_instruction}
 use Rattle.asm_text.specs.Forms.{move_between}
 use Rattle.asm_text.specs.Registers as word
-use Rattle.asm_build.specs.Statements.{length_of}
-use Rattle.asm_build.specs.Meaning.{vector, bytes_of}
 use Rattle.i80_dis.specs.declared.line.Shown.TheVariants.{Instruction, Datum}
 use Rattle.i80_dis.specs.Text.{byte_text, word_text, register_word, pair_word, index_word, stack_word}
 use Rattle.i80_dis.specs.Text.{vector_word, condition_word, operation_word, immediate_word, rotation_word}
 use Rattle.i80_dis.specs.Text.{operand_field, text_of}
 use Rattle.i80_dis.specs.Law.{AreBytes}
-use Rattle.i80_dis.proofs.Numerals.{vector_numeral}
-use Rattle.i80_dis.proofs.Words.{IsNamed, Means, register_for, pair_for, index_for, stack_for, register_named}
-use Rattle.i80_dis.proofs.Words.{pair_named, index_named, stack_named, register_back, pair_back}
+use Rattle.i80_dis.proofs.Printed.{vector_numeral, IsShort, IsPrinted, word_printed, number_printed}
+use Rattle.i80_dis.proofs.Printed.{byte_printed, address_printed, weaker, behind, behind_two, none_read}
+use Rattle.i80_dis.proofs.Printed.{one_read, two_read, none_short, one_short, two_short}
+use Rattle.asm_text.proofs.PlainLines.{register_for, pair_for, index_for, stack_for, register_back, pair_back}
+use Rattle.asm_text.proofs.PlainLines.{number_at, Says, Spelled, NameSays, alone_says, register_says}
+use Rattle.asm_text.proofs.PlainLines.{pair_says, index_says, stack_says, byte_says, word_says, restart_says}
+use Rattle.asm_text.proofs.PlainLines.{move_says, immediate_says, load_says, datum_says}
+use Rattle.i80_dis.proofs.Words.{IsNamed, Means, register_named, pair_named, index_named, stack_named}
 use Rattle.i80_dis.proofs.Words.{operation_means, immediate_means, rotation_means, jump_means, call_means}
 use Rattle.i80_dis.proofs.Words.{return_means}
-use Rattle.i80_dis.proofs.Printed.{IsShort, IsPrinted, word_printed, number_printed, byte_printed}
-use Rattle.i80_dis.proofs.Printed.{address_printed, weaker, behind, behind_two, none_read, one_read, two_read}
-use Rattle.i80_dis.proofs.Printed.{none_short, one_short, two_short}
-use Rattle.i80_dis.proofs.Forms.{number_at, Says, Spelled, NameSays, alone_says, register_says, pair_says}
-use Rattle.i80_dis.proofs.Forms.{index_says, stack_says, byte_says, word_says, restart_says, move_says}
-use Rattle.i80_dis.proofs.Forms.{immediate_says, load_says, datum_says}
+use Rattle.asm_encode.specs.Bytes.{bytes_of}
+use Rattle.asm_encode.specs.Lengths.{length_of}
+use Rattle.asm_encode.specs.Values.{vector}
 
 -- ---- lines that give bytes
 
@@ -188,11 +183,11 @@ vector_back = each_vector _ refl refl refl refl refl refl refl refl
 vector_length : (n : Vector) → length (vector_word n) ≡ 1
 vector_length = each_vector _ refl refl refl refl refl refl refl refl
 
-restart_line : (n : Vector) (w : List ℕ) → Means w mnemonic.Restart → 1 ≡ length (encoding_of (Rst n))
-    → IsLine (w ++ operand_field (vector_word n ∷ [])) (encoding_of (Rst n))
+restart_line : (n : Vector) (w : List ℕ) → Means w mnemonic.Restart → 1 ≡ length (encoding_of (instr.Rst n))
+    → IsLine (w ++ operand_field (vector_word n ∷ [])) (encoding_of (instr.Rst n))
 restart_line n w named long =
     one_line (keyword.Mnemonic mnemonic.Restart) (Number (vector_code n)) w (vector_word n)
-    (encoding_of (Rst n))
+    (encoding_of (instr.Rst n))
     (inl (instruction.Restart (number_at (behind w) (vector_code n)))) named
     (number_printed (vector_code n) (vector_word n) 6 (vector_numeral n) (omega (arith, vector_length n)))
     (restart_says _ (behind w) (vector_code n)) (λ names here. rw (vector_back n) refl) (λ value. long)
@@ -239,12 +234,12 @@ move_line r s i w named is long =
 
 immediate_line : (r : Reg) (b : ℕ) (w : List ℕ) → IsNamed w (keyword.Mnemonic mnemonic.MoveImmediate) 3
     → b < 256
-    → 2 ≡ length (encoding_of (Mvi r b))
-    → IsLine (w ++ operand_field (register_word r ∷ byte_text b ∷ [])) (encoding_of (Mvi r b))
+    → 2 ≡ length (encoding_of (instr.Mvi r b))
+    → IsLine (w ++ operand_field (register_word r ∷ byte_text b ∷ [])) (encoding_of (instr.Mvi r b))
 immediate_line r b w named lt long =
     two_line (keyword.Mnemonic mnemonic.MoveImmediate) (keyword.Register (register_for r)) (Number b) w
     (register_word r) (byte_text b)
-    (encoding_of (Mvi r b))
+    (encoding_of (instr.Mvi r b))
     (inl (instruction.Byte (byte_op.Mvi r) (number_at (behind_two w (register_word r)) b))) named
     (register_named r)
     (byte_printed b lt)
@@ -253,12 +248,12 @@ immediate_line r b w named lt long =
     (λ names here. rw (lt-ltb b 256 lt, low_byte b lt) refl) (λ value. long)
 
 load_line : (r : Pair) (n : ℕ) (w : List ℕ) → IsNamed w (keyword.Mnemonic mnemonic.LoadPair) 3 → n < 65536
-    → 3 ≡ length (encoding_of (Lxi r n))
-    → IsLine (w ++ operand_field (pair_word r ∷ word_text n ∷ [])) (encoding_of (Lxi r n))
+    → 3 ≡ length (encoding_of (instr.Lxi r n))
+    → IsLine (w ++ operand_field (pair_word r ∷ word_text n ∷ [])) (encoding_of (instr.Lxi r n))
 load_line r n w named lt long =
     two_line (keyword.Mnemonic mnemonic.LoadPair) (keyword.Register (pair_for r)) (Number n) w (pair_word r)
     (word_text n)
-    (encoding_of (Lxi r n))
+    (encoding_of (instr.Lxi r n))
     (inl (instruction.Word (word_op.Lxi r) (number_at (behind_two w (pair_word r)) n))) named (pair_named r)
     (address_printed n lt)
     (load_says _ (behind w) (behind w + length (pair_word r)) (behind_two w (pair_word r)) n (pair_for r) r
@@ -271,15 +266,15 @@ as_register : (r : Register) → word.register_of (reg_of r) ≡ Some r
 as_register = each_register _ refl refl refl refl refl refl refl
 
 moves : (r s : Register)
-    → move_between (word.register_of (reg_of r)) (word.register_of (reg_of s)) ≡ Some (Mov r s)
+    → move_between (word.register_of (reg_of r)) (word.register_of (reg_of s)) ≡ Some (instr.Mov r s)
 moves r s = rw (as_register r, as_register s) refl
 
 moves_from : (r : Register)
-    → move_between (word.register_of (reg_of r)) (word.register_of reg.M) ≡ Some (MovFromM r)
+    → move_between (word.register_of (reg_of r)) (word.register_of reg.M) ≡ Some (instr.MovFromM r)
 moves_from r = rw (as_register r) refl
 
 moves_to : (s : Register)
-    → move_between (word.register_of reg.M) (word.register_of (reg_of s)) ≡ Some (MovToM s)
+    → move_between (word.register_of reg.M) (word.register_of (reg_of s)) ≡ Some (instr.MovToM s)
 moves_to s = rw (as_register s) refl
 
 word_below : (n : ℕ) → n / 256 < 256 → n < 65536
@@ -287,51 +282,56 @@ word_below n lt = omega (arith, lt)
 
 pub instruction_is : (i : Instr) → AreBytes (encoding_of i) → IsLine (text_of (Instruction i)) (encoding_of i)
 unfolding encoding_of keyword_of
-instruction_is Nop h = alone_line Nop (codes "NOP") refl refl
-instruction_is Daa h = alone_line Daa (codes "DAA") refl refl
-instruction_is Cma h = alone_line Cma (codes "CMA") refl refl
-instruction_is Stc h = alone_line Stc (codes "STC") refl refl
-instruction_is Cmc h = alone_line Cmc (codes "CMC") refl refl
-instruction_is Hlt h = alone_line Hlt (codes "HLT") refl refl
-instruction_is Ret h = alone_line Ret (codes "RET") refl refl
-instruction_is Xthl h = alone_line Xthl (codes "XTHL") refl refl
-instruction_is Xchg h = alone_line Xchg (codes "XCHG") refl refl
-instruction_is Pchl h = alone_line Pchl (codes "PCHL") refl refl
-instruction_is Sphl h = alone_line Sphl (codes "SPHL") refl refl
-instruction_is Di h = alone_line Di (codes "DI") refl refl
-instruction_is Ei h = alone_line Ei (codes "EI") refl refl
-instruction_is (Rotate o) h = alone_line (Rotate o) (rotation_word o) (rotation_means o) refl
-instruction_is (RetIf c) h = alone_line (RetIf c) (codes "R" ++ condition_word c) (return_means c) refl
-instruction_is (Lxi p n) h = load_line p n (codes "LXI") refl (word_below n h.1.1.0) refl
-instruction_is (Mvi r b) h = immediate_line r b (codes "MVI") refl h.1.0 refl
-instruction_is (Mov r s) h = move_line (reg_of r) (reg_of s) (Mov r s) (codes "MOV") refl (moves r s) refl
-instruction_is (MovFromM r) h = move_line (reg_of r) reg.M (MovFromM r) (codes "MOV") refl (moves_from r) refl
-instruction_is (MovToM s) h = move_line reg.M (reg_of s) (MovToM s) (codes "MOV") refl (moves_to s) refl
-instruction_is (Stax p) h = index_line index_op.Store p (codes "STAX") refl refl
-instruction_is (Ldax p) h = index_line index_op.Load p (codes "LDAX") refl refl
-instruction_is (Inx p) h = pair_line pair_op.Increment p (codes "INX") refl refl
-instruction_is (Dcx p) h = pair_line pair_op.Decrement p (codes "DCX") refl refl
-instruction_is (Dad p) h = pair_line pair_op.Add p (codes "DAD") refl refl
-instruction_is (Push p) h = stack_line stack_op.Push p (codes "PUSH") refl refl
-instruction_is (Pop p) h = stack_line stack_op.Pop p (codes "POP") refl refl
-instruction_is (Inr r) h = register_line register_op.Increment r (codes "INR") refl refl
-instruction_is (Dcr r) h = register_line register_op.Decrement r (codes "DCR") refl refl
-instruction_is (Alu o r) h = register_line (register_op.Alu o) r (operation_word o) (operation_means o) refl
-instruction_is (AluImmediate o b) h =
+instruction_is instr.Nop h = alone_line instr.Nop (codes "NOP") refl refl
+instruction_is instr.Daa h = alone_line instr.Daa (codes "DAA") refl refl
+instruction_is instr.Cma h = alone_line instr.Cma (codes "CMA") refl refl
+instruction_is instr.Stc h = alone_line instr.Stc (codes "STC") refl refl
+instruction_is instr.Cmc h = alone_line instr.Cmc (codes "CMC") refl refl
+instruction_is instr.Hlt h = alone_line instr.Hlt (codes "HLT") refl refl
+instruction_is instr.Ret h = alone_line instr.Ret (codes "RET") refl refl
+instruction_is instr.Xthl h = alone_line instr.Xthl (codes "XTHL") refl refl
+instruction_is instr.Xchg h = alone_line instr.Xchg (codes "XCHG") refl refl
+instruction_is instr.Pchl h = alone_line instr.Pchl (codes "PCHL") refl refl
+instruction_is instr.Sphl h = alone_line instr.Sphl (codes "SPHL") refl refl
+instruction_is instr.Di h = alone_line instr.Di (codes "DI") refl refl
+instruction_is instr.Ei h = alone_line instr.Ei (codes "EI") refl refl
+instruction_is (instr.Rotate o) h = alone_line (instr.Rotate o) (rotation_word o) (rotation_means o) refl
+instruction_is (instr.RetIf c) h =
+    alone_line (instr.RetIf c) (codes "R" ++ condition_word c) (return_means c) refl
+instruction_is (instr.Lxi p n) h = load_line p n (codes "LXI") refl (word_below n h.1.1.0) refl
+instruction_is (instr.Mvi r b) h = immediate_line r b (codes "MVI") refl h.1.0 refl
+instruction_is (instr.Mov r s) h =
+    move_line (reg_of r) (reg_of s) (instr.Mov r s) (codes "MOV") refl (moves r s) refl
+instruction_is (instr.MovFromM r) h =
+    move_line (reg_of r) reg.M (instr.MovFromM r) (codes "MOV") refl (moves_from r) refl
+instruction_is (instr.MovToM s) h =
+    move_line reg.M (reg_of s) (instr.MovToM s) (codes "MOV") refl (moves_to s) refl
+instruction_is (instr.Stax p) h = index_line index_op.Store p (codes "STAX") refl refl
+instruction_is (instr.Ldax p) h = index_line index_op.Load p (codes "LDAX") refl refl
+instruction_is (instr.Inx p) h = pair_line pair_op.Increment p (codes "INX") refl refl
+instruction_is (instr.Dcx p) h = pair_line pair_op.Decrement p (codes "DCX") refl refl
+instruction_is (instr.Dad p) h = pair_line pair_op.Add p (codes "DAD") refl refl
+instruction_is (instr.Push p) h = stack_line stack_op.Push p (codes "PUSH") refl refl
+instruction_is (instr.Pop p) h = stack_line stack_op.Pop p (codes "POP") refl refl
+instruction_is (instr.Inr r) h = register_line register_op.Increment r (codes "INR") refl refl
+instruction_is (instr.Dcr r) h = register_line register_op.Decrement r (codes "DCR") refl refl
+instruction_is (instr.Alu o r) h =
+    register_line (register_op.Alu o) r (operation_word o) (operation_means o) refl
+instruction_is (instr.AluImmediate o b) h =
     byte_line (byte_op.AluImmediate o) b (immediate_word o) (immediate_means o) h.1.0 refl
-instruction_is (Out b) h = byte_line byte_op.Out b (codes "OUT") refl h.1.0 refl
-instruction_is (In b) h = byte_line byte_op.In b (codes "IN") refl h.1.0 refl
-instruction_is (Shld n) h = word_line word_op.Shld n (codes "SHLD") refl (word_below n h.1.1.0) refl
-instruction_is (Lhld n) h = word_line word_op.Lhld n (codes "LHLD") refl (word_below n h.1.1.0) refl
-instruction_is (Sta n) h = word_line word_op.Sta n (codes "STA") refl (word_below n h.1.1.0) refl
-instruction_is (Lda n) h = word_line word_op.Lda n (codes "LDA") refl (word_below n h.1.1.0) refl
-instruction_is (Jmp n) h = word_line word_op.Jmp n (codes "JMP") refl (word_below n h.1.1.0) refl
-instruction_is (Call n) h = word_line word_op.Call n (codes "CALL") refl (word_below n h.1.1.0) refl
-instruction_is (JumpIf c n) h =
+instruction_is (instr.Out b) h = byte_line byte_op.Out b (codes "OUT") refl h.1.0 refl
+instruction_is (instr.In b) h = byte_line byte_op.In b (codes "IN") refl h.1.0 refl
+instruction_is (instr.Shld n) h = word_line word_op.Shld n (codes "SHLD") refl (word_below n h.1.1.0) refl
+instruction_is (instr.Lhld n) h = word_line word_op.Lhld n (codes "LHLD") refl (word_below n h.1.1.0) refl
+instruction_is (instr.Sta n) h = word_line word_op.Sta n (codes "STA") refl (word_below n h.1.1.0) refl
+instruction_is (instr.Lda n) h = word_line word_op.Lda n (codes "LDA") refl (word_below n h.1.1.0) refl
+instruction_is (instr.Jmp n) h = word_line word_op.Jmp n (codes "JMP") refl (word_below n h.1.1.0) refl
+instruction_is (instr.Call n) h = word_line word_op.Call n (codes "CALL") refl (word_below n h.1.1.0) refl
+instruction_is (instr.JumpIf c n) h =
     word_line (word_op.JumpIf c) n (codes "J" ++ condition_word c) (jump_means c) (word_below n h.1.1.0) refl
-instruction_is (CallIf c n) h =
+instruction_is (instr.CallIf c n) h =
     word_line (word_op.CallIf c) n (codes "C" ++ condition_word c) (call_means c) (word_below n h.1.1.0) refl
-instruction_is (Rst n) h = restart_line n (codes "RST") refl refl
+instruction_is (instr.Rst n) h = restart_line n (codes "RST") refl refl
 
 -- ---- a byte by itself
 

@@ -5,14 +5,15 @@ use Rattle.std.proofs.lemmas.Bool.{le-ltb, ne_eqb}
 use Rattle.std.proofs.lemmas.List.{append-nil, length-append}
 use Rattle.asm_syntax.specs.declared.statement.Statement.{Statement}
 use Rattle.asm_syntax.specs.Outcome.{CellFault}
+use Rattle.asm_encode.specs.Bytes.{bytes_of}
+use Rattle.asm_encode.specs.Lengths.{length_of}
 use Rattle.asm_build.specs.declared.laid.Laid.{Laid}
 use Rattle.asm_build.specs.declared.built.Row.{Row}
 use Rattle.asm_build.specs.Images.{has}
-use Rattle.asm_build.specs.Statements.{length_of}
 use Rattle.asm_build.specs.Reading.{Entries, Lines, place_after, parts_after, has_ended, is_selected}
 use Rattle.asm_build.specs.Reading.{late_value}
 use Rattle.asm_build.specs.Layout.{past, laid_out, laid_after, layout}
-use Rattle.asm_build.specs.Meaning.{Output, Meaning, at_address, overlaps, bytes_of, rows_of, with_bytes}
+use Rattle.asm_build.specs.Meaning.{Output, Meaning, at_address, overlaps, rows_of, with_bytes}
 use Rattle.asm_build.specs.Meaning.{output_of, definitions, meaning_of, built_of}
 use Rattle.asm_build.proofs.ReadingLemmas as reading
 use Rattle.asm_text.specs.Statements.{statements_of}
@@ -21,7 +22,7 @@ use Rattle.i80_dis.specs.Text.{origin_line, listing_of}
 use Rattle.i80_dis.specs.Law.{AreBytes, image_from, only_image, AssemblesTo}
 use Rattle.i80_dis.proofs.Lines.{listing_some, listing_none}
 use Rattle.i80_dis.proofs.Relation.{listed_lines}
-use Rattle.i80_dis.proofs.Forms.{does}
+use Rattle.asm_text.proofs.PlainLines.{does}
 use Rattle.i80_dis.proofs.Instructions.{Giving, action_by}
 use Rattle.i80_dis.proofs.Cells.{Given, text_given, bytes_given, statements_given, lines_given}
 use Rattle.i80_dis.proofs.Statements.{origin, statements_are, nothing_said}

@@ -1,9 +1,7 @@
 pub mod Lines
 pub mod Relation
-pub mod Numerals
 pub mod Words
 pub mod Printed
-pub mod Forms
 pub mod Instructions
 pub mod Cells
 pub mod Statements

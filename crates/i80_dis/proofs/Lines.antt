@@ -1,17 +1,16 @@
 -- The lines of bytes, one behind the other.
-use Rattle.std.proofs.Common.{◌≡◌, ℕ, zero, suc, ◌+◌, ◌-◌, ◌*◌, ◌<◌, ◌≤◌, List, [], ◌∷◌, ◌++◌, length, drop}
-use Rattle.std.proofs.Common.{map, get_or, drop-cons, add-one, append_assoc, Option, Some, None, Result, Ok}
-use Rattle.std.proofs.Common.{Err, refl, sym, ap, ◌∙◌, arith}
+use Rattle.std.proofs.Common.{◌≡◌, ℕ, zero, suc, ◌+◌, ◌-◌, ◌*◌, ◌<◌, ◌≤◌, List, [], ◌∷◌, ◌++◌, length}
+use Rattle.std.proofs.Common.{drop, Bool, true, false, map, get_or, drop-cons, add-one, append_assoc}
+use Rattle.std.proofs.Common.{Option, Some, None, Result, Ok, Err, refl, sym, ap, ◌∙◌, arith}
 use Rattle.std.proofs.lemmas.List.{drop_all, append-nil}
 use Rattle.i80_rows.specs.declared.instruction.Instr.{Instr}
 use Rattle.i80_rows.specs.declared.instruction.DecodeFault.{DecodeFault}
-use Rattle.i80_rows.specs.declared.instruction.DecodeFault.TheVariants as fault
 use Rattle.i80_rows.specs.Rows.{Row, Undefined, Alone, Byte, Word, row, read, read_row}
 use Rattle.i80_dis.specs.declared.line.Shown.{Shown}
-use Rattle.i80_dis.specs.declared.line.Shown.TheVariants.{Instruction, Datum}
-use Rattle.i80_dis.specs.Shown.{next_shown, lines_from, lines_of}
-use Rattle.std.specs.Prelude.{codes, OnOk}
-use Rattle.i80_dis.specs.Text.{word_text, text_of, text_line, origin_line, text_of_lines, listing_of}
+use Rattle.i80_dis.specs.declared.line.Shown.TheVariants.{Datum}
+use Rattle.i80_dis.specs.Shown.{is_cut_off, first_shown, next_shown, lines_from, lines_of}
+use Rattle.std.specs.Prelude.{OnOk, if◌then◌else◌}
+use Rattle.i80_dis.specs.Text.{text_of, text_line, origin_line, text_of_lines, listing_of}
 
 -- ---- how long an instruction is that was read
 
@@ -30,12 +29,6 @@ next_is p = Some p
 
 some_is : (p q : Shown × ℕ) → next_is p ≡ next_is q → p ≡ q
 some_is p q e = cc
-
-same_shown : (p q : Shown × ℕ) → next_is p ≡ next_is q → p.0 ≡ q.0
-same_shown p q e = ap (λ (r : Shown × ℕ). r.0) (some_is p q e)
-
-same_count : (p q : Shown × ℕ) → next_is p ≡ next_is q → p.1 ≡ q.1
-same_count p q e = ap (λ (r : Shown × ℕ). r.1) (some_is p q e)
 
 long : (i j : Instr) (n m : ℕ) → was_read (j, m) ≡ was_read (i, n) → m ≡ n
 long i j n m e = ap (λ (p : Instr × ℕ). p.1) (read_is (j, m) (i, n) e)
@@ -67,49 +60,36 @@ skips zero bytes = refl
 skips (suc k) [] = refl
 skips (suc k) (b ∷ bytes) = skips k bytes
 
-not_some : {A : Type 0} (x : A) → None ≡ Some x → ⊥
-not_some x e = cc
-
-none_skipped : (n : ℕ) → 1 ≡ suc n → 0 ≡ n
-none_skipped n e = omega (arith, e)
-
-others_skipped : (m n : ℕ) → m ≡ suc n → m - 1 ≡ n
-others_skipped m n e = omega (arith, e)
+less_one : (n : ℕ) → suc n - 1 ≡ n
+less_one n = omega arith
 
 -- the first line, and those behind it
-next_line : (read_is : Result (Instr × ℕ) DecodeFault) (s : Shown) (n b : ℕ) (bytes : List ℕ)
-    → read (b ∷ bytes) ≡ read_is
-    → next_shown (b ∷ bytes) ≡ Some (s, suc n) → lines_of (b ∷ bytes) ≡ s ∷ lines_of (drop n bytes)
+next_line : (cut : Bool) (s : Shown) (n b : ℕ) (bytes : List ℕ) → is_cut_off (read (b ∷ bytes)) ≡ cut
+    → (if cut then None else next_is (first_shown (b ∷ bytes))) ≡ next_is (s, suc n)
+    → lines_of (b ∷ bytes) ≡ s ∷ lines_of (drop n bytes)
 unfolding lines_from
-next_line (Err (fault.Short k)) s n b bytes e h = absurd (not_some (s, suc n) (rw e at h))
-next_line (Err fault.Undefined) s n b bytes e h =
-    let h1 : next_is (Datum b, 1) ≡ next_is (s, suc n) = rw e at h in
-    let s_is : Datum b ≡ s = same_shown (Datum b, 1) (s, suc n) h1 in
-    let n_is : 1 ≡ suc n = same_count (Datum b, 1) (s, suc n) h1 in
-    rw (e, s_is) (ap (λ ls. s ∷ ls) (ap (λ k. lines_from k bytes) (none_skipped n n_is) ∙ skips n bytes))
-next_line (Ok (i, m)) s n b bytes e h =
-    let h1 : next_is (Instruction i, m) ≡ next_is (s, suc n) = rw e at h in
-    let s_is : Instruction i ≡ s = same_shown (Instruction i, m) (s, suc n) h1 in
-    let m_is : m ≡ suc n = same_count (Instruction i, m) (s, suc n) h1 in
-    rw (e, s_is) (ap (λ ls. s ∷ ls) (ap (λ k. lines_from k bytes) (others_skipped m n m_is) ∙ skips n bytes))
+next_line true s n b bytes e h = absurd cc
+next_line false s n b bytes e h =
+    rw (e, some_is (first_shown (b ∷ bytes)) (s, suc n) h)
+    (ap (λ k. s ∷ lines_from k bytes) (less_one n) ∙ ap (λ ls. s ∷ ls) (skips n bytes))
 
 pub line_goes : (s : Shown) (n : ℕ) (bytes : List ℕ) → 0 < length bytes → 0 < n
     → next_shown bytes ≡ Some (s, n) → lines_of bytes ≡ s ∷ lines_of (drop n bytes)
 line_goes s n [] lt pos e = absurd (omega (arith, lt))
 line_goes s zero (b ∷ bytes) lt pos e = absurd (omega (arith, pos))
-line_goes s (suc n) (b ∷ bytes) lt pos e = next_line (read (b ∷ bytes)) s n b bytes refl e
+line_goes s (suc n) (b ∷ bytes) lt pos e = next_line (is_cut_off (read (b ∷ bytes))) s n b bytes refl e
 
-cut_off : (read_is : Result (Instr × ℕ) DecodeFault) (b : ℕ) (bytes : List ℕ) → read (b ∷ bytes) ≡ read_is
-    → next_shown (b ∷ bytes) ≡ None → lines_of (b ∷ bytes) ≡ map Datum (b ∷ bytes)
+cut_off : (cut : Bool) (b : ℕ) (bytes : List ℕ) → is_cut_off (read (b ∷ bytes)) ≡ cut
+    → (if cut then None else next_is (first_shown (b ∷ bytes))) ≡ None
+    → lines_of (b ∷ bytes) ≡ map Datum (b ∷ bytes)
 unfolding lines_from
-cut_off (Err (fault.Short k)) b bytes e h = rw e refl
-cut_off (Err fault.Undefined) b bytes e h = absurd (not_some (Datum b, 1) (sym (rw e at h)))
-cut_off (Ok (i, m)) b bytes e h = absurd (not_some (Instruction i, m) (sym (rw e at h)))
+cut_off true b bytes e h = rw e refl
+cut_off false b bytes e h = absurd cc
 
 pub cut_off_lines : (bytes : List ℕ) → 0 < length bytes → next_shown bytes ≡ None
     → lines_of bytes ≡ map Datum bytes
 cut_off_lines [] lt h = absurd (omega (arith, lt))
-cut_off_lines (b ∷ bytes) lt h = cut_off (read (b ∷ bytes)) b bytes refl h
+cut_off_lines (b ∷ bytes) lt h = cut_off (is_cut_off (read (b ∷ bytes))) b bytes refl h
 
 -- ---- their text, added one by one
 
@@ -161,15 +141,6 @@ pub no_data_left : (text total : List ℕ) (i : ℕ) (bytes : List ℕ) → leng
     → text ++ text_of_lines (map Datum (drop i bytes)) ≡ total → text ≡ total
 no_data_left text total i bytes le h =
     sym (append-nil text) ∙ sym (ap (λ bs. with_lines text (map Datum bs)) (drop_all i bytes le)) ∙ h
-
--- ---- the line with ORG
-
-joined : (t a b c : List ℕ) → ((t ++ a) ++ b) ++ c ≡ t ++ ((a ++ b) ++ c)
-joined t a b c = simp append_assoc
-
-pub origin_added : (text : List ℕ) (address : ℕ)
-    → ((text ++ codes "ORG ") ++ word_text address) ++ codes "\n" ≡ text ++ origin_line address
-origin_added text address = joined text (codes "ORG ") (word_text address) (codes "\n")
 
 -- ---- the whole text
 

@@ -1,21 +1,28 @@
 -- The tokens of a printed line.
 use Rattle.std.proofs.Common.{◌≡◌, ℕ, ◌+◌, ◌-◌, ◌<◌, ◌≤◌, inl, inr, List, [], ◌∷◌, ◌++◌, Bool, true, false}
-use Rattle.std.proofs.Common.{length, Ok, refl, ap, ◌∙◌, arith}
+use Rattle.std.proofs.Common.{length, Some, Ok, refl, ◌∙◌, ap, arith}
 use Rattle.std.specs.Prelude.{nat_lt, nat_le, not}
 use Rattle.std.specs.List.{list_all}
+use Rattle.std.proofs.lemmas.List.{length-append}
+use Rattle.std.proofs.lemmas.List.Folds.{list_all-append}
 use Rattle.std.proofs.lemmas.Bool.{and_parts, and_from, both_ways, not-true, cases_lt, lt-ltb, leb-true}
 use Rattle.asm_syntax.specs.declared.keyword.Keyword.{Keyword}
-use Rattle.asm_syntax.specs.Lexemes.{Lexeme, Number, Sign, Piece}
+use Rattle.asm_syntax.specs.Lexemes.{Lexeme, Number, Sign}
 use Rattle.asm_syntax.specs.Lexemes as lexeme
 use Rattle.std.specs.Char.{is_ascii_digit, is_ascii_alphanumeric}
 use Rattle.asm_lex.specs.Characters.{is_word_part}
 use Rattle.asm_lex.specs.Tokens.{tokens_of}
-use Rattle.asm_lex.specs.Spelling.{Stops, IsToken, Spells}
+use Rattle.asm_lex.specs.Numbers.{number_of}
+use Rattle.asm_lex.specs.Spelling.{Begins, Stops, IsToken}
+use Rattle.asm_lex.proofs.HexNumerals.{IsNumeral, at_below, byte_numeral, word_numeral}
+use Rattle.asm_lex.proofs.SpelledLines.{done, piece, blank, comma}
 use Rattle.asm_lex.proofs.Readings.{spells_read}
 use Rattle.asm_lex.proofs.Spelled.{or_false}
-use Rattle.i80_dis.specs.Text.{operand_field, byte_text, word_text}
+use Rattle.i80_rows.specs.declared.instruction.Vector.{Vector}
+use Rattle.i80_rows.specs.Codes.{vector_code}
+use Rattle.i80_rows.proofs.Each.{each_vector}
+use Rattle.i80_dis.specs.Text.{operand_field, byte_text, word_text, vector_word}
 use Rattle.i80_dis.proofs.Words.{is_word, IsNamed}
-use Rattle.i80_dis.proofs.Numerals.{IsNumeral, at_below, byte_numeral, word_numeral}
 
 -- ---- a text that is a token by itself
 
@@ -36,18 +43,16 @@ word_plain c part =
           absurd (both_ways (is_word_part c) (control c low) part))
     ]
 
-all_plain : (text : List ℕ) → list_all is_word_part text ≡ true → list_all (nat_lt 13) text ≡ true
-all_plain [] all = refl
-all_plain (c ∷ text) all =
-    let h = and_parts (is_word_part c) (list_all is_word_part text) all in
-    and_from (nat_lt 13 c) (list_all (nat_lt 13) text) (word_plain c h.0) (all_plain text h.1)
+all_plain : (p : ℕ → Bool) (text : List ℕ) → ((c : ℕ) → p c ≡ true → is_word_part c ≡ true)
+    → list_all p text ≡ true → list_all (nat_lt 13) text ≡ true
+all_plain p [] parts all = refl
+all_plain p (c ∷ text) parts all =
+    let h = and_parts (p c) (list_all p text) all in
+    and_from (nat_lt 13 c) (list_all (nat_lt 13) text) (word_plain c (parts c h.0))
+    (all_plain p text parts h.1)
 
-digits_plain : (text : List ℕ) → list_all is_ascii_alphanumeric text ≡ true → list_all (nat_lt 13) text ≡ true
-digits_plain [] all = refl
-digits_plain (c ∷ text) all =
-    let h = and_parts (is_ascii_alphanumeric c) (list_all is_ascii_alphanumeric text) all in
-    let part : is_word_part c ≡ true = rw h.0 refl in
-    and_from (nat_lt 13 c) (list_all (nat_lt 13) text) (word_plain c part) (digits_plain text h.1)
+digit_part : (c : ℕ) → is_ascii_alphanumeric c ≡ true → is_word_part c ≡ true
+digit_part c h = rw h refl
 
 stops : (rest : List ℕ) → Stops is_word_part rest → Stops is_ascii_alphanumeric rest
 stops [] h = tt
@@ -68,7 +73,7 @@ word_printed k (c ∷ cs) most named =
             span = record { all = rest.0; ends = ends };
             says = ap (λ (x : Bool × Lexeme). x.1) named;
           };
-      plain = all_plain (c ∷ cs) rest.0;
+      plain = all_plain is_word_part (c ∷ cs) (λ d h. h) rest.0;
       short = leb-true (length (c ∷ cs)) most rest.1;
     }
 
@@ -81,7 +86,7 @@ number_printed n text most numeral short = record {
             { begins = numeral.begins; span = record { all = numeral.all; ends = stops rest ends } },
         numeral.value,
       );
-  plain = digits_plain text numeral.all;
+  plain = all_plain is_ascii_alphanumeric text digit_part numeral.all;
   short = short;
 }
 
@@ -91,24 +96,17 @@ byte_printed n lt = number_printed n (byte_text n) 6 (byte_numeral n lt) (omega 
 pub address_printed : (n : ℕ) → n < 65536 → IsPrinted (Number n) (word_text n) 6
 address_printed n lt = number_printed n (word_text n) 6 (word_numeral n lt) (omega arith)
 
--- ---- a line that is spelled, piece by piece
-
-pub done : (column : ℕ) → Spells column [] []
-done column = (column, [], ([], refl, refl, omega arith), tt)
-
-pub piece : (column : ℕ) (l : Lexeme) (text more : List ℕ) (ps : List Piece) → IsToken l text more
-    → Spells (column + length text) ps more
-    → Spells column ((column, l) ∷ ps) (text ++ more)
-piece column l text more ps token (last, rest, upto, tail) =
-    (last, rest, ([], text, more, refl, refl, omega arith, token, upto), tail)
-
-pub blank : (column : ℕ) (p : Piece) (ps : List Piece) (line : List ℕ) → Spells (column + 1) (p ∷ ps) line
-    → Spells column (p ∷ ps) (32 ∷ line)
-blank column p ps line (last, rest, (blanks, text, more, is, all, at, token, upto), tail) =
-    (last, rest, (32 ∷ blanks, text, more, ap (λ cs. 32 ∷ cs) is, all, at ∙ omega arith, token, upto), tail)
-
-comma : (rest : List ℕ) → IsToken (Sign 44) (44 ∷ []) rest
-comma rest = (refl, refl)
+-- the number of a restart
+pub vector_numeral : (n : Vector) → IsNumeral (vector_code n) (vector_word n)
+vector_numeral n = record {
+  begins = each_vector (λ v. Begins is_ascii_digit (vector_word v)) refl refl refl refl refl refl refl refl n;
+  all =
+      each_vector (λ v. list_all is_ascii_alphanumeric (vector_word v) ≡ true) refl refl refl refl refl refl
+      refl refl n;
+  value =
+      each_vector (λ v. number_of (vector_word v) ≡ Some (vector_code v)) refl refl refl refl refl refl refl
+      refl n;
+}
 
 -- ---- a line with no, one or two operands
 
@@ -161,18 +159,11 @@ pub record IsShort (line : List ℕ) : Type 0 where
 
 joined_plain : (xs ys : List ℕ) → list_all (nat_lt 13) xs ≡ true → list_all (nat_lt 13) ys ≡ true
     → list_all (nat_lt 13) (xs ++ ys) ≡ true
-joined_plain [] ys h k = k
-joined_plain (x ∷ xs) ys h k =
-    let p = and_parts (nat_lt 13 x) (list_all (nat_lt 13) xs) h in
-    and_from (nat_lt 13 x) (list_all (nat_lt 13) (xs ++ ys)) p.0 (joined_plain xs ys p.1 k)
+joined_plain xs ys h k =
+    list_all-append (nat_lt 13) xs ys ∙ and_from (list_all (nat_lt 13) xs) (list_all (nat_lt 13) ys) h k
 
 joined_short : (xs ys : List ℕ) (m n : ℕ) → length xs ≤ m → length ys ≤ n → length (xs ++ ys) ≤ m + n
-joined_short [] ys m n h k = omega (arith, h, k)
-joined_short (x ∷ xs) ys m n h k =
-    let one : 1 ≤ m = omega (arith, h) in
-    let less : length xs ≤ m - 1 = omega (arith, h) in
-    let more = joined_short xs ys (m - 1) n less k in
-    omega (arith, more, one)
+joined_short xs ys m n h k = let e = length-append xs ys in omega (arith, e, h, k)
 
 pub none_short : (k : Lexeme) (w : List ℕ) → IsPrinted k w 4 → IsShort (w ++ operand_field [])
 none_short k w word =

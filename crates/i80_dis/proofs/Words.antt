@@ -1,26 +1,20 @@
 -- Printed words are keywords of the language.
-use Rattle.std.proofs.Common.{◌≡◌, ℕ, List, [], ◌∷◌, Bool, true, false, ◌&&◌, length, map, Some, refl}
+use Rattle.std.proofs.Common.{◌≡◌, ℕ, List, [], ◌∷◌, Bool, true, false, ◌&&◌, length, map, refl}
 use Rattle.std.specs.Prelude.{not, nat_le}
 use Rattle.std.specs.List.{list_all}
 use Rattle.std.specs.Char.{to_ascii_uppercase}
 use Rattle.i80_rows.specs.declared.instruction.Cond.{Cond}
 use Rattle.i80_rows.specs.declared.instruction.IndexPair.{IndexPair}
-use Rattle.i80_rows.specs.declared.instruction.IndexPair.TheVariants as index
 use Rattle.i80_rows.specs.declared.instruction.Instr.TheVariants as instr
 use Rattle.i80_rows.specs.declared.instruction.Operation.{Operation}
 use Rattle.i80_rows.specs.declared.instruction.Pair.{Pair}
-use Rattle.i80_rows.specs.declared.instruction.Pair.TheVariants as pair
 use Rattle.i80_rows.specs.declared.instruction.Reg.{Reg}
-use Rattle.i80_rows.specs.declared.instruction.Reg.TheVariants as reg
 use Rattle.i80_rows.specs.declared.instruction.Rotation.{Rotation}
 use Rattle.i80_rows.specs.declared.instruction.StackPair.{StackPair}
-use Rattle.i80_rows.specs.declared.instruction.StackPair.TheVariants as stack
 use Rattle.asm_syntax.specs.declared.keyword.Keyword.{Keyword}
 use Rattle.asm_syntax.specs.declared.keyword.Keyword.TheVariants as keyword
 use Rattle.asm_syntax.specs.declared.keyword.Mnemonic.{Mnemonic}
 use Rattle.asm_syntax.specs.declared.keyword.Mnemonic.TheVariants as mnemonic
-use Rattle.asm_syntax.specs.declared.keyword.RegisterWord.{RegisterWord}
-use Rattle.asm_syntax.specs.declared.keyword.RegisterWord.TheVariants as word
 use Rattle.asm_syntax.specs.declared.keyword.RegisterOperation.TheVariants as register_op
 use Rattle.i80_rows.specs.declared.instruction.ByteOperation.TheVariants as byte_op
 use Rattle.i80_rows.specs.declared.instruction.WordOperation.TheVariants as word_op
@@ -29,7 +23,7 @@ use Rattle.asm_syntax.specs.Lexemes as lexeme
 use Rattle.asm_syntax.specs.Words.{keyword_of}
 use Rattle.std.specs.Char.{is_ascii_digit}
 use Rattle.asm_lex.specs.Characters.{is_word_part}
-use Rattle.asm_text.specs.Registers.{reg_of, pair_of, index_of, stack_of}
+use Rattle.asm_text.proofs.PlainLines.{register_for, pair_for, index_for, stack_for}
 use Rattle.i80_rows.proofs.Each.{each_reg, each_pair, each_index, each_stack, each_cond, each_operation}
 use Rattle.i80_rows.proofs.Each.{each_rotation}
 use Rattle.i80_dis.specs.Text.{register_word, pair_word, index_word, stack_word, condition_word}
@@ -52,32 +46,6 @@ IsNamed text k most = word_in text most ≡ (true, lexeme.Keyword k)
 
 -- ---- operands
 
-abbrev pub register_for : Reg → RegisterWord
-register_for reg.B = word.B
-register_for reg.C = word.C
-register_for reg.D = word.D
-register_for reg.E = word.E
-register_for reg.H = word.H
-register_for reg.L = word.L
-register_for reg.M = word.M
-register_for reg.A = word.A
-
-abbrev pub pair_for : Pair → RegisterWord
-pair_for pair.B = word.B
-pair_for pair.D = word.D
-pair_for pair.H = word.H
-pair_for pair.Sp = word.Sp
-
-abbrev pub index_for : IndexPair → RegisterWord
-index_for index.B = word.B
-index_for index.D = word.D
-
-abbrev pub stack_for : StackPair → RegisterWord
-stack_for stack.B = word.B
-stack_for stack.D = word.D
-stack_for stack.H = word.H
-stack_for stack.Psw = word.Psw
-
 pub register_named : (r : Reg) → IsNamed (register_word r) (keyword.Register (register_for r)) 3
 unfolding keyword_of
 register_named = each_reg _ refl refl refl refl refl refl refl refl
@@ -93,18 +61,6 @@ index_named = each_index _ refl refl
 pub stack_named : (p : StackPair) → IsNamed (stack_word p) (keyword.Register (stack_for p)) 3
 unfolding keyword_of
 stack_named = each_stack _ refl refl refl refl
-
-pub register_back : (r : Reg) → reg_of (register_for r) ≡ Some r
-register_back = each_reg _ refl refl refl refl refl refl refl refl
-
-pub pair_back : (p : Pair) → pair_of (pair_for p) ≡ Some p
-pair_back = each_pair _ refl refl refl refl
-
-pub index_back : (p : IndexPair) → index_of (index_for p) ≡ Some p
-index_back = each_index _ refl refl
-
-pub stack_back : (p : StackPair) → stack_of (stack_for p) ≡ Some p
-stack_back = each_stack _ refl refl refl refl
 
 -- ---- mnemonics
 

@@ -1,4 +1,4 @@
--- What a cell gives that is laid out and assembled without a fault.
+-- What a listing is assembled to.
 use Rattle.std.specs.Prelude.{◌≡◌, ◌<◌, ℕ, ◌+◌, List, [], ◌∷◌, None, Ok}
 use Rattle.asm_syntax.specs.declared.statement.Statement.{Statement}
 use Rattle.asm_text.specs.Statements.{statements_of}
@@ -6,6 +6,7 @@ use Rattle.asm_build.specs.declared.built.Row.{Row}
 use Rattle.asm_build.specs.Reading.{Entries, Lines, IsReading}
 use Rattle.asm_build.specs.Meaning.{Meaning, meaning_of, built_of}
 
+-- each number is a byte
 abbrev pub AreBytes : List ℕ → Type 0
 AreBytes [] = Unit {0}
 AreBytes (b ∷ bytes) = (b < 256) × AreBytes bytes
@@ -22,8 +23,8 @@ only_image kept image rows = record {
   symbols = kept;
 }
 
--- The text is a cell. It has a consistent reading over the symbols that were kept; neither its layout
--- nor a value is a fault; and each of its consistent readings gives this image and no more.
+-- The text is a cell. It has a consistent reading over the kept symbols; neither its layout nor its
+-- values have a fault; and each of its consistent readings gives this image and no more.
 abbrev pub AssemblesTo : Entries → List ℕ → List (ℕ × ℕ) → Type 0
 AssemblesTo kept text image =
     (ss : List Statement) × (rows : List Row)

@@ -1,3 +1,4 @@
+pub mod FirstLine
 pub mod Law
 pub mod Shown
 pub mod State

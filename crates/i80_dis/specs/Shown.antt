@@ -1,4 +1,4 @@
--- What the lines of a listing show: each an instruction, or a byte that begins none.
+-- What the lines of a listing show: each an instruction, or a byte that isn't the opcode of one.
 use Rattle.std.specs.Prelude.{◌≡◌, ◌<◌, ◌⊎◌, ℕ, zero, suc, ◌-◌, List, [], ◌∷◌, ◌++◌, length, map, Bool, true}
 use Rattle.std.specs.Prelude.{false, Option, Some, None, Result, Ok, Err, if◌then◌else◌}
 use Rattle.i80_rows.specs.declared.instruction.Instr.{Instr}
@@ -11,20 +11,20 @@ use Rattle.i80_dis.specs.declared.line.Shown.TheVariants.{Instruction, Datum}
 
 -- ---- which lines are those of bytes
 
--- how many bytes an instruction of a row has
+-- the number of bytes of an instruction of a row
 abbrev pub length_in : Row → ℕ
 length_in Undefined = 1
 length_in (Alone i) = 1
 length_in (Byte f) = 2
 length_in (Word f) = 3
 
--- the bytes end before the instruction does that they begin
+-- the bytes end before their first instruction does
 abbrev pub IsCutOff : List ℕ → Type 0
 IsCutOff [] = ⊥
 IsCutOff (opcode ∷ rest) = length (opcode ∷ rest) < length_in (row opcode)
 
--- The lines' bytes, one after the other, are these. An undefined opcode is a line by itself; where
--- an instruction is cut off, each byte that is left is one.
+-- The lines' bytes, one after the other, are these. An undefined opcode has a line of its own; if an
+-- instruction is cut off, so has each byte that is left.
 abbrev pub Lists : List ℕ → List Shown → Type 0
 Lists bytes [] = bytes ≡ []
 Lists bytes (Instruction i ∷ lines) =
@@ -44,7 +44,7 @@ abbrev pub is_cut_off : Result (Instr × ℕ) DecodeFault → Bool
 is_cut_off (Err (fault.Short needed)) = true
 is_cut_off _ = false
 
--- what the first line shows of bytes of which this is the first, and how many of them
+-- what the first line of bytes shows, the first of which is this, and how many of them
 abbrev pub shown_by : ℕ → Result (Instr × ℕ) DecodeFault → Shown × ℕ
 shown_by opcode (Ok (i, n)) = (Instruction i, n)
 shown_by opcode (Err f) = (Datum opcode, 1)

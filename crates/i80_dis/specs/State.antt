@@ -1,4 +1,4 @@
--- What contracts see of the parts of a line in the code.
+-- The parts of a line in the code, as definitions see them.
 use Rattle.std.specs.Prelude.{ℕ, List, [], ◌∷◌, codes}
 use Rattle.i80_dis.specs.declared.operand.Operand.{Operand}
 use Rattle.i80_dis.specs.declared.operand.Operand.TheVariants as operand

@@ -28,7 +28,7 @@ use Rattle.i80_rows.specs.declared.instruction.Vector.TheVariants as vector
 use Rattle.i80_rows.specs.Codes.{reg_of}
 use Rattle.i80_dis.specs.declared.line.Shown.{Shown}
 use Rattle.i80_dis.specs.declared.line.Shown.TheVariants.{Instruction, Datum}
-use Rattle.i80_dis.specs.Shown.{lines_of}
+use Rattle.i80_dis.specs.Shown.{first_shown, lines_of}
 
 -- ---- numbers
 
@@ -211,6 +211,10 @@ abbrev pub text_of : Shown → List ℕ
 text_of (Instruction i) = mnemonic i ++ operand_field (operands i)
 text_of (Datum b) = codes "DB " ++ byte_text b
 
+-- the text of the first line of bytes
+abbrev pub first_text : List ℕ → List ℕ
+first_text bytes = text_of (first_shown bytes).0
+
 abbrev pub text_line : List ℕ → List ℕ
 text_line text = text ++ codes "\n"
 
@@ -221,7 +225,7 @@ text_of_lines (line ∷ lines) = text_line (text_of line) ++ text_of_lines lines
 abbrev pub origin_line : ℕ → List ℕ
 origin_line address = text_line (codes "ORG " ++ word_text address)
 
--- the listing of bytes from this address on: nothing of no bytes
+-- the listing of bytes from this address on; that of no bytes is empty
 unfoldable pub listing_of : ℕ → List ℕ → List ℕ
 listing_of address [] = []
 listing_of address (b ∷ bytes) = origin_line address ++ text_of_lines (lines_of (b ∷ bytes))

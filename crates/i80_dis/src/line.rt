@@ -2,7 +2,7 @@
 ghost use Rattle.std.specs.Prelude.{◌≡◌, ◌<◌, ◌≤◌, ◌++◌, ℕ, Some, length, IfOk, OnOk, string_bytes};
 ghost use Rattle.i80_dis.specs.declared.line.Shown.{Shown};
 ghost use Rattle.i80_dis.specs.Shown.{first_shown, next_shown};
-ghost use Rattle.i80_dis.specs.Text.{text_of};
+ghost use Rattle.i80_dis.specs.Text.{text_of, first_text};
 
 use crate::mnemonic::push_mnemonic;
 use crate::numeral::push_byte;
@@ -15,22 +15,22 @@ use std::alloc::{AllocError, Global};
 #[derive(Clone, Copy)]
 pub enum Shown {
     Instruction(Instr),
-    /// A byte by itself, after DB.
+    /// A single byte, after DB.
     Datum(u8),
 }
 
 /// A line of a listing.
 #[derive(Drop)]
 pub struct Line {
-    /// Where its first byte stands.
+    /// The address of its first byte.
     pub address: u16,
-    /// How many bytes it shows, from 1 to 3.
+    /// The number of bytes that it shows, from 1 to 3.
     pub length: u8,
-    /// An instruction, as `MVI A,06CH`, or a byte, as `DB 008H`; no line end.
+    /// An instruction, as in `MVI A,06CH`, or a byte, as in `DB 008H`, without a line end.
     pub text: String,
 }
 
-// What the first line shows and how many bytes, or nothing where an instruction is cut off.
+// What the first line shows, and how many bytes; `None` if an instruction is cut off there.
 pub(crate) fn next_shown(bytes: &[u8]) -> Option<(Shown, u8)>
     requires { 0 < length bytes.now }
     ensures value { result ≡ next_shown bytes.now }
@@ -44,7 +44,7 @@ pub(crate) fn next_shown(bytes: &[u8]) -> Option<(Shown, u8)>
     }
 }
 
-/// Adds what a line shows.
+/// Appends the text of a line, without a line end.
 pub(crate) fn push_text(text: &mut String, shown: Shown) -> Result<(), AllocError>
     ensures { OnOk result (string_bytes text.new ≡ string_bytes text.old ++ text_of shown) }
 {
@@ -60,16 +60,15 @@ pub(crate) fn push_text(text: &mut String, shown: Shown) -> Result<(), AllocErro
     }
 }
 
-/// The first line of the listing of some bytes, of which the first stands at this address.
+/// The first line of the listing of bytes, the first of which is at this address.
 ///
-/// An undefined opcode is a line by itself, and so is the first byte of an instruction whose other
-/// bytes aren't there.
+/// An undefined opcode has a line of its own, and so has the first byte of an instruction that is cut
+/// off by the end of the bytes.
 pub fn line_at(alloc: Global, bytes: &[u8], address: u16) -> Result<Line, AllocError>
     requires { 0 < length bytes.now }
     ensures address { IfOk result (λ line. line.address ≡ address) }
     ensures length { IfOk result (λ line. line.length ≡ (first_shown bytes.now).1) }
-    ensures text { IfOk result (λ line. string_bytes line.text
-        ≡ text_of (first_shown bytes.now).0) }
+    ensures text { IfOk result (λ line. string_bytes line.text ≡ first_text bytes.now) }
 {
     let (shown, length) = match next_shown(bytes) {
         Some(next) => next,

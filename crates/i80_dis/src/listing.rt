@@ -1,26 +1,37 @@
 //! The listing of bytes.
-ghost use Rattle.std.specs.Prelude.{◌≡◌, ◌≤◌, ◌+◌, ◌++◌, length, map, IfOk, OnOk, string_bytes};
+ghost use Rattle.std.specs.Prelude.{◌≡◌, ◌≤◌, ◌+◌, ◌++◌, length, map, IfOk, OnOk, codes, string_bytes};
 ghost use Rattle.i80_dis.specs.declared.line.Shown.TheVariants.{Datum};
 ghost use Rattle.i80_dis.specs.Shown.{lines_of};
-ghost use Rattle.i80_dis.specs.Text.{text_of, text_line, origin_line, text_of_lines, listing_of};
+ghost use Rattle.i80_dis.specs.Text.{word_text, text_of, text_line, origin_line, text_of_lines};
+ghost use Rattle.i80_dis.specs.Text.{listing_of};
 
 use crate::line::{Shown, next_shown, push_text};
 use crate::numeral::push_word;
 use std::alloc::{AllocError, Global};
 
-/// No line has more bytes than this, with its end: the longest is `LXI SP,0FFFFH`.
+/// The most bytes of a line with its end: the longest is `LXI SP,0FFFFH`.
 const LONGEST_LINE: usize = 14;
 
+// Appends ORG with its operand.
+fn push_directive(text: &mut String, address: u16) -> Result<(), AllocError>
+    ensures { OnOk result (string_bytes text.new
+        ≡ string_bytes text.old ++ (codes "ORG " ++ word_text address)) }
+{
+    text.push_str("ORG ")?;
+    push_word(text, address)
+}
+
+// Appends the line with ORG.
 fn push_origin(text: &mut String, address: u16) -> Result<(), AllocError>
     ensures { OnOk result (string_bytes text.new ≡ string_bytes text.old ++ origin_line address) }
 {
     text.reserve(LONGEST_LINE)?;
-    text.push_str("ORG ")?;
-    push_word(text, address)?;
+    push_directive(text, address)?;
     text.push_str("\n")?;
     Ok(())
 }
 
+// Appends a line.
 fn push_line(text: &mut String, shown: Shown) -> Result<(), AllocError>
     ensures { OnOk result (string_bytes text.new
         ≡ string_bytes text.old ++ text_line (text_of shown)) }
@@ -31,7 +42,7 @@ fn push_line(text: &mut String, shown: Shown) -> Result<(), AllocError>
     Ok(())
 }
 
-// Each byte on a line by itself.
+// Appends each byte as a line of its own.
 fn push_data(text: &mut String, bytes: &[u8]) -> Result<(), AllocError>
     ensures { OnOk result (string_bytes text.new
         ≡ string_bytes text.old ++ text_of_lines (map Datum bytes.now)) }
@@ -42,6 +53,7 @@ fn push_data(text: &mut String, bytes: &[u8]) -> Result<(), AllocError>
     Ok(())
 }
 
+// Appends the lines of bytes.
 fn push_lines(text: &mut String, bytes: &[u8]) -> Result<(), AllocError>
     ensures { OnOk result (string_bytes text.new
         ≡ string_bytes text.old ++ text_of_lines (lines_of bytes.now)) }
@@ -59,11 +71,11 @@ fn push_lines(text: &mut String, bytes: &[u8]) -> Result<(), AllocError>
     Ok(())
 }
 
-/// The listing of bytes, of which the first stands at this address: `ORG`, and after it a line
-/// for each instruction; no text for no bytes.
+/// The listing of bytes, the first of which is at this address: a line with `ORG`, and after it a line
+/// for each instruction. The listing of no bytes is empty.
 ///
-/// An undefined opcode is `DB` with that byte. Where an instruction is cut off by the end of the
-/// bytes, each byte that is left is. The text grows once a line at the most.
+/// An undefined opcode is `DB` with that byte. If an instruction is cut off by the end of the bytes,
+/// so is each byte that is left. The text is reallocated at most once a line.
 #[tactic(auto, using(crate::proofs::Lines::listing_none, crate::proofs::Lines::listing_some))]
 pub fn listing(alloc: Global, address: u16, bytes: &[u8]) -> Result<String, AllocError>
     requires { address + length bytes.now ≤ 65536 }

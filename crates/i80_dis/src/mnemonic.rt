@@ -110,7 +110,7 @@ fn stem(instr: Instr) -> &'static str
     }
 }
 
-// The condition after the stem, or nothing.
+// The condition after the stem, if there is one.
 fn ending(instr: Instr) -> &'static str
     ensures { result.now ≡ ending instr }
 {
@@ -122,7 +122,7 @@ fn ending(instr: Instr) -> &'static str
     }
 }
 
-/// Adds an instruction's mnemonic.
+/// Appends the mnemonic of an instruction.
 pub fn push_mnemonic(text: &mut String, instr: Instr) -> Result<(), AllocError>
     ensures { OnOk result (string_bytes text.new ≡ string_bytes text.old ++ mnemonic instr) }
 {

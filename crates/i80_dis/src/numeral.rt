@@ -1,12 +1,12 @@
-//! Numbers as a listing writes them (8080/8085 Assembly Language Programming Manual, chapter 3): in
-//! upper-case hexadecimal that begins with the digit 0 and ends with H.
+//! Numbers of a listing (8080/8085 Assembly Language Programming Manual, chapter 3): upper-case
+//! hexadecimal that begins with the digit 0 and ends with H.
 ghost use Rattle.std.specs.Prelude.{◌≡◌, ◌++◌, OnOk, string_bytes};
 ghost use Rattle.i80_dis.specs.Text.{byte_text, word_text};
 
 use base_text::hexadecimal;
 use std::alloc::AllocError;
 
-/// Adds a byte as `0hhH`.
+/// Appends a byte as `0hhH`.
 pub fn push_byte(text: &mut String, byte: u8) -> Result<(), AllocError>
     ensures { OnOk result (string_bytes text.new ≡ string_bytes text.old ++ byte_text byte) }
 {
@@ -16,7 +16,7 @@ pub fn push_byte(text: &mut String, byte: u8) -> Result<(), AllocError>
     Ok(())
 }
 
-/// Adds a word as `0hhhhH`.
+/// Appends a word as `0hhhhH`.
 pub fn push_word(text: &mut String, word: u16) -> Result<(), AllocError>
     ensures { OnOk result (string_bytes text.new ≡ string_bytes text.old ++ word_text word) }
 {

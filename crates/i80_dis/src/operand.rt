@@ -1,5 +1,4 @@
-//! Operands as they are written (8080/8085 Assembly Language Programming Manual, chapter 3): words and
-//! numbers.
+//! Operands in a listing (8080/8085 Assembly Language Programming Manual, chapter 3): words and numbers.
 ghost use Rattle.std.specs.Prelude.{◌≡◌, ◌++◌, OnOk, string_bytes};
 ghost use Rattle.i80_dis.specs.Text.{register_word, pair_word, index_word, stack_word, vector_word, operands};
 ghost use Rattle.i80_dis.specs.Text.{operand_field};
@@ -144,7 +143,7 @@ fn push_operand(text: &mut String, operand: Operand) -> Result<(), AllocError>
     }
 }
 
-/// Adds a blank and the operands, with a comma between two, or nothing where there are none.
+/// Appends a blank and the operands, separated by commas; nothing if there are none.
 pub fn push_operands(text: &mut String, operands: Operands) -> Result<(), AllocError>
     ensures { OnOk result (string_bytes text.new
         ≡ string_bytes text.old ++ operand_field (texts_of operands)) }

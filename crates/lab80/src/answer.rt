@@ -11,8 +11,8 @@ use cli_io::command::{Command, read_command};
 use cli_io::status::Status;
 use cli_io::words::show_usage;
 
-/// Does what the words after the program's name ask for. Words of another program, or of none, are answered
-/// by the usage, on the stream of errors.
+/// Does what the words after the program's name ask for. For words of another program, or of none, it
+/// prints the usage to standard error.
 pub fn answer<R: Inlet, W: Outlet>(
     rt: &(impl AllocGlobal + Eprint),
     words: &[String],

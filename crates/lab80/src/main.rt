@@ -1,7 +1,6 @@
 // lab80, an Intel 8080 laboratory: `lab80 asm` assembles and runs a cell, `lab80 dis` lists bytes as
-// assembler text. What each word does stands in `answer`, with its contract; this file calls it with the
-// streams of the system. The word `step` is that of the program lab80_step, `kernel` and `term` are those of
-// lab80_kernel.
+// assembler text. What each word does is in `answer`, with its contract; this file calls it with the system's
+// streams. `step` is the word of the program lab80_step; `kernel` and `term` are those of lab80_kernel.
 #![tactic(auto)]
 
 pub mod answer;

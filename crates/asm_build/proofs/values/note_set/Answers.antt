@@ -14,6 +14,7 @@ returns c =
     ap (λ es. symbol_at es x)
     (e ∙ ap (λ n. with_symbol sets n c.given_as.result) c.as_str.ensures
     ∙ ap (with_symbol sets label.name) c.given_as.ensures)
-    ∙ set_noted c.in-Some.kind c.args.statement.now c.args.row label sets x (sym c.if-not-is_set.ensures)
+    ∙ set_noted c.in-Some.kind c.args.line.statement.now c.args.line.row label sets x
+    (sym c.if-not-is_set.ensures)
     (not_false _ c.if-not-row.false) c.in-Some.ensures)
     c.define.ensures.ok

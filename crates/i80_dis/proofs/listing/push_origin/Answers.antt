@@ -1,13 +1,9 @@
-use Rattle.std.proofs.Common.{string_bytes}
-use Rattle.i80_dis.proofs.Lines.{origin_added}
+use Rattle.std.proofs.Common.{◌++◌, append_assoc, string_bytes}
+use Rattle.std.specs.Prelude.{codes}
+use Rattle.i80_dis.specs.Text.{word_text}
 use Rattle.i80_dis.proofs.listing.push_origin.Goals as goal
 
 pub returns : goal.returns
 returns c =
-    rw (
-      c.in_ok-push_str-2.ensures.bytes,
-      c.in_ok-push_word.ensures,
-      c.in_ok-push_str.ensures.bytes,
-      c.in_ok-reserve.ensures.bytes,
-    )
-    (origin_added (string_bytes c.args.text.now) c.args.address)
+    rw (c.in_ok-push_str.ensures.bytes, c.in_ok-push_directive.ensures, c.in_ok-reserve.ensures.bytes)
+    (append_assoc (string_bytes c.args.text.now) (codes "ORG " ++ word_text c.args.address) (codes "\n"))

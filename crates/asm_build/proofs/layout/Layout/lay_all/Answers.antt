@@ -2,7 +2,7 @@ use Rattle.std.proofs.Common.{◌≡◌, ◌∙◌, ◌+◌, ◌∷◌, [], leng
 use Rattle.std.proofs.lemmas.Result.{err_from_is_err_and}
 use Rattle.asm_build.specs.Reading.{Lines}
 use Rattle.asm_build.specs.Layout.{layout}
-use Rattle.asm_build.specs.State.{lines_of, Stands}
+use Rattle.asm_build.specs.State.{lines_of, IsLayoutAfter}
 use Rattle.asm_build.proofs.LayoutLemmas.{stands_next, lines_none, lines_more, lines_length, layout_goes}
 use Rattle.asm_build.proofs.LayoutLemmas.{layout_fails, layout_ends}
 use Rattle.asm_build.proofs.layout.Layout.lay_all.Goals as goal
@@ -16,7 +16,7 @@ loop-i-init c =
     record {
       small = omega (arith, c.requires.stands.place);
       rows = ap length c.requires.rows;
-      stands = subst (λ (e : Lines). Stands e old) (sym none) c.requires.stands;
+      stands = subst (λ (e : Lines). IsLayoutAfter e old) (sym none) c.requires.stands;
       goes_on = ap (λ e. layout c.args.kept.now e ss) none;
     }
 
@@ -50,7 +50,7 @@ loop-i-preserved c =
       small = c.in_ok-lay.ensures.small;
       rows = ap length goes.rows ∙ length-append rs (r ∷ []) ∙ ap (λ n. n + 1) was.rows;
       stands =
-          subst (λ (e : Lines). Stands e c.lay.new.self) (sym more)
+          subst (λ (e : Lines). IsLayoutAfter e c.lay.new.self) (sym more)
           (stands_next (lines_of [] ss rs) c.loop-i.self c.lay.new.self s r was.stands goes);
       goes_on = ap (λ e. layout c.args.kept.now e (drop (c.loop-i.i + 1) ss)) more
           ∙ layout_goes c.args.kept.now (lines_of [] ss rs) ss c.loop-i.self c.loop-i.i s r _

@@ -1,17 +1,13 @@
--- Printed numbers are read as the numbers that they show.
+-- Numbers written as `0hhH` and `0hhhhH` are read as the numbers that they show.
 use Rattle.std.proofs.Common.{◌≡◌, ℕ, zero, suc, ◌/◌, ◌%◌, ◌<◌, inl, inr, List, [], ◌∷◌, Bool, true, false}
 use Rattle.std.proofs.Common.{cond, Some, None, refl, ap, ◌∙◌, arith, eqb}
-use Rattle.std.specs.Prelude.{◌&&◌, nat_lt}
+use Rattle.std.specs.Prelude.{◌&&◌, ◌++◌, nat_lt, codes}
 use Rattle.std.specs.List.{list_all}
 use Rattle.std.proofs.lemmas.Bool.{and_parts, eqb-true, cases_lt, lt-ltb}
 use Rattle.std.specs.Char.{is_ascii_digit, is_ascii_alphanumeric, digit_value}
 use Rattle.asm_lex.specs.Numbers.{with_digits, number_of}
 use Rattle.asm_lex.specs.Spelling.{Begins}
-use Rattle.i80_rows.specs.declared.instruction.Vector.{Vector}
-use Rattle.i80_rows.specs.declared.instruction.Vector.TheVariants as vector
-use Rattle.i80_rows.specs.Codes.{vector_code}
-use Rattle.base_text.specs.Hexadecimal.{upper_digit}
-use Rattle.i80_dis.specs.Text.{byte_text, word_text, vector_word}
+use Rattle.base_text.specs.Hexadecimal.{upper_digit, upper_byte, upper_word}
 
 -- ---- a test of every number below n
 
@@ -50,7 +46,7 @@ some_if true true n m p q e = ap (λ (k : ℕ). Some k) e
 some_if true false n m p q e = absurd cc
 some_if false b n m p q e = absurd cc
 
-pub byte_numeral : (n : ℕ) → n < 256 → IsNumeral n (byte_text n)
+pub byte_numeral : (n : ℕ) → n < 256 → IsNumeral n (codes "0" ++ upper_byte n ++ codes "H")
 byte_numeral n lt =
     let hi : n / 16 < 16 = omega (arith, lt) in
     let lo : n % 16 < 16 = omega arith in
@@ -68,7 +64,7 @@ byte_numeral n lt =
           value;
     }
 
-pub word_numeral : (n : ℕ) → n < 65536 → IsNumeral n (word_text n)
+pub word_numeral : (n : ℕ) → n < 65536 → IsNumeral n (codes "0" ++ upper_word n ++ codes "H")
 word_numeral n lt =
     let h3 : n / 256 / 16 < 16 = omega (arith, lt) in
     let h2 : n / 256 % 16 < 16 = omega arith in
@@ -105,13 +101,3 @@ word_numeral n lt =
           (rw value (lt-ltb n 65536 lt))
           value;
     }
-
-pub vector_numeral : (n : Vector) → IsNumeral (vector_code n) (vector_word n)
-vector_numeral vector.V0 = record { begins = refl; all = refl; value = refl }
-vector_numeral vector.V1 = record { begins = refl; all = refl; value = refl }
-vector_numeral vector.V2 = record { begins = refl; all = refl; value = refl }
-vector_numeral vector.V3 = record { begins = refl; all = refl; value = refl }
-vector_numeral vector.V4 = record { begins = refl; all = refl; value = refl }
-vector_numeral vector.V5 = record { begins = refl; all = refl; value = refl }
-vector_numeral vector.V6 = record { begins = refl; all = refl; value = refl }
-vector_numeral vector.V7 = record { begins = refl; all = refl; value = refl }

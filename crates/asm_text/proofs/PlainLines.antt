@@ -1,15 +1,23 @@
--- What a printed line says, by the form of its operands.
+-- What a line says that is a word and plain operands: words of registers, and numbers.
 use Rattle.std.proofs.Common.{◌≡◌, ℕ, List, [], ◌∷◌, Some, None, Ok, refl}
 use Rattle.asm_expr.specs.Tree as tree
 use Rattle.i80_rows.specs.declared.instruction.Instr.{Instr}
+use Rattle.i80_rows.specs.declared.instruction.IndexPair.{IndexPair}
+use Rattle.i80_rows.specs.declared.instruction.IndexPair.TheVariants as index
 use Rattle.i80_rows.specs.declared.instruction.Reg.{Reg}
+use Rattle.i80_rows.specs.declared.instruction.Reg.TheVariants as reg
 use Rattle.i80_rows.specs.declared.instruction.Pair.{Pair}
+use Rattle.i80_rows.specs.declared.instruction.Pair.TheVariants as pair
+use Rattle.i80_rows.specs.declared.instruction.StackPair.{StackPair}
+use Rattle.i80_rows.specs.declared.instruction.StackPair.TheVariants as stack
+use Rattle.i80_rows.proofs.Each.{each_reg, each_pair, each_index, each_stack}
 use Rattle.asm_syntax.specs.declared.keyword.Keyword.{Keyword as Word}
 use Rattle.asm_syntax.specs.declared.keyword.Keyword.TheVariants as keyword
 use Rattle.asm_syntax.specs.declared.keyword.Mnemonic.{Mnemonic}
 use Rattle.asm_syntax.specs.declared.keyword.Mnemonic.TheVariants as mnemonic
 use Rattle.asm_syntax.specs.declared.keyword.Directive.TheVariants as directive
 use Rattle.asm_syntax.specs.declared.keyword.RegisterWord.{RegisterWord}
+use Rattle.asm_syntax.specs.declared.keyword.RegisterWord.TheVariants as word
 use Rattle.i80_rows.specs.declared.instruction.ByteOperation.{ByteOperation}
 use Rattle.i80_rows.specs.declared.instruction.ByteOperation.TheVariants.{Mvi}
 use Rattle.i80_rows.specs.declared.instruction.WordOperation.{WordOperation}
@@ -29,9 +37,47 @@ use Rattle.asm_lex.specs.Words.{misplaced_from}
 use Rattle.asm_text.specs.Forms.{register_instruction, pair_instruction, index_instruction, stack_instruction}
 use Rattle.asm_text.specs.Forms.{move_between, instruction_of, each_of, directive_of}
 use Rattle.asm_text.specs.Lines.{label_at, action_of, operation_at, line_of}
-use Rattle.asm_text.specs.Registers as word
-use Rattle.i80_dis.proofs.Words.{register_for, pair_for, index_for, stack_for, register_back, pair_back}
-use Rattle.i80_dis.proofs.Words.{index_back, stack_back}
+use Rattle.asm_text.specs.Registers as named
+
+-- ---- the words of registers and pairs
+
+abbrev pub register_for : Reg → RegisterWord
+register_for reg.B = word.B
+register_for reg.C = word.C
+register_for reg.D = word.D
+register_for reg.E = word.E
+register_for reg.H = word.H
+register_for reg.L = word.L
+register_for reg.M = word.M
+register_for reg.A = word.A
+
+abbrev pub pair_for : Pair → RegisterWord
+pair_for pair.B = word.B
+pair_for pair.D = word.D
+pair_for pair.H = word.H
+pair_for pair.Sp = word.Sp
+
+abbrev pub index_for : IndexPair → RegisterWord
+index_for index.B = word.B
+index_for index.D = word.D
+
+abbrev pub stack_for : StackPair → RegisterWord
+stack_for stack.B = word.B
+stack_for stack.D = word.D
+stack_for stack.H = word.H
+stack_for stack.Psw = word.Psw
+
+pub register_back : (r : Reg) → named.reg_of (register_for r) ≡ Some r
+register_back = each_reg _ refl refl refl refl refl refl refl refl
+
+pub pair_back : (p : Pair) → named.pair_of (pair_for p) ≡ Some p
+pair_back = each_pair _ refl refl refl refl
+
+pub index_back : (p : IndexPair) → named.index_of (index_for p) ≡ Some p
+index_back = each_index _ refl refl
+
+pub stack_back : (p : StackPair) → named.stack_of (stack_for p) ≡ Some p
+stack_back = each_stack _ refl refl refl refl
 
 -- ---- statements
 
@@ -113,20 +159,20 @@ unfolding line_of label_at operation_at action_of misplaced_from instruction_of 
 restart_says line c n e = rw (e, number_read 1 c n) refl
 
 pub move_says : (line : List ℕ) (b c d : ℕ) (v w : RegisterWord) (r s : Reg) (i : Instr)
-    → word.reg_of v ≡ Some r → word.reg_of w ≡ Some s
-    → move_between (word.register_of r) (word.register_of s) ≡ Some i
+    → named.reg_of v ≡ Some r → named.reg_of w ≡ Some s
+    → move_between (named.register_of r) (named.register_of s) ≡ Some i
     → Spelled line (means mnemonic.Move ∷ names b v ∷ (c, Sign 44) ∷ names d w ∷ [])
     → Says line (action.Instruction (instruction.Alone i))
 unfolding line_of label_at operation_at action_of misplaced_from instruction_of operands_of
 move_says line b c d v w r s i to from is e = rw (e, to, from, is) refl
 
-pub immediate_says : (line : List ℕ) (b c d n : ℕ) (w : RegisterWord) (r : Reg) → word.reg_of w ≡ Some r
+pub immediate_says : (line : List ℕ) (b c d n : ℕ) (w : RegisterWord) (r : Reg) → named.reg_of w ≡ Some r
     → Spelled line (means mnemonic.MoveImmediate ∷ names b w ∷ (c, Sign 44) ∷ (d, Number n) ∷ [])
     → Says line (action.Instruction (instruction.Byte (Mvi r) (number_at d n)))
 unfolding line_of label_at operation_at action_of misplaced_from instruction_of operands_of
 immediate_says line b c d n w r to e = rw (e, to, number_read 1 d n) refl
 
-pub load_says : (line : List ℕ) (b c d n : ℕ) (w : RegisterWord) (p : Pair) → word.pair_of w ≡ Some p
+pub load_says : (line : List ℕ) (b c d n : ℕ) (w : RegisterWord) (p : Pair) → named.pair_of w ≡ Some p
     → Spelled line (means mnemonic.LoadPair ∷ names b w ∷ (c, Sign 44) ∷ (d, Number n) ∷ [])
     → Says line (action.Instruction (instruction.Word (Lxi p) (number_at d n)))
 unfolding line_of label_at operation_at action_of misplaced_from instruction_of operands_of

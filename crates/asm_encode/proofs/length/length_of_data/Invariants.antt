@@ -1,6 +1,6 @@
 use Rattle.std.proofs.Common.{◌≡◌, min, sum, map, take}
-use Rattle.asm_build.specs.Statements.{length_of_datum}
-use Rattle.asm_build.proofs.statements.length_of_data.Given as goal
+use Rattle.asm_encode.specs.Lengths.{length_of_datum}
+use Rattle.asm_encode.proofs.length.length_of_data.Given as goal
 
 abbrev pub invariant-loop-datum : goal.invariant-loop-datum
 invariant-loop-datum l =

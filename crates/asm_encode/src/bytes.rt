@@ -1,87 +1,17 @@
 //! The bytes of actions.
 ghost use Rattle.std.specs.Prelude.{◌≡◌, ℕ, List, Option, Result, IfOk};
 ghost use Rattle.i80_rows.specs.Encoding.{encoding_of};
-ghost use Rattle.asm_expr.specs.Value.{value_of};
 ghost use Rattle.asm_syntax.specs.Outcome.{Fault, LineGives};
-ghost use Rattle.asm_build.specs.Layout.{or_fault};
-ghost use Rattle.asm_build.specs.Meaning.{as_byte, vector, number, byte, restart, instruction_bytes};
-ghost use Rattle.asm_build.specs.Meaning.{datum_bytes, word_bytes, all_bytes, bytes_of, start_of};
-ghost use Rattle.asm_build.specs.State.{append_to};
+ghost use Rattle.asm_encode.specs.Bytes.{instruction_bytes, datum_bytes, word_bytes, all_bytes};
+ghost use Rattle.asm_encode.specs.Bytes.{append_to, bytes_of, start_of};
 
-use crate::faults::at;
+use crate::operand::{byte, number, restart};
 use asm_expr::env::Env;
-use asm_expr::evaluation::{ExprFault, value};
-use asm_syntax::fault::{FaultKind, LineFault};
+use asm_syntax::fault::LineFault;
 use asm_syntax::statement::{Action, Data, Instruction, Operand};
 use i80_rows::encoding::encode;
-use i80_rows::instruction::{Instr, Vector};
+use i80_rows::instruction::Instr;
 use std::alloc::{AllocError, Global};
-
-/// The value of an operand, with this fault where a name has none.
-pub(crate) fn number_or<E: Env>(
-    names: &E,
-    here: u16,
-    operand: &Operand,
-    missing: FaultKind,
-) -> Result<u16, LineFault>
-    ensures { LineGives (λ v. v) result (or_fault missing operand.now.column
-        (value_of (E.values names.now) here operand.now.expr)) }
-{
-    match value(&operand.expr, names, here) {
-        Ok(v) => Ok(v),
-        Err(ExprFault::Undefined) => Err(at(operand.column, missing)),
-        Err(ExprFault::Divisor) => Err(at(operand.column, FaultKind::Divisor)),
-    }
-}
-
-fn number<E: Env>(names: &E, here: u16, operand: &Operand) -> Result<u16, LineFault>
-    ensures { LineGives (λ v. v) result (number (E.values names.now) here operand.now) }
-{
-    number_or(names, here, operand, FaultKind::Undefined)
-}
-
-fn as_byte(column: usize, value: u16) -> Result<u8, LineFault>
-    ensures { LineGives (λ b. b) result (as_byte column value) }
-{
-    if value < 256 || value >= 65_280 {
-        Ok((value % 256) as u8)
-    } else {
-        Err(at(column, FaultKind::ByteRange))
-    }
-}
-
-fn byte<E: Env>(names: &E, here: u16, operand: &Operand) -> Result<u8, LineFault>
-    ensures { LineGives (λ b. b) result (byte (E.values names.now) here operand.now) }
-{
-    let v = number(names, here, operand)?;
-    as_byte(operand.column, v)
-}
-
-fn vector(value: u16) -> Option<Vector>
-    ensures { result ≡ vector value }
-{
-    match value {
-        0 => Some(Vector::V0),
-        1 => Some(Vector::V1),
-        2 => Some(Vector::V2),
-        3 => Some(Vector::V3),
-        4 => Some(Vector::V4),
-        5 => Some(Vector::V5),
-        6 => Some(Vector::V6),
-        7 => Some(Vector::V7),
-        _ => None,
-    }
-}
-
-fn restart<E: Env>(names: &E, here: u16, operand: &Operand) -> Result<Vector, LineFault>
-    ensures { LineGives (λ n. n) result (restart (E.values names.now) here operand.now) }
-{
-    let v = number(names, here, operand)?;
-    match vector(v) {
-        Some(n) => Ok(n),
-        None => Err(at(operand.column, FaultKind::ByteRange)),
-    }
-}
 
 fn encoding(alloc: Global, instr: Instr) -> Result<Vec<u8>, AllocError>
     ensures { IfOk result (λ v. v.items ≡ encoding_of instr) }
@@ -110,17 +40,17 @@ fn instruction_bytes<E: Env>(
 }
 
 // An operand of DB or of DW.
-trait Given {
-    // Its bytes, where names have these values, at a place.
+trait ByteSource {
+    // Its bytes, where names have these values and `$` is a place.
     ghost bytes: { (List ℕ → Option ℕ) → ℕ → Self → Result (List ℕ) Fault };
 
-    // Puts its bytes after those that are there.
+    // Appends its bytes.
     fn put<E: Env>(&self, names: &E, here: u16, front: &mut Vec<u8>) -> Result<(), LineFault>
         ensures { LineGives (λ _. front.new.items) result
             (append_to front.old.items (bytes (E.values names.now) here self.now)) };
 }
 
-impl Given for Data {
+impl ByteSource for Data {
     ghost bytes = { datum_bytes };
 
     fn put<E: Env>(&self, names: &E, here: u16, front: &mut Vec<u8>) -> Result<(), LineFault> {
@@ -138,7 +68,7 @@ impl Given for Data {
     }
 }
 
-impl Given for Operand {
+impl ByteSource for Operand {
     ghost bytes = { word_bytes };
 
     fn put<E: Env>(&self, names: &E, here: u16, front: &mut Vec<u8>) -> Result<(), LineFault> {
@@ -150,7 +80,7 @@ impl Given for Operand {
 }
 
 // The bytes of each of the operands.
-fn all_bytes<E: Env, T: Given>(
+fn all_bytes<E: Env, T: ByteSource>(
     alloc: Global,
     names: &E,
     here: u16,
@@ -166,8 +96,8 @@ fn all_bytes<E: Env, T: Given>(
     Ok(bytes)
 }
 
-/// The bytes of an action at a place.
-pub(crate) fn bytes_of<E: Env>(
+/// The bytes of an action, where `here` is the value of `$`; no bytes for DS.
+pub fn bytes_of<E: Env>(
     alloc: Global,
     names: &E,
     here: u16,
@@ -184,8 +114,8 @@ pub(crate) fn bytes_of<E: Env>(
     }
 }
 
-/// The start after an action, where it was so before.
-pub(crate) fn start_of<E: Env>(
+/// The start of the program after an action: the operand of END, if this is an END with one, else `before`.
+pub fn start_of<E: Env>(
     names: &E,
     here: u16,
     before: Option<u16>,

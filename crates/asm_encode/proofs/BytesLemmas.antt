@@ -1,13 +1,18 @@
 -- Bytes that are put one after the other.
-use Rattle.std.proofs.Common.{◌≡◌, ℕ, ◌+◌, ◌<◌, ◌≤◌, List, [], ◌++◌, Result, Ok, Err, length, get_or, drop}
+use Rattle.std.proofs.Common.{◌≡◌, ℕ, ◌+◌, ◌<◌, ◌≤◌, List, [], ◌∷◌, ◌++◌, Result, Ok, Err, length, get_or}
+use Rattle.std.proofs.Common.{drop, drop-cons, suc, add-one}
 use Rattle.std.proofs.Common.{append_assoc, refl, sym, ap, ◌∙◌}
 use Rattle.std.proofs.lemmas.List.{drop_all, append-nil}
 use Rattle.asm_syntax.specs.declared.fault.LineFault.{LineFault}
 use Rattle.asm_syntax.specs.declared.fault.LineFault.TheVariants as line
 use Rattle.asm_syntax.specs.Outcome.{Fault, ◌>>=◌, LineFails}
-use Rattle.asm_build.specs.Meaning.{all_bytes}
-use Rattle.asm_build.specs.State.{append_to}
-use Rattle.asm_build.proofs.LayoutLemmas.{next}
+use Rattle.asm_encode.specs.Bytes.{all_bytes, append_to}
+
+-- what is left of a list, with its first element apart
+pub next : {A : Type 0} (xs : List A) (i : ℕ) (y : A) → i < length xs → y ≡ get_or xs i y
+    → drop i xs ≡ y ∷ drop (i + 1) xs
+next xs i y lt e =
+    drop-cons xs i y lt ∙ ap (λ m. m ∷ drop (suc i) xs) (sym e) ∙ ap (λ k. y ∷ drop k xs) (sym (add-one i))
 
 abbrev Bytes : Type 0
 Bytes = Result (List ℕ) Fault
