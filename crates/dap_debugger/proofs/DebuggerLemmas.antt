@@ -32,7 +32,7 @@ joined_push (list ∷ lists) messages =
     ap (λ m. list ++ m) (joined_push lists messages)
     ∙ sym (append_assoc list (concat_messages lists) messages)
 
--- a debugger that was told one thing more
+-- one request or slice more
 pub past_more : (old new : DebuggerState) (inputs : List Input) (bytes : List ℕ) (input : Input)
     (messages : List Message) (lists all : List (List Message)) → Past old inputs bytes
     → Tells (step input (play_all inputs session_before_requests).state) messages new.session
@@ -55,7 +55,7 @@ past_more old new inputs bytes input messages lists all p tells sent old_is all_
       wrote = p.wrote;
     }
 
--- a debugger that has sent all that it told
+-- all that waits is sent
 pub past_sent : (old new : DebuggerState) (inputs : List Input) (bytes more : List ℕ) → Past old inputs bytes
     → new.session ≡ old.session → new.told ≡ [] → new.sent ≡ old.sent + length old.told
     → more ≡ sent_bytes old.sent old.told → Past new inputs (bytes ++ more)

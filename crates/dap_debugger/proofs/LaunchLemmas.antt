@@ -4,7 +4,7 @@ use Rattle.std.specs.String.{string_vec, string_bytes}
 use Rattle.std.specs.Str.{is_utf8}
 use Rattle.std.proofs.lemmas.Bool.{le-ltb}
 use Rattle.std.proofs.lemmas.Str.{IsUtf8-from_is_utf8, is_utf8-from_IsUtf8, IsUtf8-string_bytes}
-use Rattle.dap_session.specs.declared.file.FileText.TheVariants as file
+use Rattle.dap_launch.specs.declared.file.FileText.TheVariants as file
 use Rattle.dap_debugger.specs.LaunchTexts.{file_text}
 
 pub text_found : (t : String Global) (bytes : Vec ℕ Global) (text : List ℕ) → length bytes.items ≤ 1048576

@@ -1,4 +1,4 @@
--- What a debugger stands for: all that was asked of it, and all that it sent.
+-- What a debugger stands for: all requests and slices so far, and all that it sent.
 use Rattle.std.specs.Prelude.{◌≡◌, ◌⊎◌, ℕ, List, [], ◌∷◌, ◌++◌, length}
 use Rattle.base_text.specs.Bytes.{Bytes}
 use Rattle.dap_editor.specs.declared.message.Message.{Message}
@@ -14,8 +14,8 @@ pub record DebuggerState : Type 0 where
   pub sent : ℕ
   pub told : List Message
 
--- After these requests and slices, these bytes were sent: the messages of all that the session tells, in
--- order and numbered from 1, but for those that are told and not sent yet.
+-- After these requests and slices these bytes were sent: the session's messages, in order and numbered from
+-- 1, without those that wait to be sent.
 pub record Past (d : DebuggerState) (inputs : List Input) (bytes : Bytes) : Type 0 where
   pub session : StandsFor d.session (play_all inputs session_before_requests).state
   pub before : List Message
@@ -23,8 +23,8 @@ pub record Past (d : DebuggerState) (inputs : List Input) (bytes : Bytes) : Type
   pub count : d.sent ≡ length before
   pub wrote : bytes ≡ sent_bytes 0 before
 
--- What want of memory leaves: nothing more is sent or told, and the session is as it was; but of bytes that
--- were to be written to the program's memory some may be, from the first on.
+-- If memory runs out no more is sent or waits, and the session is as it was; but of the bytes that a
+-- `writeMemory` was to write some may be written, from the first on.
 abbrev pub IsLeft : Asked → DebuggerState → DebuggerState → Type 0
 IsLeft a old new =
     (new ≡ old)

@@ -10,7 +10,7 @@ bodies_in (Body body) = body ∷ []
 bodies_in Nothing = []
 bodies_in (End end) = []
 
--- those after are those before, and these
+-- a source whose bodies are known gave these
 abbrev pub Gave : Option (List Bytes) → Option (List Bytes) → List Bytes → Type 0
 Gave None after bodies = Unit {0}
 Gave (Some before) after bodies = after ≡ Some (before ++ bodies)

@@ -1,9 +1,9 @@
--- What is found in a file.
+-- What a program's file has.
 use Rattle.std.specs.Prelude.{nat_lt, length, if◌then◌else◌}
 use Rattle.std.specs.Str.{is_utf8}
 use Rattle.base_text.specs.Bytes.{Bytes}
-use Rattle.dap_session.specs.declared.file.FileText.{FileText}
-use Rattle.dap_session.specs.declared.file.FileText.TheVariants as file
+use Rattle.dap_launch.specs.declared.file.FileText.{FileText}
+use Rattle.dap_launch.specs.declared.file.FileText.TheVariants as file
 
 -- a text of at most 1,048,576 bytes
 abbrev pub file_text : Bytes → FileText

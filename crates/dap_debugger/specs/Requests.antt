@@ -1,4 +1,4 @@
--- What the body of a message asks for.
+-- The request in the body of a message.
 use Rattle.std.specs.Prelude.{Option, Some, None, if◌then◌else◌}
 use Rattle.std.specs.Str.{is_utf8}
 use Rattle.base_text.specs.Bytes.{Bytes}
@@ -12,7 +12,7 @@ use Rattle.dap_editor.specs.Reading.{editor_request, unreadable}
 unfoldable pub json_of : Bytes → Option Data
 json_of body = if is_utf8 body then read body else None
 
--- what is no JSON is a request that can't be read
+-- a body that isn't JSON is read as a request that is none
 abbrev pub request_in : Option Data → EditorRequest
 request_in None = unreadable
 request_in (Some json) = editor_request json

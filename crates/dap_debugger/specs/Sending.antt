@@ -6,11 +6,11 @@ use Rattle.dap_stream.specs.Writing.{message_bytes}
 use Rattle.dap_editor.specs.declared.message.Message.{Message}
 use Rattle.dap_editor.specs.Json.{message_json}
 
--- the JSON of a message with this number, without blanks
+-- the JSON of a message with this number, with no blanks
 abbrev pub text_of : ℕ → Message → Bytes
 text_of number message = compact_text (message_json number message)
 
--- messages, numbered on from so many
+-- messages, of which the first has the number `sent` + 1
 abbrev pub sent_bytes : ℕ → List Message → Bytes
 sent_bytes sent [] = []
 sent_bytes sent (message ∷ messages) =

@@ -5,36 +5,36 @@ use crate::requests::read_request;
 use base_streams::ports::Outlet;
 use base_streams::writing::write_all;
 use dap_editor::request::EditorRequest;
-use dap_session::file::FileText;
+use dap_launch::file::FileText;
 use std::alloc::{AllocError, Global};
 use std::sync::Wait;
 
-/// How a conversation ends.
+/// Why a conversation ended.
 #[derive(Clone, Copy, PartialEq, Eq)]
 pub enum ConversationEnd {
     /// A disconnect was answered.
     Disconnected,
-    /// All that came was answered, and no more comes.
+    /// All requests were answered, and no more come.
     Stream(StreamEnd),
     OutOfMemory,
     WriteFailed,
 }
 
-// What is found at the path that a request needs.
+// What is found at the path that a request needs, if it needs one.
 fn find_file<F: ProgramFiles>(
     alloc: Global,
     debugger: &Debugger,
     files: &F,
     request: &EditorRequest,
 ) -> Result<Option<FileText>, AllocError> {
-    match debugger.wanted_file(request) {
+    match debugger.session().wanted_file(request) {
         Some(path) => Ok(Some(files.read(alloc, path)?)),
         None => Ok(None),
     }
 }
 
-// Answers the request that a body is.
-fn hear<F: ProgramFiles>(
+// Answers the request in a body.
+fn answer_body<F: ProgramFiles>(
     alloc: Global,
     debugger: &mut Debugger,
     files: &F,
@@ -50,17 +50,17 @@ fn hear<F: ProgramFiles>(
     }
 }
 
-// Makes a slice, if one has something to do.
-fn go_on(alloc: Global, debugger: &mut Debugger) -> Result<(), AllocError> {
-    if debugger.wants_slice() {
+// Makes a slice of the run, if one goes on.
+fn run_on(alloc: Global, debugger: &mut Debugger) -> Result<(), AllocError> {
+    if debugger.session().wants_slice() {
         debugger.run(alloc)
     } else {
         Ok(())
     }
 }
 
-// Writes what was told since the last time.
-fn speak<W: Outlet>(
+// Writes the messages that wait to be sent.
+fn write_messages<W: Outlet>(
     alloc: Global,
     debugger: &mut Debugger,
     outlet: &mut W,
@@ -74,7 +74,8 @@ fn speak<W: Outlet>(
     }
 }
 
-// Hears what comes next, makes a slice where one has something to do, and writes what all that tells.
+// Answers the next request, if one is there, makes a slice of the run, if one goes on, and writes the
+// messages.
 fn round<S: BodySource, F: ProgramFiles, W: Outlet>(
     alloc: Global,
     debugger: &mut Debugger,
@@ -82,27 +83,27 @@ fn round<S: BodySource, F: ProgramFiles, W: Outlet>(
     files: &F,
     outlet: &mut W,
 ) -> Result<(), ConversationEnd> {
-    match source.next(debugger.wants_slice()) {
+    match source.next(debugger.session().wants_slice()) {
         Incoming::Body(body) => {
-            if hear(alloc, debugger, files, body.as_slice()).is_err() {
+            if answer_body(alloc, debugger, files, body.as_slice()).is_err() {
                 return Err(ConversationEnd::OutOfMemory);
             }
         }
         Incoming::Nothing => {}
         Incoming::End(end) => return Err(ConversationEnd::Stream(end)),
     }
-    if go_on(alloc, debugger).is_err() {
+    if run_on(alloc, debugger).is_err() {
         return Err(ConversationEnd::OutOfMemory);
     }
-    speak(alloc, debugger, outlet)?;
-    if debugger.has_ended() {
+    write_messages(alloc, debugger, outlet)?;
+    if debugger.session().has_ended() {
         return Err(ConversationEnd::Disconnected);
     }
     Ok(())
 }
 
-/// Talks with an editor, up to an end: each body is answered, a program that runs goes on by a slice between
-/// two bodies, and what is told is written at once.
+/// Converses with an editor until the conversation ends: answers each body, makes a slice of the run between
+/// two bodies, and writes the messages at once.
 pub fn converse<R: Wait, S: BodySource, F: ProgramFiles, W: Outlet>(
     rt: &R,
     alloc: Global,

@@ -1,20 +1,18 @@
 //! The debugger.
-ghost use Rattle.std.specs.Prelude.{◌≡◌, ◌∷◌, ◌++◌, [], List, IfOk, OnOk, OnErr, option_map};
+ghost use Rattle.std.specs.Prelude.{◌≡◌, ◌∷◌, ◌++◌, [], List, IfOk, OnOk, OnErr};
 ghost use Rattle.base_text.specs.Bytes.{Bytes};
-ghost use Rattle.dap_session.specs.States.{session_before_requests, wants_slice};
-ghost use Rattle.dap_session.specs.Requests.{wanted_file};
-ghost use Rattle.dap_session.specs.Slices.{Input, request as asks, slice, play_all};
+ghost use Rattle.dap_session.specs.Slices.{Input, request as asks, slice};
 
 use crate::sending::put_all;
 use base_text::sequence::{Bytes, Sequence};
 use dap_editor::message::Message;
 use dap_editor::request::EditorRequest;
-use dap_session::file::FileText;
+use dap_launch::file::FileText;
 use dap_session::session::Session;
 use std::alloc::{AllocError, Global};
 use std::marker::Model;
 
-/// A session, how many of its messages were sent, and those that it has told since.
+/// A session, the number of its messages that were sent, and those that wait to be sent.
 #[derive(Drop)]
 pub struct Debugger {
     session: Session,
@@ -46,8 +44,9 @@ impl Debugger {
         })
     }
 
-    /// Answers a request, where this was found at the path that it needs (`wanted_file`). Out of memory
-    /// changes nothing; but of the bytes of a `writeMemory` some may be written then, from the first on.
+    /// Answers a request. `file` is what was found at the path that the request needs (the session's
+    /// `wanted_file`). If memory runs out nothing changes; but of the bytes of a `writeMemory` some may be
+    /// written then, from the first on.
     pub fn answer(
         &mut self,
         alloc: Global,
@@ -64,7 +63,7 @@ impl Debugger {
         Ok(())
     }
 
-    /// Makes a slice of a run that goes on.
+    /// Makes a slice of the run, if one goes on.
     pub fn run(&mut self, alloc: Global) -> Result<(), AllocError>
         ensures ok { (inputs : List Input) (bytes : Bytes) → Past self.old inputs bytes
             → OnOk result (Past self.new (inputs ++ slice ∷ []) bytes) }
@@ -76,7 +75,7 @@ impl Debugger {
         Ok(())
     }
 
-    /// The bytes of what was told since the last of them. Out of memory also where no number is left.
+    /// The bytes of the messages that wait to be sent. Fails also if a message's number would pass 2^64 - 1.
     pub fn send(&mut self, alloc: Global) -> Result<Bytes, AllocError>
         ensures ok { (inputs : List Input) (bytes : Bytes) → Past self.old inputs bytes
             → IfOk result (λ more. Past self.new inputs (bytes ++ more)) }
@@ -89,28 +88,10 @@ impl Debugger {
         Ok(Bytes::from(out))
     }
 
-    /// Whether a slice has something to do.
-    pub fn wants_slice(&self) -> bool
-        ensures { (inputs : List Input) (bytes : Bytes) → Past self.now inputs bytes
-            → result ≡ wants_slice (play_all inputs session_before_requests).state }
+    /// The session that answers the requests.
+    pub fn session(&self) -> &Session
+        ensures { result.now ≡ self.now.session }
     {
-        self.session.wants_slice()
-    }
-
-    /// The path whose text a request needs.
-    pub fn wanted_file<'a>(&'a self, request: &'a EditorRequest) -> Option<&'a str>
-        ensures { (inputs : List Input) (bytes : Bytes) → Past self.now inputs bytes
-            → option_map (λ path. path.now) result
-            ≡ wanted_file request.now.asked (play_all inputs session_before_requests).state }
-    {
-        self.session.wanted_file(request)
-    }
-
-    /// Whether a disconnect was answered.
-    pub fn has_ended(&self) -> bool
-        ensures { (inputs : List Input) (bytes : Bytes) → Past self.now inputs bytes
-            → result ≡ (play_all inputs session_before_requests).state.settings.has_ended }
-    {
-        self.session.has_ended()
+        &self.session
     }
 }

@@ -1,10 +1,10 @@
-//! Where a conversation's bodies and programs come from.
+//! Where the bodies of a conversation and the programs' files come from.
 ghost use Rattle.std.specs.Prelude.{Option, List};
 ghost use Rattle.base_text.specs.Bytes.{Bytes as AllBytes};
 ghost use Rattle.dap_debugger.specs.Given.{Gave, bodies_in};
 
 use base_text::sequence::Bytes;
-use dap_session::file::FileText;
+use dap_launch::file::FileText;
 use dap_stream::fault::StreamFault;
 use std::alloc::{AllocError, Global};
 
@@ -13,33 +13,33 @@ use std::alloc::{AllocError, Global};
 pub enum StreamEnd {
     /// The editor's stream has ended.
     Ended,
-    /// It can't be read on.
+    /// The stream has a fault, behind which nothing can be read.
     Broken(StreamFault),
     ReadFailed,
     OutOfMemory,
 }
 
-/// What comes next.
+/// What a source of bodies gives.
 #[derive(Drop)]
 pub enum Incoming {
     Body(Bytes),
-    /// No body is there.
+    /// No body has come yet.
     Nothing,
     End(StreamEnd),
 }
 
-/// What gives the bodies of an editor's messages.
+/// A source of the bodies of an editor's messages.
 pub trait BodySource {
-    /// The bodies that it has given, where they are known.
+    /// The bodies that it has given, if they are known.
     ghost given: { Self → Option (List AllBytes) };
 
-    /// What comes next. While a program runs it doesn't wait for a body.
+    /// The next body, or why none comes. While a program runs it doesn't wait for one.
     fn next(&mut self, is_running: bool) -> Incoming
         ensures { Gave (given self.old) (given self.new) (bodies_in result) };
 }
 
-/// What has the programs' files.
+/// The files of programs.
 pub trait ProgramFiles {
-    /// What is found at a path.
+    /// What is found at a path. Fails if memory runs out.
     fn read(&self, alloc: Global, path: &str) -> Result<FileText, AllocError>;
 }

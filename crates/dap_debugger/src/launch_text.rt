@@ -3,12 +3,13 @@ ghost use Rattle.std.specs.Prelude.{◌≡◌};
 ghost use Rattle.dap_debugger.specs.LaunchTexts.{file_text};
 
 use base_text::text::Text;
-use dap_session::file::FileText;
+use dap_launch::file::FileText;
 
-/// A program's text has at most so many bytes.
+/// The most bytes that a program's text may have.
 pub const TEXT_SIZE: usize = 1_048_576;
 
-/// What is found in a file of these bytes, or of these and more where they are more than a text may have.
+/// What a file has whose bytes these are; of a file that is too long it is enough to pass one byte more
+/// than a text may have.
 pub fn text_of(bytes: Vec<u8>) -> FileText
     ensures { result ≡ file_text bytes.items }
 {

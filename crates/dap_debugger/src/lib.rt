@@ -1,8 +1,8 @@
-// A debugger for one editor as a value over bytes (Debug Adapter Protocol): bodies of requests come in, bytes
-// go out. What was sent, and what is told and not sent yet, are for every list of requests and slices the
-// messages of dap_session's definition, in order, as compact JSON in the base protocol's framing, numbered 1,
-// 2, 3 and so on. A body that is no JSON is a request that can't be read, which is answered too. Out of
-// memory changes nothing.
+// A debugger for one editor as a value over bytes (Debug Adapter Protocol): it takes the bodies of requests
+// and returns bytes. For every list of requests and slices, what was sent and what waits to be sent are the
+// messages of dap_session's definition, in order, as compact JSON in the base protocol's framing, numbered
+// from 1 on. A body that isn't JSON is answered too, as a request that is none. If memory runs out nothing
+// changes.
 #![tactic(auto)]
 
 pub mod conversation;

@@ -1,4 +1,4 @@
-//! The request that the body of a message is.
+//! The request in the body of a message.
 ghost use Rattle.std.specs.Prelude.{◌≡◌, IfOk, option_map};
 ghost use Rattle.serde_json.specs.View.{view};
 ghost use Rattle.dap_debugger.specs.Requests.{json_of, request_of};
@@ -8,7 +8,7 @@ use dap_editor::request::EditorRequest;
 use serde_json::Value;
 use std::alloc::{AllocError, Global};
 
-// The value of a body, if it is JSON.
+// The JSON value of a body, if it has one.
 fn read_json(alloc: Global, body: &[u8]) -> Result<Option<Value>, AllocError>
     ensures { IfOk result (λ value. option_map view value ≡ json_of body.now) }
 {
@@ -19,7 +19,8 @@ fn read_json(alloc: Global, body: &[u8]) -> Result<Option<Value>, AllocError>
     }
 }
 
-/// The request that a body is. One that is no JSON, or nests deeper than 127, is one that can't be read.
+/// The request in a body. A body that isn't JSON (RFC 8259), or that nests more than 127 arrays and
+/// objects, is read as a request that is no request (`RequestFault::NotRequest`).
 pub fn read_request(alloc: Global, body: &[u8]) -> Result<EditorRequest, AllocError>
     ensures { IfOk result (λ request. request ≡ request_of body.now) }
 {

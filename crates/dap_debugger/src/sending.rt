@@ -1,4 +1,4 @@
-//! Messages as the bytes that go out.
+//! Messages as bytes.
 ghost use Rattle.std.specs.Prelude.{◌≡◌, ◌+◌, ◌++◌, length, IfOk, OnOk, string_bytes};
 ghost use Rattle.dap_stream.specs.Writing.{message_bytes};
 ghost use Rattle.dap_debugger.specs.Sending.{text_of, sent_bytes, concat_messages};
@@ -9,7 +9,7 @@ use dap_editor::message::Message;
 use dap_stream::writing::put_message;
 use std::alloc::{AllocError, Global};
 
-// The text of a message with this number.
+// The JSON text of a message with this number.
 #[tactic(auto, using(dap_editor::proofs::FloatLemmas::message_has_no_float))]
 fn text_of(alloc: Global, number: u64, message: &Message) -> Result<String, AllocError>
     ensures { IfOk result (λ text. string_bytes text ≡ text_of number message.now) }
@@ -18,7 +18,7 @@ fn text_of(alloc: Global, number: u64, message: &Message) -> Result<String, Allo
     value.to_string(alloc)
 }
 
-// Writes a message with this number.
+// Adds the bytes of a message with this number.
 fn put_numbered(
     alloc: Global,
     number: u64,
@@ -32,7 +32,7 @@ fn put_numbered(
     put_message(alloc, out, text.as_bytes())
 }
 
-// Writes messages, numbered on from so many, and gives how many there are now.
+// Adds the bytes of messages, of which the first has the number `sent` + 1. Returns the last number.
 fn put_messages(
     alloc: Global,
     sent: u64,
@@ -55,8 +55,9 @@ fn put_messages(
     Ok(number)
 }
 
-/// Writes the messages of lists, numbered on from so many, and gives how many there are now. After an error
-/// some of them may have been written; no number is above 2^64 - 1.
+/// Adds the bytes of the messages in lists, of which the first has the number `sent` + 1. Returns the last
+/// number. Fails also if a number would pass 2^64 - 1; after an error the bytes of some messages may have
+/// been added.
 pub fn put_all(
     alloc: Global,
     sent: u64,

@@ -4,7 +4,7 @@ use cli_io::reading::read_all;
 use cli_io::status::Status;
 use dap_debugger::incoming::ProgramFiles;
 use dap_debugger::launch_text::{TEXT_SIZE, text_of};
-use dap_session::file::FileText;
+use dap_launch::file::FileText;
 use std::alloc::{AllocError, Global};
 use std::io::{ErrorKind, Read};
 use std::rt::Files;
@@ -16,7 +16,7 @@ pub struct HostFiles<'a, R> {
     pub rt: &'a R,
 }
 
-// The text of an open file, of which no more is read than shows that it is too long.
+// What an open file has. Of a file that is too long no more is read than shows that.
 fn read_open<F: Read + Drop>(alloc: Global, file: F) -> Result<FileText, AllocError> {
     let most = TEXT_SIZE as u64 + 1;
     match read_all(alloc, &mut StdInlet::new(file.take(most))) {
@@ -26,8 +26,8 @@ fn read_open<F: Read + Drop>(alloc: Global, file: F) -> Result<FileText, AllocEr
     }
 }
 
-// What an error says of a file.
-fn missing(error: io::Error) -> Result<FileText, AllocError> {
+// What was found of a file that gave this error.
+fn found_by_error(error: io::Error) -> Result<FileText, AllocError> {
     let kind = error.kind();
     drop(error);
     match kind {
@@ -38,16 +38,16 @@ fn missing(error: io::Error) -> Result<FileText, AllocError> {
 }
 
 impl<'a, R: Files> ProgramFiles for HostFiles<'a, R> {
-    // What is no file, as a folder or a pipe, isn't read: a pipe might keep the debugger waiting.
+    // Folders, pipes and the like aren't read: a pipe might keep the debugger waiting.
     fn read(&self, alloc: Global, path: &str) -> Result<FileText, AllocError> {
         match fs::metadata(self.rt, path) {
             Ok(metadata) if !metadata.is_file() => return Ok(FileText::Unreadable),
             Ok(_) => {}
-            Err(error) => return missing(error),
+            Err(error) => return found_by_error(error),
         }
         match fs::open(self.rt, path) {
             Ok(file) => read_open(alloc, file),
-            Err(error) => missing(error),
+            Err(error) => found_by_error(error),
         }
     }
 }

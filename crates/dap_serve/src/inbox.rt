@@ -8,20 +8,28 @@ use std::alloc::{AllocError, Global};
 use std::collections::VecDeque;
 use std::sync::{Condvar, Mutex, Wait};
 
-// So many bodies wait at most.
+// The most bodies that wait.
 const ROOM: usize = 64;
 
-// What waits.
+// What waits in an inbox.
 #[derive(Drop)]
 struct Waiting {
     bodies: VecDeque<Bytes>,
     // Why no more come.
     end: Option<StreamEnd>,
-    // Whether nobody takes any more.
+    // Nobody takes bodies any more.
     is_closed: bool,
 }
 
-/// Bodies in the order in which they came, for one thread that puts them and one that takes them.
+/// Why a body wasn't put into an inbox.
+#[derive(Clone, Copy, PartialEq, Eq)]
+pub enum PutFault {
+    /// Nobody takes bodies any more.
+    Closed,
+    OutOfMemory,
+}
+
+/// A queue of bodies, in the order in which they came: one thread puts them, another takes them.
 #[derive(Drop)]
 pub struct Inbox {
     waiting: Mutex<Waiting>,
@@ -29,16 +37,17 @@ pub struct Inbox {
     emptied: Condvar,
 }
 
-fn begin(alloc: Global) -> Result<VecDeque<Bytes>, AllocError> {
+// An empty queue, with room for all bodies that may wait.
+fn new_queue(alloc: Global) -> Result<VecDeque<Bytes>, AllocError> {
     let mut bodies = VecDeque::new(alloc);
     bodies.reserve(ROOM)?;
     Ok(bodies)
 }
 
 impl Inbox {
-    /// An inbox with nothing in it.
+    /// An empty inbox.
     pub fn new(alloc: Global) -> Result<Inbox, AllocError> {
-        let bodies = begin(alloc)?;
+        let bodies = new_queue(alloc)?;
         Ok(Inbox {
             waiting: Mutex::new(Waiting {
                 bodies,
@@ -50,8 +59,8 @@ impl Inbox {
         })
     }
 
-    /// Puts a body, once there is room. Whether it is taken in: not where nobody takes any more.
-    pub fn put<R: Wait>(&self, rt: &R, body: Bytes) -> Result<bool, AllocError> {
+    /// Puts a body into the inbox. Waits until there is room.
+    pub fn put<R: Wait>(&self, rt: &R, body: Bytes) -> Result<(), PutFault> {
         let mut waiting = self
             .emptied
             .wait_while(rt, self.waiting.lock(rt), |waiting| {
@@ -60,16 +69,18 @@ impl Inbox {
         if waiting.is_closed {
             drop(waiting);
             drop(body);
-            return Ok(false);
+            return Err(PutFault::Closed);
         }
         let put = waiting.bodies.push_back(body);
         drop(waiting);
         self.filled.notify_one();
-        put?;
-        Ok(true)
+        match put {
+            Ok(()) => Ok(()),
+            Err(_) => Err(PutFault::OutOfMemory),
+        }
     }
 
-    /// No more bodies come.
+    /// Says why no more bodies come.
     pub fn finish<R: Wait>(&self, rt: &R, end: StreamEnd) {
         let mut waiting = self.waiting.lock(rt);
         waiting.end = Some(end);
@@ -77,7 +88,7 @@ impl Inbox {
         self.filled.notify_one();
     }
 
-    /// Nobody takes any more.
+    /// Says that nobody takes bodies any more.
     pub fn close<R: Wait>(&self, rt: &R) {
         let mut waiting = self.waiting.lock(rt);
         waiting.is_closed = true;
@@ -85,7 +96,7 @@ impl Inbox {
         self.emptied.notify_one();
     }
 
-    // The body that came first, or why no more come; waits for either.
+    // Takes the body that came first, or says why no more come. Waits for either.
     fn next<R: Wait>(&self, rt: &R) -> Incoming {
         let mut waiting = self
             .filled
@@ -99,7 +110,7 @@ impl Inbox {
         incoming
     }
 
-    // The same without waiting.
+    // The same, without waiting.
     fn next_if_there<R: Wait>(&self, rt: &R) -> Incoming {
         let mut waiting = self.waiting.lock(rt);
         let end = waiting.end;
@@ -110,7 +121,7 @@ impl Inbox {
     }
 }
 
-// Takes the body that came first; where none waits, says why no more come.
+// Takes the body that came first, or says why no more come, if that is known.
 fn take_first(bodies: &mut VecDeque<Bytes>, end: Option<StreamEnd>) -> Incoming
     ensures told { result ≡ first_of bodies.old.items end }
     ensures left { bodies.new.items ≡ drop 1 bodies.old.items }
@@ -124,7 +135,7 @@ fn take_first(bodies: &mut VecDeque<Bytes>, end: Option<StreamEnd>) -> Incoming
     }
 }
 
-/// The side of an inbox that takes.
+/// The end of an inbox from which bodies are taken.
 #[derive(Drop)]
 pub struct Taker<'a, R: Wait> {
     pub rt: &'a R,

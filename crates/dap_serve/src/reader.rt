@@ -1,7 +1,7 @@
 //! The thread that reads.
 ghost use Rattle.std.specs.Prelude.{◌<◌, length, vec_len, IfOk};
 
-use crate::inbox::Inbox;
+use crate::inbox::{Inbox, PutFault};
 use base_streams::ports::Inlet;
 use dap_debugger::incoming::StreamEnd;
 use dap_stream::bodies::Bodies;
@@ -10,7 +10,7 @@ use dap_stream::fault::FeedFault;
 use std::alloc::{AllocError, Global};
 use std::sync::Wait;
 
-// So many bytes are asked for at a time.
+// The most bytes of a read.
 const PIECE_SIZE: usize = 65_536;
 
 fn new_buffer(alloc: Global) -> Result<Vec<u8>, AllocError>
@@ -19,19 +19,19 @@ fn new_buffer(alloc: Global) -> Result<Vec<u8>, AllocError>
     vec![in alloc; 0; PIECE_SIZE]
 }
 
-// Puts bodies into the inbox; where that can't be, why no more come.
+// Puts bodies into the inbox. An error says why no more come.
 fn put_all<R: Wait>(rt: &R, inbox: &Inbox, bodies: Bodies) -> Result<(), StreamEnd> {
     for body in bodies.into_vec() {
         match inbox.put(rt, body) {
-            Ok(true) => {}
-            Ok(false) => return Err(StreamEnd::Ended),
-            Err(_) => return Err(StreamEnd::OutOfMemory),
+            Ok(()) => {}
+            Err(PutFault::Closed) => return Err(StreamEnd::Ended),
+            Err(PutFault::OutOfMemory) => return Err(StreamEnd::OutOfMemory),
         }
     }
     Ok(())
 }
 
-// Puts the bodies that a piece completes.
+// Puts the bodies that a piece of the stream completes into the inbox.
 fn take_piece<R: Wait>(
     rt: &R,
     alloc: Global,
@@ -49,7 +49,7 @@ fn take_piece<R: Wait>(
     }
 }
 
-// Reads up to an end.
+// Reads to the end of the stream, and says why no more bodies come.
 fn read_through<R: Wait, I: Inlet>(
     rt: &R,
     alloc: Global,
@@ -75,8 +75,8 @@ fn read_through<R: Wait, I: Inlet>(
     StreamEnd::ReadFailed
 }
 
-/// Reads an editor's stream to its end, puts the bodies of its messages into the inbox, and says why no more
-/// come.
+/// Reads an editor's stream to its end, and puts the bodies of its messages and why no more come into the
+/// inbox.
 pub fn read_all<R: Wait, I: Inlet>(rt: &R, alloc: Global, inbox: &Inbox, inlet: &mut I) {
     let end = match new_buffer(alloc) {
         Ok(mut buffer) => read_through(rt, alloc, inbox, inlet, &mut buffer),

@@ -16,7 +16,7 @@ use std::thread::Threads;
 #[derive(Clone, Copy, PartialEq, Eq)]
 pub enum ServerEnd {
     Conversation(ConversationEnd),
-    /// No thread could be started.
+    /// The thread that reads couldn't be started.
     NoThread,
 }
 
@@ -46,8 +46,8 @@ fn start_reader<R: Host, I: Inlet + Send + Drop + 'static>(
     }
 }
 
-/// Serves one editor, up to the end of its stream or a disconnect. The thread that reads isn't joined, since
-/// it may wait for bytes: the program is to end.
+/// Serves one editor, until its stream ends or it disconnects. The thread that reads isn't joined, since it
+/// may wait for bytes: the program should end then.
 pub fn serve<R: Host, I: Inlet + Send + Drop + 'static, W: Write + Drop>(
     rt: &R,
     alloc: Global,

@@ -1,11 +1,11 @@
-//! The way to the editor.
+//! What takes the bytes for the editor.
 ghost use Rattle.std.specs.Prelude.{None};
 
 use base_streams::ports::{IoFault, Outlet};
 use base_streams::std_io::write_some;
 use std::io::Write;
 
-/// A writer of std that keeps nothing back: what it takes is sent at once.
+/// A writer of std that is flushed after each write, so that the editor gets the bytes at once.
 #[derive(Drop)]
 pub struct PromptOutlet<W: Write + Drop> {
     writer: W,

@@ -29,7 +29,7 @@ use Rattle.dap_program.specs.Breakpoints.{board_armed_at}
 use Rattle.dap_program.specs.Loading.{attached_where, board_to_load_on, start_of, with_start, loaded_by}
 use Rattle.dap_program.specs.Loading.{load_result}
 use Rattle.dap_program.specs.Memory.{poke_of, with_bytes_at}
-use Rattle.dap_session.specs.declared.settings.Program.{Program}
+use Rattle.dap_launch.specs.declared.program.Program.{Program}
 use Rattle.dap_session.specs.Breakpoints.{armed_where, labels_armed}
 use Rattle.dap_points.specs.Points.{PointsState}
 

@@ -40,13 +40,15 @@ use Rattle.lab_slice.specs.Console.{written_to_console}
 use Rattle.dap_program.specs.Slices.{slice_events, console_events, line_events, outcome_events}
 use Rattle.dap_program.specs.Slices.{run_end_events}
 use Rattle.dap_program.proofs.SliceLemmas.{told-append}
-use Rattle.dap_session.specs.declared.file.FileText.{FileText}
-use Rattle.dap_session.specs.declared.settings.Program.{Program}
+use Rattle.dap_launch.specs.declared.file.FileText.{FileText}
+use Rattle.dap_launch.specs.declared.program.Program.{Program}
 use Rattle.dap_session.specs.States.{SessionState, wants_slice}
 use Rattle.dap_session.specs.Evaluations.{value_told}
 use Rattle.dap_session.specs.Memory.{writing}
-use Rattle.dap_session.specs.Launches.{text_in, program_of, program_lines, program_labels, started_follow}
-use Rattle.dap_session.specs.Launches.{by_text, loading, loading_as, launching_over, restarting_of}
+use Rattle.dap_launch.specs.Files.{text_in}
+use Rattle.dap_launch.specs.Programs.{program_of, program_lines, program_labels}
+use Rattle.dap_session.specs.Launches.{started_follow, by_text, loading, loading_as, launching_over}
+use Rattle.dap_session.specs.Launches.{restarting_of}
 use Rattle.dap_session.specs.Requests.{objection, asking, asking_unless, replying, turn}
 use Rattle.dap_session.specs.Slices.{Input, request, slice, caller_of, slicing, slice_told, step, play_all}
 use Rattle.dap_session.specs.Laws.{caller_in, callers_answered, request_in, callers_asking, stdout_in}

@@ -1,4 +1,4 @@
-pub mod WordLemmas
+pub mod PromptLemmas
 pub mod LawLemmas
 pub mod SessionLemmas
 pub mod BoardLemmas
@@ -6,3 +6,4 @@ pub mod RunLemmas
 pub mod TurnLemmas
 pub mod StartLemmas
 pub mod StopLemmas
+pub mod StandsLemmas

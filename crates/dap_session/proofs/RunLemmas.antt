@@ -11,9 +11,9 @@ use Rattle.dap_editor.specs.declared.message.Message.{Message}
 use Rattle.dap_program.specs.declared.messages.Follow.TheVariants as follow
 use Rattle.dap_program.specs.Messages.{as_messages, events_of}
 use Rattle.dap_program.proofs.SliceLemmas.{told-append}
-use Rattle.dap_session.specs.declared.settings.Phase.{Phase}
-use Rattle.dap_session.specs.declared.settings.Phase.TheVariants as phase
-use Rattle.dap_session.specs.declared.settings.Program.{Program}
+use Rattle.dap_launch.specs.declared.program.Phase.{Phase}
+use Rattle.dap_launch.specs.declared.program.Phase.TheVariants as phase
+use Rattle.dap_launch.specs.declared.program.Program.{Program}
 use Rattle.dap_session.specs.States.{SessionState, with_board, in_phase, is_over, is_live}
 use Rattle.dap_session.specs.Laws.{Shown, shown_after, shown_for, ends_in, ends_told, ends_between, has_run}
 use Rattle.dap_session.specs.Laws.{is_begun, has_begun}

@@ -12,15 +12,15 @@ use Rattle.dap_editor.specs.declared.request.Shift.{Shift}
 use Rattle.dap_program.specs.declared.messages.Caller.{Caller}
 use Rattle.dap_program.specs.Memory.{with_bytes_at}
 use Rattle.dap_program.specs.Refusals.{board_refusal}
-use Rattle.dap_session.specs.declared.settings.Phase.{Phase}
-use Rattle.dap_session.specs.declared.settings.Phase.TheVariants.{Loaded}
-use Rattle.dap_session.specs.declared.settings.Program.{Program}
+use Rattle.dap_launch.specs.declared.program.Phase.{Phase}
+use Rattle.dap_launch.specs.declared.program.Phase.TheVariants.{Loaded}
+use Rattle.dap_launch.specs.declared.program.Program.{Program}
 use Rattle.dap_session.specs.States.{SessionState, with_board}
 use Rattle.dap_session.specs.Turns.{Replied, turn_of, refusing}
 use Rattle.dap_session.specs.Memory.{is_stopped, address_at, writing_from, writing}
 use Rattle.dap_session.specs.Launches.{beginning, beginning_in, beginning_where, begin_if_configured}
 use Rattle.dap_session.specs.Slices.{Told, told_in}
-use Rattle.dap_session.specs.Stands.{SessionFields, StandsFor, Stands, Tells, Takes, TakesFor, IsLeft}
+use Rattle.dap_session.specs.Stands.{SessionFields, StandsFor, Tells, TellsAs, TellsFor, IsLeft}
 use Rattle.dap_session.specs.Stands.{WritesFirst}
 
 -- ---- want of memory
@@ -36,8 +36,8 @@ write_command address offset bytes = asked.Editor (editor.WriteMemory address of
 pub refused_write : (address : ℕ) (offset : Shift) (bytes text : Bytes) (c : Caller) (old new : SessionFields)
     (r : Result (List Message) AllocError)
     → ((xs : Bytes) (s : SessionState) → StandsFor old s → writing address offset xs s ≡ refusing text s)
-    → Takes (λ s. told_in c (turn_of (refusing text s))) old r new
-    → TakesFor (write_command address offset bytes)
+    → TellsAs (λ s. told_in c (turn_of (refusing text s))) old r new
+    → TellsFor (write_command address offset bytes)
     (λ s. told_in c (turn_of (writing address offset bytes s))) old r
     new
 refused_write address offset bytes text c old new r same takes = (
@@ -85,7 +85,7 @@ pub done_write : (address start : ℕ) (offset : Shift) (bytes : Bytes) (c : Cal
     → ((s : SessionState) → StandsFor old s → IfOk r (λ messages.
     Tells (told_in c (turn_of (writing_from (Some start) bytes s))) messages new))
     → ((s : SessionState) → StandsFor old s → OnErr r (WritesFirst start (take (65536 - start) bytes) s new))
-    → TakesFor (write_command address offset bytes)
+    → TellsFor (write_command address offset bytes)
     (λ s. told_in c (turn_of (writing address offset bytes s))) old r
     new
 done_write address start offset bytes c old new (Ok messages) stopped at made err = (
@@ -106,19 +106,6 @@ done_write address start offset bytes c old new (Err lack) stopped at made err =
             (subst B (taken_twice k (65536 - start) bytes) some.1),
       ),
 )
-
--- some state is stood for after a turn
-stands_left : (a : Asked) (old new : SessionFields) → IsLeft a old new → Stands old → Stands new
-stands_left (asked.Editor (editor.WriteMemory address offset bytes)) old new left (s, stands) =
-    let some = left s stands in ((writing address offset (take some.0 bytes) s).state, some.1)
-stands_left (asked.Board c) old new left some = subst Stands (sym left) some
-stands_left (asked.Faulty f) old new left some = subst Stands (sym left) some
-stands_left other old new left some = subst Stands (sym left) some
-
-pub stands_on : (a : Asked) (f : SessionState → Told) (old new : SessionFields)
-    (r : Result (List Message) AllocError) → TakesFor a f old r new → Stands old → Stands new
-stands_on a f old new (Ok messages) takes (s, stands) = ((f s).state, (takes.0 s stands).1)
-stands_on a f old new (Err lack) takes some = stands_left a old new takes.1 some
 
 abbrev no_bytes : Bytes
 no_bytes = []
@@ -149,9 +136,9 @@ left_same (asked.Board c) old new same = same
 left_same (asked.Faulty f) old new same = same
 left_same other old new same = same
 
-pub takes_for : (a : Asked) (f : SessionState → Told) (old new : SessionFields)
-    (r : Result (List Message) AllocError) → Takes f old r new → TakesFor a f old r new
-takes_for a f old new r takes = (takes.0, on_err r (left_same a old new) takes.1)
+pub tells_for : (a : Asked) (f : SessionState → Told) (old new : SessionFields)
+    (r : Result (List Message) AllocError) → TellsAs f old r new → TellsFor a f old r new
+tells_for a f old new r takes = (takes.0, on_err r (left_same a old new) takes.1)
 
 -- ---- the beginning of a program
 

@@ -25,16 +25,17 @@ use Rattle.dap_program.specs.Failures.{load_event}
 use Rattle.dap_program.specs.Loading.{load_result}
 use Rattle.dap_program.specs.Messages.{as_messages, events_of}
 use Rattle.dap_program.specs.Openings.{changed_events, first_events}
-use Rattle.dap_session.specs.declared.file.FileText.{FileText}
-use Rattle.dap_session.specs.declared.settings.Phase.{Phase}
-use Rattle.dap_session.specs.declared.settings.Phase.TheVariants as phase
-use Rattle.dap_session.specs.declared.settings.Program.{Program}
+use Rattle.dap_launch.specs.declared.file.FileText.{FileText}
+use Rattle.dap_launch.specs.declared.program.Phase.{Phase}
+use Rattle.dap_launch.specs.declared.program.Phase.TheVariants as phase
+use Rattle.dap_launch.specs.declared.program.Program.{Program}
 use Rattle.dap_session.specs.States.{SessionState, with_board, with_program, in_phase, is_over, is_live}
 use Rattle.dap_session.specs.Turns.{Turn}
-use Rattle.dap_session.specs.Launches.{pauses, going_follow, begun_follow, installing, beginning}
-use Rattle.dap_session.specs.Launches.{beginning_in, beginning_where, program_of, program_lines}
-use Rattle.dap_session.specs.Launches.{program_labels, program_board, started_follow, loading_as, text_in}
-use Rattle.dap_session.specs.Launches.{by_text, loading, launching_over, restarting_of}
+use Rattle.dap_launch.specs.Files.{text_in}
+use Rattle.dap_launch.specs.Programs.{pauses, going_follow, begun_follow, program_of, program_lines}
+use Rattle.dap_launch.specs.Programs.{program_labels, program_board}
+use Rattle.dap_session.specs.Launches.{installing, beginning, beginning_in, beginning_where, started_follow}
+use Rattle.dap_session.specs.Launches.{loading_as, by_text, loading, launching_over, restarting_of}
 use Rattle.dap_session.specs.Requests.{set_configured}
 use Rattle.dap_session.specs.Laws.{Shown, unstopped, shown_after, shown_for, ends_told, has_run}
 use Rattle.dap_session.proofs.BoardLemmas.{kept_armed, run_started, begun_run, begun_attached, IsLoaded}

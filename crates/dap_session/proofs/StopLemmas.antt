@@ -32,7 +32,7 @@ use Rattle.dap_editor.specs.declared.request.EditorCommand.{EditorCommand}
 use Rattle.dap_editor.specs.declared.request.EditorCommand.TheVariants as editor
 use Rattle.dap_program.specs.Messages.{as_messages}
 use Rattle.dap_program.specs.Slices.{console_events, line_events, outcome_events, run_end_events}
-use Rattle.dap_session.specs.declared.file.FileText.{FileText}
+use Rattle.dap_launch.specs.declared.file.FileText.{FileText}
 use Rattle.dap_session.specs.States.{SessionState, session_before_requests, with_board, is_live}
 use Rattle.dap_session.specs.States.{is_running, wants_slice}
 use Rattle.dap_session.specs.Requests.{set_initialized, commanding, editing, objection, asking}

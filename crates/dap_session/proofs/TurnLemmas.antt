@@ -31,9 +31,9 @@ use Rattle.dap_program.specs.Memory.{with_bytes_at}
 use Rattle.dap_program.specs.Messages.{events_of}
 use Rattle.dap_session.specs.States.{SessionState, with_board, is_live, program_over}
 use Rattle.dap_session.specs.Turns.{Replied}
-use Rattle.dap_session.specs.Breakpoints.{is_launched_as, setting_lines, setting_functions}
-use Rattle.dap_session.specs.Evaluations.{behind, byte_spelled, byte_word, word_with, word_done, value_told}
-use Rattle.dap_session.specs.Evaluations.{by_word, evaluating}
+use Rattle.dap_session.specs.Breakpoints.{program_at, setting_lines, setting_functions}
+use Rattle.dap_session.specs.Evaluations.{behind, byte_spelled, byte_command, command_with, command_reply}
+use Rattle.dap_session.specs.Evaluations.{value_told, prompting, evaluating}
 use Rattle.dap_session.specs.Memory.{is_stopped, address_at, writing_from, writing}
 use Rattle.dap_session.specs.Requests.{board_done, resetting, terminating}
 use Rattle.dap_session.specs.Laws.{has_run}
@@ -61,32 +61,32 @@ pub goes_shown : (v : View) (s : SessionState) → IsReached (seen s)
     → GoesBy s (board_done (with_body body_of (given (event.Show v) s.board)) follow.Nothing s)
 goes_shown v s reached = goes_board body_of (given (event.Show v) s.board) s reached (kept_show v s.board)
 
-goes_word_done : (to_body : Answer → Body) (g : Given) (s : SessionState) → IsReached (seen s)
-    → KeepsRun s.board g → GoesBy s (word_done (with_body to_body g) s)
-goes_word_done to_body (Ok (a, b)) s reached kept = still s (with_board b s) reached (seen_board b s kept)
-goes_word_done to_body (Err f) s reached kept = still s s reached refl
+goes_command_reply : (to_body : Answer → Body) (g : Given) (s : SessionState) → IsReached (seen s)
+    → KeepsRun s.board g → GoesBy s (command_reply (with_body to_body g) s)
+goes_command_reply to_body (Ok (a, b)) s reached kept = still s (with_board b s) reached (seen_board b s kept)
+goes_command_reply to_body (Err f) s reached kept = still s s reached refl
 
 goes_switches : (o : Option ℕ) (expression : Text) (s : SessionState) → IsReached (seen s)
-    → GoesBy s (by_word (byte_word (λ value. command.BoardSwitches value) o) expression s)
+    → GoesBy s (prompting (byte_command (λ value. command.BoardSwitches value) o) expression s)
 unfolding command_result
 goes_switches None expression s reached = still s s reached refl
 goes_switches (Some value) expression s reached =
-    goes_word_done (λ _. body.Empty) (given (event.Switches value) s.board) s reached
+    goes_command_reply (λ _. body.Empty) (given (event.Switches value) s.board) s reached
     (record { run = refl; is_attached = refl })
 
 goes_press : (o : Option ℕ) (expression : Text) (s : SessionState) → IsReached (seen s)
-    → GoesBy s (by_word (byte_word (λ vector. command.BoardPress vector) o) expression s)
+    → GoesBy s (prompting (byte_command (λ vector. command.BoardPress vector) o) expression s)
 unfolding command_result
 goes_press None expression s reached = still s s reached refl
 goes_press (Some vector) expression s reached =
-    goes_word_done (λ _. body.Empty) (given (event.Press vector) s.board) s reached
+    goes_command_reply (λ _. body.Empty) (given (event.Press vector) s.board) s reached
     (kept_press vector s.board)
 
 goes_type : (text expression : Text) (s : SessionState) → IsReached (seen s)
-    → GoesBy s (word_done (command_result (command.BoardType text) s.board) s)
+    → GoesBy s (command_reply (command_result (command.BoardType text) s.board) s)
 unfolding command_result
 goes_type text expression s reached =
-    goes_word_done (λ _. body.Empty) (given (event.Typed (latin_bytes text)) s.board) s reached
+    goes_command_reply (λ _. body.Empty) (given (event.Typed (latin_bytes text)) s.board) s reached
     (record { run = refl; is_attached = refl })
 
 goes_value : (r : Result Text EvaluateFault) (s : SessionState) → IsReached (seen s)
@@ -94,17 +94,17 @@ goes_value : (r : Result Text EvaluateFault) (s : SessionState) → IsReached (s
 goes_value (Ok text) s reached = still s s reached refl
 goes_value (Err f) s reached = still s s reached refl
 
-goes_word : (switches press line : Option Text) (expression : Text) (s : SessionState) → IsReached (seen s)
-    → GoesBy s (by_word (word_with switches press line) expression s)
-goes_word (Some n) press line expression s reached = goes_switches (byte_spelled n) expression s reached
-goes_word None (Some n) line expression s reached = goes_press (byte_spelled n) expression s reached
-goes_word None None (Some line) expression s reached = goes_type (line ++ codes "\n") expression s reached
-goes_word None None None expression s reached = goes_value (expression_text s.board expression) s reached
+goes_prompt : (switches press line : Option Text) (expression : Text) (s : SessionState) → IsReached (seen s)
+    → GoesBy s (prompting (command_with switches press line) expression s)
+goes_prompt (Some n) press line expression s reached = goes_switches (byte_spelled n) expression s reached
+goes_prompt None (Some n) line expression s reached = goes_press (byte_spelled n) expression s reached
+goes_prompt None None (Some line) expression s reached = goes_type (line ++ codes "\n") expression s reached
+goes_prompt None None None expression s reached = goes_value (expression_text s.board expression) s reached
 
 pub goes_evaluating : (expression : Text) (c : EvaluateContext) (s : SessionState) → IsReached (seen s)
     → GoesBy s (evaluating expression c s)
 goes_evaluating expression context.Repl s reached =
-    goes_word (behind (codes "switches ") expression) (behind (codes "press ") expression)
+    goes_prompt (behind (codes "switches ") expression) (behind (codes "press ") expression)
     (behind (codes "type ") expression) expression s reached
 goes_evaluating expression context.Other s reached = goes_value (expression_text s.board expression) s reached
 
@@ -112,7 +112,7 @@ pub goes_lines : (path : Text) (lines : List ℕ) (s : SessionState) → IsReach
     → GoesBy s (setting_lines path lines s)
 goes_lines path lines s reached =
     goes_either (has_place path s.settings.points.lists) s _ _
-    (still s _ reached (seen_board _ s (kept_where (is_launched_as path s.settings.program) lines _ s.board)))
+    (still s _ reached (seen_board _ s (kept_where (program_at path s.settings.program) lines _ s.board)))
     (still s s reached refl)
 
 pub goes_functions : (names : List Text) (s : SessionState) → IsReached (seen s)

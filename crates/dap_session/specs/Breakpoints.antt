@@ -8,29 +8,30 @@ use Rattle.dap_points.specs.Points.{PointsState, number_of, has_place, lines_at,
 use Rattle.dap_points.specs.Placed.{line_points}
 use Rattle.dap_program.specs.declared.messages.Follow.TheVariants.{Nothing}
 use Rattle.dap_program.specs.Breakpoints.{labels_behind, board_armed_at}
-use Rattle.dap_session.specs.declared.settings.Program.{Program}
+use Rattle.dap_launch.specs.declared.program.Program.{Program}
 use Rattle.dap_session.specs.States.{SessionState, with_board, with_points}
 use Rattle.dap_session.specs.Turns.{Replied, refusing, succeeding}
 
 -- ---- lines
 
-abbrev pub is_launched_as : Text → Option Program → Option Program
-is_launched_as path None = None
-is_launched_as path (Some p) = if bytes_eq p.launch.program path then Some p else None
+-- the program, if it was launched with this path
+abbrev pub program_at : Text → Option Program → Option Program
+program_at path None = None
+program_at path (Some p) = if bytes_eq p.launch.program path then Some p else None
 
--- how many lines the text of a program has; none is known of another
+-- the number of lines of a program's text, which isn't known of other sources
 abbrev pub line_count_of : Option Program → ℕ
 line_count_of None = 0
 line_count_of (Some p) = p.line_count
 
--- Only the program that was launched is on the board.
+-- only the program that was launched is on the board
 abbrev pub armed_where : Option Program → List ℕ → List Text → Board → Board
 armed_where None lines names b = b
 armed_where (Some program) lines names b = board_armed_at program.launch.program lines names b
 
 abbrev pub lines_armed : Text → List ℕ → SessionState → SessionState
 lines_armed path lines s =
-    with_board (armed_where (is_launched_as path s.settings.program) lines
+    with_board (armed_where (program_at path s.settings.program) lines
     (take 256 s.settings.points.functions) s.board)
     s
 
@@ -43,7 +44,7 @@ lines_set program path lines s =
 abbrev pub setting_lines : Text → List ℕ → SessionState → Replied
 setting_lines path lines s =
     if has_place path s.settings.points.lists
-    then lines_set (is_launched_as path s.settings.program) path lines s
+    then lines_set (program_at path s.settings.program) path lines s
     else refusing (codes "too many sources have breakpoints") s
 
 -- ---- labels

@@ -1,4 +1,4 @@
--- What is evaluated (Debug Adapter Protocol, `evaluate`).
+-- Evaluations (Debug Adapter Protocol, `evaluate`).
 use Rattle.std.specs.Prelude.{ℕ, ◌++◌, take, drop, length, Option, Some, None, Result, Ok, Err, codes}
 use Rattle.std.specs.Prelude.{if◌then◌else◌}
 use Rattle.std.specs.Str.{trim, bytes_eq}
@@ -16,14 +16,14 @@ use Rattle.dap_inspect.specs.declared.fault.EvaluateFault.{EvaluateFault}
 use Rattle.dap_inspect.specs.Expressions.{expression_text, message_of}
 use Rattle.dap_program.specs.declared.messages.Follow.TheVariants.{Nothing}
 use Rattle.dap_program.specs.Refusals.{board_refusal}
-use Rattle.dap_session.specs.declared.words.Word.{Word}
-use Rattle.dap_session.specs.declared.words.Word.TheVariants as word
+use Rattle.dap_session.specs.declared.prompt.PromptCommand.{PromptCommand}
+use Rattle.dap_session.specs.declared.prompt.PromptCommand.TheVariants as prompt
 use Rattle.dap_session.specs.States.{SessionState, with_board}
 use Rattle.dap_session.specs.Turns.{Replied, refusing, succeeding}
 
--- ---- the words of the debugger's prompt
+-- ---- lines of the debugger's prompt
 
--- what stands behind a text's beginning, if it begins so
+-- what stands behind this beginning of a text, if the text begins so
 abbrev pub behind : Text → Text → Option Text
 behind beginning text =
     if bytes_eq (take (length beginning) text) beginning then Some (drop (length beginning) text) else None
@@ -36,31 +36,32 @@ value_in (Err fault) = None
 abbrev pub byte_spelled : Text → Option ℕ
 byte_spelled text = value_in (value_spelled A (trim text))
 
-abbrev pub byte_word : (ℕ → DapCommand) → Option ℕ → Word
-byte_word to_command (Some value) = word.Command (to_command value)
-byte_word to_command None = word.NoByte
+abbrev pub byte_command : (ℕ → DapCommand) → Option ℕ → PromptCommand
+byte_command to_command (Some value) = prompt.Board (to_command value)
+byte_command to_command None = prompt.MissingByte
 
--- what every command of the prompt keeps to
-abbrev pub WordFits : Word → Type 0
-WordFits (word.Command c) = IsPerformable c
-WordFits word.NoByte = Unit {0}
-WordFits word.Expression = Unit {0}
+-- a command for the board is one that it can perform
+abbrev pub FitsBoard : PromptCommand → Type 0
+FitsBoard (prompt.Board c) = IsPerformable c
+FitsBoard prompt.MissingByte = Unit {0}
+FitsBoard prompt.Evaluate = Unit {0}
 
 -- `switches N`, `press N`, and `type TEXT`, which types a line
-abbrev pub word_with : Option Text → Option Text → Option Text → Word
-word_with (Some n) press line = byte_word (λ value. command.BoardSwitches value) (byte_spelled n)
-word_with None (Some n) line = byte_word (λ vector. command.BoardPress vector) (byte_spelled n)
-word_with None None (Some line) = word.Command (command.BoardType (line ++ codes "\n"))
-word_with None None None = word.Expression
+abbrev pub command_with : Option Text → Option Text → Option Text → PromptCommand
+command_with (Some n) press line = byte_command (λ value. command.BoardSwitches value) (byte_spelled n)
+command_with None (Some n) line = byte_command (λ vector. command.BoardPress vector) (byte_spelled n)
+command_with None None (Some line) = prompt.Board (command.BoardType (line ++ codes "\n"))
+command_with None None None = prompt.Evaluate
 
-abbrev pub word_of : Text → Word
-word_of text =
-    word_with (behind (codes "switches ") text) (behind (codes "press ") text) (behind (codes "type ") text)
+abbrev pub prompt_command : Text → PromptCommand
+prompt_command text =
+    command_with (behind (codes "switches ") text) (behind (codes "press ") text)
+    (behind (codes "type ") text)
 
--- what a command of the prompt makes of a board
-abbrev pub word_done : Performed → SessionState → Replied
-word_done (Ok (body, b)) s = succeeding (Evaluation (codes "ok")) Nothing (with_board b s)
-word_done (Err fault) s = refusing (board_refusal fault) s
+-- the reply to a command of the prompt that the board performed
+abbrev pub command_reply : Performed → SessionState → Replied
+command_reply (Ok (body, b)) s = succeeding (Evaluation (codes "ok")) Nothing (with_board b s)
+command_reply (Err fault) s = refusing (board_refusal fault) s
 
 -- ---- expressions
 
@@ -74,12 +75,12 @@ looking expression s = value_told (expression_text s.board expression) s
 
 -- ---- both
 
-abbrev pub by_word : Word → Text → SessionState → Replied
-by_word (word.Command c) expression s = word_done (command_result c s.board) s
-by_word word.NoByte expression s = refusing (codes "a number from 0 to 255 must follow") s
-by_word word.Expression expression s = looking expression s
+abbrev pub prompting : PromptCommand → Text → SessionState → Replied
+prompting (prompt.Board c) expression s = command_reply (command_result c s.board) s
+prompting prompt.MissingByte expression s = refusing (codes "a number from 0 to 255 must follow") s
+prompting prompt.Evaluate expression s = looking expression s
 
--- Only what is typed at the prompt may be a word.
+-- only what is typed at the prompt may be a command
 abbrev pub evaluating : Text → EvaluateContext → SessionState → Replied
-evaluating expression Repl s = by_word (word_of expression) expression s
+evaluating expression Repl s = prompting (prompt_command expression) expression s
 evaluating expression Other s = looking expression s

@@ -1,53 +1,36 @@
 -- How a program comes to the board (Debug Adapter Protocol, `launch` and `restart`), and begins.
-use Rattle.std.specs.Prelude.{ℕ, List, take, Bool, ◌&&◌, Option, Some, None, Result}
-use Rattle.std.specs.Prelude.{Ok, Err, codes, option_to_list, if◌then◌else◌}
+use Rattle.std.specs.Prelude.{ℕ, Option, Some, None, Result, Ok, Err, codes, option_to_list, if◌then◌else◌}
 use Rattle.base_text.specs.Bytes.{Text}
 use Rattle.lab_core.specs.Board.{Board}
-use Rattle.lab_image.specs.Sources.{line_count}
-use Rattle.dap_editor.specs.declared.message.EditorStop.TheVariants.{Entry}
-use Rattle.dap_editor.specs.declared.message.PlacedBreakpoint.{PlacedBreakpoint}
 use Rattle.dap_editor.specs.declared.request.Launch.{Launch as LaunchOf}
-use Rattle.dap_points.specs.Points.{PointsState, number_of, lines_at}
-use Rattle.dap_points.specs.Placed.{line_points}
+use Rattle.dap_launch.specs.declared.file.FileText.{FileText}
+use Rattle.dap_launch.specs.declared.program.Phase.{Phase}
+use Rattle.dap_launch.specs.declared.program.Phase.TheVariants as phase
+use Rattle.dap_launch.specs.declared.program.Program.{Program}
+use Rattle.dap_launch.specs.Files.{text_in}
+use Rattle.dap_launch.specs.Programs.{program_of, pauses, begun_follow, program_lines, program_labels}
+use Rattle.dap_launch.specs.Programs.{program_board}
 use Rattle.dap_program.specs.declared.load.LoadFault.{LoadFault}
 use Rattle.dap_program.specs.declared.messages.Follow.{Follow}
-use Rattle.dap_program.specs.declared.messages.Follow.TheVariants.{Nothing, Continued, Stopped}
+use Rattle.dap_program.specs.declared.messages.Follow.TheVariants.{Nothing}
 use Rattle.dap_program.specs.declared.opening.Occasion.{Occasion}
 use Rattle.dap_program.specs.declared.opening.Occasion.TheVariants.{Launch, Restart}
 use Rattle.dap_program.specs.Boards.{begin_run}
-use Rattle.dap_program.specs.Breakpoints.{board_armed_at, labels_behind}
 use Rattle.dap_program.specs.Failures.{load_refusal, load_event}
 use Rattle.dap_program.specs.Loading.{load_result}
 use Rattle.dap_program.specs.Openings.{opening_events, accepted_outcome}
-use Rattle.dap_session.specs.declared.file.FileText.{FileText}
-use Rattle.dap_session.specs.declared.file.FileText.TheVariants as file
-use Rattle.dap_session.specs.declared.settings.Phase.{Phase}
-use Rattle.dap_session.specs.declared.settings.Phase.TheVariants as phase
-use Rattle.dap_session.specs.declared.settings.Program.{Program}
 use Rattle.dap_session.specs.States.{SessionState, with_board, with_program, in_phase}
 use Rattle.dap_session.specs.Turns.{Turn, Replied, turn_of, refusing, accepting}
 
--- ---- it begins
+-- ---- how it begins
 
--- it is stopped before its first step
-abbrev pub pauses : LaunchOf → Bool
-pauses l = l.stops_on_entry && l.is_debugged
-
--- A restart may follow a stop, so it tells that the run goes on.
-abbrev pub going_follow : Occasion → Follow
-going_follow Launch = Nothing
-going_follow Restart = Continued
-
-abbrev pub begun_follow : Occasion → LaunchOf → Follow
-begun_follow occasion l = if pauses l then Stopped Entry else going_follow occasion
-
--- by the end of the configuration
+-- when the configuration is done
 abbrev pub beginning : Program → SessionState → Replied
 beginning p s = accepting (begun_follow Launch p.launch)
     (with_board (begin_run p.start (pauses p.launch) s.board)
     (with_program (Some (in_phase phase.Begun p)) s))
 
--- once
+-- it begins once
 abbrev pub beginning_in : Phase → Program → SessionState → Replied
 beginning_in phase.Loaded p s = beginning p s
 beginning_in phase.Begun p s = accepting Nothing s
@@ -57,34 +40,16 @@ abbrev pub beginning_where : Option Program → SessionState → Replied
 beginning_where None s = accepting Nothing s
 beginning_where (Some p) s = beginning_in p.phase p s
 
--- ---- it is loaded
+-- ---- how it is loaded
 
-abbrev pub program_of : LaunchOf → ℕ → Text → Program
-program_of l start text =
-    record { launch = l; start = start; line_count = line_count text; phase = phase.Loaded }
-
--- the breakpoints on its lines, and at labels on the board that it is loaded on
-abbrev pub program_lines : Program → PointsState → List PlacedBreakpoint
-program_lines p kept =
-    let path = p.launch.program in
-    line_points (number_of path kept.lists) p.line_count 0 (lines_at path kept.lists)
-
-abbrev pub program_labels : Program → PointsState → Board → List PlacedBreakpoint
-program_labels p kept b = labels_behind (lines_at p.launch.program kept.lists) (take 256 kept.functions) b
-
--- its board stops at them
-abbrev pub program_board : Program → PointsState → Board → Board
-program_board p kept b =
-    let path = p.launch.program in board_armed_at path (lines_at path kept.lists) (take 256 kept.functions) b
-
--- Where the configuration is done it begins.
+-- it begins if the configuration is done
 abbrev pub begin_if_configured : Program → SessionState → SessionState
 begin_if_configured p s = if s.settings.is_configured then (beginning p s).state else s
 
 abbrev pub started_follow : Occasion → Program → SessionState → Follow
 started_follow occasion p s = if s.settings.is_configured then begun_follow occasion p.launch else Nothing
 
--- it takes the board's place
+-- a loaded program, on its board, takes the place of what was there
 abbrev pub installing : Occasion → Program → Board → SessionState → Turn
 installing occasion p b s =
     let kept = s.settings.points in
@@ -95,8 +60,7 @@ installing occasion p b s =
       state = begin_if_configured p (with_board (program_board p kept b) (with_program (Some p) s));
     }
 
--- ---- or it isn't
-
+-- it can't be loaded
 abbrev pub failing : Text → LoadFault → SessionState → Turn
 failing path f s = record (turn_of (refusing (load_refusal f) s)) {
   events =
@@ -107,21 +71,11 @@ abbrev pub loading_as : Result (Board × ℕ) LoadFault → Occasion → LaunchO
 loading_as (Ok (b, start)) occasion l text s = installing occasion (program_of l start text) b s
 loading_as (Err f) occasion l text s = failing l.program f s
 
--- a program is loaded in place of what is on the board
+-- a program's text is loaded
 abbrev pub loading : Occasion → LaunchOf → Text → SessionState → Turn
 loading occasion l text s = loading_as (load_result l text) occasion l text s
 
--- ---- its text
-
--- what was found at its path, or why that is no text
-abbrev pub text_in : Option FileText → Result Text Text
-text_in None = Err (codes "no file")
-text_in (Some file.Missing) = Err (codes "no file")
-text_in (Some file.Unreadable) = Err (codes "the file can't be read")
-text_in (Some file.NotText) = Err (codes "the file is not UTF-8 text")
-text_in (Some file.TooLong) = Err (codes "the text is too long")
-text_in (Some (file.Text text)) = Ok text
-
+-- unless its file has no text
 abbrev pub by_text : Result Text Text → SessionState → (Text → Turn) → Turn
 by_text (Ok text) s f = f text
 by_text (Err message) s f = turn_of (refusing message s)

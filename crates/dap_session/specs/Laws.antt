@@ -1,5 +1,5 @@
--- What laws say of what goes out.
-use Rattle.std.specs.Prelude.{ℕ, List, [], ◌∷◌, ◌++◌, Bool, true, false, not, ◌&&◌, Option, Some, None}
+-- What the laws say of the messages of a session.
+use Rattle.std.specs.Prelude.{◌≡◌, ℕ, List, [], ◌∷◌, ◌++◌, Bool, true, false, not, ◌&&◌, Option, Some, None}
 use Rattle.std.specs.Prelude.{if◌then◌else◌}
 use Rattle.std.specs.List.{filter_map, flat_map, fold, sum_by}
 use Rattle.base_text.specs.Bytes.{Bytes}
@@ -19,15 +19,15 @@ use Rattle.dap_editor.specs.declared.request.EditorCommand.TheVariants as editor
 use Rattle.dap_program.specs.declared.messages.Caller.{Caller}
 use Rattle.lab_slice.specs.Slices.{slice_end}
 use Rattle.lab_slice.specs.Console.{written_to_console}
-use Rattle.dap_session.specs.declared.settings.Phase.{Phase}
-use Rattle.dap_session.specs.declared.settings.Phase.TheVariants as phase
-use Rattle.dap_session.specs.declared.settings.Program.{Program}
+use Rattle.dap_launch.specs.declared.program.Phase.{Phase}
+use Rattle.dap_launch.specs.declared.program.Phase.TheVariants as phase
+use Rattle.dap_launch.specs.declared.program.Program.{Program}
 use Rattle.dap_session.specs.States.{SessionState, is_live, wants_slice}
 use Rattle.dap_session.specs.Slices.{Input, request, slice, caller_of, step}
 
 -- ---- responses
 
--- whose request a message answers
+-- the request that a message answers
 abbrev pub caller_in : Message → Option Caller
 caller_in (message.Response r) = Some (record { seq = r.request_seq; command = r.command })
 caller_in (message.Event e) = None
@@ -35,7 +35,7 @@ caller_in (message.Event e) = None
 abbrev pub callers_answered : List Message → List Caller
 callers_answered messages = filter_map caller_in messages
 
--- who asks
+-- the request of an input
 abbrev pub request_in : Input → Option Caller
 request_in (request r found) = Some (caller_of r)
 request_in slice = None
@@ -61,30 +61,30 @@ abbrev pub written_by : Input → SessionState → Bytes
 written_by (request r found) s = []
 written_by slice s = if wants_slice s then written_in (slice_end s.board) s.board else []
 
--- in turn
+-- the bytes that the steps of all slices write, in order
 abbrev pub all_written : List Input → SessionState → Bytes
 all_written [] s = []
 all_written (input ∷ inputs) s = written_by input s ++ all_written inputs (step input s).state
 
 -- ---- stops
 
--- what an editor shows: a program that is stopped, or none that is
+-- what an editor shows: a stopped program, or none
 pub data Shown : Type 0 where
   stopped : Shown
   unstopped : Shown
 
--- after one more message
+-- what it shows after one more message
 abbrev pub shown_after : Shown → Message → Shown
 shown_after before (message.Event (event.Stopped reason)) = stopped
 shown_after before (message.Event event.Continued) = unstopped
 shown_after before (message.Event event.Terminated) = unstopped
 shown_after before other = before
 
--- after all these
+-- what it shows after these messages
 abbrev pub shown_by : List Message → Shown
 shown_by messages = fold shown_after unstopped messages
 
--- what it is to show of such a run
+-- what it must show of a run in this state
 abbrev pub shown_for : RunState → Shown
 shown_for NoRun = unstopped
 shown_for Running = unstopped
@@ -92,7 +92,7 @@ shown_for Stopped = stopped
 
 -- ---- ends
 
--- how often messages tell that a program is over
+-- the number of messages that tell the end of a program
 abbrev pub ends_in : Message → ℕ
 ends_in (message.Event event.Terminated) = 1
 ends_in other = 0
@@ -100,7 +100,7 @@ ends_in other = 0
 abbrev pub ends_told : List Message → ℕ
 ends_told messages = sum_by ends_in messages
 
--- how many programs ended: one, where one was live and isn't any more
+-- the number of programs that ended: one if one was live and isn't any more
 abbrev pub ends_between : Option Program → Option Program → ℕ
 ends_between before now = if is_live before && not (is_live now) then 1 else 0
 
@@ -119,7 +119,7 @@ abbrev pub has_begun : Option Program → Bool
 has_begun None = false
 has_begun (Some p) = is_begun p.phase
 
--- ---- what is told unasked
+-- ---- events
 
 abbrev pub event_in : Message → Option EditorEvent
 event_in (message.Response r) = None
@@ -128,7 +128,7 @@ event_in (message.Event e) = Some e
 abbrev pub events_in : List Message → List EditorEvent
 events_in messages = filter_map event_in messages
 
--- a program is to be loaded
+-- a request that loads a program
 abbrev pub asks_to_load : Asked → Bool
 asks_to_load (asked.Editor (editor.Launch l)) = true
 asks_to_load (asked.Editor editor.Restart) = true
@@ -137,3 +137,16 @@ asks_to_load other = false
 abbrev pub loads : Input → Bool
 loads (request r found) = asks_to_load r.asked
 loads slice = false
+
+-- ---- the ends of programs
+
+-- from this state on
+pub record EndsAreTold (s : SessionState) : Type 0 where
+  -- a run is there exactly while a program has begun and isn't over
+  pub run : has_run s.board.run ≡ has_begun s.settings.program
+  -- without a live program only a launch or a restart tells more than its response
+  pub quiet : (input : Input) → is_live s.settings.program ≡ false → loads input ≡ false
+      → events_in (step input s).messages ≡ []
+  -- where a live program ends `terminated` goes out once, and nowhere else
+  pub end : (input : Input) → let after = (step input s).state in
+      ends_told (step input s).messages ≡ ends_between s.settings.program after.settings.program

@@ -23,12 +23,12 @@ use Rattle.dap_session.specs.Turns.{Replied, refusing, succeeding}
 
 -- ---- bytes
 
--- the address so far from another, where there is one
+-- the address at this distance from another, if there is one
 abbrev pub address_at : ℕ → Shift → Option ℕ
 address_at address (Forward n) = if nat_le (address + n) 65535 then Some (address + n) else None
 address_at address (Back n) = if nat_le n address then Some (address - n) else None
 
--- at most so many bytes; what isn't there is unreadable
+-- at most so many bytes; those past the last address are unreadable
 abbrev pub memory_at : Option ℕ → ℕ → ℕ → MachineState → EditorBody
 memory_at None address count m = body.Memory address [] count
 memory_at (Some start) address count m =
@@ -41,14 +41,14 @@ is_stopped NoRun = false
 is_stopped Running = false
 is_stopped Stopped = true
 
--- as many as there are addresses for
+-- as many bytes as there are addresses for
 abbrev pub writing_from : Option ℕ → Bytes → SessionState → Replied
 writing_from None bytes s = refusing (codes "there is no such address") s
 writing_from (Some start) bytes s =
     let all = take (65536 - start) bytes in
     succeeding (body.Written (length all)) Nothing (with_board (with_bytes_at start all s.board) s)
 
--- while a run is stopped
+-- only while a run is stopped
 abbrev pub writing : ℕ → Shift → Bytes → SessionState → Replied
 writing address offset bytes s =
     if is_stopped s.board.run then writing_from (address_at address offset) bytes s
@@ -56,12 +56,12 @@ writing address offset bytes s =
 
 -- ---- code
 
--- the address so many bytes from another. Addresses wrap.
+-- the address at this distance from another; addresses wrap
 abbrev pub wrapped_at : ℕ → Shift → ℕ
 wrapped_at address (Forward n) = wrapped (address + n)
 wrapped_at address (Back n) = wrapped (address + (65536 - n % 65536))
 
--- where the first line of code stands that is so many instructions from an address
+-- the address of the line of code that is so many instructions from an address
 abbrev pub first_line : ℕ → Shift → Board → ℕ
 first_line address (Forward n) b = after_instructions b.machine address n
 first_line address (Back n) b = before_instructions b address n

@@ -1,4 +1,4 @@
--- What each request is answered with, and what it makes of a session (Debug Adapter Protocol, "Requests").
+-- What each request is answered by, and the session after it (Debug Adapter Protocol, "Requests").
 use Rattle.std.specs.Prelude.{ℕ, nat_le, List, [], length, Bool, true, false, not, ◌&&◌, ◌||◌, Option, Some}
 use Rattle.std.specs.Prelude.{None, Ok, Err, option_to_list, option_map, codes, if◌then◌else◌}
 use Rattle.base_text.specs.Bytes.{Text}
@@ -19,8 +19,8 @@ use Rattle.dap_program.specs.declared.messages.Follow.{Follow}
 use Rattle.dap_program.specs.declared.messages.Follow.TheVariants as follow
 use Rattle.dap_program.specs.Boards.{after}
 use Rattle.dap_program.specs.Refusals.{board_refusal, request_refusal}
-use Rattle.dap_session.specs.declared.file.FileText.{FileText}
-use Rattle.dap_session.specs.declared.settings.Program.{Program}
+use Rattle.dap_launch.specs.declared.file.FileText.{FileText}
+use Rattle.dap_launch.specs.declared.program.Program.{Program}
 use Rattle.dap_session.specs.States.{SessionState, with_board, with_waits, is_live, program_over}
 use Rattle.dap_session.specs.Turns.{Turn, Replied, turn_of, refusing, succeeding, accepting}
 use Rattle.dap_session.specs.Breakpoints.{setting_lines, setting_functions}
@@ -30,7 +30,7 @@ use Rattle.dap_session.specs.Launches.{beginning_where, launching, restarting}
 
 -- ---- commands of a board
 
--- what is told of a command once it is done
+-- the event behind the response to a command
 abbrev pub follow_of : DapCommand → Follow
 follow_of command.Continue = follow.Continued
 follow_of (command.Step kind granularity) = follow.Continued
@@ -46,14 +46,14 @@ performing c f s = board_done (command_result c s.board) f s
 
 -- ---- the end of a program
 
--- what is told where it is over by this
+-- the events behind the response to a request that ends it
 abbrev pub end_follow : SessionState → Follow
 end_follow s = if is_live s.settings.program then follow.Ended else follow.Nothing
 
 abbrev pub and_ended : Replied → Replied
 and_ended r = record r { state = program_over r.state }
 
--- A reset of the board takes the program away.
+-- a reset of the board ends the program
 abbrev pub resetting : SessionState → Replied
 resetting s = and_ended (performing command.BoardReset (end_follow s) s)
 
@@ -79,7 +79,7 @@ configuring s = beginning_where s.settings.program (set_configured s)
 abbrev pub disconnecting : SessionState → Replied
 disconnecting s = accepting follow.Nothing (record s { settings = record s.settings { has_ended = true } })
 
--- ---- what only looks
+-- ---- requests that change nothing
 
 abbrev pub reading : ℕ → Shift → ℕ → SessionState → Replied
 reading address offset count s =
@@ -123,16 +123,16 @@ replying (asked.Board c) s = commanding c s
 replying (asked.Editor c) s = editing c s
 replying (asked.Faulty f) s = refusing (request_refusal f) s
 
--- ---- what can't be carried out
+-- ---- objections
 
--- before a session is initialized
+-- a request that may come before `initialize`
 abbrev pub opens : Asked → Bool
 opens (asked.Board command.Initialize) = true
 opens (asked.Board command.Disconnect) = true
 opens (asked.Faulty f) = true
 opens other = false
 
--- no request that was read is out of these bounds
+-- bounds that each request keeps that was read from JSON
 abbrev pub is_few : ℕ → Bool
 is_few count = nat_le 1 count && nat_le count 1024
 
@@ -170,11 +170,11 @@ abbrev pub asking_unless : Option Text → Asked → Option FileText → Session
 asking_unless (Some text) a found s = turn_of (refusing text s)
 asking_unless None a found s = asking a found s
 
--- a run that waited is tried again
+-- a run that waits is tried again
 abbrev pub and_tried : Turn → Turn
 and_tried t = record t { state = with_waits false t.state }
 
--- what a request gives, where this was found at the path that it needs
+-- a request; `found` is what was found at the path that it needs
 unfoldable pub turn : Asked → Option FileText → SessionState → Turn
 turn a found s = and_tried (asking_unless (objection a s) a found s)
 

@@ -1,4 +1,4 @@
--- A slice of the run, and what a whole session tells.
+-- A slice of the run, and the messages of a whole session.
 use Rattle.std.specs.Prelude.{ℕ, List, [], ◌∷◌, ◌++◌, true, Option, if◌then◌else◌}
 use Rattle.lab_core.specs.declared.answer.SliceOutcome.{SliceOutcome}
 use Rattle.lab_core.specs.declared.answer.SliceOutcome.TheVariants as outcome
@@ -9,8 +9,8 @@ use Rattle.dap_program.specs.declared.messages.Caller.{Caller}
 use Rattle.dap_program.specs.Messages.{as_messages, turn_messages}
 use Rattle.lab_slice.specs.Slices.{slice_end}
 use Rattle.dap_program.specs.Slices.{slice_events}
-use Rattle.dap_session.specs.declared.file.FileText.{FileText}
-use Rattle.dap_session.specs.declared.settings.Settings.{Settings}
+use Rattle.dap_launch.specs.declared.file.FileText.{FileText}
+use Rattle.dap_session.specs.declared.settings.SessionSettings.{SessionSettings}
 use Rattle.dap_session.specs.States.{SessionState, over, wants_slice}
 use Rattle.dap_session.specs.Turns.{Turn}
 use Rattle.dap_session.specs.Requests.{turn}
@@ -22,8 +22,8 @@ pub record Told : Type 0 where
   pub messages : List Message
   pub state : SessionState
 
--- a run that waits isn't tried until a request came, and one that has ended takes the program with it
-abbrev pub settings_after : SliceOutcome → Settings → Settings
+-- a run that waits isn't tried again before the next request, and the end of a run ends the program
+abbrev pub settings_after : SliceOutcome → SessionSettings → SessionSettings
 settings_after outcome.More t = t
 settings_after outcome.Waiting t = record t { waits = true }
 settings_after (outcome.Stop reason) t = t
@@ -38,7 +38,7 @@ slicing (k, ending) s = record {
   };
 }
 
--- of a run that goes on
+-- a slice of the run, if one goes on
 unfoldable pub slice_told : SessionState → Told
 slice_told s = if wants_slice s then slicing (slice_end s.board) s else record { messages = []; state = s }
 
@@ -67,7 +67,7 @@ abbrev pub step : Input → SessionState → Told
 step (request r found) s = request_told r found s
 step slice s = slice_told s
 
--- what goes out for these, and the session after them
+-- the messages for these inputs, in order, and the session after them
 abbrev pub play_all : List Input → SessionState → Told
 play_all [] s = record { messages = []; state = s }
 play_all (input ∷ inputs) s =

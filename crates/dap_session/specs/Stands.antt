@@ -8,7 +8,7 @@ use Rattle.dap_editor.specs.declared.message.PlacedBreakpoint.{PlacedBreakpoint}
 use Rattle.dap_editor.specs.declared.request.Asked.{Asked}
 use Rattle.dap_editor.specs.declared.request.Asked.TheVariants as asked
 use Rattle.dap_editor.specs.declared.request.EditorCommand.TheVariants as editor
-use Rattle.dap_session.specs.declared.settings.Settings.{Settings}
+use Rattle.dap_session.specs.declared.settings.SessionSettings.{SessionSettings}
 use Rattle.dap_session.specs.declared.reply.Reply.{Reply}
 use Rattle.dap_session.specs.States.{SessionState, with_board}
 use Rattle.dap_session.specs.Turns.{Replied}
@@ -18,58 +18,57 @@ use Rattle.dap_session.specs.Breakpoints.{program_lines, labels_armed}
 use Rattle.dap_session.specs.Memory.{writing}
 use Rattle.dap_session.specs.Slices.{Told}
 
--- what a contract sees of it
+-- what a contract sees of a session
 pub record SessionFields : Type 0 where
   pub lab : LabState
-  pub settings : Settings
+  pub settings : SessionSettings
 
 pub record StandsFor (v : SessionFields) (s : SessionState) : Type 0 where
   pub board : LabStandsFor v.lab s.board
   pub settings : v.settings ≡ s.settings
 
--- some state is stood for
-abbrev pub Stands : SessionFields → Type 0
-Stands v = (s : SessionState) × StandsFor v s
-
--- a reply is this one, and the session stands for the state behind it
+-- the reply is this one, and the session stands for the state after it
 pub record Replies (r : Replied) (reply : Reply) (new : SessionFields) : Type 0 where
   pub outcome : reply.outcome ≡ r.outcome
   pub follow : reply.follow ≡ r.follow
   pub stands : StandsFor new r.state
 
--- so from whatever state the session stood for; out of memory leaves it as it was
-abbrev pub Answers : (SessionState → Replied) → SessionFields → Result Reply AllocError → SessionFields
+-- The reply is that of `f` for each state that the session stands for. If memory runs out the session stays
+-- as it was.
+abbrev pub RepliesAs : (SessionState → Replied) → SessionFields → Result Reply AllocError → SessionFields
     → Type 0
-Answers f old result new =
+RepliesAs f old result new =
     ((s : SessionState) → StandsFor old s → IfOk result (λ reply. Replies (f s) reply new))
     × OnErr result (new ≡ old)
 
--- these messages go out, and the session stands for the state behind them
+-- these messages go out, and the session stands for the state after them
 abbrev pub Tells : Told → List Message → SessionFields → Type 0
 Tells t messages new = (messages ≡ t.messages) × StandsFor new t.state
 
--- What want of memory leaves: the session as it was; but of bytes that were to be written some may be, from
--- the first on, as if no others had been asked for.
+-- The session after memory ran out: as it was; but of the bytes that a `writeMemory` was to write some may be
+-- written, from the first on, as if it had asked for no others.
 abbrev pub IsLeft : Asked → SessionFields → SessionFields → Type 0
 IsLeft (asked.Editor (editor.WriteMemory address offset bytes)) old new =
     (s : SessionState) → StandsFor old s → (k : ℕ)
     × StandsFor new (writing address offset (take k bytes) s).state
 IsLeft other old new = new ≡ old
 
-abbrev pub TakesFor : Asked → (SessionState → Told) → SessionFields → Result (List Message) AllocError
+-- The messages are those of `f` for each state that the session stands for.
+abbrev pub TellsFor : Asked → (SessionState → Told) → SessionFields → Result (List Message) AllocError
     → SessionFields
     → Type 0
-TakesFor a f old result new =
+TellsFor a f old result new =
     ((s : SessionState) → StandsFor old s → IfOk result (λ messages. Tells (f s) messages new))
     × OnErr result (IsLeft a old new)
 
-abbrev pub Takes : (SessionState → Told) → SessionFields → Result (List Message) AllocError → SessionFields
+-- The same, for requests that leave the session as it was if memory runs out.
+abbrev pub TellsAs : (SessionState → Told) → SessionFields → Result (List Message) AllocError → SessionFields
     → Type 0
-Takes f old result new =
+TellsAs f old result new =
     ((s : SessionState) → StandsFor old s → IfOk result (λ messages. Tells (f s) messages new))
     × OnErr result (new ≡ old)
 
--- these are the breakpoints at labels, and the session's board stops at them
+-- these are the breakpoints at labels, and the board stops at them
 pub record LabelsPlaced (names : List Text) (s : SessionState) (points : List PlacedBreakpoint)
     (new : SessionFields)
     : Type 0 where

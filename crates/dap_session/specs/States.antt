@@ -1,17 +1,17 @@
--- A debugger's session: a board, and what the editor set.
+-- A debugger's session: a board, and what the editor asked for so far.
 use Rattle.std.specs.Prelude.{Bool, true, false, not, ◌&&◌, Option, Some, None, option_map}
 use Rattle.lab_core.specs.declared.run_state.RunState.{RunState}
 use Rattle.lab_core.specs.declared.run_state.RunState.TheVariants.{NoRun, Running, Stopped}
 use Rattle.lab_core.specs.Board.{Board, opening}
 use Rattle.dap_points.specs.Points.{PointsState, no_points}
-use Rattle.dap_session.specs.declared.settings.Phase.{Phase}
-use Rattle.dap_session.specs.declared.settings.Phase.TheVariants as phase
-use Rattle.dap_session.specs.declared.settings.Program.{Program}
-use Rattle.dap_session.specs.declared.settings.Settings.{Settings}
+use Rattle.dap_launch.specs.declared.program.Phase.{Phase}
+use Rattle.dap_launch.specs.declared.program.Phase.TheVariants as phase
+use Rattle.dap_launch.specs.declared.program.Program.{Program}
+use Rattle.dap_session.specs.declared.settings.SessionSettings.{SessionSettings}
 
 pub record SessionState : Type 0 where
   pub board : Board
-  pub settings : Settings
+  pub settings : SessionSettings
 
 -- before the first request
 abbrev pub session_before_requests : SessionState
@@ -55,7 +55,7 @@ is_live None = false
 is_live (Some p) = not (is_over p.phase)
 
 -- the program is over, if one was launched
-abbrev pub over : Settings → Settings
+abbrev pub over : SessionSettings → SessionSettings
 over t = record t { program = option_map (in_phase phase.Over) t.program }
 
 abbrev pub program_over : SessionState → SessionState

@@ -1,4 +1,4 @@
--- What a request gives: its answer, the events behind it, and the session after it.
+-- What a request leads to: its response, the events behind it, and the session after it.
 use Rattle.std.specs.Prelude.{List}
 use Rattle.base_text.specs.Bytes.{Text}
 use Rattle.dap_answers.specs.declared.answer.Body.TheVariants as board
@@ -17,7 +17,7 @@ pub record Turn : Type 0 where
   pub events : List EditorEvent
   pub state : SessionState
 
--- of most requests
+-- for most requests: `follow` says which events come behind the response
 pub record Replied : Type 0 where
   pub outcome : EditorOutcome
   pub follow : Follow
@@ -32,6 +32,6 @@ refusing text s = record { outcome = outcome.Refused text; follow = Nothing; sta
 abbrev pub succeeding : EditorBody → Follow → SessionState → Replied
 succeeding body follow s = record { outcome = outcome.Success body; follow = follow; state = s }
 
--- done, with no more to say
+-- a success with an empty body
 abbrev pub accepting : Follow → SessionState → Replied
 accepting follow s = succeeding (body.Board board.Empty) follow s

@@ -1,18 +1,17 @@
-//! Laws of the definitions.
-ghost use Rattle.std.specs.Prelude.{◌≡◌, [], ◌∷◌, false, List, Option};
+//! Laws of the definitions: what holds of every session.
+ghost use Rattle.std.specs.Prelude.{◌≡◌, ◌∷◌, List, Option};
 ghost use Rattle.base_text.specs.Bytes.{Text};
 ghost use Rattle.dap_editor.specs.declared.request.Asked.TheVariants as asked;
 ghost use Rattle.dap_editor.specs.declared.request.EditorCommand.TheVariants as editor;
 ghost use Rattle.dap_editor.specs.declared.request.EditorRequest.{EditorRequest};
 ghost use Rattle.dap_editor.specs.declared.request.EvaluateContext.TheVariants as context;
 ghost use Rattle.dap_program.specs.Messages.{response, as_messages};
-ghost use Rattle.dap_session.specs.declared.file.FileText.{FileText};
-ghost use Rattle.dap_session.specs.States.{SessionState, session_before_requests, is_live};
+ghost use Rattle.dap_launch.specs.declared.file.FileText.{FileText};
+ghost use Rattle.dap_session.specs.States.{SessionState, session_before_requests};
 ghost use Rattle.dap_session.specs.Requests.{turn};
-ghost use Rattle.dap_session.specs.Slices.{Input, caller_of, request_told, step, play_all};
+ghost use Rattle.dap_session.specs.Slices.{Input, caller_of, request_told, play_all};
 ghost use Rattle.dap_session.specs.Laws.{callers_answered, callers_asking, console_of, all_written};
-ghost use Rattle.dap_session.specs.Laws.{shown_by, shown_for, ends_told, ends_between, has_run, has_begun};
-ghost use Rattle.dap_session.specs.Laws.{events_in, loads};
+ghost use Rattle.dap_session.specs.Laws.{shown_by, shown_for, EndsAreTold};
 
 /// Each request has one response, in the order in which they came, with its number and its command.
 pub fn requests_are_answered()
@@ -27,19 +26,19 @@ pub fn response_is_first()
         ∷ as_messages (turn r.asked found s).events }
 {}
 
-/// What goes out as the program's console is every byte that the run's steps write by OUT 1, in order.
+/// What goes out as standard output is every byte that the run's steps write by OUT 1, in order.
 pub fn console_is_whole()
     ensures { (inputs : List Input) (s : SessionState)
         → console_of (play_all inputs s).messages ≡ all_written inputs s }
 {}
 
-/// What is evaluated for a hover or a watch leaves the board as it was.
+/// An evaluation for a hover or a watch leaves the board as it was.
 pub fn looks_keep_board()
     ensures { (expression : Text) (found : Option FileText) (s : SessionState)
         → (turn (asked.Editor (editor.Evaluate expression context.Other)) found s).state.board ≡ s.board }
 {}
 
-/// What the events say of stops is what the run on the board is, at every moment.
+/// At every moment the events have told whether the run on the board is stopped.
 pub fn stops_are_told()
     ensures { (inputs : List Input)
         → shown_by (play_all inputs session_before_requests).messages
@@ -50,13 +49,5 @@ pub fn stops_are_told()
 /// a launch or a restart tells more than its response. Where a live program ends `terminated` goes out once,
 /// and nowhere else.
 pub fn end_is_told()
-    ensures run { (inputs : List Input) → let s = (play_all inputs session_before_requests).state in
-        has_run s.board.run ≡ has_begun s.settings.program }
-    ensures quiet { (inputs : List Input) (input : Input)
-        → let s = (play_all inputs session_before_requests).state in
-        is_live s.settings.program ≡ false → loads input ≡ false → events_in (step input s).messages ≡ [] }
-    ensures end { (inputs : List Input) (input : Input)
-        → let s = (play_all inputs session_before_requests).state in
-        let after = (step input s).state in
-        ends_told (step input s).messages ≡ ends_between s.settings.program after.settings.program }
+    ensures { (inputs : List Input) → EndsAreTold (play_all inputs session_before_requests).state }
 {}

@@ -1,4 +1,4 @@
-//! Answers to requests.
+//! Replies to requests.
 ghost use Rattle.std.specs.Prelude.{◌≡◌, IfOk};
 
 use dap_answers::answer::Body;
@@ -7,7 +7,7 @@ use dap_program::messages::Follow;
 use dap_program::refusals::refused;
 use std::alloc::{AllocError, Global};
 
-/// The answer to a request, and what is told behind it.
+/// What the response to a request says, and which events come behind it.
 #[derive(Drop)]
 pub struct Reply {
     pub outcome: EditorOutcome,
@@ -34,7 +34,7 @@ pub(crate) fn succeed(body: EditorBody, follow: Follow) -> Reply
     }
 }
 
-/// Done, with no more to say.
+// A success with an empty body.
 pub(crate) fn accept(follow: Follow) -> Reply
     ensures { result ≡ record {
       outcome = EditorOutcome.Success (EditorBody.Board Body.Empty);

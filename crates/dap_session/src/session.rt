@@ -1,39 +1,58 @@
 //! The session.
-ghost use Rattle.std.specs.Prelude.{◌≡◌, IfOk, option_map};
-ghost use Rattle.dap_session.specs.States.{SessionState, session_before_requests, wants_slice};
-ghost use Rattle.dap_session.specs.Requests.{wanted_file};
-ghost use Rattle.dap_session.specs.Slices.{request_told, slice_told};
-ghost use Rattle.dap_session.specs.Stands.{StandsFor, Takes, TakesFor};
+ghost use Rattle.std.specs.Prelude.{◌≡◌, true, IfOk, option_map};
+ghost use Rattle.dap_session.specs.States as states;
+ghost use Rattle.dap_session.specs.States.{SessionState, session_before_requests};
+ghost use Rattle.dap_session.specs.Turns.{turn_of, refusing};
+ghost use Rattle.dap_session.specs.Requests as requests;
+ghost use Rattle.dap_session.specs.Requests.{turn, asking, asking_unless, objection, is_bounded, replying};
+ghost use Rattle.dap_session.specs.Slices.{told_in, request_told};
+ghost use Rattle.dap_session.specs.Stands.{StandsFor, RepliesAs, TellsAs, TellsFor};
 
-use crate::file::FileText;
-use crate::state::State;
+mod breakpoints;
+mod evaluations;
+mod launches;
+mod memory;
+mod requests;
+mod slices;
+
+use crate::reply::{Reply, refuse};
+use crate::settings::SessionSettings;
 use base_text::sequence::Sequence;
 use dap_editor::message::Message;
-use dap_editor::request::EditorRequest;
-use dap_program::messages::Caller;
+use dap_editor::request::{Asked, EditorCommand, EditorRequest};
+use dap_launch::file::FileText;
+use dap_points::points::Points;
+use dap_program::messages::{Caller, Messages};
+use lab_core::lab::Lab;
+use lab_core::run_state::RunState;
 use std::alloc::{AllocError, Global};
 use std::marker::Model;
 
-/// A debugger's session: a board, and what the editor set. It stands for some state.
+/// A debugger's session: a board, and what the editor asked for so far. It stands for some state.
 pub struct Session {
-    state: State,
+    lab: Lab,
+    settings: SessionSettings,
 }
 
 // One function for all places where a session is dropped, here and in the crates above.
 impl Drop for Session {
     fn drop(self) {
-        let Self { state: _ } = self;
+        let Self {
+            lab: _,
+            settings: _,
+        } = self;
     }
 }
 
 impl Model for Session {
-    ghost use Rattle.dap_session.specs.Stands.{SessionFields, Stands};
+    ghost use Rattle.dap_program.specs.Boards.{Stands};
+    ghost use Rattle.dap_session.specs.Stands.{SessionFields};
 
     ghost Value = { SessionFields };
 
-    ghost view = { λ s. s.state };
+    ghost view = { λ s. record { lab = s.lab; settings = s.settings } };
 
-    ghost invariant = { λ s. Stands s.state };
+    ghost invariant = { λ s. Stands s.lab };
 }
 
 impl Session {
@@ -41,20 +60,31 @@ impl Session {
     pub fn new(alloc: Global) -> Result<Session, AllocError>
         ensures { IfOk result (λ session. StandsFor session session_before_requests) }
     {
-        let state = State::new(alloc)?;
-        Ok(Session { state })
+        let points = Points::new(alloc)?;
+        let lab = Lab::new(alloc)?;
+        Ok(Session {
+            lab,
+            settings: SessionSettings {
+                is_initialized: false,
+                is_configured: false,
+                program: None,
+                points,
+                waits: false,
+                has_ended: false,
+            },
+        })
     }
 
-    /// Answers a request, where this was found at the path that it needs (`wanted_file`): its response and
-    /// the events behind it. Out of memory leaves the session as it was; but of the bytes of a `writeMemory`
-    /// some may be written then, from the first on.
+    /// RepliesAs a request: returns its response and the events behind it. `file` is what was found at the
+    /// path that the request needs (`wanted_file`). If memory runs out the session stays as it was; but of
+    /// the bytes of a `writeMemory` some may be written then, from the first on.
     pub fn take(
         &mut self,
         alloc: Global,
         request: EditorRequest,
         file: Option<FileText>,
     ) -> Result<Sequence<Message>, AllocError>
-        ensures { TakesFor request.asked (request_told request file) self.old result self.new }
+        ensures { TellsFor request.asked (request_told request file) self.old result self.new }
     {
         let EditorRequest {
             seq,
@@ -62,39 +92,144 @@ impl Session {
             asked,
         } = request;
         let caller = Caller { seq, command };
-        let result = self.state.take(alloc, caller, &asked, &file);
+        let result = self.take_turn(alloc, caller, &asked, &file);
         drop(asked);
         drop(file);
         result
     }
 
-    /// Makes at most 4,096 steps of a run that goes on, and gives what is told of them.
-    pub fn run(&mut self, alloc: Global) -> Result<Sequence<Message>, AllocError>
-        ensures { Takes slice_told self.old result self.new }
+    // RepliesAs a request, after which a run that waits is tried again.
+    #[tactic(auto, unfolding(crate::specs::Requests::turn))]
+    fn take_turn(
+        &mut self,
+        alloc: Global,
+        caller: Caller,
+        asked: &Asked,
+        file: &Option<FileText>,
+    ) -> Result<Sequence<Message>, AllocError>
+        ensures { TellsFor asked.now (λ s. told_in caller
+            (turn asked.now file.now s)) self.old result self.new }
     {
-        self.state.run(alloc)
+        let messages = self.answer_unless(alloc, caller, asked, file)?;
+        self.settings.waits = false;
+        Ok(messages)
     }
 
-    /// Whether a slice has something to do: a run goes on, and the last slice since the last request didn't
-    /// find that it waits for a button.
-    pub fn wants_slice(&self) -> bool
-        ensures { (s : SessionState) → StandsFor self.now s → result ≡ wants_slice s }
+    // RepliesAs a request, or refuses it if there is an objection.
+    #[tactic(auto, using(crate::proofs::SessionLemmas::tells_for))]
+    fn answer_unless(
+        &mut self,
+        alloc: Global,
+        caller: Caller,
+        asked: &Asked,
+        file: &Option<FileText>,
+    ) -> Result<Sequence<Message>, AllocError>
+        ensures { TellsFor asked.now (λ s. told_in caller
+            (asking_unless (objection asked.now s) asked.now file.now s))
+            self.old result self.new }
     {
-        self.state.wants_slice()
+        match self.objection(asked) {
+            Some(text) => self.refuse(alloc, caller, text),
+            None => self.answer(alloc, caller, asked, file),
+        }
+    }
+
+    // Refuses a request with this text.
+    fn refuse(
+        &mut self,
+        alloc: Global,
+        caller: Caller,
+        text: &str,
+    ) -> Result<Sequence<Message>, AllocError>
+        ensures { TellsAs (λ s. told_in caller (turn_of (refusing text.now s))) self.old result self.new }
+    {
+        let messages = Messages::new(alloc)?;
+        let reply = refuse(alloc, text)?;
+        Ok(messages.turn(caller, reply.outcome, reply.follow))
+    }
+
+    // The reply that refuses a request with this text.
+    fn refuse_with(&self, alloc: Global, text: &str) -> Result<Reply, AllocError>
+        ensures { RepliesAs (refusing text.now) self.now result self.now }
+    {
+        let reply = refuse(alloc, text)?;
+        Ok(reply)
+    }
+
+    // RepliesAs a request to which there is no objection.
+    #[tactic(auto, using(crate::proofs::SessionLemmas::tells_for))]
+    fn answer(
+        &mut self,
+        alloc: Global,
+        caller: Caller,
+        asked: &Asked,
+        file: &Option<FileText>,
+    ) -> Result<Sequence<Message>, AllocError>
+        requires { is_bounded asked.now ≡ true }
+        ensures { TellsFor asked.now (λ s. told_in caller
+            (asking asked.now file.now s)) self.old result self.new }
+    {
+        match asked {
+            Asked::Editor(EditorCommand::Launch(launch)) => self.launch(
+                alloc, caller, launch, file,
+            ),
+            Asked::Editor(EditorCommand::Restart) => self.restart(alloc, caller, file),
+            Asked::Editor(
+                EditorCommand::WriteMemory {
+                    address,
+                    offset,
+                    bytes,
+                },
+            ) => self.write_memory(alloc, caller, *address, *offset, bytes),
+            _ => self.reply_to(alloc, caller, asked),
+        }
+    }
+
+    // Room for the messages is made before anything changes.
+    fn reply_to(
+        &mut self,
+        alloc: Global,
+        caller: Caller,
+        asked: &Asked,
+    ) -> Result<Sequence<Message>, AllocError>
+        requires { is_bounded asked.now ≡ true }
+        ensures { TellsAs (λ s. told_in caller (turn_of (replying asked.now s))) self.old result self.new }
+    {
+        let messages = Messages::new(alloc)?;
+        let Reply { outcome, follow } = self.reply(alloc, asked)?;
+        Ok(messages.turn(caller, outcome, follow))
+    }
+
+    /// Whether `run` has something to do: a run goes on, and no slice since the last request found it waiting
+    /// for a button.
+    pub fn wants_slice(&self) -> bool
+        ensures { (s : SessionState) → StandsFor self.now s → result ≡ states.wants_slice s }
+    {
+        match self.lab.run_state() {
+            RunState::Running => !self.settings.waits,
+            RunState::NoRun | RunState::Stopped => false,
+        }
     }
 
     /// The path whose text a request needs: that of a launch, or for a restart that of the program.
     pub fn wanted_file<'a>(&'a self, request: &'a EditorRequest) -> Option<&'a str>
         ensures { (s : SessionState) → StandsFor self.now s
-            → option_map (λ path. path.now) result ≡ wanted_file request.now.asked s }
+            → option_map (λ path. path.now) result ≡ requests.wanted_file request.now.asked s }
     {
-        self.state.wanted_file(&request.asked)
+        match &request.asked {
+            Asked::Editor(EditorCommand::Launch(launch)) => Some(launch.program.as_str()),
+            Asked::Editor(EditorCommand::Restart) => {
+                let program = self.settings.program.as_ref()?;
+                Some(program.launch.program.as_str())
+            }
+            _ => None,
+        }
     }
 
-    /// Whether a disconnect was answered.
+    /// Whether a `disconnect` was answered.
     pub fn has_ended(&self) -> bool
         ensures { (s : SessionState) → StandsFor self.now s → result ≡ s.settings.has_ended }
     {
-        self.state.has_ended()
+        self.settings.has_ended
     }
 }

@@ -1,4 +1,6 @@
-//! A row of a play: what is asked, ` ->`, and what goes out for it.
+//! The rows of a play. A row begins with what is asked: `slice`, or a request's command and arguments, with
+//! the name of the program that is found behind ` < `. Each message that goes out for it stands in a line
+//! of its own, indented by two blanks; a line that is indented by four goes on in the one before it.
 
 use base_text::sequence::Sequence;
 use base_text::text::Text;
@@ -6,7 +8,7 @@ use dap_editor::json::message_json;
 use dap_editor::message::Message;
 use dap_editor::reading::read_editor_request;
 use dap_editor::request::EditorRequest;
-use dap_session::file::FileText;
+use dap_launch::file::FileText;
 use dap_session::session::Session;
 use serde_json::Value;
 use std::alloc::{AllocError, Global};
@@ -61,7 +63,7 @@ fn program(name: &str) -> Option<&'static str> {
     }
 }
 
-// What is found where a program is looked for: the one of this name.
+// What is found at a program's path: the program of this name.
 fn file(alloc: Global, name: &str) -> Result<FileText, AllocError> {
     match program(name) {
         Some(text) => Ok(FileText::Text(Text::copy_of(alloc, text)?)),
@@ -69,7 +71,7 @@ fn file(alloc: Global, name: &str) -> Result<FileText, AllocError> {
     }
 }
 
-// The request of a command and its arguments, if it has some.
+// The request with this command, and with its arguments if it has some.
 fn request(alloc: Global, seq: usize, asked: &str) -> Result<EditorRequest, Fail> {
     let (command, arguments) = asked.split_once(" ").unwrap_or((asked, "null"));
     let text = format!(in alloc;
@@ -79,7 +81,7 @@ fn request(alloc: Global, seq: usize, asked: &str) -> Result<EditorRequest, Fail
     Ok(read_editor_request(alloc, &value)?)
 }
 
-// Answers a request, where the program of this name is found at the path that it needs, if it needs one.
+// Answers a request. If it needs a path, the program of this name is found there.
 fn answer(
     alloc: Global,
     session: &mut Session,
@@ -93,8 +95,7 @@ fn answer(
     session.take(alloc, request, found)
 }
 
-// What goes out for `slice`, or for a request with this number: its command, its arguments, and behind ` < `
-// the name of the program that is found.
+// What goes out for what is asked. A request has this number.
 fn play(
     alloc: Global,
     session: &mut Session,
@@ -109,7 +110,7 @@ fn play(
     Ok(answer(alloc, session, request, name)?)
 }
 
-// What is told of a message, each with a space before it.
+// The members of a message that are told, each with a blank before it.
 const MEMBERS: [&str; 6] = [
     "event",
     "request_seq",
@@ -136,12 +137,11 @@ fn push_message(out: &mut String, alloc: Global, message: &Message) -> Result<()
     pushed
 }
 
+// The messages, each behind ` ->`.
 fn told_of(alloc: Global, messages: &[Message]) -> Result<String, AllocError> {
     let mut out = String::new(alloc);
     for message in messages {
-        if !out.is_empty() {
-            out.push_str(";")?;
-        }
+        out.push_str(" ->")?;
         push_message(&mut out, alloc, message)?;
     }
     Ok(out)
@@ -154,25 +154,45 @@ fn told(alloc: Global, session: &mut Session, seq: usize, asked: &str) -> Result
     Ok(told?)
 }
 
+// The rows of a play, each in one line, with its messages behind ` -> `.
+fn rows_of(alloc: Global, play: &str) -> Result<String, AllocError> {
+    let mut rows = String::new(alloc);
+    for line in play.lines() {
+        if let Some(rest) = line.strip_prefix("    ") {
+            rows.push_str(rest)?;
+        } else if let Some(message) = line.strip_prefix("  ") {
+            rows.push_str(" -> ")?;
+            rows.push_str(message)?;
+        } else {
+            rows.push_str("\n")?;
+            rows.push_str(line)?;
+        }
+    }
+    Ok(rows)
+}
+
 fn first_other_row(
     alloc: Global,
     session: &mut Session,
     rows: &str,
 ) -> Result<Option<String>, Fail> {
     for (seq, row) in rows.lines().enumerate() {
-        let (asked, wanted) = row.split_once(" ->").unwrap_or((row, ""));
+        let (asked, _) = row.split_once(" ->").unwrap_or((row, ""));
         let told = told(alloc, session, seq, asked)?;
-        if told.as_str() != wanted {
-            return Ok(Some(format!(in alloc; "{asked} ->{}", told.as_str())?));
+        let played = format!(in alloc; "{asked}{}", told.as_str())?;
+        if played.as_str() != row {
+            return Ok(Some(played));
         }
     }
     Ok(None)
 }
 
-/// The first row for which something else goes out, with that; the rows are those of a new session.
-pub fn first_other(alloc: Global, rows: &str) -> Result<Option<String>, Fail> {
+/// Plays a play with a new session. The first row for which something else goes out, with that in place of
+/// what must, or `None`.
+pub fn first_other(alloc: Global, play: &str) -> Result<Option<String>, Fail> {
+    let rows = rows_of(alloc, play)?;
     let mut session = Session::new(alloc)?;
-    let other = first_other_row(alloc, &mut session, rows);
+    let other = first_other_row(alloc, &mut session, rows.trim());
     drop(session);
     other
 }

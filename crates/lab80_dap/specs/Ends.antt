@@ -1,4 +1,4 @@
--- By which status the debugger ends.
+-- The exit status of the debugger.
 use Rattle.cli_io.specs.declared.status.Status.{Status}
 use Rattle.cli_io.specs.declared.status.Status.TheVariants.{Success, Refused, OutOfMemory, Failed}
 use Rattle.dap_debugger.specs.declared.incoming.StreamEnd.{StreamEnd}
@@ -20,7 +20,7 @@ conversation_status (conversation.Stream end) = stream_status end
 conversation_status conversation.OutOfMemory = OutOfMemory
 conversation_status conversation.WriteFailed = Failed
 
--- A thread that can't be started is want of memory.
+-- If the thread that reads can't be started the program counts as out of memory.
 abbrev pub status_of : ServerEnd → Status
 status_of (server.Conversation end) = conversation_status end
 status_of server.NoThread = OutOfMemory

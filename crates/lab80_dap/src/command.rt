@@ -1,4 +1,4 @@
-//! What the words of the command line ask for.
+//! The command line.
 ghost use Rattle.std.specs.Prelude.{◌≡◌};
 
 use cli_io::status::Status;
@@ -6,10 +6,10 @@ use std::alloc::Global;
 use std::rt::Env;
 use std::{env, io};
 
-// What standard error says where the words are none that the program knows.
+// What standard error says if the program doesn't know the words.
 const USAGE: &str = "usage: lab80_dap [--port N]";
 
-/// Over what an editor is served.
+/// What an editor is served over.
 #[derive(Clone, Copy, PartialEq, Eq)]
 pub enum Command {
     /// Standard input and output.
@@ -40,8 +40,8 @@ fn collect(rt: &(impl Env + AllocGlobal)) -> io::Result<Vec<String>> {
     Ok(env::args(rt)?.skip(1).collect(rt.alloc())?)
 }
 
-/// What the words after the program's name ask for, if they are words that it knows. Those that aren't UTF-8
-/// are none.
+/// What the words after the program's name ask for, or `None` if the program doesn't know them, as words that
+/// aren't UTF-8. Fails only if memory runs out.
 pub fn read_command(rt: &(impl Env + AllocGlobal)) -> Result<Option<Command>, Status> {
     match collect(rt) {
         Ok(words) => Ok(command_of(&words)),
@@ -50,7 +50,7 @@ pub fn read_command(rt: &(impl Env + AllocGlobal)) -> Result<Option<Command>, St
     }
 }
 
-/// Tells how the program is called. Where even that can't be written, the status still says it.
+/// Writes the usage to standard error. The status is the same if that can't be written.
 pub fn show_usage(rt: &impl Eprint) -> Status
     ensures { result ≡ Status.Usage }
 {

@@ -8,7 +8,7 @@ use dap_debugger::incoming::StreamEnd;
 use dap_serve::server::ServerEnd;
 use dap_stream::fault::StreamFault;
 
-// Says what is wrong with the stream.
+// Writes to standard error what is wrong with the stream.
 fn tell_fault(rt: &impl Eprint, fault: StreamFault) -> Status
     ensures { result ≡ Status.Refused }
 {
@@ -16,13 +16,13 @@ fn tell_fault(rt: &impl Eprint, fault: StreamFault) -> Status
     Status::Refused
 }
 
-/// The status of an end. Of a stream that can't be read on standard error says why.
+/// The exit status for this end. Standard error says what is wrong with a broken stream.
 pub fn tell_end(rt: &impl Eprint, end: ServerEnd) -> Status
     ensures { result ≡ status_of end }
 {
     let end = match end {
         ServerEnd::Conversation(end) => end,
-        // the system gives no reason, and a thread's stack is the likeliest
+        // the system gives no reason; most likely there is no memory for the thread's stack
         ServerEnd::NoThread => return Status::OutOfMemory,
     };
     match end {

@@ -1,8 +1,8 @@
-// The debugger of editors (Debug Adapter Protocol): `lab80_dap` speaks over standard input and output,
+// The debugger for editors (Debug Adapter Protocol): `lab80_dap` serves over standard input and output,
 // `lab80_dap --port N` over the first connection to this port of 127.0.0.1.
-// What it answers stands in crates of its own, with its contract: dap_session, dap_debugger, dap_serve.
-// This file calls them with the streams and sockets of the system.
-// Standard output carries the protocol and nothing else; with a port, the line `listening`.
+// What it answers is in crates with contracts of their own: dap_session, dap_debugger, dap_serve.
+// This program calls them with the system's streams and sockets.
+// Standard output carries nothing but the protocol, or with a port the line `listening`.
 #![tactic(auto)]
 
 mod command;

@@ -6,7 +6,7 @@ use dap_serve::server::{Host, serve};
 use std::io;
 use std::net::{Ipv4Addr, Net, TcpListener, TcpStream};
 
-// The connection of the first editor, once it was said that the port listens.
+// The connection of the first editor, twice: to read from and to write to.
 fn accept<R: Print + Net<Listener = TcpListener, Stream = TcpStream>>(
     rt: &R,
     port: u16,

@@ -12,7 +12,7 @@ loop-messages-preserved c =
     ≡ c.loop-messages.out.items ++ sent_bytes c.loop-messages.number m)
     c.as_slice.ensures c.in_ok-number.ensures.bytes in
     lists_more c.loop-messages.number c.in_ok-number.number c.args.sent messages c.loop-messages.rest.now
-    c.in-Some.others.now c.args.lists.now c.loop-messages.out.items c.args.out.now.items c.put_messages.new.out.items
-    c.in-Some.ensures.cases.0 (c.in_ok-number.ensures.count
+    c.in-Some.others.now c.args.lists.now c.loop-messages.out.items c.args.out.now.items
+    c.put_messages.new.out.items c.in-Some.ensures.cases.0 (c.in_ok-number.ensures.count
     ∙ ap (λ m. c.loop-messages.number + length m) c.as_slice.ensures) bytes
     c.loop-messages.invariant

@@ -1,0 +1,16 @@
+use Rattle.std.proofs.Common.{◌≡◌, ◌∙◌, ℕ, List, take, ap, subst, IfOk}
+use Rattle.dap_points.specs.Points.{lines_at}
+use Rattle.dap_program.specs.Breakpoints.{labels_behind}
+use Rattle.dap_launch.proofs.program.program_labels.Goals as goal
+
+pub returns : goal.returns
+returns c = λ b stands.
+    let program = c.args.program.now in
+    let points = c.args.points.now in
+    let lines : c.lines_at.result.now ≡ lines_at program.launch.program points.lists =
+    c.lines_at.ensures.lines ∙ ap (λ path. lines_at path points.lists) c.as_str-path.ensures in
+    let P : List ℕ → List (List ℕ) → Type 0 =
+    λ ls names. IfOk c.labels_behind.result (λ found. found ≡ labels_behind ls names b) in
+    subst (λ ls. P ls (take 256 points.functions)) lines
+    (subst (λ names. P c.lines_at.result.now names) c.functions.ensures.labels
+    (c.labels_behind.ensures b stands))

@@ -1,0 +1,53 @@
+-- A launched program (Debug Adapter Protocol, `launch` and `restart`): its breakpoints, and how it begins.
+use Rattle.std.specs.Prelude.{ℕ, List, take, Bool, ◌&&◌, if◌then◌else◌}
+use Rattle.base_text.specs.Bytes.{Text}
+use Rattle.lab_core.specs.Board.{Board}
+use Rattle.lab_image.specs.Sources.{line_count}
+use Rattle.dap_editor.specs.declared.message.EditorStop.TheVariants.{Entry}
+use Rattle.dap_editor.specs.declared.message.PlacedBreakpoint.{PlacedBreakpoint}
+use Rattle.dap_editor.specs.declared.request.Launch.{Launch as LaunchOf}
+use Rattle.dap_points.specs.Points.{PointsState, number_of, lines_at}
+use Rattle.dap_points.specs.Placed.{line_points}
+use Rattle.dap_program.specs.declared.messages.Follow.{Follow}
+use Rattle.dap_program.specs.declared.messages.Follow.TheVariants.{Nothing, Continued, Stopped}
+use Rattle.dap_program.specs.declared.opening.Occasion.{Occasion}
+use Rattle.dap_program.specs.declared.opening.Occasion.TheVariants.{Launch, Restart}
+use Rattle.dap_program.specs.Breakpoints.{board_armed_at, labels_behind}
+use Rattle.dap_launch.specs.declared.program.Phase.TheVariants as phase
+use Rattle.dap_launch.specs.declared.program.Program.{Program}
+
+-- a program that was loaded, before it begins
+abbrev pub program_of : LaunchOf → ℕ → Text → Program
+program_of l start text =
+    record { launch = l; start = start; line_count = line_count text; phase = phase.Loaded }
+
+-- ---- how it begins
+
+-- it is stopped before its first step
+abbrev pub pauses : LaunchOf → Bool
+pauses l = l.stops_on_entry && l.is_debugged
+
+-- A restart may follow a stop, so it tells that the run goes on.
+abbrev pub going_follow : Occasion → Follow
+going_follow Launch = Nothing
+going_follow Restart = Continued
+
+abbrev pub begun_follow : Occasion → LaunchOf → Follow
+begun_follow occasion l = if pauses l then Stopped Entry else going_follow occasion
+
+-- ---- its breakpoints
+
+-- on its lines
+abbrev pub program_lines : Program → PointsState → List PlacedBreakpoint
+program_lines p kept =
+    let path = p.launch.program in
+    line_points (number_of path kept.lists) p.line_count 0 (lines_at path kept.lists)
+
+-- at labels, on the board that it is loaded on
+abbrev pub program_labels : Program → PointsState → Board → List PlacedBreakpoint
+program_labels p kept b = labels_behind (lines_at p.launch.program kept.lists) (take 256 kept.functions) b
+
+-- its board, which stops at them
+abbrev pub program_board : Program → PointsState → Board → Board
+program_board p kept b =
+    let path = p.launch.program in board_armed_at path (lines_at path kept.lists) (take 256 kept.functions) b

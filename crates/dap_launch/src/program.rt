@@ -1,0 +1,114 @@
+//! A launched program, and its breakpoints.
+ghost use Rattle.std.specs.Prelude.{◌≡◌, OnOk, IfOk};
+ghost use Rattle.lab_core.specs.Board.{Board};
+ghost use Rattle.lab_core.specs.Labs.{StandsFor};
+ghost use Rattle.dap_launch.specs.Programs.{pauses, program_lines, program_labels, program_board};
+
+use base_text::sequence::Sequence;
+use dap_editor::message::PlacedBreakpoint;
+use dap_editor::request::Launch;
+use dap_points::placed::line_points;
+use dap_points::points::Points;
+use dap_program::breakpoints::{arm, labels_behind};
+use lab_core::lab::Lab;
+use std::alloc::{AllocError, Global};
+
+/// How far a program is.
+#[derive(Clone, Copy)]
+pub enum Phase {
+    /// It hasn't begun.
+    Loaded,
+    Begun,
+    /// The editor was told of its end.
+    Over,
+}
+
+/// A program that was launched.
+#[derive(Drop)]
+pub struct Program {
+    pub launch: Launch,
+    /// The address that END names.
+    pub start: u16,
+    /// The number of lines of its text.
+    pub line_count: usize,
+    pub phase: Phase,
+}
+
+/// A program on a board of its own.
+#[derive(Drop)]
+pub struct LoadedProgram {
+    pub program: Program,
+    pub lab: Lab,
+}
+
+/// Whether a launched program stops before its first instruction.
+pub fn pauses(launch: &Launch) -> bool
+    ensures { result ≡ pauses launch.now }
+{
+    launch.stops_on_entry && launch.is_debugged
+}
+
+/// A copy of a launch.
+pub fn copy_launch(launch: &Launch) -> Result<Launch, AllocError>
+    ensures { IfOk result (λ copy. copy ≡ launch.now) }
+{
+    let program = launch.program.clone()?;
+    Ok(Launch {
+        program,
+        stops_on_entry: launch.stops_on_entry,
+        is_debugged: launch.is_debugged,
+        has_aliases: launch.has_aliases,
+        switches: launch.switches,
+    })
+}
+
+/// The breakpoints on a program's lines.
+pub fn program_lines(
+    alloc: Global,
+    program: &Program,
+    points: &Points,
+) -> Result<Sequence<PlacedBreakpoint>, AllocError>
+    ensures { IfOk result (λ lines. lines ≡ program_lines program.now points.now) }
+{
+    let path = program.launch.program.as_str();
+    line_points(
+        alloc,
+        points.number_of(path),
+        program.line_count,
+        points.lines_at(path),
+    )
+}
+
+/// The breakpoints at labels, on a program's board.
+pub fn program_labels(
+    alloc: Global,
+    program: &Program,
+    points: &Points,
+    lab: &Lab,
+) -> Result<Sequence<PlacedBreakpoint>, AllocError>
+    ensures { (b : Board) → StandsFor lab.now b
+        → IfOk result (λ labels. labels ≡ program_labels program.now points.now b) }
+{
+    let path = program.launch.program.as_str();
+    labels_behind(alloc, lab, points.lines_at(path), points.functions())
+}
+
+/// Makes a program's board stop at the breakpoints that are kept for the program.
+pub fn arm_program(
+    alloc: Global,
+    lab: &mut Lab,
+    program: &Program,
+    points: &Points,
+) -> Result<(), AllocError>
+    ensures { (b : Board) → StandsFor lab.old b
+        → OnOk result (StandsFor lab.new (program_board program.now points.now b)) }
+{
+    let path = &program.launch.program;
+    arm(
+        alloc,
+        lab,
+        path,
+        points.lines_at(path.as_str()),
+        points.functions(),
+    )
+}

@@ -1,0 +1,191 @@
+//! How a program comes to the board, and begins.
+ghost use Rattle.std.specs.Prelude.{◌≡◌, Some, OnErr, IfOk};
+ghost use Rattle.lab_core.specs.Board.{Board};
+ghost use Rattle.lab_core.specs.Labs.{StandsFor as LabStandsFor};
+ghost use Rattle.dap_launch.specs.declared.program.Program.{Program as ProgramOf};
+ghost use Rattle.dap_program.specs.Boards.{Stands};
+ghost use Rattle.dap_session.specs.Launches as launches;
+ghost use Rattle.dap_session.specs.Launches.{beginning_where, started_follow, installing, loading, launching};
+ghost use Rattle.dap_session.specs.Launches.{restarting};
+ghost use Rattle.dap_session.specs.Slices.{told_by, told_in};
+ghost use Rattle.dap_session.specs.States.{SessionState, with_board, with_program};
+ghost use Rattle.dap_session.specs.Stands.{StandsFor, Replies, Tells, TellsAs};
+
+use crate::reply::{Reply, accept};
+use crate::session::Session;
+use base_text::sequence::Sequence;
+use base_text::text::Text;
+use dap_editor::message::Message;
+use dap_editor::request::Launch;
+use dap_launch::file::{FileText, text_in};
+use dap_launch::opening::{Opening, begun_follow, loaded_messages};
+use dap_launch::program::{LoadedProgram, Phase, Program, arm_program, copy_launch, pauses};
+use dap_program::change::begin;
+use dap_program::failure::failure;
+use dap_program::load::{LoadFault, Loaded, load};
+use dap_program::messages::{Caller, Follow};
+use dap_program::opening::Occasion;
+use lab_image::lines::line_count;
+use std::alloc::{AllocError, Global};
+
+impl Session {
+    // Begins the program, if one is loaded that hasn't begun.
+    pub(super) fn begin_where_loaded(&mut self) -> Reply
+        ensures { (s : SessionState) → StandsFor self.old s
+            → Replies (beginning_where s.settings.program s) result self.new }
+    {
+        match &mut self.settings.program {
+            None => accept(Follow::Nothing),
+            Some(program) => match program.phase {
+                Phase::Loaded => {
+                    begin(&mut self.lab, program.start, pauses(&program.launch));
+                    program.phase = Phase::Begun;
+                    accept(begun_follow(Occasion::Launch, &program.launch))
+                }
+                Phase::Begun | Phase::Over => accept(Follow::Nothing),
+            },
+        }
+    }
+
+    pub(super) fn launch(
+        &mut self,
+        alloc: Global,
+        caller: Caller,
+        launch: &Launch,
+        file: &Option<FileText>,
+    ) -> Result<Sequence<Message>, AllocError>
+        ensures { TellsAs (λ s. told_in caller (launching launch.now file.now s)) self.old result self.new }
+    {
+        if self.settings.program.is_some() {
+            return self.refuse(alloc, caller, "launched already");
+        }
+        match text_in(file) {
+            Err(message) => self.refuse(alloc, caller, message),
+            Ok(text) => {
+                let launch = copy_launch(launch)?;
+                let occasion = Occasion::Launch;
+                self.load(alloc, Opening { caller, occasion }, launch, text)
+            }
+        }
+    }
+
+    pub(super) fn restart(
+        &mut self,
+        alloc: Global,
+        caller: Caller,
+        file: &Option<FileText>,
+    ) -> Result<Sequence<Message>, AllocError>
+        ensures { TellsAs (λ s. told_in caller (restarting file.now s)) self.old result self.new }
+    {
+        let Some(program) = &self.settings.program else {
+            return self.refuse(alloc, caller, "nothing is launched");
+        };
+        match text_in(file) {
+            Err(message) => self.refuse(alloc, caller, message),
+            Ok(text) => {
+                let launch = copy_launch(&program.launch)?;
+                let occasion = Occasion::Restart;
+                self.load(alloc, Opening { caller, occasion }, launch, text)
+            }
+        }
+    }
+
+    // Loads a program in place of what is on the board.
+    fn load(
+        &mut self,
+        alloc: Global,
+        opening: Opening,
+        launch: Launch,
+        text: &Text,
+    ) -> Result<Sequence<Message>, AllocError>
+        ensures { TellsAs (λ s. told_in opening.caller (loading opening.occasion launch text.now s))
+            self.old result self.new }
+    {
+        match load(alloc, &launch, text) {
+            Ok(Loaded { lab, start }) => {
+                let program = Program {
+                    launch,
+                    start,
+                    line_count: line_count(text.as_str()),
+                    phase: Phase::Loaded,
+                };
+                self.install(alloc, opening, LoadedProgram { program, lab })
+            }
+            Err(LoadFault::OutOfMemory) => Err(AllocError),
+            Err(fault) => failure(alloc, opening.caller, &launch.program, fault),
+        }
+    }
+
+    fn started_follow(&self, occasion: Occasion, program: &Program) -> Follow
+        ensures { (s : SessionState) → StandsFor self.now s → result ≡ started_follow occasion program.now s }
+    {
+        if self.settings.is_configured {
+            begun_follow(occasion, &program.launch)
+        } else {
+            Follow::Nothing
+        }
+    }
+
+    // What the editor is told when a loaded program takes the place of what was on the board.
+    fn opening_messages(
+        &self,
+        alloc: Global,
+        opening: Opening,
+        loaded: &LoadedProgram,
+    ) -> Result<Sequence<Message>, AllocError>
+        ensures { (s : SessionState) (b : Board) → StandsFor self.now s → LabStandsFor loaded.now.lab b
+            → IfOk result (λ messages. messages
+            ≡ told_by opening.caller (installing opening.occasion loaded.now.program b s)) }
+    {
+        let follow = self.started_follow(opening.occasion, &loaded.program);
+        loaded_messages(alloc, opening, loaded, &self.settings.points, follow)
+    }
+
+    // Puts a loaded program in the place of what was on the board.
+    fn put(&mut self, loaded: LoadedProgram)
+        requires { Stands loaded.lab }
+        ensures { (s : SessionState) (b : Board) → StandsFor self.old s → LabStandsFor loaded.lab b
+            → StandsFor self.new (with_board b (with_program (Some loaded.program) s)) }
+    {
+        let LoadedProgram { program, lab } = loaded;
+        self.lab = lab;
+        self.settings.program = Some(program);
+    }
+
+    // Begins a program that hasn't begun, if the configuration is done.
+    fn start(&mut self)
+        ensures { (s : SessionState) (p : ProgramOf) → StandsFor self.old s → s.settings.program ≡ Some p
+            → p.phase ≡ Phase.Loaded → StandsFor self.new (launches.begin_if_configured p s) }
+    {
+        if self.settings.is_configured {
+            drop(self.begin_where_loaded());
+        }
+    }
+
+    // Puts a loaded program in the place of what was on the board, and begins it if the configuration is
+    // done. All messages are made before.
+    fn install(
+        &mut self,
+        alloc: Global,
+        opening: Opening,
+        mut loaded: LoadedProgram,
+    ) -> Result<Sequence<Message>, AllocError>
+        requires { Stands loaded.lab }
+        ensures installed { (s : SessionState) (b : Board) → StandsFor self.old s → LabStandsFor loaded.lab b
+            → loaded.program.phase ≡ Phase.Loaded
+            → IfOk result (λ messages. Tells
+            (told_in opening.caller (installing opening.occasion loaded.program b s)) messages self.new) }
+        ensures err { OnErr result (self.new ≡ self.old) }
+    {
+        let messages = self.opening_messages(alloc, opening, &loaded)?;
+        arm_program(
+            alloc,
+            &mut loaded.lab,
+            &loaded.program,
+            &self.settings.points,
+        )?;
+        self.put(loaded);
+        self.start();
+        Ok(messages)
+    }
+}

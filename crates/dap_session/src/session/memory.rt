@@ -1,0 +1,206 @@
+//! Memory and code.
+ghost use Rattle.std.specs.Prelude.{◌≡◌, ◌+◌, ◌-◌, ◌≤◌, length, take, true, Some, IfOk, OnOk, OnErr};
+ghost use Rattle.dap_program.specs.Memory.{with_bytes_at};
+ghost use Rattle.dap_session.specs.Memory.{address_at, wrapped_at, first_line, memory_at, is_stopped};
+ghost use Rattle.dap_session.specs.Memory.{writing_from, writing};
+ghost use Rattle.dap_session.specs.Requests as requests;
+ghost use Rattle.dap_session.specs.Requests.{reading, disassembling};
+ghost use Rattle.dap_session.specs.States.{SessionState, with_board};
+ghost use Rattle.dap_session.specs.Turns.{turn_of};
+ghost use Rattle.dap_session.specs.Slices.{told_in};
+ghost use Rattle.dap_session.specs.Stands.{StandsFor, RepliesAs, Tells, TellsFor, WritesFirst};
+
+use crate::reply::{Reply, succeed};
+use crate::session::Session;
+use base_text::sequence::{Bytes, Sequence};
+use dap_answers::answer::Body;
+use dap_editor::message::{EditorBody, EditorOutcome, Message};
+use dap_editor::request::{Asked, EditorCommand, Shift};
+use dap_inspect::before::before_instructions;
+use dap_inspect::listing::code_lines;
+use dap_inspect::memory::read_memory;
+use dap_program::memory::write_bytes;
+use dap_program::messages::{Caller, Follow, Messages};
+use dap_program::refusals::board_refusal;
+use lab_core::fault::EventFault;
+use lab_core::run_state::RunState;
+use std::alloc::{AllocError, Global};
+
+/// The number of addresses.
+const ADDRESSES: usize = 65_536;
+
+// The address at this distance from another, if there is one.
+fn address_at(address: u16, offset: Shift) -> Option<u16>
+    ensures { result ≡ address_at address offset }
+{
+    match offset {
+        Shift::Forward(n) => {
+            let far = u64::from(address) + u64::from(n);
+            if far <= 65535 { Some(far as u16) } else { None }
+        }
+        Shift::Back(n) => {
+            if n <= u32::from(address) {
+                Some((u32::from(address) - n) as u16)
+            } else {
+                None
+            }
+        }
+    }
+}
+
+// The address at this distance from another. Addresses wrap.
+fn wrapped_at(address: u16, offset: Shift) -> u16
+    ensures { result ≡ wrapped_at address offset }
+{
+    let far = match offset {
+        Shift::Forward(n) => u64::from(address) + u64::from(n),
+        Shift::Back(n) => u64::from(address) + (65_536 - u64::from(n % 65_536)),
+    };
+    (far % 65_536) as u16
+}
+
+// The first of these bytes: as many as there are addresses from this one on.
+fn writable(start: u16, bytes: &[u8]) -> &[u8]
+    ensures all { result.now ≡ take (65536 - start) bytes.now }
+    ensures fits { start + length result.now ≤ 65536 }
+{
+    let room = ADDRESSES - usize::from(start);
+    if bytes.len() <= room {
+        return bytes;
+    }
+    let (all, _) = bytes.split_at(room);
+    all
+}
+
+impl Session {
+    // At most `count` bytes from an address on; without a start all are unreadable.
+    fn memory_at(
+        &self,
+        alloc: Global,
+        start: Option<u16>,
+        address: u16,
+        count: u32,
+    ) -> Result<EditorBody, AllocError>
+        ensures { (s : SessionState) → StandsFor self.now s
+            → IfOk result (λ body. body ≡ memory_at start address count s.board.machine) }
+    {
+        match start {
+            None => Ok(EditorBody::Memory {
+                address,
+                bytes: Bytes::new(alloc),
+                unreadable: count,
+            }),
+            Some(start) => {
+                let bytes = read_memory(alloc, &self.lab, start, count)?;
+                let unreadable = (count as usize).saturating_sub(bytes.len()) as u32;
+                Ok(EditorBody::Memory {
+                    address: start,
+                    bytes,
+                    unreadable,
+                })
+            }
+        }
+    }
+
+    pub(super) fn read_memory(
+        &mut self,
+        alloc: Global,
+        address: u16,
+        offset: Shift,
+        count: u32,
+    ) -> Result<Reply, AllocError>
+        ensures { RepliesAs (reading address offset count) self.old result self.new }
+    {
+        let body = self.memory_at(alloc, address_at(address, offset), address, count)?;
+        Ok(succeed(body, Follow::Nothing))
+    }
+
+    // The address of the line of code that is so many instructions from an address.
+    fn first_line(&self, address: u16, offset: Shift) -> u16
+        requires { requests.is_near offset ≡ true }
+        ensures { (s : SessionState) → StandsFor self.now s → result ≡ first_line address offset s.board }
+    {
+        match offset {
+            Shift::Forward(n) => self.lab.after_instructions(address, n as u16),
+            Shift::Back(n) => before_instructions(&self.lab, address, n),
+        }
+    }
+
+    pub(super) fn disassemble(
+        &mut self,
+        alloc: Global,
+        address: u16,
+        offset: Shift,
+        instruction_offset: Shift,
+        count: u16,
+    ) -> Result<Reply, AllocError>
+        requires { requests.is_near instruction_offset ≡ true }
+        ensures { RepliesAs (disassembling address offset instruction_offset count) self.old result self.new }
+    {
+        let start = self.first_line(wrapped_at(address, offset), instruction_offset);
+        let lines = code_lines(alloc, &self.lab, start, count)?;
+        let body = EditorBody::Board(Body::Instructions(lines));
+        Ok(succeed(body, Follow::Nothing))
+    }
+
+    fn is_stopped(&self) -> bool
+        ensures { (s : SessionState) → StandsFor self.now s → result ≡ is_stopped s.board.run }
+    {
+        match self.lab.run_state() {
+            RunState::Stopped => true,
+            RunState::NoRun | RunState::Running => false,
+        }
+    }
+
+    // Writes bytes from an address on.
+    fn write_from(&mut self, alloc: Global, start: u16, bytes: &[u8]) -> Result<(), AllocError>
+        requires { start + length bytes.now ≤ 65536 }
+        ensures ok { (s : SessionState) → StandsFor self.old s
+            → OnOk result (StandsFor self.new (with_board (with_bytes_at start bytes.now s.board) s)) }
+        ensures err { (s : SessionState) → StandsFor self.old s
+            → OnErr result (WritesFirst start bytes.now s self.new) }
+    {
+        write_bytes(alloc, &mut self.lab, start, bytes)
+    }
+
+    // Writes as many bytes as there are addresses for. Room for the messages is made before.
+    fn write_at(
+        &mut self,
+        alloc: Global,
+        caller: Caller,
+        start: u16,
+        bytes: &Bytes,
+    ) -> Result<Sequence<Message>, AllocError>
+        ensures made { (s : SessionState) → StandsFor self.old s → IfOk result (λ messages.
+            Tells (told_in caller (turn_of (writing_from (Some start) bytes.now s))) messages self.new) }
+        ensures err { (s : SessionState) → StandsFor self.old s
+            → OnErr result (WritesFirst start (take (65536 - start) bytes.now) s self.new) }
+    {
+        let messages = Messages::new(alloc)?;
+        let all = writable(start, bytes.as_slice());
+        self.write_from(alloc, start, all)?;
+        let written = EditorOutcome::Success(EditorBody::Written(all.len() as u32));
+        Ok(messages.turn(caller, written, Follow::Nothing))
+    }
+
+    // Writes bytes of a stopped run's memory, as many as there are addresses for.
+    pub(super) fn write_memory(
+        &mut self,
+        alloc: Global,
+        caller: Caller,
+        address: u16,
+        offset: Shift,
+        bytes: &Bytes,
+    ) -> Result<Sequence<Message>, AllocError>
+        ensures { TellsFor (Asked.Editor (EditorCommand.WriteMemory address offset bytes.now))
+            (λ s. told_in caller (turn_of (writing address offset bytes.now s))) self.old result self.new }
+    {
+        if !self.is_stopped() {
+            return self.refuse(alloc, caller, board_refusal(EventFault::NotStopped));
+        }
+        match address_at(address, offset) {
+            None => self.refuse(alloc, caller, "there is no such address"),
+            Some(start) => self.write_at(alloc, caller, start, bytes),
+        }
+    }
+}
