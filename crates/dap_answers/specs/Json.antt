@@ -72,7 +72,7 @@ breakpoint_json b = object_of (
     (codes "line", whole_number b.line) ∷
     (codes "verified", boolean b.is_verified) ∷ [])
 
--- what a frame has, with a source or without one
+-- the members of every frame, with a source or without one
 abbrev pub bare_frame : StackFrame → List (Text × Data)
 bare_frame f =
     (codes "column", whole_number 1) ∷
@@ -185,7 +185,7 @@ body_json (body.DebugState d) = debug_state_json d
 
 -- ---- messages
 
--- what a response has besides its command
+-- the members of every response, without its command
 abbrev pub bare_response : ℕ → ℕ → Bool → List (Text × Data)
 bare_response seq request_seq success =
     (codes "request_seq", whole_number request_seq) ∷
@@ -228,7 +228,7 @@ continued_json = object_of (
     (codes "allThreadsContinued", boolean true) ∷
     (codes "threadId", whole_number 1) ∷ [])
 
--- what an event has, with a body or without one
+-- the members of every event, without its body
 abbrev pub bare_event : ℕ → Text → List (Text × Data)
 bare_event seq name =
     (codes "event", string name) ∷

@@ -20,7 +20,7 @@ use Rattle.base_text.specs.Bytes.{Bytes, Text}
 unfoldable pub times_m : ℕ → ℕ
 times_m n = (n * 0x5bd1e995) % (2 ^ 32)
 
--- the number of bytes that stand with the low one first
+-- the number of bytes in little-endian order
 abbrev pub low_first : Bytes → ℕ
 low_first [] = 0
 low_first (byte ∷ bytes) = byte + 256 * low_first bytes

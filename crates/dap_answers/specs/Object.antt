@@ -1,4 +1,4 @@
--- An object that is being written, by its members. It is whole if there was memory for each of them.
+-- A JSON object under construction, as its members. It is whole if there was memory for each of them.
 use Rattle.std.specs.Prelude.{◌≡◌, IsTrue}
 use Rattle.base_text.specs.Bytes.{Text}
 use Rattle.serde_json.specs.Data.{Data, Members, object, put}

@@ -1,4 +1,4 @@
--- The responses to requests that are refused (Debug Adapter Protocol, ErrorResponse).
+-- Responses that refuse a request (Debug Adapter Protocol, ErrorResponse).
 use Rattle.std.specs.Prelude.{ℕ, [], codes}
 use Rattle.base_text.specs.Bytes.{Text}
 use Rattle.dap_talk.specs.declared.fault.DapFault.{DapFault}
@@ -10,7 +10,7 @@ abbrev pub refusal : ℕ → Text → Text → Response
 refusal seq command message =
     record { request_seq = seq; command = command; outcome = Refused message }
 
--- it repeats the request's number and command, where they are known
+-- it repeats the request's number and command if they are known
 abbrev pub response_to : DapFault → Response
 response_to OutOfMemory = refusal 0 [] (codes "OutOfMemory")
 response_to NotRequest = refusal 0 [] (codes "NotRequest")

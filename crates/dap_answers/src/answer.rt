@@ -17,14 +17,14 @@ pub struct DebugState {
 /// The body of a successful response (Debug Adapter Protocol, "Requests").
 #[derive(Clone, Drop)]
 pub enum Body {
-    /// Of commands that answer nothing but that they were done.
+    /// Of commands that return nothing.
     Empty,
     /// Of `initialize`.
     Capabilities,
     Breakpoints(Sequence<Breakpoint>),
     /// Of `threads`: the one thread.
     Threads,
-    /// Some of the frames, and how many there are in all.
+    /// Some of the frames, and the number of all frames.
     StackTrace {
         frames: Sequence<StackFrame>,
         total: u32,
@@ -32,7 +32,7 @@ pub enum Body {
     /// Of `scopes`: the five of each frame.
     Scopes,
     Variables(Sequence<Variable>),
-    /// Of `setVariable`: the value that the variable has then.
+    /// Of `setVariable`: the new value of the variable.
     Value(Text),
     /// Of `continue`.
     Continued,
@@ -44,7 +44,7 @@ pub enum Body {
     DebugState(DebugState),
 }
 
-/// How a request was answered: done, or refused with a message.
+/// The outcome of a request: done, or refused with a message.
 #[derive(Clone, Drop)]
 pub enum Outcome {
     Success(Body),
@@ -59,7 +59,7 @@ pub struct Response {
     pub outcome: Outcome,
 }
 
-// One function for all places where a response is dropped, here and in the crates above.
+// Written out so that every place that drops a response calls one function.
 impl Drop for Response {
     fn drop(self) {
         let Self {
@@ -93,7 +93,7 @@ impl StopReason {
     }
 }
 
-/// What a frontend is told unasked (Debug Adapter Protocol, "Events").
+/// An event that is sent to a frontend (Debug Adapter Protocol, "Events").
 #[derive(Clone, Copy)]
 pub enum Event {
     Initialized,

@@ -1,4 +1,4 @@
-//! The path under which a frontend knows a cell's text.
+//! The path by which a frontend names a cell's text.
 ghost use Rattle.std.specs.Prelude.{◌≡◌, ◌<◌, length, IfOk};
 ghost use Rattle.dap_answers.specs.Murmur.{times_m, mix_word, low_first, hash_from, final_mix, murmur2};
 ghost use Rattle.dap_answers.specs.Murmur.{cell_path};
@@ -6,9 +6,9 @@ ghost use Rattle.dap_answers.specs.Murmur.{cell_path};
 use base_text::text::Text;
 use std::alloc::{AllocError, Global};
 
-/// What each cell's path begins with, before its number.
+/// The beginning of each cell's path, before its number.
 pub const PREFIX: &str = "/tmp/i8080_lab/";
-/// What it ends with.
+/// The end of each cell's path.
 pub const SUFFIX: &str = ".asm";
 
 const M: u32 = 0x5bd1_e995;

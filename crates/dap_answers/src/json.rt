@@ -15,7 +15,7 @@ use lab_shown::shown::{Breakpoint, CodeLine, SourceBreakpoints, StackFrame, Vari
 use serde_json::Value;
 use std::alloc::{AllocError, Global};
 
-/// What has one JSON value.
+/// A type whose values have a JSON form.
 pub trait ToJson {
     ghost json: { Self → Data };
 
@@ -23,7 +23,7 @@ pub trait ToJson {
         ensures { IfOk result (λ v. view v ≡ json self.now) };
 }
 
-/// The JSON array of items.
+/// The items as a JSON array.
 pub fn array_of<T: ToJson>(alloc: Global, items: &[T]) -> Result<Value, AllocError>
     ensures { IfOk result (λ v. view v ≡ list_of T.json items.now) }
 {
@@ -135,7 +135,7 @@ fn source(alloc: Global, path: &str) -> Result<Value, AllocError>
     Object::new(alloc).text("path", path).finish()
 }
 
-// What a frame has, with a source or without one.
+// The members of every frame, with a source or without one.
 fn bare_frame(alloc: Global, frame: &StackFrame) -> Result<Object, AllocError>
     ensures { IfOk result (λ o. HasMembers o (members_from (bare_frame frame.now))) }
 {

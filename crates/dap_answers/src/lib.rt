@@ -1,7 +1,8 @@
 // The answers of a debugger (Debug Adapter Protocol) as typed values, and the JSON of each.
-// `response` and `event` give each typed answer's one JSON value; `refusal_of` is the response that refuses a request.
-// `Object` writes any JSON object member by member, as crates above do theirs.
-// Nothing here fails but for want of memory.
+// `response` and `event` return the JSON value of a typed answer; `refusal_of` is the response that refuses
+// a request.
+// `Object` builds a JSON object member by member, for the crates above too.
+// Nothing here fails, except if memory runs out.
 // `cell_path` is the path under which a frontend knows a cell: the MurmurHash2 of its text.
 #![tactic(auto)]
 

@@ -1,4 +1,4 @@
-//! JSON objects as they are written.
+//! JSON objects, built member by member.
 ghost use Rattle.std.specs.Prelude.{◌≡◌, IfOk};
 ghost use Rattle.serde_json.specs.Data.{boolean, number, unsigned, string, array, no_items, object};
 ghost use Rattle.serde_json.specs.Data.{no_members};
@@ -8,18 +8,18 @@ ghost use Rattle.dap_answers.specs.Object.{members_of, IsWith, IsObject};
 use serde_json::{Map, Value};
 use std::alloc::{AllocError, Global};
 
-/// An object that is written member by member, in any order. Where memory runs out for one, only `finish`
-/// says so: an object is one expression, with one place at which it fails.
+/// Builds a JSON object member by member, in any order. If memory runs out for a member, only `finish` fails,
+/// so that an object is one expression.
 #[derive(Drop)]
 pub struct Object {
     alloc: Global,
     members: Map<String, Value>,
-    // There was memory for each member so far.
+    // False if there was no memory for one of the members.
     is_whole: bool,
 }
 
 impl Object {
-    /// No members.
+    /// An object without members.
     pub fn new(alloc: Global) -> Object
         ensures { members_of result ≡ no_members }
     {
@@ -30,7 +30,7 @@ impl Object {
         }
     }
 
-    /// With a value at a key.
+    /// Adds a value at a key.
     pub fn value(mut self, key: &str, value: Value) -> Object
         ensures { IsWith self key.now (view value) result }
     {
@@ -39,7 +39,7 @@ impl Object {
         self
     }
 
-    /// With a text at a key.
+    /// Adds a text at a key.
     pub fn text(mut self, key: &str, text: &str) -> Object
         ensures { IsWith self key.now (string text.now) result }
     {
@@ -52,21 +52,21 @@ impl Object {
         }
     }
 
-    /// With a whole number at a key.
+    /// Adds a whole number at a key.
     pub fn number(self, key: &str, whole: u64) -> Object
         ensures { IsWith self key.now (number (unsigned whole)) result }
     {
         self.value(key, Value::from(whole))
     }
 
-    /// With `true` or `false` at a key.
+    /// Adds `true` or `false` at a key.
     pub fn flag(self, key: &str, flag: bool) -> Object
         ensures { IsWith self key.now (boolean flag) result }
     {
         self.value(key, Value::from(flag))
     }
 
-    /// With an array of no items at a key.
+    /// Adds an empty array at a key.
     pub fn empty_list(self, key: &str) -> Object
         ensures { IsWith self key.now (array no_items) result }
     {
@@ -74,7 +74,7 @@ impl Object {
         self.value(key, Value::from(items))
     }
 
-    /// With an object of no members at a key.
+    /// Adds an empty object at a key.
     pub fn empty_object(self, key: &str) -> Object
         ensures { IsWith self key.now (object no_members) result }
     {
@@ -82,7 +82,7 @@ impl Object {
         self.value(key, Value::from(members))
     }
 
-    /// The value of the object.
+    /// The object as a JSON value. Fails if memory ran out for a member.
     pub fn finish(self) -> Result<Value, AllocError>
         ensures { IfOk result (λ v. IsObject self (view v)) }
     {

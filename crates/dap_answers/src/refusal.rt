@@ -1,4 +1,4 @@
-//! The responses to requests that are refused.
+//! Responses that refuse a request.
 ghost use Rattle.std.specs.Prelude.{◌≡◌, IfOk};
 ghost use Rattle.dap_answers.specs.Refusals.{response_to};
 
@@ -7,7 +7,7 @@ use base_text::text::Text;
 use dap_talk::fault::DapFault;
 use std::alloc::{AllocError, Global};
 
-/// The response that refuses a request. If the request's number and command aren't known they are 0 and empty.
+/// The response that refuses a request. An unknown number is 0, and an unknown command is empty.
 pub fn refusal_of(alloc: Global, fault: &DapFault<'_>) -> Result<Response, AllocError>
     ensures { IfOk result (λ response. response ≡ response_to fault.now) }
 {

@@ -12,7 +12,7 @@ use crate::object::Object;
 use serde_json::Value;
 use std::alloc::{AllocError, Global};
 
-/// What a response has besides its command, and its body or its message.
+/// The members of every response, without its command and its body or message.
 pub fn bare_response(alloc: Global, seq: u64, request_seq: u32, is_success: bool) -> Object
     ensures { HasMembers result (members_from (bare_response seq request_seq is_success)) }
 {
@@ -55,7 +55,7 @@ pub fn refusal(
         .finish()
 }
 
-/// The JSON of a response with this number (Debug Adapter Protocol, "Base Protocol": Response).
+/// The JSON of a response, with `seq` as its own number (Debug Adapter Protocol, "Base Protocol": Response).
 pub fn response(alloc: Global, seq: u64, response: &Response) -> Result<Value, AllocError>
     ensures { IfOk result (λ v. view v ≡ response_json seq response.now) }
 {
@@ -87,7 +87,7 @@ fn continued_body(alloc: Global) -> Result<Value, AllocError>
         .finish()
 }
 
-/// What an event has, with a body or without one.
+/// The members of every event, without its body.
 pub fn bare_event(alloc: Global, seq: u64, name: &str) -> Object
     ensures { HasMembers result (members_from (bare_event seq name.now)) }
 {
@@ -109,7 +109,7 @@ pub fn event_with_body(
     bare_event(alloc, seq, name).value("body", body).finish()
 }
 
-/// The JSON of an event with this number (Debug Adapter Protocol, "Events").
+/// The JSON of an event, with `seq` as its number (Debug Adapter Protocol, "Events").
 pub fn event(alloc: Global, seq: u64, event: Event) -> Result<Value, AllocError>
     ensures { IfOk result (λ v. view v ≡ event_json seq event) }
 {

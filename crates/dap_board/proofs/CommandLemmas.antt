@@ -10,10 +10,10 @@ use Rattle.dap_talk.specs.declared.command.DapCommand.{DapCommand}
 use Rattle.dap_board.specs.Commands.{command_result, event_with_body, cell_dump, Performs}
 
 -- each arm of a match knows its command
-pub of_known : (command known : DapCommand) (old new : LabState) (reply : Result Body EventFault)
+pub arms : (command known : DapCommand) (old new : LabState) (reply : Result Body EventFault)
     → command ≡ known → Performs (command_result known) old reply new
     → Performs (command_result command) old reply new
-of_known command known old new reply is performs = rw is performs
+arms command known old new reply is performs = rw is performs
 
 -- a cell's text is kept under its path, and the path is answered: done with copies of both
 pub does_dump : (old new : LabState) (path text answer code : List ℕ) (reply : Result Body EventFault)

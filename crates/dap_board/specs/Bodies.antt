@@ -1,4 +1,4 @@
--- The body of a response that carries what a board answers.
+-- The body of a response that carries the answer of a board.
 use Rattle.lab_shown.specs.declared.shown.Shown.{Shown}
 use Rattle.lab_shown.specs.declared.shown.Shown.TheVariants as shown
 use Rattle.lab_core.specs.declared.answer.Answer.{Answer}
@@ -18,7 +18,7 @@ shown_body (shown.Info is_attached is_stopped breakpoints) = body.DebugState (re
   breakpoints = breakpoints;
 })
 
--- empty where the answer says no more than that the event was done
+-- empty if the answer only says that the event was done
 abbrev pub body_of : Answer → Body
 body_of (answer.Breakpoints breakpoints) = body.Breakpoints breakpoints
 body_of (answer.Shown shown) = shown_body shown

@@ -34,11 +34,11 @@ use Rattle.dap_board.specs.Bodies.{body_of}
 abbrev pub Performed : Type 0
 Performed = Result (Body × Board) EventFault
 
--- The lab does what is performed of its board, and where it answers an `Err` it is as it was.
+-- The lab does what the definition says of its board, and on an `Err` it is as it was.
 abbrev pub Performs : (Board → Performed) → LabState → Result Body EventFault → LabState → Type 0
 Performs f old result new = Does f old result new × OnErr result (new ≡ old)
 
--- what an event gives, with a body in place of the answer
+-- the result of an event, with a body in place of the answer
 abbrev pub with_body : (Answer → Body) → Given → Performed
 with_body to_body (Ok (answer, b)) = Ok (to_body answer, b)
 with_body to_body (Err fault) = Err fault
@@ -66,7 +66,7 @@ step_request kind granularity = record {
   granularity = step_granularity granularity;
 }
 
--- Where the first line of a disassembly stands: so many instructions behind so many bytes behind an address.
+-- The address of a disassembly's first line: a number of bytes, and then of instructions, after an address.
 -- Addresses wrap, and the count of instructions does not.
 abbrev pub first_line : MachineState → ℕ → ℕ → ℕ → ℕ
 first_line m address offset instruction_offset =
@@ -81,7 +81,7 @@ abbrev pub board_with : Bool → BoardOption
 board_with true = Aliases
 board_with false = Strict
 
--- a cell's text is kept under the path by which a frontend knows it
+-- a cell's text is stored under the path by which a frontend names it
 abbrev pub cell_dump : Text → Board → Performed
 cell_dump code b = event_with_body (event.Dump (cell_path code) code) (body.SourcePath (cell_path code)) b
 
@@ -115,7 +115,7 @@ command_result command.BoardReset b = event_with_body event.Reset body.Empty b
 command_result (command.BoardAliases aliases) b =
     event_with_body (event.SetBoard (board_with aliases)) body.Empty b
 
--- no list of lines is longer than a board takes
+-- no list of lines is longer than a board allows
 abbrev pub IsPerformable : DapCommand → Type 0
 IsPerformable (command.SetBreakpoints path lines) = length lines ≤ 256
 IsPerformable other = Unit {0}

@@ -27,7 +27,7 @@ refusal_name fault.SourcesFull = codes "SourcesFull"
 refusal_name fault.UnknownName = codes "UnknownName"
 refusal_name fault.BadValue = codes "BadValue"
 
--- what a frontend is told once a command is done (Debug Adapter Protocol, "Events")
+-- the event that follows the response once a command is done (Debug Adapter Protocol, "Events")
 abbrev pub event_after : DapCommand → Option Event
 event_after command.Initialize = Some event.Initialized
 event_after command.Continue = Some event.Continued

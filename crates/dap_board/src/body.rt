@@ -1,4 +1,4 @@
-//! What a board answers, as the body of a response.
+//! The answers of a board as bodies of responses.
 ghost use Rattle.std.specs.Prelude.{◌≡◌};
 ghost use Rattle.dap_board.specs.Bodies.{shown_body, body_of};
 
@@ -27,7 +27,7 @@ fn shown_body(shown: Shown) -> Body
     }
 }
 
-/// The body that carries an answer, empty where it says no more than that the event was done.
+/// The body that carries an answer; an empty one if the answer only says that the event was done.
 pub fn body_of(answer: Answer) -> Body
     ensures { result ≡ body_of answer }
 {

@@ -1,4 +1,4 @@
-//! Events of a board, each with the body of a response.
+//! Events of a board, with the bodies of responses to them.
 ghost use Rattle.lab_core.specs.Events.{Fits};
 ghost use Rattle.dap_board.specs.Commands.{event_result, event_with_body, Performs};
 
@@ -8,7 +8,7 @@ use lab_core::event::Event;
 use lab_core::fault::EventFault;
 use lab_core::lab::Lab;
 
-/// Does an event, and gives the body that carries its answer.
+/// Applies an event, and returns the body that carries its answer.
 pub fn answer_to(lab: &mut Lab, event: &Event) -> Result<Body, EventFault>
     requires { Fits event.now }
     ensures { Performs (event_result event.now) lab.old result lab.new }
@@ -17,7 +17,7 @@ pub fn answer_to(lab: &mut Lab, event: &Event) -> Result<Body, EventFault>
     Ok(body_of(answer))
 }
 
-/// Does an event, and gives this body.
+/// Applies an event, and returns this body.
 pub fn apply_for(lab: &mut Lab, event: &Event, body: Body) -> Result<Body, EventFault>
     requires { Fits event.now }
     ensures { Performs (event_with_body event.now body) lab.old result lab.new }

@@ -1,4 +1,4 @@
-//! The address after any number of instructions, soon found however many they are.
+//! The address after any number of instructions, in bounded time.
 ghost use Rattle.std.specs.Prelude.{◌≡◌, ◌<◌, IfSome};
 ghost use Rattle.lab_views.specs.Code as code;
 ghost use Rattle.lab_core.specs.Board.{Board};
@@ -12,8 +12,8 @@ const STRIDE: u32 = 65_535;
 /// The number of addresses.
 const ADDRESSES: u32 = 65_536;
 
-/// After how many instructions an address comes again, if it does.
-/// There are `ADDRESSES` addresses, so that more need not be tried.
+/// The number of instructions after which an address recurs, if it does.
+/// No more than `ADDRESSES` need to be tried.
 fn cycle_at(lab: &Lab, address: u16) -> Option<u32>
     ensures cycles { (b : Board) → StandsFor lab.now b
         → IfSome result (λ n. code.after_instructions b.machine address n ≡ address) }
@@ -29,7 +29,7 @@ fn cycle_at(lab: &Lab, address: u16) -> Option<u32>
     None
 }
 
-/// The address after so many instructions, of which each is passed.
+/// The address after `count` instructions, found by passing each of them.
 fn in_strides(lab: &Lab, address: u16, count: u32) -> u16
     ensures { (b : Board) → StandsFor lab.now b → result ≡ code.after_instructions b.machine address count }
 {
@@ -42,9 +42,9 @@ fn in_strides(lab: &Lab, address: u16, count: u32) -> u16
     lab.after_instructions(next, left as u16)
 }
 
-/// The address after so many instructions from one on, as lines of code are shown. Addresses wrap.
-/// Each address has one that follows it. After as many as there are addresses they repeat, and whole cycles
-/// are left out.
+/// The address `count` instructions after another one, as the code view lists them. Addresses wrap.
+/// Each address has one successor, so that after 65,536 instructions the addresses repeat; whole cycles are
+/// skipped.
 pub fn after_instructions(lab: &Lab, address: u16, count: u32) -> u16
     ensures { (b : Board) → StandsFor lab.now b → result ≡ code.after_instructions b.machine address count }
 {

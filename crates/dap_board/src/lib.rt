@@ -1,8 +1,8 @@
-// Debug commands, each carried out on a board as one function of command and board says.
-// `perform` gives the body of the response, or why the board refuses the command.
-// A refusal leaves the board as it was, and so does want of memory.
+// Debug commands on a board. One definition says for each command and board what the result is.
+// `perform` returns the body of the response, or why the board refuses the command.
+// The board stays as it was if the command is refused or memory runs out.
 // `refusal_name` is the message of each refusal, and `outcome_of` the outcome that carries it.
-// `event_after` is what a frontend is told once a command is done, besides its response.
+// `event_after` is the event that follows the response once a command is done.
 #![tactic(auto)]
 
 mod body;

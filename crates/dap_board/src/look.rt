@@ -1,4 +1,4 @@
-//! The commands that look at a board and change nothing.
+//! The commands that show something of a board and change nothing.
 ghost use Rattle.std.specs.Prelude.{◌≡◌, ◌+◌};
 ghost use Rattle.i80_exec.specs.State.{wrapped};
 ghost use Rattle.dap_board.specs.Commands.{command_result, event_result, code_lines_result, Performs, IsLook};
@@ -16,7 +16,7 @@ use lab_views::view::View;
 /// The variables of a frontend's inspector are the registers.
 const REGISTERS: u32 = 1;
 
-/// What a view shows.
+/// The body that shows a view.
 fn show(lab: &mut Lab, view: View) -> Result<Body, EventFault>
     ensures { Performs (event_result (Event.Show view)) lab.old result lab.new }
 {
@@ -50,7 +50,7 @@ fn variables(lab: &mut Lab, reference: u32, start: u32, count: u32) -> Result<Bo
     )
 }
 
-/// The address so many bytes behind another. Addresses wrap.
+/// The address `offset` bytes after another one. Addresses wrap.
 fn address_after(address: u16, offset: u32) -> u16
     ensures { result ≡ wrapped (address + offset) }
 {
@@ -76,8 +76,8 @@ fn disassemble(
     )
 }
 
-/// The body of a command that looks at the board, or why the board refuses it.
-#[tactic(auto, using(crate::proofs::CommandLemmas::of_known), unfolding(crate::specs::Commands::command_result,))]
+/// Returns the body of a command that only looks at the board, or why the board refuses it.
+#[tactic(auto, using(crate::proofs::CommandLemmas::arms), unfolding(crate::specs::Commands::command_result))]
 pub fn look(lab: &mut Lab, command: &DapCommand) -> Result<Body, EventFault>
     requires { IsLook command.now }
     ensures { Performs (command_result command.now) lab.old result lab.new }

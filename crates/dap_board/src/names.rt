@@ -31,7 +31,7 @@ pub fn refusal_name(refusal: EventFault) -> &'static str
     }
 }
 
-/// The outcome of a command that is refused so.
+/// The outcome of a command that the board refuses for this reason.
 pub fn outcome_of(alloc: Global, refusal: EventFault) -> Result<Outcome, AllocError>
     ensures { IfOk result (λ outcome. outcome ≡ Outcome.Refused (refusal_name refusal)) }
 {
@@ -39,8 +39,7 @@ pub fn outcome_of(alloc: Global, refusal: EventFault) -> Result<Outcome, AllocEr
     Ok(Outcome::Refused(message))
 }
 
-/// What a frontend is told once a command is done, besides the response (Debug Adapter Protocol,
-/// "Events").
+/// The event that follows the response once a command is done (Debug Adapter Protocol, "Events").
 pub fn event_after(command: &DapCommand) -> Option<Event>
     ensures { result ≡ event_after command.now }
 {

@@ -37,8 +37,8 @@ fn step(lab: &mut Lab, kind: StepKind, granularity: Granularity) -> Result<Body,
     apply_for(lab, &Event::Step(request), Body::Empty)
 }
 
-/// Keeps a cell's text under the path by which a frontend knows it, and answers the path. The copies
-/// are made first, so that want of memory can't come once the text is kept.
+/// Stores a cell's text under the path by which a frontend names it, and returns the path. The copies
+/// are made first, so that memory can't run out once the text is stored.
 fn dump_cell(alloc: Global, lab: &mut Lab, code: &Text) -> Result<Body, EventFault>
     ensures { Performs (cell_dump code.now) lab.old result lab.new }
 {
@@ -48,7 +48,7 @@ fn dump_cell(alloc: Global, lab: &mut Lab, code: &Text) -> Result<Body, EventFau
     apply_for(lab, &Event::Dump { path, text }, Body::SourcePath(answer))
 }
 
-/// Writes a register or a byte of memory. The answer's text is made before it is written.
+/// Writes a register or a byte of memory. The text of the answer is made before the write.
 fn set_variable(
     lab: &mut Lab,
     reference: u32,
@@ -87,9 +87,9 @@ fn type_text(alloc: Global, lab: &mut Lab, text: &Text) -> Result<Body, EventFau
 }
 
 /// Carries out a command on a board (Debug Adapter Protocol, "Requests"; Jupyter messaging, "Debug
-/// request"): the body of its response, or why the board refuses it. Where memory is wanting the board
-/// is as it was too.
-#[tactic(auto, using(crate::proofs::CommandLemmas::of_known), unfolding(crate::specs::Commands::command_result,))]
+/// request"). Returns the body of its response, or why the board refuses it. If memory runs out the
+/// board stays as it was, too.
+#[tactic(auto, using(crate::proofs::CommandLemmas::arms), unfolding(crate::specs::Commands::command_result))]
 pub fn perform(alloc: Global, lab: &mut Lab, command: &DapCommand) -> Result<Body, EventFault>
     requires { IsPerformable command.now }
     ensures { Performs (command_result command.now) lab.old result lab.new }

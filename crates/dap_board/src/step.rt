@@ -1,4 +1,4 @@
-//! The Step that a command asks for.
+//! The board's Step for a step command.
 ghost use Rattle.std.specs.Prelude.{◌≡◌};
 ghost use Rattle.dap_board.specs.Commands.{step_kind, step_granularity, step_request};
 

@@ -1,5 +1,4 @@
--- What stands in the arguments of an editor's request, and what it is as one of the kinds that only editors'
--- commands have.
+-- The arguments of an editor's request, and the kinds of arguments that only editors' commands have.
 use Rattle.std.specs.Prelude.{
   ℕ,
   ℤ,
@@ -37,7 +36,7 @@ use Rattle.dap_editor.specs.declared.request.EvaluateContext.TheVariants.{Repl, 
 
 -- ---- where they stand
 
--- what the argument at a key is as one of a kind
+-- the argument at a key as one of this kind
 abbrev pub required_argument : {T : Type 0} → Text → (Data → Option T) → Data → Option T
 required_argument key kind request = option_and_then (option_and_then kind) (argument_at key request)
 
@@ -45,7 +44,7 @@ abbrev pub kind_or : {T : Type 0} → (Data → Option T) → T → Option Data 
 kind_or kind absent None = Some absent
 kind_or kind absent (Some d) = kind d
 
--- the same, or a value where there is no such argument
+-- the same, or a default if the argument is absent
 abbrev pub optional : {T : Type 0} → Text → (Data → Option T) → T → Data → Option T
 optional key kind absent request = option_and_then (kind_or kind absent) (argument_at key request)
 

@@ -1,4 +1,4 @@
--- The JSON of what an editor is told (Debug Adapter Protocol, "Base Protocol", "Events", "Requests",
+-- The JSON of messages to an editor (Debug Adapter Protocol, "Base Protocol", "Events", "Requests",
 -- "Types"), beside what dap_answers has. The members of an object stand in the order of their keys' bytes.
 use Rattle.std.specs.Prelude.{
   ℕ,
@@ -45,7 +45,7 @@ use Rattle.dap_editor.specs.declared.message.Message.TheVariants.{Response, Even
 
 -- ---- parts of bodies
 
--- the breakpoint's line is absent where it isn't known
+-- the breakpoint's line is absent if it isn't known
 abbrev pub line_members : Option ℕ → List (Text × Data)
 line_members None = []
 line_members (Some line) = (codes "line", whole_number line) ∷ []
@@ -55,7 +55,7 @@ placed_json b = object_of (
     (codes "id", whole_number b.id) ∷ line_members b.line ++
     (codes "verified", boolean b.is_verified) ∷ [])
 
--- the part of a path behind its last `/`, or all of it
+-- the part of a path after its last `/`, or all of it
 abbrev pub last_part : Text → Text
 last_part path = unwrap_or (option_map (λ parts. parts.1) (rsplit_once slash path)) path
 
@@ -68,12 +68,12 @@ source_json path = object_of (
 unfoldable pub base64_text : Bytes → Text
 base64_text bytes = encode_of standard bytes
 
--- the bytes are absent where there are none
+-- the data is absent if there are no bytes
 abbrev pub data_members : Bytes → List (Text × Data)
 data_members [] = []
 data_members (byte ∷ bytes) = (codes "data", string (base64_text (byte ∷ bytes))) ∷ []
 
--- a count of bytes that aren't there, where there are such
+-- the count of unreadable bytes, if it isn't 0
 abbrev pub unreadable_members : ℕ → List (Text × Data)
 unreadable_members count =
     if count == 0 then [] else (codes "unreadableBytes", whole_number count) ∷ []
@@ -191,7 +191,7 @@ editor_event_json seq (event.Exited code) =
     event_with_body seq (codes "exited") (exited_json code)
 editor_event_json seq event.Terminated = object_of (bare_event seq (codes "terminated"))
 
--- ---- what goes out
+-- ---- messages
 
 abbrev pub message_json : ℕ → Message → Data
 message_json seq (Response r) = response_json seq r

@@ -1,4 +1,4 @@
--- What a JSON value asks for as an editor's request (Debug Adapter Protocol, "Base Protocol": ProtocolMessage
+-- What a JSON value is as an editor's request (Debug Adapter Protocol, "Base Protocol": ProtocolMessage
 -- and Request): the commands of editors come before those that the kernel has too.
 use Rattle.std.specs.Prelude.{
   ◌≤◌,
@@ -43,7 +43,7 @@ bare_request e = object_of (
     (codes "seq", whole_number e.seq) ∷
     (codes "type", string (codes "request")) ∷ [])
 
--- a request with the arguments `null` is as one without arguments
+-- a request with the arguments `null` counts as one without arguments
 abbrev pub without_null : Envelope → Data → Data
 without_null e d = if has_null_arguments d then bare_request e else d
 
@@ -67,7 +67,7 @@ asked_by None d = asked_of_board (reading d)
 
 -- ---- the request
 
--- what is no request
+-- a value that isn't a request
 abbrev pub unreadable : EditorRequest
 unreadable = record { seq = 0; command = []; asked = Faulty NotRequest }
 
@@ -82,7 +82,7 @@ request_in d (Some e) = request_of e (without_null e d)
 unfoldable pub editor_request : Data → EditorRequest
 editor_request d = request_in d (envelope_of d)
 
--- ---- what every request that was read keeps to
+-- ---- the bounds that every request has that was read
 
 abbrev pub IsCommandBounded : EditorCommand → Type 0
 IsCommandBounded (command.SetFunctionBreakpoints names) = length names ≤ 256

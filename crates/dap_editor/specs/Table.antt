@@ -48,7 +48,7 @@ spelling_of name.LoadedSources = codes "loadedSources"
 -- ---- what each asks for
 
 infixr 20 ◌then_with◌
--- where the one is there, the other with it
+-- both values, if both are there
 abbrev pub ◌then_with◌ : {A B : Type 0} → Option A → (A → Option B) → Option B
 a then_with f = option_and_then f a
 
@@ -58,7 +58,7 @@ byte = whole_between 0 255
 abbrev pub any_number : Data → Option ℕ
 any_number = whole_between 0 4294967295
 
--- how many bytes behind a place, or before it
+-- a number of bytes after a place, or before it
 abbrev pub offset : Data → Option Shift
 offset = optional (codes "offset") (shift 4294967295) (Forward 0)
 
@@ -108,7 +108,7 @@ disassemble_asked d =
     required_argument (codes "instructionCount") (whole_between 1 1024) d then_with λ count.
     Some (command.Disassemble from bytes instructions count)
 
--- what a request asks for by this command, if its arguments are as they must be
+-- the command that a request makes with this name, if its arguments are as they must be
 abbrev pub command_asked : EditorName → Data → Option EditorCommand
 command_asked name.Launch d = launch_asked d
 command_asked name.Restart d = Some command.Restart
@@ -130,10 +130,10 @@ every_name =
     name.SetExceptionBreakpoints ∷ name.Evaluate ∷ name.ReadMemory ∷ name.WriteMemory ∷
     name.Disassemble ∷ name.LoadedSources ∷ []
 
--- the first of these that is spelled so
+-- the first of these names that is spelled like the text
 abbrev pub first_named : List EditorName → Text → Option EditorName
 first_named names t = find (λ name. bytes_eq (spelling_of name) t) names
 
--- the command that is spelled so, if there is one
+-- the command with this name, if there is one
 abbrev pub command_named : Text → Option EditorName
 command_named t = first_named every_name t

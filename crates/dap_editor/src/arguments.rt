@@ -1,4 +1,4 @@
-//! What stands in the arguments of an editor's request.
+//! The arguments of an editor's request, one function for each type.
 ghost use Rattle.std.specs.Prelude.{◌≡◌, ◌≤◌, IfOk, IfSome, false, length, option_map, option_and_then};
 ghost use Rattle.serde_json.specs.Find.{as_str, as_bool, as_array};
 ghost use Rattle.serde_json.specs.View.{view, items_view};
@@ -20,14 +20,14 @@ use dap_talk::members;
 use serde_json::Value;
 use std::alloc::Global;
 
-/// A text, which is required.
+/// A required text.
 pub fn text_at<'a>(request: &'a Value, key: &str) -> Option<&'a str>
     ensures { option_map (λ t. t.now) result ≡ required_argument key.now as_str (view request.now) }
 {
     argument_at(request, key)??.as_str()
 }
 
-/// `true` or `false`, `false` where it is absent.
+/// `true` or `false`, and `false` if it is absent.
 pub fn truth_or_false(request: &Value, key: &str) -> Option<bool>
     ensures { result ≡ optional key.now as_bool false (view request.now) }
 {
@@ -37,7 +37,7 @@ pub fn truth_or_false(request: &Value, key: &str) -> Option<bool>
     }
 }
 
-/// A whole number of at most 255, 0 where it is absent.
+/// A whole number of at most 255, and 0 if it is absent.
 pub fn byte_or_0(request: &Value, key: &str) -> Option<u8>
     ensures { result ≡ optional key.now byte 0 (view request.now) }
 {
@@ -47,14 +47,14 @@ pub fn byte_or_0(request: &Value, key: &str) -> Option<u8>
     }
 }
 
-/// A whole number of 32 bits, which is required.
+/// A required whole number of 32 bits.
 pub fn number_at(request: &Value, key: &str) -> Option<u32>
     ensures { result ≡ required_argument key.now any_number (view request.now) }
 {
     whole_between(argument_at(request, key)??, 0, u32::MAX)
 }
 
-/// A whole number from 1 to 1,024, which is required.
+/// A required whole number from 1 to 1,024.
 pub fn count_at(request: &Value, key: &str) -> Option<u16>
     ensures value { result ≡ required_argument key.now (whole_between 1 1024) (view request.now) }
     ensures from { IfSome result (λ n. 1 ≤ n) }
@@ -64,14 +64,14 @@ pub fn count_at(request: &Value, key: &str) -> Option<u16>
     u16::try_from(n).ok()
 }
 
-/// An address, which is required under `memoryReference`.
+/// The required address at `memoryReference`.
 pub fn memory_reference(request: &Value) -> Option<u16>
     ensures { result ≡ memory_reference (view request.now) }
 {
     address_of(text_at(request, "memoryReference")?)
 }
 
-// How far an `i64` is from 0, where that is within the bounds.
+// How far an `i64` is from 0, if that is within the bounds.
 fn shift_by(n: i64, limit: u32) -> Option<Shift>
     ensures value { result ≡ shift_within limit n }
     ensures within { IfSome result (λ shift. IsBackWithin limit shift) }
@@ -87,7 +87,7 @@ fn shift_by(n: i64, limit: u32) -> Option<Shift>
     Some(Shift::Forward(forward))
 }
 
-/// A whole number that may be negative, down to this limit; 0 where it is absent.
+/// A whole number that may be negative, down to this limit; 0 if it is absent.
 pub fn shift_or_0(request: &Value, key: &str, limit: u32) -> Option<Shift>
     ensures value { result ≡ optional key.now (shift limit) (Shift.Forward 0) (view request.now) }
     ensures within { IfSome result (λ shift. IsBackWithin limit shift) }
@@ -98,7 +98,7 @@ pub fn shift_or_0(request: &Value, key: &str, limit: u32) -> Option<Shift>
     }
 }
 
-/// How many bytes behind a place or before it, none where it is absent.
+/// A number of bytes after a place or before it; 0 if it is absent.
 pub fn offset(request: &Value) -> Option<Shift>
     ensures { result ≡ offset (view request.now) }
 {
@@ -173,7 +173,7 @@ fn breakpoints_at<'a>(request: &'a Value, key: &str) -> Option<&'a [Value]>
     few_breakpoints(argument_at(request, key)??)
 }
 
-/// The functions that are to have breakpoints, which are required.
+/// The required list of functions at which to set breakpoints.
 pub fn functions_at(
     alloc: Global,
     request: &Value,
@@ -197,7 +197,7 @@ fn bytes_of(alloc: Global, text: &str) -> Result<Bytes, ArgumentFault>
     }
 }
 
-/// At most 65,536 bytes in base64, which are required.
+/// At most 65,536 required bytes, in base64.
 pub fn bytes_at(alloc: Global, request: &Value, key: &str) -> Result<Bytes, ArgumentFault>
     ensures answer { Answers (required_argument key.now base64 (view request.now)) result }
     ensures short { IfOk result (λ bytes. length bytes ≤ 65536) }

@@ -56,7 +56,7 @@ fn breakpoints(alloc: Global, list: &[PlacedBreakpoint]) -> Result<Value, AllocE
     Object::new(alloc).value("breakpoints", list).finish()
 }
 
-// The part of a path behind its last `/`.
+// The part of a path after its last `/`.
 fn last_part(path: &str) -> &str
     ensures { result.now ≡ last_part path.now }
 {
@@ -109,7 +109,7 @@ fn base64_text(alloc: Global, bytes: &[u8]) -> Result<Value, AllocError>
     Ok(Value::from(STANDARD.encode(alloc, bytes)?))
 }
 
-// What a body of memory has, but for the count of the bytes that aren't there.
+// The members of a body of memory, without the count of unreadable bytes.
 fn read_bytes(alloc: Global, address: u16, bytes: &[u8]) -> Result<Object, AllocError>
     ensures { IfOk result (λ o. HasMembers o (members_from
         ((codes "address", string (reference address)) ∷ data_members bytes.now))) }

@@ -51,7 +51,7 @@ fn stopped(alloc: Global, seq: u64, reason: EditorStop) -> Result<Value, AllocEr
     }
 }
 
-// What output has, with a place or without one.
+// The members of every output, with a place or without one.
 fn bare_output(alloc: Global, category: OutputCategory, bytes: &[u8]) -> Result<Object, AllocError>
     ensures { IfOk result (λ o. HasMembers o (members_from (bare_output category bytes.now))) }
 {
@@ -111,7 +111,7 @@ fn exited(alloc: Global, code: u8) -> Result<Value, AllocError>
         .finish()
 }
 
-/// The JSON of an event with this number.
+/// The JSON of an event, with `seq` as its number.
 pub fn editor_event_json(
     alloc: Global,
     seq: u64,

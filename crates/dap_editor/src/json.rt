@@ -1,4 +1,4 @@
-//! The JSON of what goes out.
+//! The JSON of messages to an editor.
 ghost use Rattle.std.specs.Prelude.{◌≡◌, IfOk};
 ghost use Rattle.serde_json.specs.View.{view};
 ghost use Rattle.dap_editor.specs.Json.{success_json, response_json, message_json};
@@ -41,7 +41,7 @@ fn response(alloc: Global, seq: u64, response: &EditorResponse) -> Result<Value,
     }
 }
 
-/// The JSON of a response or an event with this number (Debug Adapter Protocol, "Base Protocol").
+/// The JSON of a response or an event, with `seq` as its number (Debug Adapter Protocol, "Base Protocol").
 pub fn message_json(alloc: Global, seq: u64, message: &Message) -> Result<Value, AllocError>
     ensures { IfOk result (λ v. view v ≡ message_json seq message.now) }
 {

@@ -1,8 +1,8 @@
-// What an editor asks of a debugger and what it is told (Debug Adapter Protocol), typed and as JSON.
-// `read_editor_request` gives the request that a JSON value is: a command that the kernel has too, one of
-// editors alone, or why it can't be carried out. It answers for every JSON value.
+// Requests of editors to the debugger and messages to them (Debug Adapter Protocol), typed and as JSON.
+// `read_editor_request` reads any JSON value: a command that the kernel has too, a command of editors alone,
+// or why it can't be carried out.
 // `message_json` is the JSON of a response or an event with its number.
-// Reading and writing take memory only for what they carry.
+// Reading and writing allocate only for what a request or a message carries.
 #![tactic(auto)]
 
 mod arguments;

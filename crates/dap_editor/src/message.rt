@@ -1,13 +1,13 @@
-//! What an editor is told.
+//! Messages to an editor.
 use base_text::sequence::{Bytes, Sequence};
 use base_text::text::Text;
 use dap_answers::answer::{Body, StopReason};
 
-/// A breakpoint as its response tells it. An event that changes it names its number.
+/// A breakpoint as a response shows it. An event that changes it refers to its number.
 #[derive(Drop)]
 pub struct PlacedBreakpoint {
     pub id: u32,
-    /// Not known of a label that isn't there.
+    /// `None` for a label that doesn't exist.
     pub line: Option<u32>,
     pub is_verified: bool,
 }
@@ -15,31 +15,31 @@ pub struct PlacedBreakpoint {
 /// The body of a successful response.
 #[derive(Drop)]
 pub enum EditorBody {
-    /// That of a command which the kernel has too.
+    /// Of a command that the kernel has too.
     Board(Body),
-    /// Of `initialize`: what this debugger can.
+    /// Of `initialize`: what this debugger supports.
     Capabilities,
     /// Of `setBreakpoints`, `setFunctionBreakpoints` and `setExceptionBreakpoints`.
     Breakpoints(Sequence<PlacedBreakpoint>),
     /// Of `evaluate`.
     Evaluation(Text),
-    /// Of `readMemory`: the bytes from this address on, and how many that were asked for aren't there.
+    /// Of `readMemory`: the bytes from this address on, and how many of those requested don't exist.
     Memory {
         address: u16,
         bytes: Bytes,
         unreadable: u32,
     },
-    /// Of `writeMemory`: how many bytes.
+    /// Of `writeMemory`: the number of bytes.
     Written(u32),
     /// Of `loadedSources`: their paths.
     Sources(Sequence<Text>),
 }
 
-/// How a request was answered.
+/// The outcome of a request.
 #[derive(Drop)]
 pub enum EditorOutcome {
     Success(EditorBody),
-    /// A message that a person can read.
+    /// A message for the user.
     Refused(Text),
 }
 
@@ -54,15 +54,15 @@ pub struct EditorResponse {
 /// Why the program stopped.
 #[derive(Clone, Copy)]
 pub enum EditorStop {
-    /// Where it begins, before its first step.
+    /// At its start, before its first step.
     Entry,
     Board(StopReason),
 }
 
-/// What kind of output it is.
+/// The kind of an output.
 #[derive(Clone, Copy)]
 pub enum OutputCategory {
-    /// The debugger's own.
+    /// Of the debugger itself.
     Console,
     /// What the program writes to its console.
     Stdout,
@@ -77,13 +77,13 @@ pub struct SourcePlace {
     pub column: u32,
 }
 
-/// What an editor is told unasked (Debug Adapter Protocol, "Events").
+/// An event that is sent to an editor (Debug Adapter Protocol, "Events").
 #[derive(Drop)]
 pub enum EditorEvent {
     Initialized,
     Stopped(EditorStop),
     Continued,
-    /// Each byte is the character of that number.
+    /// Each byte is the character with that code point.
     Output {
         category: OutputCategory,
         bytes: Bytes,
@@ -97,7 +97,7 @@ pub enum EditorEvent {
     Terminated,
 }
 
-/// What goes out.
+/// A message to an editor.
 #[derive(Drop)]
 pub enum Message {
     Response(EditorResponse),

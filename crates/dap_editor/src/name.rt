@@ -1,4 +1,4 @@
-//! The commands that editors have and a kernel hasn't, or has with less.
+//! The commands that only editors have, or that have more arguments for them than for the kernel.
 ghost use Rattle.std.specs.Prelude.{◌≡◌};
 ghost use Rattle.dap_editor.specs.Table.{spelling_of, first_named};
 
@@ -51,7 +51,7 @@ impl EditorName {
         }
     }
 
-    /// The command of this text, if it is one.
+    /// The command with this name, if there is one.
     pub fn from_name(text: &str) -> Option<EditorName>
         ensures { result ≡ command_named text.now }
     {

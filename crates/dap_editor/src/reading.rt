@@ -187,7 +187,7 @@ fn bare_request(alloc: Global, seq: u32, command: &str) -> Result<Value, AllocEr
 }
 
 impl EditorRequest {
-    /// The request that bytes are which are no JSON.
+    /// The request for bytes that aren't JSON.
     pub fn unreadable(alloc: Global) -> EditorRequest
         ensures { result ≡ unreadable }
     {
@@ -199,8 +199,8 @@ impl EditorRequest {
     }
 }
 
-/// Reads a request (Debug Adapter Protocol, "Base Protocol"): for every JSON value there is one. Its number
-/// and command are kept also where it can't be carried out. Arguments that are `null` count as absent ones.
+/// Reads a request (Debug Adapter Protocol, "Base Protocol") from any JSON value. Its number and command are
+/// kept even if it can't be carried out. Arguments that are `null` count as absent.
 #[tactic(auto, unfolding(crate::specs::Reading::editor_request))]
 pub fn read_editor_request(alloc: Global, request: &Value) -> Result<EditorRequest, AllocError>
     ensures read { IfOk result (λ r. r ≡ editor_request (view request.now)) }

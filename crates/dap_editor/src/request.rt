@@ -1,19 +1,19 @@
-//! What an editor asks for.
+//! Requests of an editor.
 use base_text::sequence::{Bytes, Sequence};
 use base_text::text::Text;
 use dap_talk::command::DapCommand;
 
-/// How far from a place, which may be behind it: an offset, in bytes or in instructions.
+/// A signed offset, in bytes or in instructions.
 #[derive(Clone, Copy)]
 pub enum Shift {
     Forward(u32),
     Back(u32),
 }
 
-/// Where the editor shows what an expression gives (Debug Adapter Protocol, `evaluate`).
+/// Where the editor shows the value of an expression (Debug Adapter Protocol, `evaluate`).
 #[derive(Clone, Copy)]
 pub enum EvaluateContext {
-    /// A line that was typed at the debugger's prompt.
+    /// A line typed at the debugger's prompt.
     Repl,
     /// A hover, a watch, or anything else that only looks.
     Other,
@@ -22,10 +22,10 @@ pub enum EvaluateContext {
 /// What is to be debugged, and how.
 #[derive(Drop)]
 pub struct Launch {
-    /// The path of the program's text, which is the editor's own.
+    /// The path of the program's text, as the editor gave it.
     pub program: Text,
     pub stops_on_entry: bool,
-    /// Not so where the editor asks for a run without debugging.
+    /// False if the editor wants a run without debugging.
     pub is_debugged: bool,
     /// Whether the opcodes that Intel leaves undefined act as aliases of defined ones.
     pub has_aliases: bool,
@@ -33,20 +33,20 @@ pub struct Launch {
     pub switches: u8,
 }
 
-/// A command of editors that a kernel doesn't have, or has with less.
+/// A command that only editors have, or that has more arguments for them than for the kernel.
 #[derive(Drop)]
 pub enum EditorCommand {
     Launch(Launch),
     Restart,
     Terminate,
-    /// The labels that are to have breakpoints, at most 256, as they came.
+    /// The labels at which to set breakpoints, at most 256, in the order of the request.
     SetFunctionBreakpoints(Sequence<Text>),
     SetExceptionBreakpoints,
     Evaluate {
         expression: Text,
         context: EvaluateContext,
     },
-    /// At most `count` bytes from `offset` bytes behind or before an address.
+    /// At most `count` bytes, from `offset` bytes after or before an address.
     ReadMemory {
         address: u16,
         offset: Shift,
@@ -58,8 +58,8 @@ pub enum EditorCommand {
         offset: Shift,
         bytes: Bytes,
     },
-    /// So many instructions, 1 to 1,024. `offset` counts bytes and `instruction_offset` instructions, at most
-    /// 65,536 of them back.
+    /// 1 to 1,024 instructions. `offset` counts bytes, and `instruction_offset` instructions, at most 65,536
+    /// of them backwards.
     Disassemble {
         address: u16,
         offset: Shift,
@@ -72,10 +72,10 @@ pub enum EditorCommand {
 /// Why a request can't be carried out, whatever the program is.
 #[derive(Clone, Copy)]
 pub enum RequestFault {
-    /// No JSON, or no object with the type `request`, a number and a command.
+    /// Not JSON, or not an object with the type `request`, a number and a command.
     NotRequest,
     UnknownCommand,
-    /// An argument is missing, of another kind, or out of its bounds.
+    /// An argument is missing, of the wrong type, or out of its bounds.
     Arguments,
 }
 
@@ -88,8 +88,8 @@ pub enum Asked {
     Faulty(RequestFault),
 }
 
-/// A request: its number and the text of its command, which its response repeats, and what it asks for. Of
-/// what is no request they are 0 and empty.
+/// A request: its number and the text of its command, which its response repeats, and what it asks for. If a
+/// value isn't a request, the number is 0 and the command is empty.
 #[derive(Drop)]
 pub struct EditorRequest {
     pub seq: u32,

@@ -89,7 +89,14 @@ const BODIES: [(Shape, &str); 12] = [
     (Shape::Threads, r#"{"threads":[{"id":1,"name":"8080"}]}"#),
     (
         Shape::Capabilities,
-        r#"{"supportsConfigurationDoneRequest":true,"supportsDisassembleRequest":true,"supportsEvaluateForHovers":true,"supportsFunctionBreakpoints":true,"supportsLoadedSourcesRequest":true,"supportsReadMemoryRequest":true,"supportsRestartRequest":true,"supportsSetVariable":true,"supportsSteppingGranularity":true,"supportsTerminateRequest":true,"supportsWriteMemoryRequest":true}"#,
+        concat!(
+            r#"{"supportsConfigurationDoneRequest":true,"supportsDisassembleRequest":true,"#,
+            r#""supportsEvaluateForHovers":true,"supportsFunctionBreakpoints":true,"#,
+            r#""supportsLoadedSourcesRequest":true,"supportsReadMemoryRequest":true,"#,
+            r#""supportsRestartRequest":true,"supportsSetVariable":true,"#,
+            r#""supportsSteppingGranularity":true,"supportsTerminateRequest":true,"#,
+            r#""supportsWriteMemoryRequest":true}"#,
+        ),
     ),
     (Shape::Breakpoints(&[]), r#"{"breakpoints":[]}"#),
     (
@@ -117,7 +124,10 @@ const BODIES: [(Shape, &str); 12] = [
     (Shape::Sources(&[]), r#"{"sources":[]}"#),
     (
         Shape::Sources(&["/home/u/a.asm", "b.asm", "c/"]),
-        r#"{"sources":[{"name":"a.asm","path":"/home/u/a.asm"},{"name":"b.asm","path":"b.asm"},{"name":"","path":"c/"}]}"#,
+        concat!(
+            r#"{"sources":[{"name":"a.asm","path":"/home/u/a.asm"},{"name":"b.asm","path":"b.asm"},"#,
+            r#"{"name":"","path":"c/"}]}"#,
+        ),
     ),
 ];
 
@@ -245,7 +255,10 @@ const EVENTS: [(Told, &str, &str); 12] = [
     ),
     (
         Told::Placed(OutputCategory::Stderr, b"3:5 Syntax\n", ("/a/b.asm", 3, 5)),
-        r#""body":{"category":"stderr","column":5,"line":3,"output":"3:5 Syntax\n","source":{"name":"b.asm","path":"/a/b.asm"}},"#,
+        concat!(
+            r#""body":{"category":"stderr","column":5,"line":3,"output":"3:5 Syntax\n","#,
+            r#""source":{"name":"b.asm","path":"/a/b.asm"}},"#,
+        ),
         "output",
     ),
     (

@@ -163,8 +163,10 @@ fn reads_as(alloc: Global, text: &str, wanted: &str) -> Result<bool, Fail> {
 }
 
 // Requests with the number 7, a line each: the command, its arguments, and what it is read as.
-const REQUESTS: &str = r#"launch {"program":"a.asm"} -> launch a.asm false true false 0
-launch {"program":"","stopOnEntry":true,"noDebug":true,"aliases":true,"switches":255,"other":null} -> launch  true false true 255
+const REQUESTS: &str = concat!(
+    r#"launch {"program":"a.asm"} -> launch a.asm false true false 0
+launch {"program":"","stopOnEntry":true,"noDebug":true,"#,
+    r#""aliases":true,"switches":255,"other":null} -> launch  true false true 255
 launch {"program":"a","switches":256} -> Arguments
 launch {"program":"a","switches":1.0} -> Arguments
 launch {"program":"a","noDebug":null} -> Arguments
@@ -186,7 +188,8 @@ evaluate {"expression":"HL","context":"Repl"} -> evaluate other HL
 evaluate {"expression":"HL","context":1} -> Arguments
 evaluate {} -> Arguments
 readMemory {"memoryReference":"0xFf00","count":16} -> read 65280 +0 16
-readMemory {"memoryReference":"0x0000","offset":-4294967295,"count":4294967295} -> read 0 -4294967295 4294967295
+readMemory {"memoryReference":"0x0000","offset":-4294967295,"#,
+    r#""count":4294967295} -> read 0 -4294967295 4294967295
 readMemory {"memoryReference":"0x0000","offset":4294967295,"count":0} -> read 0 +4294967295 0
 readMemory {"memoryReference":"0x0000","offset":4294967296,"count":0} -> Arguments
 readMemory {"memoryReference":"0x0000","offset":-4294967296,"count":0} -> Arguments
@@ -200,12 +203,14 @@ writeMemory {"memoryReference":"0x0100","data":"AA"} -> Arguments
 writeMemory {"memoryReference":"0x0100","data":"A-=="} -> Arguments
 writeMemory {"memoryReference":"0x0100","data":[0]} -> Arguments
 disassemble {"memoryReference":"0x1234","instructionCount":1} -> code 4660 +0 +0 1
-disassemble {"memoryReference":"0x1234","offset":-2,"instructionOffset":-65536,"instructionCount":1024} -> code 4660 -2 -65536 1024
+disassemble {"memoryReference":"0x1234","offset":-2,"instructionOffset":-65536,"#,
+    r#""instructionCount":1024} -> code 4660 -2 -65536 1024
 disassemble {"memoryReference":"0x1234","instructionOffset":-65537,"instructionCount":1} -> Arguments
 disassemble {"memoryReference":"0x1234","instructionCount":1025} -> Arguments
 threads null -> board threads
 stackTrace null -> board stackTrace
-scopes null -> Arguments"#;
+scopes null -> Arguments"#,
+);
 
 fn request(alloc: Global, command: &str, arguments: &str) -> Result<String, AllocError> {
     format!(in alloc;
@@ -230,7 +235,8 @@ fn reads_requests(rt: HostRuntime) -> Result<(), Fail> {
 }
 
 // Whole values, a line each, and what they are read as.
-const VALUES: &str = r#"null -> 0 : NotRequest
+const VALUES: &str = concat!(
+    r#"null -> 0 : NotRequest
 [] -> 0 : NotRequest
 {"seq":7,"type":"event","command":"restart"} -> 0 : NotRequest
 {"seq":-1,"type":"request","command":"restart"} -> 0 : NotRequest
@@ -238,7 +244,9 @@ const VALUES: &str = r#"null -> 0 : NotRequest
 {"seq":7,"type":"request","command":3} -> 0 : NotRequest
 {"seq":4294967295,"type":"request","command":"restart"} -> 4294967295 restart: restart
 {"seq":0,"type":"request","command":"Restart","arguments":null} -> 0 Restart: UnknownCommand
-{"seq":1,"type":"request","command":"configurationDone","arguments":null} -> 1 configurationDone: board configurationDone"#;
+{"seq":1,"type":"request","command":"configurationDone","arguments":null} -> "#,
+    r#"1 configurationDone: board configurationDone"#,
+);
 
 fn is_value_read(alloc: Global, row: &str) -> Result<bool, Fail> {
     let (text, wanted) = row.split_once(" -> ").unwrap_or((row, ""));

@@ -1,4 +1,4 @@
--- What an expression is worth on a board (8080/8085 Assembly Language Programming Manual, chapter 2).
+-- The value of an expression on a board (8080/8085 Assembly Language Programming Manual, chapter 2).
 use Rattle.std.specs.Prelude.{ℕ, ◌-◌, max, ◌++◌, map, Bool, not, ◌&&◌, ◌||◌, ◌==◌, Option, Some}
 use Rattle.std.specs.Prelude.{None, Result, Ok, Err, codes, decimal, length, if◌then◌else◌}
 use Rattle.std.specs.List.{list_any}
@@ -22,7 +22,7 @@ use Rattle.dap_inspect.specs.Registers.{place_named, shown_at}
 abbrev pub cell_of : ℕ → Text → Text
 cell_of here expression = codes "ORG " ++ word_text here ++ codes "\nEND " ++ expression
 
--- A column of the expression, which stands behind `END `; 1 where a fault is that of the whole.
+-- A column of the expression, which comes after `END `; 1 if the fault has no column.
 abbrev pub column_in : ℕ → ℕ
 column_in column = max 1 (column - 4)
 
@@ -35,7 +35,7 @@ abbrev pub start_of : Result Meaning CellFault → Result ℕ EvaluateFault
 start_of (Ok meaning) = or_none meaning.output.start
 start_of (Err (line, column, kind)) = Err (fault.Assembly (column_in column) kind)
 
--- the value of an expression over the symbols that are kept, with PC for `$`
+-- the value of an expression with the kept symbols, and PC for `$`
 abbrev pub value_of : Board → Text → Result ℕ EvaluateFault
 value_of b expression = start_of (assembled b.symbols (cell_of b.machine.regs.pc expression))
 
@@ -46,7 +46,7 @@ value_shown b expression = do
   value ← value_of b expression
   Ok (word_text value)
 
--- a register that is named so comes before a symbol of its name
+-- a register hides a symbol of the same name
 abbrev pub shown_of : Board → Text → Option Place → Result Text EvaluateFault
 shown_of b expression (Some place) = Ok (shown_at b.machine place)
 shown_of b expression None = value_shown b expression
@@ -65,7 +65,7 @@ trimmed_shown b text =
     then shown_of b text (place_named b.machine (map to_ascii_uppercase text))
     else Err fault.NoExpression
 
--- what an expression is worth, without the white space at its ends
+-- the value of an expression without the white space at its ends
 unfoldable pub expression_text : Board → Text → Result Text EvaluateFault
 expression_text b expression = trimmed_shown b (trim expression)
 

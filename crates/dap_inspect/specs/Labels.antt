@@ -1,4 +1,4 @@
--- The lines at which symbols stand.
+-- The lines of labels.
 use Rattle.std.specs.Prelude.{ℕ, ◌^◌, map, Option, Some, None, ◌&&◌, nat_lt, option_and_then, if◌then◌else◌}
 use Rattle.std.specs.Char.{to_ascii_uppercase}
 use Rattle.base_text.specs.Bytes.{Text}
@@ -12,7 +12,7 @@ use Rattle.dap_inspect.specs.declared.label.SourceLine.{SourceLine}
 abbrev pub symbol_value : Board → Text → Option ℕ
 symbol_value b name = value_in (symbol_at b.symbols (map to_ascii_uppercase name))
 
--- the line of a statement that begins here, where a breakpoint's line can be as large
+-- the line of the statement that begins here, if it fits a breakpoint's line
 abbrev pub line_begun : Option Origin → Option SourceLine
 line_begun None = None
 line_begun (Some o) =

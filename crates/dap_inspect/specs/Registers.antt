@@ -1,4 +1,4 @@
--- The registers by their names, and what each holds.
+-- Registers by name, and their values.
 use Rattle.std.specs.Prelude.{ℕ, Option, Some, codes, if◌then◌else◌}
 use Rattle.std.specs.Str.{bytes_eq}
 use Rattle.base_text.specs.Bytes.{Text}
@@ -9,12 +9,12 @@ use Rattle.lab_views.specs.declared.place.Place.TheVariants as place
 use Rattle.lab_views.specs.Places.{register_named}
 use Rattle.lab_views.specs.Values.{text_at}
 
--- the place of a name in upper case: that of a register, or for M the byte at HL
+-- the place with this name, in upper case: a register, or for M the byte at HL
 abbrev pub place_named : MachineState → Text → Option Place
 place_named m name =
     if bytes_eq name (codes "M") then Some (place.Memory (get_pair m pair.H)) else register_named name
 
--- what a place holds
+-- the value of a place
 abbrev pub value_at : MachineState → Place → ℕ
 value_at m place.A = m.regs.a
 value_at m place.B = m.regs.b
@@ -27,6 +27,6 @@ value_at m place.Sp = m.regs.sp
 value_at m place.Pc = m.regs.pc
 value_at m (place.Memory address) = byte_at m address
 
--- the same as it is shown
+-- the value of a place as text
 abbrev pub shown_at : MachineState → Place → Text
 shown_at m place = text_at place (value_at m place)

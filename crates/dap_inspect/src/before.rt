@@ -1,4 +1,4 @@
-//! The address before instructions.
+//! Going back over instructions.
 ghost use Rattle.std.specs.Prelude.{◌≡◌, ◌≤◌};
 ghost use Rattle.lab_core.specs.Board.{Board};
 ghost use Rattle.lab_core.specs.Labs.{StandsFor};
@@ -6,8 +6,7 @@ ghost use Rattle.dap_inspect.specs.Instructions as instructions;
 
 use lab_core::lab::Lab;
 
-/// Whether a statement was loaded that begins at this start, and the line of code there ends right before the
-/// address.
+/// Whether a loaded statement begins at `start`, and the line of code there ends right before `address`.
 fn ends_before(lab: &Lab, address: u16, start: u16) -> bool
     ensures { (b : Board) → StandsFor lab.now b → result ≡ instructions.ends_before b address start }
 {
@@ -17,7 +16,7 @@ fn ends_before(lab: &Lab, address: u16, start: u16) -> bool
     }
 }
 
-/// Where the instruction before an address begins.
+/// The address at which the instruction before an address begins.
 fn instruction_before(lab: &Lab, address: u16) -> u16
     ensures { (b : Board) → StandsFor lab.now b → result ≡ instructions.instruction_before b address }
 {
@@ -36,11 +35,11 @@ fn instruction_before(lab: &Lab, address: u16) -> u16
     one_byte
 }
 
-/// The address so many instructions before one, at most 65,536 of them. Addresses wrap.
+/// The address `count` instructions before another one, at most 65,536 of them. Addresses wrap.
 ///
-/// Code can't be read backwards: the instruction before an address is the nearest one that a loaded statement
-/// begins and that ends right before it, as the code view shows it on this memory; where there is none, it is
-/// the byte before.
+/// Code can't be read backwards: the instruction before an address is the nearest one at which a loaded
+/// statement begins and that ends right before the address, as the code view shows it on this memory. If
+/// there is none, it is the byte before.
 pub fn before_instructions(lab: &Lab, address: u16, count: u32) -> u16
     requires { count ≤ 65536 }
     ensures { (b : Board) → StandsFor lab.now b → result ≡ instructions.before_instructions b address count }

@@ -21,7 +21,7 @@ use i80_dis::numeral::push_word;
 use lab_core::lab::Lab;
 use std::alloc::{AllocError, Global};
 
-/// How many characters stand before the expression in its line, which begins with `END `.
+/// The number of characters before the expression in its line, which begins with `END `.
 const EXPRESSION_OFFSET: usize = 4;
 
 fn is_line_end(byte: u8) -> bool
@@ -54,7 +54,7 @@ fn cell_of(alloc: Global, here: u16, expression: &str) -> Result<Text, AllocErro
     Ok(Text::from(cell))
 }
 
-/// What a cell gives over the symbols that are kept.
+/// Assembles a cell with the kept symbols.
 fn assemble(alloc: Global, lab: &Lab, cell: &str) -> Result<Built, AsmFault>
     ensures { (b : Board) → StandsFor lab.now b → Gives meaning_in result (assembled b.symbols cell.now) }
 {
@@ -64,7 +64,7 @@ fn assemble(alloc: Global, lab: &Lab, cell: &str) -> Result<Built, AsmFault>
     built
 }
 
-/// The value that the cell of an expression gives as its start, where it gives one.
+/// The start that the cell of an expression has, if it has one.
 fn start_of(built: Result<Built, AsmFault>) -> Result<u16, EvaluateFault>
     ensures { (cell : Result Meaning CellFault) → Gives meaning_in built cell
         → result ≢ Err EvaluateFault.OutOfMemory → result ≡ expressions.start_of cell }
@@ -106,7 +106,7 @@ fn value_shown(alloc: Global, lab: &Lab, expression: &str) -> Result<Text, Evalu
     }
 }
 
-/// What an expression without white space at its ends is worth.
+/// The value of an expression without white space at its ends.
 fn evaluate_trimmed(alloc: Global, lab: &Lab, text: &str) -> Result<Text, EvaluateFault>
     ensures { (b : Board) → StandsFor lab.now b → result ≢ Err EvaluateFault.OutOfMemory
         → result ≡ expressions.trimmed_shown b text.now }
@@ -121,13 +121,13 @@ fn evaluate_trimmed(alloc: Global, lab: &Lab, text: &str) -> Result<Text, Evalua
     }
 }
 
-/// What an expression is worth, as a scope shows it: `0hhH` for the registers A, B, C, D, E, H and L and for
+/// The value of an expression as a scope shows it: `0hhH` for the registers A, B, C, D, E, H and L and for
 /// M, which is the byte at HL, and `0hhhhH` for SP, PC and any other value. In either case of letters, a
 /// register's name alone is the register, whatever symbol is named so; any other expression is one of the
 /// assembler, in which names are the symbols that are kept, and `$` is PC.
 ///
-/// White space at the ends is passed over. What has no value is refused with `NoExpression`: an empty text, a
-/// comment, a text with LF or CR; and what the assembler refuses with `Assembly` (8080/8085 Assembly Language
+/// White space at the ends is ignored. An empty text, a comment and a text with LF or CR fail with
+/// `NoExpression`, and what the assembler refuses with `Assembly` (8080/8085 Assembly Language
 /// Programming Manual, chapter 2).
 #[tactic(auto, unfolding(crate::specs::Expressions::expression_text))]
 pub fn evaluate(alloc: Global, lab: &Lab, expression: &str) -> Result<Text, EvaluateFault>

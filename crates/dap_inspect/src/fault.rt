@@ -12,14 +12,14 @@ use thiserror::Error;
 #[derive(Clone, Copy, PartialEq, Eq, Error)]
 pub enum EvaluateFault {
     OutOfMemory,
-    /// It is empty, a comment, or more than a line.
+    /// It is empty, a comment, or longer than a line.
     NoExpression,
-    /// What is wrong with it, at a column that counts from 1 at its first character that isn't white space.
+    /// The assembler's fault. Columns count from 1, at the first character that isn't white space.
     Assembly { column: usize, kind: FaultKind },
 }
 
 impl EvaluateFault {
-    /// The text by which a frontend shows the fault.
+    /// The text that a frontend shows.
     pub fn message(self, alloc: Global) -> Result<Text, AllocError>
         ensures { IfOk result (λ text. text ≡ message_of self) }
     {

@@ -8,7 +8,7 @@ use lab_core::lab::Lab;
 use lab_image::origin::Origin;
 use std::alloc::{AllocError, Global};
 
-/// A line of a source that is kept.
+/// A line of a kept source.
 #[derive(Clone, Copy)]
 pub struct SourceLine {
     /// The number of the source.
@@ -17,7 +17,7 @@ pub struct SourceLine {
     pub line: u32,
 }
 
-/// The line of a statement that begins at the address of this origin.
+/// The line of the statement that begins at the address of this origin, if one does.
 fn line_begun(origin: Option<Origin>) -> Option<SourceLine>
     ensures { result ≡ labels.line_begun origin }
 {
@@ -34,8 +34,9 @@ fn line_begun(origin: Option<Origin>) -> Option<SourceLine>
     }
 }
 
-/// The line of the statement that begins at the value of a symbol that is kept, where one begins there. The
-/// name is taken in either case. Breakpoints have their lines in 32 bits, and a longer one isn't found.
+/// The line of the statement that begins at the value of a kept symbol, if there is one. Upper and lower
+/// case of the name are the same. A line number of more than 32 bits isn't found, since no breakpoint can be
+/// there.
 pub fn line_of_label(alloc: Global, lab: &Lab, name: &str) -> Result<Option<SourceLine>, AllocError>
     ensures { (b : Board) → StandsFor lab.now b
         → IfOk result (λ line. line ≡ labels.line_of_label b name.now) }

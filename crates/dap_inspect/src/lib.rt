@@ -1,8 +1,8 @@
-// What an editor is shown of a board beside its views. Each is a function of the board, and changes nothing.
-// `evaluate` gives a register, or the value of an expression of the assembler over the symbols that are kept.
-// `read_memory` gives bytes up to the last address. `code_lines` lists code; `before_instructions` goes back
-// over it, by the statements that are known to begin before. `line_of_label` gives the line of a symbol's
-// statement; `laws` says that a breakpoint there is met at it.
+// What an editor shows of a board beside its views. Each is a function of the board, and changes nothing.
+// `evaluate` returns a register, or the value of an expression of the assembler over the kept symbols.
+// `read_memory` returns bytes up to the last address. `code_lines` lists code; `before_instructions` goes
+// back over it, by the statements that are known to begin before. `line_of_label` returns the line of a
+// symbol's statement; `laws` says that a breakpoint on that line is hit at the symbol's value.
 #![tactic(auto)]
 
 pub mod before;

@@ -1,4 +1,4 @@
-//! Memory as lines of disassembly, as many as are asked for.
+//! Memory as lines of disassembly.
 ghost use Rattle.std.specs.Prelude.{◌≡◌, IfOk};
 ghost use Rattle.lab_views.specs.Code as code;
 ghost use Rattle.lab_core.specs.Board.{Board};
@@ -11,7 +11,7 @@ use lab_core::lab::Lab;
 use lab_shown::shown::CodeLine;
 use std::alloc::{AllocError, Global};
 
-/// The bytes from an address on, as many as the longest instruction has.
+/// The three bytes from an address on, which is the longest instruction's length.
 fn bytes_at(lab: &Lab, address: u16) -> [u8; 3]
     ensures { (b : Board) → StandsFor lab.now b → result ≡ code.bytes_at b.machine address }
 {
@@ -37,7 +37,7 @@ fn code_line(alloc: Global, lab: &Lab, address: u16) -> Result<CodeLine, AllocEr
     })
 }
 
-/// So many lines from an address on, as the code view shows them, which shows 256 at most. Addresses wrap.
+/// `count` lines from an address on, like those of the code view, which shows at most 256. Addresses wrap.
 pub fn code_lines(
     alloc: Global,
     lab: &Lab,

@@ -9,10 +9,10 @@ use i80_rows::memory::MEMORY_SIZE;
 use lab_core::lab::Lab;
 use std::alloc::{AllocError, Global};
 
-/// How many addresses there are.
+/// The number of addresses.
 const ADDRESSES: u32 = MEMORY_SIZE as u32;
 
-/// The bytes from an address on, so many of them, or as many as there are up to the last address.
+/// `count` bytes from an address on, or fewer if the last address comes before.
 pub fn read_memory(alloc: Global, lab: &Lab, address: u16, count: u32) -> Result<Bytes, AllocError>
     ensures { (b : Board) → StandsFor lab.now b
         → IfOk result (λ bytes. bytes ≡ memory.bytes_from b.machine address count) }

@@ -1,4 +1,4 @@
-//! The registers by their names.
+//! Registers by name.
 ghost use Rattle.std.specs.Prelude.{◌≡◌, ◌+◌, ◌*◌, ◌≤◌, IfOk};
 ghost use Rattle.i80_rows.specs.declared.instruction.Pair.TheVariants as pair;
 ghost use Rattle.i80_exec.specs.State.{get_pair};
@@ -23,7 +23,7 @@ fn hl(regs: Registers) -> u16
     u16::from(regs.h) * 256 + u16::from(regs.l)
 }
 
-/// The place of a name in upper case: that of a register, or for M the byte at HL.
+/// The place with this name, in upper case: a register, or for M the byte at HL.
 pub(crate) fn place_named(lab: &Lab, name: &str) -> Option<Place>
     ensures { (b : Board) → StandsFor lab.now b → result ≡ registers.place_named b.machine name.now }
 {
@@ -36,7 +36,7 @@ pub(crate) fn place_named(lab: &Lab, name: &str) -> Option<Place>
     }
 }
 
-/// What a place holds.
+/// The value of a place.
 fn value_at(lab: &Lab, place: Place) -> u16
     ensures value { (b : Board) → StandsFor lab.now b → result ≡ registers.value_at b.machine place }
     ensures fits { result ≤ largest_at place }
@@ -56,7 +56,7 @@ fn value_at(lab: &Lab, place: Place) -> u16
     }
 }
 
-/// What a place holds, as it is shown.
+/// The value of a place as text.
 pub(crate) fn shown_at(alloc: Global, lab: &Lab, place: Place) -> Result<Text, AllocError>
     ensures { (b : Board) → StandsFor lab.now b
         → IfOk result (λ text. text ≡ registers.shown_at b.machine place) }

@@ -8,7 +8,7 @@ use Rattle.dap_editor.specs.declared.message.PlacedBreakpoint.{PlacedBreakpoint}
 abbrev pub id_at : ℕ → ℕ → ℕ
 id_at number index = 256 * number + (index + 1)
 
--- the breakpoint on a line of a text with so many lines
+-- the breakpoint on a line of a text with `count` lines
 abbrev pub line_point : ℕ → ℕ → ℕ → ℕ → PlacedBreakpoint
 line_point number count index line = record {
   id = id_at number index;
@@ -22,7 +22,7 @@ line_points number count index [] = []
 line_points number count index (line ∷ lines) =
     line_point number count index line ∷ line_points number count (index + 1) lines
 
--- The breakpoint at a label whose line is this one, where it has one. A board has room for so many of them.
+-- The breakpoint at a label with this line, if it has one. The board has room for the first `room` labels.
 abbrev pub label_point : ℕ → ℕ → Option ℕ → PlacedBreakpoint
 label_point room index line = record {
   id = id_at 0 index;
@@ -32,7 +32,7 @@ label_point room index line = record {
 
 -- ---- the lines of a board's list
 
--- the line of a breakpoint that is verified
+-- the line of a verified breakpoint
 abbrev pub verified_line : PlacedBreakpoint → Option ℕ
 verified_line p = if p.is_verified then p.line else None
 
@@ -40,6 +40,6 @@ verified_line p = if p.is_verified then p.line else None
 abbrev pub wanted_lines : List ℕ → List PlacedBreakpoint → List ℕ
 wanted_lines lines labels = lines ++ filter_map verified_line labels
 
--- how many labels there is room for behind these lines
+-- the number of labels for which there is room beside these lines
 abbrev pub room_behind : List ℕ → ℕ
 room_behind lines = 256 - length lines

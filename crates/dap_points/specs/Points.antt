@@ -1,4 +1,4 @@
--- The breakpoints that are kept: the lines of each source, and labels.
+-- The breakpoints that an editor has set: the lines of each source, and labels.
 use Rattle.std.specs.Prelude.{ℕ, ◌+◌, List, [], ◌∷◌, ◌++◌, length, take, slice_get, slice_set, nat_lt, Bool}
 use Rattle.std.specs.Prelude.{true, Option, Some, None}
 use Rattle.std.specs.List.{position}
@@ -6,9 +6,9 @@ use Rattle.std.specs.Str.{bytes_eq}
 use Rattle.base_text.specs.Bytes.{Text}
 use Rattle.dap_points.specs.declared.points.SourceLines.{SourceLines}
 
--- what a contract sees of them
+-- the view of a value of this type
 pub record PointsState : Type 0 where
-  -- in the order in which their sources came
+  -- in the order in which the sources were added
   pub lists : List SourceLines
   pub functions : List Text
 
@@ -24,7 +24,7 @@ abbrev pub place_or : ℕ → Option ℕ → ℕ
 place_or last None = last
 place_or last (Some place) = place
 
--- Sources are numbered from 1; a new one has the number that it will have.
+-- Sources are numbered from 1; a new one has the number that it will get.
 abbrev pub number_of : Text → List SourceLines → ℕ
 number_of path lists = place_or (length lists) (place_of path lists) + 1
 
@@ -44,7 +44,7 @@ abbrev pub list_at : List SourceLines → Option ℕ → Option SourceLines
 list_at lists None = None
 list_at lists (Some place) = slice_get lists place
 
--- the lines of a source, of which at most 256 count
+-- the lines of a source, of which at most 256 are used
 abbrev pub lines_at : Text → List SourceLines → List ℕ
 lines_at path lists = take 256 (lines_in (list_at lists (place_of path lists)))
 

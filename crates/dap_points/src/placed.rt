@@ -29,7 +29,7 @@ fn line_point(number: u32, count: usize, index: usize, line: u32) -> PlacedBreak
     }
 }
 
-/// The breakpoints on these lines of the source of a number, whose text has so many lines.
+/// The breakpoints on these lines of the source with this number, whose text has `count` lines.
 pub fn line_points(
     alloc: Global,
     number: u32,
@@ -51,7 +51,7 @@ pub fn line_points(
     Ok(points)
 }
 
-/// The breakpoint at a label, whose line is this one, where it has one. There is room for so many.
+/// The breakpoint at a label with this line, if it has one. The first `room` labels can be verified.
 pub fn label_point(room: usize, index: usize, line: Option<u32>) -> PlacedBreakpoint
     requires { index < 256 }
     ensures { result ≡ label_point room index line }
@@ -63,7 +63,7 @@ pub fn label_point(room: usize, index: usize, line: Option<u32>) -> PlacedBreakp
     }
 }
 
-/// For how many labels there is room behind these lines.
+/// The number of labels for which there is room beside these lines.
 pub fn room_behind(lines: &[u32]) -> usize
     ensures { result ≡ room_behind lines.now }
 {
@@ -76,7 +76,7 @@ fn verified_line(point: &PlacedBreakpoint) -> Option<u32>
     if point.is_verified { point.line } else { None }
 }
 
-// Adds a line, where there is one.
+// Adds a line, if there is one.
 fn push_line(lines: &mut Sequence<u32>, line: Option<u32>) -> Result<(), AllocError>
     ensures { OnOk result (lines.new ≡ lines.old ++ option_to_list line) }
 {
@@ -86,7 +86,7 @@ fn push_line(lines: &mut Sequence<u32>, line: Option<u32>) -> Result<(), AllocEr
     Ok(())
 }
 
-/// The lines at which a board is to stop: those of a source, and those of labels that are verified.
+/// The lines at which a board stops: those of a source, and those of verified labels.
 pub fn wanted_lines(
     alloc: Global,
     lines: &[u32],

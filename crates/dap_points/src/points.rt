@@ -1,4 +1,4 @@
-//! The breakpoints that are kept.
+//! The breakpoints that an editor has set.
 ghost use Rattle.std.specs.Prelude.{◌≡◌, ◌<◌, ◌≤◌, length, take, true, IfOk, IfSome};
 ghost use Rattle.dap_points.specs.Points.{no_points, place_of, number_of, has_place, lines_at, with_lines};
 
@@ -10,18 +10,18 @@ use std::marker::Model;
 /// The most sources whose breakpoints are kept.
 pub const MOST_SOURCES: usize = 1024;
 
-/// The most lines of a source, and the most labels, that count.
+/// The most lines of a source, and the most labels, that are used.
 pub const MOST_POINTS: usize = 256;
 
-/// The lines of a source that are to have breakpoints, as they came.
+/// The lines of a source at which to set breakpoints, in the order of the request.
 #[derive(Drop)]
 pub struct SourceLines {
     pub path: Text,
     pub lines: Sequence<u32>,
 }
 
-/// The breakpoints that are kept: the lines of each source, and labels. A source whose lines are taken away
-/// keeps its place.
+/// The breakpoints that an editor has set: the lines of each source, and labels. A source whose lines are
+/// removed keeps its place.
 #[derive(Drop)]
 pub struct Points {
     lists: Vec<SourceLines>,
@@ -48,7 +48,7 @@ fn place_of(lists: &[SourceLines], path: &str) -> Option<usize>
     lists.iter().position(|list| list.path.as_str() == path)
 }
 
-// The first items, as many as count.
+// The items that are used: the first 256.
 fn first<T>(items: &[T]) -> &[T]
     ensures first { result.now ≡ take 256 items.now }
     ensures few { length result.now ≤ 256 }
@@ -61,7 +61,7 @@ fn first<T>(items: &[T]) -> &[T]
 }
 
 impl Points {
-    /// None, with room for the lines of as many sources as are kept.
+    /// No breakpoints, with room for the lines of 1,024 sources.
     pub fn new(alloc: Global) -> Result<Points, AllocError>
         ensures { IfOk result (λ points. points ≡ no_points) }
     {
@@ -72,7 +72,7 @@ impl Points {
         })
     }
 
-    /// The number of a source, from 1; of a new one the number that it will have.
+    /// The number of a source, from 1; for a new source the number that it will get.
     pub fn number_of(&self, path: &str) -> u32
         ensures number { result ≡ number_of path.now self.now.lists }
         ensures few { result ≤ 1025 }
@@ -83,7 +83,7 @@ impl Points {
         }
     }
 
-    /// Whether the lines of this source may be kept.
+    /// Whether there is room for the lines of this source.
     pub fn has_place(&self, path: &str) -> bool
         ensures { result ≡ has_place path.now self.now.lists }
     {
@@ -125,7 +125,7 @@ impl Points {
         }
     }
 
-    /// Takes these labels in place of those before.
+    /// Replaces the labels by these.
     pub fn set_functions(&mut self, names: Sequence<Text>)
         ensures { self.new ≡ record self.old { functions = names } }
     {

@@ -1,4 +1,4 @@
--- What events make of a board, which a refusal leaves as it was.
+-- The board after an event. A refused event leaves it as it was.
 use Rattle.std.specs.Prelude.{ℕ, Bool, Ok, Err, if◌then◌else◌}
 use Rattle.lab_core.specs.declared.event.Event.{Event}
 use Rattle.lab_core.specs.declared.event.Event.TheVariants as event
@@ -13,7 +13,7 @@ board_after b (Err fault) = b
 abbrev pub after : Event → Board → Board
 after e b = board_after b (given e b)
 
--- the events that take no memory
+-- the events that allocate nothing
 abbrev pub IsSure : Event → Type 0
 IsSure (event.Start address) = Unit {0}
 IsSure event.Pause = Unit {0}
@@ -23,11 +23,11 @@ IsSure event.Attach = Unit {0}
 IsSure (event.Switches byte) = Unit {0}
 IsSure _ = ⊥
 
--- A run begins at an address; where it pauses, it is stopped before its first step.
+-- A run begins at an address. If it pauses, it is stopped before its first step.
 abbrev pub begin_run : ℕ → Bool → Board → Board
 begin_run start pauses b =
     if pauses then after event.Pause (after (event.Start start) b) else after (event.Start start) b
 
--- some board is stood for
+-- the lab stands for some board
 abbrev pub Stands : LabState → Type 0
 Stands lab = (b : Board) × StandsFor lab b

@@ -19,7 +19,7 @@ label_points b room index [] = []
 label_points b room index (name ∷ names) =
     label_point room index (label_line b name) ∷ label_points b room (index + 1) names
 
--- those behind these lines of the program
+-- those beside the breakpoints on these lines of the program
 abbrev pub labels_behind : List ℕ → List Text → Board → List PlacedBreakpoint
 labels_behind lines names b = label_points b (room_behind lines) 0 names
 

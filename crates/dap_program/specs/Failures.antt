@@ -1,4 +1,4 @@
--- What is told of a program that isn't loaded (Debug Adapter Protocol, `launch` and `restart`).
+-- The messages about a program that can't be loaded (Debug Adapter Protocol, `launch` and `restart`).
 use Rattle.std.specs.Prelude.{ℕ, min, ◌++◌, Option, Some, None, codes}
 use Rattle.base_text.specs.Bytes.{Text}
 use Rattle.asm_syntax.specs.declared.fault.AsmFault.TheVariants.{At}
@@ -16,7 +16,7 @@ load_refusal fault.NoStart = codes "the program has no start: END names none"
 load_refusal (fault.Refused (refused.Assembly (At line column kind))) = assembly_refusal line column kind
 load_refusal (fault.Refused f) = board_refusal f
 
--- lines and columns are told up to 4,294,967,295
+-- lines and columns are at most 4,294,967,295
 abbrev pub told_number : ℕ → ℕ
 told_number n = min n 4294967295
 

@@ -1,4 +1,4 @@
--- What is made before a slice's first step, so that what is told of it takes no memory.
+-- What is allocated before a slice's first step, so that the messages about it allocate nothing.
 use Rattle.std.specs.Prelude.{◌≡◌, ◌≤◌, [], codes, vec_capacity}
 use Rattle.dap_program.specs.declared.slice.SliceKit.{SliceKit}
 use Rattle.dap_program.specs.Slices.{line_question}

@@ -32,7 +32,7 @@ abbrev pub with_start : Option ℕ → Board → Result (Board × ℕ) LoadFault
 with_start None b = Err fault.NoStart
 with_start (Some start) b = Ok (b, start)
 
--- that memory was wanting is no refusal
+-- out of memory is not a refusal
 abbrev pub fault_of : EventFault → LoadFault
 fault_of refused.OutOfMemory = fault.OutOfMemory
 fault_of f = fault.Refused f
@@ -41,7 +41,7 @@ abbrev pub loaded_by : Given → Result (Board × ℕ) LoadFault
 loaded_by (Ok (a, b)) = with_start (start_of a) b
 loaded_by (Err f) = Err (fault_of f)
 
--- the board with the program, and where that starts
+-- the board with the program, and its start address
 unfoldable pub load_result : Launch → Text → Result (Board × ℕ) LoadFault
 load_result l text = loaded_by (given (event.Load l.program text) (board_to_load_on l))
 

@@ -18,6 +18,6 @@ abbrev pub with_bytes_at : ℕ → Bytes → Board → Board
 with_bytes_at start [] b = b
 with_bytes_at start (byte ∷ bytes) b = with_bytes_at (start + 1) bytes (after (poke_of start byte) b)
 
--- some of them are, from the first on
+-- some of them are written, from the first on
 abbrev pub WritesSome : ℕ → Bytes → Board → LabState → Type 0
 WritesSome start bytes b lab = (k : ℕ) × StandsFor lab (with_bytes_at start (take k bytes) b)

@@ -1,4 +1,4 @@
--- What goes out (Debug Adapter Protocol, "Base Protocol").
+-- Messages to an editor (Debug Adapter Protocol, "Base Protocol").
 use Rattle.std.specs.Prelude.{ℕ, List, [], ◌∷◌, map}
 use Rattle.base_text.specs.Bytes.{Text}
 use Rattle.dap_editor.specs.declared.message.EditorEvent.{EditorEvent}
@@ -13,20 +13,20 @@ use Rattle.dap_program.specs.declared.messages.Follow.TheVariants as follow
 abbrev pub as_messages : List EditorEvent → List Message
 as_messages events = map (λ e. message.Event e) events
 
--- the answer to the request of this number and command
+-- the response to the request with this number and command
 abbrev pub response : Caller → EditorOutcome → Message
 response c outcome =
     message.Response (record { request_seq = c.seq; command = c.command; outcome = outcome })
 
--- the answer comes first, and the events that it causes come behind it
+-- the response comes first, and then the events that the request causes
 abbrev pub turn_messages : Caller → EditorOutcome → List EditorEvent → List Message
 turn_messages c outcome events = response c outcome ∷ as_messages events
 
--- A run is over, and with it the program.
+-- The run has ended, and with it the program.
 abbrev pub end_events : ℕ → List EditorEvent
 end_events code = event.Exited code ∷ event.Terminated ∷ []
 
--- what follows an answer
+-- what follows a response
 abbrev pub events_of : Follow → List EditorEvent
 events_of follow.Nothing = []
 events_of follow.Continued = event.Continued ∷ []

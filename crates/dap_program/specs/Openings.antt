@@ -1,4 +1,4 @@
--- What is told of a program that is loaded (Debug Adapter Protocol, `launch` and `restart`).
+-- The messages about a program that was loaded (Debug Adapter Protocol, `launch` and `restart`).
 use Rattle.std.specs.Prelude.{List, [], ◌∷◌, ◌++◌, Option, Some, None, if◌then◌else◌}
 use Rattle.std.specs.List.{filter_map}
 use Rattle.dap_answers.specs.declared.answer.Body.TheVariants.{Empty}
@@ -13,11 +13,11 @@ use Rattle.dap_program.specs.declared.opening.Occasion.{Occasion}
 use Rattle.dap_program.specs.declared.opening.Occasion.TheVariants.{Launch, Restart}
 use Rattle.dap_program.specs.Messages.{events_of}
 
--- done, with no more to say
+-- done, with an empty body
 abbrev pub accepted_outcome : EditorOutcome
 accepted_outcome = Success (Board Empty)
 
--- those that are verified now
+-- an event for each breakpoint that is verified now
 abbrev pub verified_event : PlacedBreakpoint → Option EditorEvent
 verified_event p = if p.is_verified then Some (event.Breakpoint p) else None
 

@@ -1,4 +1,4 @@
--- The text of each refusal, which a person can read (Debug Adapter Protocol, "Response", `message`).
+-- The text of each refusal, for the user (Debug Adapter Protocol, "Response", `message`).
 use Rattle.std.specs.Prelude.{ℕ, [], ◌∷◌, ◌++◌, codes, decimal}
 use Rattle.base_text.specs.Bytes.{Text}
 use Rattle.asm_syntax.specs.Faults.{fault_name}
@@ -26,13 +26,13 @@ board_refusal fault.SourcesFull = codes "there are 1,024 sources"
 board_refusal fault.UnknownName = codes "there is no such register or address"
 board_refusal fault.BadValue = codes "the value is no number that fits there"
 
--- what no program could carry out
+-- requests that can't be carried out for any program
 abbrev pub request_refusal : RequestFault → Text
 request_refusal request.NotRequest = codes "not a request"
 request_refusal request.UnknownCommand = codes "unknown command"
 request_refusal request.Arguments = codes "bad arguments"
 
--- what is wrong with a program, at a line and a column from 1
+-- the fault in a program, at a line and a column from 1
 abbrev pub assembly_refusal : ℕ → ℕ → FaultKind → Text
 assembly_refusal line column kind =
     decimal line ++ codes ":" ++ decimal column ++ codes " " ++ fault_name kind

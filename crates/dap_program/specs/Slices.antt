@@ -1,4 +1,4 @@
--- A slice of a program's run, and what an editor is told of it.
+-- A slice of a program's run, and the messages about it.
 use Rattle.std.specs.Prelude.{◌≡◌, ℕ, List, [], ◌∷◌, ◌++◌, Bool, None, codes, if◌then◌else◌}
 use Rattle.std.specs.List.{filter_map, list_any}
 use Rattle.base_text.specs.Bytes.{Bytes}
@@ -30,7 +30,7 @@ use Rattle.dap_program.specs.Messages.{as_messages, end_events}
 abbrev pub output : OutputCategory → Bytes → EditorEvent
 output category bytes = event.Output category bytes None
 
--- nothing is told of no bytes
+-- there is no event without bytes
 abbrev pub console_events : Bytes → List EditorEvent
 console_events [] = []
 console_events (byte ∷ bytes) = output category.Stdout (byte ∷ bytes) ∷ []
@@ -48,9 +48,10 @@ abbrev pub reason_of : Stop → StopReason
 reason_of stop.Breakpoint = reason.Breakpoint
 reason_of stop.Step = reason.Step
 
--- the opcode that the board doesn't have, and where it stands
+-- the line about an undefined opcode and its address
 abbrev pub undefined_line : ℕ → ℕ → Bytes
-undefined_line opcode pc = codes "UndefinedOpcode: " ++ upper_byte opcode ++ codes " at " ++ upper_word pc ++ codes "\n"
+undefined_line opcode pc =
+    codes "UndefinedOpcode: " ++ upper_byte opcode ++ codes " at " ++ upper_word pc ++ codes "\n"
 
 abbrev pub run_end_events : End → List EditorEvent
 run_end_events end.Halted = end_events 0
@@ -62,7 +63,7 @@ outcome_events outcome.Waiting = []
 outcome_events (outcome.Stop s) = event.Stopped (AtBoard (reason_of s)) ∷ []
 outcome_events (outcome.End e) = run_end_events e
 
--- what is told of a slice with these port operations that ended so
+-- the events of a slice with these port operations and this outcome
 abbrev pub slice_events : List PortOperation → SliceOutcome → List EditorEvent
 slice_events traffic ending =
     console_events (filter_map written_to_console traffic) ++ (line_events (list_any wants_line traffic)

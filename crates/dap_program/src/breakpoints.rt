@@ -48,7 +48,7 @@ fn label_points(
     Ok(points)
 }
 
-/// The breakpoints at labels, behind these lines of the program.
+/// The breakpoints at labels, beside those on these lines of the program.
 pub fn labels_behind(
     alloc: Global,
     lab: &Lab,
@@ -62,7 +62,8 @@ pub fn labels_behind(
     label_points(alloc, lab, room_behind(lines), names)
 }
 
-/// Stops a board at these lines of a text and at these labels. Out of memory leaves it as it was.
+/// Sets breakpoints at these lines of a text and at these labels. If memory runs out the board stays as it
+/// was.
 pub fn arm(
     alloc: Global,
     lab: &mut Lab,

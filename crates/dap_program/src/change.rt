@@ -1,4 +1,4 @@
-//! Events of a board.
+//! Applying events to a board.
 ghost use Rattle.std.specs.Prelude.{◌≡◌, true, Err, OnOk, OnErr};
 ghost use Rattle.lab_core.specs.Board.{Board};
 ghost use Rattle.lab_core.specs.Events.{Fits};
@@ -20,7 +20,7 @@ fn is_out_of_memory(answer: Result<Answer, EventFault>) -> bool
     is_out
 }
 
-/// Does an event, which a refusal leaves undone.
+/// Applies an event. If the board refuses it, the board stays as it was.
 pub fn change(lab: &mut Lab, event: Event) -> Result<(), AllocError>
     requires { Fits event }
     ensures ok { (b : Board) → StandsFor lab.old b → OnOk result (StandsFor lab.new (after event b)) }
@@ -34,7 +34,7 @@ pub fn change(lab: &mut Lab, event: Event) -> Result<(), AllocError>
     Ok(())
 }
 
-/// Does an event that takes no memory, which a refusal leaves undone.
+/// Applies an event that allocates nothing. If the board refuses it, the board stays as it was.
 pub fn change_surely(lab: &mut Lab, event: Event)
     requires { IsSure event }
     ensures { (b : Board) → StandsFor lab.old b → StandsFor lab.new (after event b) }
@@ -44,7 +44,7 @@ pub fn change_surely(lab: &mut Lab, event: Event)
     drop(answer);
 }
 
-/// Begins a run at an address. Where it pauses, it is stopped before its first step.
+/// Begins a run at an address. If `pauses`, it is stopped before its first step.
 pub fn begin(lab: &mut Lab, start: u16, pauses: bool)
     ensures { (b : Board) → StandsFor lab.old b → StandsFor lab.new (begin_run start pauses b) }
 {

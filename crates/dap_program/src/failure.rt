@@ -1,4 +1,4 @@
-//! What is told of a program that isn't loaded.
+//! The messages about a program that can't be loaded.
 ghost use Rattle.std.specs.Prelude.{◌≡◌, ◌≤◌, ◌+◌, ◌++◌, length, IfOk, codes, option_to_list};
 ghost use Rattle.dap_program.specs.Messages.{turn_messages, as_messages};
 ghost use Rattle.dap_program.specs.Refusals.{assembly_refusal};
@@ -33,7 +33,7 @@ fn told_number(number: usize) -> u32
     number.min(4_294_967_295) as u32
 }
 
-// What is wrong with a program's text, as a line of output.
+// The fault in a program's text, as a line of output.
 fn fault_line(
     alloc: Global,
     line: usize,
@@ -82,7 +82,7 @@ fn push_some(messages: &mut Messages, event: Option<EditorEvent>)
     }
 }
 
-/// What is told of a launch or a restart of the program at this path that fails.
+/// The messages about a launch or a restart of the program at this path that fails.
 pub fn failure(
     alloc: Global,
     caller: Caller,

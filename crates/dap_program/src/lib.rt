@@ -1,8 +1,8 @@
-// A program on a board, as an editor's debugger has it there: how it is loaded, begins, goes on and ends.
-// `load` gives a board of its own to a program's text, or why there is none. `change` does an event of a
-// board. `make_slice` makes at most 4,096 steps and gives what an editor is told of them: every byte that was
-// written to the console, and why the run stopped or ended. All room is made before the first step.
-// `refusals` has the text of each refusal, and `messages` what goes out.
+// A program on a board in a debugger for editors: how it is loaded, begins, goes on and ends. `load` loads a
+// program's text on a board of its own, or returns why it can't. `change` applies an event to a board.
+// `make_slice` makes at most 4,096 steps and returns the messages about them: every byte that was written to
+// the console, and why the run stopped or ended. All memory is allocated before the first step. `refusals`
+// has the text of each refusal, and `messages` the messages to an editor.
 #![tactic(auto)]
 
 pub mod breakpoints;

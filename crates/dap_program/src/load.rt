@@ -22,11 +22,11 @@ pub struct Loaded {
     pub start: u16,
 }
 
-/// Why a program isn't loaded.
+/// Why a program can't be loaded.
 #[derive(Clone, Copy)]
 pub enum LoadFault {
     OutOfMemory,
-    /// END names no start.
+    /// END names no start address.
     NoStart,
     Refused(EventFault),
 }
@@ -51,7 +51,7 @@ fn board_with_aliases(has_aliases: bool) -> Board
     }
 }
 
-// Prepares a new board as a launch wants it.
+// Sets up a new board for a launch.
 fn prepare(lab: &mut Lab, launch: &Launch)
     requires { StandsFor lab.old opening }
     ensures { StandsFor lab.new (board_to_load_on launch.now) }
@@ -89,7 +89,7 @@ fn load_event(launch: &Launch, text: &Text) -> Result<Event, AllocError>
     Ok(Event::Load { path, text })
 }
 
-/// Loads a program's text on a new board. That memory was wanting may be told in place of any other fault.
+/// Loads a program's text on a new board. `OutOfMemory` may be returned in place of any other fault.
 pub fn load(alloc: Global, launch: &Launch, text: &Text) -> Result<Loaded, LoadFault>
     ensures { result ≢ Err LoadFault.OutOfMemory → Loads (load_result launch.now text.now) result }
 {

@@ -40,7 +40,7 @@ fn write_byte(alloc: Global, lab: &mut Lab, address: u16, byte: u8) -> Result<()
 }
 
 /// Writes bytes from an address on, one after the other, as changes by hand of a stopped run's memory. Each
-/// takes memory: where that is wanting, those before it stay written.
+/// allocates: if memory runs out, the bytes before stay written.
 pub fn write_bytes(alloc: Global, lab: &mut Lab, start: u16, bytes: &[u8]) -> Result<(), AllocError>
     requires { start + length bytes.now ≤ 65536 }
     ensures ok { (b : Board) → StandsFor lab.old b

@@ -1,4 +1,4 @@
-//! What goes out.
+//! The messages to an editor about one request or slice.
 ghost use Rattle.std.specs.Prelude.{◌≡◌, ◌≤◌, ◌+◌, ◌++◌, ◌∷◌, [], length, IfOk};
 ghost use Rattle.dap_program.specs.Messages.{as_messages, response, turn_messages, end_events, events_of};
 
@@ -8,17 +8,17 @@ use dap_editor::message::{EditorEvent, EditorOutcome, EditorResponse, EditorStop
 use std::alloc::{AllocError, Global};
 use std::marker::Model;
 
-/// The most messages for which room is made at once.
+/// The most messages of one request or slice.
 pub const MOST_MESSAGES: usize = 8;
 
-/// Who is answered: the number and the command of a request.
+/// The request that is answered: its number and its command.
 #[derive(Drop)]
 pub struct Caller {
     pub seq: u32,
     pub command: Text,
 }
 
-/// What an editor is told behind the answer to a request.
+/// What follows the response to a request.
 #[derive(Clone, Copy)]
 pub enum Follow {
     Nothing,
@@ -35,7 +35,7 @@ pub struct Messages {
     messages: Vec<Message>,
 }
 
-// One function for all places where messages are dropped.
+// Written out so that every place that drops messages calls one function.
 impl Drop for Messages {
     fn drop(self) {
         let Self { messages: _ } = self;
@@ -54,7 +54,7 @@ impl Model for Messages {
 }
 
 impl Messages {
-    /// None, with room for eight.
+    /// No messages, with room for eight.
     pub fn new(alloc: Global) -> Result<Messages, AllocError>
         ensures { IfOk result (λ messages. messages ≡ []) }
     {
@@ -62,7 +62,7 @@ impl Messages {
         Ok(Messages { messages })
     }
 
-    /// Adds the answer to a request, without allocating.
+    /// Adds the response to a request, without allocating.
     pub fn push_response(&mut self, caller: Caller, outcome: EditorOutcome)
         requires { length self.old + 1 ≤ 8 }
         ensures { self.new ≡ self.old ++ response caller outcome ∷ [] }
@@ -83,7 +83,7 @@ impl Messages {
         self.messages.push_reserved(Message::Event(event));
     }
 
-    /// Adds what tells that the program is over, without allocating.
+    /// Adds the events that say that the program has ended, without allocating.
     pub fn push_end(&mut self, code: u8)
         requires { length self.old + 2 ≤ 8 }
         ensures { self.new ≡ self.old ++ as_messages (end_events code) }
@@ -92,7 +92,7 @@ impl Messages {
         self.push_event(EditorEvent::Terminated);
     }
 
-    /// Adds what follows an answer, without allocating.
+    /// Adds what follows a response, without allocating.
     pub fn push_follow(&mut self, follow: Follow)
         requires { length self.old + 2 ≤ 8 }
         ensures { self.new ≡ self.old ++ as_messages (events_of follow) }
@@ -105,7 +105,7 @@ impl Messages {
         }
     }
 
-    /// The answer to a request and what follows it, in the room of these messages.
+    /// The response to a request and what follows it, without allocating.
     pub fn turn(
         mut self,
         caller: Caller,

@@ -1,4 +1,4 @@
-//! What is told of a program that is loaded.
+//! The messages about a program that was loaded.
 ghost use Rattle.std.specs.Prelude.{◌≡◌, ◌++◌, ◌∷◌, [], OnOk, IfOk};
 ghost use Rattle.dap_program.specs.Messages.{turn_messages, as_messages, response, events_of};
 ghost use Rattle.dap_program.specs.Openings.{accepted_outcome, changed_events, first_events, opening_events};
@@ -24,7 +24,7 @@ fn push_message(messages: &mut Sequence<Message>, event: EditorEvent) -> Result<
     messages.push(Message::Event(event))
 }
 
-// Adds an event where a breakpoint is verified.
+// Adds an event if the breakpoint is verified.
 fn push_changed(
     messages: &mut Sequence<Message>,
     point: &PlacedBreakpoint,
@@ -67,7 +67,7 @@ fn push_first(messages: &mut Sequence<Message>, occasion: Occasion) -> Result<()
     }
 }
 
-// What follows: that the run is stopped or goes on, or that the program is over.
+// Adds what follows: that the run is stopped or goes on, or that the program has ended.
 fn push_follow(messages: &mut Sequence<Message>, follow: Follow) -> Result<(), AllocError>
     ensures { OnOk result (messages.new ≡ messages.old ++ as_messages (events_of follow)) }
 {
@@ -82,7 +82,7 @@ fn push_follow(messages: &mut Sequence<Message>, follow: Follow) -> Result<(), A
     }
 }
 
-// The answer to a launch or a restart.
+// The response to a launch or a restart.
 fn accepted(caller: Caller) -> Message
     ensures { result ≡ response caller (EditorOutcome.Success (EditorBody.Board Body.Empty)) }
 {
@@ -94,8 +94,8 @@ fn accepted(caller: Caller) -> Message
     })
 }
 
-/// What is told of a launch or a restart: the answer, then `initialized` where it asks for the configuration,
-/// then the breakpoints that are verified now, and what follows.
+/// The messages about a launch or a restart: the response, `initialized` after a launch, which asks for the
+/// configuration, then the breakpoints that are verified now, and what follows.
 pub fn opening_messages(
     alloc: Global,
     caller: Caller,

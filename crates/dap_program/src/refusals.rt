@@ -9,7 +9,7 @@ use dap_editor::request::RequestFault;
 use lab_core::fault::EventFault;
 use std::alloc::{AllocError, Global};
 
-/// Why a board doesn't do what it is asked for.
+/// Why the board refuses an event.
 pub fn board_refusal(fault: EventFault) -> &'static str
     ensures { result.now ≡ board_refusal fault }
 {
@@ -43,7 +43,7 @@ pub fn request_refusal(fault: RequestFault) -> &'static str
     }
 }
 
-/// What is wrong with a program: `LINE:COLUMN NAME`.
+/// The fault in a program: `LINE:COLUMN NAME`.
 pub fn assembly_refusal(
     alloc: Global,
     line: usize,
@@ -58,7 +58,7 @@ pub fn assembly_refusal(
     Ok(Text::from(text))
 }
 
-/// The outcome of what is refused with this text.
+/// The outcome of a request that is refused with this text.
 pub fn refused(alloc: Global, text: &str) -> Result<EditorOutcome, AllocError>
     ensures { IfOk result (λ outcome. outcome ≡ EditorOutcome.Refused text.now) }
 {

@@ -23,24 +23,24 @@ use lab_slice::console::{is_line_requested, print_all};
 use lab_slice::slice::{STEPS, run_slice};
 use std::alloc::{AllocError, Global};
 
-/// What an editor is told of a slice, and how it ended.
+/// The messages about a slice, and how it ended.
 #[derive(Drop)]
 pub struct Slice {
     pub messages: Sequence<Message>,
     pub outcome: SliceOutcome,
 }
 
-/// All that a slice may tell, made before its first step.
+/// Room for all messages about a slice, allocated before its first step.
 pub struct SliceKit {
     pub messages: Messages,
     /// Room for what is written to the console.
     pub console: Vec<u8>,
     pub question: Bytes,
-    /// The beginning of what is said of an undefined opcode, with room for the rest.
+    /// The beginning of the line about an undefined opcode, with room for the rest.
     pub opcode: Vec<u8>,
 }
 
-// One function for all places where a kit is dropped.
+// Written out so that every place that drops it calls one function.
 impl Drop for SliceKit {
     fn drop(self) {
         let Self {
@@ -52,7 +52,7 @@ impl Drop for SliceKit {
     }
 }
 
-/// How many bytes are said of an undefined opcode.
+/// The length in bytes of the line about an undefined opcode.
 const OPCODE_LINE: usize = 28;
 
 fn slice_kit(alloc: Global) -> Result<SliceKit, AllocError>
@@ -138,7 +138,7 @@ fn push_at(text: &mut Vec<u8>)
     text.push_reserved(b' ');
 }
 
-// What is said of an undefined opcode, in the room of its beginning.
+// The line about an undefined opcode, without allocating.
 fn undefined_line(mut text: Vec<u8>, opcode: u8, pc: u16) -> Bytes
     requires begun { text.items ≡ codes "UndefinedOpcode: " }
     requires room { 28 ≤ vec_capacity text }
@@ -198,7 +198,7 @@ fn push_outcome(messages: &mut Messages, text: Vec<u8>, outcome: SliceOutcome)
 }
 
 impl SliceKit {
-    // What is told of a slice with these port operations that ended so.
+    // The messages about a slice with these port operations and this outcome.
     fn tell(self, traffic: &[PortOperation], outcome: SliceOutcome) -> Sequence<Message>
         requires kit { IsSliceKit self }
         requires few { length traffic.now ≤ 4096 }
@@ -220,8 +220,8 @@ impl SliceKit {
 
 // ---- the slice
 
-/// At most 4,096 steps of the run on a board, and what is told of them. Where there is no run that goes on,
-/// that is answered as out of memory is. Both leave the board as it was.
+/// Makes at most 4,096 steps of the run on a board, and returns the messages about them. If no run goes on,
+/// it fails like out of memory. If it fails, the board stays as it was.
 pub fn make_slice(alloc: Global, lab: &mut Lab) -> Result<Slice, AllocError>
     requires { Stands lab.old }
     ensures made { (b : Board) → StandsFor lab.old b → b.run ≡ Running

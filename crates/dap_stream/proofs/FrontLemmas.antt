@@ -27,13 +27,13 @@ zero_line = codes "Content-Length:0" ++ line_end
 zero_is : IsLine zero_line zero_field
 zero_is = record { some = omega arith; name_is = refl; value_is = refl; spelled = refl }
 
-zero_allowed : IsAllowed (codes "0") 0
-zero_allowed = record {
+blanks_zero : (blanks : List ℕ) → list_all is_blank blanks ≡ true → IsAllowed (blanks ++ codes "0") 0
+blanks_zero blanks b = record {
   length_is = record {
-    blanks = [];
+    blanks = blanks;
     digits = codes "0";
     spelled = refl;
-    blanks_are = refl;
+    blanks_are = b;
     digits_are = refl;
     some = omega arith;
     few = omega arith;
@@ -73,38 +73,40 @@ completed lines None f =
         fields = f.fields ++ zero_field ∷ [];
         header = header_on lines (zero_line ++ line_end) f.fields (zero_field ∷ []) f.are
             (short_header zero_line zero_field zero_is);
-        length_is = record { value = codes "0"; one = e; allowed = zero_allowed };
+        length_is = record { value = codes "0"; one = e; allowed = blanks_zero [] refl };
       };
     }
 
 -- ONE LINE MORE
 
-pub front_more : (lines line : List ℕ) (size : Option ℕ) (field : Field) → IsFront lines size → IsLine line
-    field
+front_push : (lines line : List ℕ) (size next : Option ℕ) (field : Field) (f : IsFront lines size)
+    → IsLine line field → SaysSoFar (lengths f.fields ++ lengths (field ∷ [])) next
+    → IsFront (lines ++ line) next
+front_push lines line size next field f is says = record {
+  fields = f.fields ++ field ∷ [];
+  are = lines_on lines line f.fields (field ∷ []) f.are (one_line line field is);
+  says = subst (λ l. SaysSoFar l next) (sym (lengths-append f.fields (field ∷ []))) says;
+}
+
+pub lengths-cons : (field : Field) (fields : List Field) → is_length_name field.name ≡ true
+    → lengths (field ∷ fields) ≡ field.value ∷ lengths fields
+lengths-cons field fields e = ap (λ b. if b then (field.value ∷ lengths fields) else (lengths fields)) e
+
+front_more : (lines line : List ℕ) (size : Option ℕ) (field : Field) → IsFront lines size → IsLine line field
     → is_length_name field.name ≡ false → IsFront (lines ++ line) size
 front_more lines line size field f is other =
-    let e : lengths (f.fields ++ field ∷ []) ≡ lengths f.fields =
-    lengths-append f.fields (field ∷ [])
-    ∙ (ap (λ b. lengths f.fields ++ (if b then (field.value ∷ []) else [])) other
-    ∙ append-nil (lengths f.fields)) in
-    record {
-      fields = f.fields ++ field ∷ [];
-      are = lines_on lines line f.fields (field ∷ []) f.are (one_line line field is);
-      says = subst (λ l. SaysSoFar l size) (sym e) f.says;
-    }
+    front_push lines line size size field f is (subst (λ l. SaysSoFar l size)
+    (sym (ap (λ b. lengths f.fields ++ (if b then (field.value ∷ []) else [])) other
+    ∙ append-nil (lengths f.fields))) f.says)
 
-pub front_length : (lines line : List ℕ) (size : ℕ) (field : Field) → IsFront lines None → IsLine line field
+front_length : (lines line : List ℕ) (size : ℕ) (field : Field) → IsFront lines None → IsLine line field
     → is_length_name field.name ≡ true → IsAllowed field.value size → IsFront (lines ++ line) (Some size)
 front_length lines line size field f is named allowed =
-    let e : lengths (f.fields ++ field ∷ []) ≡ field.value ∷ [] =
-    lengths-append f.fields (field ∷ [])
-    ∙ (ap (λ b. lengths f.fields ++ (if b then (field.value ∷ []) else [])) named
-    ∙ ap (λ l. l ++ field.value ∷ []) f.says) in
-    record {
-      fields = f.fields ++ field ∷ [];
-      are = lines_on lines line f.fields (field ∷ []) f.are (one_line line field is);
-      says = record { value = field.value; one = e; allowed = allowed };
-    }
+    front_push lines line None (Some size) field f is (record {
+      value = field.value;
+      one = ap (λ l. l ++ lengths (field ∷ [])) f.says ∙ lengths-cons field [] named;
+      allowed = allowed;
+    })
 
 -- WHAT CAN GO ON
 
@@ -141,11 +143,11 @@ longer_name name =
     let n : length (str_to_ascii_lowercase (name ++ filler)) ≡ 14 = ap length k in
     omega (arith, n, length-map (name ++ filler) to_ascii_lowercase, length-append name filler)))
 
-abbrev made : List ℕ → List ℕ → Field
+abbrev pub made : List ℕ → List ℕ → Field
 made name value = record { name = name; value = value }
 
 -- the line of a field
-abbrev line_of : List ℕ → List ℕ → List ℕ
+abbrev pub line_of : List ℕ → List ℕ → List ℕ
 line_of name value = name ++ colon ∷ (value ++ line_end)
 
 pub line_is : (name value : List ℕ) → IsName name → list_all is_value_byte value ≡ true
@@ -165,20 +167,14 @@ begins_name lines name size f n =
 
 -- a field up to its line's end
 pub ends_other : (lines name value : List ℕ) (size : Option ℕ) → IsFront lines size → IsName name
-    → is_length_name name ≡ false → list_all is_value_byte value ≡ true
-    → EndsLine lines (name ++ colon ∷ value) size
-ends_other lines name value size f n other v =
-    let e : (name ++ colon ∷ value) ++ line_end ≡ line_of name value = append_assoc name (colon ∷ value)
-    line_end in
-    let is : IsLine ((name ++ colon ∷ value) ++ line_end) (made name value) =
-    record { some = n.some; name_is = n.name_is; value_is = v; spelled = e } in
-    record {
-      before = f.fields;
-      are = f.are;
-      field = made name value;
-      line = is;
-      after = front_more lines ((name ++ colon ∷ value) ++ line_end) size (made name value) f is other;
-    }
+    → is_length_name name ≡ false → list_all is_value_byte value ≡ true → EndsLine lines name value size
+ends_other lines name value size f n other v = record {
+  before = size;
+  front = f;
+  name_is = n;
+  value_is = v;
+  after = front_more lines (line_of name value) size (made name value) f (line_is name value n v) other;
+}
 
 pub blank_value : (x : ℕ) → is_blank x ≡ true → is_value_byte x ≡ true
 blank_value x e = grind (arith, nat_tests)
@@ -194,61 +190,28 @@ length_value value size is =
     (passes_weaker is_ascii_digit is_value_byte digit_value is.digits is.digits_are))
 
 pub ends_length : (lines name value : List ℕ) (size : ℕ) → IsFront lines None → IsName name
-    → is_length_name name ≡ true → IsAllowed value size → EndsLine lines (name ++ colon ∷ value) (Some size)
+    → is_length_name name ≡ true → IsAllowed value size → EndsLine lines name value (Some size)
 ends_length lines name value size f n named allowed =
     let v = length_value value size allowed.length_is in
-    let e : (name ++ colon ∷ value) ++ line_end ≡ line_of name value = append_assoc name (colon ∷ value)
-    line_end in
-    let is : IsLine ((name ++ colon ∷ value) ++ line_end) (made name value) =
-    record { some = n.some; name_is = n.name_is; value_is = v; spelled = e } in
     record {
-      before = f.fields;
-      are = f.are;
-      field = made name value;
-      line = is;
-      after = front_length lines ((name ++ colon ∷ value) ++ line_end) size (made name value) f is named
+      before = None;
+      front = f;
+      name_is = n;
+      value_is = v;
+      after = front_length lines (line_of name value) size (made name value) f (line_is name value n v) named
           allowed;
     }
 
-pub begins_end : (lines front : List ℕ) (size : Option ℕ) → EndsLine lines front size → Begins
-    (lines ++ front)
-begins_end lines front size e = begins_line lines front line_end (front ++ line_end) size e.after refl
-
-pub begins_return : (lines front : List ℕ) (size : Option ℕ) → EndsLine lines front size
-    → Begins (lines ++ (front ++ 13 ∷ []))
-begins_return lines front size e =
-    begins_line lines (front ++ 13 ∷ []) (10 ∷ []) (front ++ line_end) size e.after
-    (sym (append_assoc front (13 ∷ []) (10 ∷ [])))
-
 -- a Content-Length whose value can go on
-pub begins_length : (lines name value : List ℕ) → IsFront lines None → IsName name → is_length_name name ≡
-    true
-    → CanSay value → Begins (lines ++ (name ++ colon ∷ value))
+pub begins_length : (lines name value : List ℕ) → IsFront lines None → IsName name
+    → is_length_name name ≡ true → CanSay value → Begins (lines ++ (name ++ colon ∷ value))
 begins_length lines name value f n named can =
     let e = ends_length lines name (value ++ can.more) can.size f n named can.allowed in
-    begins_line lines (name ++ colon ∷ value) (can.more ++ line_end)
-    ((name ++ colon ∷ (value ++ can.more)) ++ line_end) (Some can.size) e.after
-    (ap (λ l. l ++ line_end) (sym (append_assoc name (colon ∷ value) can.more))
-    ∙ append_assoc (name ++ colon ∷ value) can.more line_end)
+    begins_line lines (name ++ colon ∷ value) (can.more ++ line_end) (line_of name (value ++ can.more))
+    (Some can.size) e.after (simp append_assoc)
 
 pub says_blanks : (value : List ℕ) → list_all is_blank value ≡ true → CanSay value
-says_blanks value b = record {
-  more = codes "0";
-  size = 0;
-  allowed = record {
-    length_is = record {
-      blanks = value;
-      digits = codes "0";
-      spelled = refl;
-      blanks_are = b;
-      digits_are = refl;
-      some = omega arith;
-      few = omega arith;
-      size_is = refl;
-    };
-    within = omega arith;
-  };
-}
+says_blanks value b = record { more = codes "0"; size = 0; allowed = blanks_zero value b }
 
 pub says_size : (value : List ℕ) (size : ℕ) → IsAllowed value size → CanSay value
 says_size value size allowed = record { more = []; size = size; allowed = rw (append-nil value) allowed }

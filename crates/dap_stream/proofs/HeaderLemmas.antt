@@ -1,10 +1,11 @@
-use Rattle.std.proofs.Common.{◌≡◌, ℕ, ◌<◌, Bool, true, false, List, [], ◌∷◌, ◌++◌, length, refl, sym, ◌∙◌}
-use Rattle.std.proofs.Common.{ap, subst, append_assoc, if◌then◌else◌}
+use Rattle.std.proofs.Common.{◌≡◌, ℕ, Bool, true, false, List, [], ◌∷◌, ◌++◌, length, refl, sym, ◌∙◌}
+use Rattle.std.proofs.Common.{ap, subst, append_assoc, if◌then◌else◌, arith}
 use Rattle.std.specs.List.{list_all}
 use Rattle.std.proofs.lemmas.List.{append-nil}
 use Rattle.dap_stream.specs.Header.{line_end, colon, is_name_byte, is_value_byte, Field, IsLine, IsLines}
 use Rattle.dap_stream.specs.Header.{Ends, Next, IsHeader, is_length_name, lengths}
 use Rattle.dap_stream.specs.Faults.{CanBe}
+use Rattle.dap_stream.specs.Spans.{IsName}
 use Rattle.dap_stream.proofs.SpanLemmas.{same_split}
 
 -- lines one after another
@@ -38,74 +39,72 @@ header_on lines t fs gs are h = record {
   spelled = ap (λ l. lines ++ l) h.spelled ∙ sym (append_assoc lines h.lines line_end);
 }
 
--- the first line of a header
-pub data Shape (bytes : List ℕ) : List Field → Type 0 where
-  Empty : bytes ≡ line_end → Shape bytes []
-  Full : (field : Field) (line others : List ℕ) (fields : List Field) → IsLine line field
-      → bytes ≡ field.name ++ colon ∷ (field.value ++ 13 ∷ 10 ∷ others) → IsHeader others fields
-      → Shape bytes (field ∷ fields)
+-- a header that begins with a byte that is none of a name's: the empty line
+pub record AtEmpty (byte : ℕ) (more : List ℕ) (gs : List Field) : Type 0 where
+  pub byte_is : byte ≡ 13
+  pub feed : more ≡ 10 ∷ []
+  pub none : gs ≡ []
 
-shape_of : (bytes lines : List ℕ) (fields : List Field) → IsLines lines fields → bytes ≡ lines ++ line_end
-    → Shape bytes fields
-shape_of bytes _ _ (Ends lines e) s = Empty (s ∙ ap (λ l. l ++ line_end) e)
-shape_of bytes _ _ (Next lines line others field fields is e are) s =
-    let k : bytes ≡ ((field.name ++ colon ∷ (field.value ++ line_end)) ++ others) ++ line_end =
-    s ∙ ap (λ l. l ++ line_end) (e ∙ ap (λ l. l ++ others) is.spelled) in
-    Full field line (others ++ line_end) fields is (k ∙ simp append_assoc)
-    (record { lines = others; are = are; spelled = refl })
-
-pub shape : (bytes : List ℕ) (fields : List Field) → IsHeader bytes fields → Shape bytes fields
-shape bytes fields h = shape_of bytes h.lines fields h.are h.spelled
-
--- a header that begins with a name and then a byte that is none of a name's
-pub data AtName (name : List ℕ) (byte : ℕ) (t : List ℕ) : List Field → Type 0 where
-  AtEnd : name ≡ [] → byte ≡ 13 → t ≡ 10 ∷ [] → AtName name byte t []
-  AtColon : (field : Field) (others : List ℕ) (fields : List Field) → field.name ≡ name → 0 < length name
-      → byte ≡ colon → list_all is_value_byte field.value ≡ true → t ≡ field.value ++ 13 ∷ 10 ∷ others
-      → IsHeader others fields → AtName name byte t (field ∷ fields)
-
-name_shape : (name t : List ℕ) (byte : ℕ) (fields : List Field) → list_all is_name_byte name ≡ true
-    → is_name_byte byte ≡ false → Shape (name ++ byte ∷ t) fields → AtName name byte t fields
-name_shape name t byte _ pn pb (Empty e) =
-    let s = same_split is_name_byte name [] t (10 ∷ []) byte 13 pn refl pb refl e in
-    AtEnd s.front s.byte s.others
-name_shape name t byte _ pn pb (Full field line others fields is e h) =
-    let s = same_split is_name_byte name field.name t (field.value ++ 13 ∷ 10 ∷ others) byte colon pn
-    is.name_is
-    pb refl e in
-    AtColon field others fields (sym s.front) (rw s.front is.some) s.byte is.value_is s.others h
-
-pub at_name : (name t : List ℕ) (byte : ℕ) (fields : List Field) → list_all is_name_byte name ≡ true
-    → is_name_byte byte ≡ false → IsHeader (name ++ byte ∷ t) fields → AtName name byte t fields
-at_name name t byte fields pn pb h = name_shape name t byte fields pn pb (shape (name ++ byte ∷ t) fields h)
-
--- a header that begins with a name and a colon
-pub record AtField (name t : List ℕ) (gs : List Field) : Type 0 where
+-- a header that begins with a name, and then a byte that is none of a name's
+pub record AtField (name : List ℕ) (byte : ℕ) (t : List ℕ) (gs : List Field) : Type 0 where
   pub field : Field
   pub others : List ℕ
   pub fields : List Field
+  pub byte_is : byte ≡ colon
   pub fields_are : gs ≡ field ∷ fields
   pub name_is : field.name ≡ name
   pub value_is : list_all is_value_byte field.value ≡ true
   pub after : t ≡ field.value ++ 13 ∷ 10 ∷ others
   pub header : IsHeader others fields
 
-field_at : (name t : List ℕ) (gs : List Field) → AtName name colon t gs → AtField name t gs
-field_at name t _ (AtEnd a b c) = absurd (cc)
-field_at name t _ (AtColon field others fields n some b v e h) = record {
-  field = field;
-  others = others;
-  fields = fields;
-  fields_are = refl;
-  name_is = n;
-  value_is = v;
-  after = e;
-  header = h;
-}
+first_line : (line others : List ℕ) (field : Field) → IsLine line field
+    → (line ++ others) ++ line_end ≡ field.name ++ colon ∷ (field.value ++ 13 ∷ 10 ∷ (others ++ line_end))
+first_line line others field is = ap (λ l. (l ++ others) ++ line_end) is.spelled ∙ simp append_assoc
 
-pub at_field : (name t : List ℕ) (gs : List Field) → list_all is_name_byte name ≡ true
-    → IsHeader (name ++ colon ∷ t) gs → AtField name t gs
-at_field name t gs pn h = field_at name t gs (at_name name t colon gs pn refl h)
+empty_at : (more lines : List ℕ) (byte : ℕ) (gs : List Field) → is_name_byte byte ≡ false → IsLines lines gs
+    → byte ∷ more ≡ lines ++ line_end → AtEmpty byte more gs
+empty_at more _ byte _ b (Ends lines e) s =
+    let k : byte ∷ more ≡ line_end = s ∙ ap (λ l. l ++ line_end) e in
+    record { byte_is = cc; feed = cc; none = refl }
+empty_at more _ byte _ b (Next lines line others field fields is e are) s =
+    let k = same_split is_name_byte [] field.name more (field.value ++ 13 ∷ 10 ∷
+    (others ++ line_end)) byte colon
+    refl is.name_is b refl (s ∙ (ap (λ l. l ++ line_end) e ∙ first_line line others field is)) in
+    let n : 0 ≡ length field.name = ap length k.front in
+    let some = is.some in
+    absurd (omega (arith, n, some))
+
+pub at_empty : (more : List ℕ) (byte : ℕ) (gs : List Field) → is_name_byte byte ≡ false
+    → IsHeader (byte ∷ more) gs → AtEmpty byte more gs
+at_empty more byte gs b h = empty_at more h.lines byte gs b h.are h.spelled
+
+field_at : (name t lines : List ℕ) (byte : ℕ) (gs : List Field) → IsName name → is_name_byte byte ≡ false
+    → IsLines lines gs → name ++ byte ∷ t ≡ lines ++ line_end → AtField name byte t gs
+field_at name t _ byte _ n b (Ends lines e) s =
+    let k = same_split is_name_byte name [] t (10 ∷ []) byte 13 n.name_is refl b refl
+    (s ∙ ap (λ l. l ++ line_end) e) in
+    let none : length name ≡ 0 = ap length k.front in
+    let some = n.some in
+    absurd (omega (arith, none, some))
+field_at name t _ byte _ n b (Next lines line others field fields is e are) s =
+    let k = same_split is_name_byte name field.name t (field.value ++ 13 ∷ 10 ∷
+    (others ++ line_end)) byte colon
+    n.name_is is.name_is b refl (s ∙ (ap (λ l. l ++ line_end) e ∙ first_line line others field is)) in
+    record {
+      field = field;
+      others = others ++ line_end;
+      fields = fields;
+      byte_is = k.byte;
+      fields_are = refl;
+      name_is = sym k.front;
+      value_is = is.value_is;
+      after = k.others;
+      header = record { lines = others; are = are; spelled = refl };
+    }
+
+pub at_field : (name t : List ℕ) (byte : ℕ) (gs : List Field) → IsName name → is_name_byte byte ≡ false
+    → IsHeader (name ++ byte ∷ t) gs → AtField name byte t gs
+at_field name t byte gs n b h = field_at name t h.lines byte gs n b h.are h.spelled
 
 -- what follows whole lines in a header is a header
 pub record After (t : List ℕ) (fs gs : List Field) : Type 0 where
@@ -122,10 +121,10 @@ after_line : (line t : List ℕ) (field : Field) (gs : List Field) → IsLine li
 after_line line t field gs is h =
     let e : line ++ t ≡ field.name ++ colon ∷ (field.value ++ 13 ∷ 10 ∷ t) =
     ap (λ l. l ++ t) is.spelled ∙ simp append_assoc in
-    let a = at_field field.name (field.value ++ 13 ∷ 10 ∷ t) gs is.name_is (rw e at h) in
+    let a = at_field field.name (field.value ++ 13 ∷ 10 ∷ t) colon gs
+    (record { some = is.some; name_is = is.name_is }) refl (rw e at h) in
     let s = same_split is_value_byte field.value a.field.value (10 ∷ t) (10 ∷ a.others) 13 13 is.value_is
-    a.value_is
-    refl refl a.after in
+    a.value_is refl refl a.after in
     let n = a.name_is in
     let v = s.front in
     let same : made a.field.name a.field.value ≡ made field.name field.value = cc in
@@ -150,14 +149,14 @@ after_lines _ t _ gs (Next lines line others field fields is e are) h =
       header = b.header;
     }
 
--- after whole lines, what no header can have from there on
-pub never : (demand : List (List ℕ) → Type 0) (lines part : List ℕ) (fs : List Field) → IsLines lines fs
-    → ((more : List ℕ) (gs : List Field) → IsHeader (part ++ more) gs → demand (lengths fs ++ lengths gs) →
-    ⊥)
-    → CanBe demand (lines ++ part) → ⊥
-never demand lines part fs are none can =
-    let h = rw (append_assoc lines part can.more) at can.header in
-    let a = after_lines lines (part ++ can.more) fs can.fields are h in
+-- after whole lines, what no header can have that goes on with this part and byte
+pub never : (demand : List (List ℕ) → Type 0) (lines part : List ℕ) (byte : ℕ) (fs : List Field)
+    → IsLines lines fs → ((more : List ℕ) (gs : List Field) → IsHeader (part ++ byte ∷ more) gs
+    → demand (lengths fs ++ lengths gs) → ⊥) → CanBe demand (lines ++ (part ++ byte ∷ [])) → ⊥
+never demand lines part byte fs are none can =
+    let e : (lines ++ (part ++ byte ∷ [])) ++ can.more ≡ lines ++
+    (part ++ byte ∷ can.more) = simp append_assoc in
+    let a = after_lines lines (part ++ byte ∷ can.more) fs can.fields are (rw e at can.header) in
     none can.more a.others a.header (rw (a.fields_are, lengths-append fs a.others) at can.met)
 
 -- after whole lines, what a header has from there on

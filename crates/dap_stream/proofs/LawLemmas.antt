@@ -1,18 +1,20 @@
-use Rattle.std.proofs.Common.{◌≡◌, ℕ, ◌<◌, ◌≤◌, Option, Some, None, List, [], ◌∷◌, ◌++◌, length, take, drop}
-use Rattle.std.proofs.Common.{true, refl, arith, sym, ◌∙◌, ap, subst, append_assoc, length-append}
-use Rattle.std.specs.List.{list_all}
-use Rattle.std.proofs.lemmas.List.{append-nil, nil_from_length}
-use Rattle.std.proofs.Math.Seq.{drop-append_seam, take-append_seam}
+use Rattle.std.proofs.Common.{◌≡◌, ℕ, ◌+◌, ◌<◌, ◌≤◌, ◌⊎◌, inl, inr, Option, Some, None, List, [], ◌∷◌}
+use Rattle.std.proofs.Common.{◌++◌, length}
+use Rattle.std.proofs.Common.{take, drop, refl, arith, sym, ◌∙◌, ap, subst, append_assoc, length-append}
+use Rattle.std.proofs.lemmas.Bool.{cases_lt, cases_order}
+use Rattle.std.proofs.lemmas.List.{append-nil, append_cancel_left, take-take, take-append-drop}
+use Rattle.std.proofs.lemmas.List.{take-append-le}
+use Rattle.std.proofs.Math.Seq.{take-append_seam, take-length}
 use Rattle.dap_stream.specs.declared.fault.StreamFault.{StreamFault}
-use Rattle.dap_stream.specs.Header.{line_end, colon, is_name_byte, is_value_byte, Field, IsLine, IsLines}
-use Rattle.dap_stream.specs.Header.{Ends, Next, IsHeader, IsLength, IsAllowed, SaysOnce, IsHeaderOf, lengths}
+use Rattle.dap_stream.specs.declared.fault.StreamFault.TheVariants as fault
+use Rattle.dap_stream.specs.Header.{line_end, Field, IsHeader, IsLength, IsAllowed, SaysOnce, IsHeaderOf}
+use Rattle.dap_stream.specs.Header.{lengths}
 use Rattle.dap_stream.specs.Faults.{CanBe, Any, AtMostOne, Single, IsNumber, Numbered, Small, Sized, Begins}
 use Rattle.dap_stream.specs.Faults.{Lacks, NoHeader, Twice, NoNumber, TooLarge, Missing}
 use Rattle.dap_stream.specs.Stream.{IsMessage, Reads, Stays, Goes, IsPartial, InHeader, InBody, IsFault}
 use Rattle.dap_stream.specs.Stream.{InLine, InSize, DecoderState, StandsFor, EndsIn}
 use Rattle.dap_stream.specs.Reading.{EndsAt}
-use Rattle.dap_stream.proofs.SpanLemmas.{same_split}
-use Rattle.dap_stream.proofs.HeaderLemmas.{shape, Shape, Empty, Full}
+use Rattle.dap_stream.proofs.HeaderLemmas.{at_empty, after_lines}
 use Rattle.dap_stream.proofs.LengthLemmas.{all_digits, digits_stop}
 
 -- DEMANDS
@@ -95,84 +97,22 @@ begins_sized a b h =
 
 -- HEADERS
 
--- two headers at the front of the same bytes
-record SameHeader (h k s t : List ℕ) (fs gs : List Field) : Type 0 where
-  pub header : h ≡ k
-  pub others : s ≡ t
-  pub fields : fs ≡ gs
+-- what follows a header, where it is a header with it too: nothing
+record IsAlone (m : List ℕ) (fs gs : List Field) : Type 0 where
+  pub none : m ≡ []
+  pub fields : gs ≡ fs
 
-abbrev made : List ℕ → List ℕ → Field
-made name value = record { name = name; value = value }
-
--- a field's line, and what follows it
-abbrev full : List ℕ → List ℕ → List ℕ → List ℕ
-full name value others = name ++ colon ∷ (value ++ 13 ∷ 10 ∷ others)
-
-no_name : (name x y : List ℕ) → list_all is_name_byte name ≡ true → name ++ colon ∷ x ≡ 13 ∷ y → ⊥
-no_name name x y n e =
-    let s = same_split is_name_byte name [] x y colon 13 n refl refl refl e in
-    let b = s.byte in cc
-
-line_full : (line others : List ℕ) (field : Field) → IsLine line field
-    → line ++ others ≡ full field.name field.value others
-line_full line others field is = ap (λ l. l ++ others) is.spelled ∙ simp append_assoc
-
-no_more : (h k s t : List ℕ) (gs : List Field) → h ≡ line_end → Shape k gs → h ++ s ≡ k ++ t
-    → SameHeader h k s t [] gs
-no_more h k s t _ e (Empty k_is) same =
-    let x : 13 ∷ 10 ∷ s ≡ 13 ∷ 10 ∷ t = ap (λ l. l ++ s) (sym e) ∙ (same ∙ ap (λ l. l ++ t) k_is) in
-    record { header = e ∙ sym k_is; others = cc; fields = refl }
-no_more h k s t _ e (Full field line others fields is k_is g) same =
-    let x : full field.name field.value (others ++ t) ≡ 13 ∷ 10 ∷ s =
-    sym (ap (λ l. l ++ t) k_is ∙ simp append_assoc) ∙ (sym same ∙ ap (λ l. l ++ s) e) in
-    absurd (no_name field.name (field.value ++ 13 ∷ 10 ∷ (others ++ t)) (10 ∷ s) is.name_is x)
-
-one_more : (h o line s k t : List ℕ) (field : Field) (fields gs : List Field) → IsLine line field → h ≡ line
-    ++ o
-    → Shape k gs → h ++ s ≡ k ++ t
-    → ((others : List ℕ) (more : List Field) → IsHeader others more → o ++ s ≡ others ++ t
-    → SameHeader o others s t fields more) → SameHeader h k s t (field ∷ fields) gs
-one_more h o line s k t field fields _ is e (Empty k_is) same next =
-    let x : full field.name field.value (o ++ s) ≡ 13 ∷ 10 ∷ t =
-    sym (ap (λ l. l ++ s) e ∙ (append_assoc line o s ∙ line_full line (o ++ s) field is))
-    ∙ (same ∙ ap (λ l. l ++ t) k_is) in
-    absurd (no_name field.name (field.value ++ 13 ∷ 10 ∷ (o ++ s)) (10 ∷ t) is.name_is x)
-one_more h o line s k t field fields _ is e (Full field' line' others more is' k_is g) same next =
-    let x : full field.name field.value (o ++ s) ≡ full field'.name field'.value (others ++ t) =
-    sym (ap (λ l. l ++ s) e ∙ (append_assoc line o s ∙ line_full line (o ++ s) field is))
-    ∙ (same ∙ (ap (λ l. l ++ t) k_is ∙ simp append_assoc)) in
-    let n = same_split is_name_byte field.name field'.name (field.value ++ 13 ∷ 10 ∷ (o ++ s))
-    (field'.value ++ 13 ∷ 10 ∷ (others ++ t)) colon colon is.name_is is'.name_is refl refl x in
-    let v = same_split is_value_byte field.value field'.value (10 ∷ (o ++ s)) (10 ∷ (others ++ t)) 13 13
-    is.value_is
-    is'.value_is refl refl n.others in
-    let y = v.others in
-    let z : o ++ s ≡ others ++ t = cc in
-    let r = next others more g z in
-    let name_is = n.front in
-    let value_is = v.front in
-    let others_is = r.header in
-    let fields_is = r.fields in
-    let one : full field.name field.value o ≡ full field'.name field'.value others = cc in
-    let field_is : made field.name field.value ≡ made field'.name field'.value = cc in
-    record {
-      header = e ∙ (line_full line o field is ∙ (one ∙ sym k_is));
-      others = r.others;
-      fields = cc;
-    }
-
-same_from : (lines s k t : List ℕ) (fs gs : List Field) → IsLines lines fs → IsHeader k gs
-    → (lines ++ line_end) ++ s ≡ k ++ t → SameHeader (lines ++ line_end) k s t fs gs
-same_from _ s k t _ gs (Ends lines e) h same =
-    no_more (lines ++ line_end) k s t gs (ap (λ l. l ++ line_end) e) (shape k gs h) same
-same_from _ s k t _ gs (Next lines line others field fields is e are) h same =
-    one_more (lines ++ line_end) (others ++ line_end) line s k t field fields gs is
-    (ap (λ l. l ++ line_end) e ∙ append_assoc line others line_end) (shape k gs h) same
-    (λ others' more g next. same_from others s others' t fields more are g next)
+header_alone : (h m : List ℕ) (fs gs : List Field) → IsHeader h fs → IsHeader (h ++ m) gs → IsAlone m fs gs
+header_alone h m fs gs a b =
+    let e : h ++ m ≡ a.lines ++ 13 ∷ 10 ∷ m = ap (λ l. l ++ m) a.spelled ∙ append_assoc a.lines line_end m in
+    let r = after_lines a.lines (13 ∷ 10 ∷ m) fs gs a.are (subst (λ l. IsHeader l gs) e b) in
+    let empty = at_empty (10 ∷ m) 13 r.others refl r.header in
+    let feed = empty.feed in
+    record { none = cc; fields = r.fields_are ∙ (ap (λ l. fs ++ l) empty.none ∙ append-nil fs) }
 
 same_size : (value : List ℕ) (m n : ℕ) → IsLength value m → IsLength value n → m ≡ n
 same_size value m n a b =
-    let all = all_digits a.blanks a.digits n a.blanks_are (digits_stop a.digits a.digits_are) a.some
+    let all = all_digits a.blanks a.digits n a.blanks_are (digits_stop a.digits a.digits_are)
     (subst (λ l. IsLength l n) a.spelled b) in
     a.size_is ∙ sym all.size_is
 
@@ -182,177 +122,166 @@ same_once values m n a b =
     let v : a.value ≡ b.value = cc in
     same_size a.value m n a.allowed.length_is (subst (λ l. IsLength l n) (sym v) b.allowed.length_is)
 
--- a header that says a size stands at the front in one way only
-record SameSized (h k s t : List ℕ) (m n : ℕ) : Type 0 where
-  pub header : h ≡ k
-  pub others : s ≡ t
-  pub size : m ≡ n
+record IsSame (m : List ℕ) (i j : ℕ) : Type 0 where
+  pub none : m ≡ []
+  pub size : i ≡ j
 
-same_sized : (h k s t : List ℕ) (m n : ℕ) → IsHeaderOf h m → IsHeaderOf k n → h ++ s ≡ k ++ t
-    → SameSized h k s t m n
-same_sized h k s t m n a b e =
-    let i = ap (λ l. l ++ s) (sym a.header.spelled) ∙ e in
-    let r = same_from a.header.lines s k t a.fields b.fields a.header.are b.header i in
+sized_alone : (h m : List ℕ) (i j : ℕ) → IsHeaderOf h i → IsHeaderOf (h ++ m) j → IsSame m i j
+sized_alone h m i j a b =
+    let r = header_alone h m a.fields b.fields a.header b.header in
     record {
-      header = a.header.spelled ∙ r.header;
-      others = r.others;
-      size = same_once (lengths b.fields) m n (subst (λ f. SaysOnce (lengths f) m) r.fields a.length_is)
-          b.length_is;
+      none = r.none;
+      size = same_once (lengths a.fields) i j a.length_is
+          (subst (λ f. SaysOnce (lengths f) j) r.fields b.length_is);
     }
 
+-- a header that says a size stands at the front in one way only
+record SameSized (s t : List ℕ) (i j : ℕ) : Type 0 where
+  pub others : s ≡ t
+  pub size : i ≡ j
+
+same_sized : (h k s t : List ℕ) (i j : ℕ) → IsHeaderOf h i → IsHeaderOf k j → h ++ s ≡ k ++ t
+    → SameSized s t i j
+same_sized h k s t i j a b e = by_order (cases_lt (length h) (length k))
+  where
+    -- the first isn't longer
+    ordered : (h k s t : List ℕ) (i j : ℕ) → length h ≤ length k → IsHeaderOf h i → IsHeaderOf k j
+        → h ++ s ≡ k ++ t → SameSized s t i j
+    ordered h k s t i j few a b e =
+        let front : take (length h) k ≡ h =
+        sym (take-append-le (length h) k t few) ∙ (ap (take (length h)) (sym e) ∙ take-append_seam h s) in
+        let m = drop (length h) k in
+        let whole : k ≡ h ++ m = sym (take-append-drop (length h) k) ∙ ap (λ l. l ++ m) front in
+        let r = sized_alone h m i j a (subst (λ l. IsHeaderOf l j) whole b) in
+        let same : k ≡ h = whole ∙ (ap (λ l. h ++ l) r.none ∙ append-nil h) in
+        record { others = append_cancel_left h s t (e ∙ ap (λ l. l ++ t) same); size = r.size }
+
+    by_order : (length h < length k) ⊎ (length k ≤ length h) → SameSized s t i j
+    by_order (inl less) = ordered h k s t i j (omega arith) a b e
+    by_order (inr few) =
+        let r = ordered k h t s j i few b a (sym e) in record { others = sym r.others; size = sym r.size }
+
+-- FRONTS OF A STREAM, BY THEIR LENGTHS
+
+front_is : (bytes front others : List ℕ) → bytes ≡ front ++ others → front ≡ take (length front) bytes
+front_is bytes front others e = sym (ap (take (length front)) e ∙ take-append_seam front others)
+
+header_front : (bytes h others : List ℕ) (size : ℕ) → bytes ≡ h ++ others → IsHeaderOf h size
+    → IsHeaderOf (take (length h) bytes) size
+header_front bytes h others size e = subst (λ l. IsHeaderOf l size) (front_is bytes h others e)
+
+longer : (bytes : List ℕ) (m n : ℕ) → m ≤ n → take n bytes ≡ take m bytes ++ drop m (take n bytes)
+longer bytes m n h =
+    sym (ap (λ l. l ++ drop m (take n bytes)) (sym (take-take m n bytes h)) ∙ take-append-drop m
+    (take n bytes))
+
 -- no header begins with a whole header
-none_begins : (h m : List ℕ) (size : ℕ) → IsHeaderOf h size → Begins (h ++ m) → ⊥
-none_begins h m size a b =
-    let e : h ++ (m ++ b.more) ≡ ((h ++ m) ++ b.more) ++ [] =
-    sym (append_assoc h m b.more) ∙ sym (append-nil ((h ++ m) ++ b.more)) in
-    let r = same_sized h ((h ++ m) ++ b.more) (m ++ b.more) [] size b.size a b.whole e in
-    let n = ap length r.others in
-    let some = b.some in
-    omega (arith, n, some, length-append m b.more)
+none_begins : (bytes : List ℕ) (m n size : ℕ) → m ≤ n → IsHeaderOf (take m bytes) size
+    → Begins (take n bytes) → ⊥
+none_begins bytes m n size h a b =
+    let part = drop m (take n bytes) in
+    let c = subst Begins (longer bytes m n h) b in
+    let r = sized_alone (take m bytes) (part ++ c.more) size c.size a
+    (subst (λ l. IsHeaderOf l c.size) (append_assoc (take m bytes) part c.more) c.whole) in
+    let none = ap length r.none in
+    let some = c.some in
+    omega (arith, none, some, length-append part c.more)
 
--- WHAT STANDS AT THE FRONT
+-- what a header, or the beginning of one, doesn't lack
+whole_lacks : (bytes : List ℕ) (m n size : ℕ) (c : StreamFault) → m ≤ n → IsHeaderOf (take n bytes) size
+    → Lacks (take m bytes) c → ⊥
+whole_lacks bytes m n size c h a l =
+    nothing_lacks (take m bytes) c l
+    (sized_front (take m bytes) (drop m (take n bytes)) size (subst (λ l. IsHeaderOf l size)
+    (longer bytes m n h) a))
 
--- of two fronts of the same bytes one is a front of the other
-data Cut (a b s t : List ℕ) : Type 0 where
-  Longer : (m : List ℕ) → a ≡ b ++ m → t ≡ m ++ s → Cut a b s t
-  Shorter : (m : List ℕ) → b ≡ a ++ m → s ≡ m ++ t → Cut a b s t
+begun_lacks : (bytes : List ℕ) (m n : ℕ) (c : StreamFault) → m ≤ n → Begins (take n bytes)
+    → Lacks (take m bytes) c → ⊥
+begun_lacks bytes m n c h b l =
+    nothing_lacks (take m bytes) c l
+    (begins_sized (take m bytes) (drop m (take n bytes)) (subst Begins (longer bytes m n h) b))
 
-cut_on : (x : ℕ) (a b s t : List ℕ) → Cut a b s t → Cut (x ∷ a) (x ∷ b) s t
-cut_on x a b s t (Longer m e f) = Longer m (ap (λ l. x ∷ l) e) f
-cut_on x a b s t (Shorter m e f) = Shorter m (ap (λ l. x ∷ l) e) f
+-- FAULTS
 
-cut : (a b s t : List ℕ) → a ++ s ≡ b ++ t → Cut a b s t
-cut [] b s t e = Shorter b refl e
-cut (x ∷ a) [] s t e = Longer (x ∷ a) refl (sym e)
-cut (x ∷ a) (y ∷ b) s t e =
-    let k : x ≡ y = cc in
-    let f : a ++ s ≡ b ++ t = cc in
-    subst (λ z. Cut (x ∷ a) (z ∷ b) s t) k (cut_on x a b s t (cut a b s t f))
+-- a fault is at the byte of this number, or at the limit
+data FaultAt (bytes : List ℕ) (c : StreamFault) : Type 0 where
+  AtByte : (n : ℕ) → n < 1024 → n < length bytes → Begins (take n bytes) → Lacks (take (n + 1) bytes) c
+      → FaultAt bytes c
+  AtLimit : 1024 ≤ length bytes → Begins (take 1024 bytes) → c ≡ fault.HeaderSize → FaultAt bytes c
 
--- what comes after a front ends with a byte, or has it first
-data First (byte : ℕ) (others m s : List ℕ) : Type 0 where
-  Here : m ≡ [] → s ≡ byte ∷ others → First byte others m s
-  Inside : (more : List ℕ) → m ≡ byte ∷ more → First byte others m s
+fault_at : (bytes : List ℕ) (c : StreamFault) → IsFault bytes c → FaultAt bytes c
+fault_at bytes c (InLine front others byte e less b) =
+    let n : length (front ++ byte ∷ []) ≡ length front + 1 = omega (arith, length-append front (byte ∷ [])) in
+    let all = ap length e in
+    let next : front ++ byte ∷ [] ≡ take (length front + 1) bytes =
+    front_is bytes (front ++ byte ∷ []) others (e ∙ sym (append_assoc front (byte ∷ []) others))
+    ∙ ap (λ k. take k bytes) n in
+    AtByte (length front) less (omega (arith, all, length-append front (byte ∷ others)))
+    (subst Begins (front_is bytes front (byte ∷ others) e) b.begins) (subst (λ l. Lacks l c) next b.lacks)
+fault_at bytes c (InSize front others e n b is) =
+    let all = ap length e in
+    AtLimit (omega (arith, all, n, length-append front others))
+    (subst Begins (front_is bytes front others e ∙ ap (λ k. take k bytes) n) b) is
 
-first : (byte : ℕ) (others m s : List ℕ) → byte ∷ others ≡ m ++ s → First byte others m s
-first byte others [] s e = Here refl (sym e)
-first byte others (x ∷ m) s e = Inside m (let k : x ≡ byte = cc in ap (λ y. y ∷ m) k)
-
-push_on : (front m more : List ℕ) (byte : ℕ) → m ≡ byte ∷ more → front ++ m ≡ (front ++ byte ∷ []) ++ more
-push_on front m more byte e = ap (λ l. front ++ l) e ∙ sym (append_assoc front (byte ∷ []) more)
-
--- after a whole header there is no fault
-broken_header : (h front s others : List ℕ) (byte size : ℕ) (c : StreamFault) → IsHeaderOf h size → Begins
-    front
-    → Lacks (front ++ byte ∷ []) c → Cut h front s (byte ∷ others) → ⊥
-broken_header h front s others byte size c a b l (Shorter m e f) = none_begins h m size a (subst Begins e b)
-broken_header h front s others byte size c a b l (Longer m e f) = at_first (first byte others m s f)
+same_fault : (bytes : List ℕ) (c d : StreamFault) → FaultAt bytes c → FaultAt bytes d → c ≡ d
+same_fault bytes c d (AtByte n few fits b l) (AtByte n' few' fits' b' l') = by_order (cases_order n n')
   where
-    at_first : First byte others m s → ⊥
-    at_first (Here none k) =
-        none_begins h [] size a (subst Begins (sym (append-nil h ∙
-        (e ∙ (ap (λ l. front ++ l) none ∙ append-nil front)))) b)
-    at_first (Inside more k) =
-        nothing_lacks (front ++ byte ∷ []) c l
-        (sized_front (front ++ byte ∷ []) more size (subst (λ l. IsHeaderOf l size)
-        (e ∙ push_on front m more byte k) a))
+    by_order : (n ≡ n') ⊎ ((n < n') ⊎ (n' < n)) → c ≡ d
+    by_order (inl e) =
+        same_lack (take (n + 1) bytes) c d l (subst (λ k. Lacks (take (k + 1) bytes) d) (sym e) l')
+    by_order (inr (inl h)) = absurd (begun_lacks bytes (n + 1) n' c (omega arith) b' l)
+    by_order (inr (inr h)) = absurd (begun_lacks bytes (n' + 1) n d (omega arith) b l')
+same_fault bytes c d (AtByte n few fits b l) (AtLimit long b' is) =
+    absurd (begun_lacks bytes (n + 1) 1024 c (omega arith) b' l)
+same_fault bytes c d (AtLimit long b is) (AtByte n few fits b' l) =
+    absurd (begun_lacks bytes (n + 1) 1024 d (omega arith) b l)
+same_fault bytes c d (AtLimit long b is) (AtLimit long' b' is') = is ∙ sym is'
 
-long_header : (h front s t : List ℕ) (size : ℕ) → IsHeaderOf h size → length h ≤ length front → Begins front
-    → Cut h front s t → ⊥
-long_header h front s t size a few b (Shorter m e f) = none_begins h m size a (subst Begins e b)
-long_header h front s t size a few b (Longer m e f) =
-    let n : length m ≡ 0 = (let k = ap length e in omega (arith, k, few, length-append front m)) in
-    let k : h ≡ front = e ∙ (ap (λ l. front ++ l) (nil_from_length m n) ∙ append-nil front) in
-    none_begins h [] size a (subst Begins (sym (append-nil h ∙ k)) b)
-
-header_fault : (h s bytes : List ℕ) (size : ℕ) (c : StreamFault) → IsHeaderOf h size → length h ≤ 1024
-    → bytes ≡ h ++ s → IsFault bytes c → ⊥
-header_fault h s bytes size c a few e (InLine front others byte k less b) =
-    broken_header h front s others byte size c a b.begins b.lacks
-    (cut h front s (byte ∷ others) (sym e ∙ k))
-header_fault h s bytes size c a few e (InSize front others k n b is) =
-    long_header h front s others size a (omega (arith, n, few)) b (cut h front s others (sym e ∙ k))
-
-partial_fault : (bytes : List ℕ) (c : StreamFault) → IsPartial bytes → IsFault bytes c → ⊥
-partial_fault bytes c (InHeader b less) (InLine front others byte k n breaks) =
-    let e : bytes ≡ (front ++ byte ∷ []) ++ others = k ∙ sym (append_assoc front (byte ∷ []) others) in
-    nothing_lacks (front ++ byte ∷ []) c breaks.lacks (begins_sized (front ++ byte ∷ []) others
-    (subst Begins e b))
-partial_fault bytes c (InHeader b less) (InSize front others k n begins is) =
-    let e = ap length k in omega (arith, e, n, less, length-append front others)
-partial_fault bytes c (InBody h others size a few e less) f = header_fault h others bytes size c a few e f
-
-longer_fault : (front front' m others others' : List ℕ) (byte byte' : ℕ) (c d : StreamFault) → front ≡
-    front' ++ m
-    → Begins front → Lacks (front ++ byte ∷ []) c → Lacks (front' ++ byte' ∷ []) d
-    → First byte' others' m (byte ∷ others) → c ≡ d
-longer_fault front front' m others others' byte byte' c d e b l l' (Here none k) =
-    let same : front ≡ front' = e ∙ (ap (λ l. front' ++ l) none ∙ append-nil front') in
-    let byte_is : byte ≡ byte' = cc in
-    let one : front ++ byte ∷ [] ≡ front' ++ byte' ∷ [] = cc in
-    same_lack (front' ++ byte' ∷ []) c d (subst (λ x. Lacks x c) one l) l'
-longer_fault front front' m others others' byte byte' c d e b l l' (Inside more k) =
-    absurd (nothing_lacks (front' ++ byte' ∷ []) d l' (begins_sized (front' ++ byte' ∷ []) more
-    (subst Begins (e ∙ push_on front' m more byte' k) b)))
-
-two_faults : (front front' others others' : List ℕ) (byte byte' : ℕ) (c d : StreamFault) → Begins front
-    → Begins front' → Lacks (front ++ byte ∷ []) c → Lacks (front' ++ byte' ∷ []) d
-    → Cut front front' (byte ∷ others) (byte' ∷ others') → c ≡ d
-two_faults front front' others others' byte byte' c d b b' l l' (Longer m e f) =
-    longer_fault front front' m others others' byte byte' c d e b l l'
-    (first byte' others' m (byte ∷ others) f)
-two_faults front front' others others' byte byte' c d b b' l l' (Shorter m e f) =
-    sym (longer_fault front' front m others' others byte' byte d c e b' l' l
-    (first byte others m (byte' ∷ others') f))
-
-line_and_size : (front front' others others' : List ℕ) (byte : ℕ) (c : StreamFault) → length front < length
-    front'
-    → Begins front' → Lacks (front ++ byte ∷ []) c → Cut front' front others' (byte ∷ others) → ⊥
-line_and_size front front' others others' byte c less b l (Shorter m e f) =
-    let n = ap length e in omega (arith, n, less, length-append front' m)
-line_and_size front front' others others' byte c less b l (Longer m e f) = at_first
-    (first byte others m others' f)
+header_fault : (bytes : List ℕ) (m size : ℕ) (c : StreamFault) → m ≤ 1024 → IsHeaderOf (take m bytes) size
+    → FaultAt bytes c → ⊥
+header_fault bytes m size c few a (AtByte n less fits b l) = by_order (cases_lt n m)
   where
-    at_first : First byte others m others' → ⊥
-    at_first (Here none k) =
-        let n = ap length e in let z : length m ≡ 0 = ap length none in omega
-        (arith, n, z, less, length-append front m)
-    at_first (Inside more k) =
-        nothing_lacks (front ++ byte ∷ []) c l (begins_sized (front ++ byte ∷ []) more
-        (subst Begins (e ∙ push_on front m more byte k) b))
+    by_order : (n < m) ⊎ (m ≤ n) → ⊥
+    by_order (inl h) = whole_lacks bytes (n + 1) m size c (omega arith) a l
+    by_order (inr h) = none_begins bytes m n size h a b
+header_fault bytes m size c few a (AtLimit long b is) = none_begins bytes m 1024 size few a b
 
-same_fault : (bytes : List ℕ) (c d : StreamFault) → IsFault bytes c → IsFault bytes d → c ≡ d
-same_fault bytes c d (InLine front others byte k n b) (InLine front' others' byte' k' n' b') =
-    two_faults front front' others others' byte byte' c d b.begins b'.begins b.lacks b'.lacks
-    (cut front front' (byte ∷ others) (byte' ∷ others') (sym k ∙ k'))
-same_fault bytes c d (InLine front others byte k n b) (InSize front' others' k' n' b' is) =
-    absurd (line_and_size front front' others others' byte c (omega (arith, n, n')) b' b.lacks
-    (cut front' front others' (byte ∷ others) (sym k' ∙ k)))
-same_fault bytes c d (InSize front others k n b is) (InLine front' others' byte' k' n' b') =
-    absurd (line_and_size front' front others' others byte' d (omega (arith, n, n')) b b'.lacks
-    (cut front front' others (byte' ∷ others') (sym k ∙ k')))
-same_fault bytes c d (InSize front others k n b is) (InSize front' others' k' n' b' is') = is ∙ sym is'
+partial_fault : (bytes : List ℕ) (c : StreamFault) → IsPartial bytes → FaultAt bytes c → ⊥
+partial_fault bytes c (InHeader b less) (AtByte n few fits b' l) =
+    begun_lacks bytes (n + 1) (length bytes) c (omega arith) (subst Begins (sym (take-length bytes)) b) l
+partial_fault bytes c (InHeader b less) (AtLimit long b' is) = omega arith
+partial_fault bytes c (InBody h others size a few e less) f =
+    header_fault bytes (length h) size c few (header_front bytes h others size e a) f
 
 -- MESSAGES
 
-message_fault : (raw body others bytes : List ℕ) (c : StreamFault) → IsMessage raw body → bytes ≡ raw ++
-    others
+-- a message's header, and what follows it
+spelled_out : (raw body others bytes : List ℕ) (m : IsMessage raw body) → bytes ≡ raw ++ others
+    → bytes ≡ m.header ++ (body ++ others)
+spelled_out raw body others bytes m e = e ∙ (ap (λ l. l ++ others) m.spelled
+    ∙ append_assoc m.header body others)
+
+message_fault : (raw body others bytes : List ℕ) (c : StreamFault) → IsMessage raw body
+    → bytes ≡ raw ++ others
     → IsFault bytes c → ⊥
 message_fault raw body others bytes c m e f =
-    header_fault m.header (body ++ others) bytes (length body) c m.header_is m.few
-    (e ∙ (ap (λ l. l ++ others) m.spelled ∙ append_assoc m.header body others)) f
+    header_fault bytes (length m.header) (length body) c m.few
+    (header_front bytes m.header (body ++ others) (length body)
+    (spelled_out raw body others bytes m e) m.header_is)
+    (fault_at bytes c f)
 
-message_partial : (raw body others bytes : List ℕ) → IsMessage raw body → bytes ≡ raw ++ others → IsPartial
-    bytes
-    → ⊥
+message_partial : (raw body others bytes : List ℕ) → IsMessage raw body → bytes ≡ raw ++ others
+    → IsPartial bytes → ⊥
 message_partial raw body others bytes m e (InHeader b less) =
-    let k : bytes ≡ m.header ++ (body ++ others) =
-    e ∙ (ap (λ l. l ++ others) m.spelled ∙ append_assoc m.header body others) in
-    none_begins m.header (body ++ others) (length body) m.header_is (subst Begins k b)
+    let k = spelled_out raw body others bytes m e in
+    let all = ap length k in
+    none_begins bytes (length m.header) (length bytes) (length body)
+    (omega (arith, all, length-append m.header (body ++ others)))
+    (header_front bytes m.header (body ++ others) (length body) k m.header_is)
+    (subst Begins (sym (take-length bytes)) b)
 message_partial raw body others bytes m e (InBody h part size a few k less) =
-    let x : m.header ++ (body ++ others) ≡ h ++ part =
-    sym (e ∙ (ap (λ l. l ++ others) m.spelled ∙ append_assoc m.header body others)) ∙ k in
-    let s = same_sized m.header h (body ++ others) part (length body) size m.header_is a x in
+    let s = same_sized m.header h (body ++ others) part (length body) size m.header_is a
+    (sym (spelled_out raw body others bytes m e) ∙ k) in
     let n = ap length s.others in
     let size_is = s.size in
     omega (arith, n, size_is, less, length-append body others)
@@ -361,25 +290,19 @@ record SameMessage (body body' others others' : List ℕ) : Type 0 where
   pub body_is : body ≡ body'
   pub others_are : others ≡ others'
 
-same_parts : (front front' others others' : List ℕ) → length front ≡ length front'
-    → front ++ others ≡ front' ++ others' → SameMessage front front' others others'
-same_parts front front' others others' n e = record {
-  body_is = sym (take-append_seam front others) ∙ (ap (λ l. take (length front) l) e
-      ∙ (ap (λ k. take k (front' ++ others')) n ∙ take-append_seam front' others'));
-  others_are = sym (drop-append_seam front others) ∙ (ap (λ l. drop (length front) l) e
-      ∙ (ap (λ k. drop k (front' ++ others')) n ∙ drop-append_seam front' others'));
-}
-
 same_message : (raw raw' body body' others others' : List ℕ) → IsMessage raw body → IsMessage raw' body'
     → raw ++ others ≡ raw' ++ others' → SameMessage body body' others others'
 same_message raw raw' body body' others others' m m' e =
-    let x : m.header ++ (body ++ others) ≡ m'.header ++ (body' ++ others') =
-    sym (ap (λ l. l ++ others) m.spelled ∙ append_assoc m.header body others)
-    ∙ (e ∙ (ap (λ l. l ++ others') m'.spelled ∙ append_assoc m'.header body' others')) in
     let s = same_sized m.header m'.header (body ++ others) (body' ++ others') (length body) (length body')
-    m.header_is
-    m'.header_is x in
-    same_parts body body' others others' s.size s.others
+    m.header_is m'.header_is (sym (spelled_out raw body others (raw ++ others) m refl)
+    ∙ spelled_out raw' body' others' (raw ++ others) m' e) in
+    let body_is : body ≡ body' =
+    sym (take-append_seam body others) ∙ (ap (take (length body)) s.others
+    ∙ (ap (λ k. take k (body' ++ others')) s.size ∙ take-append_seam body' others')) in
+    record {
+      body_is = body_is;
+      others_are = append_cancel_left body others others' (s.others ∙ ap (λ l. l ++ others') (sym body_is));
+    }
 
 -- READINGS
 
@@ -390,9 +313,10 @@ never_on raw body others bytes (Some c) f m e = message_fault raw body others by
 
 same_end : (bytes : List ℕ) (o p : Option StreamFault) → EndsAt bytes o → EndsAt bytes p → o ≡ p
 same_end bytes None None a b = refl
-same_end bytes None (Some d) a b = absurd (partial_fault bytes d a b)
-same_end bytes (Some c) None a b = absurd (partial_fault bytes c b a)
-same_end bytes (Some c) (Some d) a b = ap Some (same_fault bytes c d a b)
+same_end bytes None (Some d) a b = absurd (partial_fault bytes d a (fault_at bytes d b))
+same_end bytes (Some c) None a b = absurd (partial_fault bytes c b (fault_at bytes c a))
+same_end bytes (Some c) (Some d) a b = ap Some (same_fault bytes c d (fault_at bytes c a)
+    (fault_at bytes d b))
 
 -- two readings of one stream are one
 record OneReading (m n : List (List ℕ)) (r s : List ℕ) (o p : Option StreamFault) : Type 0 where

@@ -1,14 +1,34 @@
-use Rattle.std.proofs.Common.{◌≡◌, ℕ, Bool, true, false, List, [], ◌∷◌, ◌++◌, take, drop, refl, sym}
-use Rattle.std.proofs.Common.{◌∙◌, ap, ◌<◌, ◌≤◌, length, get_or, drop-cons}
+use Rattle.std.proofs.Common.{◌≡◌, ℕ, Bool, true, false, List, [], ◌∷◌, ◌++◌, take, refl, sym, ◌∙◌, ap, subst}
+use Rattle.std.proofs.Common.{◌≤◌, length}
 use Rattle.std.specs.List.{list_all}
 use Rattle.std.proofs.lemmas.Bool.{and_parts, and_from}
-use Rattle.std.proofs.lemmas.List.{take-append-drop, take_all, append-nil}
-use Rattle.dap_stream.specs.Spans.{IsSplit}
+use Rattle.std.proofs.lemmas.List.{take_all, append-nil}
+use Rattle.std.proofs.lemmas.List.Folds.{list_all-append}
+use Rattle.dap_stream.specs.Spans.{StopsAt, IsSplit}
 
 pub both : (b : Bool) → b ≡ true → b ≡ false → ⊥
 both b e f = let k = sym e ∙ f in cc
 
 -- two splits of the same bytes, each before the first byte that doesn't pass
+same_cut : (p : ℕ → Bool) (a b s t : List ℕ) → list_all p a ≡ true → list_all p b ≡ true → StopsAt p s
+    → StopsAt p t → a ++ s ≡ b ++ t → (a ≡ b) × (s ≡ t)
+same_cut p [] [] s t pa pb ps pt e = (refl, e)
+same_cut p [] (z ∷ b) s t pa pb ps pt e =
+    absurd (both (p z) (and_parts (p z) (list_all p b) pb).0 (subst (StopsAt p) e ps))
+same_cut p (z ∷ a) [] s t pa pb ps pt e =
+    absurd (both (p z) (and_parts (p z) (list_all p a) pa).0 (subst (StopsAt p) (sym e) pt))
+same_cut p (z ∷ a) (w ∷ b) s t pa pb ps pt e =
+    let k : z ≡ w = cc in
+    let i : a ++ s ≡ b ++ t = cc in
+    let n = same_cut p a b s t (and_parts (p z) (list_all p a) pa).1 (and_parts (p w)
+    (list_all p b) pb).1 ps pt i in
+    let f = n.0 in
+    (cc, n.1)
+
+pub same_rest : (p : ℕ → Bool) (a b s t : List ℕ) → list_all p a ≡ true → list_all p b ≡ true → StopsAt p s
+    → StopsAt p t → a ++ s ≡ b ++ t → s ≡ t
+same_rest p a b s t pa pb ps pt e = (same_cut p a b s t pa pb ps pt e).1
+
 pub record SameSplit (a b s t : List ℕ) (x y : ℕ) : Type 0 where
   pub front : a ≡ b
   pub byte : x ≡ y
@@ -16,31 +36,19 @@ pub record SameSplit (a b s t : List ℕ) (x y : ℕ) : Type 0 where
 
 pub same_split : (p : ℕ → Bool) (a b s t : List ℕ) (x y : ℕ) → list_all p a ≡ true → list_all p b ≡ true
     → p x ≡ false → p y ≡ false → a ++ x ∷ s ≡ b ++ y ∷ t → SameSplit a b s t x y
-same_split p [] [] s t x y pa pb px py e = record { front = refl; byte = cc; others = cc }
-same_split p [] (z ∷ b) s t x y pa pb px py e =
-    let k : x ≡ z = cc in
-    absurd (both (p z) (and_parts (p z) (list_all p b) pb).0 (sym (ap p k) ∙ px))
-same_split p (z ∷ a) [] s t x y pa pb px py e =
-    let k : z ≡ y = cc in
-    absurd (both (p z) (and_parts (p z) (list_all p a) pa).0 (ap p k ∙ py))
-same_split p (z ∷ a) (w ∷ b) s t x y pa pb px py e =
-    let k : z ≡ w = cc in
-    let i : a ++ x ∷ s ≡ b ++ y ∷ t = cc in
-    let n = same_split p a b s t x y (and_parts (p z) (list_all p a) pa).1
-    (and_parts (p w) (list_all p b) pb).1
-    px py i in
-    let f = n.front in
-    record { front = cc; byte = n.byte; others = n.others }
+same_split p a b s t x y pa pb px py e =
+    let k = same_cut p a b (x ∷ s) (y ∷ t) pa pb px py e in
+    let others = k.1 in
+    record { front = k.0; byte = cc; others = cc }
 
 -- bytes that pass are a front of all those that do
-pub record Inside (a s b t : List ℕ) : Type 0 where
+pub record Inside (a b : List ℕ) : Type 0 where
   pub more : List ℕ
   pub whole : b ≡ a ++ more
-  pub after : s ≡ more ++ t
 
 pub inside : (p : ℕ → Bool) (a s b t : List ℕ) (y : ℕ) → list_all p a ≡ true → p y ≡ false
-    → a ++ s ≡ b ++ y ∷ t → Inside a s b (y ∷ t)
-inside p [] s b t y pa py e = record { more = b; whole = refl; after = e }
+    → a ++ s ≡ b ++ y ∷ t → Inside a b
+inside p [] s b t y pa py e = record { more = b; whole = refl }
 inside p (x ∷ a) s [] t y pa py e =
     let k : x ≡ y = cc in
     absurd (both (p x) (and_parts (p x) (list_all p a) pa).0 (ap p k ∙ py))
@@ -49,21 +57,9 @@ inside p (x ∷ a) s (z ∷ b) t y pa py e =
     let i : a ++ s ≡ b ++ y ∷ t = cc in
     let n = inside p a s b t y (and_parts (p x) (list_all p a) pa).1 py i in
     let w = n.whole in
-    record { more = n.more; whole = cc; after = n.after }
+    record { more = n.more; whole = cc }
 
--- a front of so many bytes that pass, up to one that doesn't
-pub split_is : (p : ℕ → Bool) (bytes front others : List ℕ) (n : ℕ) → list_all p (take n bytes) ≡ true
-    → n < length bytes → p (get_or bytes n 0) ≡ false → front ≡ take n bytes → others ≡ drop n bytes
-    → IsSplit p bytes front others
-split_is p bytes front others n pass h stop a b =
-    rw (a, b) (record {
-      spelled = sym (take-append-drop n bytes);
-      front_is = pass;
-      stops = rw (drop-cons bytes n 0) stop;
-    })
-
-pub split_none : (p : ℕ → Bool) (bytes : List ℕ) (n : ℕ) → list_all p (take n bytes) ≡ true → length bytes ≤
-    n
+pub split_none : (p : ℕ → Bool) (bytes : List ℕ) (n : ℕ) → list_all p (take n bytes) ≡ true → length bytes ≤ n
     → IsSplit p bytes bytes []
 split_none p bytes n pass h = record {
   spelled = sym (append-nil bytes);
@@ -71,20 +67,19 @@ split_none p bytes n pass h = record {
   stops = tt;
 }
 
+pub passes_on : (p : ℕ → Bool) (a b : List ℕ) → list_all p a ≡ true → list_all p b ≡ true
+    → list_all p (a ++ b) ≡ true
+passes_on p a b pa pb = list_all-append p a b ∙ and_from (list_all p a) (list_all p b) pa pb
+
 -- a front that passes, with a byte that passes
 pub passes_push : (p : ℕ → Bool) (a : List ℕ) (x : ℕ) → list_all p a ≡ true → p x ≡ true
     → list_all p (a ++ x ∷ []) ≡ true
-passes_push p [] x pa px = and_from (p x) true px refl
-passes_push p (y ∷ a) x pa px =
-    let k = and_parts (p y) (list_all p a) pa in
-    and_from (p y) (list_all p (a ++ x ∷ [])) k.0 (passes_push p a x k.1 px)
+passes_push p a x pa px = passes_on p a (x ∷ []) pa (and_from (p x) true px refl)
 
-pub passes_on : (p : ℕ → Bool) (a b : List ℕ) → list_all p a ≡ true → list_all p b ≡ true
-    → list_all p (a ++ b) ≡ true
-passes_on p [] b pa pb = pb
-passes_on p (y ∷ a) b pa pb =
-    let k = and_parts (p y) (list_all p a) pa in
-    and_from (p y) (list_all p (a ++ b)) k.0 (passes_on p a b k.1 pb)
+-- both parts of bytes that pass do
+pub passes_parts : (p : ℕ → Bool) (a b : List ℕ) → list_all p (a ++ b) ≡ true
+    → (list_all p a ≡ true) × (list_all p b ≡ true)
+passes_parts p a b e = and_parts (list_all p a) (list_all p b) (sym (list_all-append p a b) ∙ e)
 
 -- what passes one test passes another that is weaker
 pub passes_weaker : (p q : ℕ → Bool) → ((x : ℕ) → p x ≡ true → q x ≡ true) → (a : List ℕ)
@@ -93,15 +88,3 @@ passes_weaker p q weaker [] pa = refl
 passes_weaker p q weaker (x ∷ a) pa =
     let k = and_parts (p x) (list_all p a) pa in
     and_from (q x) (list_all q a) (weaker x k.0) (passes_weaker p q weaker a k.1)
-
--- both parts pass
-pub record Both (p : ℕ → Bool) (a b : List ℕ) : Type 0 where
-  pub first : list_all p a ≡ true
-  pub second : list_all p b ≡ true
-
-pub passes_parts : (p : ℕ → Bool) (a b : List ℕ) → list_all p (a ++ b) ≡ true → Both p a b
-passes_parts p [] b pab = record { first = refl; second = pab }
-passes_parts p (x ∷ a) b pab =
-    let k = and_parts (p x) (list_all p (a ++ b)) pab in
-    let n = passes_parts p a b k.1 in
-    record { first = and_from (p x) (list_all p a) k.0 n.first; second = n.second }

@@ -1,20 +1,19 @@
-use Rattle.std.proofs.Common.{◌≡◌, ℕ, ◌-◌, ◌<◌, ◌≤◌, Option, Some, None, List, [], ◌∷◌, ◌++◌, length}
-use Rattle.std.proofs.Common.{Result, IfOk, IfErr, take, drop, refl, arith, sym, ◌∙◌, ap, subst}
-use Rattle.std.proofs.Common.{append_assoc, length-append}
-use Rattle.std.proofs.lemmas.List.{append-nil, take-append-drop, take_all, length-take-le, take-append-le}
+use Rattle.std.proofs.Common.{◌≡◌, ℕ, ◌-◌, ◌<◌, ◌≤◌, Option, Some, None, List, [], ◌∷◌, ◌++◌, length, Result}
+use Rattle.std.proofs.Common.{Err, take, drop, refl, arith, sym, ◌∙◌, ap, subst, append_assoc, length-append}
+use Rattle.std.proofs.lemmas.List.{append-nil, take-append-drop, length-take-le}
 use Rattle.std.proofs.Math.Seq.{drop-append_seam, take-append_seam}
 use Rattle.dap_stream.specs.declared.fault.StreamFault.{StreamFault}
 use Rattle.dap_stream.specs.declared.fault.StreamFault.TheVariants as fault
-use Rattle.dap_stream.specs.declared.header.Header.{Header}
+use Rattle.dap_stream.specs.declared.fault.FeedFault.{FeedFault}
+use Rattle.dap_stream.specs.declared.fault.FeedFault.TheVariants.{OutOfMemory, Broken}
 use Rattle.dap_stream.specs.declared.header.Header.TheVariants as header
-use Rattle.dap_stream.specs.Header.{line_end, Ends, IsHeaderOf}
+use Rattle.dap_stream.specs.Header.{line_end, Ends as NoLines, IsHeaderOf}
 use Rattle.dap_stream.specs.Faults.{Begins}
-use Rattle.dap_stream.specs.Lines.{IsFront, Passes, IsBroken, LinesSay}
+use Rattle.dap_stream.specs.Lines.{IsFront, Passes, Ends, IsBroken, LinesSay}
 use Rattle.dap_stream.specs.Stream.{Reads, Stays, Goes, IsPartial, InHeader, InBody, IsFault, InLine}
 use Rattle.dap_stream.specs.Stream.{InSize, DecoderState, StandsFor, Completes, EndsIn}
-use Rattle.dap_stream.specs.Reading.{HeaderSays, Parts, EndsAt}
-use Rattle.dap_stream.specs.Feeding.{FeedFails, Leads}
-use Rattle.dap_stream.specs.declared.fault.FeedFault.{FeedFault}
+use Rattle.dap_stream.specs.Reading.{HeaderSays, Parts, EndsAt, IsReading}
+use Rattle.dap_stream.specs.Feeding.{Feeds, Leads}
 use Rattle.dap_stream.proofs.FrontLemmas.{begins_after}
 
 -- THE LINES OF A HEADER
@@ -29,7 +28,7 @@ pub read_none : (bytes : List ℕ) → HasRead bytes bytes None
 read_none bytes = record {
   lines = [];
   spelled = refl;
-  front = record { fields = []; are = Ends [] refl; says = refl };
+  front = record { fields = []; are = NoLines [] refl; says = refl };
 }
 
 pub read_more : (bytes rest others : List ℕ) (size next : Option ℕ) (r : HasRead bytes rest size)
@@ -47,70 +46,42 @@ passes_shorter lines rest others size p =
     let s = p.some in
     omega (arith, e, s, length-append p.line others)
 
-pub record WholeLines (bytes : List ℕ) (count size : ℕ) : Type 0 where
-  pub within : count ≤ length bytes
-  pub header : IsHeaderOf (take count bytes) size
-
 -- the bytes before the others
+length_front : (bytes front others : List ℕ) → bytes ≡ front ++ others
+    → length bytes - length others ≡ length front
+length_front bytes front others e = let k = ap length e in omega (arith, k, length-append front others)
+
 taken_before : (bytes front others : List ℕ) → bytes ≡ front ++ others
     → take (length bytes - length others) bytes ≡ front
 taken_before bytes front others e =
-    let n : length bytes - length others ≡ length front = (let k = ap length e in omega (
-      arith,
-      k,
-      length-append front
-          others,
-    )) in
-    ap (λ k. take k bytes) n ∙ (ap (λ l. take (length front) l) e ∙ take-append_seam front others)
+    ap (λ k. take k bytes) (length_front bytes front others e) ∙ (ap (take (length front)) e
+    ∙ take-append_seam front others)
 
-pub whole_lines : (bytes rest others : List ℕ) (before : Option ℕ) (size : ℕ)
-    (r : HasRead bytes rest before)
-    → rest ≡ line_end ++ others → IsHeaderOf (r.lines ++ line_end) size
-    → LinesSay bytes (header.Whole (length bytes - length others) size)
-whole_lines bytes rest others before size r e h =
+pub whole_lines : (bytes rest others : List ℕ) (before : Option ℕ) (size : ℕ) (r : HasRead bytes rest before)
+    → Ends r.lines rest others size → LinesSay bytes (header.Whole (length bytes - length others) size)
+whole_lines bytes rest others before size r ends =
     let k : bytes ≡ (r.lines ++ line_end) ++ others =
-    r.spelled ∙ (ap (λ l. r.lines ++ l) e ∙ sym (append_assoc r.lines line_end others)) in (
-      omega arith,
-      subst (λ l. IsHeaderOf l size) (sym (taken_before bytes (r.lines ++ line_end) others k))
-          h,
-    )
+    r.spelled ∙ (ap (λ l. r.lines ++ l) ends.spelled ∙ sym (append_assoc r.lines line_end others)) in
+    (omega arith, rw (taken_before bytes (r.lines ++ line_end) others k) ends.header)
 
 -- A HEADER WITHIN THE LIMIT
 
-front_take : (bytes : List ℕ) (count n : ℕ) → count ≤ length (take n bytes)
-    → take count (take n bytes) ≡ take count bytes
-front_take bytes count n h =
-    sym (take-append-le count (take n bytes) (drop n bytes) h) ∙ ap (take count) (take-append-drop n bytes)
-
 -- a fault in a front of the bytes
-pub broken_front : (bytes : List ℕ) (n : ℕ) (c : StreamFault) → n ≤ length bytes → n ≤ 1024 → IsBroken
-    (take n bytes) c
-    → IsFault bytes c
-broken_front bytes n c h few b =
+pub broken_front : (bytes : List ℕ) (n : ℕ) (c : StreamFault) → n ≤ length bytes → n ≤ 1024
+    → IsBroken (take n bytes) c → IsFault bytes c
+broken_front bytes n c fits few b =
     let k : bytes ≡ b.front ++ b.byte ∷ (b.others ++ drop n bytes) =
     sym (take-append-drop n bytes) ∙ (ap (λ l. l ++ drop n bytes) b.spelled
     ∙ append_assoc b.front (b.byte ∷ b.others) (drop n bytes)) in
     let e = ap length b.spelled in
     InLine b.front (b.others ++ drop n bytes) b.byte k
-    (omega (arith, e, length-append b.front (b.byte ∷ b.others), length-take-le n bytes h)) b.breaks
-
-pub header_says : (bytes : List ℕ) (n : ℕ) (h : Header) → n ≤ length bytes → n ≤ 1024
-    → (n < 1024 → n ≡ length bytes) → LinesSay (take n bytes) h → (h ≡ header.Begun → n ≡ 1024 → ⊥)
-    → HeaderSays bytes h
-header_says bytes n header.Begun fits few all says other =
-    let less : n < 1024 = (let k = other refl in omega (arith, k)) in
-    let e : n ≡ length bytes = all less in
-    (subst Begins (take_all n bytes (omega (arith, e))) says, omega (arith, e))
-header_says bytes n (header.Whole count size) fits few all (within, h) other =
-    let k : count ≤ n = omega (arith, length-take-le n bytes fits) in
-    (omega arith, omega arith, subst (λ l. IsHeaderOf l size) (front_take bytes count n within) h)
-header_says bytes n (header.Broken c) fits few all says other = broken_front bytes n c fits few says
+    (omega (arith, e, length-append b.front (b.byte ∷ b.others), length-take-le n bytes fits)) b.breaks
 
 pub header_long : (bytes : List ℕ) (n : ℕ) → n ≤ length bytes → n ≡ 1024 → Begins (take n bytes)
     → IsFault bytes fault.HeaderSize
 header_long bytes n fits e b =
-    InSize (take n bytes) (drop n bytes) (sym (take-append-drop n bytes)) (length-take-le n bytes fits ∙ e)
-    b refl
+    InSize (take n bytes) (drop n bytes) (sym (take-append-drop n bytes)) (length-take-le n bytes fits
+    ∙ e) b refl
 
 -- ONE MESSAGE
 
@@ -124,15 +95,12 @@ part_body bytes others count size (within, few, h) e less =
     InBody (take count bytes) others size h (omega (arith, length-take-le count bytes within))
     (sym (take-append-drop count bytes) ∙ ap (λ l. take count bytes ++ l) (sym e)) less
 
-pub parts_are : (bytes others body rest : List ℕ) (count size : ℕ) → HeaderSays bytes
-    (header.Whole count size)
-    → others ≡ drop count bytes → size ≤ length others → body ≡ take size others → rest ≡ drop size others
-    → Parts bytes body rest
+pub parts_are : (bytes others body rest : List ℕ) (count size : ℕ)
+    → HeaderSays bytes (header.Whole count size) → others ≡ drop count bytes → size ≤ length others
+    → body ≡ take size others → rest ≡ drop size others → Parts bytes body rest
 parts_are bytes others body rest count size (within, few, h) e fits b r =
     let n : length body ≡ size = ap length b ∙ length-take-le size others fits in
-    let whole : others ≡ body ++ rest =
-    sym (take-append-drop size others) ∙ (ap (λ l. l ++ drop size others) (sym b) ∙ ap (λ l. body ++ l)
-    (sym r)) in
+    let whole : take size others ++ drop size others ≡ drop count bytes = take-append-drop size others ∙ e in
     let some = header_some (take count bytes) size h in
     record {
       raw = take count bytes ++ body;
@@ -143,9 +111,7 @@ parts_are bytes others body rest count size (within, few, h) e fits b r =
         few = omega (arith, length-take-le count bytes within);
         spelled = refl;
       };
-      spelled = sym (take-append-drop count bytes)
-          ∙ (ap (λ l. take count bytes ++ l) (sym e ∙ whole) ∙ sym
-          (append_assoc (take count bytes) body rest));
+      spelled = rw (append_assoc, b, r, whole) (sym (take-append-drop count bytes));
     }
 
 -- READINGS
@@ -161,38 +127,39 @@ reads_more _ _ b _ (Goes bytes raw others body rest bodies is e rs) =
     Goes (bytes ++ b) raw (others ++ b) body (rest ++ b) bodies is
     (ap (λ l. l ++ b) e ∙ append_assoc raw others b) (reads_more others rest b bodies rs)
 
--- one message more
-pub reads_push : (a rest body others : List ℕ) (m : List (List ℕ)) → Reads a m rest → Parts rest body others
-    → Reads a (m ++ body ∷ []) others
-reads_push a rest body others m reads p =
-    reads_on a rest others m (body ∷ []) reads
-    (Goes rest p.raw others body others [] p.message p.spelled (Stays others))
-
-pub record Before (a r : List ℕ) : Type 0 where
+-- the messages that were taken, and what is left
+pub record HasTaken (bytes : List ℕ) (bodies : List (List ℕ)) (rest : List ℕ) : Type 0 where
+  pub reads : Reads bytes bodies rest
   pub front : List ℕ
-  pub spelled : a ≡ front ++ r
+  pub spelled : bytes ≡ front ++ rest
+  pub within : length rest ≤ length bytes
 
-pub reads_front : (a r : List ℕ) (m : List (List ℕ)) → Reads a m r → Before a r
-reads_front _ _ _ (Stays bytes) = record { front = []; spelled = refl }
-reads_front _ _ _ (Goes bytes raw others body rest bodies is e rs) =
-    let b = reads_front others rest bodies rs in
+pub taken_none : (bytes : List ℕ) → HasTaken bytes [] bytes
+taken_none bytes = record { reads = Stays bytes; front = []; spelled = refl; within = omega arith }
+
+-- one message more
+pub taken_more : (a rest body others : List ℕ) (m : List (List ℕ)) → HasTaken a m rest
+    → Parts rest body others
+    → HasTaken a (m ++ body ∷ []) others
+taken_more a rest body others m t p =
+    let e = ap length p.spelled in
+    let within = t.within in
     record {
-      front = raw ++ b.front;
-      spelled = e ∙ (ap (λ l. raw ++ l) b.spelled ∙ sym (append_assoc raw b.front rest));
+      reads = reads_on a rest others m (body ∷ []) t.reads
+          (Goes rest p.raw others body others [] p.message p.spelled (Stays others));
+      front = t.front ++ p.raw;
+      spelled = t.spelled ∙ (ap (λ l. t.front ++ l) p.spelled ∙ sym (append_assoc t.front p.raw others));
+      within = omega (arith, e, within, length-append p.raw others);
     }
 
-pub reads_within : (a r : List ℕ) (m : List (List ℕ)) → Reads a m r → length r ≤ length a
-reads_within a r m reads =
-    let b = reads_front a r m reads in
-    let e = ap length b.spelled in omega (arith, e, length-append b.front r)
-
--- the bytes after those that were read
-pub reads_rest : (a r : List ℕ) (m : List (List ℕ)) → Reads a m r → drop (length a - length r) a ≡ r
-reads_rest a r m reads =
-    let b = reads_front a r m reads in
-    let n : length a - length r ≡ length b.front =
-    (let e = ap length b.spelled in omega (arith, e, length-append b.front r)) in
-    ap (λ k. drop k a) n ∙ (ap (λ l. drop (length b.front) l) b.spelled ∙ drop-append_seam b.front r)
+pub taken_all : (bytes rest : List ℕ) (bodies : List (List ℕ)) (fault : Option StreamFault)
+    → HasTaken bytes bodies rest → EndsAt rest fault
+    → IsReading bytes bodies (length bytes - length rest) fault
+taken_all bytes rest bodies fault t ends =
+    let e : drop (length bytes - length rest) bytes ≡ rest =
+    ap (λ k. drop k bytes) (length_front bytes t.front rest t.spelled)
+    ∙ (ap (drop (length t.front)) t.spelled ∙ drop-append_seam t.front rest) in
+    record { within = omega arith; reads = rw e t.reads; ends = rw e ends }
 
 -- FEEDS
 
@@ -213,56 +180,68 @@ stays_broken s piece c f stream before st =
       ends = subst (EndsIn s (st.rest ++ piece)) (sym f) (e.0, fault_more st.rest piece c e.1);
     })
 
--- what a decoder keeps after a feed
-abbrev pub kept_rest : List ℕ → Option StreamFault → List ℕ
-kept_rest rest None = rest
-kept_rest rest (Some c) = []
-
-abbrev pub decoder_after : List ℕ → Option StreamFault → DecoderState
-decoder_after rest fault = record { rest = kept_rest rest fault; fault = fault }
-
-ends_in : (rest : List ℕ) (fault : Option StreamFault) → EndsAt rest fault
-    → EndsIn (decoder_after rest fault) rest fault
-ends_in rest None ends = (refl, ends)
-ends_in rest (Some c) ends = (refl, ends)
-
-pub feed_completes : (old : DecoderState) (piece rest : List ℕ) (bodies : List (List ℕ))
-    (fault : Option StreamFault)
-    → old.fault ≡ None → Reads (old.rest ++ piece) bodies rest → EndsAt rest fault
-    → Completes old piece bodies (decoder_after rest fault)
-feed_completes old piece rest bodies fault f reads ends stream before st =
+feed_completes : (old new : DecoderState) (piece rest : List ℕ) (bodies : List (List ℕ)) → old.fault ≡ None
+    → Reads (old.rest ++ piece) bodies rest → EndsIn new rest new.fault → Completes old piece bodies new
+feed_completes old new piece rest bodies f reads ends stream before st =
     let e = subst (EndsIn old st.rest) f st.ends in
-    let kept = reads_more stream st.rest piece before st.reads in
     record {
       rest = rest;
-      reads = reads_on (stream ++ piece) (st.rest ++ piece) rest before bodies kept
+      reads = reads_on (stream ++ piece) (st.rest ++ piece) rest before bodies
+          (reads_more stream st.rest piece before st.reads)
           (subst (λ l. Reads (l ++ piece) bodies rest) (sym e.0) reads);
-      ends = ends_in rest fault ends;
+      ends = ends;
     }
-
-nothing_begins : Begins []
-nothing_begins = begins_after [] None (record { fields = []; are = Ends [] refl; says = refl })
 
 pub stands_new : (s : DecoderState) → s.rest ≡ [] → s.fault ≡ None → StandsFor s [] []
 stands_new s r f = record {
   rest = [];
   reads = Stays [];
-  ends = subst (EndsIn s []) (sym f) (sym r, InHeader nothing_begins (omega arith));
+  ends = subst (EndsIn s []) (sym f) (
+    sym r,
+    InHeader
+        (begins_after [] None (record { fields = []; are = NoLines [] refl; says = refl })) (omega arith),
+  );
 }
 
--- the two answers of a feed
-pub leads_ok : (old new : DecoderState) (piece rest : List ℕ) (bodies : List (List ℕ))
-    (fault : Option StreamFault)
-    (answer : Result (List (List ℕ)) FeedFault) → old.fault ≡ None → Reads (old.rest ++ piece) bodies rest
-    → EndsAt rest fault → Leads bodies rest fault new answer → IfOk answer (λ b. Completes old piece b new)
-leads_ok old new piece rest bodies None answer f reads ends (a, n) =
-    rw (a, n) (feed_completes old piece rest bodies None f reads ends)
-leads_ok old new piece rest bodies (Some c) answer f reads ends (a, n) = rw a tt
+-- a decoder that is broken, one that is out of memory, and one that goes on
+pub feeds_broken : (s : DecoderState) (piece : List ℕ) (c : StreamFault) → s.fault ≡ Some c
+    → Feeds s piece s (Err (Broken [] c))
+feeds_broken s piece c f = record {
+  ok = tt;
+  good = tt;
+  err = (stays_broken s piece c f, f);
+  stored = λ cause e. (let k : c ≡ cause = cc in ap (λ c. Err (Broken [] c)) k, refl);
+}
 
-pub leads_err : (old new : DecoderState) (piece rest : List ℕ) (bodies : List (List ℕ))
-    (fault : Option StreamFault)
-    (answer : Result (List (List ℕ)) FeedFault) → old.fault ≡ None → Reads (old.rest ++ piece) bodies rest
-    → EndsAt rest fault → Leads bodies rest fault new answer → IfErr answer (λ f. FeedFails old piece f new)
-leads_err old new piece rest bodies None answer f reads ends (a, n) = rw a tt
-leads_err old new piece rest bodies (Some c) answer f reads ends (a, n) =
-    rw (a, n) (feed_completes old piece rest bodies (Some c) f reads ends, refl)
+no_fault : (s : DecoderState) (c : StreamFault) → s.fault ≡ None → s.fault ≡ Some c → ⊥
+no_fault s c f e = let k = sym f ∙ e in cc
+
+pub feeds_none : (s : DecoderState) (piece : List ℕ) → s.fault ≡ None → Feeds s piece s (Err OutOfMemory)
+feeds_none s piece f =
+    record { ok = tt; good = tt; err = refl; stored = λ cause e. absurd (no_fault s cause f e) }
+
+pub feeds_on : (old new : DecoderState) (piece : List ℕ) (used : ℕ) (bodies : List (List ℕ))
+    (fault : Option StreamFault) (answer : Result (List (List ℕ)) FeedFault) → old.fault ≡ None
+    → IsReading (old.rest ++ piece) bodies used fault
+    → Leads bodies (drop used (old.rest ++ piece)) fault new answer → Feeds old piece new answer
+feeds_on old new piece used bodies None answer f r (a, n) =
+    let rest = drop used (old.rest ++ piece) in
+    rw (a, n) (record {
+      ok = feed_completes old (record { rest = rest; fault = None }) piece rest bodies f r.reads
+          (refl, r.ends);
+      good = refl;
+      err = tt;
+      stored = λ cause e. absurd (no_fault old cause f e);
+    })
+feeds_on old new piece used bodies (Some c) answer f r (a, n) =
+    let rest = drop used (old.rest ++ piece) in
+    rw (a, n) (record {
+      ok = tt;
+      good = tt;
+      err = (
+        feed_completes old (record { rest = []; fault = Some c }) piece rest bodies f r.reads
+            (refl, r.ends),
+        refl,
+      );
+      stored = λ cause e. absurd (no_fault old cause f e);
+    })

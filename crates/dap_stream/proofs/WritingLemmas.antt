@@ -1,14 +1,11 @@
 use Rattle.std.proofs.Common.{◌≡◌, ℕ, ◌^◌, ◌<◌, ◌≤◌, true, suc, List, [], ◌∷◌, ◌++◌, length, refl, arith}
-use Rattle.std.proofs.Common.{sym, ap, subst, append_assoc, length-append, All, codes}
+use Rattle.std.proofs.Common.{rules, sym, ap, subst, append_assoc, length-append, All, codes}
 use Rattle.std.specs.Fmt.{decimal}
 use Rattle.std.specs.List.{list_all}
 use Rattle.std.specs.Char.{is_ascii_digit}
-use Rattle.std.specs.Int.{IsInRange}
 use Rattle.std.specs.Str.Parse.{digits_value}
-use Rattle.std.proofs.lemmas.Bool.{and_parts, and_from}
-use Rattle.std.proofs.lemmas.Bool.Decides.{nat_tests}
 use Rattle.std.proofs.lemmas.Fmt.{digits_decimal, digits_value-decimal, decimal_nonempty, length-decimal-le}
-use Rattle.std.proofs.lemmas.Str.Parse.{IsDigitsTest, IsNumeralModel, numerals_by_value}
+use Rattle.std.proofs.lemmas.Str.Parse.{IsNumeralModel, numerals_by_value}
 use Rattle.dap_stream.specs.Header.{line_end, Field, IsHeader, IsAllowed, IsHeaderOf}
 use Rattle.dap_stream.specs.Spans.{IsName}
 use Rattle.dap_stream.specs.Stream.{IsMessage, Reads, Stays, Goes}
@@ -19,22 +16,8 @@ use Rattle.dap_stream.proofs.FrontLemmas.{line_is, length_value}
 abbrev AreDigits : List ℕ → Type 0
 AreDigits digits = list_all is_ascii_digit digits ≡ true
 
-digit_range : (c : ℕ) → is_ascii_digit c ≡ true → IsInRange 48 57 c
-digit_range c e = grind (arith, nat_tests)
-
-range_digit : (c : ℕ) → IsInRange 48 57 c → is_ascii_digit c ≡ true
-range_digit c h = grind (arith, nat_tests)
-
-tests_digits : IsDigitsTest AreDigits
-tests_digits = record {
-  empty = refl;
-  parts = λ c cs p. (let k = and_parts (is_ascii_digit c) (list_all is_ascii_digit cs) p in
-      (digit_range c k.0, k.1));
-  more = λ c cs h p. and_from (is_ascii_digit c) (list_all is_ascii_digit cs) (range_digit c h) p;
-}
-
 numerals : IsNumeralModel AreDigits (digits_value 10)
-numerals = numerals_by_value AreDigits tests_digits
+numerals = numerals_by_value AreDigits (search rules)
 
 -- the value of the field that is written
 abbrev value_of : ℕ → List ℕ

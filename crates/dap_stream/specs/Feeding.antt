@@ -1,5 +1,5 @@
--- How a feed fails.
-use Rattle.std.specs.Prelude.{◌≡◌, Option, Some, None, [], Result, Ok, Err, drop}
+-- What a feed of a piece comes to.
+use Rattle.std.specs.Prelude.{◌≡◌, Option, Some, None, [], Result, Ok, Err, IfOk, IfErr, OnOk, drop}
 use Rattle.dap_stream.specs.Wire.{Bytes, Bodies}
 use Rattle.dap_stream.specs.declared.fault.StreamFault.{StreamFault}
 use Rattle.dap_stream.specs.declared.fault.FeedFault.{FeedFault}
@@ -15,6 +15,15 @@ FeedFails old piece (Broken before cause) new = Completes old piece before new �
 -- the answer is this fault, with no bodies before it
 abbrev pub IsBroken : Result Bodies FeedFault → StreamFault → Type 0
 IsBroken answer cause = answer ≡ Err (Broken [] cause)
+
+-- what a feed of a piece returns, and the decoder after it
+pub record Feeds (old : DecoderState) (piece : Bytes) (new : DecoderState)
+    (answer : Result Bodies FeedFault) : Type 0 where
+  pub ok : IfOk answer (λ bodies. Completes old piece bodies new)
+  pub good : OnOk answer (new.fault ≡ None)
+  pub err : IfErr answer (λ fault. FeedFails old piece fault new)
+  -- after a fault each piece returns that fault, and changes nothing
+  pub stored : (cause : StreamFault) → old.fault ≡ Some cause → IsBroken answer cause × (new ≡ old)
 
 -- the answer and the decoder after these bodies, with this rest behind them or this fault
 abbrev pub Leads : Bodies → Bytes → Option StreamFault → DecoderState → Result Bodies FeedFault → Type 0

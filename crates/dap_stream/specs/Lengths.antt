@@ -1,9 +1,10 @@
 -- What the bytes of a Content-Length's value say so far.
-use Rattle.std.specs.Prelude.{◌≡◌, ◌⊎◌, ℕ, ◌+◌, ◌<◌, ◌≤◌, true, false, Option, Some, None, Result, Ok, Err}
-use Rattle.std.specs.Prelude.{[], ◌∷◌, ◌++◌, length}
+use Rattle.std.specs.Prelude.{◌≡◌, ℕ, ◌+◌, ◌-◌, ◌*◌, ◌==◌, ◌&&◌, ◌||◌, nat_lt, if◌then◌else◌, not, true}
+use Rattle.std.specs.Prelude.{Option}
+use Rattle.std.specs.Prelude.{Some, None, Result, Ok, Err, MatchResult, [], ◌∷◌, ◌++◌, length}
 use Rattle.std.specs.List.{list_all}
 use Rattle.std.specs.Char.{is_ascii_digit}
-use Rattle.std.specs.Str.Parse.{digits_value_after}
+use Rattle.std.specs.Str.Parse.{digits_value}
 use Rattle.dap_stream.specs.Wire.{Bytes}
 use Rattle.dap_stream.specs.Header.{is_blank, IsLength, IsAllowed}
 use Rattle.dap_stream.specs.declared.fault.StreamFault.{StreamFault}
@@ -36,35 +37,15 @@ pub record BreaksLength (value : Bytes) (c : StreamFault) : Type 0 where
   pub begins : CanSay front
   pub lacks : LacksSize (front ++ byte ∷ []) c
 
--- all are digits, with so many before them at most ten, and say this number after the number before
-pub record AreDigits (count number : ℕ) (digits : Bytes) (size : ℕ) : Type 0 where
-  pub digits_are : list_all is_ascii_digit digits ≡ true
-  pub few : count + length digits ≤ 10
-  pub size_is : size ≡ digits_value_after 10 number digits
+-- what a value says so far, or what is wrong with it
+abbrev pub ValueSays : Bytes → Result (Option ℕ) StreamFault → Type 0
+ValueSays value said = MatchResult said (SaysSize value) (BreaksLength value)
 
--- a byte that is no digit or the eleventh
-abbrev pub IsNoDigit : ℕ → ℕ → Type 0
-IsNoDigit place byte = (is_ascii_digit byte ≡ false) ⊎ (10 ≤ place)
-
--- what the first byte breaks that follows these digits
-pub data BreaksDigits (count number : ℕ) (digits : Bytes) (byte : ℕ) (c : StreamFault) : Type 0 where
-  AtByte : c ≡ fault.LengthValue → IsNoDigit (count + length digits) byte
-      → BreaksDigits count number digits byte c
-  AtSize : (size : ℕ) → c ≡ fault.BodySize → AreDigits count number (digits ++ byte ∷ []) size
-      → 1048576 < size → BreaksDigits count number digits byte c
-
--- digits within the limits, and then one that breaks them
-pub record BrokenDigits (count number : ℕ) (bytes : Bytes) (c : StreamFault) : Type 0 where
-  pub digits : Bytes
-  pub byte : ℕ
-  pub others : Bytes
-  pub size : ℕ
-  pub spelled : bytes ≡ digits ++ byte ∷ others
-  pub are : AreDigits count number digits size
-  pub within : size ≤ 1048576
-  pub breaks : BreaksDigits count number digits byte c
-
--- what bytes say after so many digits of this number
-abbrev pub DigitsSay : ℕ → ℕ → Bytes → Result ℕ StreamFault → Type 0
-DigitsSay count number bytes (Ok size) = AreDigits count number bytes size × (size ≤ 1048576)
-DigitsSay count number bytes (Err c) = BrokenDigits count number bytes c
+-- what bytes say that follow blanks and so many digits of this number
+abbrev pub value_from : ℕ → ℕ → Bytes → Result (Option ℕ) StreamFault
+value_from count number [] = Ok (if count == 0 then None else Some number)
+value_from count number (byte ∷ bytes) =
+    if (count == 0) && is_blank byte then value_from 0 0 bytes
+    else (if not (is_ascii_digit byte) || (count == 10) then Err fault.LengthValue
+    else (if nat_lt 1048576 (number * 10 + (byte - 48)) then Err fault.BodySize
+    else value_from (count + 1) (number * 10 + (byte - 48)) bytes))

@@ -3,6 +3,7 @@ pub mod Feeding
 pub mod Header
 pub mod Lengths
 pub mod Lines
+pub mod Parsing
 pub mod Reading
 pub mod Spans
 pub mod Stream

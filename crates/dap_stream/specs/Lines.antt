@@ -2,13 +2,12 @@
 use Rattle.std.specs.Prelude.{◌≡◌, ℕ, ◌<◌, ◌≤◌, true, Option, Some, None, List, [], ◌∷◌, ◌++◌, length, take}
 use Rattle.std.specs.List.{list_all}
 use Rattle.dap_stream.specs.Wire.{Bytes}
-use Rattle.dap_stream.specs.Header.{is_blank, is_length_name, colon, line_end, Field, IsLine, IsLines}
+use Rattle.dap_stream.specs.Header.{is_value_byte, colon, line_end, Field, IsLines}
 use Rattle.dap_stream.specs.Header.{lengths, SaysOnce, IsHeaderOf}
 use Rattle.dap_stream.specs.Spans.{IsName}
 use Rattle.dap_stream.specs.Faults.{Begins, BreaksHeader}
 use Rattle.dap_stream.specs.declared.fault.StreamFault.{StreamFault}
-use Rattle.dap_stream.specs.declared.line.Line.{Line}
-use Rattle.dap_stream.specs.declared.line.Line.TheVariants.{Begun, Field as AField, End, Broken}
+use Rattle.dap_stream.specs.Parsing.{Parse, Partial, Field as AField, Last, Broken}
 use Rattle.dap_stream.specs.declared.header.Header.{Header}
 use Rattle.dap_stream.specs.declared.header.Header.TheVariants as header
 
@@ -23,23 +22,13 @@ pub record IsFront (lines : Bytes) (size : Option ℕ) : Type 0 where
   pub are : IsLines lines fields
   pub says : SaysSoFar (lengths fields) size
 
--- after whole lines, a line up to its end, and what all of them say
-pub record EndsLine (lines front : Bytes) (size : Option ℕ) : Type 0 where
-  pub before : List Field
-  pub are : IsLines lines before
-  pub field : Field
-  pub line : IsLine (front ++ line_end) field
-  pub after : IsFront (lines ++ (front ++ line_end)) size
-
--- after whole lines without a Content-Length, the first up to its digits
-pub record WantsDigits (lines front : Bytes) : Type 0 where
-  pub before : IsFront lines None
-  pub name : Bytes
-  pub blanks : Bytes
+-- after whole lines, a field up to its line's end, and what all of them say
+pub record EndsLine (lines name value : Bytes) (size : Option ℕ) : Type 0 where
+  pub before : Option ℕ
+  pub front : IsFront lines before
   pub name_is : IsName name
-  pub is_length : is_length_name name ≡ true
-  pub blanks_are : list_all is_blank blanks ≡ true
-  pub spelled : front ≡ name ++ colon ∷ blanks
+  pub value_is : list_all is_value_byte value ≡ true
+  pub after : IsFront (lines ++ (name ++ colon ∷ (value ++ line_end))) size
 
 -- no header can go on with one of the bytes
 pub record IsBroken (bytes : Bytes) (c : StreamFault) : Type 0 where
@@ -56,11 +45,16 @@ pub record Passes (lines bytes others : Bytes) (size : Option ℕ) : Type 0 wher
   pub spelled : bytes ≡ line ++ others
   pub after : IsFront (lines ++ line) size
 
-abbrev pub LineSays : Bytes → Bytes → Line → Type 0
-LineSays lines bytes Begun = Begins (lines ++ bytes)
-LineSays lines bytes (AField others size) = Passes lines bytes others.now size
-LineSays lines bytes (End others size) =
-    (bytes ≡ line_end ++ others.now) × IsHeaderOf (lines ++ line_end) size
+-- the empty line, and the others; with it the lines are a header
+pub record Ends (lines bytes others : Bytes) (size : ℕ) : Type 0 where
+  pub spelled : bytes ≡ line_end ++ others
+  pub header : IsHeaderOf (lines ++ line_end) size
+
+-- what the bytes are that follow whole lines
+abbrev pub LineSays : Bytes → Bytes → Parse → Type 0
+LineSays lines bytes Partial = Begins (lines ++ bytes)
+LineSays lines bytes (AField others size) = Passes lines bytes others size
+LineSays lines bytes (Last others size) = Ends lines bytes others size
 LineSays lines bytes (Broken c) = IsBroken (lines ++ bytes) c
 
 -- what bytes say of a header of any size

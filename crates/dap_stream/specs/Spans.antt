@@ -2,15 +2,14 @@
 use Rattle.std.specs.Prelude.{◌≡◌, ℕ, ◌<◌, Bool, true, false, [], ◌∷◌, ◌++◌, length}
 use Rattle.std.specs.List.{list_all}
 use Rattle.dap_stream.specs.Wire.{Bytes}
-use Rattle.dap_stream.specs.Header.{is_name_byte, is_value_byte, is_blank}
+use Rattle.dap_stream.specs.Header.{is_name_byte, is_value_byte}
 use Rattle.dap_stream.specs.declared.span.Kind.{Kind}
-use Rattle.dap_stream.specs.declared.span.Kind.TheVariants.{Name, Value, Blank}
+use Rattle.dap_stream.specs.declared.span.Kind.TheVariants.{Name, Value}
 
 -- whether a byte is of this kind
 abbrev pub is_of : Kind → ℕ → Bool
 is_of Name = is_name_byte
 is_of Value = is_value_byte
-is_of Blank = is_blank
 
 -- the first byte doesn't pass
 abbrev pub StopsAt : (ℕ → Bool) → Bytes → Type 0

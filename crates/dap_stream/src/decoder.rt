@@ -1,5 +1,5 @@
-//! The reader of a stream.
-ghost use Rattle.std.specs.Prelude.{◌≡◌, ◌≤◌, [], length, drop, Some, None, IfOk, IfErr, OnOk};
+//! The decoder of a stream.
+ghost use Rattle.std.specs.Prelude.{◌≡◌, ◌≤◌, [], length, drop, None};
 
 use crate::bodies::Bodies;
 use crate::fault::{FeedFault, StreamFault};
@@ -7,7 +7,7 @@ use crate::reading::{Reading, read_messages};
 use std::alloc::Global;
 use std::marker::Model;
 
-/// How far a stream has been read: the bytes of the message that has begun, or the fault.
+/// The state of a stream: the bytes of the message that has begun, or the fault.
 #[derive(Drop)]
 pub struct Decoder {
     rest: Vec<u8>,
@@ -22,7 +22,7 @@ impl Model for Decoder {
     ghost view = { λ s. record { rest = s.rest.items; fault = s.fault } };
 }
 
-// Lets the first bytes go. Where there are none to let go, nothing is moved.
+// Drops the first `from` bytes; a no-op for 0.
 fn keep_from(bytes: &mut Vec<u8>, from: usize)
     requires { from ≤ length bytes.old.items }
     ensures { bytes.new.items ≡ drop from bytes.old.items }
@@ -36,11 +36,10 @@ fn keep_from(bytes: &mut Vec<u8>, from: usize)
 }
 
 impl Decoder {
-    ghost use Rattle.dap_stream.specs.declared.fault.StreamFault.{StreamFault};
-    ghost use Rattle.dap_stream.specs.Stream.{StandsFor, Completes};
-    ghost use Rattle.dap_stream.specs.Feeding.{FeedFails, IsBroken, GoesOn};
+    ghost use Rattle.dap_stream.specs.Stream.{StandsFor};
+    ghost use Rattle.dap_stream.specs.Feeding.{Feeds, GoesOn};
 
-    /// The reader of a stream of which nothing has come.
+    /// A decoder at the beginning of a stream.
     pub fn new(alloc: Global) -> Decoder
         ensures stands { StandsFor result [] [] }
         ensures fault { result.fault ≡ None }
@@ -51,14 +50,10 @@ impl Decoder {
         }
     }
 
-    /// Takes the next piece of the stream, and gives the bodies of the messages that it completes.
+    /// Takes the next piece of the stream, and returns the bodies of the messages that it completes.
+    #[tactic(auto, using(crate::proofs::StreamLemmas::feeds_none))]
     pub fn feed(&mut self, alloc: Global, piece: &[u8]) -> Result<Bodies, FeedFault>
-        ensures ok { IfOk result (λ bodies. Completes self.old piece.now bodies self.new) }
-        ensures good { OnOk result (self.new.fault ≡ None) }
-        ensures err { IfErr result (λ fault. FeedFails self.old piece.now fault self.new) }
-        // After a fault each piece answers the same, and changes nothing.
-        ensures stored { (cause : StreamFault) → self.old.fault ≡ Some cause
-            → IsBroken result cause × (self.new ≡ self.old) }
+        ensures { Feeds self.old piece.now self.new result }
     {
         if let Some(cause) = self.fault {
             let before = Bodies::new(alloc);
@@ -77,7 +72,7 @@ impl Decoder {
         }
     }
 
-    // Takes over what a feed has come to.
+    // Takes over the result of reading.
     fn go_on(&mut self, reading: Reading) -> Result<Bodies, FeedFault>
         requires used { reading.used ≤ length self.old.rest }
         requires fault { self.old.fault ≡ None }

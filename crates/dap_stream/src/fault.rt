@@ -1,4 +1,4 @@
-//! Why a stream can't be read on.
+//! Why a stream can't be read any further.
 
 use crate::bodies::Bodies;
 use std::fmt;
@@ -7,7 +7,7 @@ use thiserror::Error;
 /// What is wrong with a stream.
 #[derive(Clone, Copy, PartialEq, Eq, Error)]
 pub enum StreamFault {
-    /// A line of a header that is neither a field nor empty.
+    /// A header line that is neither a field nor empty.
     HeaderLine,
     /// A header of more than 1,024 bytes.
     HeaderSize,
@@ -46,18 +46,18 @@ impl fmt::Debug for StreamFault {
     }
 }
 
-/// Why a piece wasn't read to its end.
+/// Why a feed fails.
 #[derive(Drop, Error)]
 pub enum FeedFault {
     /// The decoder is as it was before the piece.
     #[error("out of memory")]
     OutOfMemory,
-    /// The bodies that were complete before the fault, and what is wrong. It stays so for good.
+    /// The bodies that were complete before the fault, and the fault. Every later feed fails with it, too.
     #[error("{cause}")]
     Broken { before: Bodies, cause: StreamFault },
 }
 
-// The bodies before a fault are the client's, and can be long: Debug shows the cause alone.
+// The bodies before a fault can be long, so Debug shows only the cause.
 impl fmt::Debug for FeedFault {
     fn fmt<W: fmt::Write>(&self, f: &mut fmt::Formatter<W>) -> fmt::Result {
         fmt::Display::fmt(self, f)

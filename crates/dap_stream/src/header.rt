@@ -6,21 +6,22 @@ ghost use Rattle.dap_stream.specs.Reading.{HeaderSays};
 use crate::fault::StreamFault;
 use crate::line::{Line, read_line};
 
-// A header has at most so many bytes.
+// The longest header, in bytes.
 const HEADER_SIZE: usize = 1024;
 
-/// What the first bytes of a message say.
+/// What the first bytes of a message are.
 #[derive(Clone, Copy)]
 pub enum Header {
-    /// The header has begun.
+    /// The header has begun, and isn't whole.
     Begun,
-    /// A header of so many bytes, and the body's size.
+    /// A whole header: its length in bytes, and the body's size.
     Whole(usize, usize),
-    /// With one of the bytes no header can go on.
+    /// No header can go on with one of the bytes.
     Broken(StreamFault),
 }
 
-// What bytes say of a header of any size.
+// Reads a header of any length.
+#[tactic(auto, using(crate::proofs::StreamLemmas::read_none))]
 fn read_lines(bytes: &[u8]) -> Header
     ensures { LinesSay bytes.now result }
 {
@@ -39,7 +40,7 @@ fn read_lines(bytes: &[u8]) -> Header
     }
 }
 
-/// What the first bytes of a message say.
+/// Reads a header of at most 1,024 bytes.
 pub fn read_header(bytes: &[u8]) -> Header
     ensures { HeaderSays bytes.now result }
 {

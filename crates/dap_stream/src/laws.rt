@@ -11,6 +11,7 @@ pub fn one_reading()
 {}
 
 /// What is written is read as these messages and nothing more.
+#[tactic(auto, using(crate::proofs::WritingLemmas::written_reads))]
 pub fn written_is_read()
     ensures { (bodies : Bodies) → All (λ body. length body ≤ 1048576) bodies
         → Reads (bytes_of_messages bodies) bodies [] }

@@ -1,25 +1,34 @@
 //! The value of a Content-Length.
-ghost use Rattle.std.specs.Prelude.{◌≡◌, ◌≤◌, MatchResult};
-ghost use Rattle.dap_stream.specs.Lengths.{SaysSize, BreaksLength, DigitsSay};
+ghost use Rattle.std.specs.Prelude.{◌≡◌, ◌≤◌};
+ghost use Rattle.dap_stream.specs.Header.{is_blank};
+ghost use Rattle.dap_stream.specs.Lengths.{value_from};
 
 use crate::fault::StreamFault;
-use crate::span::{Kind, Split, split_off};
 
-// The bytes of a body are at most so many.
+// The largest body, in bytes.
 const BODY_SIZE: usize = 1_048_576;
 
-// A Content-Length has at most so many digits.
+// The most digits of a Content-Length.
 const DIGITS: usize = 10;
 
-// What digits say that follow so many others, which say this number.
-fn read_digits(count: usize, number: usize, bytes: &[u8]) -> Result<usize, StreamFault>
+fn is_blank_byte(byte: u8) -> bool
+    ensures { result ≡ is_blank byte }
+{
+    byte == b' ' || byte == b'\t'
+}
+
+// Reads the bytes after blanks and `count` digits, which write this number.
+fn read_value(count: usize, number: usize, bytes: &[u8]) -> Result<Option<usize>, StreamFault>
     requires count { count ≤ 10 }
     requires number { number ≤ 1048576 }
-    ensures { DigitsSay count number bytes.now result }
+    ensures { result ≡ value_from count number bytes.now }
 {
     let Some((byte, others)) = bytes.split_first() else {
-        return Ok(number);
+        return Ok(if count == 0 { None } else { Some(number) });
     };
+    if count == 0 && is_blank_byte(*byte) {
+        return read_value(0, 0, others);
+    }
     if !byte.is_ascii_digit() || count == DIGITS {
         return Err(StreamFault::LengthValue);
     }
@@ -27,19 +36,12 @@ fn read_digits(count: usize, number: usize, bytes: &[u8]) -> Result<usize, Strea
     if number > BODY_SIZE {
         return Err(StreamFault::BodySize);
     }
-    read_digits(count + 1, number, others)
+    read_value(count + 1, number, others)
 }
 
-/// What the bytes of a value say of the body's size so far; none where they are blanks alone.
+/// Reads the bytes of a value that have come so far: the body's size, and `None` if they are all blanks.
 pub fn read_length(value: &[u8]) -> Result<Option<usize>, StreamFault>
-    ensures { MatchResult result (SaysSize value.now) (BreaksLength value.now) }
+    ensures { result ≡ value_from 0 0 value.now }
 {
-    let Split { front: _, others } = split_off(Kind::Blank, value);
-    if others.is_empty() {
-        return Ok(None);
-    }
-    match read_digits(0, 0, others) {
-        Ok(size) => Ok(Some(size)),
-        Err(cause) => Err(cause),
-    }
+    read_value(0, 0, value)
 }

@@ -1,30 +1,31 @@
 //! One line of a header.
-ghost use Rattle.std.specs.Prelude.{◌≡◌, ◌∷◌, ◌++◌, true, false, None};
+ghost use Rattle.std.specs.Prelude.{◌≡◌};
 ghost use Rattle.dap_stream.specs.Wire.{Bytes};
-ghost use Rattle.dap_stream.specs.Header.{is_name_byte, is_value_byte, colon, is_length_name};
-ghost use Rattle.dap_stream.specs.Spans.{StopsAt, IsName};
-ghost use Rattle.dap_stream.specs.Lines.{IsFront, EndsLine, WantsDigits, LineSays};
+ghost use Rattle.dap_stream.specs.Lines.{IsFront, LineSays};
+ghost use Rattle.dap_stream.specs.Parsing.{parse_of, empty_line, nameless, line_feed, after_value};
+ghost use Rattle.dap_stream.specs.Parsing.{after_blanks};
+ghost use Rattle.dap_stream.specs.Parsing.{length_field, field};
 
 use crate::fault::StreamFault;
 use crate::length::read_length;
 use crate::span::{Kind, Split, split_off};
 
-/// What the bytes say that follow whole lines of a header.
+/// What follows whole lines of a header.
 #[derive(Drop)]
 pub enum Line<'a> {
     /// A line has begun.
     Begun,
-    /// The bytes after a field, and the body's size, if one was said up to there.
+    /// A field: the bytes after it, and the body's size if a field has said it so far.
     Field(&'a [u8], Option<usize>),
-    /// The bytes after the empty line, which ends the header, and the body's size.
+    /// The empty line, which ends the header: the bytes after it, and the body's size.
     End(&'a [u8], usize),
-    /// With one of the bytes no header can go on.
+    /// No header can go on with one of the bytes.
     Broken(StreamFault),
 }
 
-// What follows the first byte of the empty line.
-fn read_last_line(size: Option<usize>, bytes: &[u8]) -> Line<'_>
-    ensures { (lines : Bytes) → IsFront lines size → LineSays lines (13 ∷ bytes.now) result }
+// Reads on after the first byte of the empty line.
+fn read_empty_line(size: Option<usize>, bytes: &[u8]) -> Line<'_>
+    ensures { parse_of result ≡ empty_line size bytes.now }
 {
     let Some(size) = size else {
         return Line::Broken(StreamFault::NoLength);
@@ -39,22 +40,20 @@ fn read_last_line(size: Option<usize>, bytes: &[u8]) -> Line<'_>
     }
 }
 
-// A line without a name.
+// Reads a line without a name.
 fn read_nameless(size: Option<usize>, byte: u8, bytes: &[u8]) -> Line<'_>
-    requires { is_name_byte byte ≡ false }
-    ensures { (lines : Bytes) → IsFront lines size → LineSays lines (byte ∷ bytes.now) result }
+    ensures { parse_of result ≡ nameless size byte bytes.now }
 {
     if byte == b'\r' {
-        read_last_line(size, bytes)
+        read_empty_line(size, bytes)
     } else {
         Line::Broken(StreamFault::HeaderLine)
     }
 }
 
-// What follows the carriage return of a field's line. The size is what was said of the body's up to there.
+// Reads on after the carriage return of a field's line.
 fn read_line_feed(size: Option<usize>, bytes: &[u8]) -> Line<'_>
-    ensures { (lines front : Bytes) → EndsLine lines front size
-        → LineSays lines (front ++ 13 ∷ bytes.now) result }
+    ensures { parse_of result ≡ line_feed size bytes.now }
 {
     let Some((byte, others)) = bytes.split_first() else {
         return Line::Begun;
@@ -66,10 +65,9 @@ fn read_line_feed(size: Option<usize>, bytes: &[u8]) -> Line<'_>
     }
 }
 
-// What follows a field's value.
+// Reads on after a field's value. `size` is the body's size that this field or one before it says.
 fn read_line_end(size: Option<usize>, bytes: &[u8]) -> Line<'_>
-    requires { StopsAt is_value_byte bytes.now }
-    ensures { (lines front : Bytes) → EndsLine lines front size → LineSays lines (front ++ bytes.now) result }
+    ensures { parse_of result ≡ after_value size bytes.now }
 {
     let Some((byte, others)) = bytes.split_first() else {
         return Line::Begun;
@@ -81,10 +79,9 @@ fn read_line_end(size: Option<usize>, bytes: &[u8]) -> Line<'_>
     }
 }
 
-// What follows the blanks of a Content-Length, where that is no digit.
+// Reads on after the blanks of a Content-Length without a digit.
 fn read_no_digits(bytes: &[u8]) -> Line<'_>
-    requires { StopsAt is_value_byte bytes.now }
-    ensures { (lines front : Bytes) → WantsDigits lines front → LineSays lines (front ++ bytes.now) result }
+    ensures { parse_of result ≡ after_blanks bytes.now }
 {
     let Some((byte, _)) = bytes.split_first() else {
         return Line::Begun;
@@ -96,16 +93,13 @@ fn read_no_digits(bytes: &[u8]) -> Line<'_>
     }
 }
 
-// A field that says the body's size.
-fn read_length_field<'a>(name: &[u8], bytes: &'a [u8]) -> Line<'a>
-    requires name { IsName name.now }
-    requires length { is_length_name name.now ≡ true }
-    ensures { (lines : Bytes) → IsFront lines None → LineSays lines (name.now ++ colon ∷ bytes.now) result }
+// Reads a Content-Length with this value, and what follows it.
+fn read_length_field<'a>(size: Option<usize>, value: &[u8], others: &'a [u8]) -> Line<'a>
+    ensures { parse_of result ≡ length_field size value.now others.now }
 {
-    let Split {
-        front: value,
-        others,
-    } = split_off(Kind::Value, bytes);
+    if size.is_some() {
+        return Line::Broken(StreamFault::SecondLength);
+    }
     match read_length(value) {
         Err(cause) => Line::Broken(cause),
         Ok(None) => read_no_digits(others),
@@ -113,33 +107,20 @@ fn read_length_field<'a>(name: &[u8], bytes: &'a [u8]) -> Line<'a>
     }
 }
 
-// Another field.
-fn read_other_field<'a>(size: Option<usize>, name: &[u8], bytes: &'a [u8]) -> Line<'a>
-    requires name { IsName name.now }
-    requires other { is_length_name name.now ≡ false }
-    ensures { (lines : Bytes) → IsFront lines size → LineSays lines (name.now ++ colon ∷ bytes.now) result }
+// Reads a field with this name and value, and what follows it.
+fn read_field<'a>(size: Option<usize>, name: &[u8], value: &[u8], others: &'a [u8]) -> Line<'a>
+    ensures { parse_of result ≡ field size name.now value.now others.now }
 {
-    let Split { front: _, others } = split_off(Kind::Value, bytes);
-    read_line_end(size, others)
-}
-
-// What follows a name and a colon.
-fn read_field<'a>(size: Option<usize>, name: &[u8], bytes: &'a [u8]) -> Line<'a>
-    requires { IsName name.now }
-    ensures { (lines : Bytes) → IsFront lines size → LineSays lines (name.now ++ colon ∷ bytes.now) result }
-{
-    if !name.eq_ignore_ascii_case(b"Content-Length") {
-        return read_other_field(size, name, bytes);
-    }
-    match size {
-        Some(_) => Line::Broken(StreamFault::SecondLength),
-        None => read_length_field(name, bytes),
+    if name.eq_ignore_ascii_case(b"Content-Length") {
+        read_length_field(size, value, others)
+    } else {
+        read_line_end(size, others)
     }
 }
 
-/// What the bytes say that follow whole lines of a header. The size is what these say of the body's.
+/// Reads the line that follows whole lines of a header. `size` is the body's size that these lines say.
 pub fn read_line(size: Option<usize>, bytes: &[u8]) -> Line<'_>
-    ensures { (lines : Bytes) → IsFront lines size → LineSays lines bytes.now result }
+    ensures { (lines : Bytes) → IsFront lines size → LineSays lines bytes.now (parse_of result) }
 {
     let Split {
         front: name,
@@ -149,10 +130,14 @@ pub fn read_line(size: Option<usize>, bytes: &[u8]) -> Line<'_>
         return Line::Begun;
     };
     if name.is_empty() {
-        read_nameless(size, *byte, after)
-    } else if *byte == b':' {
-        read_field(size, name, after)
-    } else {
-        Line::Broken(StreamFault::HeaderLine)
+        return read_nameless(size, *byte, after);
     }
+    if *byte != b':' {
+        return Line::Broken(StreamFault::HeaderLine);
+    }
+    let Split {
+        front: value,
+        others,
+    } = split_off(Kind::Value, after);
+    read_field(size, name, value, others)
 }

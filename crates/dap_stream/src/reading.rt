@@ -1,31 +1,28 @@
-//! The messages at the front of the bytes that a decoder has.
-ghost use Rattle.std.specs.Prelude.{◌≡◌, ◌≤◌, ◌++◌, ◌∷◌, [], length, drop, OnOk, OnErr, IfOk};
-ghost use Rattle.dap_stream.specs.Stream.{Reads};
-ghost use Rattle.dap_stream.specs.Reading.{Takes, EndsAt};
+//! The messages at the front of a decoder's bytes.
+ghost use Rattle.std.specs.Prelude.{◌≡◌, ◌++◌, ◌∷◌, [], OnOk, IfOk};
+ghost use Rattle.dap_stream.specs.Reading.{Takes, IsReading};
 
 use crate::fault::StreamFault;
 use crate::header::{Header, read_header};
 use base_text::sequence::Bytes;
 use std::alloc::{AllocError, Global};
 
-/// What stands at the front of bytes.
+/// What the first bytes are.
 #[derive(Drop)]
 pub enum Taken<'a> {
-    /// A message of this body, and the bytes after it.
+    /// A message with this body, and the bytes after it.
     Message(&'a [u8], &'a [u8]),
-    /// None that is whole.
-    Partial,
-    /// None, and none can go on from here.
-    Broken(StreamFault),
+    /// No whole message; and what is wrong, if no message can begin as these bytes do.
+    End(Option<StreamFault>),
 }
 
 /// The whole messages at the front of bytes.
 #[derive(Drop)]
 pub struct Reading {
     pub bodies: Vec<Bytes>,
-    /// How many bytes they have.
+    /// The length of these messages, in bytes.
     pub used: usize,
-    /// What follows them, where it can't be read.
+    /// The fault in the bytes after them, if there is one.
     pub fault: Option<StreamFault>,
 }
 
@@ -33,12 +30,12 @@ fn take_message(bytes: &[u8]) -> Taken<'_>
     ensures { Takes bytes.now result }
 {
     match read_header(bytes) {
-        Header::Begun => Taken::Partial,
-        Header::Broken(cause) => Taken::Broken(cause),
+        Header::Begun => Taken::End(None),
+        Header::Broken(cause) => Taken::End(Some(cause)),
         Header::Whole(header, size) => {
             let (_, others) = bytes.split_at(header);
             if others.len() < size {
-                return Taken::Partial;
+                return Taken::End(None);
             }
             let (body, others) = others.split_at(size);
             Taken::Message(body, others)
@@ -55,11 +52,9 @@ fn add_body(alloc: Global, bodies: &mut Vec<Bytes>, body: &[u8]) -> Result<(), A
     Ok(())
 }
 
-/// The whole messages at the front of the bytes.
+/// Reads the whole messages at the front of the bytes.
 pub fn read_messages(alloc: Global, bytes: &[u8]) -> Result<Reading, AllocError>
-    ensures used { IfOk result (λ r. r.used ≤ length bytes.now) }
-    ensures reads { IfOk result (λ r. Reads bytes.now r.bodies.items (drop r.used bytes.now)) }
-    ensures ends { IfOk result (λ r. EndsAt (drop r.used bytes.now) r.fault) }
+    ensures { IfOk result (λ r. IsReading bytes.now r.bodies.items r.used r.fault) }
 {
     let mut bodies = Vec::new(alloc);
     let mut rest = bytes;
@@ -69,18 +64,11 @@ pub fn read_messages(alloc: Global, bytes: &[u8]) -> Result<Reading, AllocError>
                 add_body(alloc, &mut bodies, body)?;
                 rest = others;
             }
-            Taken::Partial => {
+            Taken::End(fault) => {
                 return Ok(Reading {
                     bodies,
                     used: bytes.len() - rest.len(),
-                    fault: None,
-                });
-            }
-            Taken::Broken(cause) => {
-                return Ok(Reading {
-                    bodies,
-                    used: bytes.len() - rest.len(),
-                    fault: Some(cause),
+                    fault,
                 });
             }
         }

@@ -1,16 +1,14 @@
-//! Bytes of one kind at the front of others.
+//! The longest front of bytes of one kind.
 ghost use Rattle.std.specs.Prelude.{◌≡◌};
 ghost use Rattle.dap_stream.specs.Spans.{is_of, IsSplit};
 
-/// What a byte of a header may be.
+/// A kind of bytes in a header.
 #[derive(Clone, Copy)]
 pub enum Kind {
     /// A byte of a field's name.
     Name,
     /// A byte of a field's value.
     Value,
-    /// A blank or a tab.
-    Blank,
 }
 
 impl Kind {
@@ -20,19 +18,19 @@ impl Kind {
         match self {
             Kind::Name => matches!(byte, b'!'..=b'9' | b';'..=b'~'),
             Kind::Value => matches!(byte, b'\t' | b' '..=b'~'),
-            Kind::Blank => matches!(byte, b'\t' | b' '),
         }
     }
 }
 
-/// Bytes of a kind, and the bytes after them, of which the first isn't of that kind.
+/// Bytes of a kind, and the bytes after them, the first of which isn't of that kind.
 #[derive(Drop)]
 pub struct Split<'a> {
     pub front: &'a [u8],
     pub others: &'a [u8],
 }
 
-/// Splits off the bytes of this kind.
+/// Splits bytes before the first that isn't of this kind.
+#[tactic(auto, using(crate::proofs::SpanLemmas::split_none))]
 pub fn split_off(kind: Kind, bytes: &[u8]) -> Split<'_>
     ensures { IsSplit (is_of kind) bytes.now result.front.now result.others.now }
 {

@@ -1,4 +1,4 @@
-//! What is written.
+//! Writing messages.
 ghost use Rattle.std.specs.Prelude.{◌≡◌, ◌++◌, OnOk, OnErr, string_bytes, IfOk};
 ghost use Rattle.dap_stream.specs.Writing.{header_bytes, message_bytes};
 
@@ -23,7 +23,7 @@ fn put_parts(out: &mut Vec<u8>, header: &str, body: &[u8]) -> Result<(), AllocEr
     Ok(())
 }
 
-/// Writes a message of this body after the bytes: one field, Content-Length, and the body.
+/// Appends a message with this body: one field, Content-Length, and the body.
 pub fn put_message(alloc: Global, out: &mut Vec<u8>, body: &[u8]) -> Result<(), AllocError>
     ensures ok { OnOk result (out.new.items ≡ out.old.items ++ message_bytes body.now) }
     ensures err { OnErr result (out.new.items ≡ out.old.items) }

@@ -214,7 +214,8 @@ disassemble_bounded d c e =
     (all_found third d) s.others s.after in
     let u : Splits _ _ _ = splits (argument_value (number_or_0 (codes "instructionOffset")) d)
     (all_found last d) t.others t.after in
-    let v : Splits _ _ _ = splits (argument_value (required_argument (codes "instructionCount") count_to_256) d)
+    let v : Splits _ _ _ = splits
+    (argument_value (required_argument (codes "instructionCount") count_to_256) d)
     (Some []) u.others u.after in
     let counted : IsCount v.first = counted_at (codes "instructionCount") (argument_at
     (codes "instructionCount") d) v.first v.here in

@@ -34,7 +34,7 @@ pub data Kind : Type 0 where
   truth : Kind
   -- an object with a text `path`
   source : Kind
-  -- at most 256 objects with a whole number `line`, and nothing that a plain breakpoint hasn't
+  -- at most 256 objects with a whole number `line`, and nothing that a plain breakpoint doesn't have
   breakpoints : Kind
   -- `instruction`, or any other text
   granularity : Kind
@@ -64,7 +64,7 @@ whole_between low high d = option_and_then (when_between low high) (whole d)
 abbrev pub text_at : Text → Data → Option Text
 text_at key d = option_and_then as_str (get key d)
 
--- what stands at a key of an object, if anything does
+-- the value at a key of an object, if there is one
 abbrev pub member_at : Text → Data → Option (Option Data)
 member_at key d = option_map (get_member key) (as_object d)
 
@@ -95,7 +95,7 @@ address_of (first ∷ second ∷ digits) =
     if bytes_eq (first ∷ second ∷ []) (codes "0x") then word_spelled digits else None
 address_of other = None
 
--- what a value is as an argument of a kind, if it is one
+-- a value as an argument of this kind, if it is one
 abbrev pub found_in : Kind → Data → Option Found
 found_in (number low high) d = option_map found_number (whole_between low high d)
 found_in text d = option_map found_text (as_str d)
@@ -108,7 +108,7 @@ found_in address d = option_map found_number (option_and_then address_of (as_str
 
 -- ---- the arguments of a command
 
--- an argument, and what stands for it where it is absent, if it may be
+-- an argument, and its default if it may be absent
 pub record Argument : Type 0 where
   pub key : Text
   pub kind : Kind
@@ -120,7 +120,7 @@ required_argument key kind = record { key = key; kind = kind; absent = None }
 abbrev pub optional : Text → Kind → Found → Argument
 optional key kind absent = record { key = key; kind = kind; absent = Some absent }
 
--- what stands at a key of the arguments, where these are an object; absent ones are an empty one
+-- the value at a key of the arguments, if these are an object; absent arguments count as an empty object
 abbrev pub member_of : Text → Option Data → Option (Option Data)
 member_of key None = Some None
 member_of key (Some arguments) = member_at key arguments
@@ -135,7 +135,7 @@ found_or argument (Some d) = found_in argument.kind d
 abbrev pub argument_value : Argument → Data → Option Found
 argument_value argument request = option_and_then (found_or argument) (argument_at argument.key request)
 
--- what is found for each, where each is as it must be
+-- the values of all arguments, if each is as it must be
 abbrev pub all_found : List Argument → Data → Option (List Found)
 all_found [] request = Some []
 all_found (argument ∷ arguments) request =

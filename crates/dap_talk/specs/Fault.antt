@@ -1,4 +1,4 @@
--- The messages of requests that are refused.
+-- The messages of responses that refuse a request.
 use Rattle.std.specs.Prelude.{codes}
 use Rattle.base_text.specs.Bytes.{Text}
 use Rattle.dap_talk.specs.declared.fault.DapFault.{DapFault}

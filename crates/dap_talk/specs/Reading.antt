@@ -1,5 +1,5 @@
--- What a JSON value asks for as a debug request (Debug Adapter Protocol, "Base Protocol":
--- ProtocolMessage and Request), and which faults stand for what is no such request.
+-- What a JSON value is as a debug request (Debug Adapter Protocol, "Base Protocol": ProtocolMessage
+-- and Request), and the fault of a value that isn't one.
 use Rattle.std.specs.Prelude.{
   ◌≡◌,
   ℕ,
@@ -76,14 +76,14 @@ reading_of_envelope d (Some e) = reading_of_name e d (command_named e.command)
 unfoldable pub reading : Data → Reading
 reading d = reading_of_envelope d (envelope_of d)
 
--- only a request can be out of memory
+-- memory can run out only for a request
 abbrev pub IsOfRequest : Reading → Type 0
 IsOfRequest not_request = ⊥
 IsOfRequest (unknown_command seq command) = ⊥
 IsOfRequest (bad_arguments seq command) = ⊥
 IsOfRequest (request seq command) = Unit {0}
 
--- a result answers as a value reads
+-- a result is what a value is read as
 abbrev pub Answers : Reading → Result DapRequest DapFault → Type 0
 Answers reading (Ok r) = reading ≡ request r.seq r.command
 Answers reading (Err fault.OutOfMemory) = IsOfRequest reading

@@ -94,7 +94,7 @@ breakpoints_or_none key = optional key breakpoints (found_lines [])
 abbrev pub granularity_or_line : Text → Argument
 granularity_or_line key = optional key granularity (found_granularity Line)
 
--- the arguments of a command; of those that have none, nothing is read
+-- the arguments of a command; commands without arguments ignore what a request has
 abbrev pub arguments_of : CommandName → List Argument
 arguments_of name.Initialize = []
 arguments_of name.Attach = []
@@ -135,7 +135,7 @@ arguments_of name.BoardAliases = required_argument (codes "aliases") truth ∷ [
 
 -- ---- the typed command
 
--- What was found at a place, from 0; the table says of which kind it is.
+-- The value at a place, from 0; the table says of which kind it is.
 abbrev pub nth : ℕ → List Found → Found
 nth n [] = found_number 0
 nth zero (value ∷ values) = value
@@ -224,13 +224,13 @@ name_of (command.BoardType t) = name.BoardType
 name_of command.BoardReset = name.BoardReset
 name_of (command.BoardAliases aliases) = name.BoardAliases
 
--- what every command that was read keeps to
+-- the bounds that every command has that was read
 abbrev pub IsBounded : DapCommand → Type 0
 IsBounded (command.SetBreakpoints path lines) = length lines ≤ 256
 IsBounded (command.Disassemble from offset instruction_offset count) = (1 ≤ count) × (count ≤ 256)
 IsBounded other = Unit {0}
 
--- what a request asks for by this command, if its arguments are as they must be
+-- the command that a request makes with this name, if its arguments are as they must be
 abbrev pub command_asked : CommandName → Data → Option DapCommand
 command_asked name request = option_map (command_of name) (all_found (arguments_of name) request)
 
@@ -245,10 +245,10 @@ every_name =
     name.BoardSwitches ∷ name.BoardPress ∷ name.BoardType ∷ name.BoardReset ∷
     name.BoardAliases ∷ []
 
--- the first of these that is spelled so
+-- the first of these names that is spelled like the text
 abbrev pub first_named : List CommandName → Text → Option CommandName
 first_named names t = find (λ name. bytes_eq (spelling_of name) t) names
 
--- the command that is spelled so, if there is one
+-- the command with this name, if there is one
 abbrev pub command_named : Text → Option CommandName
 command_named t = first_named every_name t

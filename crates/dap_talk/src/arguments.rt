@@ -1,4 +1,4 @@
-//! What stands in the arguments of a request.
+//! The arguments of a request, one function for each type.
 ghost use Rattle.std.specs.Prelude.{◌≡◌, ◌<◌, IfOk, IfSome, IsSome, is_some, option_map, option_and_then};
 ghost use Rattle.serde_json.specs.Find.{as_array};
 ghost use Rattle.serde_json.specs.View.{view, items_view};
@@ -17,7 +17,7 @@ use base_text::sequence::Sequence;
 use serde_json::Value;
 use std::alloc::{AllocError, Global};
 
-/// Why a command isn't read.
+/// Why a command can't be read.
 #[derive(Clone, Copy)]
 pub enum ArgumentFault {
     OutOfMemory,
@@ -32,7 +32,7 @@ impl From<AllocError> for ArgumentFault {
     }
 }
 
-/// A whole number in these bounds.
+/// The whole number that a value is, if it is one within these bounds.
 pub fn whole_between(value: &Value, low: u32, high: u32) -> Option<u32>
     ensures { result ≡ whole_between low high (view value.now) }
 {
@@ -43,7 +43,7 @@ pub fn whole_between(value: &Value, low: u32, high: u32) -> Option<u32>
     Some(n as u32)
 }
 
-/// What stands at a key, `Some(None)` where nothing does; None where the arguments are no object.
+/// The argument at a key, and `Some(None)` if there is none. `None` if the arguments aren't an object.
 pub fn argument_at<'a>(request: &'a Value, key: &str) -> Option<Option<&'a Value>>
     ensures { option_map (option_map (λ v. view v.now)) result
         ≡ argument_at key.now (view request.now) }
@@ -54,7 +54,7 @@ pub fn argument_at<'a>(request: &'a Value, key: &str) -> Option<Option<&'a Value
     }
 }
 
-/// A whole number in these bounds, which is required.
+/// A required whole number within these bounds.
 pub fn number_at(request: &Value, key: &str, low: u32, high: u32) -> Option<u32>
     ensures { option_map found_number result
         ≡ argument_value (required_argument key.now (number low high)) (view request.now) }
@@ -62,7 +62,7 @@ pub fn number_at(request: &Value, key: &str, low: u32, high: u32) -> Option<u32>
     whole_between(argument_at(request, key)??, low, high)
 }
 
-/// A whole number, 0 where it is absent.
+/// A whole number of 32 bits, and 0 if it is absent.
 pub fn number_or_0(request: &Value, key: &str) -> Option<u32>
     ensures { option_map found_number result ≡ argument_value (number_or_0 key.now) (view request.now) }
 {
@@ -72,7 +72,7 @@ pub fn number_or_0(request: &Value, key: &str) -> Option<u32>
     }
 }
 
-/// A number of at most 255, which is required.
+/// A required number of at most 255.
 pub fn byte_at(request: &Value, key: &str) -> Option<u8>
     ensures { option_map found_number result
         ≡ argument_value (required_argument key.now byte) (view request.now) }
@@ -81,7 +81,7 @@ pub fn byte_at(request: &Value, key: &str) -> Option<u8>
     u8::try_from(n).ok()
 }
 
-/// A number from 1 to 256, which is required.
+/// A required number from 1 to 256.
 pub fn count_at(request: &Value, key: &str) -> Option<u16>
     ensures { option_map found_number result
         ≡ argument_value (required_argument key.now count_to_256) (view request.now) }
@@ -90,7 +90,7 @@ pub fn count_at(request: &Value, key: &str) -> Option<u16>
     u16::try_from(n).ok()
 }
 
-/// A text, which is required.
+/// A required text.
 pub fn text_at<'a>(request: &'a Value, key: &str) -> Option<&'a str>
     ensures { option_map (λ t. found_text t.now) result
         ≡ argument_value (required_argument key.now text) (view request.now) }
@@ -98,7 +98,7 @@ pub fn text_at<'a>(request: &'a Value, key: &str) -> Option<&'a str>
     argument_at(request, key)??.as_str()
 }
 
-/// A truth value, which is required.
+/// A required `true` or `false`.
 pub fn truth_at(request: &Value, key: &str) -> Option<bool>
     ensures { option_map found_truth result
         ≡ argument_value (required_argument key.now truth) (view request.now) }
@@ -106,7 +106,7 @@ pub fn truth_at(request: &Value, key: &str) -> Option<bool>
     argument_at(request, key)??.as_bool()
 }
 
-/// The path of a source, which is required.
+/// The path of a required source.
 pub fn source_at<'a>(request: &'a Value, key: &str) -> Option<&'a str>
     ensures { option_map (λ t. found_text t.now) result
         ≡ argument_value (required_argument key.now source) (view request.now) }
@@ -114,7 +114,7 @@ pub fn source_at<'a>(request: &'a Value, key: &str) -> Option<&'a str>
     members::text_at(argument_at(request, key)??, "path")
 }
 
-/// A granularity, by line where it is absent.
+/// A granularity: `instruction`, and by line for any other text or none.
 pub fn granularity_or_line(request: &Value, key: &str) -> Option<Granularity>
     ensures { option_map found_granularity result
         ≡ argument_value (granularity_or_line key.now) (view request.now) }
@@ -129,7 +129,7 @@ pub fn granularity_or_line(request: &Value, key: &str) -> Option<Granularity>
     }
 }
 
-/// The address that a text is, `0x` and four hexadecimal digits.
+/// The address that a text names: `0x` and four hexadecimal digits.
 pub fn address_of(text: &str) -> Option<u16>
     ensures { result ≡ address_of text.now }
 {
@@ -139,7 +139,7 @@ pub fn address_of(text: &str) -> Option<u16>
     read_word(digits)
 }
 
-/// An address, `0x` and four hexadecimal digits, which is required.
+/// A required address: `0x` and four hexadecimal digits.
 pub fn address_at(request: &Value, key: &str) -> Option<u16>
     ensures { option_map found_number result
         ≡ argument_value (required_argument key.now address) (view request.now) }
@@ -191,7 +191,7 @@ fn breakpoints_in(value: &Value) -> Option<&[Value]>
     Some(breakpoints)
 }
 
-/// Breakpoints that are as they must be, none where they are absent.
+/// At most 256 breakpoints, each with a line and without conditions; an empty list if they are absent.
 pub fn breakpoints_or_none<'a>(request: &'a Value, key: &str) -> Option<&'a [Value]>
     ensures found { option_map found_lines
         (option_and_then (λ bs. lines_of (items_view bs.now)) result)
@@ -204,7 +204,7 @@ pub fn breakpoints_or_none<'a>(request: &'a Value, key: &str) -> Option<&'a [Val
     }
 }
 
-/// The lines of breakpoints, where each has one.
+/// The lines of breakpoints, if each has one.
 pub fn lines_of(alloc: Global, breakpoints: &[Value]) -> Result<Option<Sequence<u32>>, AllocError>
     ensures { IfOk result (λ found. found ≡ lines_of (items_view breakpoints.now)) }
 {

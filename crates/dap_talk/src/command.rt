@@ -35,7 +35,7 @@ pub enum CommandName {
     BoardAliases,
 }
 
-/// What one step is: a line of a cell, or an instruction.
+/// The unit of a step: a line of a cell, or an instruction.
 #[derive(Clone, Copy)]
 pub enum Granularity {
     Line,
@@ -53,7 +53,7 @@ pub enum StepKind {
 impl StepKind {
     ghost use Rattle.dap_talk.specs.Table.{step_name};
 
-    /// The name of the command that steps so far.
+    /// The name of the command for this kind of step.
     pub fn name(self) -> CommandName
         ensures { result ≡ step_name self }
     {
@@ -72,7 +72,7 @@ pub enum DapCommand {
     Attach,
     Disconnect,
     ConfigurationDone,
-    /// The lines of a source that are to have breakpoints, at most 256, as they came.
+    /// The lines of a source at which to set breakpoints, at most 256, in the order of the request.
     SetBreakpoints {
         path: Text,
         lines: Sequence<u32>,
@@ -90,7 +90,7 @@ pub enum DapCommand {
         start: u32,
         count: u32,
     },
-    /// `value` is the text that is to be read as the new value of the variable with this name.
+    /// `value` is the text of the new value of the variable with this name.
     SetVariable {
         reference: u32,
         name: Text,
@@ -102,7 +102,7 @@ pub enum DapCommand {
         granularity: Granularity,
     },
     Pause,
-    /// So many instructions, 1 to 256. `offset` counts bytes and `instruction_offset` instructions.
+    /// 1 to 256 instructions. `offset` counts bytes, and `instruction_offset` instructions.
     Disassemble {
         address: u16,
         offset: u32,
@@ -139,7 +139,7 @@ pub struct DapRequest {
     pub command: DapCommand,
 }
 
-// One function for all places where a request is dropped, here and in the crates above.
+// Written out so that every place that drops a request calls one function.
 impl Drop for DapRequest {
     fn drop(self) {
         let Self { seq: _, command: _ } = self;
@@ -255,7 +255,7 @@ impl CommandName {
         }
     }
 
-    /// The command of this text, if it is one.
+    /// The command with this name, if there is one.
     pub fn from_name(text: &str) -> Option<CommandName>
         ensures first { result ≡ command_named text.now }
         ensures spelled { IfSome result (λ name. spelling_of name ≡ text.now) }

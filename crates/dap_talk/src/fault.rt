@@ -5,18 +5,17 @@ ghost use Rattle.dap_talk.specs.Fault.{message_of};
 use std::fmt;
 use thiserror::Error;
 
-/// Why a value is no request that can be carried out, in the order in which it is found out. What
-/// the response to a refusal repeats of the request is borrowed from it, so that refusing takes no
-/// memory.
+/// Why a value isn't a request that can be carried out, in the order of the checks. What the
+/// response repeats of the request is borrowed from it, so that refusing allocates nothing.
 #[derive(Drop, Error)]
 pub enum DapFault<'a> {
-    /// The value is a request, and what it carries is out of memory.
+    /// The value is a request, and there is no memory for what it carries.
     OutOfMemory,
-    /// No object with the type `request`, a number and a command.
+    /// Not an object with the type `request`, a number and a command.
     NotRequest,
     /// A command that isn't in the table.
     Command { seq: u32, command: &'a str },
-    /// An argument is missing, of another kind, or out of its bounds.
+    /// An argument is missing, of the wrong type, or out of its bounds.
     Arguments { seq: u32, command: &'a str },
 }
 
@@ -33,7 +32,7 @@ impl fmt::Debug for DapFault<'_> {
 }
 
 impl DapFault<'_> {
-    /// The message by which a response names the fault.
+    /// The message of the response, which names the fault.
     pub fn message(&self) -> &'static str
         ensures { result.now ≡ message_of self.now }
     {

@@ -184,7 +184,7 @@ fn read_command(
     }
 }
 
-/// The number and the text of the command of a request; None where the value is none.
+/// The number of a request and the text of its command; `None` if the value isn't a request.
 pub fn envelope_of(value: &Value) -> Option<(u32, &str)>
     ensures read { option_map (λ e. envelope_with e.0 e.1.now) result
         ≡ envelope_of (view value.now) }
@@ -199,10 +199,10 @@ pub fn envelope_of(value: &Value) -> Option<(u32, &str)>
     Some((seq, command))
 }
 
-/// Reads a request (Debug Adapter Protocol, "Base Protocol"). The value is no request unless it is
-/// an object with the type `request`, a whole `seq` of 32 bits and a text `command`; then the
-/// command must be one of the table, and then each of its arguments as the table says. Others are
-/// ignored. Absent `arguments` count as an empty object; `null` is never absent.
+/// Reads a request (Debug Adapter Protocol, "Base Protocol"). The value must be an object with the
+/// type `request`, a whole `seq` of 32 bits and a text `command`; then the command must be in the
+/// table, and then each of its arguments as the table says. Other arguments are ignored. Absent
+/// `arguments` count as an empty object; `null` doesn't count as absent.
 #[tactic(auto, unfolding(crate::specs::Reading::reading))]
 pub fn read_request<'a>(alloc: Global, value: &'a Value) -> Result<DapRequest, DapFault<'a>>
     ensures read { Answers (reading (view value.now)) result }

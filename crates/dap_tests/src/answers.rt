@@ -149,13 +149,21 @@ const BODIES: [(Shape, &str); 17] = [
     (Shape::Empty, "{}"),
     (
         Shape::Capabilities,
-        r#"{"supportsConfigurationDoneRequest":true,"supportsDisassembleRequest":true,"supportsSetVariable":true,"supportsSteppingGranularity":true}"#,
+        concat!(
+            r#"{"supportsConfigurationDoneRequest":true,"supportsDisassembleRequest":true,"#,
+            r#""supportsSetVariable":true,"supportsSteppingGranularity":true}"#,
+        ),
     ),
     (Shape::Threads, r#"{"threads":[{"id":1,"name":"8080"}]}"#),
     (Shape::Continued, r#"{"allThreadsContinued":true}"#),
     (
         Shape::Scopes,
-        r#"{"scopes":[{"expensive":false,"name":"Registers","variablesReference":1},{"expensive":false,"name":"Flags","variablesReference":2},{"expensive":false,"name":"Devices","variablesReference":3},{"expensive":false,"name":"Symbols","variablesReference":4},{"expensive":true,"name":"Memory","variablesReference":5}]}"#,
+        concat!(
+            r#"{"scopes":[{"expensive":false,"name":"Registers","variablesReference":1},"#,
+            r#"{"expensive":false,"name":"Flags","variablesReference":2},{"expensive":false,"#,
+            r#""name":"Devices","variablesReference":3},{"expensive":false,"name":"Symbols","#,
+            r#""variablesReference":4},{"expensive":true,"name":"Memory","variablesReference":5}]}"#,
+        ),
     ),
     (
         Shape::Breakpoints(&[
@@ -186,14 +194,21 @@ const BODIES: [(Shape, &str); 17] = [
             ],
             70,
         ),
-        r#"{"stackFrames":[{"column":1,"id":1,"instructionPointerReference":"0xc3fe","line":3,"name":"F1","source":{"path":"/tmp/i8080_lab/0.asm"}},{"column":1,"id":2,"instructionPointerReference":"0x0004","line":0,"name":"main"}],"totalFrames":70}"#,
+        concat!(
+            r#"{"stackFrames":[{"column":1,"id":1,"instructionPointerReference":"0xc3fe","line":3,"#,
+            r#""name":"F1","source":{"path":"/tmp/i8080_lab/0.asm"}},{"column":1,"id":2,"#,
+            r#""instructionPointerReference":"0x0004","line":0,"name":"main"}],"totalFrames":70}"#,
+        ),
     ),
     (
         Shape::Instructions(&[
             (0xffff, &[0xc3, 0x04, 0xaf], "JMP 0AF04H"),
             (2, &[0], "NOP"),
         ]),
-        r#"{"instructions":[{"address":"0xffff","instruction":"JMP 0AF04H","instructionBytes":"C3 04 AF"},{"address":"0x0002","instruction":"NOP","instructionBytes":"00"}]}"#,
+        concat!(
+            r#"{"instructions":[{"address":"0xffff","instruction":"JMP 0AF04H","instructionBytes":"C3 "#,
+            r#"04 AF"},{"address":"0x0002","instruction":"NOP","instructionBytes":"00"}]}"#,
+        ),
     ),
     (Shape::Content("HLT ;\"\n"), r#"{"content":"HLT ;\"\n"}"#),
     (
@@ -202,11 +217,20 @@ const BODIES: [(Shape, &str); 17] = [
     ),
     (
         Shape::DebugState(false, false, &[]),
-        r#"{"breakpoints":[],"exceptionPaths":[],"hashMethod":"Murmur2","hashSeed":0,"isStarted":false,"richRendering":false,"stoppedThreads":[],"tmpFilePrefix":"/tmp/i8080_lab/","tmpFileSuffix":".asm"}"#,
+        concat!(
+            r#"{"breakpoints":[],"exceptionPaths":[],"hashMethod":"Murmur2","hashSeed":0,"#,
+            r#""isStarted":false,"richRendering":false,"stoppedThreads":[],"#,
+            r#""tmpFilePrefix":"/tmp/i8080_lab/","tmpFileSuffix":".asm"}"#,
+        ),
     ),
     (
         Shape::DebugState(true, true, &[("a", &[2, 5])]),
-        r#"{"breakpoints":[{"breakpoints":[{"line":2},{"line":5}],"source":"a"}],"exceptionPaths":[],"hashMethod":"Murmur2","hashSeed":0,"isStarted":true,"richRendering":false,"stoppedThreads":[1],"tmpFilePrefix":"/tmp/i8080_lab/","tmpFileSuffix":".asm"}"#,
+        concat!(
+            r#"{"breakpoints":[{"breakpoints":[{"line":2},{"line":5}],"source":"a"}],"#,
+            r#""exceptionPaths":[],"hashMethod":"Murmur2","hashSeed":0,"isStarted":true,"#,
+            r#""richRendering":false,"stoppedThreads":[1],"tmpFilePrefix":"/tmp/i8080_lab/","#,
+            r#""tmpFileSuffix":".asm"}"#,
+        ),
     ),
 ];
 
@@ -266,15 +290,24 @@ const EVENTS: [(Event, &str); 5] = [
     ),
     (
         Event::Stopped(StopReason::Breakpoint),
-        r#"{"body":{"allThreadsStopped":true,"reason":"breakpoint","threadId":1},"event":"stopped","seq":4,"type":"event"}"#,
+        concat!(
+            r#"{"body":{"allThreadsStopped":true,"reason":"breakpoint","threadId":1},"event":"stopped","#,
+            r#""seq":4,"type":"event"}"#,
+        ),
     ),
     (
         Event::Stopped(StopReason::Step),
-        r#"{"body":{"allThreadsStopped":true,"reason":"step","threadId":1},"event":"stopped","seq":4,"type":"event"}"#,
+        concat!(
+            r#"{"body":{"allThreadsStopped":true,"reason":"step","threadId":1},"event":"stopped","#,
+            r#""seq":4,"type":"event"}"#,
+        ),
     ),
     (
         Event::Stopped(StopReason::Pause),
-        r#"{"body":{"allThreadsStopped":true,"reason":"pause","threadId":1},"event":"stopped","seq":4,"type":"event"}"#,
+        concat!(
+            r#"{"body":{"allThreadsStopped":true,"reason":"pause","threadId":1},"event":"stopped","#,
+            r#""seq":4,"type":"event"}"#,
+        ),
     ),
 ];
 

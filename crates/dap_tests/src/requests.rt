@@ -174,7 +174,8 @@ fn reads_bare_commands(rt: HostRuntime) -> Result<(), Fail> {
 
 // Commands with arguments, a line each, and what is read behind the command's name. A step is by line where
 // nothing else is said; other arguments may be left out where they are here, and others aren't looked at.
-const COMMANDS: &str = r#"next {} -> line
+const COMMANDS: &str = concat!(
+    r#"next {} -> line
 next {"granularity":"line"} -> line
 next {"granularity":"statement"} -> line
 next {"granularity":"Instruction"} -> line
@@ -200,7 +201,8 @@ setVariable {"value":"B","name":"C3FE","variablesReference":5} -> 5 'C3FE' 'B'
 setVariable {"variablesReference":0,"name":"","value":""} -> 0 '' ''
 setVariable {"variablesReference":4294967295,"name":"PC","value":""} -> 4294967295 'PC' ''
 setVariable {"variablesReference":1,"name":"\u0041\"\u00e9","value":"\\5\/"} -> 1 'A"é' '\5/'
-setVariable {"variablesReference":1,"name":"SP","value":"1.5","format":{"hex":true},"start":null} -> 1 'SP' '1.5'
+setVariable {"variablesReference":1,"name":"SP","value":"1.5","#,
+    r#""format":{"hex":true},"start":null} -> 1 'SP' '1.5'
 boardSwitches {"value":255} -> 255
 boardPress {"vector":8} -> 8
 source {"source":{"path":"/tmp/a.asm"},"sourceReference":0} -> '/tmp/a.asm'
@@ -211,9 +213,12 @@ boardAliases {"aliases":false} -> false
 boardAliases {"alias":0,"value":null,"aliases":true} -> true
 setBreakpoints {"source":{"path":"a"}} -> 'a'
 setBreakpoints {"source":{"path":"a","name":1},"breakpoints":[]} -> 'a'
-setBreakpoints {"source":{"path":"a"},"lines":[9],"breakpoints":[{"line":3,"column":1},{"line":0},{"line":3}]} -> 'a' 3 0 3
+setBreakpoints {"source":{"path":"a"},"lines":[9],"#,
+    r#""breakpoints":[{"line":3,"column":1},{"line":0},{"line":3}]} -> 'a' 3 0 3
 disassemble {"memoryReference":"0x0aFf","instructionCount":1} -> 2815 0 0 1
-disassemble {"memoryReference":"0xFFFF","offset":2,"instructionOffset":4294967295,"instructionCount":256,"resolveSymbols":false} -> 65535 2 4294967295 256"#;
+disassemble {"memoryReference":"0xFFFF","offset":2,"instructionOffset":4294967295,"#,
+    r#""instructionCount":256,"resolveSymbols":false} -> 65535 2 4294967295 256"#,
+);
 
 fn is_read(alloc: Global, row: &str) -> Result<bool, Fail> {
     let (asked, read) = row.split_once(" ->").unwrap_or((row, ""));
@@ -544,11 +549,18 @@ fn refuses_unknown_commands(rt: HostRuntime) -> Result<(), Fail> {
 }
 
 // Refused requests, a line each, and the responses to them.
-const REFUSALS: &str =
-    r#"{"seq":5,"type":"event","command":"threads"} -> {"command":"","message":"NotRequest","request_seq":0,"seq":3,"success":false,"type":"response"}
-{"seq":5,"type":"request","command":"evaluate"} -> {"command":"evaluate","message":"Command","request_seq":5,"seq":3,"success":false,"type":"response"}
-{"seq":6,"type":"request","command":"scopes"} -> {"command":"scopes","message":"Arguments","request_seq":6,"seq":3,"success":false,"type":"response"}
-{"seq":8,"type":"request","command":"setVariable","arguments":{"variablesReference":1,"name":"A","value":5}} -> {"command":"setVariable","message":"Arguments","request_seq":8,"seq":3,"success":false,"type":"response"}"#;
+const REFUSALS: &str = concat!(
+    r#"{"seq":5,"type":"event","command":"threads"} -> "#,
+    r#"{"command":"","message":"NotRequest","request_seq":0,"seq":3,"success":false,"type":"response"}
+{"seq":5,"type":"request","command":"evaluate"} -> "#,
+    r#"{"command":"evaluate","message":"Command","request_seq":5,"seq":3,"success":false,"type":"response"}
+{"seq":6,"type":"request","command":"scopes"} -> "#,
+    r#"{"command":"scopes","message":"Arguments","request_seq":6,"seq":3,"success":false,"type":"response"}
+{"seq":8,"type":"request","command":"setVariable","#,
+    r#""arguments":{"variablesReference":1,"name":"A","value":5}} -> "#,
+    r#"{"command":"setVariable","message":"Arguments","request_seq":8,"seq":3,"success":false,"#,
+    r#""type":"response"}"#,
+);
 
 fn text_of(alloc: Global, value: Value) -> Result<String, AllocError> {
     let text = value.to_string(alloc);

@@ -1,21 +1,35 @@
-use Rattle.std.proofs.Common.{subst, ◌∙◌, ap, ◌++◌, ◌<◌, length, arith}
-use Rattle.dap_stream.specs.Header.{is_name_byte}
-use Rattle.dap_stream.specs.Spans.{StopsAt}
-use Rattle.dap_stream.proofs.LineLemmas.{name_begins, name_breaks}
+use Rattle.std.proofs.Common.{◌∙◌, ap, ◌++◌, ◌≡◌, ◌<◌, [], arith, length}
+use Rattle.std.proofs.lemmas.List.{append-nil, nil_from_length}
+use Rattle.dap_stream.proofs.FrontLemmas.{begins_name}
+use Rattle.dap_stream.proofs.LineLemmas.{nameless_line, other_line, field_line}
 use Rattle.dap_stream.proofs.line.read_line.Goals as goal
 
 pub returns-in_default : goal.returns-in_default
 returns-in_default c =
-    λ lines f. name_begins lines c.split_off.result.front.now c.split_off.result.others.now c.args.bytes.now
-    c.args.size
-    c.in_default.ensures.cases c.split_off.ensures.spelled c.split_off.ensures.front_is f
-
-pub returns-else-byte-eq58 : goal.returns-else-byte-eq58
-returns-else-byte-eq58 c =
     let name = c.split_off.result.front.now in
-    let after = c.in-Some.ensures.cases.0 in
-    let some : 0 < length name = grind (arith, c.is_empty.ensures) in
-    λ lines f. name_breaks lines name c.in-Some.after.now c.args.bytes.now c.in-Some.byte.now c.args.size
-    (c.split_off.ensures.spelled ∙ ap (λ l. name ++ l) after) f
-    (record { some = some; name_is = c.split_off.ensures.front_is })
-    (subst (StopsAt is_name_byte) after c.split_off.ensures.stops) c.if-byte-eq58.false
+    let none = nil_from_length c.split_off.result.others.now c.in_default.ensures.cases in
+    λ lines f. rw (c.split_off.ensures.spelled ∙ (ap (λ l. name ++ l) none ∙ append-nil name))
+    (begins_name lines name c.args.size f c.split_off.ensures.front_is)
+
+pub returns-then-is_empty : goal.returns-then-is_empty
+returns-then-is_empty c =
+    let none : c.split_off.result.front.now ≡ [] = nil_from_length _ (grind (arith, c.is_empty.ensures)) in
+    λ lines f. nameless_line lines c.args.bytes.now c.split_off.result.front.now c.split_off.result.others.now
+    c.in-Some.after.now c.in-Some.byte.now c.args.size _ c.split_off.ensures c.in-Some.ensures.cases.0 f none
+    c.read_nameless.ensures
+
+pub returns-then-byte-ne58 : goal.returns-then-byte-ne58
+returns-then-byte-ne58 c =
+    let some : 0 < length c.split_off.result.front.now = grind (arith, c.is_empty.ensures) in
+    λ lines f. other_line lines c.args.bytes.now c.split_off.result.front.now c.split_off.result.others.now
+    c.in-Some.after.now c.in-Some.byte.now c.args.size c.split_off.ensures c.in-Some.ensures.cases.0 f some
+    c.if-byte-ne58.true
+
+pub returns : goal.returns
+returns c =
+    let some : 0 < length c.split_off.result.front.now = grind (arith, c.is_empty.ensures) in
+    λ lines f. field_line lines c.args.bytes.now c.split_off.result.front.now c.split_off.result.others.now
+    c.in-Some.after.now c.split_off-2.result.front.now c.split_off-2.result.others.now c.in-Some.byte.now
+    c.args.size _ c.split_off.ensures c.in-Some.ensures.cases.0 f some c.if-byte-ne58.false
+    c.split_off-2.ensures
+    c.read_field.ensures
