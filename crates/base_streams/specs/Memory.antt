@@ -1,15 +1,16 @@
 -- Readers and writers over memory.
 use Rattle.std.specs.Prelude.{ℕ, List, Bool, Option}
 
--- what a writer has taken, the most that it takes a call, the calls that are still to succeed
+-- the bytes that a writer has taken, the most that it takes a call, and the number of calls that still
+-- succeed
 pub record SinkState : Type 0 where
   pub taken : List ℕ
   pub most : ℕ
   pub calls : ℕ
   pub failed : Bool
 
--- what a reader has given and has left, the most that it gives a call, the calls that are still to succeed,
--- and how often it was read, where that is counted
+-- the bytes that a reader has given and those that are left, the most that it gives a call, the number of
+-- calls that still succeed, and how often it was read, if that is counted
 pub record SourceState : Type 0 where
   pub given : List ℕ
   pub left : List ℕ

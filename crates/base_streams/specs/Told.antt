@@ -1,4 +1,4 @@
--- Bytes that were given or taken, where they are known, and reads, where they are counted.
+-- Bytes that were given or taken, if they are known, and reads, if they are counted.
 use Rattle.std.specs.Prelude.{◌≡◌, ℕ, ◌+◌, List, ◌++◌, Option, Some, None}
 use Rattle.base_streams.specs.States.{InletState, OutletState}
 
@@ -26,7 +26,7 @@ Took old new bytes = Told old.taken new.taken bytes
 abbrev pub TookFront : OutletState → OutletState → List ℕ → Type 0
 TookFront old new bytes = ToldFront old.taken new.taken bytes
 
--- so many more, where they are counted still
+-- so many more, if they are still counted
 abbrev pub CountsOn : Option ℕ → Option ℕ → ℕ → Type 0
 CountsOn before None n = Unit {0}
 CountsOn before (Some after) n = (first : ℕ) × (before ≡ Some first) × (after ≡ first + n)

@@ -1,7 +1,7 @@
 //! Counting reads.
 ghost use Rattle.base_streams.specs.Told.{CountsOn};
 
-/// One read more; more than 2^64 - 1 aren't counted.
+/// Counts one more read. More than 2^64 - 1 aren't counted.
 pub(crate) fn one_more(reads: Option<u64>) -> Option<u64>
     ensures { CountsOn reads result 1 }
 {

@@ -1,9 +1,9 @@
-//! Test doubles: readers and writers that give and take little at a time, and that fail.
+//! Test doubles: a reader and a writer that move few bytes at a time, and that fail.
 use std::io;
 use std::io::{ErrorKind, Read, Write};
 
-/// A reader of some bytes that gives at most so many at a time, is interrupted before each read,
-/// and fails in place of its end where it is to.
+/// A reader of some bytes that gives at most `piece` at a time, is interrupted before each read, and, if
+/// `fails`, fails in place of its end.
 #[derive(Drop)]
 pub struct Slow<'a> {
     pub rest: &'a [u8],
@@ -29,7 +29,7 @@ impl Read for Slow<'_> {
     }
 }
 
-/// A writer that takes one byte at a time, and fails once it has so many.
+/// A writer that takes one byte at a time, and fails once it has `room` bytes.
 #[derive(Drop)]
 pub struct Narrow {
     pub bytes: Vec<u8>,

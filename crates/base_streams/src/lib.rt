@@ -1,8 +1,8 @@
-// What gives bytes and what takes them, so that contracts can speak of what was read and written.
-// An `Inlet` is seen as the bytes given and left, an `Outlet` as those taken, where they are known,
-// and whether they failed or ended. `write_all` writes all bytes, or a front of them and fails.
-// `Source` and `Sink`, over memory, move so many bytes a call at most and fail at a chosen call.
-// std's readers and writers are wrapped; what was interrupted is tried again, in one place.
+// Readers and writers whose bytes contracts can speak of. Contracts see an `Inlet` as the bytes that it has
+// given and those that are left, and an `Outlet` as the bytes that it has taken, where these are known, and
+// whether they ended or failed. `write_all` writes all the bytes, or a front of them and fails. `Source` and
+// `Sink` are over memory; they move a limited number of bytes a call and fail at a chosen call. std's readers
+// and writers are wrapped: a read or a write that is interrupted is tried again, in one place.
 #![tactic(auto)]
 
 mod counting;

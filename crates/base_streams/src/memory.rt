@@ -1,5 +1,5 @@
-//! A reader and a writer over memory, which move a chosen number of bytes a call and fail at a
-//! chosen call.
+//! A reader and a writer over memory, which move at most a chosen number of bytes a call and fail at a chosen
+//! call.
 ghost use Rattle.std.specs.Prelude.{◌≡◌, Some, true, false, ◌++◌, take, drop, [], IfOk};
 
 use crate::counting::one_more;
@@ -25,8 +25,8 @@ impl Model for Sink {
 }
 
 impl Sink {
-    /// A writer that takes at most so many bytes a call, and fails after so many calls. One that may
-    /// take none fails at once.
+    /// A writer that takes at most `most` bytes a call, and fails after `calls` calls. If `most` is 0, it
+    /// fails at the first call.
     pub fn new(alloc: Global, most: usize, calls: u64) -> Sink
         ensures { result ≡ record { taken = []; most = most; calls = calls; failed = false } }
     {
@@ -38,7 +38,7 @@ impl Sink {
         }
     }
 
-    /// The bytes that it took.
+    /// The bytes that it has taken.
     pub fn as_slice(&self) -> &[u8]
         ensures { result.now ≡ self.now.taken }
     {
@@ -49,7 +49,7 @@ impl Sink {
 impl Outlet for Sink {
     ghost state = { λ s. record { taken = Some s.taken; failed = s.failed } };
 
-    /// Fails out of memory too.
+    /// Also fails if memory runs out.
     fn write(&mut self, bytes: &[u8]) -> Result<usize, IoFault> {
         let count = bytes.len().min(self.most);
         if self.calls == 0 || count == 0 || self.held.extend_from_slice(&bytes[..count]).is_err() {
@@ -93,8 +93,8 @@ impl Model for Source {
 }
 
 impl Source {
-    /// A reader of these bytes that gives at most so many a call, and fails after so many calls.
-    /// One that may give none fails at once: a read of no bytes would be the end.
+    /// A reader of these bytes that gives at most `most` a call, and fails after `calls` calls. If `most` is
+    /// 0, it fails at the first call, since a read of no bytes would be the end.
     pub fn new(bytes: Vec<u8>, most: usize, calls: u64) -> Source
         ensures { result ≡ record {
           given = [];

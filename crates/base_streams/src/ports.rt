@@ -1,4 +1,4 @@
-//! What gives bytes and what takes them.
+//! Readers and writers, as contracts see them.
 ghost use Rattle.std.specs.Prelude.{◌≡◌, ◌<◌, ◌≤◌, [], true, length, take, IfOk, MatchResult};
 ghost use Rattle.std.specs.Io.KnownBytes.{ReadConsumes};
 ghost use Rattle.base_streams.specs.States.{InletState, OutletState};
@@ -11,14 +11,13 @@ use thiserror::Error;
 #[error("failed")]
 pub struct IoFault;
 
-/// What gives bytes.
+/// A reader.
 pub trait Inlet {
-    /// What it has given and has still to give, how often it was read, whether it has ended, and whether it
-    /// has failed.
+    /// The bytes that it has given and those that are left, how often it was read, whether it has ended, and
+    /// whether it has failed.
     ghost state: { Self → InletState };
 
-    /// Reads at most as many bytes as there is room for, to the front of the buffer, and reports how
-    /// many. None is the end.
+    /// Reads bytes into the front of the buffer, and returns how many. Zero is the end.
     fn read(&mut self, buffer: &mut [u8]) -> Result<usize, IoFault>
         requires { 0 < length buffer.old }
         ensures count { IfOk result (λ n. n ≤ length buffer.new) }
@@ -40,12 +39,12 @@ pub trait Inlet {
             (λ _. (state self.new).ended ≡ (state self.old).ended) };
 }
 
-/// What takes bytes.
+/// A writer.
 pub trait Outlet {
-    /// What it has taken, and whether it has failed.
+    /// The bytes that it has taken, and whether it has failed.
     ghost state: { Self → OutletState };
 
-    /// Writes bytes from the front, at least one, and reports how many.
+    /// Writes bytes from the front, at least one, and returns how many.
     fn write(&mut self, bytes: &[u8]) -> Result<usize, IoFault>
         requires { 0 < length bytes.now }
         ensures count { IfOk result (λ n. (0 < n) × (n ≤ length bytes.now)) }

@@ -1,5 +1,4 @@
-//! std's readers and writers. A read or a write that was interrupted is tried again, here and
-//! nowhere else.
+//! std's readers and writers. A read or a write that is interrupted is tried again, here and nowhere else.
 ghost use Rattle.std.specs.Prelude.{◌≡◌, ◌≤◌, ◌<◌, Some, None, true, false, length, IfOk};
 ghost use Rattle.std.specs.Io.KnownBytes.{ReadConsumes, WriteAppends};
 
@@ -8,9 +7,8 @@ use crate::ports::{Inlet, IoFault, Outlet};
 use std::io::{ErrorKind, Read, Write};
 use std::marker::Model;
 
-/// Reads at most as many bytes as there is room for, to the front of the buffer, and reports how
-/// many; none is the end. A read that was interrupted is tried again, 4,294,967,295 times in a row
-/// at most.
+/// Reads bytes into the front of the buffer, and returns how many; zero is the end. A read that is
+/// interrupted is tried again, at most 4,294,967,295 times in a row.
 pub fn read_some<R: Read>(reader: &mut R, buffer: &mut [u8]) -> Result<usize, IoFault>
     ensures count { IfOk result (λ n. n ≤ length buffer.new) }
     ensures bytes { ReadConsumes (R.remaining reader.old) (R.remaining reader.new) result buffer.new }
@@ -28,8 +26,8 @@ pub fn read_some<R: Read>(reader: &mut R, buffer: &mut [u8]) -> Result<usize, Io
     Err(IoFault)
 }
 
-/// Writes bytes from the front, at least one, and reports how many. A write that was interrupted is
-/// tried again, 4,294,967,295 times in a row at most; a write of no bytes is a failure.
+/// Writes bytes from the front, at least one, and returns how many. A write that is interrupted is tried
+/// again, at most 4,294,967,295 times in a row; a write of no bytes is a failure.
 pub fn write_some<W: Write>(writer: &mut W, bytes: &[u8]) -> Result<usize, IoFault>
     ensures count { IfOk result (λ n. (0 < n) × (n ≤ length bytes.now)) }
     ensures bytes { WriteAppends (W.contents writer.old) (W.contents writer.new) result bytes.now }
@@ -48,8 +46,8 @@ pub fn write_some<W: Write>(writer: &mut W, bytes: &[u8]) -> Result<usize, IoFau
     Err(IoFault)
 }
 
-/// A reader of std. What it has left is known where the reader's bytes are, as those of a slice or a
-/// cursor over memory are, and those of a file or a socket aren't. It keeps no byte that it has given.
+/// A reader of std. The bytes that are left are known if std knows them, as of a slice or a cursor over
+/// memory, and not of a file or a socket. The bytes that it has given aren't kept.
 #[derive(Drop)]
 pub struct StdInlet<R: Read + Drop> {
     reader: R,
@@ -110,7 +108,7 @@ impl<R: Read + Drop> Inlet for StdInlet<R> {
     }
 }
 
-/// A writer of std. What it has taken is known where the writer's bytes are, as a vector's are.
+/// A writer of std. The bytes that it has taken are known if std knows them, as of a vector.
 #[derive(Drop)]
 pub struct StdOutlet<W: Write + Drop> {
     writer: W,
@@ -136,7 +134,7 @@ impl<W: Write + Drop> StdOutlet<W> {
         }
     }
 
-    /// The writer.
+    /// The writer that is wrapped.
     pub fn into_inner(self) -> W
         ensures { result ≡ self.writer }
     {

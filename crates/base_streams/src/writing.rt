@@ -1,10 +1,10 @@
-//! Writing all of some bytes.
+//! Writing all bytes.
 ghost use Rattle.std.specs.Prelude.{◌≡◌, true, OnOk, OnErr};
 ghost use Rattle.base_streams.specs.Told.{Took, TookFront};
 
 use crate::ports::{IoFault, Outlet};
 
-/// Writes all the bytes in as many writes as it takes, or a front of them, and fails.
+/// Writes all the bytes, in as many writes as it takes; or writes a front of them and fails.
 pub fn write_all<W: Outlet>(to: &mut W, bytes: &[u8]) -> Result<(), IoFault>
     ensures front { TookFront (W.state to.old) (W.state to.new) bytes.now }
     ensures ok { OnOk result (Took (W.state to.old) (W.state to.new) bytes.now) }

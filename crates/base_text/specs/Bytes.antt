@@ -1,10 +1,10 @@
--- What contracts see of bytes, of texts and of the frames of a message.
+-- Bytes, texts and the frames of a message, as contracts see them.
 use Rattle.std.specs.Prelude.{ℕ, List}
 
 abbrev pub Bytes : Type 0
 Bytes = List ℕ
 
--- in UTF-8
+-- its bytes in UTF-8
 abbrev pub Text : Type 0
 Text = List ℕ
 

@@ -1,4 +1,4 @@
--- Numbers in base 16: a byte has two digits and a word four, the highest first.
+-- Numbers in base 16: a byte has two digits and a word four, the most significant first.
 use Rattle.std.specs.Prelude.{ℕ, ◌+◌, ◌-◌, ◌*◌, ◌/◌, ◌%◌, [], ◌∷◌, ◌++◌, ◌&&◌, nat_lt, nat_le, Option}
 use Rattle.std.specs.Prelude.{Some, None, option_and_then, if◌then◌else◌}
 use Rattle.base_text.specs.Bytes.{Text}
@@ -12,7 +12,7 @@ digit_value c =
     (if (nat_le 65 c && nat_le c 70) then (Some (c - 55)) else
     (if (nat_le 97 c && nat_le c 102) then (Some (c - 87)) else None))
 
--- the number that digits spell after those of a number
+-- the number that digits spell, after the number so far
 abbrev pub number_from : ℕ → Text → Option ℕ
 number_from n [] = Some n
 number_from n (c ∷ cs) = option_and_then (λ digit. number_from (n * 16 + digit) cs) (digit_value c)

@@ -4,7 +4,7 @@ ghost use Rattle.std.specs.Prelude.{◌≡◌, IfOk};
 use std::alloc::{AllocError, Global};
 use std::marker::Model;
 
-/// A value on the heap, seen as the value: it takes the room of a pointer where it stands.
+/// A value on the heap, which contracts see as the value. It has the size of a pointer.
 #[derive(Drop)]
 pub struct Boxed<T> {
     value: Box<T>,
@@ -17,7 +17,7 @@ impl<T> Model for Boxed<T> {
 }
 
 impl<T: Drop> Boxed<T> {
-    /// A value, moved to the heap.
+    /// Moves a value to the heap.
     pub fn new(alloc: Global, value: T) -> Result<Boxed<T>, AllocError>
         ensures { IfOk result (λ boxed. boxed ≡ value) }
     {

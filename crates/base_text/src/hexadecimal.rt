@@ -1,4 +1,4 @@
-//! Digits of base 16, in either case when they are read.
+//! Digits of base 16. They are read in either case.
 ghost use Rattle.std.specs.Prelude.{◌≡◌, ◌<◌, ◌++◌, IfSome, OnOk, string_bytes};
 ghost use Rattle.base_text.specs.Hexadecimal.{digit_value, word_spelled, upper_byte, upper_word};
 ghost use Rattle.base_text.specs.Hexadecimal.{lower_byte, lower_word};
@@ -18,7 +18,7 @@ pub fn digit_value(byte: u8) -> Option<u8>
     }
 }
 
-/// The word that exactly four digits spell, the highest first.
+/// The word that exactly four digits spell, the most significant first.
 pub fn read_word(digits: &[u8]) -> Option<u16>
     ensures { result ≡ word_spelled digits.now }
 {
@@ -34,7 +34,7 @@ pub fn read_word(digits: &[u8]) -> Option<u16>
     Some(number * 16 + fourth)
 }
 
-/// Adds a byte as two digits in upper case.
+/// Appends a byte as two upper-case digits.
 pub fn push_byte(text: &mut String, byte: u8) -> Result<(), AllocError>
     ensures { OnOk result (string_bytes text.new ≡ string_bytes text.old ++ upper_byte byte) }
 {
@@ -42,7 +42,7 @@ pub fn push_byte(text: &mut String, byte: u8) -> Result<(), AllocError>
     Ok(())
 }
 
-/// Adds a word as four digits in upper case.
+/// Appends a word as four upper-case digits.
 pub fn push_word(text: &mut String, word: u16) -> Result<(), AllocError>
     ensures { OnOk result (string_bytes text.new ≡ string_bytes text.old ++ upper_word word) }
 {
@@ -59,7 +59,7 @@ fn push_lower_byte(text: &mut String, byte: u8) -> Result<(), AllocError>
     Ok(())
 }
 
-/// Adds a word as four digits in lower case.
+/// Appends a word as four lower-case digits.
 pub fn push_lower_word(text: &mut String, word: u16) -> Result<(), AllocError>
     ensures { OnOk result (string_bytes text.new ≡ string_bytes text.old ++ lower_word word) }
 {

@@ -1,10 +1,10 @@
-//! Items in their order.
+//! Sequences of items.
 ghost use Rattle.std.specs.Prelude.{◌≡◌, [], ◌∷◌, ◌++◌, length, take, OnOk, OnErr, IfOk};
 
 use std::alloc::{AllocError, Global};
 use std::marker::Model;
 
-/// Items in their order, seen as the list of them.
+/// A sequence of items, which contracts see as a list.
 #[derive(Clone, Drop)]
 pub struct Sequence<T> {
     items: Vec<T>,
@@ -13,7 +13,7 @@ pub struct Sequence<T> {
 /// Bytes.
 pub type Bytes = Sequence<u8>;
 
-/// The frames of a message, each of them bytes.
+/// The frames of a message.
 pub type Frames = Sequence<Bytes>;
 
 impl<T> Model for Sequence<T> {
@@ -25,7 +25,7 @@ impl<T> Model for Sequence<T> {
 }
 
 impl<T> Sequence<T> {
-    /// No items.
+    /// An empty sequence. It doesn't allocate.
     pub fn new(alloc: Global) -> Sequence<T>
         ensures { result ≡ [] }
     {
@@ -34,7 +34,7 @@ impl<T> Sequence<T> {
         }
     }
 
-    /// How many items there are.
+    /// The number of items.
     pub fn len(&self) -> usize
         ensures { result ≡ length self.now }
     {
@@ -58,7 +58,7 @@ impl<T> Sequence<T> {
 }
 
 impl<T: Drop> Sequence<T> {
-    /// Adds an item as the last one.
+    /// Appends an item. If memory runs out, the sequence doesn't change.
     pub fn push(&mut self, item: T) -> Result<(), AllocError>
         ensures ok { OnOk result (self.new ≡ self.old ++ item ∷ []) }
         ensures err { OnErr result (self.new ≡ self.old) }
@@ -67,7 +67,7 @@ impl<T: Drop> Sequence<T> {
         Ok(())
     }
 
-    /// Keeps this many items from the front, where there are more.
+    /// Keeps the first `count` items, and drops the others.
     pub fn truncate(&mut self, count: usize)
         ensures { self.new ≡ take count self.old }
     {

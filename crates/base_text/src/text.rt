@@ -1,10 +1,10 @@
-//! A text.
+//! Texts.
 ghost use Rattle.std.specs.Prelude.{◌≡◌, IfOk};
 
 use std::alloc::{AllocError, Global};
 use std::marker::Model;
 
-/// A text, seen as its bytes in UTF-8.
+/// A text, which contracts see as its bytes in UTF-8.
 #[derive(Clone, Drop)]
 pub struct Text {
     text: String,

@@ -17,7 +17,7 @@ const MEMBERS: [(&str, &str); 9] = [
     ("hb_port", "41005"),
 ];
 
-// A member behind others; none where the value is empty.
+// A member after others; none if the value is empty.
 fn push_member(text: &mut String, name: &str, value: &str) -> Result<(), Fail> {
     if value.is_empty() {
         return Ok(());
@@ -26,7 +26,7 @@ fn push_member(text: &mut String, name: &str, value: &str) -> Result<(), Fail> {
     Ok(())
 }
 
-// A connection file in which the member of this name has this value; none where the value is empty.
+// A connection file in which the member of this name has this value, or is missing if the value is empty.
 fn file_with(alloc: Global, name: &str, value: &str) -> Result<String, Fail> {
     let mut text = String::from_str(alloc, "{\"kernel_name\":[1,2.5]")?;
     for (member, usual) in &MEMBERS {
@@ -78,10 +78,10 @@ fn a_file_gives_its_values(rt: HostRuntime) -> Result<(), Fail> {
     Ok(())
 }
 
-// What stands as a member's value, and the fault of the file.
+// The text of a member's value, and the fault of the file.
 type Value = (&'static str, Option<FileFault>);
 
-// No member may be missing or of one of these.
+// No member may be missing or have one of these values.
 const NO_VALUES: [Value; 7] = [
     ("", Some(FileFault::Field)),
     ("null", Some(FileFault::Field)),
@@ -140,7 +140,7 @@ const NAMES: [&str; 9] = [
 
 const NO_TEXT: [Value; 1] = [("\"x\"", Some(FileFault::Field))];
 
-// Any text is a key, the empty one too.
+// Any text may be the key, the empty one too.
 const KEYS: [Value; 2] = [("\"x\"", None), ("\"\"", None)];
 
 const SCHEMES: [Value; 2] = [
@@ -153,7 +153,7 @@ const TRANSPORTS: [Value; 2] = [
     ("\"TCP\"", Some(FileFault::Field)),
 ];
 
-// Members, and values that stand in each of them in turn.
+// Members, and values for each of them in turn.
 const MEMBER_VALUES: [(&[&str], &[Value]); 8] = [
     (&NAMES, &NO_VALUES),
     (&["ip", "transport", "signature_scheme"], &NO_TEXT),

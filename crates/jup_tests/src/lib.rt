@@ -1,5 +1,5 @@
-// What no clause of jup_wire says: that messages open and are sealed where there is memory; and the
-// signature's values, which come from RFC 4231 and not from the code. Nothing is here but tests.
+// Tests of what no clause of jup_wire says: that messages open and are sealed if there is memory, and the
+// values of signatures, which come from RFC 4231 and not from the code.
 #![tactic(auto)]
 
 #[cfg(test)]

@@ -17,14 +17,14 @@ const UPPER: &str = "5BDCC146BF60754E6A042426089575C75A003F089D2739839DEC58B964E
 const HEADER: &str = "{\"msg_id\":\"1\",\"msg_type\":\"execute_request\",\"session\":\"s\"}";
 
 const CONTENT: &str = "{\"code\":\"HLT\"}";
-// Under the key `secret`, over HEADER, `{}`, `{}` and CONTENT; by another program.
+// The signature under the key `secret` of HEADER, `{}`, `{}` and CONTENT, made by another program.
 const SEAL: &str = "91fc5ecb5dfde4503eca82114b44497973bdcb8718b29ec0bdab8e2e0efa1223";
 
 const STATUS: &str = "{\"date\":\"2000-02-29T00:00:00Z\",\"msg_id\":\"S_1\",\
 \"msg_type\":\"status\",\"session\":\"S\",\"username\":\"kernel\",\"version\":\"5.4\"}";
 
 const IDLE: &str = "{\"execution_state\":\"idle\"}";
-// Under the key `secret`, over STATUS, `{}`, `{}` and IDLE; by another program.
+// The signature under the key `secret` of STATUS, `{}`, `{}` and IDLE, made by another program.
 const STATUS_SEAL: &str = "65eb76a94efee1c6b8e2e5f846376272ef9a69741f9d7df9e6d86e4aac7ab9cb";
 
 fn frames(alloc: Global, texts: &[&str]) -> Result<Frames, AllocError> {
@@ -35,7 +35,7 @@ fn frames(alloc: Global, texts: &[&str]) -> Result<Frames, AllocError> {
     Ok(all)
 }
 
-// The fault of the frames, or None where they open. Out of memory fails the test.
+// The fault of the frames, or None if they open. Out of memory fails the test.
 fn fault_of(opened: &Result<Message, WireFault>) -> Result<Option<WireFault>, Fail> {
     match opened {
         Ok(_) => Ok(None),
@@ -74,7 +74,7 @@ fn has_signature(alloc: Global, key: &[u8], data: &[u8], digits: &str) -> Result
     Ok(text.as_str().len() == 64 && text.as_str().starts_with(digits))
 }
 
-// Keys, data, and the digits that their signature begins with: RFC 4231's seven, of the fifth 128 bits.
+// Keys, data, and the first digits of their signatures: the seven of RFC 4231, the fifth cut to 128 bits.
 const VECTORS: [(&[u8], &[u8], &str); 7] = [
     (
         &[0x0b; 20],
@@ -88,7 +88,8 @@ const VECTORS: [(&[u8], &[u8], &str); 7] = [
         "773ea91e36800e46854db8ebd09181a72959098b3ef8c122d9635514ced565fe",
     ),
     (
-        b"\x01\x02\x03\x04\x05\x06\x07\x08\x09\x0a\x0b\x0c\x0d\x0e\x0f\x10\x11\x12\x13\x14\x15\x16\x17\x18\x19",
+        b"\x01\x02\x03\x04\x05\x06\x07\x08\x09\x0a\x0b\x0c\x0d\x0e\x0f\x10\x11\x12\x13\
+          \x14\x15\x16\x17\x18\x19",
         &[0xcd; 50],
         "82558a389a443c0ea4cc819899f2083a85f0faa3e578f8077a2e3ff46729665b",
     ),
@@ -130,7 +131,7 @@ fn fault_under(alloc: Global, seal: &str) -> Result<Option<WireFault>, Fail> {
     fault_in(alloc, "Jefe", texts.as_slice())
 }
 
-// The signature with another digit in a place.
+// The signature with another digit at one place.
 fn alter_digit(alloc: Global, place: usize) -> Result<String, AllocError> {
     let mut seal = String::new(alloc);
     for (at, digit) in DIGITS.chars().enumerate() {
@@ -185,7 +186,7 @@ fn refuses_in_order(rt: HostRuntime) -> Result<(), Fail> {
     Ok(())
 }
 
-// Signatures of RFC 4231's second vector, in four frames, and the faults: others, and its own.
+// Signatures for RFC 4231's second vector in four frames, wrong ones and its own, and the faults.
 const SEALS: [(&str, WireFault); 4] = [
     (UPPER, WireFault::Signature),
     ("5bdcc146", WireFault::Signature),
@@ -206,8 +207,8 @@ fn fault_unsigned(alloc: Global, header: &str, content: &str) -> Result<Option<W
     fault_in(alloc, "", texts.as_slice())
 }
 
-// Headers and contents of messages with no signature, and their fault. Of a key that comes twice the last
-// value counts.
+// Headers and contents of messages with no signature, and their fault. If a key comes twice, the last value
+// counts.
 const UNSIGNED: [(&str, &str, Option<WireFault>); 12] = [
     (HEADER, "1e400", Some(WireFault::Json)),
     (HEADER, "\"\\ud800\"", Some(WireFault::Json)),
@@ -248,7 +249,7 @@ fn reads_headers_and_contents(rt: HostRuntime) -> Result<(), Fail> {
     Ok(())
 }
 
-// A header whose msg_id has so many bytes.
+// A header whose msg_id has this many bytes.
 fn header_with_id_of(alloc: Global, length: usize) -> Result<String, AllocError> {
     let mut text = String::from_str(alloc, "{\"msg_id\":\"")?;
     for _ in 0..length {
@@ -269,7 +270,7 @@ fn nested_lists(alloc: Global, depth: usize) -> Result<String, AllocError> {
     Ok(text)
 }
 
-// The length of a msg_id, how deep a content nests, and their fault.
+// The length of a msg_id, the depth of a content, and the fault.
 const SIZES: [(usize, usize, Option<WireFault>); 5] = [
     (300, 1, None),
     (70_000, 1, None),

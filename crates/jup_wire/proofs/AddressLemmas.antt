@@ -3,7 +3,7 @@ use Rattle.std.proofs.Common.{◌≡◌, ℕ, List, Some, None, codes}
 use Rattle.std.specs.Net.Grammar.{IsIpv4Text}
 use Rattle.std.specs.declared.net.ipv4_addr.Ipv4Addr.{Ipv4Addr}
 use Rattle.serde_json.specs.Data.{Data}
-use Rattle.jup_wire.specs.ConnectionFiles.{text_at, HasAddress, IsNone}
+use Rattle.jup_wire.specs.ConnectionFiles.{text_at, HasAddress, IsNoFile}
 
 -- there is no text
 pub nowhere : (d : Data) → text_at (codes "ip") d ≡ None → (ip : Ipv4Addr) → ¬ HasAddress d ip
@@ -15,5 +15,5 @@ pub not_elsewhere : (d : Data) (text : List ℕ) → text_at (codes "ip") d ≡ 
 not_elsewhere d text here wrong ip (other, found, written) =
     let same : text ≡ other = cc in wrong ip (rw same written)
 
-pub no_file : (d : Data) → ((ip : Ipv4Addr) → ¬ HasAddress d ip) → IsNone d
+pub no_file : (d : Data) → ((ip : Ipv4Addr) → ¬ HasAddress d ip) → IsNoFile d
 no_file d none file is_file = none file.ip is_file.ip

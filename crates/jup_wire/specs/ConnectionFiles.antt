@@ -27,7 +27,7 @@ use Rattle.jup_wire.specs.declared.connection_file.FileFault.TheVariants.{OutOfM
 abbrev pub HasValue : Bytes → Data → Type 0
 HasValue file d = IsUtf8 file × (read file ≡ Some d)
 
--- or it is none
+-- the file isn't such a text
 abbrev pub HasNoValue : Bytes → Type 0
 HasNoValue file = IsUtf8 file → read file ≡ None
 
@@ -46,7 +46,7 @@ a_port n = if nat_le 1 n && nat_le n 65535 then Some n else None
 abbrev pub port_at : Text → Data → Option ℕ
 port_at key d = option_and_then a_port (option_and_then whole (get key d))
 
--- the object has, at `ip`, the four decimals of this address, without leading zeros
+-- the object has, at `ip`, this address as four decimals without leading zeros
 abbrev pub HasAddress : Data → Ipv4Addr → Type 0
 HasAddress d ip = (text : Text) × (text_at (codes "ip") d ≡ Some text) × IsIpv4Text text ip
 
@@ -62,26 +62,27 @@ pub record IsConnectionFile (d : Data) (file : ConnectionFile) : Type 0 where
   pub control : port_at (codes "control_port") d ≡ Some file.control_port
   pub heartbeat : port_at (codes "hb_port") d ≡ Some file.hb_port
 
--- the bytes are a connection file with these values
-abbrev pub Reads : Bytes → ConnectionFile → Type 0
-Reads bytes file = (d : Data) × HasValue bytes d × IsConnectionFile d file
+-- the bytes read as a connection file with these values
+abbrev pub ReadsAsFile : Bytes → ConnectionFile → Type 0
+ReadsAsFile bytes file = (d : Data) × HasValue bytes d × IsConnectionFile d file
 
-abbrev pub IsNone : Data → Type 0
-IsNone d = (file : ConnectionFile) → ¬ IsConnectionFile d file
+-- a value that isn't a connection file
+abbrev pub IsNoFile : Data → Type 0
+IsNoFile d = (file : ConnectionFile) → ¬ IsConnectionFile d file
 
--- why bytes are no connection file; memory may be wanting for any
+-- why bytes aren't a connection file; memory may run out for any bytes
 abbrev pub IsRefused : Bytes → FileFault → Type 0
 IsRefused bytes OutOfMemory = Unit {0}
 IsRefused bytes Json = HasNoValue bytes
-IsRefused bytes Field = (d : Data) × HasValue bytes d × IsNone d
+IsRefused bytes Field = (d : Data) × HasValue bytes d × IsNoFile d
 
--- out of memory, or a field where P says so
+-- out of memory; or `Field`, and P
 abbrev pub FieldFault : FileFault → Type 0 → Type 0
 FieldFault OutOfMemory P = Unit {0}
 FieldFault Json P = ⊥
 FieldFault Field P = P
 
--- out of memory, or no JSON where P says so
+-- out of memory; or `Json`, and P
 abbrev pub JsonFault : FileFault → Type 0 → Type 0
 JsonFault OutOfMemory P = Unit {0}
 JsonFault Json P = P

@@ -16,6 +16,6 @@ IsDate unix_seconds text =
     (dt : DateTime) × (civil_nanos dt ≡ pos unix_seconds *ℤ pos 1_000_000_000)
     × (text ≡ datetime_text false letter_t None dt ++ zulu_text false)
 
--- 2100-01-01T00:00:00Z, the last moment that is written
+-- 2100-01-01T00:00:00Z, the last moment that has a date here
 abbrev pub last_moment : ℕ
 last_moment = 4_102_444_800

@@ -1,4 +1,4 @@
--- What the steps of opening may refuse.
+-- Why the steps of opening a message refuse it.
 use Rattle.std.specs.Prelude.{◌≡◌, ℕ, Some, take, slice_get}
 use Rattle.base_text.specs.Bytes.{Frames}
 use Rattle.jup_wire.specs.declared.message.WireFault.{WireFault}
@@ -9,13 +9,13 @@ use Rattle.jup_wire.specs.declared.message.Header as declared
 use Rattle.jup_wire.specs.Json.{json_of, IsHeader}
 use Rattle.jup_wire.specs.Wire.{delimiter, NoDelimiter, AreJson}
 
--- out of memory, or no JSON where P says so
+-- out of memory; or `Json`, and P
 abbrev pub JsonFault : WireFault → Type 0 → Type 0
 JsonFault OutOfMemory P = Unit {0}
 JsonFault Json P = P
 JsonFault _ P = ⊥
 
--- out of memory, or no header where P says so
+-- out of memory; or `Header`, and P
 abbrev pub HeaderFault : WireFault → Type 0 → Type 0
 HeaderFault OutOfMemory P = Unit {0}
 HeaderFault Header P = P
@@ -29,7 +29,7 @@ pub record IsRead (p : Parts) (h : declared.Header) (content : Data) : Type 0 wh
   pub header : IsHeader header_value h
   pub content_json : json_of p.content ≡ Some content
 
--- the first delimiter stands here
+-- the first delimiter is here
 pub record FirstDelimiter (frames : Frames) (at : ℕ) : Type 0 where
   pub here : slice_get frames at ≡ Some delimiter
   pub before : NoDelimiter (take at frames)

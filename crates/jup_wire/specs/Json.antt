@@ -33,8 +33,8 @@ pub record IsHeader (d : Data) (h : Header) : Type 0 where
   pub msg_type : text_at (codes "msg_type") d ≡ Some h.msg_type
   pub session : text_at (codes "session") d ≡ Some h.session
 
--- what is written for a value: where it nests at most 127 deep, it reads as this value, and where it has
--- no float, it is the one compact text
+-- the text that is written for a value: if the value nests at most 127 deep, the text reads as this value,
+-- and if it has no float, the text is the compact one
 pub record IsTextOf (frame : Bytes) (d : Data) : Type 0 where
   pub reads : depth d ≤ 127 → json_of frame ≡ Some d
   pub compact : has_float d ≡ false → frame ≡ compact_text d

@@ -1,4 +1,4 @@
--- A keyed hasher, by what it has taken in.
+-- A keyed hasher, by the text that it has taken in.
 use Rattle.std.specs.Prelude.{◌++◌}
 use Rattle.base_text.specs.Bytes.{Bytes}
 use Rattle.sha2.specs.Hashers.{Holds256}

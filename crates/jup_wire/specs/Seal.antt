@@ -1,5 +1,6 @@
--- What a message is sealed from, and the frames that are sent for it.
-use Rattle.std.specs.Prelude.{◌≡◌, ◌≤◌, [], ◌∷◌, ◌++◌, IsSome}
+-- Sealing a message: what it is sealed from, and the frames that are sent for it.
+use Rattle.std.specs.Prelude.{◌≡◌, ◌≤◌, [], ◌∷◌, ◌++◌, IsSome, Result, IfOk}
+use Rattle.std.specs.declared.alloc.AllocError.{AllocError}
 use Rattle.base_text.specs.Bytes.{Bytes, Text, Frames}
 use Rattle.serde_json.specs.Data.{depth}
 use Rattle.serde_json.specs.View.{view}
@@ -8,14 +9,14 @@ use Rattle.jup_wire.specs.declared.message.Header.{Header}
 use Rattle.jup_wire.specs.declared.sealing.Draft.{Draft}
 use Rattle.jup_wire.specs.Signature.{signature}
 use Rattle.jup_wire.specs.Json.{json_of, IsHeader, IsTextOf}
-use Rattle.jup_wire.specs.Wire.{delimiter, json_frames, NoDelimiter}
+use Rattle.jup_wire.specs.Wire.{delimiter, json_frames, NoDelimiter, IsMessage}
 
--- with an empty key an empty signature is sent
+-- the signature, or an empty frame if the key is empty
 abbrev pub signature_frame : Bytes → Parts → Bytes
 signature_frame [] p = []
 signature_frame (byte ∷ bytes) p = signature (byte ∷ bytes) (json_frames p)
 
--- no buffers are sent
+-- the frames of these parts with these digits, without buffers
 abbrev pub frames_of : Parts → Bytes → Frames
 frames_of p digits = p.identities ++ delimiter ∷ digits ∷ json_frames p
 
@@ -41,8 +42,8 @@ pub record IsSealed (key : Bytes) (d : Draft) (frames : Frames) : Type 0 where
   pub metadata : IsTextOf parts.metadata (view d.metadata)
   pub content : IsTextOf parts.content (view d.content)
 
--- what can be opened again: no identity is the delimiter, the header has its texts, the parent header is
--- JSON, and nothing nests deeper than 127
+-- the draft can be opened once it is sealed: no identity is the delimiter, the header has its texts, the
+-- parent header is JSON, and nothing nests deeper than 127
 pub record IsOpenable (d : Draft) (h : Header) : Type 0 where
   pub identities : NoDelimiter d.identities
   pub header : IsHeader (view d.header) h
@@ -50,3 +51,11 @@ pub record IsOpenable (d : Draft) (h : Header) : Type 0 where
   pub parent_header : IsSome (json_of d.parent_header)
   pub metadata_depth : depth (view d.metadata) ≤ 127
   pub content_depth : depth (view d.content) ≤ 127
+
+-- sealing the draft under this key has this result; it fails only if memory runs out
+pub record Seals (key : Bytes) (d : Draft) (result : Result Frames AllocError) : Type 0 where
+  pub sealed : IfOk result (IsSealed key d)
+  -- under the same key, `open_message` opens a draft that can be opened
+  pub opens : IfOk result (λ frames. (header : Header) → IsOpenable d header
+      → (parts : Parts) × IsMessage key frames parts header (view d.content)
+      × (parts.identities ≡ d.identities) × (parts.parent_header ≡ d.parent_header))

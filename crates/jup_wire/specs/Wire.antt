@@ -1,10 +1,13 @@
 -- The frames of a message (Jupyter messaging 5.4, "The wire protocol"), and which frames are refused.
 use Rattle.std.specs.Prelude.{◌≡◌, ◌≢◌, ◌⊎◌, ◌<◌, [], ◌∷◌, ◌++◌, length, Some, codes, IsSome}
+use Rattle.std.specs.Prelude.{Result, IfOk, IfErr, IsErrAnd, MatchResult}
 use Rattle.std.specs.List.{AllByRecursion}
 use Rattle.base_text.specs.Bytes.{Bytes, Frames}
 use Rattle.serde_json.specs.Data.{Data}
+use Rattle.serde_json.specs.View.{view}
 use Rattle.jup_wire.specs.declared.message.Parts.{Parts}
 use Rattle.jup_wire.specs.declared.message.Header.{Header}
+use Rattle.jup_wire.specs.declared.message.Message.{Message}
 use Rattle.jup_wire.specs.declared.message.WireFault.{WireFault}
 use Rattle.jup_wire.specs.declared.message.WireFault.TheVariants as fault
 use Rattle.jup_wire.specs.Signature.{signature}
@@ -26,7 +29,7 @@ pub record HasParts (frames : Frames) (digits : Bytes) (p : Parts) : Type 0 wher
   pub whole : frames ≡ p.identities ++ delimiter ∷ digits ∷ (json_frames p ++ buffers)
   pub first : NoDelimiter p.identities
 
--- with an empty key no signature is checked
+-- the digits are the signature, unless the key is empty
 abbrev pub IsSigned : Bytes → Bytes → Parts → Type 0
 IsSigned key digits p = (key ≡ []) ⊎ (digits ≡ signature key (json_frames p))
 
@@ -58,8 +61,8 @@ abbrev pub OpensUpTo : Bytes → Frames → (Parts → Type 0) → Type 0
 OpensUpTo key frames P =
     (digits : Bytes) × (p : Parts) × HasParts frames digits p × IsSigned key digits p × P p
 
--- Why frames are refused under a key; a reason stands only where none before it does. Only what is
--- signed can be out of memory.
+-- Why frames are refused under a key. A reason holds only if none before it does. Memory can run out only for
+-- frames that are signed.
 abbrev pub IsRefused : Bytes → Frames → WireFault → Type 0
 IsRefused key frames fault.OutOfMemory = OpensUpTo key frames (λ p. Unit {0})
 IsRefused key frames fault.Delimiter = NoDelimiter frames
@@ -70,3 +73,16 @@ IsRefused key frames fault.Json = OpensUpTo key frames (λ p. ¬ AreJson p)
 IsRefused key frames fault.Header =
     OpensUpTo key frames
     (λ p. AreJson p × ((d : Data) (h : Header) → json_of p.header ≡ Some d → ¬ IsHeader d h))
+
+-- opening the frames under this key has this result: the message that they are, or why they are refused
+pub record Opens (key : Bytes) (frames : Frames) (result : Result Message WireFault) : Type 0 where
+  pub message : IfOk result (λ m. IsMessage key frames m.parts m.header (view m.content))
+  pub refused : IfErr result (IsRefused key frames)
+  -- if the frames are a message, the result is that message, unless memory runs out
+  pub only : (parts : Parts) (header : Header) (content : Data) → IsMessage key frames parts header content
+      → MatchResult result
+      (λ m. (m.parts ≡ parts) × (m.header ≡ header) × (view m.content ≡ content))
+      (λ e. e ≡ fault.OutOfMemory)
+  -- if there is a reason to refuse the frames, it is the result, unless memory runs out
+  pub first : (reason : WireFault) → IsRefused key frames reason → reason ≢ fault.OutOfMemory
+      → IsErrAnd result (λ e. (e ≡ reason) ⊎ (e ≡ fault.OutOfMemory))

@@ -1,15 +1,15 @@
 //! The channels of a kernel.
 
-/// A channel on which frontends and the kernel talk (Jupyter messaging, "Introduction"), but for the
-/// heartbeat, which carries no messages.
+/// A channel between frontends and the kernel (Jupyter messaging, "Introduction"). The heartbeat is no such
+/// channel, since it carries no messages.
 #[derive(Clone, Copy, PartialEq, Eq)]
 pub enum Channel {
-    /// Requests to run code and to look at it, and their replies.
+    /// Requests to run and inspect code, and their replies.
     Shell,
     /// Requests that don't wait for those on shell.
     Control,
-    /// What a program asks its user for.
+    /// Requests of a program for input, and the user's replies.
     Stdin,
-    /// What the kernel tells everybody who subscribed to it.
+    /// What the kernel publishes to all subscribers.
     Iopub,
 }

@@ -1,9 +1,9 @@
-//! Connection files and how they are read.
+//! Connection files.
 ghost use Rattle.std.specs.Prelude.{◌≡◌, ◌↔◌, Some, None, IsTrue, IfOk, IfErr, IfSome, IfNone, option_map};
 ghost use Rattle.std.specs.declared.net.ipv4_addr.Ipv4Addr.{Ipv4Addr};
 ghost use Rattle.serde_json.specs.View.{view};
 ghost use Rattle.jup_wire.specs.ConnectionFiles.{HasValue, HasNoValue, text_at, port_at, a_port};
-ghost use Rattle.jup_wire.specs.ConnectionFiles.{HasAddress, IsConnectionFile, Reads, IsNone};
+ghost use Rattle.jup_wire.specs.ConnectionFiles.{HasAddress, IsConnectionFile, ReadsAsFile, IsNoFile};
 ghost use Rattle.jup_wire.specs.ConnectionFiles.{IsRefused, FieldFault, JsonFault};
 
 use base_text::text::Text;
@@ -17,7 +17,7 @@ use thiserror::Error;
 #[derive(Drop)]
 pub struct ConnectionFile {
     pub ip: Ipv4Addr,
-    /// The key of HMAC-SHA256; with an empty one no signature is checked.
+    /// The key of HMAC-SHA256. If it is empty, signatures aren't checked.
     pub key: Text,
     /// Ports are from 1 to 65,535.
     pub shell_port: u16,
@@ -27,14 +27,14 @@ pub struct ConnectionFile {
     pub hb_port: u16,
 }
 
-/// Why bytes are no connection file.
+/// Why bytes aren't a connection file.
 #[derive(Clone, Copy, PartialEq, Eq, Debug, Error)]
 pub enum FileFault {
     #[error("out of memory")]
     OutOfMemory,
     #[error("the file is no JSON")]
     Json,
-    /// The value is no object, or a member is missing or isn't as it must be.
+    /// The value isn't an object, or a member is missing or invalid.
     #[error("a member of the connection file is missing or wrong")]
     Field,
 }
@@ -95,7 +95,7 @@ fn address(value: &Value) -> Option<Ipv4Addr>
 #[tactic(auto, using(crate::proofs::AddressLemmas::no_file))]
 fn fields(alloc: Global, value: &Value) -> Result<ConnectionFile, FileFault>
     ensures file { IfOk result (IsConnectionFile (view value.now)) }
-    ensures fault { IfErr result (λ e. FieldFault e (IsNone (view value.now))) }
+    ensures fault { IfErr result (λ e. FieldFault e (IsNoFile (view value.now))) }
 {
     if !has_text(value, "transport", "tcp") {
         return Err(FileFault::Field);
@@ -132,9 +132,9 @@ impl ConnectionFile {
     /// Reads a connection file: a JSON object with texts `ip` (four decimals without leading zeros),
     /// `transport` (`tcp`), `key` and `signature_scheme` (`hmac-sha256`), and with whole numbers from 1
     /// to 65,535 at `shell_port`, `iopub_port`, `stdin_port`, `control_port` and `hb_port`. Other members
-    /// are ignored. Out of memory may come in place of `Json` and `Field`.
+    /// are ignored. If memory runs out, `OutOfMemory` may be returned in place of `Json` or `Field`.
     pub fn read(alloc: Global, bytes: &[u8]) -> Result<ConnectionFile, FileFault>
-        ensures file { IfOk result (Reads bytes.now) }
+        ensures file { IfOk result (ReadsAsFile bytes.now) }
         ensures refused { IfErr result (IsRefused bytes.now) }
     {
         let value = read_value(alloc, bytes)?;

@@ -1,4 +1,4 @@
-//! Headers of messages that are to be sealed.
+//! The headers of messages to be sealed.
 ghost use Rattle.std.specs.Prelude.{◌≡◌, ◌++◌, IfOk, codes, decimal, string_bytes};
 ghost use Rattle.serde_json.specs.View.{view};
 ghost use Rattle.jup_wire.specs.Header.{empty_object, header_json};
@@ -34,7 +34,7 @@ pub fn header_json(
     })
 }
 
-/// An object without members, as metadata mostly is.
+/// An object without members, as most metadata is.
 pub fn empty_object(alloc: Global) -> Result<Value, AllocError>
     ensures { IfOk result (λ v. view v ≡ empty_object) }
 {

@@ -1,4 +1,4 @@
-//! A message, and why frames are none.
+//! A message, and why frames aren't one.
 use base_text::sequence::{Bytes, Frames};
 use base_text::text::Text;
 use serde_json::Value;
@@ -8,7 +8,7 @@ use thiserror::Error;
 /// The frame between the identities and the signature.
 pub const DELIMITER: &[u8] = b"<IDS|MSG>";
 
-/// Why frames are refused, in the order in which it is found out.
+/// Why frames are refused. After `OutOfMemory` the reasons are in the order in which they are checked.
 #[derive(Clone, Copy, PartialEq, Eq, Error)]
 pub enum WireFault {
     OutOfMemory,
@@ -44,7 +44,7 @@ impl fmt::Debug for WireFault {
     }
 }
 
-/// The frames of a message as they came: the identities, and the four frames that are signed.
+/// The frames of a message as they were received: the identities, and the four frames that are signed.
 #[derive(Drop)]
 pub struct Parts {
     pub identities: Frames,
@@ -54,7 +54,7 @@ pub struct Parts {
     pub content: Bytes,
 }
 
-/// The texts that each header has. What else stands in it isn't looked at.
+/// The texts that every header has. Its other members aren't read.
 #[derive(Drop)]
 pub struct Header {
     pub msg_id: Text,

@@ -1,13 +1,11 @@
-//! Opening: from frames to a message.
-ghost use Rattle.std.specs.Prelude.{◌≡◌, ◌≢◌, ◌<◌, ◌≤◌, ◌+◌, ◌↔◌, ◌++◌, ◌∷◌, ◌⊎◌, [], Some, None};
-ghost use Rattle.std.specs.Prelude.{length, vec_len, IsTrue, IfOk, IfErr, IfSome, IfNone, IsSome};
-ghost use Rattle.std.specs.Prelude.{OnOk, IsErrAnd, MatchResult};
+//! Opening a message: from frames to JSON.
+ghost use Rattle.std.specs.Prelude.{◌≡◌, ◌<◌, ◌≤◌, ◌+◌, ◌↔◌, ◌++◌, ◌∷◌, [], Some, None};
+ghost use Rattle.std.specs.Prelude.{length, vec_len, IsTrue, IfOk, IfErr, IfSome, IfNone, IsSome, OnOk};
 ghost use Rattle.base_text.specs.Bytes.{Bytes, Frames};
-ghost use Rattle.serde_json.specs.Data.{Data};
 ghost use Rattle.serde_json.specs.View.{view};
 ghost use Rattle.jup_wire.specs.Json.{json_of, text_at, IsHeader};
 ghost use Rattle.jup_wire.specs.Wire.{delimiter, NoDelimiter, HasParts, IsSigned, AreJson, IsMessage};
-ghost use Rattle.jup_wire.specs.Wire.{IsRefused};
+ghost use Rattle.jup_wire.specs.Wire.{IsRefused, Opens};
 ghost use Rattle.jup_wire.specs.Fault.{JsonFault, HeaderFault, IsRead, FirstDelimiter};
 ghost use Rattle.jup_wire.specs.Signature.{signature};
 ghost use Rattle.jup_wire.specs.declared.message.Header.{Header};
@@ -103,7 +101,7 @@ fn read_json(alloc: Global, frame: &Bytes) -> Result<Value, WireFault>
     }
 }
 
-// Whether a frame is JSON. Its value isn't kept.
+// Checks that a frame is JSON, and drops its value.
 fn check_json(alloc: Global, frame: &Bytes) -> Result<(), WireFault>
     ensures json { OnOk result (IsSome (json_of frame.now)) }
     ensures fault { IfErr result (λ e. JsonFault e (json_of frame.now ≡ None)) }
@@ -203,26 +201,12 @@ fn open(alloc: Global, frames: Frames, key: &[u8]) -> Result<Message, WireFault>
     }
 }
 
-/// Opens a message under a key. With an empty key no signature is checked. The frames are moved
-/// into the message; buffers after the content are accepted and dropped. Each fault comes where it
-/// stands and none before it in the list of `WireFault` does. Only what passes the checks of delimiter,
-/// count and signature can be out of memory, and then in place of the later two.
+/// Opens a message with a key. With an empty key, the signature isn't checked. The frames are moved into the
+/// message; buffers after the content are accepted and dropped. The error is the first one, in the order of
+/// `WireFault`, that applies to the frames. `OutOfMemory` is only returned for frames that pass the checks of
+/// delimiter, count and signature, in place of any result that could follow.
 pub fn open_message(alloc: Global, frames: Frames, key: &[u8]) -> Result<Message, WireFault>
-    ensures message { IfOk result
-        (λ m. IsMessage key.now frames m.parts m.header (view m.content)) }
-    ensures refused { IfErr result (IsRefused key.now frames) }
-
-    // What is a message is opened, as this message.
-    ensures only { (parts : Parts) (header : Header) (content : Data)
-        → IsMessage key.now frames parts header content
-        → MatchResult result
-        (λ m. (m.parts ≡ parts) × (m.header ≡ header) × (view m.content ≡ content))
-        (λ e. e ≡ WireFault.OutOfMemory) }
-
-    // Where a fault stands it is the answer.
-    ensures first { (fault : WireFault) → IsRefused key.now frames fault
-        → fault ≢ WireFault.OutOfMemory
-        → IsErrAnd result (λ e. (e ≡ fault) ⊎ (e ≡ WireFault.OutOfMemory)) }
+    ensures { Opens key.now frames result }
 {
     open(alloc, frames, key)
 }

@@ -1,12 +1,9 @@
-//! Sealing: from JSON to frames.
+//! Sealing a message: from JSON to frames.
 ghost use Rattle.std.specs.Prelude.{◌≡◌, ◌≤◌, ◌+◌, ◌∷◌, ◌++◌, [], vec_len, vec_capacity, IfOk};
 ghost use Rattle.serde_json.specs.View.{view};
-ghost use Rattle.jup_wire.specs.declared.message.Parts.{Parts};
-ghost use Rattle.jup_wire.specs.declared.message.Header.{Header};
 ghost use Rattle.jup_wire.specs.Json.{IsTextOf};
-ghost use Rattle.jup_wire.specs.Wire.{delimiter, IsMessage};
-ghost use Rattle.jup_wire.specs.Seal.{signature_frame, frames_of, IsSealed, IsOpenable};
-ghost use Rattle.jup_wire.specs.Seal.{AreTexts, IsWrittenFrom};
+ghost use Rattle.jup_wire.specs.Wire.{delimiter};
+ghost use Rattle.jup_wire.specs.Seal.{signature_frame, frames_of, AreTexts, IsWrittenFrom, IsSealed, Seals};
 
 use crate::message::{DELIMITER, Parts};
 use crate::signature::signature_of;
@@ -17,17 +14,17 @@ use std::alloc::{AllocError, Global};
 /// What a message is sealed from.
 #[derive(Drop)]
 pub struct Draft {
-    /// None of them is the delimiter, else no client finds the signature.
+    /// None of them may be the delimiter, or no client finds the signature.
     pub identities: Frames,
-    /// An object with the texts `msg_id`, `msg_type` and `session`, else no client opens it.
+    /// An object with the texts `msg_id`, `msg_type` and `session`, or no client opens the message.
     pub header: Value,
-    /// The header frame of the message that is answered, byte for byte, or `{}`.
+    /// The header frame of the message that this one replies to, byte for byte, or `{}`.
     pub parent_header: Bytes,
     pub metadata: Value,
     pub content: Value,
 }
 
-// The text of a value with no blanks, and the keys of each object in the order of their bytes.
+// The text of a value without blanks, the keys of each object in the order of their bytes.
 fn write_json(alloc: Global, value: &Value) -> Result<Bytes, AllocError>
     ensures { IfOk result (λ frame. IsTextOf frame (view value.now)) }
 {
@@ -86,7 +83,7 @@ fn write_values(alloc: Global, draft: &Draft) -> Result<(Bytes, Bytes, Bytes), A
     Ok((header, metadata, content))
 }
 
-// What is sent of a draft as it is: the identities and the parent header. Its values are dropped.
+// The parts of a draft that are sent unchanged: the identities and the parent header. Its values are dropped.
 fn sent_as_is(draft: Draft) -> (Frames, Bytes)
     ensures { (result.0 ≡ draft.identities) × (result.1 ≡ draft.parent_header) }
 {
@@ -126,16 +123,11 @@ fn seal(alloc: Global, draft: Draft, key: &[u8]) -> Result<Frames, AllocError>
     join(alloc, parts, digits)
 }
 
-/// Seals a message under a key: identities, delimiter, signature, header, parent header, metadata
-/// and content, with no buffers. With an empty key an empty signature is sent. JSON is written
-/// without blanks, the keys of each object in the order of their bytes.
+/// Seals a message with a key: identities, delimiter, signature, header, parent header, metadata and content,
+/// with no buffers. With an empty key, the signature is empty. JSON is written without blanks, the keys of
+/// each object in the order of their bytes.
 pub fn seal_message(alloc: Global, draft: Draft, key: &[u8]) -> Result<Frames, AllocError>
-    ensures sealed { IfOk result (IsSealed key.now draft) }
-
-    // `open_message` opens it under the same key.
-    ensures opens { IfOk result (λ frames. (header : Header) → IsOpenable draft header
-        → (parts : Parts) × IsMessage key.now frames parts header (view draft.content)
-        × (parts.identities ≡ draft.identities) × (parts.parent_header ≡ draft.parent_header)) }
+    ensures { Seals key.now draft result }
 {
     seal(alloc, draft, key)
 }

@@ -12,16 +12,16 @@ use base_text::text::Text;
 use sha2::{Digest, Sha256};
 use std::alloc::{AllocError, Global};
 
-// The bytes of a block of SHA-256.
+// The size of a block of SHA-256, in bytes.
 const BLOCK: usize = 64;
-// The digits of a signature.
+// The number of digits of a signature.
 const LENGTH: usize = 64;
 
 const INNER_PAD: u8 = 0x36;
 
 const OUTER_PAD: u8 = 0x5c;
 
-/// The signature of the frames, one after the other: 64 digits. Any key will do, the empty one too.
+/// The signature of the concatenated frames: 64 lower-case hexadecimal digits. The key may be empty.
 #[tactic(auto, unfolding(crate::specs::Signature::signature))]
 pub fn sign(alloc: Global, key: &[u8], frames: &[Bytes]) -> Result<Text, AllocError>
     ensures { IfOk result (λ text. text ≡ signature key.now frames.now) }
@@ -59,7 +59,7 @@ fn code_of(key: &[u8], frames: &[Bytes]) -> [u8; 32]
     hasher.finalize()
 }
 
-// Compares all bytes whatever the first ones are, so that its time doesn't show where they differ.
+// Compares all bytes, so that the time taken doesn't show where they differ.
 fn same_bytes(a: &[u8], b: &[u8]) -> bool
     ensures { IsTrue result ↔ (a.now ≡ b.now) }
 {
@@ -73,7 +73,7 @@ fn same_bytes(a: &[u8], b: &[u8]) -> bool
     difference == 0
 }
 
-/// HMAC of a text that is given in pieces.
+/// The HMAC of a text that is hashed in pieces.
 #[derive(Drop)]
 struct Hmac {
     inner: Sha256,

@@ -9,7 +9,7 @@ use cli_io::status::Status;
 use jup_wire::connection_file::ConnectionFile;
 use kern_serve::fault::ServerFault;
 use kern_serve::system::{new_session, unix_seconds};
-use lab_term::cell::Cell;
+use lab_term::cell::{Cell, CellEnd};
 use lab_term::fault::TermFault;
 use lab_term::run_cell::{Connection, run_cell};
 use std::io::Write;
@@ -60,10 +60,10 @@ fn connect_both<R: Net<Listener = TcpListener, Stream = TcpStream>>(
     }
 }
 
-fn status_of(ran: Result<bool, TermFault>) -> Status {
+fn status_of(ran: Result<CellEnd, TermFault>) -> Status {
     match ran {
-        Ok(true) => Status::Success,
-        Ok(false) => Status::Refused,
+        Ok(CellEnd::Success) => Status::Success,
+        Ok(CellEnd::Error) => Status::Refused,
         Err(TermFault::OutOfMemory) => Status::OutOfMemory,
         Err(
             TermFault::Ended | TermFault::ReadFailed | TermFault::WriteFailed | TermFault::Wire(_),

@@ -1,6 +1,6 @@
 -- How a cell goes, message by message.
 use Rattle.std.proofs.Common.{◌≡◌, ℕ, Bool, true, false, ◌&&◌, ◌||◌, if◌then◌else◌, List, [], ◌∷◌, ◌++◌, refl}
-use Rattle.std.proofs.Common.{sym, ap, ◌∙◌, subst, append-nil, append_assoc, not, ◌+◌, ◌<◌}
+use Rattle.std.proofs.Common.{sym, ap, ◌∙◌, subst, append-nil, append_assoc, ◌+◌, ◌<◌}
 use Rattle.base_streams.specs.States.{InletState, OutletState, IsWritable}
 use Rattle.base_streams.specs.Told.{Gave, Took, TookFront, WasRead}
 use Rattle.base_streams.proofs.TellLemmas.{told_on, counts_on}
@@ -17,9 +17,10 @@ use Rattle.zmtp_wire.specs.Writing.{message_bytes}
 use Rattle.zmtp_wire.specs.declared.role.Role.TheVariants.{Dealer, Sub}
 use Rattle.zmtp_wire.specs.Sending.{WroteWhole}
 use Rattle.lab_term.specs.declared.cell.Cell.{Cell}
+use Rattle.lab_term.specs.declared.cell.CellEnd.{CellEnd}
 use Rattle.lab_term.specs.Connections.{Ports, Client}
 use Rattle.lab_term.specs.Running.{Followed, Requested, Began, Ran, parent_of, printing, subscription}
-use Rattle.lab_term.specs.Running.{went_well}
+use Rattle.lab_term.specs.Running.{end_by, cell_end}
 use Rattle.zmtp_wire.specs.declared.handshake.Peer.{Peer}
 use Rattle.zmtp_wire.specs.Receiving.{Received}
 use Rattle.lab_term.specs.declared.subscriber.Subscriber.{Subscriber}
@@ -112,6 +113,9 @@ cut_printing parent frames out out' n fault is e d f s =
       wrote = subst Q (sym (printed_one parent.header n)) (subst P (sym e) f);
       stops = stops_any parent.key [] out' fault s;
     }
+
+-- the lemmas on taking one message
+pub ruleset one_message = (one_other, one_own, one_idle, cut_unopened, cut_printing)
 
 -- ---- many
 
@@ -273,6 +277,9 @@ going_cut parent q q1 q2 front out o1 o2 failed fault e b c =
           (text_printed parent.header c.notices) p.wrote c.wrote);
       stops = stops_before parent.key c.others q2 o2 fault c.stops;
     }
+
+-- the lemmas on taking the messages of a queue
+pub ruleset many_messages = (busy_first, takes_idle, takes_all, going_cut)
 
 -- what stopped, as far as the messages go
 pub stops_by : (parent : Parent) (queue : List (List (List ℕ))) (out out' : OutletState) (fault : TermFault)
@@ -543,17 +550,17 @@ follows_read parent before g1 g2 t u passed out o1 failed f w = record {
   failed_is = w.failed_is;
 }
 
--- what was printed up to the request's idle, and whether all went well
-abbrev pub FollowedTo : Parent → List (List (List ℕ)) → Ports → Ports → Bool → Type 0
-FollowedTo parent passed old new good =
-    (f : Followed parent passed old new) × (good ≡ not (has_error parent.header f.notices))
+-- what was printed up to the request's idle, and how the cell ended
+abbrev pub FollowedTo : Parent → List (List (List ℕ)) → Ports → Ports → CellEnd → Type 0
+FollowedTo parent passed old new end =
+    (f : Followed parent passed old new) × (end ≡ end_by (has_error parent.header f.notices))
 
 followed : (parent : Parent) (before g1 : InletState) (s t : Subscriber)
     (passed : List (List (List ℕ))) (out o1 o2 : OutletState) (failed : Bool) (course : Course)
     → Takes parent s.queue.items t.queue.items o1 o2 course → SameReading s t
     → course.is_idle ≡ true → Follows parent before g1 s passed out o1 failed
     → FollowedTo parent passed (record { from = before; to = out }) (record { from = g1; to = o2 })
-    (not (failed || course.has_failed))
+    (end_by (failed || course.has_failed))
 followed parent before g1 s t passed out o1 o2 failed course p e i w =
     let h = holds_passed before g1 s t (passed ++ w.taken) p.taken e p.queue_is w.holds in
     let Q : List (List (List ℕ)) → Type 0 = λ l. h.messages ≡ l ++ t.queue.items in (
@@ -568,7 +575,7 @@ followed parent before g1 s t passed out o1 o2 failed course p e i w =
         idle = ends_behind (ends parent.header) w.notices p.notices w.busy (p.idle i);
         wrote = wrote_more parent.header out o1 o2 w.notices p.notices w.wrote p.wrote;
       },
-      ap not
+      ap end_by
           (failed_more parent.header w.notices p.notices failed course.has_failed w.failed_is p.failed),
     )
 
@@ -607,28 +614,28 @@ pub followed_by : (parent : Parent) (before g1 : InletState) (s t : Subscriber)
     → Takes parent s.queue.items t.queue.items o1 o2 course → SameReading s t
     → course.is_idle ≡ true → Follows parent before g1 s passed out o1 failed
     → FollowedTo parent passed (record { from = before; to = out }) (record { from = g1; to = o2 })
-    (not total)
+    (end_by total)
 followed_by parent before g1 s t passed out o1 o2 failed total course is p e i w =
     let P : Bool
     → Type 0 = λ k. FollowedTo parent passed (record { from = before; to = out })
     (record { from = g1; to = o2 })
-    (not k) in
+    (end_by k) in
     subst P (sym is) (followed parent before g1 s t passed out o1 o2 failed course p e i w)
 
--- what running a cell comes to
-abbrev pub RanTo : Cell → Client → Client → Bool → Type 0
-RanTo cell old new good = (ran : Ran cell old new) × (good ≡ went_well ran)
+-- the cell was run, and ended so
+abbrev pub RanTo : Cell → Client → Client → CellEnd → Type 0
+RanTo cell old new end = (ran : Ran cell old new) × (end ≡ cell_end ran)
 
 pub ran_by : (cell : Cell) (old new : Client) (header text_shown : List ℕ) (a b : OutletState)
-    (given : InletState) (s : Subscriber) (good : Bool) → text_shown ≡ header
+    (given : InletState) (s : Subscriber) (end : CellEnd) → text_shown ≡ header
     → WroteWhole old.shell.to a Dealer
     → Requested cell header a new.shell.to → WroteWhole old.iopub.to b Sub
     → Took b new.iopub.to (message_bytes subscription) → (w : Waited cell.key.now old.iopub.from given s)
-    → FollowedTo (parent_of cell text_shown) w.passed (printing old) (printing new) good
-    → RanTo cell old new good
-ran_by cell old new header text_shown a b given s good is x requested y told w f =
+    → FollowedTo (parent_of cell text_shown) w.passed (printing old) (printing new) end
+    → RanTo cell old new end
+ran_by cell old new header text_shown a b given s end is x requested y told w f =
     let P : List ℕ
-    → Type 0 = λ l. FollowedTo (parent_of cell l) w.passed (printing old) (printing new) good in
+    → Type 0 = λ l. FollowedTo (parent_of cell l) w.passed (printing old) (printing new) end in
     let g = subst P is f in (
       record {
         header = header;

@@ -21,6 +21,7 @@ use Rattle.lab_term.specs.declared.fault.TermFault.TheVariants.{Wire}
 use Rattle.lab_term.specs.declared.fault.WireCause.TheVariants.{Stream, Message}
 use Rattle.lab_term.specs.declared.subscriber.Subscriber.{Subscriber}
 use Rattle.lab_term.specs.declared.cell.Cell.{Cell}
+use Rattle.lab_term.specs.declared.cell.CellEnd.{CellEnd}
 use Rattle.lab_term.specs.Connections.{Client}
 use Rattle.lab_term.specs.Causes.{FailsReading, Ungreeted, Unsent, IsBroken, Stalls, Causes}
 use Rattle.lab_term.specs.Courses.{Parent, StopsAt, StopsIn, Cut}
@@ -139,12 +140,12 @@ cause_stalls key old new to (Wire (Stream cause)) w g s = inr (inr s)
 cause_stalls key old new to (Wire (Message cause)) w g s = s
 
 -- the causes of a cell that was followed
-pub causes_followed : (result : Result Bool TermFault) (key : List ℕ) (old new : Client) (given : InletState)
-    (s : Subscriber) → Waited key old.iopub.from given s → IsReadable new.shell.from
+pub causes_followed : (result : Result CellEnd TermFault) (key : List ℕ) (old new : Client)
+    (given : InletState) (s : Subscriber) → Waited key old.iopub.from given s → IsReadable new.shell.from
     → IfErr result (λ fault. (before : InletState) (passed : List (List (List ℕ)))
     → Holds before given s passed → Stalls key before new.iopub.from new.output fault)
     → IfErr result (Causes key old new)
-causes_followed (Ok good) key old new given s w g i = tt
+causes_followed (Ok end) key old new given s w g i = tt
 causes_followed (Err fault) key old new given s w g i =
     cause_stalls key old new new.output fault (λ h. h) g (i old.iopub.from w.passed w.holds)
 

@@ -20,11 +20,11 @@ use Rattle.lab_term.specs.Connections.{Ports, Client}
 use Rattle.lab_term.specs.Events.{IsUnopened}
 use Rattle.lab_term.specs.Faults.{term_fault_of}
 
--- the reader failed, or was read as often as it is at most
+-- the reader failed, or the last read was made
 abbrev pub FailsReading : InletState → InletState → Type 0
 FailsReading from from' = (from'.failed ≡ true) ⊎ WasRead from from' most_reads
 
--- the handshake of this role refused its peer for this cause
+-- the handshake as this role refused the peer for this cause
 abbrev pub RefusesPeer : Role → InletState → InletState → StreamFault → Type 0
 RefusesPeer role from from' cause = NoPeer role from from' (peer.Wire cause)
 
@@ -44,14 +44,14 @@ pub record ReceivesUnopened (key : Bytes) (from from' : InletState) (cause : Wir
   pub messages_are : peer.messages ≡ earlier ++ frames ∷ others
   pub unopened : IsUnopened key frames (Wire (Message cause))
 
--- the handshake of this role failed: why, and what was read of the peer
+-- the handshake as this role failed: why, and what was read of the peer
 pub record Ungreeted (role : Role) (old new : Ports) (fault : TermFault) : Type 0 where
   pub cause : PeerFault
   pub fault_is : fault ≡ term_fault_of cause
   pub blames : Blames cause new.from new.to
   pub lost : NoPeer role old.from new.from cause
 
--- why a message wasn't sent: memory was wanting, or the writer failed
+-- why a message wasn't sent: memory ran out, or the writer failed
 abbrev pub Unsent : OutletState → TermFault → Type 0
 Unsent to OutOfMemory = Unit {0}
 Unsent to WriteFailed = to.failed ≡ true
@@ -62,7 +62,7 @@ abbrev pub IsBroken : TermFault → Type 0
 IsBroken (Wire (Stream cause)) = Unit {0}
 IsBroken _ = ⊥
 
--- why no more messages were taken, by what was read and by what was printed to
+-- why no more messages were taken, as the reader and the printer show
 abbrev pub Stalls : Bytes → InletState → InletState → OutletState → TermFault → Type 0
 Stalls key from from' to OutOfMemory = IsReadable from'
 Stalls key from from' to Ended = from'.ended ≡ true
@@ -71,7 +71,7 @@ Stalls key from from' to WriteFailed = to.failed ≡ true
 Stalls key from from' to (Wire (Stream cause)) = Breaks from from' cause
 Stalls key from from' to (Wire (Message cause)) = ReceivesUnopened key from from' cause
 
--- what each fault says of the readers, of the writers, and of what is printed to
+-- what each fault says about the readers, the writers, and the outlet that is printed to
 abbrev pub Causes : Bytes → Client → Client → TermFault → Type 0
 Causes key old new OutOfMemory = IsReadable new.shell.from × IsReadable new.iopub.from
 Causes key old new Ended = (new.shell.from.ended ≡ true) ⊎ (new.iopub.from.ended ≡ true)

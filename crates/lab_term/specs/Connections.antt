@@ -1,4 +1,4 @@
--- What a cell is run over.
+-- The connections over which a cell is run.
 use Rattle.base_streams.specs.States.{InletState, OutletState, IsReadable, IsWritable}
 use Rattle.lab_term.specs.declared.run_cell.Connection.{Connection}
 
@@ -7,13 +7,13 @@ pub record Ports : Type 0 where
   pub from : InletState
   pub to : OutletState
 
--- the connections of shell and iopub, and what is printed to
+-- the connections of shell and iopub, and the outlet that is printed to
 pub record Client : Type 0 where
   pub shell : Ports
   pub iopub : Ports
   pub output : OutletState
 
--- what is read can be read on, and what is written can be written on
+-- the reader can be read further, and the writer can be written to further
 abbrev pub IsGood : Ports → Type 0
 IsGood ports = IsReadable ports.from × IsWritable ports.to
 

@@ -1,4 +1,4 @@
--- How a cell goes: what was taken of the messages that came, and what was printed of them.
+-- The course of a cell: which of its messages were taken, and what was printed of them.
 use Rattle.std.specs.Prelude.{◌≡◌, ℕ, Bool, false, true, ◌&&◌, List, [], ◌∷◌, ◌++◌}
 use Rattle.std.specs.List.{list_any}
 use Rattle.zmtp_wire.specs.Wire.{Bytes, Frames, Messages}
@@ -17,11 +17,11 @@ pub record Parent : Type 0 where
   pub key : Bytes
   pub header : Bytes
 
--- this is true for none of these messages
+-- none of these messages has this property
 abbrev pub HasNo : (Notice → Bool) → List Notice → Type 0
 HasNo holds notices = list_any holds notices ≡ false
 
--- the last of these messages is the first for which this is true
+-- the last of these messages is the first with this property
 pub record EndsIn (holds : Notice → Bool) (notices : List Notice) : Type 0 where
   pub before : List Notice
   pub last : Notice
@@ -29,7 +29,7 @@ pub record EndsIn (holds : Notice → Bool) (notices : List Notice) : Type 0 whe
   pub first : HasNo holds before
   pub is : holds last ≡ true
 
--- the last of these messages is the first that tells a status
+-- the last of these messages is the first that is a status
 abbrev pub EndsInStatus : List Notice → Type 0
 EndsInStatus notices = EndsIn is_status notices
 
@@ -37,7 +37,7 @@ EndsInStatus notices = EndsIn is_status notices
 abbrev pub EndsInIdle : Bytes → List Notice → Type 0
 EndsInIdle header notices = EndsIn (ends header) notices
 
--- why messages were taken no further: memory was wanting, the writer failed, or the next one doesn't open
+-- why no more messages were taken: memory ran out, the writer failed, or the next one can't be opened
 abbrev pub StopsAt : Bytes → Messages → OutletState → TermFault → Type 0
 StopsAt key others to OutOfMemory = IsWritable to
 StopsAt key others to WriteFailed = to.failed ≡ true
@@ -46,14 +46,14 @@ StopsAt key others to (Wire (Message cause)) =
     × (others ≡ frames ∷ rest) × IsUnopened key frames (Wire (Message cause))
 StopsAt key others to _ = ⊥
 
--- messages were looked at
+-- the first messages of a queue were looked at
 pub record Passes (key : Bytes) (queue queue' : Messages) : Type 0 where
   pub taken : Messages
   pub queue_is : queue ≡ taken ++ queue'
   pub notices : List Notice
   pub are : AreNotices key taken notices
 
--- messages were looked at, and then it stopped
+-- the first messages of a queue were looked at, and the fault says why no more were
 pub record StopsIn (key : Bytes) (queue : Messages) (to : OutletState) (fault : TermFault)
     : Type 0 where
   pub taken : Messages
@@ -63,7 +63,8 @@ pub record StopsIn (key : Bytes) (queue : Messages) (to : OutletState) (fault : 
   pub are : AreNotices key taken notices
   pub stops : StopsAt key others to fault
 
--- messages were taken, and the request's among them printed, up to its idle, or all of them
+-- the messages of a queue up to the request's idle, or all of them, were taken, and the request's among
+-- them printed
 pub record Takes (parent : Parent) (queue queue' : Messages) (to to' : OutletState)
     (course : Course) : Type 0 where
   pub taken : Messages
@@ -76,8 +77,8 @@ pub record Takes (parent : Parent) (queue queue' : Messages) (to to' : OutletSta
   pub busy : course.is_idle ≡ false → HasNo (ends parent.header) notices
   pub all : course.is_idle ≡ false → queue' ≡ []
 
--- messages were taken, none of them the request's idle, a front of what is printed of them was printed, and
--- then it stopped
+-- the first messages of a queue were taken, none of them the request's idle, a front of their text was
+-- printed, and the fault says why no more were
 pub record Cut (parent : Parent) (queue : Messages) (to to' : OutletState) (fault : TermFault)
     : Type 0 where
   pub taken : Messages
@@ -89,7 +90,7 @@ pub record Cut (parent : Parent) (queue : Messages) (to to' : OutletState) (faul
   pub wrote : TookFront to to' (text_printed parent.header notices)
   pub stops : StopsAt parent.key others to' fault
 
--- a message was taken, and printed if it is the request's
+-- a message was taken, and its text printed if it is the request's
 pub record TakesOne (parent : Parent) (frames : Frames) (to to' : OutletState) (course : Course)
     : Type 0 where
   pub notice : Notice

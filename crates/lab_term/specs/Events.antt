@@ -1,5 +1,5 @@
--- What the kernel tells on iopub, and what of it is printed (Jupyter messaging 5.4, "Messages on the IOPub
--- (PUB/SUB) channel").
+-- The messages of iopub, and what is printed of them (Jupyter messaging 5.4, "Messages on the IOPub (PUB/SUB)
+-- channel").
 use Rattle.std.specs.Prelude.{◌≡◌, ℕ, Bool, ◌&&◌, List, [], ◌∷◌, ◌++◌, codes, if◌then◌else◌, flat_map}
 use Rattle.std.specs.Prelude.{unwrap_or}
 use Rattle.std.specs.List.{list_any}
@@ -34,13 +34,13 @@ pub record IsNotice (key : Bytes) (frames : Frames) (notice : Notice) : Type 0 w
   pub parent_is : parts.parent_header ≡ notice.parent
   pub type_is : header.msg_type ≡ notice.msg_type
 
--- the faults of opening: want of memory, or frames that are refused under this key
+-- the faults of opening: memory ran out, or the frames are refused under this key
 abbrev pub IsUnopened : Bytes → Frames → TermFault → Type 0
 IsUnopened key frames OutOfMemory = Unit {0}
 IsUnopened key frames (Wire (Message cause)) = (cause ≡ wire.OutOfMemory → ⊥) × IsRefused key frames cause
 IsUnopened key frames _ = ⊥
 
--- the text that a content has at a key, or none
+-- the text at a key of a content, or an empty one
 abbrev pub text_in : Bytes → Data → Bytes
 text_in key content = unwrap_or (text_at key content) []
 
@@ -54,7 +54,7 @@ is_idle notice =
 abbrev pub is_error : Notice → Bool
 is_error notice = bytes_eq notice.msg_type (codes "error")
 
--- the message belongs to the request of this header
+-- the message belongs to the request with this header
 abbrev pub is_of : Bytes → Notice → Bool
 is_of header notice = bytes_eq notice.parent header
 
@@ -63,25 +63,25 @@ abbrev pub error_line : Data → Bytes
 error_line content =
     text_in (codes "ename") content ++ codes ": " ++ text_in (codes "evalue") content ++ codes "\n"
 
--- what is printed of a message: the text of a stream as it stands, or the line of an error
+-- what is printed of a message: the text of a stream unchanged, or the line of an error
 unfoldable pub text_of : Notice → Bytes
 text_of notice =
     if bytes_eq notice.msg_type (codes "stream") then text_in (codes "text") notice.content else
     (if is_error notice then error_line notice.content else [])
 
--- what is printed for the request of this header
+-- what is printed of a message for the request with this header
 abbrev pub text_shown : Bytes → Notice → Bytes
 text_shown header notice = if is_of header notice then text_of notice else []
 
--- one after the other
+-- what is printed of messages for the request with this header, in their order
 abbrev pub text_printed : Bytes → List Notice → Bytes
 text_printed header messages = flat_map (text_shown header) messages
 
--- an error was among the request's messages
+-- whether an error is among the request's messages
 abbrev pub has_error : Bytes → List Notice → Bool
 has_error header messages = list_any (λ notice. is_of header notice && is_error notice) messages
 
--- the kernel is done with the request
+-- whether the message says that the kernel is done with the request
 abbrev pub ends : Bytes → Notice → Bool
 ends header notice = is_of header notice && is_idle notice
 

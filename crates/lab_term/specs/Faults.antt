@@ -7,7 +7,7 @@ use Rattle.lab_term.specs.declared.fault.TermFault.{TermFault}
 use Rattle.lab_term.specs.declared.fault.TermFault.TheVariants as term
 use Rattle.lab_term.specs.declared.fault.WireCause.TheVariants.{Stream}
 
--- the fault of a conversation with a peer, as the client tells it
+-- the fault of the client for the fault of a conversation with a peer
 abbrev pub term_fault_of : PeerFault → TermFault
 term_fault_of peer.OutOfMemory = term.OutOfMemory
 term_fault_of peer.PeerEnded = term.Ended
@@ -15,7 +15,7 @@ term_fault_of peer.ReadFailed = term.ReadFailed
 term_fault_of peer.WriteFailed = term.WriteFailed
 term_fault_of (peer.Wire cause) = term.Wire (Stream cause)
 
--- the text that tells a fault; of what came it is the cause's own
+-- the text of a fault; that of `Wire` is its cause's
 abbrev pub message_of : TermFault → Option Text
 message_of term.OutOfMemory = Some (codes "out of memory")
 message_of term.Ended = Some (codes "the kernel ended the connection")

@@ -1,4 +1,5 @@
 pub mod Causes
+pub mod Cells
 pub mod Connections
 pub mod Courses
 pub mod Events

@@ -12,14 +12,15 @@ use Rattle.lab_term.specs.declared.fault.TermFault.TheVariants.{OutOfMemory, End
 use Rattle.lab_term.specs.declared.fault.TermFault.TheVariants.{Wire}
 use Rattle.lab_term.specs.declared.fault.WireCause.TheVariants.{Stream, Message}
 
--- the subscriber has read what the reader gave; of its messages these were looked at, and it holds the others
+-- the subscriber has read what the reader gave; it holds the messages in it, but for these, which were
+-- looked at
 pub record Holds (from from' : InletState) (s : Subscriber) (passed : Messages) : Type 0 where
   pub messages : Messages
   pub received : Received from from' (record { decoder = s.decoder; messages = messages; reads = s.reads })
   pub messages_are : messages ≡ passed ++ s.queue.items
   pub broken_is : s.broken ≡ s.decoder.fault
 
--- why a read gave no messages
+-- why a read returned no messages
 abbrev pub Starves : TermFault → InletState → Subscriber → Type 0
 Starves OutOfMemory from s = IsReadable from
 Starves Ended from s = (from.ended ≡ true) × (from.failed ≡ false)
@@ -28,7 +29,7 @@ Starves WriteFailed from s = ⊥
 Starves (Wire (Stream cause)) from s = IsReadable from × (s.broken ≡ Some cause)
 Starves (Wire (Message cause)) from s = ⊥
 
--- the bytes that a read gave in vain: none, but where memory was wanting
+-- the bytes of a read that weren't received: none, unless memory ran out
 pub record Unreceived (from from' : InletState) (fault : TermFault) : Type 0 where
   pub bytes : Bytes
   pub gave : Gave from from' bytes

@@ -19,7 +19,7 @@ request_header date session = header_json date session 1 (codes "execute_request
 abbrev pub request_content : Bytes → Data
 request_content code = object (member (codes "code") (string code) no_members)
 
--- what is handed over to be sealed
+-- the draft that is sealed
 pub record IsDraftOf (date session code : Bytes) (d : Draft) : Type 0 where
   pub identities : d.identities ≡ []
   pub header : view d.header ≡ request_header date session

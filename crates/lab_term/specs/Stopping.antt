@@ -1,4 +1,4 @@
--- How far a cell came that wasn't run to its end.
+-- How far a cell was run that wasn't run to its end.
 use Rattle.std.specs.Prelude.{◌≡◌, ℕ, ◌⊎◌, List, [], ◌++◌}
 use Rattle.zmtp_wire.specs.Wire.{Bytes, Frames, Messages}
 use Rattle.base_streams.specs.States.{InletState, OutletState}
@@ -20,19 +20,19 @@ use Rattle.lab_term.specs.Courses.{Parent, HasNo, EndsInStatus}
 use Rattle.lab_term.specs.Requests.{IsRequest}
 use Rattle.lab_term.specs.Running.{Said, Began, parent_of, printing, subscription}
 
--- the handshake of this role was written, and then a front of this message
+-- the handshake as this role was written, and then a front of this message
 pub record SaidFront (to to' : OutletState) (role : Role) (message : Frames) : Type 0 where
   pub between : OutletState
   pub handshake : WroteWhole to between role
   pub front : TookFront between to' (message_bytes message)
 
--- a front of the cell's request was sent, or nothing where memory was wanting before there was one
+-- a front of the cell's request was sent, or nothing if memory ran out before it was made
 pub data RequestedFront (cell : Cell) (to to' : OutletState) (fault : TermFault) : Type 0 where
   NoRequest : fault ≡ OutOfMemory → to' ≡ to → RequestedFront cell to to' fault
   RequestFront : (header : Bytes) (frames : Frames) → IsRequest cell header frames
       → TookFront to to' (message_bytes frames) → RequestedFront cell to to' fault
 
--- these messages were received first, and the last of them tells a status
+-- messages were received of which the first ones end in a status
 pub record Awaited (key : Bytes) (from from' : InletState) : Type 0 where
   pub peer : Peer
   pub received : Received from from' peer
@@ -49,9 +49,9 @@ EndsStream Ended = Unit {0}
 EndsStream (Wire (Stream cause)) = Unit {0}
 EndsStream _ = ⊥
 
--- After the messages that had passed others were taken, none of them the request's idle, and a front of what
--- is printed of them was printed: of all of them, and whole, where the stream was at its end. All that the
--- reader gave was received, but where memory was wanting.
+-- After these messages had passed, others were taken, none of them the request's idle, and a front of their
+-- text was printed. If the stream ended or broke, they are all its messages, and their whole text was
+-- printed. All that the reader gave was received, unless memory ran out.
 pub record FollowedFront (parent : Parent) (passed : Messages) (old new : Ports) (fault : TermFault)
     : Type 0 where
   pub decoder : DecoderState
@@ -70,22 +70,22 @@ pub record FollowedFront (parent : Parent) (passed : Messages) (old new : Ports)
   pub wrote : TookFront old.to new.to (text_printed parent.header notices)
   pub whole : EndsStream fault → (others ≡ []) × Took old.to new.to (text_printed parent.header notices)
 
--- the cell had begun; a front was printed of what the kernel told of it
+-- the request was sent, and a front of the text of its messages was printed
 pub record RanFront (cell : Cell) (old new : Client) (fault : TermFault) : Type 0 where
   pub header : Bytes
   pub passed : Messages
   pub began : Began cell old new header passed
   pub followed : FollowedFront (parent_of cell header) passed (printing old) (printing new) fault
 
--- what was written to iopub before the request: a front of its handshake; that whole, and a front of the
--- subscription; or both whole
+-- what was written to iopub before the request was sent: a front of the handshake; the whole handshake, and a
+-- front of the subscription; or both whole
 pub data WroteIopub (to to' : OutletState) : Type 0 where
   HandshakeFront : WroteFront to to' Sub → WroteIopub to to'
   SubscriptionFront : SaidFront to to' Sub subscription → WroteIopub to to'
   Subscribed : Said to to' Sub subscription → WroteIopub to to'
 
--- It stopped in the handshake of shell; in that of iopub, while it subscribed, or while it waited for a
--- status; while it sent its request; or while it followed that.
+-- The client stopped in the handshake of shell; in that of iopub, while it subscribed, or while it waited for
+-- a status; while it sent the request; or while it followed the cell.
 pub data Stopped (cell : Cell) (old new : Client) (fault : TermFault) : Type 0 where
   AtShell : WroteFront old.shell.to new.shell.to Dealer → new ≡ record old { shell = new.shell }
       → Stopped cell old new fault

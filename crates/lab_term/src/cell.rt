@@ -1,4 +1,4 @@
-//! A cell, and the request that runs it.
+//! A cell, the request that runs it, and how it ends.
 ghost use Rattle.std.specs.Prelude.{◌≡◌, ◌≤◌, [], slice_index_or, IfOk};
 ghost use Rattle.serde_json.specs.View.{view};
 ghost use Rattle.jup_wire.specs.Dates.{last_moment};
@@ -12,10 +12,10 @@ use jup_wire::sealing::{Draft, seal_message};
 use serde_json::{Value, json};
 use std::alloc::{AllocError, Global};
 
-/// A cell to be run.
+/// A cell to run.
 #[derive(Clone, Copy)]
 pub struct Cell<'a> {
-    /// What the cell says.
+    /// The source of the cell.
     pub code: &'a str,
     /// The key of the connection file.
     pub key: &'a [u8],
@@ -25,7 +25,16 @@ pub struct Cell<'a> {
     pub unix_seconds: u64,
 }
 
-/// A request as it is sent, and the header in it.
+/// How a cell ended that was run to its end.
+#[derive(Clone, Copy, PartialEq, Eq)]
+pub enum CellEnd {
+    /// There was no error among its messages.
+    Success,
+    /// There was an error among its messages.
+    Error,
+}
+
+/// The frames of a request, and the header in them.
 #[derive(Drop)]
 pub(crate) struct Request {
     pub header: Bytes,
@@ -54,7 +63,7 @@ fn draft_of(alloc: Global, date: &str, session: &str, code: &str) -> Result<Draf
     })
 }
 
-// The frames of the request of this date.
+// The frames of the request with this date.
 fn dated_frames(alloc: Global, cell: &Cell<'_>, date: &str) -> Result<Frames, AllocError>
     ensures { IfOk result (λ frames. frames ≡ request_frames cell.now.key.now date.now cell.now.session.now
         cell.now.code.now) }
@@ -63,7 +72,7 @@ fn dated_frames(alloc: Global, cell: &Cell<'_>, date: &str) -> Result<Frames, Al
     seal_message(alloc, draft, cell.key)
 }
 
-// The header's bytes, as they stand in each message of this session and date.
+// The bytes of the header in these frames.
 fn header_of(alloc: Global, frames: &Frames) -> Result<Bytes, AllocError>
     ensures { IfOk result (λ header. header ≡ slice_index_or frames.now 2 []) }
 {

@@ -1,4 +1,4 @@
-//! What the kernel tells on iopub (Jupyter messaging 5.4, "Messages on the IOPub (PUB/SUB) channel").
+//! The messages of iopub (Jupyter messaging 5.4, "Messages on the IOPub (PUB/SUB) channel").
 ghost use Rattle.std.specs.Prelude.{◌≡◌, IfOk, IfErr};
 ghost use Rattle.serde_json.specs.View.{view};
 ghost use Rattle.jup_wire.specs.Wire.{IsRefused};
@@ -18,12 +18,12 @@ use std::alloc::{AllocError, Global};
 #[derive(Drop)]
 pub(crate) struct Event {
     pub msg_type: Text,
-    /// The header of the request that it belongs to, as it came.
+    /// The header of the request that it belongs to, as it was received.
     pub parent: Bytes,
     pub content: Value,
 }
 
-/// The faults of opening.
+/// The fault of the client for a message that can't be opened.
 fn fault_of(fault: WireFault) -> TermFault
     ensures { (key : Bytes) (frames : Frames) → IsRefused key frames fault → IsUnopened key frames result }
 {
@@ -65,7 +65,7 @@ pub(crate) fn open_event(alloc: Global, frames: Frames, key: &[u8]) -> Result<Ev
     }
 }
 
-// The text that the content has at a key, or none.
+// The text at a key of the content, or an empty one.
 fn text_at<'a>(content: &'a Value, key: &str) -> &'a str
     ensures { result.now ≡ text_in key.now (view content.now) }
 {
@@ -85,35 +85,36 @@ fn error_line(alloc: Global, content: &Value) -> Result<Text, AllocError>
 }
 
 impl Event {
-    /// Whether it tells a status of the kernel.
+    /// Whether it is a status of the kernel.
     pub(crate) fn is_status(&self) -> bool
         ensures { result ≡ is_status (notice_of self.now) }
     {
         self.msg_type.as_str() == "status"
     }
 
-    /// Whether it tells that the kernel is done with a request.
+    /// Whether it says that the kernel is done with a request.
     pub(crate) fn is_idle(&self) -> bool
         ensures { result ≡ is_idle (notice_of self.now) }
     {
         self.is_status() && text_at(&self.content, "execution_state") == "idle"
     }
 
-    /// Whether it tells an error.
+    /// Whether it is an error.
     pub(crate) fn is_error(&self) -> bool
         ensures { result ≡ is_error (notice_of self.now) }
     {
         self.msg_type.as_str() == "error"
     }
 
-    /// Whether it belongs to the request of this header.
+    /// Whether it belongs to the request with this header.
     pub(crate) fn is_of(&self, header: &[u8]) -> bool
         ensures { result ≡ is_of header.now (notice_of self.now) }
     {
         self.parent.as_slice() == header
     }
 
-    /// What is printed of it: the text of a stream as it stands, of an error its name and value in one line.
+    /// What is printed of it: the text of a stream unchanged, or the name and the value of an error in one
+    /// line.
     #[tactic(auto, unfolding(crate::specs::Events::text_of))]
     pub(crate) fn text(&self, alloc: Global) -> Result<Text, AllocError>
         ensures { IfOk result (λ text. text ≡ text_of (notice_of self.now)) }

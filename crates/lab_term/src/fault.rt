@@ -8,10 +8,10 @@ use thiserror::Error;
 use zmtp_wire::fault::StreamFault;
 use zmtp_wire::peer_fault::PeerFault;
 
-/// What is wrong with what came.
+/// What is wrong with the bytes of a kernel.
 #[derive(Clone, Copy, PartialEq, Eq, Error)]
 pub enum WireCause {
-    /// A stream can't be read on.
+    /// A stream is broken.
     Stream(StreamFault),
     /// A message on iopub doesn't open under the key.
     Message(WireFault),
@@ -35,15 +35,15 @@ impl fmt::Debug for WireCause {
 /// Why a cell wasn't run to its end.
 #[derive(Clone, Copy, PartialEq, Eq, Error)]
 pub enum TermFault {
-    /// The allocator gave no memory.
+    /// An allocation failed.
     OutOfMemory,
-    /// A reader came to its end.
+    /// A read came to the end.
     Ended,
-    /// A reader failed, or was read as often as it may be.
+    /// A read failed, or the last of 4,294,967,295 reads was made.
     ReadFailed,
-    /// A writer failed.
+    /// A write failed.
     WriteFailed,
-    /// What came isn't what a kernel sends.
+    /// The bytes aren't those of a kernel.
     Wire(WireCause),
 }
 
@@ -69,7 +69,7 @@ impl fmt::Debug for TermFault {
     }
 }
 
-/// The same fault of a conversation with a peer.
+/// The fault of the client for the end of a conversation with a peer.
 pub(crate) fn term_fault_of(fault: PeerFault) -> TermFault
     ensures { result ≡ term_fault_of fault }
 {

@@ -1,6 +1,5 @@
-//! Waiting for the kernel, and following a cell to its end.
-ghost use Rattle.std.specs.Prelude.{◌≡◌, ◌||◌, ℕ, ◌+◌, List, [], ◌∷◌, ◌++◌, true, false, not};
-ghost use Rattle.std.specs.Prelude.{IfOk, IfErr, OnOk};
+//! Waiting for the kernel, and following a cell up to its end.
+ghost use Rattle.std.specs.Prelude.{◌≡◌, ◌||◌, [], ◌∷◌, true, false, IfOk, IfErr, OnOk};
 ghost use Rattle.base_streams.specs.States.{InletState, OutletState, IsReadable, IsWritable};
 ghost use Rattle.base_streams.specs.Told.{Took, TookFront};
 ghost use Rattle.zmtp_wire.specs.Wire.{Messages};
@@ -8,9 +7,10 @@ ghost use Rattle.lab_term.specs.Causes.{Stalls};
 ghost use Rattle.lab_term.specs.Courses.{EndsInStatus, HasNo, Passes, StopsAt, StopsIn, TakesOne, Takes, Cut};
 ghost use Rattle.lab_term.specs.Events.{notice_of, text_of, has_error, is_status};
 ghost use Rattle.lab_term.specs.Reading.{Holds, Waited};
-ghost use Rattle.lab_term.specs.Running.{Followed};
+ghost use Rattle.lab_term.specs.Running.{Followed, end_by};
 ghost use Rattle.lab_term.specs.Stopping.{FollowedFront};
 
+use crate::cell::CellEnd;
 use crate::event::{Event, open_event};
 use crate::fault::TermFault;
 use crate::subscriber::{Subscriber, refill};
@@ -20,31 +20,25 @@ use base_text::sequence::Frames;
 use std::alloc::Global;
 use std::collections::VecDeque;
 
-/// How a cell goes, so far.
+/// How a cell has gone so far.
 #[derive(Clone, Copy, PartialEq, Eq)]
 pub(crate) struct Course {
     pub is_idle: bool,
     pub has_failed: bool,
 }
 
-fn either(a: bool, b: bool) -> bool
-    ensures { result ≡ a || b }
-{
-    a || b
-}
-
-// How a cell goes after one message more.
+// How a cell has gone after the next message.
 fn course_after(before: Course, next: Course) -> Course
     ensures idle { result.is_idle ≡ next.is_idle }
     ensures failed { result.has_failed ≡ before.has_failed || next.has_failed }
 {
     Course {
         is_idle: next.is_idle,
-        has_failed: either(before.has_failed, next.has_failed),
+        has_failed: before.has_failed || next.has_failed,
     }
 }
 
-// Whether a message that is needed no more tells a status.
+// Whether a message, which is dropped, is a status.
 fn is_status(event: Event) -> bool
     ensures { result ≡ is_status (notice_of event) }
 {
@@ -53,7 +47,7 @@ fn is_status(event: Event) -> bool
     is_status
 }
 
-// Looks at the messages up to a status, and reports whether there was one.
+// Drops the messages up to the first status, and returns whether there was one.
 #[tactic(auto, using(crate::proofs::CourseLemmas::passing_first, crate::proofs::CourseLemmas::passing_cut))]
 fn pass_status(alloc: Global, queue: &mut VecDeque<Frames>, key: &[u8]) -> Result<bool, TermFault>
     ensures passes { IfOk result (λ found. (p : Passes key.now queue.old.items queue.new.items)
@@ -75,7 +69,7 @@ fn pass_status(alloc: Global, queue: &mut VecDeque<Frames>, key: &[u8]) -> Resul
     Ok(false)
 }
 
-/// Reads until the kernel has told a status: then the subscription has come.
+/// Reads until a status of the kernel has come: it shows that the kernel knows of the subscription.
 pub(crate) fn await_status<I: Inlet>(
     alloc: Global,
     from: &mut I,
@@ -86,7 +80,7 @@ pub(crate) fn await_status<I: Inlet>(
     ensures good { OnOk result (IsReadable (I.state from.new)) }
     ensures waited { OnOk result ((before : InletState) → Holds before (I.state from.old) subscriber.old []
         → Waited key.now before (I.state from.new) subscriber.new) }
-    // Whatever is printed to, it isn't the cause.
+    // What is printed to isn't the cause, whatever its state.
     ensures stalls { IfErr result (λ fault. (before : InletState) (to : OutletState)
         → Holds before (I.state from.old) subscriber.old [] → IsWritable to
         → Stalls key.now before (I.state from.new) to fault) }
@@ -108,7 +102,7 @@ pub(crate) fn await_status<I: Inlet>(
     Err(TermFault::ReadFailed)
 }
 
-// Prints what is to be printed of a message.
+// Prints the text of a message.
 fn print<O: Outlet>(alloc: Global, output: &mut O, event: &Event) -> Result<(), TermFault>
     requires { IsWritable (O.state output.old) }
     ensures wrote { OnOk result
@@ -126,8 +120,8 @@ fn print<O: Outlet>(alloc: Global, output: &mut O, event: &Event) -> Result<(), 
     }
 }
 
-// Opens a message, and prints it if it belongs to the request.
-#[tactic(auto, using(crate::proofs::CourseLemmas::one_other, crate::proofs::CourseLemmas::one_own, crate::proofs::CourseLemmas::one_idle, crate::proofs::CourseLemmas::cut_unopened, crate::proofs::CourseLemmas::cut_printing))]
+// Opens a message, and prints its text if it belongs to the request.
+#[tactic(auto, using(crate::proofs::CourseLemmas::one_message))]
 fn take_message<O: Outlet>(
     alloc: Global,
     output: &mut O,
@@ -168,8 +162,8 @@ fn take_message<O: Outlet>(
     }
 }
 
-// Takes messages up to the request's idle, and reports whether it came and whether there was an error.
-#[tactic(auto, using(crate::proofs::CourseLemmas::busy_first, crate::proofs::CourseLemmas::takes_idle, crate::proofs::CourseLemmas::takes_all, crate::proofs::CourseLemmas::going_cut))]
+// Takes messages up to the request's idle status. Returns whether it came, and whether there was an error.
+#[tactic(auto, using(crate::proofs::CourseLemmas::many_messages))]
 fn take_messages<O: Outlet>(
     alloc: Global,
     output: &mut O,
@@ -201,8 +195,18 @@ fn take_messages<O: Outlet>(
     Ok(course)
 }
 
-/// Prints what the kernel tells of the request of this header, up to its idle, and reports whether all
-/// went well.
+fn end_by(has_failed: bool) -> CellEnd
+    ensures { result ≡ end_by has_failed }
+{
+    if has_failed {
+        CellEnd::Error
+    } else {
+        CellEnd::Success
+    }
+}
+
+/// Prints what the kernel publishes about the request with this header, up to its idle status, and returns
+/// how the cell ended.
 pub(crate) fn follow<I: Inlet, O: Outlet>(
     alloc: Global,
     from: &mut I,
@@ -210,15 +214,15 @@ pub(crate) fn follow<I: Inlet, O: Outlet>(
     subscriber: &mut Subscriber,
     key: &[u8],
     header: &[u8],
-) -> Result<bool, TermFault>
+) -> Result<CellEnd, TermFault>
     requires readable { IsReadable (I.state from.old) }
     requires writable { IsWritable (O.state output.old) }
-    ensures followed { IfOk result (λ good. (before : InletState) (passed : Messages)
+    ensures followed { IfOk result (λ end. (before : InletState) (passed : Messages)
         → Holds before (I.state from.old) subscriber.old passed
         → (f : Followed (record { key = key.now; header = header.now }) passed
         (record { from = before; to = O.state output.old })
         (record { from = I.state from.new; to = O.state output.new }))
-        × (good ≡ not (has_error header.now f.notices))) }
+        × (end ≡ end_by (has_error header.now f.notices))) }
     ensures front { IfErr result (λ fault. (before : InletState) (passed : Messages)
         → Holds before (I.state from.old) subscriber.old passed
         → FollowedFront (record { key = key.now; header = header.now }) passed
@@ -228,13 +232,16 @@ pub(crate) fn follow<I: Inlet, O: Outlet>(
         → Holds before (I.state from.old) subscriber.old passed
         → Stalls key.now before (I.state from.new) (O.state output.new) fault) }
 {
-    let mut has_failed = false;
+    let mut course = Course {
+        is_idle: false,
+        has_failed: false,
+    };
     for _ in subscriber.reads..u32::MAX {
         match take_messages(alloc, output, &mut subscriber.queue, key, header) {
-            Ok(course) => {
-                has_failed = either(has_failed, course.has_failed);
+            Ok(next) => {
+                course = course_after(course, next);
                 if course.is_idle {
-                    return Ok(!has_failed);
+                    return Ok(end_by(course.has_failed));
                 }
             }
             Err(fault) => return Err(fault),

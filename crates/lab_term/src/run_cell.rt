@@ -1,17 +1,17 @@
 //! Running a cell in a kernel.
 ghost use Rattle.std.specs.Prelude.{◌≡◌, ◌≤◌, IfOk, IfErr, OnOk};
 ghost use Rattle.zmtp_wire.specs.Writing.{message_bytes};
-ghost use Rattle.base_streams.specs.States.{IsReadable, IsWritable};
 ghost use Rattle.base_streams.specs.Told.{Took, TookFront};
 ghost use Rattle.jup_wire.specs.Dates.{last_moment};
 ghost use Rattle.zmtp_wire.specs.Receiving.{Received};
 ghost use Rattle.zmtp_wire.specs.Sending.{WroteFront, WroteWhole};
-ghost use Rattle.lab_term.specs.Causes.{Ungreeted, Unsent, Causes};
+ghost use Rattle.lab_term.specs.Causes.{Ungreeted, Unsent};
+ghost use Rattle.lab_term.specs.Cells.{RunsCell};
 ghost use Rattle.lab_term.specs.Connections.{IsGood, IsGoodClient, client_of, ports_of};
-ghost use Rattle.lab_term.specs.Running.{subscription, went_well, Requested, Ran};
-ghost use Rattle.lab_term.specs.Stopping.{RequestedFront, Stopped};
+ghost use Rattle.lab_term.specs.Running.{subscription, Requested};
+ghost use Rattle.lab_term.specs.Stopping.{RequestedFront};
 
-use crate::cell::{Cell, Request, request_of};
+use crate::cell::{Cell, CellEnd, Request, request_of};
 use crate::fault::{TermFault, term_fault_of};
 use crate::follow::{await_status, follow};
 use crate::subscriber::subscriber_of;
@@ -23,7 +23,7 @@ use zmtp_wire::handshake::{Peer, handshake};
 use zmtp_wire::role::Role;
 use zmtp_wire::writing::put_message;
 
-/// The two ways of a connection.
+/// The two directions of a connection.
 #[derive(Drop)]
 pub struct Connection<I: Inlet + Drop, W: Outlet + Drop> {
     pub from: I,
@@ -91,7 +91,7 @@ fn subscribe<W: Outlet>(alloc: Global, to: &mut W) -> Result<(), TermFault>
     send(alloc, to, &frames)
 }
 
-// Sends the request of a cell, and gives its header.
+// Sends the request of a cell, and returns its header.
 fn request<W: Outlet>(alloc: Global, to: &mut W, cell: &Cell<'_>) -> Result<Bytes, TermFault>
     requires { cell.now.unix_seconds ≤ last_moment }
     ensures whole { IfOk result (λ header. Requested cell.now header (W.state to.old) (W.state to.new)) }
@@ -107,27 +107,21 @@ fn request<W: Outlet>(alloc: Global, to: &mut W, cell: &Cell<'_>) -> Result<Byte
     }
 }
 
-/// Runs a cell in the kernel behind two connections, prints what it streams and its error, and reports
-/// whether it ran without one. After its handshake nothing is read from shell: the reply stays there.
-/// On an error it sent at most one request, its cell's, and printed a front of what the kernel told of it.
+/// Runs a cell in the kernel at the other end of two connections, prints its streams and its errors, and
+/// returns how it ended. Only the handshake is read from shell: the reply isn't. On an error at most one
+/// request, the cell's, has been sent, and a front of the texts that the kernel published for it has been
+/// printed.
 pub fn run_cell<I: Inlet + Drop, W: Outlet + Drop, O: Outlet>(
     alloc: Global,
     shell: &mut Connection<I, W>,
     iopub: &mut Connection<I, W>,
     output: &mut O,
     cell: &Cell<'_>,
-) -> Result<bool, TermFault>
+) -> Result<CellEnd, TermFault>
     requires unix_seconds { cell.now.unix_seconds ≤ last_moment }
     requires good { IsGoodClient (client_of I.state W.state O.state shell.old iopub.old output.old) }
-    ensures ran { IfOk result (λ good. (ran : Ran cell.now
-        (client_of I.state W.state O.state shell.old iopub.old output.old)
-        (client_of I.state W.state O.state shell.new iopub.new output.new)) × (good ≡ went_well ran)) }
-    ensures stopped { IfErr result (Stopped cell.now
-        (client_of I.state W.state O.state shell.old iopub.old output.old)
-        (client_of I.state W.state O.state shell.new iopub.new output.new)) }
-    ensures cause { IfErr result (Causes cell.now.key.now
-        (client_of I.state W.state O.state shell.old iopub.old output.old)
-        (client_of I.state W.state O.state shell.new iopub.new output.new)) }
+    ensures { RunsCell cell.now (client_of I.state W.state O.state shell.old iopub.old output.old)
+        (client_of I.state W.state O.state shell.new iopub.new output.new) result }
 {
     match greet(alloc, shell, Role::Dealer) {
         Ok(peer) => drop(peer),

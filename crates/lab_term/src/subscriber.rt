@@ -1,4 +1,4 @@
-//! The messages of iopub, as they come.
+//! The messages of iopub, as they are received.
 ghost use Rattle.std.specs.Prelude.{◌≡◌, ◌<◌, ◌≤◌, ◌+◌, [], take, length, IfOk, IfErr, OnOk, OnErr};
 ghost use Rattle.base_streams.specs.States.{InletState, IsReadable};
 ghost use Rattle.base_streams.specs.Told.{Gave, WasRead};
@@ -19,21 +19,21 @@ use zmtp_wire::fault::StreamFault;
 use zmtp_wire::feeding::{Fed, feed};
 use zmtp_wire::handshake::Peer;
 
-/// How much is read at once, in bytes.
+/// The most bytes that a read returns.
 const PIECE_SIZE: usize = 8192;
 
-/// A side that reads, and the messages that came and weren't looked at yet.
+/// A decoder, and the messages that it returned and that haven't been looked at yet.
 #[derive(Drop)]
 pub(crate) struct Subscriber {
     pub decoder: Decoder,
     pub queue: VecDeque<Frames>,
-    /// What is wrong with the stream after these messages.
+    /// The fault of the stream after these messages, if it has one.
     pub broken: Option<StreamFault>,
-    /// How often the reader was read, in the handshake too.
+    /// The number of reads so far, with those of the handshake.
     pub reads: u32,
 }
 
-/// Begins with the messages that came with READY.
+/// A subscriber with the messages that came with READY.
 pub(crate) fn subscriber_of(alloc: Global, peer: Peer) -> Result<Subscriber, TermFault>
     ensures holds { IfOk result (λ subscriber. (before from : InletState)
         → Received before from peer → Holds before from subscriber []) }
@@ -44,7 +44,7 @@ pub(crate) fn subscriber_of(alloc: Global, peer: Peer) -> Result<Subscriber, Ter
         messages,
         reads,
     } = peer;
-    // What came with READY may have broken the stream.
+    // The bytes that came with READY may have broken the stream.
     let Ok(
         Fed {
             messages: others,
@@ -66,7 +66,7 @@ pub(crate) fn subscriber_of(alloc: Global, peer: Peer) -> Result<Subscriber, Ter
     })
 }
 
-// Reads a piece, which isn't empty, to the front of the buffer, and reports its length.
+// Reads a piece, which isn't empty, into the front of the buffer, and returns its length.
 fn read_piece<I: Inlet>(from: &mut I, buffer: &mut [u8; PIECE_SIZE]) -> Result<usize, TermFault>
     requires { IsReadable (I.state from.old) }
     ensures count { IfOk result (λ n. (0 < n) × (n ≤ length buffer.new)) }
@@ -84,7 +84,7 @@ fn read_piece<I: Inlet>(from: &mut I, buffer: &mut [u8; PIECE_SIZE]) -> Result<u
     }
 }
 
-/// Reads a piece, once all messages were looked at.
+/// Reads a piece. All messages must have been looked at.
 pub(crate) fn refill<I: Inlet>(
     alloc: Global,
     from: &mut I,

@@ -5,7 +5,7 @@ use base_streams::memory::{Sink, Source};
 use base_text::sequence::{Bytes, Frames};
 use jup_wire::message::WireFault;
 use jup_wire::signature::sign;
-use lab_term::cell::Cell;
+use lab_term::cell::{Cell, CellEnd};
 use lab_term::fault::{TermFault, WireCause};
 use lab_term::run_cell::{Connection, run_cell};
 use std::alloc::{AllocError, Global};
@@ -22,12 +22,12 @@ const OTHER: &str = "{\"msg_id\":\"t_1\",\"msg_type\":\"execute_request\",\"sess
 
 const CONTENT: &str = "{\"code\":\"HLT\"}";
 
-// HMAC-SHA256 under `key` of the header, `{}`, `{}` and the content, as Python's hmac gives it.
+// HMAC-SHA256 under `key` of the header, `{}`, `{}` and the content, as computed by Python's hmac.
 const SIGNATURE: &str = "f7f79e8f7ba50d67228ddeaec96b018fc6a7df46afb65b973dc3a77de9a7ad53";
 
 const KEY: &[u8] = b"key";
 
-// A message on iopub: its type, the header that it answers, its content.
+// A message on iopub: its type, its parent header, its content.
 #[derive(Clone, Copy)]
 struct Told(&'static str, &'static str, &'static str);
 
@@ -82,7 +82,7 @@ fn signed_frames(alloc: Global, told: Told) -> Result<Frames, AllocError> {
     Ok(frames)
 }
 
-// The bytes of a message of some frames; nothing where there are none.
+// The bytes of a message of some frames; nothing if there are none.
 fn push_message(alloc: Global, bytes: &mut Vec<u8>, frames: &Frames) -> Result<(), AllocError> {
     if frames.len() == 0 {
         return Ok(());
@@ -117,7 +117,7 @@ fn stream_of(
     Ok(bytes)
 }
 
-// A connection whose reader and writer move so many bytes a call.
+// A connection whose reader and writer move at most this many bytes a call.
 fn connection(alloc: Global, bytes: Vec<u8>, most: usize) -> Connection<Source, Sink>
     ensures { (result.from.ended ≡ false) × (result.from.failed ≡ false) × (result.to.failed ≡ false) }
 {
@@ -127,16 +127,16 @@ fn connection(alloc: Global, bytes: Vec<u8>, most: usize) -> Connection<Source, 
     }
 }
 
-// How a cell went, and what was written.
+// How a cell ended, and what was written.
 #[derive(Drop)]
 struct Outcome {
-    answer: Result<bool, TermFault>,
+    answer: Result<CellEnd, TermFault>,
     shell: Connection<Source, Sink>,
     iopub: Connection<Source, Sink>,
     output: Sink,
 }
 
-// Runs the cell over what comes on shell and on iopub.
+// Runs the cell over these bytes on shell and on iopub.
 fn run(alloc: Global, asked: Vec<u8>, told: Vec<u8>, most: usize) -> Outcome {
     let mut shell = connection(alloc, asked, most);
     let mut iopub = connection(alloc, told, most);
@@ -162,20 +162,20 @@ fn run_script(
     Ok(run(alloc, asked, told, most))
 }
 
-// What the kernel tells, what is printed, and the answer.
-type Row = (&'static [Told], &'static str, Result<bool, TermFault>);
+// What the kernel publishes, what is printed, and the result.
+type Row = (&'static [Told], &'static str, Result<CellEnd, TermFault>);
 
 const ROWS: [Row; 8] = [
-    (&[STARTING, BUSY, LETTER, IDLE], "A", Ok(true)),
+    (&[STARTING, BUSY, LETTER, IDLE], "A", Ok(CellEnd::Success)),
     (
         &[STARTING, BUSY, ERROR, IDLE],
         "AssemblyError: 1:1 Mnemonic\n",
-        Ok(false),
+        Ok(CellEnd::Error),
     ),
     (
         &[STARTING, LETTER, ERROR, LETTER, IDLE, LETTER],
         "AAssemblyError: 1:1 Mnemonic\nA",
-        Ok(false),
+        Ok(CellEnd::Error),
     ),
     // Another client's cell, and a stream before the first status.
     (
@@ -189,7 +189,7 @@ const ROWS: [Row; 8] = [
             IDLE,
         ],
         "A",
-        Ok(true),
+        Ok(CellEnd::Success),
     ),
     (&[STARTING, BUSY, LETTER], "A", Err(TermFault::Ended)),
     (&[], "", Err(TermFault::Ended)),
@@ -197,7 +197,7 @@ const ROWS: [Row; 8] = [
     (&[STARTING, LETTER, BUSY], "A", Err(TermFault::Ended)),
 ];
 
-// Whether a script that is signed under a key prints and is answered as the row tells.
+// Whether a script that is signed under a key prints and returns what the row says.
 fn is_kept(alloc: Global, row: &Row, key: &[u8], most: usize) -> Result<bool, AllocError> {
     let run = run_script(alloc, row.0, key, most)?;
     let is_kept = run.answer == row.2 && run.output.as_slice() == row.1.as_bytes();
@@ -235,7 +235,7 @@ fn subscribed_bytes(alloc: Global) -> Result<Vec<u8>, AllocError> {
     Ok(subscribed)
 }
 
-// Whether these bytes are written on shell and on iopub.
+// Whether these bytes are written to shell and to iopub.
 fn writes(alloc: Global, asked: &[u8], subscribed: &[u8]) -> Result<(bool, bool), AllocError> {
     let run = run_script(alloc, &[STARTING, IDLE], KEY, 4096)?;
     let is_asked = run.shell.to.as_slice() == asked;
@@ -267,8 +267,11 @@ fn other_key(rt: HostRuntime) {
     assert!(rt; matches!(is_kept, Ok(true)));
 }
 
-// What the cell answers where a byte comes after a script that begins no frame.
-fn answer_to_broken(alloc: Global, script: &[Told]) -> Result<Result<bool, TermFault>, AllocError> {
+// What the cell returns if after a script a byte comes that begins no frame.
+fn answer_to_broken(
+    alloc: Global,
+    script: &[Told],
+) -> Result<Result<CellEnd, TermFault>, AllocError> {
     let asked = stream_of(alloc, Role::Router, &[], KEY)?;
     let mut told = stream_of(alloc, Role::Pub, script, KEY)?;
     told.extend_from_slice(&[8])?;
@@ -278,7 +281,7 @@ fn answer_to_broken(alloc: Global, script: &[Told]) -> Result<Result<bool, TermF
     Ok(answer)
 }
 
-// Bytes that break the stream, at once after READY and after a message.
+// Bytes that break the stream, right after READY and after a message.
 #[test]
 fn broken_streams(rt: HostRuntime) {
     let fault = TermFault::Wire(WireCause::Stream(StreamFault::Flags));

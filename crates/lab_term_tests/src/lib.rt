@@ -1,5 +1,5 @@
-// What no clause of lab_term says: the bytes of a request and what a scripted kernel's messages print.
-// Nothing is here but tests.
+// Tests of what no clause of lab_term says: the bytes of a request, and what the messages of a scripted
+// kernel print.
 #![tactic(auto)]
 
 #[cfg(test)]

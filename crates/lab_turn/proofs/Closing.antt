@@ -17,7 +17,7 @@ use Rattle.lab_turn.specs.declared.view.Left.{Left}
 use Rattle.lab_turn.specs.History.{calls_of, IsLegal, TurnstileState, PassState, IsHistoryOf}
 use Rattle.lab_turn.specs.Tickets.{AtHome, Away}
 use Rattle.lab_turn.specs.Seen.{spent_view}
-use Rattle.lab_turn.specs.Turns.{taker, Ruled, pass_of, left_of, Gathered, StandsFor}
+use Rattle.lab_turn.specs.Turns.{taker, Ruled, pass_of, left_of, ReclaimsPasses, StandsFor}
 use Rattle.lab_turn.proofs.HistoryLemmas.{inside, at_end, le_or_lt, of_all, all_of, all_made}
 use Rattle.lab_turn.proofs.AllSeats.{pigeon}
 
@@ -101,7 +101,7 @@ module _ {C : Type 0} where
 
     settles : (table : TableId) (all rest : List (PassState C)) (last : PassState C) (s : St) (r : Rule s)
         (id : ℕ) (u v : View C) → get_elem? s.views id ≡ some v
-        → all ≡ rest ++ last ∷ [] → pass_of table u ≡ last → Gathered rest [] u v → length all ≡ seats
+        → all ≡ rest ++ last ∷ [] → pass_of table u ≡ last → ReclaimsPasses rest [] u v → length all ≡ seats
         → (x : J) × (s.homes ≡ some (Some x) ∷ []) × (limit_of x ≡ limit)
         × IsHistoryOf record { table = table; seats = seats; limit = limit } all (entries x)
     settles table all rest last s r id u v at is last_is g full =
@@ -191,7 +191,8 @@ module _ {C : Type 0} where
         → (table : TableId) (all rest : List (PassState C)) (last : PassState C) (ws : List ℕ)
         (items : List (Option J)) (id : ℕ) (u v : View C)
         → Final (Seen (Ruled entries limit_of seats limit) id v) ws items
-        → all ≡ rest ++ last ∷ [] → pass_of table u ≡ last → Gathered rest [] u v → length all ≡ whose.seats
+        → all ≡ rest ++ last ∷ [] → pass_of table u ≡ last → ReclaimsPasses rest [] u v
+        → length all ≡ whose.seats
         → (x : J) × (get_elem? items 0 ≡ some (Some x)) × (limit_of x ≡ whose.limit)
         × IsHistoryOf whose all (entries x)
     closes whose seats_are limit_is table all rest last ws items id u v f is last_is g full =
@@ -215,7 +216,7 @@ module _ {C : Type 0} where
 
 module _ {C : Type 0} where
   pub gathered_none : (all : List (PassState C)) (v : View C) → v.ticket ≡ None → v.found ≡ None
-      → v.spent ≡ false → v.kept ≡ [] → Gathered all all v v
+      → v.spent ≡ false → v.kept ≡ [] → ReclaimsPasses all all v v
   gathered_none all v idle nothing alive alone =
       record {
         taken = [];
@@ -225,10 +226,11 @@ module _ {C : Type 0} where
       }
 
   pub gathered_more : (table : TableId) (all rest rest' : List (PassState C)) (p : PassState C)
-      (before v u w : View C) → Gathered all rest before v → rest ≡ rest' ++ p ∷ [] → pass_of table u ≡ p
-      → w ≡ taker v u → Gathered all rest' before w
+      (before v u w : View C) → ReclaimsPasses all rest before v → rest ≡ rest' ++ p ∷ []
+      → pass_of table u ≡ p
+      → w ≡ taker v u → ReclaimsPasses all rest' before w
   gathered_more table all rest rest' p before v u w g is p_is new =
-      subst (Gathered all rest' before) (sym new) record {
+      subst (ReclaimsPasses all rest' before) (sym new) record {
         taken = p ∷ g.taken;
         split = g.split ∙ (ap (λ l. l ++ g.taken) is ∙ append_assoc rest' (p ∷ []) g.taken);
         kept = ap (λ (q : PassState C). left_of q ∷ v.kept) p_is ∙ ap (λ l. left_of p ∷ l) g.kept;

@@ -9,7 +9,7 @@ use Rattle.atomic_table.specs.Seated.{TableId}
 abbrev pub calls_of : {C : Type 0} → ℕ → List (ℕ × C) → List C
 calls_of seat history = map (λ e. e.1) (filter (λ e. e.0 == seat) history)
 
--- a history of these seats that has room in the journal
+-- a history of calls by these seats that fits the journal
 pub record IsLegal {C : Type 0} (seats limit : ℕ) (history : List (ℕ × C)) : Type 0 where
   pub fits : length history ≤ limit
   pub made : All (λ (e : ℕ × C). e.0 < seats) history
@@ -20,8 +20,8 @@ pub record TurnstileState : Type 0 where
   pub seats : ℕ
   pub limit : ℕ
 
--- a pass: whose it is, its seat, the history that it has seen, its own calls, and whether it met the end of
--- the tickets
+-- a pass: its turnstile, its seat, the history that it has seen, its own calls, and whether it found no
+-- ticket left
 pub record PassState (C : Type 0) : Type 0 where
   pub turnstile : TurnstileState
   pub seat : ℕ
@@ -39,8 +39,8 @@ FreshFrom first turnstile passes =
     EachIndex passes (λ k. slice_get passes k ≡ Some (fresh_pass turnstile (first + k)))
 
 module _ {C Y : Type 0} (answer : List (ℕ × C) → C → Y) where
-  -- the call stands at the end of a history that goes on from all that was seen, and the reply is the right
-  -- one there
+  -- the call is the last entry of a history that continues what the pass had seen, and the reply is the one
+  -- that belongs there
   pub record Enters (old : PassState C) (call : C) (reply : Y) (new : PassState C) : Type 0 where
     pub before : List (ℕ × C)
     pub history : new.seen ≡ before ++ (old.seat, call) ∷ []
@@ -48,13 +48,13 @@ module _ {C Y : Type 0} (answer : List (ℕ × C) → C → Y) where
     pub answered : reply ≡ answer before call
     pub counted : new.calls ≡ old.calls ++ call ∷ []
 
--- a longer history was seen, with no new call of this seat
+-- the pass sees a history that continues what it had seen, with no new call of its seat
 pub record Sees {C : Type 0} (old new : PassState C) : Type 0 where
   pub onward : IsPrefix old.seen new.seen
   pub counted : new.calls ≡ old.calls
 
 module _ {C Y : Type 0} (answer : List (ℕ × C) → C → Y) (is_entry is_full : Y → Bool) where
-  -- what one turn with this call and this reply made of the pass
+  -- a turn with this call and this reply takes the pass from old to new
   pub record Turned (old : PassState C) (call : C) (reply : Y) (new : PassState C) : Type 0 where
     pub same : (new.turnstile ≡ old.turnstile) × (new.seat ≡ old.seat) × (new.worn ≡ old.worn)
     pub legal : IsLegal new.turnstile.seats new.turnstile.limit new.seen
@@ -63,7 +63,7 @@ module _ {C Y : Type 0} (answer : List (ℕ × C) → C → Y) (is_entry is_full
     pub refused : is_entry reply ≡ false → Sees old new
     pub full : is_full reply ≡ true → (is_entry reply ≡ false) × (length new.seen ≡ new.turnstile.limit)
 
--- the history in which all calls of these passes stand, and no others
+-- the history that has all calls of these passes, and no others
 pub record IsHistoryOf {C : Type 0} (turnstile : TurnstileState) (passes : List (PassState C))
     (history : List (ℕ × C)) : Type 0 where
   pub legal : IsLegal turnstile.seats turnstile.limit history

@@ -2,3 +2,4 @@ pub mod History
 pub mod Tickets
 pub mod Seen
 pub mod Turns
+pub mod Uses

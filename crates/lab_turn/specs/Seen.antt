@@ -1,4 +1,4 @@
--- The second part of the rule, seen and own calls: what each view knows of the one history.
+-- The second part of the rule, seen and own calls: what each view knows of the history.
 use Rattle.std.specs.Prelude.{◌≡◌, ◌≢◌, ℕ, ◌≤◌, true, false, List, [], length, None}
 use mathlib.Core.Option.{some}
 use mathlib.Core.List.{IsPrefix}
@@ -8,8 +8,8 @@ use Rattle.lab_turn.specs.declared.view.Left.{Left}
 use Rattle.lab_turn.specs.History.{calls_of}
 use Rattle.lab_turn.specs.Tickets.{last_ticket}
 
--- a pass with which no call was made, and which makes no other: its seat, the number of seats, the limit, and
--- the history that it has seen
+-- a pass that made no call, and that makes no other pass: its seat, the number of seats, the limit, and the
+-- history that it has seen
 abbrev pub fresh_view : {C : Type 0} → ℕ → ℕ → ℕ → List (ℕ × C) → View C
 fresh_view seat seats limit seen = record {
   seat = seat;
@@ -26,11 +26,11 @@ fresh_view seat seats limit seen = record {
   kept = [];
 }
 
--- what is left in place of a pass that another took in
+-- what is left in place of a pass that was joined to another
 abbrev pub spent_view : {C : Type 0} → View C
 spent_view = record (fresh_view 0 0 0 []) { spent = true }
 
--- of a spent pass that another keeps: it was another seat, it saw the history, and its calls stand there
+-- a spent pass that another keeps: its seat is another one, it has seen the history, and its calls are in it
 pub record Keeps {C : Type 0} (log : List (ℕ × C)) (views : List (View C)) (keeper : ℕ)
     (w : Left C) : Type 0 where
   pub other : w.seat ≢ keeper

@@ -1,5 +1,5 @@
--- The rule of the table: word 0 is the number of tickets that were drawn, word 1 the ticket that is served,
--- and the one slot holds the value. Below it what each step shows.
+-- The rule of the table: word 0 is the number of tickets that are drawn, word 1 the ticket that is served,
+-- and the only slot holds the value. Then what each step on the table shows.
 use Rattle.std.specs.Prelude.{◌≡◌, ◌≢◌, ℕ, ◌+◌, ◌<◌, ◌≤◌, true, false, List, [], ◌∷◌, ◌++◌, map, length}
 use Rattle.std.specs.Prelude.{Option, Some, None}
 use mathlib.Core.List.{IsPrefix}
@@ -12,7 +12,7 @@ use Rattle.lab_turn.specs.History.{calls_of, PassState}
 use Rattle.lab_turn.specs.Tickets.{last_ticket, TicketRule}
 use Rattle.lab_turn.specs.Seen.{fresh_view, HistoryRule}
 
--- the pass that makes the others, when so many are made
+-- the pass that makes the others, when there are so many
 abbrev pub maker_at : {C : Type 0} → ℕ → ℕ → ℕ → View C
 maker_at seats limit made = record (fresh_view 0 seats limit []) { makes = true; made = made }
 
@@ -30,7 +30,7 @@ module _ {J C : Type 0} (entries : J → List (ℕ × C)) (limit_of : J → ℕ)
   abbrev Mine : Type 0
   Mine = Me (Option J) (View C)
 
-  -- where no ticket is left the pass is worn
+  -- a pass that finds no ticket left
   abbrev pub worn_out : View C → View C
   worn_out v = record v { worn = true }
 
@@ -74,7 +74,7 @@ maker_after v = record v { made = v.made + 1 }
 abbrev pub new_pass : {C : Type 0} → View C → View C
 new_pass v = fresh_view v.made v.seats v.limit v.seen
 
--- a pass takes in another, and keeps its seat, what it has seen, and its calls
+-- a pass to which another is joined keeps that one's seat, what it has seen, and its calls
 abbrev pub taker : {C : Type 0} → View C → View C → View C
 taker v w = record v { kept = record { seat = w.seat; seen = w.seen; calls = w.calls } ∷ v.kept }
 
@@ -89,7 +89,7 @@ pass_of table v = record {
 }
 
 module _ {J C : Type 0} where
-  -- no call is under way: no ticket, nothing out, and no other pass was taken in
+  -- no call is being made: no ticket, nothing out of the slot, and no other pass joined to it
   pub record IsIdle (m : Me (Option J) (View C)) : Type 0 where
     pub ticket : m.0.ticket ≡ None
     pub found : m.0.found ≡ None
@@ -106,8 +106,8 @@ module _ {J C : Type 0} where
 abbrev pub left_of : {C : Type 0} → PassState C → Left C
 left_of p = record { seat = p.seat; seen = p.seen; calls = p.calls }
 
--- of all passes those after the rest were taken in
-pub record Gathered {C : Type 0} (all rest : List (PassState C)) (before after : View C) : Type 0 where
+-- from before to after, the passes behind the rest are joined to the view
+pub record ReclaimsPasses {C : Type 0} (all rest : List (PassState C)) (before after : View C) : Type 0 where
   pub taken : List (PassState C)
   pub split : all ≡ rest ++ taken
   pub kept : after.kept ≡ map left_of taken

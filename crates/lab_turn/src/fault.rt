@@ -1,7 +1,7 @@
-//! Why a turn is refused.
+//! Why a turn wasn't taken.
 use thiserror::Error;
 
-/// Why a turn is not made.
+/// Why a turn wasn't taken.
 #[derive(Clone, Copy, PartialEq, Eq, Debug, Error)]
 pub enum TurnFault {
     #[error("all tickets of the turnstile are drawn")]

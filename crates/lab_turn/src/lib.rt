@@ -1,8 +1,8 @@
-// Many threads share one value that keeps a journal of the calls on it, one ticket at a time.
-// `turn` draws a ticket, waits for it, makes one call and passes the turn on. All calls stand in one
-// history: a pass sees ever longer beginnings of it, and each reply is the value's at its place there.
-// `open` gives each pass a seat of its own. `close` gives the value back with the whole history.
-// No clause says that a thread gets its turn: what is promised holds if `turn` returns.
+// Lets threads share one value that keeps a journal of the calls on it: a ticket lock round an object. `open`
+// returns the passes, each with a seat of its own. `turn` draws a ticket, waits until it is served, makes one
+// call and passes the turn on. All calls form one history: what a pass has seen of it is a beginning, which
+// grows with each turn, and each reply is the value's at that place. `close` returns the value, with the
+// whole history. No clause says that a thread gets its turn: the contracts hold if `turn` returns.
 #![tactic(auto)]
 
 pub mod fault;

@@ -6,11 +6,11 @@ use crate::rule::Token;
 use std::fmt;
 use std::marker::Model;
 
-/// One seat's right to make calls, of the turnstile that it was opened with.
+/// The right of one seat to make calls on the turnstile that it was opened with.
 ///
-/// Contracts see whose it is, its seat, the beginning of the history that it has seen, its own
-/// calls, and whether it found that all tickets are drawn. It may go to any thread. A pass that is
-/// dropped leaves its calls in the history, but the turnstile can't be closed without it.
+/// Contracts see its turnstile, its seat, the beginning of the history that it has seen, its own calls, and
+/// whether it found all tickets drawn. It can be sent to any thread. If a pass is dropped, its calls stay in
+/// the history, but the turnstile can't be closed any more.
 pub struct Pass<J: Journaled> {
     pub(crate) seat: u32,
     pub(crate) token: Token<J>,

@@ -1,7 +1,7 @@
-//! The queue of a turnstile: a ticket is drawn, and waited for, and the turn is passed on.
-ghost use Rattle.std.specs.Prelude.{◌≡◌, [], Some, None, IfSome, IfNone, IfOk, OnErr, false};
-ghost use Rattle.lab_turn.specs.History.{Turned};
-ghost use Rattle.lab_turn.specs.Turns.{IsIdle, Served, pass_of, with_ticket, worn_out};
+//! The queue of a turnstile: a turn draws a ticket, waits until it is served, and passes the turn on.
+ghost use Rattle.std.specs.Prelude.{◌≡◌, [], Some, None, IfSome, IfNone, false};
+ghost use Rattle.lab_turn.specs.Turns.{IsIdle, Served, with_ticket, worn_out};
+ghost use Rattle.lab_turn.specs.Uses.{TokenTakesTurn};
 
 use crate::fault::TurnFault;
 use crate::journaled::Journaled;
@@ -9,7 +9,7 @@ use crate::rule::{Draw, Look, PassOn, ReadTickets, SERVING, TICKETS, Token, Turn
 use crossbeam_utils::Backoff;
 use std::sync::{MutexGuard, Wait};
 
-// Draws a ticket. None: none is left, which the token then shows.
+// Draws a ticket. Returns None if none is left, which the token then shows.
 fn draw<J: Journaled, R: Wait>(rt: &R, table: &TurnTable<J>, token: &mut Token<J>) -> Option<u64>
     requires table { (token.old.table_id ≡ table.now.table_id) × (table.now.table_id.words ≡ 2) }
     requires idle { IsIdle token.old.me }
@@ -33,7 +33,7 @@ fn draw<J: Journaled, R: Wait>(rt: &R, table: &TurnTable<J>, token: &mut Token<J
     unreachable!()
 }
 
-// Waits until the ticket is served, which takes the slot out of the table.
+// Waits until the ticket is served. From then on the token owns the table's slot.
 fn wait_for<J: Journaled, R: Wait>(rt: &R, table: &TurnTable<J>, token: &mut Token<J>, ticket: u64)
     requires table { (token.old.table_id ≡ table.now.table_id) × (table.now.table_id.words ≡ 2) }
     requires ticket { token.old.me.0.ticket ≡ Some ticket }
@@ -52,8 +52,8 @@ fn wait_for<J: Journaled, R: Wait>(rt: &R, table: &TurnTable<J>, token: &mut Tok
     unreachable!()
 }
 
-// One turn: a ticket, the value taken out, one call, the value put back, and the turn passed on. The door
-// is held meanwhile, so that nobody else spins for a ticket.
+// Takes a turn: draws a ticket and waits for it, takes the value out, makes the call, puts the value back and
+// passes the turn on. The caller holds the door meanwhile, so that no other thread spins for its ticket.
 pub fn take_turn<J: Journaled, R: Wait>(
     rt: &R,
     _inside: &MutexGuard<'_, ()>,
@@ -65,12 +65,7 @@ pub fn take_turn<J: Journaled, R: Wait>(
     requires table { (token.old.table_id ≡ table.now.table_id) × (table.now.table_id.words ≡ 2) }
     requires seat { seat ≡ token.old.me.0.seat }
     requires idle { IsIdle token.old.me }
-    ensures same { (token.new.table_id ≡ token.old.table_id) × (seat ≡ token.new.me.0.seat) }
-    ensures idle { IsIdle token.new.me }
-    ensures ok { IfOk result (λ reply. Turned J.answer J.is_entry J.is_full
-        (pass_of token.old.table_id token.old.me.0) call reply
-        (pass_of token.old.table_id token.new.me.0)) }
-    ensures worn { OnErr result (token.new.me.0 ≡ worn_out J.entries J.limit token.old.me.0) }
+    ensures { TokenTakesTurn J.answer J.is_entry J.is_full seat token.old call result token.new }
 {
     let Some(ticket) = draw(rt, table, token) else {
         return Err(TurnFault::Worn);

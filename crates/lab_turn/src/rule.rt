@@ -1,4 +1,4 @@
-//! The table of a turnstile with its rule, and what each step on it shows.
+//! The table behind a turnstile, its rule, and what each step on it shows.
 //!
 //! The rule has two parts, tickets and slot (`specs/Tickets.antt`), and seen and own calls
 //! (`specs/Seen.antt`). It holds between any two of the steps: read the tickets, draw one, look at
@@ -10,13 +10,13 @@ use atomic_table::{Join, Play, Seat, Shared, Split, TableRule};
 use std::marker::PhantomData;
 use std::snapshot::Snapshot;
 
-/// The word that counts the tickets that were drawn.
+/// The word that counts the tickets that are drawn.
 pub const TICKETS: usize = 0;
 
-/// The word that has the ticket that is served.
+/// The word that holds the ticket that is served.
 pub const SERVING: usize = 1;
 
-/// The slot in which the value lies.
+/// The slot that holds the value.
 pub const VALUE: usize = 0;
 
 pub type Token<J> = Seat<Option<J>, View<<J as Journaled>::Call>>;
@@ -27,7 +27,7 @@ pub struct Turns<J> {
     of: PhantomData<J>,
 }
 
-/// What the table is given once: the value that it is opened over, and how many seats there may be.
+/// The constants of a table: the value that it was opened over, and the number of seats.
 pub struct Opening<J> {
     pub over: Snapshot<J>,
     pub seats: u32,

@@ -1,8 +1,9 @@
 //! The turnstile: opened over a value, used by its passes, and closed with all of them.
-ghost use Rattle.std.specs.Prelude.{◌≡◌, ◌≢◌, ◌<◌, ◌≤◌, ◌+◌, ◌↔◌, [], All, length, vec_capacity, IfOk, IfErr};
-ghost use Rattle.std.specs.Prelude.{IsErr, IsSome, OnOk, OnErr, Some, ◌∷◌, true};
-ghost use Rattle.lab_turn.specs.History.{TurnstileState, FreshFrom, Turned, IsHistoryOf};
-ghost use Rattle.lab_turn.specs.Turns.{Gathered, IsIdle, maker_at};
+ghost use Rattle.std.specs.Prelude.{◌≡◌, ◌<◌, ◌≤◌, ◌+◌, [], ◌∷◌, All, length, vec_capacity, IfOk, IfErr};
+ghost use Rattle.std.specs.Prelude.{IsSome, Some};
+ghost use Rattle.lab_turn.specs.History.{TurnstileState, FreshFrom};
+ghost use Rattle.lab_turn.specs.Turns.{ReclaimsPasses, IsIdle, maker_at};
+ghost use Rattle.lab_turn.specs.Uses.{OpensTurnstile, TakesTurn, ClosesTurnstile};
 
 use crate::fault::TurnFault;
 use crate::journaled::Journaled;
@@ -18,18 +19,18 @@ use std::snapshot::Snapshot;
 use std::sync::{Mutex, Wait};
 use thiserror::Error;
 
-/// Why a turnstile is not opened.
+/// Why a turnstile wasn't opened.
 #[derive(Debug, Drop, Error)]
 pub enum OpenFault<J> {
-    /// The value comes back.
+    /// Returns the value.
     #[error("out of memory")]
     OutOfMemory(J),
 }
 
-/// Why a turnstile is not closed.
+/// Why a turnstile wasn't closed.
 #[derive(Debug, Drop, Error)]
 pub enum CloseFault<J: Journaled> {
-    /// All that was handed in comes back.
+    /// Returns the turnstile and its passes.
     #[error("a pass of the turnstile is missing")]
     MissingPass {
         turnstile: Turnstile<J>,
@@ -37,15 +38,15 @@ pub enum CloseFault<J: Journaled> {
     },
 }
 
-/// A journaled value that the holders of its passes take turns on, from any thread.
+/// A journaled value on which threads make calls in turns, each thread with a pass.
 ///
 /// Contracts see which turnstile it is, its number of seats, and the limit of its value's journal.
 #[derive(Drop)]
 pub struct Turnstile<J: Journaled> {
     table: Table<Option<J>, View<J::Call>, Opening<J>, Turns<J>, Global>,
     seats: u32,
-    // Tickets are served in order, so one waiter that isn't running would hold up all that spin behind
-    // it. Here those that wait for their turn sleep.
+    // Tickets are served in order, so a waiting thread that isn't running would hold up all that spin behind
+    // it. With this lock, those that wait for their turn sleep.
     door: Mutex<()>,
 }
 
@@ -75,12 +76,12 @@ impl<J: Journaled> fmt::Debug for Turnstile<J> {
     }
 }
 
-type Made<J> = (
+type NewTable<J> = (
     Table<Option<J>, View<<J as Journaled>::Call>, Opening<J>, Turns<J>, Global>,
     Token<J>,
 );
 
-// The slots of the table: the value's alone. Without memory the value comes back.
+// The slots of the table, of which the value has the only one. Returns the value if memory runs out.
 fn slots_over<J>(alloc: Global, value: J) -> Result<Vec<Option<J>>, J>
     ensures ok { IfOk result (λ slots. slots.items ≡ Some value ∷ []) }
     ensures err { IfErr result (λ v. v ≡ value) }
@@ -93,7 +94,7 @@ fn slots_over<J>(alloc: Global, value: J) -> Result<Vec<Option<J>>, J>
     Ok(slots)
 }
 
-// The value that lies in the one slot.
+// The value in the only slot.
 fn value_in<J>(mut slots: Vec<Option<J>>) -> J
     requires { (length slots.items ≡ 1) × All IsSome slots.items }
     ensures { slots.items ≡ Some result ∷ [] }
@@ -107,7 +108,7 @@ fn value_in<J>(mut slots: Vec<Option<J>>) -> J
 }
 
 // The table over the value, and the token of its first seat.
-fn table_over<J: Journaled>(alloc: Global, value: J, seats: u32) -> Result<Made<J>, J>
+fn table_over<J: Journaled>(alloc: Global, value: J, seats: u32) -> Result<NewTable<J>, J>
     requires seats { 0 < seats }
     requires fresh { J.entries value ≡ [] }
     ensures shape { IfOk result (λ t.
@@ -129,8 +130,8 @@ fn table_over<J: Journaled>(alloc: Global, value: J, seats: u32) -> Result<Made<
     }
 }
 
-// Makes the passes from seat 1 on.
-fn deal<J: Journaled>(
+// Makes the passes of all seats from 1 on.
+fn issue_passes<J: Journaled>(
     table: &TurnTable<J>,
     token: &mut Token<J>,
     seats: u32,
@@ -158,13 +159,17 @@ fn deal<J: Journaled>(
     }
 }
 
-// One token takes in the passes.
-fn gather<J: Journaled>(table: &TurnTable<J>, token: &mut Token<J>, mut passes: Vec<Pass<J>>)
+// Joins the passes to one token.
+fn reclaim_passes<J: Journaled>(
+    table: &TurnTable<J>,
+    token: &mut Token<J>,
+    mut passes: Vec<Pass<J>>,
+)
     requires table { (token.old.table_id ≡ table.now.table_id) × (table.now.table_id.words ≡ 2) }
     requires idle { IsIdle token.old.me }
     requires passes { All (λ p. p.turnstile.table ≡ table.now.table_id) passes.items }
     ensures token { (token.new.table_id ≡ token.old.table_id) × (token.new.me.1 ≡ []) }
-    ensures all { Gathered passes.items [] token.old.me.0 token.new.me.0 }
+    ensures all { ReclaimsPasses passes.items [] token.old.me.0 token.new.me.0 }
 {
     while let Some(pass) = passes.pop() {
         table.join_seat::<OnePass>(token, pass.into_token());
@@ -173,8 +178,8 @@ fn gather<J: Journaled>(table: &TurnTable<J>, token: &mut Token<J>, mut passes: 
 }
 
 impl<J: Journaled> Turnstile<J> {
-    /// Opens a turnstile over a value with no entries, with 1 to 1,024 seats. The pass at index k
-    /// has seat k, has seen the empty history, and has no call in it.
+    /// Opens a turnstile over a value with no entries, with 1 to 1,024 seats. The pass at index k has seat k,
+    /// and neither it nor any other has made a call.
     pub fn open(
         alloc: Global,
         value: J,
@@ -182,19 +187,14 @@ impl<J: Journaled> Turnstile<J> {
     ) -> Result<(Turnstile<J>, Vec<Pass<J>>), OpenFault<J>>
         requires seats { (0 < seats) × (seats ≤ 1024) }
         requires fresh { J.entries value ≡ [] }
-        ensures turnstile { IfOk result (λ t. (t.0.seats ≡ seats) × (t.0.limit ≡ J.limit value)) }
-        ensures count { IfOk result (λ t. length t.1.items ≡ seats) }
-        ensures passes { IfOk result (λ t. FreshFrom 0 t.0 t.1.items) }
-        ensures own { IfOk result (λ t. All (λ p. p.turnstile ≡ t.0) t.1.items) }
-        // There was no memory.
-        ensures err { IfErr result (λ fault. fault ≡ OpenFault.OutOfMemory value) }
+        ensures { OpensTurnstile J.limit value seats result }
     {
         let Ok(mut passes) = Vec::with_capacity(alloc, seats as usize) else {
             return Err(OpenFault::OutOfMemory(value));
         };
         match table_over(alloc, value, seats) {
             Ok((table, mut token)) => {
-                deal(&table.shared, &mut token, seats, &mut passes);
+                issue_passes(&table.shared, &mut token, seats, &mut passes);
                 let Ok(()) = passes.insert(0, Pass { seat: 0, token }) else {
                     unreachable!()
                 };
@@ -205,10 +205,10 @@ impl<J: Journaled> Turnstile<J> {
         }
     }
 
-    /// Waits for its turn, and makes one call on the value.
+    /// Waits for its turn, then makes one call on the value.
     ///
-    /// The reply is the value's own: a refusal by the value, as out of memory, is an `Ok` too,
-    /// and leaves no entry. `Worn` comes only once 2^64 - 1 tickets were drawn, and makes no call.
+    /// The reply is the value's own: if the value refuses the call, as when memory runs out, that is an `Ok`
+    /// too, and adds no entry. `Worn` is returned only once 2^64 - 1 tickets are drawn; then no call is made.
     pub fn turn<R: Wait>(
         &self,
         rt: &R,
@@ -216,10 +216,7 @@ impl<J: Journaled> Turnstile<J> {
         call: J::Call,
     ) -> Result<J::Reply, TurnFault>
         requires { pass.old.turnstile ≡ self.now }
-        ensures same { (pass.new.turnstile ≡ self.now) × (pass.new.seat ≡ pass.old.seat) }
-        ensures ok { IfOk result (λ reply.
-            Turned J.answer J.is_entry J.is_full pass.old call reply pass.new) }
-        ensures worn { OnErr result (pass.new ≡ record pass.old { worn = true }) }
+        ensures { TakesTurn J.answer J.is_entry J.is_full self.now pass.old call result pass.new }
     {
         let inside = self.door.lock(rt);
         take_turn(
@@ -232,15 +229,11 @@ impl<J: Journaled> Turnstile<J> {
         )
     }
 
-    /// Closes the turnstile with all its passes, in any order, and gives the value back. It needs
-    /// no memory. Where a pass is missing, the turnstile stays open and comes back with the passes.
+    /// Closes the turnstile with all its passes, in any order, and returns the value. It allocates nothing.
+    /// If a pass is missing, the turnstile stays open and is returned with the passes.
     pub fn close(self, mut passes: Vec<Pass<J>>) -> Result<J, CloseFault<J>>
         requires { All (λ p. p.turnstile ≡ self) passes.items }
-        ensures history { IfOk result (λ value. IsHistoryOf self passes.items (J.entries value)) }
-        ensures limit { IfOk result (λ value. J.limit value ≡ self.limit) }
-        ensures all { OnOk result (length passes.items ≡ self.seats) }
-        ensures missing { IsErr result ↔ (length passes.items ≢ self.seats) }
-        ensures err { IfErr result (λ fault. fault ≡ CloseFault.MissingPass self passes) }
+        ensures { ClosesTurnstile J.entries J.limit self passes result }
     {
         if passes.len() != self.seats as usize {
             return Err(CloseFault::MissingPass {
@@ -257,7 +250,7 @@ impl<J: Journaled> Turnstile<J> {
             seats: _,
             door: _,
         } = self;
-        gather(&table.shared, &mut token, passes);
+        reclaim_passes(&table.shared, &mut token, passes);
         let mut closed = table.close_with(token);
         let taken = closed.take(VALUE);
         closed.free();

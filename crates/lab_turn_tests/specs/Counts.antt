@@ -1,9 +1,9 @@
--- What a counter answers.
+-- What a counter replies.
 use Rattle.std.specs.Prelude.{ℕ, ◌+◌, Bool, true, false, List, length, Result, Ok, Err}
 use Rattle.lab_turn_tests.specs.declared.CountFault.{CountFault}
 use Rattle.lab_turn_tests.specs.declared.CountFault.TheVariants.{OutOfMemory, Full}
 
--- the seat and the mark of each call that was counted, how many there may be, and the counter's label
+-- the seat and the mark of each call that was counted, the most calls that may be, and the counter's label
 pub record CounterState : Type 0 where
   pub entries : List (ℕ × ℕ)
   pub limit : ℕ

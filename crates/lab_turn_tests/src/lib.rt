@@ -1,8 +1,7 @@
-// A counter that keeps a journal, to test and to time the turnstile with.
-// Each accepted call counts one up, and its reply is the count. A call carries a mark of its caller's
-// own, which the journal keeps with the caller's seat.
-// Out of memory, or at its limit, the counter answers a refusal and stays as it is.
-// The tests run two threads of a thousand turns each.
+// A counter that keeps a journal, with which the turnstile is tested and timed. Each accepted call adds one
+// to the count, which is its reply. A call carries a mark of its caller's choice, which the journal keeps
+// with the caller's seat. If memory runs out, or at its limit, the counter refuses the call and doesn't
+// change. The tests run two threads of a thousand turns each.
 #![tactic(auto)]
 
 ghost use Rattle.std.specs.Prelude.{◌≡◌, [], length};
@@ -49,7 +48,7 @@ impl Model for Counter {
 }
 
 impl Counter {
-    /// A counter that counts to the limit, with label 0.
+    /// A counter with this limit and the label 0.
     pub fn new(alloc: Global, limit: u64) -> Counter
         ensures { result ≡ record { entries = []; limit = limit; label = 0 } }
     {
@@ -60,7 +59,7 @@ impl Counter {
         }
     }
 
-    /// The same with another label.
+    /// The same counter with this label.
     pub fn with_label(self, label: u32) -> Counter
         ensures { result ≡ record { entries = self.entries; limit = self.limit; label = label } }
     {
@@ -73,7 +72,7 @@ impl Counter {
         self.label
     }
 
-    /// How many calls were counted.
+    /// The number of calls that were counted.
     pub fn value(&self) -> u64
         ensures { result ≡ length self.now.entries }
     {

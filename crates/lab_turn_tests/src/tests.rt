@@ -1,4 +1,4 @@
-//! The turnstile at the counter.
+//! The turnstile over a counter.
 ghost use Rattle.std.specs.Prelude.{◌≡◌, IfSome};
 
 use super::*;
@@ -25,7 +25,7 @@ fn open_two(alloc: Global, limit: u64) -> Option<(Turnstile<Counter>, Pass<Count
     Some((desk, first, second))
 }
 
-// Makes a thousand turns with the marks from 0 on, whose replies are ever larger.
+// Takes a thousand turns with the marks from 0 on, whose replies increase.
 fn thousand<R: Wait + Abort>(
     rt: &R,
     desk: &Turnstile<Counter>,
@@ -46,7 +46,7 @@ fn thousand<R: Wait + Abort>(
     pass
 }
 
-// Both passes make a thousand turns, each in a thread of its own.
+// Both passes take a thousand turns, each in a thread of its own.
 fn race<R: Threads + Wait + Abort + Sync>(
     rt: &R,
     desk: &Turnstile<Counter>,
@@ -100,7 +100,7 @@ fn two_threads(rt: HostRuntime) -> Result<(), Fail> {
 
 type Answer = Result<Result<u64, CountFault>, TurnFault>;
 
-// Four turns with the marks 7 to 10, by one pass and the other.
+// Four turns with the marks 7 to 10, by the two passes in turn.
 fn four_turns<R: Wait>(
     rt: &R,
     desk: &Turnstile<Counter>,
@@ -125,7 +125,7 @@ fn expect_text<T: fmt::Display>(rt: &impl Abort, alloc: Global, shown: &T, wante
     assert!(rt; text.as_str() == wanted);
 }
 
-// Closes it without the second pass, which is refused, and then with both.
+// Closes the turnstile without the second pass, which is refused, and then with both.
 fn close_twice(
     rt: &impl Abort,
     alloc: Global,

@@ -12,13 +12,13 @@ use zmtp_wire::messages::Messages;
 use zmtp_wire::role::Role;
 use zmtp_wire::writing::{greeting, put_message, ready};
 
-// A greeting with all that is free filled in, and a DEALER's READY.
+// A greeting in which all free bytes are filled in, and a DEALER's READY.
 pub(crate) const GREETING: &str = "FF00000000000000017F03014E554C4C00000000000000000000000000000000\
     0100000000000000000000000000000000000000000000000000000000000009";
 
 pub(crate) const DEALER: &str = "041C0552454144590B536F636B65742D54797065000000064445414C4552";
 
-// What each side writes first: version 3.0, NULL.
+// The greeting that each side writes: version 3.0, NULL.
 pub(crate) const OUR_GREETING: &str =
     "FF00000000000000007F03004E554C4C00000000000000000000000000000000\
     0000000000000000000000000000000000000000000000000000000000000000";
@@ -73,7 +73,7 @@ fn text_after<'a>(text: &'a [u8], messages: &[Frames]) -> Option<&'a [u8]> {
     Some(text)
 }
 
-// Whether a peer's READY was accepted, and whether it gave an identity.
+// Whether a peer's READY was accepted, and whether it has an identity.
 fn readiness_of(decoder: &Decoder) -> (bool, bool) {
     (decoder.is_ready(), decoder.identity().is_some())
 }
@@ -85,7 +85,7 @@ fn is_out_of_memory(answer: &Result<Messages, FeedFault>) -> bool {
     }
 }
 
-// What a feed gives. Where memory is refused the side has to be as before, and the same piece is fed again.
+// What a feed returns. If memory runs out, the side must be as before, and the same piece is fed again.
 fn answer_of(alloc: Global, decoder: &mut Decoder, piece: &[u8]) -> Result<Messages, FeedFault> {
     let before = readiness_of(decoder);
     let answer = decoder.feed(alloc, piece);
@@ -111,7 +111,8 @@ fn text_and_fault<'a>(
     }
 }
 
-// Feeds a piece that gives the messages at the front of a text. Gives the text that is left, and the fault.
+// Feeds a piece that completes the messages at the front of a text. Returns the text that is left, and the
+// fault.
 fn feed<'a>(
     alloc: Global,
     decoder: &mut Decoder,
@@ -124,8 +125,8 @@ fn feed<'a>(
     told
 }
 
-// Feeds bytes in pieces of this size, which give the messages of this text and no others. Gives how many
-// bytes were fed when the stream broke, and why it did.
+// Feeds bytes in pieces of this size, which complete the messages of this text and no others. Returns how
+// many bytes had been fed when the stream broke, and why it broke.
 fn feed_all(
     alloc: Global,
     decoder: &mut Decoder,
@@ -306,7 +307,7 @@ const TRAFFIC: [Row; 16] = [
     ("04 06 05 52 45 41 44 59 00 01 61", "a,.", None),
 ];
 
-// Sixty-three frames that others follow, and then one more, or the last.
+// Sixty-three frames that more frames follow, and then another such frame, or the last one.
 const FRAME_COUNTS: [Row; 2] = [
     (
         "0100 0100 0100 0100 0100 0100 0100 0100 0100 0100 0100 0100 0100 0100 0100 0100 0100 0100 0100\
@@ -326,7 +327,7 @@ const FRAME_COUNTS: [Row; 2] = [
     ),
 ];
 
-// What a ROUTER has read before, a greeting and a READY, and what comes then.
+// What a ROUTER has read before, a greeting and a READY, and what comes next.
 const STREAMS: [(&str, &str, &[Row]); 4] = [
     ("", "", &GREETINGS),
     (GREETING, "", &HANDSHAKES),
@@ -359,7 +360,7 @@ fn faults_stay(rt: HostRuntime) -> Result<(), Fail> {
     checked
 }
 
-// A peer's READY, whether it is accepted, and the identity that it gives.
+// A peer's READY, whether it is accepted, and its identity.
 const IDENTITIES: [(&str, bool, Option<&[u8]>); 4] = [
     ("", false, None),
     (DEALER, true, None),
@@ -376,7 +377,7 @@ const IDENTITIES: [(&str, bool, Option<&[u8]>); 4] = [
     ),
 ];
 
-// Whether the peer gave this identity, or none.
+// Whether the peer has this identity, or none.
 fn has_identity(decoder: &Decoder, want: Option<&[u8]>) -> bool {
     match (decoder.identity(), want) {
         (Some(identity), Some(want)) => identity.as_slice() == want,
@@ -385,7 +386,7 @@ fn has_identity(decoder: &Decoder, want: Option<&[u8]>) -> bool {
     }
 }
 
-// Whether READY is accepted, and whether it gives this identity, or none.
+// Whether READY is accepted, and whether it has this identity, or none.
 fn readiness_after(alloc: Global, ready: &str, want: Option<&[u8]>) -> Result<(bool, bool), Fail> {
     let decoder = router_after(alloc, GREETING, ready)?;
     let known = (decoder.is_ready(), has_identity(&decoder, want));
@@ -540,7 +541,7 @@ fn pieces(rt: HostRuntime) -> Result<(), Fail> {
     Ok(())
 }
 
-// Feeds a handshake and a message in two parts. Gives whether READY was accepted in the first.
+// Feeds a handshake and a message in two parts. Returns whether READY was accepted in the first.
 fn feed_two(alloc: Global, decoder: &mut Decoder, front: &[u8], back: &[u8]) -> Result<bool, Fail> {
     let (text, fault) = feed(alloc, decoder, front, ",hello,.".as_bytes())?;
     let is_ready = decoder.is_ready();
@@ -615,8 +616,8 @@ const CONVERSATION: &[u8] =
     \x04\x2B\x05READY\x0BSocket-Type\0\0\0\x06DEALER\x08Identity\0\0\0\x02me\
     \x01\x01a\0\x02hi\0\0\x01\0\x01\x05hello\0\x01!\x08";
 
-// Feeds the conversation in pieces of this size. Gives where and why the stream broke, whether the peer's
-// READY was accepted, and whether it gave its identity.
+// Feeds the conversation in pieces of this size. Returns where and why the stream broke, whether the peer's
+// READY was accepted, and whether it has its identity.
 fn feed_conversation(
     alloc: Global,
     decoder: &mut Decoder,
@@ -631,7 +632,7 @@ fn feed_conversation(
     ))
 }
 
-// Nothing here but the feeds takes memory, and with an allocation refused the answer is the same.
+// Only the feeds here allocate, and if an allocation fails, the result is the same.
 fn converse(rt: &impl Abort, alloc: Global, size: usize) -> Result<(), Fail> {
     let mut decoder = Decoder::new(alloc, Role::Router);
     let found = feed_conversation(alloc, &mut decoder, size);

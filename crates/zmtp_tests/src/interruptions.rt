@@ -1,5 +1,5 @@
-//! Handshakes and heartbeats whose reads and writes move a byte each and are all interrupted once: they go as
-//! if none were, and a failure behind an interruption is one.
+//! Handshakes and heartbeats whose reads and writes move one byte each and are all interrupted once: they go
+//! as if none were interrupted, and a failure after an interruption is still a failure.
 
 use crate::framing::{DEALER, GREETING, OUR_GREETING, bytes_of};
 use crate::peers::{PING, REP, REQ, ROUTER};
@@ -15,7 +15,7 @@ use zmtp_wire::heartbeat::heartbeat;
 use zmtp_wire::peer_fault::PeerFault;
 use zmtp_wire::role::Role;
 
-// A writer that takes one byte at a time, is interrupted before each, and fails once it has so many.
+// A writer that takes one byte at a time, is interrupted before each, and fails once it has this many.
 #[derive(Drop)]
 struct Interrupted {
     bytes: Vec<u8>,
@@ -46,7 +46,7 @@ impl Write for Interrupted {
     }
 }
 
-// What is talked: a side's handshake alone, or a heartbeat.
+// What the conversation is: a handshake alone, or a heartbeat.
 #[derive(Clone, Copy)]
 enum Talk {
     Handshake,
@@ -82,7 +82,7 @@ fn bytes_wanted(alloc: Global, talk: Talk) -> Result<Vec<u8>, Fail> {
     }
 }
 
-// How a talk ends over these bytes, and what it has written.
+// How a conversation ends over these bytes, and what it has written.
 fn talk_over(
     alloc: Global,
     talk: Talk,

@@ -1,7 +1,7 @@
-// What no clause of zmtp_wire says: that a stream gives its messages if there is memory, in one piece and cut
-// anywhere; that feeding goes on after an allocation failed as if nothing had been; that a handshake writes its
-// greeting before it reads; and that readers and writers which move a byte a call, or fail at any call, end as
-// they should. Nothing is here but tests.
+// Tests of what no clause of zmtp_wire says: that a stream gives its messages if there is memory, in one
+// piece and cut anywhere; that feeding goes on after a failed allocation as if nothing had happened; that a
+// handshake writes its greeting before it reads; and how it and the heartbeat end where a reader or a writer
+// moves one byte a call, or fails at any call.
 #![tactic(auto)]
 
 #[cfg(test)]

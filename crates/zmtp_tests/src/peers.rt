@@ -14,7 +14,7 @@ use zmtp_wire::role::Role;
 
 pub(crate) const REQ: &str = "04190552454144590B536F636B65742D5479706500000003524551";
 
-// What each side writes behind its greeting: the READY of its role.
+// What each side writes after its greeting: the READY of its role.
 pub(crate) const ROUTER: &str = "041C0552454144590B536F636B65742D5479706500000006524F55544552";
 
 pub(crate) const REP: &str = "04190552454144590B536F636B65742D5479706500000003524550";
@@ -62,7 +62,7 @@ fn fault_of(answer: Result<Peer, PeerFault>) -> Option<PeerFault> {
     fault
 }
 
-// What a ROUTER's handshake answers, and what it has written: how many bytes, which are those expected.
+// What a ROUTER's handshake returns, and how many bytes it has written, which are those expected.
 fn router_answer(
     alloc: Global,
     given: &[u8],
@@ -76,7 +76,7 @@ fn router_answer(
     Ok((fault_of(answer), length?))
 }
 
-// That of a ROUTER which reads a greeting and a READY.
+// The same for a ROUTER that reads a greeting and a READY.
 fn answer_to(alloc: Global, ready: &str, pace: Pace) -> Result<(Option<PeerFault>, usize), Fail> {
     let given = bytes_of(alloc, GREETING, ready, "")?;
     router_answer(alloc, given.as_slice(), pace)
@@ -125,7 +125,7 @@ fn handshakes(rt: HostRuntime) -> Result<(), Fail> {
     Ok(())
 }
 
-// What a heartbeat answers, and how many bytes it has written of those expected.
+// What a heartbeat returns, and how many bytes it has written of those expected.
 fn beat_answer(
     alloc: Global,
     given: &[u8],
@@ -140,7 +140,7 @@ fn beat_answer(
     Ok((fault, length?))
 }
 
-// That of one which reads a greeting, a READY and this.
+// The same for one that reads a greeting, a READY and this.
 fn beat(
     alloc: Global,
     traffic: &str,

@@ -7,7 +7,8 @@ use Rattle.std.proofs.lemmas.Slice.Eq.{bytes_eq-Decides}
 use Rattle.std.proofs.lemmas.Bool.Decides.{nat_tests}
 use Rattle.std.proofs.Math.Seq.{drop-append_seam, take-append_seam}
 use Rattle.zmtp_wire.specs.Framing.{number_from}
-use Rattle.zmtp_wire.specs.Commands.{IsNamed, IsProperty, IsProperties, Ends, Next, Property, property}
+use Rattle.zmtp_wire.specs.Commands.{IsNamed, IsProperty, IsProperties, NoProperty, NextProperty, Property}
+use Rattle.zmtp_wire.specs.Commands.{property}
 use Rattle.zmtp_wire.specs.Commands.{IsReady, value_of, first_value, Finds, IsSkipped}
 
 -- where the fronts are equally long, both parts are the same
@@ -83,8 +84,9 @@ first_value_next wanted None p others =
 
 others_of : (rest name value others : List ℕ) (all : List Property) → IsProperty rest name value others
     → IsProperties rest all → (o : List Property) × IsProperties others o
-others_of _ name value others _ p (Ends rest e) = absurd (let k = e in let n = sym e ∙ p.named.spelled in cc)
-others_of _ name value others _ p (Next rest name' value' others' properties p' are) =
+others_of _ name value others _ p (NoProperty rest e) =
+    absurd (let k = e in let n = sym e ∙ p.named.spelled in cc)
+others_of _ name value others _ p (NextProperty rest name' value' others' properties p' are) =
     let s = same_property rest name name' value value' others others' p p' in
     (properties, rw s.others_are are)
 
@@ -94,7 +96,7 @@ pub passed_next : (bytes rest name value others : List ℕ)
     (value_of (codes "Socket-Type") (property name value ∷ [])) → identity' ≡ first_value identity
     (value_of (codes "Identity") (property name value ∷ [])) → Passed bytes others socket_type' identity'
 passed_next bytes rest name value others socket_type identity socket_type' identity' passed p s i = record {
-  on = λ o are. (let f = passed.on (property name value ∷ o) (Next rest name value others o p are) in
+  on = λ o are. (let f = passed.on (property name value ∷ o) (NextProperty rest name value others o p are) in
       let a : first_value socket_type' (value_of (codes "Socket-Type") o) ≡ first_value socket_type
       (value_of (codes "Socket-Type") (property name value ∷ o)) =
       ap (λ x. first_value x (value_of (codes "Socket-Type") o)) s
@@ -119,7 +121,7 @@ first_value_none None = refl
 pub passed_all : (bytes rest : List ℕ) (socket_type identity : Option (List ℕ))
     → Passed bytes rest socket_type identity → rest ≡ [] → Finds bytes socket_type identity
 passed_all bytes rest socket_type identity passed e =
-    let f = passed.on [] (Ends rest e) in
+    let f = passed.on [] (NoProperty rest e) in
     record {
       properties = f.properties;
       are = f.are;
@@ -129,8 +131,8 @@ passed_all bytes rest socket_type identity passed e =
 
 none_there : (rest : List ℕ) (all : List Property) → (rest ≡ [] → ⊥) → ((name value others : List ℕ)
     → IsProperty rest name value others → ⊥) → IsProperties rest all → ⊥
-none_there _ _ some none (Ends rest e) = some e
-none_there _ _ some none (Next rest name value others properties p are) = none name value others p
+none_there _ _ some none (NoProperty rest e) = some e
+none_there _ _ some none (NextProperty rest name value others properties p are) = none name value others p
 
 pub passed_fault : (bytes rest : List ℕ) (socket_type identity : Option (List ℕ))
     → Passed bytes rest socket_type identity → (rest ≡ [] → ⊥) → ((name value others : List ℕ)

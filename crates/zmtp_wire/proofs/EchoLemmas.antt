@@ -12,7 +12,8 @@ use Rattle.base_streams.specs.States.{InletState, OutletState, IsReadable}
 use Rattle.base_streams.specs.Told.{Told, ToldFront, Gave, Took, TookFront, WasRead}
 use Rattle.base_streams.proofs.TellLemmas.{told_on, counts_on, counts_none}
 use Rattle.zmtp_wire.specs.declared.peer_fault.PeerFault.{PeerFault}
-use Rattle.zmtp_wire.specs.declared.peer_fault.PeerFault.TheVariants.{OutOfMemory, ReadFailed, WriteFailed, Wire}
+use Rattle.zmtp_wire.specs.declared.peer_fault.PeerFault.TheVariants.{OutOfMemory, ReadFailed, WriteFailed}
+use Rattle.zmtp_wire.specs.declared.peer_fault.PeerFault.TheVariants.{Wire}
 use Rattle.zmtp_wire.specs.Ends.{Ends, EndsReading, Explains, FailsBy, NoPeer, Stops, Refuses, Blames}
 use Rattle.zmtp_wire.specs.Receiving.{Received, most_reads}
 use Rattle.zmtp_wire.specs.declared.handshake.Peer.{Peer}

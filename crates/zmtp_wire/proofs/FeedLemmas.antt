@@ -9,7 +9,7 @@ use Rattle.zmtp_wire.specs.declared.role.Role.{Role}
 use Rattle.zmtp_wire.specs.declared.progress.Progress.{Progress}
 use Rattle.zmtp_wire.specs.Framing.{IsAllowed}
 use Rattle.zmtp_wire.specs.Stream.{Got, opening, Step, Greets as Greeted, Readies, Skips}
-use Rattle.zmtp_wire.specs.Stream.{Takes as TakesFrame, Reads, Stays, Fault, InGreeting, InFlag, InSize}
+use Rattle.zmtp_wire.specs.Stream.{TakesFrame, Reads, Stays, Fault, InGreeting, InFlag, InSize}
 use Rattle.zmtp_wire.specs.Stream.{InCommand, IsPartial, DecoderState, got_by, EndsIn, StandsFor, Completes}
 use Rattle.zmtp_wire.specs.Progress.{got_in, identity_from, WhateverBefore, EndsAt}
 use Rattle.zmtp_wire.proofs.ReadingLemmas.{reads_preceded, reads_more, reads_cut, fault_more}

@@ -13,7 +13,7 @@ use Rattle.zmtp_wire.specs.declared.role.Role.{Role}
 use Rattle.zmtp_wire.specs.Framing.{IsAllowed}
 use Rattle.zmtp_wire.specs.Commands.{IsSkipped, IsRefused, NotSkipped}
 use Rattle.zmtp_wire.specs.Stream.{Got, with_frame, Step, Greets as Greeted, Readies, Skips}
-use Rattle.zmtp_wire.specs.Stream.{Takes as TakesFrame, Reads, Stays, Goes, Fault, InCommand}
+use Rattle.zmtp_wire.specs.Stream.{TakesFrame, Reads, Stays, Goes, Fault, InCommand}
 use Rattle.zmtp_wire.specs.Progress.{Effect, Accept, Skip, Take, KeepsFirst}
 use Rattle.zmtp_wire.proofs.FramingLemmas.{Next}
 use Rattle.zmtp_wire.proofs.StreamLemmas.{Opened}

@@ -7,7 +7,8 @@ use Rattle.zmtp_wire.specs.declared.head.Position.{Position}
 use Rattle.zmtp_wire.specs.declared.head.Position.TheVariants.{More, Last}
 use Rattle.zmtp_wire.specs.declared.role.Role.{Role}
 use Rattle.zmtp_wire.specs.Framing.{refusal}
-use Rattle.zmtp_wire.specs.Stream.{Got, with_frame, Step, Greets, Readies, Skips, Takes, Reads, Stays, Goes}
+use Rattle.zmtp_wire.specs.Stream.{Got, with_frame, Step, Greets, Readies, Skips, TakesFrame, Reads, Stays}
+use Rattle.zmtp_wire.specs.Stream.{Goes}
 use Rattle.zmtp_wire.specs.Stream.{DecoderState, StandsFor, got_by, opening}
 
 frame_stage : (g : Got) (position : Position) (body : List ℕ) → (with_frame g position body).stage ≡ g.stage
@@ -19,7 +20,7 @@ step_stays : (role : Role) (g h : Got) (raw : List ℕ) → Step role g raw h �
 step_stays role g h raw (Greets g1 h1 raw1 s is e) t = absurd cc
 step_stays role g h raw (Readies g1 h1 raw1 body i s a is e) t = ap (λ (x : Got). x.stage) e
 step_stays role g h raw (Skips g1 h1 raw1 body s a is e) t = ap (λ (x : Got). x.stage) e ∙ t
-step_stays role g h raw (Takes g1 h1 raw1 body position a e) t =
+step_stays role g h raw (TakesFrame g1 h1 raw1 body position a e) t =
     ap (λ (x : Got). x.stage) e ∙ frame_stage g position body ∙ t
 
 reads_stays : (role : Role) (g i : Got) (bytes rest : List ℕ) → Reads role g bytes i rest → g.stage ≡ Traffic
@@ -39,7 +40,7 @@ step_quiet : (role : Role) (g h : Got) (raw : List ℕ) → Step role g raw h �
 step_quiet role g h raw (Greets g1 h1 raw1 s is e) n m = ap (λ (x : Got). x.messages) e ∙ m
 step_quiet role g h raw (Readies g1 h1 raw1 body i s a is e) n m = ap (λ (x : Got). x.messages) e ∙ m
 step_quiet role g h raw (Skips g1 h1 raw1 body s a is e) n m = ap (λ (x : Got). x.messages) e ∙ m
-step_quiet role g h raw (Takes g1 h1 raw1 body position a e) n m =
+step_quiet role g h raw (TakesFrame g1 h1 raw1 body position a e) n m =
     absurd (n (ap (λ (x : Got). x.stage) e ∙ frame_stage g position body
     ∙ refused g.stage (length g.frames) position a.here))
 

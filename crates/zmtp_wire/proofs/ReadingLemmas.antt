@@ -15,8 +15,9 @@ use Rattle.zmtp_wire.specs.Greeting.{first_broken}
 use Rattle.zmtp_wire.specs.Framing.{least_number, broken_by_kind, broken_by_flag, kind_of}
 use Rattle.zmtp_wire.specs.Commands.{IsRefused}
 use Rattle.zmtp_wire.specs.Head.{head_of, greeting_head}
-use Rattle.zmtp_wire.specs.Stream.{Got, with_frame, Step, Greets as Greeted, Readies, Skips, Takes, Reads}
-use Rattle.zmtp_wire.specs.Stream.{Stays, Goes, Fault, InGreeting, InFlag, InSize, InCommand, IsPartial}
+use Rattle.zmtp_wire.specs.Stream.{Got, with_frame, Step, Greets as Greeted, Readies, Skips, TakesFrame}
+use Rattle.zmtp_wire.specs.Stream.{Reads, Stays, Goes, Fault, InGreeting, InFlag, InSize, InCommand}
+use Rattle.zmtp_wire.specs.Stream.{IsPartial}
 use Rattle.zmtp_wire.specs.Progress.{Effect, Accept, Skip, Take}
 use Rattle.zmtp_wire.proofs.FramingLemmas.{head_past, Front, front_of, same_front, flag_bad, size_bad}
 use Rattle.zmtp_wire.proofs.FramingLemmas.{HeadFault, BadFlag, BadSize, fault_of}
@@ -77,7 +78,7 @@ shape role _ _ bytes _ others (Skips g h raw body s a k e) is =
       front = front_of g.stage (length g.frames) bytes raw others body Command a is;
       effect = Skip h body s k e;
     })
-shape role _ _ bytes _ others (Takes g h raw body position a e) is =
+shape role _ _ bytes _ others (TakesFrame g h raw body position a e) is =
     inr (record {
       kind = Message position;
       body = body;
@@ -270,8 +271,8 @@ step_preceded role ms _ _ _ (Readies g h raw body identity s a k e) =
     Readies (preceded ms g) (preceded ms h) raw body identity s a k (ap (preceded ms) e)
 step_preceded role ms _ _ _ (Skips g h raw body s a k e) =
     Skips (preceded ms g) (preceded ms h) raw body s a k (ap (preceded ms) e)
-step_preceded role ms _ _ _ (Takes g h raw body position a e) =
-    Takes (preceded ms g) (preceded ms h) raw body position a (ap (preceded ms) e
+step_preceded role ms _ _ _ (TakesFrame g h raw body position a e) =
+    TakesFrame (preceded ms g) (preceded ms h) raw body position a (ap (preceded ms) e
     ∙ sym (with_frame-preceded ms g position body))
 
 pub reads_preceded : (role : Role) (ms : List (List (List ℕ))) (g h : Got) (a r : List ℕ) → Reads role g a h r

@@ -9,7 +9,8 @@ use Rattle.zmtp_wire.specs.declared.head.Stage.TheVariants.{Greeting, Handshake,
 use Rattle.zmtp_wire.specs.declared.head.Head.TheVariants.{Wants, Greets}
 use Rattle.zmtp_wire.specs.declared.role.Role.{Role}
 use Rattle.zmtp_wire.specs.Greeting.{broken_by, first_broken, or_else, IsGreeting}
-use Rattle.zmtp_wire.specs.Commands.{Property, IsProperties, Ends, Next, IsReady, IsAccepted, IsSkipped}
+use Rattle.zmtp_wire.specs.Commands.{Property, IsProperties, NoProperty, NextProperty, IsReady, IsAccepted}
+use Rattle.zmtp_wire.specs.Commands.{IsSkipped}
 use Rattle.zmtp_wire.specs.Commands.{IsRefused, NoReady, Unfit, NotSkipped, value_of}
 use Rattle.zmtp_wire.specs.Head.{head_of, greeting_head}
 use Rattle.zmtp_wire.proofs.CommandLemmas.{same_property, same_named}
@@ -94,13 +95,13 @@ opened Traffic count n bytes is e = absurd (no_greeting Traffic count bytes e)
 -- COMMANDS
 
 same_properties : (bytes : List ℕ) (p q : List Property) → IsProperties bytes p → IsProperties bytes q → p ≡ q
-same_properties _ _ _ (Ends bytes e) (Ends _ f) = refl
-same_properties _ _ _ (Ends bytes e) (Next _ name value others properties p are) =
+same_properties _ _ _ (NoProperty bytes e) (NoProperty _ f) = refl
+same_properties _ _ _ (NoProperty bytes e) (NextProperty _ name value others properties p are) =
     absurd (let k = sym e ∙ p.named.spelled in cc)
-same_properties _ _ _ (Next bytes name value others properties p are) (Ends _ e) =
+same_properties _ _ _ (NextProperty bytes name value others properties p are) (NoProperty _ e) =
     absurd (let k = sym e ∙ p.named.spelled in cc)
-same_properties _ _ _ (Next bytes name value others properties p are)
-    (Next _ name' value' others' properties' p' are') =
+same_properties _ _ _ (NextProperty bytes name value others properties p are)
+    (NextProperty _ name' value' others' properties' p' are') =
     let s = same_property bytes name name' value value' others others' p p' in
     let k = same_properties others properties properties' are (rw s.others_are are') in
     let a = s.name_is in

@@ -12,9 +12,9 @@ use Rattle.zmtp_wire.specs.declared.head.Position.TheVariants.{More, Last}
 use Rattle.zmtp_wire.specs.declared.role.Role.{Role}
 use Rattle.zmtp_wire.specs.Greeting.{IsGreeting, broken_by}
 use Rattle.zmtp_wire.specs.Framing.{number_from, refusal, IsSize, IsFrame, IsAllowed}
-use Rattle.zmtp_wire.specs.Commands.{Ends, Next}
+use Rattle.zmtp_wire.specs.Commands.{NoProperty, NextProperty}
 use Rattle.zmtp_wire.specs.Roles.{socket_name}
-use Rattle.zmtp_wire.specs.Stream.{Got, with_frame, Takes, Reads, Stays, Goes}
+use Rattle.zmtp_wire.specs.Stream.{Got, with_frame, TakesFrame, Reads, Stays, Goes}
 use Rattle.zmtp_wire.specs.Writing.{written_greeting, IsReadyOf, frame_bytes, message_bytes, IsReadAs}
 
 pub greeting_is : IsGreeting written_greeting
@@ -45,7 +45,7 @@ ready_is role h = record {
   ready = record {
     others = 11 ∷ codes "Socket-Type" ++ 0 ∷ 0 ∷ 0 ∷ length (socket_name role) ∷ socket_name role;
     named = record { some = omega arith; spelled = refl };
-    properties_are = Next _ (codes "Socket-Type") (socket_name role) [] []
+    properties_are = NextProperty _ (codes "Socket-Type") (socket_name role) [] []
         (record {
           digits = 0 ∷ 0 ∷ 0 ∷ length (socket_name role) ∷ [];
           named = record {
@@ -56,7 +56,7 @@ ready_is role h = record {
           four = refl;
           size = omega arith;
         })
-        (Ends [] refl);
+        (NoProperty [] refl);
   };
 }
 
@@ -97,7 +97,8 @@ pub message_reads : (role : Role) (g : Got) (frames : List (List ℕ)) → g.sta
 message_reads role g [] s some few small = absurd (omega arith)
 message_reads role g (body ∷ []) s some few small =
     let allowed = allowed_more g Last body s (λ k. absurd (cc)) (small 0 [] (omega arith)) in
-    Goes g _ _ _ (frame_bytes Last body) [] [] (Takes g _ (frame_bytes Last body) body Last allowed refl) refl
+    Goes g _ _ _ (frame_bytes Last body) [] []
+    (TakesFrame g _ (frame_bytes Last body) body Last allowed refl) refl
     (Stays (with_frame g Last body) [])
 message_reads role g (body ∷ next ∷ frames) s some few small =
     let now = with_frame g More body in
@@ -110,7 +111,7 @@ message_reads role g (body ∷ next ∷ frames) s some few small =
     let others = message_reads role now (next ∷ frames) s (omega arith) k
     (λ i d lt. small (suc i) d (omega arith)) in
     Goes g now _ _ (frame_bytes More body) (message_bytes (next ∷ frames)) []
-    (Takes g now (frame_bytes More body) body More allowed refl) refl (rw (← e) others)
+    (TakesFrame g now (frame_bytes More body) body More allowed refl) refl (rw (← e) others)
 
 pub read_back : (bytes : List ℕ) (frames : List (List ℕ)) → 0 < length frames → bytes ≡ message_bytes frames
     → IsReadAs bytes frames

@@ -9,7 +9,7 @@ use Rattle.zmtp_wire.specs.declared.peer_fault.PeerFault.TheVariants.{ReadFailed
 use Rattle.zmtp_wire.specs.Ends.{Explains, EndsReading}
 use Rattle.zmtp_wire.specs.Sending.{messages_bytes}
 
--- a conversation: its reader, the side that receives what that gives, and its writer
+-- a conversation: its reader, the side that receives what it gives, and its writer
 pub record Conversation : Type 0 where
   pub inlet : InletState
   pub decoder : DecoderState
@@ -29,8 +29,8 @@ pub record EchoedRound (old new : Conversation) : Type 0 where
   pub was_read : WasRead old.inlet new.inlet 1
   pub echoed : EchoedPiece piece old.decoder new.decoder old.outlet new.outlet
 
--- the fault ended a round: so far the side received the piece, and a front of what that completes was
--- written, all of it where the fault came from reading
+-- the fault ended a round: the side received a front of the piece, and a front of the messages that it
+-- completes was written, all of them if the fault came from reading
 pub record LostPiece (piece : Bytes) (old new : Conversation) (fault : PeerFault) : Type 0 where
   pub received : Bytes
   pub unreceived : Bytes

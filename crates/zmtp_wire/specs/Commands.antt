@@ -34,8 +34,9 @@ property name value = record { name = name; value = value }
 
 -- nothing but properties
 pub data IsProperties : Bytes → List Property → Type 0 where
-  Ends : (bytes : Bytes) → bytes ≡ [] → IsProperties bytes []
-  Next : (bytes name value others : Bytes) (properties : List Property) → IsProperty bytes name value others
+  NoProperty : (bytes : Bytes) → bytes ≡ [] → IsProperties bytes []
+  NextProperty : (bytes name value others : Bytes) (properties : List Property)
+      → IsProperty bytes name value others
       → IsProperties others properties → IsProperties bytes (property name value ∷ properties)
 
 -- the value of the first property of this name; upper and lower case of ASCII are one
@@ -44,12 +45,12 @@ value_of name [] = None
 value_of name (p ∷ properties) =
     if str_eq_ignore_ascii_case p.name name then (Some p.value) else value_of name properties
 
--- the value that was found before, else the one that is found next
+-- the value that was found before, else the next
 abbrev pub first_value : Option Bytes → Option Bytes → Option Bytes
 first_value (Some value) next = Some value
 first_value None next = next
 
--- nothing but properties, with these values of the two that count
+-- nothing but properties, with these values of the two that are used
 pub record Finds (bytes : Bytes) (socket_type identity : Option Bytes) : Type 0 where
   pub properties : List Property
   pub are : IsProperties bytes properties
@@ -62,20 +63,20 @@ pub record IsReady (body : Bytes) (properties : List Property) : Type 0 where
   pub named : IsNamed body (codes "READY") others
   pub properties_are : IsProperties others properties
 
--- the peer's socket type is there and fits
+-- the socket type is present and fits the role
 pub record Fits (role : Role) (properties : List Property) : Type 0 where
   pub socket_type : Bytes
   pub given : value_of (codes "Socket-Type") properties ≡ Some socket_type
   pub fits : accepts role socket_type ≡ true
 
--- a READY that is accepted, and the identity that it gives
+-- a READY that is accepted, and its identity
 pub record IsAccepted (role : Role) (body : Bytes) (identity : Option Bytes) : Type 0 where
   pub properties : List Property
   pub ready : IsReady body properties
   pub fits : Fits role properties
   pub identity_is : identity ≡ value_of (codes "Identity") properties
 
--- a command after READY that is passed over: its name can be read and isn't ERROR
+-- a command after READY that is skipped: its name can be read and isn't ERROR
 pub record IsSkipped (body : Bytes) : Type 0 where
   pub name : Bytes
   pub others : Bytes
@@ -88,8 +89,8 @@ pub record IsUnfit (role : Role) (body : Bytes) : Type 0 where
   pub ready : IsReady body properties
   pub unfit : Fits role properties → ⊥
 
--- why the content of a command is refused: as the first, it must be a READY with a socket type that fits;
--- later it must be one that is passed over
+-- why the content of a command is refused: the first command must be a READY with a socket type that fits,
+-- and each later one must be skipped
 pub data IsRefused (role : Role) (stage : Stage) (body : Bytes) (c : StreamFault) : Type 0 where
   NoReady : stage ≡ Handshake → c ≡ fault.Command
       → ((properties : List Property) → IsReady body properties → ⊥) → IsRefused role stage body c

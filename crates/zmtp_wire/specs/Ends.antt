@@ -12,7 +12,7 @@ use Rattle.zmtp_wire.specs.declared.peer_fault.PeerFault.{PeerFault}
 use Rattle.zmtp_wire.specs.declared.peer_fault.PeerFault.TheVariants.{OutOfMemory, PeerEnded, ReadFailed}
 use Rattle.zmtp_wire.specs.declared.peer_fault.PeerFault.TheVariants.{WriteFailed, Wire}
 
--- what each fault says of the reader and of the writer
+-- what each fault says about the reader and the writer
 abbrev pub Blames : PeerFault → InletState → OutletState → Type 0
 Blames OutOfMemory inlet outlet = IsReadable inlet × IsWritable outlet
 Blames PeerEnded inlet outlet = (inlet.ended ≡ true) × (inlet.failed ≡ false) × IsWritable outlet
@@ -20,20 +20,20 @@ Blames ReadFailed inlet outlet = (inlet.ended ≡ false) × IsWritable outlet
 Blames WriteFailed inlet outlet = IsReadable inlet × (outlet.failed ≡ true)
 Blames (Wire cause) inlet outlet = IsReadable inlet × IsWritable outlet
 
--- what each fault says of the stream: only where memory was wanting is something unreceived, and a broken
--- stream is broken with the fault's cause
+-- what each fault says about the stream: some of it is unreceived only if memory ran out, and a broken stream
+-- is broken with the fault's cause
 abbrev pub Explains : PeerFault → DecoderState → Bytes → Type 0
 Explains OutOfMemory decoder unreceived = Unit {0}
 Explains (Wire cause) decoder unreceived = (unreceived ≡ []) × (decoder.fault ≡ Some cause)
 Explains _ decoder unreceived = unreceived ≡ []
 
--- a failed read is the reader's failure, or the end of the reads
+-- a failed read means that the reader failed, or that the last read was made
 abbrev pub FailsBy : PeerFault → InletState → ℕ → Type 0
 FailsBy ReadFailed inlet reads = (inlet.failed ≡ true) ⊎ (reads ≡ most_reads)
 FailsBy _ inlet reads = Unit {0}
 
--- what the reader gave in so many reads, as far as a decoder of this role received it, with these messages
--- in it
+-- the reader gave bytes in so many reads; a decoder of this role received a front of them, with these
+-- messages in it; and the fault says why not more
 pub record Ends (role : Role) (old new : InletState) (fault : PeerFault) (decoder : DecoderState)
     (messages : Messages) : Type 0 where
   pub received : Bytes
@@ -59,7 +59,7 @@ Stops PeerEnded inlet = (inlet.ended ≡ true) × (inlet.failed ≡ false)
 Stops ReadFailed inlet = (inlet.ended ≡ false) × (inlet.failed ≡ true)
 Stops _ inlet = ⊥
 
--- memory was wanting, or the writer failed, as the fault says
+-- memory ran out or the writer failed, as the fault says
 abbrev pub Refuses : PeerFault → OutletState → Type 0
 Refuses OutOfMemory outlet = IsWritable outlet
 Refuses WriteFailed outlet = outlet.failed ≡ true
@@ -72,11 +72,11 @@ pub record NoPeer (role : Role) (old new : InletState) (fault : PeerFault) : Typ
   pub ends : Ends role old new fault decoder messages
   pub unready : EndsReading fault → decoder.stage ≡ Traffic → ⊥
 
--- what was received for one peer, and then for another, whatever came before
+-- if the first peer had received what the old reader gave, then the second has received what the new one gave
 abbrev pub ReceivedOn : InletState → InletState → Peer → Peer → Type 0
 ReceivedOn old new peer peer' = (before : InletState) → Received before old peer → Received before new peer'
 
--- the peer isn't to be had, whatever came before
+-- if the peer had received what the old reader gave, then its handshake ends without a peer
 abbrev pub LostPeer : InletState → InletState → Peer → PeerFault → Type 0
 LostPeer old new peer fault =
     (before : InletState) → Received before old peer → NoPeer peer.decoder.role before new fault

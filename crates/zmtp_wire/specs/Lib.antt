@@ -12,3 +12,4 @@ pub mod Beating
 pub mod Ends
 pub mod Receiving
 pub mod Sending
+pub mod Connections

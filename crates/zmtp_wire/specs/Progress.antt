@@ -1,5 +1,7 @@
--- A feed on its way through the bytes that it has.
-use Rattle.std.specs.Prelude.{◌≡◌, ℕ, ◌<◌, ◌≤◌, Option, Some, None, [], ◌∷◌, length, take}
+-- A feed on its way through its bytes.
+use Rattle.std.specs.Prelude.{◌≡◌, ℕ, ◌<◌, ◌≤◌, Option, Some, None, [], ◌∷◌, length, take, drop}
+use Rattle.std.specs.Prelude.{Result, IfOk, OnErr}
+use Rattle.std.specs.declared.alloc.AllocError.{AllocError}
 use Rattle.zmtp_wire.specs.Wire.{Bytes, Frames, Messages}
 use Rattle.zmtp_wire.specs.declared.fault.StreamFault.{StreamFault}
 use Rattle.zmtp_wire.specs.declared.role.Role.{Role}
@@ -12,14 +14,14 @@ use Rattle.zmtp_wire.specs.declared.head.Kind.{Kind}
 use Rattle.zmtp_wire.specs.declared.head.Kind.TheVariants.{Command, Message}
 use Rattle.zmtp_wire.specs.declared.head.Position.{Position}
 use Rattle.zmtp_wire.specs.Commands.{IsAccepted, IsSkipped, IsRefused}
-use Rattle.zmtp_wire.specs.Stream.{Got, with_frame, Step, Fault, IsPartial}
+use Rattle.zmtp_wire.specs.Stream.{Got, with_frame, Step, Reads, Fault, IsPartial}
 
--- the identity of a READY in this feed, else the one known before
+-- the identity in a READY of this feed, else the one known before
 abbrev pub identity_from : Option Ready → Option Bytes → Option Bytes
 identity_from None before = before
 identity_from (Some ready) before = ready.identity
 
--- how far the reading has come in this feed, where this identity was known before
+-- how far the reading has come in this feed, if this identity was known before
 abbrev pub got_in : Progress → Option Bytes → Got
 got_in p before = record {
   stage = p.stage;
@@ -42,11 +44,11 @@ pub data Effect (role : Role) (g : Got) : Kind → Bytes → Got → Type 0 wher
       → Effect role g (Message position) body h
 
 -- what stands at the front of the bytes, and what it does
-abbrev pub Takes : Role → Bytes → Taken → Progress → Progress → Type 0
-Takes role bytes (Item n) old new =
+abbrev pub TakesItem : Role → Bytes → Taken → Progress → Progress → Type 0
+TakesItem role bytes (Item n) old new =
     (0 < n) × (n ≤ length bytes) × WhateverBefore old new (λ g h. Step role g (take n bytes) h)
-Takes role bytes Partial old new = (new ≡ old) × WhateverBefore old new (λ g h. IsPartial role g bytes)
-Takes role bytes (Broken c) old new = (new ≡ old) × WhateverBefore old new (λ g h. Fault role g bytes c)
+TakesItem role bytes Partial old new = (new ≡ old) × WhateverBefore old new (λ g h. IsPartial role g bytes)
+TakesItem role bytes (Broken c) old new = (new ≡ old) × WhateverBefore old new (λ g h. Fault role g bytes c)
 
 -- a command's content is accepted or refused
 abbrev pub TakesCommand : Role → Bytes → Option StreamFault → Progress → Progress → Type 0
@@ -68,12 +70,22 @@ abbrev pub EndsAt : Role → Bytes → Option StreamFault → Progress → Type 
 EndsAt role rest None p = WhateverBefore p p (λ g h. IsPartial role g rest)
 EndsAt role rest (Some c) p = WhateverBefore p p (λ g h. Fault role g rest c)
 
--- the frames that had come before are the first of the first message, else of the one that has begun
+-- the frames that had come before are the first frames of the first message, if there is one, else of the
+-- next one
 abbrev pub KeepsFirst : Frames → Messages → Frames → Type 0
 KeepsFirst before [] frames = take (length before) frames ≡ before
 KeepsFirst before (m ∷ messages) frames = take (length before) m ≡ before
 
--- this many frames, of the first message, else of the one that has begun
+-- taking the whole items at the front of the bytes has this result, and takes the feed from old to new: so
+-- many bytes are those items, and this fault follows them, if one does
+pub record TakesItems (role : Role) (bytes : Bytes) (result : Result (ℕ × Option StreamFault) AllocError)
+    (old new : Progress) : Type 0 where
+  pub count : IfOk result (λ r. r.0 ≤ length bytes)
+  pub reads : IfOk result (λ r. WhateverBefore old new (λ g h. Reads role g bytes h (drop r.0 bytes)))
+  pub ends : IfOk result (λ r. EndsAt role (drop r.0 bytes) r.1 new)
+  pub err : OnErr result (old.messages.items ≡ [] → KeepsFirst old.frames new.messages.items new.frames)
+
+-- the first frames, this many, of the first message, if there is one, else of the next one
 abbrev pub FirstFrames : Messages → Frames → Frames → ℕ → Type 0
 FirstFrames [] old new count = new ≡ take count old
 FirstFrames (m ∷ messages) old new count = new ≡ take count m

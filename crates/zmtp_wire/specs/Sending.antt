@@ -17,7 +17,7 @@ pub record IsHandshakeOf (bytes : Bytes) (role : Role) : Type 0 where
   pub is_ready : IsReadyOf ready role
   pub spelled : bytes ≡ written_greeting ++ ready
 
--- these bytes were written where it goes on; else a front of them, and the fault says why
+-- these bytes were written; or a front of them was, and the fault says why not more
 abbrev pub Writes : Bytes → OutletState → OutletState → Result (Unit {0}) PeerFault → Type 0
 Writes bytes old new result = MatchResult result
     (λ _. Took old new bytes × IsWritable new)
@@ -39,8 +39,8 @@ pub record WroteWhole (old new : OutletState) (role : Role) : Type 0 where
 abbrev pub messages_bytes : Messages → Bytes
 messages_bytes messages = flat_map message_bytes messages
 
--- a front of the handshake and these messages was written; all of it where the peer was accepted and
--- reading came to this end
+-- a front of the handshake and these messages was written; all of it if the peer was accepted and the fault
+-- came from reading
 pub record Echoes (old new : OutletState) (decoder : DecoderState) (messages : Messages)
     (fault : PeerFault) : Type 0 where
   pub handshake : Bytes

@@ -1,5 +1,4 @@
--- What a stream of bytes says: a greeting, READY, and then messages and commands
--- (RFC 23, "Overall Behavior").
+-- The grammar of a stream: a greeting, READY, and then messages and commands (RFC 23, "Overall Behavior").
 use Rattle.std.specs.Prelude.{◌≡◌, ℕ, ◌<◌, true, Option, Some, None, [], ◌∷◌, ◌++◌, length}
 use Rattle.zmtp_wire.specs.Wire.{Bytes, Frames, Messages}
 use Rattle.zmtp_wire.specs.declared.fault.StreamFault.{StreamFault}
@@ -14,7 +13,7 @@ use Rattle.zmtp_wire.specs.Greeting.{IsGreeting, first_broken}
 use Rattle.zmtp_wire.specs.Framing.{IsAllowed, broken_by_flag, is_long, least_number}
 use Rattle.zmtp_wire.specs.Commands.{IsAccepted, IsSkipped, IsRefused}
 
--- how far the reading has come: the peer's identity, the whole messages, the frames of the one that has begun
+-- how far the reading has come: the peer's identity, the complete messages, and the frames of the next one
 pub record Got : Type 0 where
   pub stage : Stage
   pub identity : Option Bytes
@@ -39,11 +38,11 @@ pub data Step (role : Role) : Got → Bytes → Got → Type 0 where
       → h ≡ record g { stage = Traffic; identity = identity } → Step role g raw h
   Skips : (g h : Got) (raw body : Bytes) → g.stage ≡ Traffic
       → IsAllowed g.stage (length g.frames) raw Command body → IsSkipped body → h ≡ g → Step role g raw h
-  Takes : (g h : Got) (raw body : Bytes) (position : Position)
+  TakesFrame : (g h : Got) (raw body : Bytes) (position : Position)
       → IsAllowed g.stage (length g.frames) raw (Message position) body → h ≡ with_frame g position body
       → Step role g raw h
 
--- the bytes are whole items and then the rest, and the reading goes on from the one to the other
+-- the bytes are whole items and then the rest, and these items take the reading from the one to the other
 pub data Reads (role : Role) : Got → Bytes → Got → Bytes → Type 0 where
   Stays : (g : Got) (bytes : Bytes) → Reads role g bytes g bytes
   Goes : (g h i : Got) (bytes raw others rest : Bytes) → Step role g raw h → bytes ≡ raw ++ others
@@ -63,12 +62,12 @@ pub data Fault (role : Role) : Got → Bytes → StreamFault → Type 0 where
       → IsAllowed g.stage (length g.frames) raw Command body → IsRefused role g.stage body c
       → Fault role g bytes c
 
--- what has come of an item isn't whole, and nothing is wrong with it
+-- the bytes are the beginning of an item that isn't whole, and nothing is wrong with them
 pub record IsPartial (role : Role) (g : Got) (bytes : Bytes) : Type 0 where
   pub unfinished : (raw others : Bytes) (h : Got) → Step role g raw h → bytes ≡ raw ++ others → ⊥
   pub good : (c : StreamFault) → Fault role g bytes c → ⊥
 
--- what a side keeps of its stream
+-- what a side keeps of the peer's stream
 pub record DecoderState : Type 0 where
   pub role : Role
   pub stage : Stage
@@ -81,12 +80,12 @@ pub record DecoderState : Type 0 where
 abbrev pub got_by : DecoderState → Messages → Got
 got_by s messages = record { stage = s.stage; identity = s.identity; messages = messages; frames = s.frames }
 
--- after the whole items comes the rest that the side keeps, or a fault, and then it keeps none
+-- after the whole items comes the rest, which the side keeps; or a fault, and then it keeps nothing
 abbrev pub EndsIn : DecoderState → Got → Bytes → Option StreamFault → Type 0
 EndsIn s g rest None = (rest ≡ s.rest) × IsPartial s.role g rest
 EndsIn s g rest (Some c) = (s.rest ≡ []) × Fault s.role g rest c
 
--- the side has read this stream, and these were all the messages in it
+-- the side has read this stream, and these are all the messages in it
 pub record StandsFor (s : DecoderState) (stream : Bytes) (messages : Messages) : Type 0 where
   pub rest : Bytes
   pub reads : Reads s.role opening stream (got_by s messages) rest

@@ -17,7 +17,7 @@ pub struct Named<'a> {
     pub others: &'a [u8],
 }
 
-/// Splits off a name that isn't empty, after its length.
+/// Splits off a name: its length, which is one byte and not 0, and then the name.
 pub fn split_name(bytes: &[u8]) -> Option<Named<'_>>
     ensures found { IfSome result (λ n. IsNamed bytes.now n.name.now n.others.now) }
     ensures none { IfNone result ((name others : Bytes) → IsNamed bytes.now name others → ⊥) }
@@ -76,7 +76,7 @@ fn split_property(bytes: &[u8]) -> Option<SplitProperty<'_>>
     })
 }
 
-/// The values of the two properties of READY that count, where it has them.
+/// The values of the two properties of READY that are used, if it has them.
 #[derive(Drop)]
 struct KnownProperties<'a> {
     socket_type: Option<&'a [u8]>,
@@ -100,7 +100,7 @@ fn first_of<'a>(
     }
 }
 
-// Reads properties to the end.
+// Reads properties up to the end of the bytes.
 fn read_properties(bytes: &[u8]) -> Option<KnownProperties<'_>>
     ensures found { IfSome result
         (λ known. Finds bytes.now (option_copied known.socket_type) (option_copied known.identity)) }
@@ -125,7 +125,8 @@ fn read_properties(bytes: &[u8]) -> Option<KnownProperties<'_>>
     })
 }
 
-/// The identity that a peer's READY gives, if it is one that is accepted.
+/// The identity in a peer's READY, if it has one. Fails if the command is no READY, or if its socket type is
+/// missing or doesn't fit the role.
 pub fn read_ready(role: Role, body: &[u8]) -> Result<Option<&[u8]>, StreamFault>
     ensures ok { IfOk result (λ identity. IsAccepted role body.now (option_copied identity)) }
     ensures err { IfErr result (λ cause. IsRefused role Handshake body.now cause) }
@@ -145,7 +146,7 @@ pub fn read_ready(role: Role, body: &[u8]) -> Result<Option<&[u8]>, StreamFault>
     }
 }
 
-/// Whether a command after READY is passed over.
+/// Whether a command after READY is skipped.
 pub fn is_skipped(body: &[u8]) -> bool
     ensures yes { OnTrue result (IsSkipped body.now) }
     ensures no { OnFalse result (IsSkipped body.now → ⊥) }

@@ -1,6 +1,5 @@
-//! One side of a connection, which reads what the peer sends.
-ghost use Rattle.std.specs.Prelude.{◌≡◌, ◌≤◌, ◌↔◌, IsTrue, [], length, drop, Some, None};
-ghost use Rattle.std.specs.Prelude.{IfOk, IfErr, OnOk, option_copied};
+//! The decoder of one side of a connection, which reads what the peer sends.
+ghost use Rattle.std.specs.Prelude.{◌≡◌, ◌≤◌, ◌↔◌, IsTrue, [], length, drop, None, option_copied};
 
 use crate::fault::{FeedFault, StreamFault};
 use crate::head::Stage;
@@ -12,8 +11,8 @@ use std::alloc::Global;
 use std::marker::Model;
 use std::mem;
 
-/// One side of a connection: how far it has read its stream, the frames of the message that has begun,
-/// and the bytes of the item that has begun.
+/// A decoder of the peer's stream: how far it has read, the frames of a message that isn't complete yet, and
+/// the bytes of an item that isn't complete yet.
 #[derive(Drop)]
 pub struct Decoder {
     role: Role,
@@ -39,7 +38,7 @@ impl Model for Decoder {
     } };
 }
 
-// Lets the first bytes go. Where there are none to let go, nothing is moved.
+// Drops the first `from` bytes; a no-op for 0.
 fn keep_from(bytes: &mut Vec<u8>, from: usize)
     requires { from ≤ length bytes.old.items }
     ensures { bytes.new.items ≡ drop from bytes.old.items }
@@ -53,13 +52,12 @@ fn keep_from(bytes: &mut Vec<u8>, from: usize)
 }
 
 impl Decoder {
-    ghost use Rattle.zmtp_wire.specs.declared.fault.StreamFault.{StreamFault};
     ghost use Rattle.zmtp_wire.specs.declared.head.Stage.TheVariants.{Traffic};
-    ghost use Rattle.zmtp_wire.specs.Stream.{StandsFor, Completes};
+    ghost use Rattle.zmtp_wire.specs.Stream.{StandsFor};
     ghost use Rattle.zmtp_wire.specs.Progress.{identity_from};
-    ghost use Rattle.zmtp_wire.specs.Feeding.{FeedFails, IsBroken};
+    ghost use Rattle.zmtp_wire.specs.Feeding.{TakesPiece};
 
-    /// A side of this role at the beginning of its stream.
+    /// A decoder for a side of this role, at the beginning of the stream.
     pub fn new(alloc: Global, role: Role) -> Decoder
         ensures role { result.role ≡ role }
         ensures stands { StandsFor result [] [] }
@@ -75,28 +73,24 @@ impl Decoder {
         }
     }
 
-    /// Whether the peer's READY was accepted.
+    /// Whether the peer's READY has been accepted.
     pub fn is_ready(&self) -> bool
         ensures { IsTrue result ↔ (self.now.stage ≡ Traffic) }
     {
         self.stage == Stage::Traffic
     }
 
-    /// The identity that the peer's READY gave, if it gave one.
+    /// The identity in the peer's READY, if it has one.
     pub fn identity(&self) -> Option<&Bytes>
         ensures { option_copied result ≡ self.now.identity }
     {
         self.identity.as_ref()
     }
 
-    /// Takes the next piece of the stream, and gives the messages that it completes.
+    /// Takes the next piece of the stream and returns the messages that it completes. After a fault, every
+    /// piece has the same result and changes nothing.
     pub fn feed(&mut self, alloc: Global, piece: &[u8]) -> Result<Messages, FeedFault>
-        ensures ok { IfOk result (λ out. Completes self.old piece.now out self.new) }
-        ensures good { OnOk result (self.new.fault ≡ None) }
-        ensures err { IfErr result (λ fault. FeedFails self.old piece.now fault self.new) }
-        // After a fault each piece answers the same, and changes nothing.
-        ensures stored { (cause : StreamFault) → self.old.fault ≡ Some cause
-            → IsBroken result cause × (self.new ≡ self.old) }
+        ensures { TakesPiece self.old piece.now result self.new }
     {
         if let Some(cause) = self.fault {
             let before = Messages::new(alloc);
@@ -132,7 +126,7 @@ impl Decoder {
         }
     }
 
-    // Takes over what a feed has come to, and gives its messages.
+    // Stores the state that a feed has reached, and returns its messages.
     fn go_on(&mut self, progress: Progress) -> Messages
         ensures messages { result ≡ progress.messages.items }
         ensures state { self.new ≡ record self.old {

@@ -1,4 +1,4 @@
-//! Why a stream can't be read on.
+//! Why a stream can't be read any further.
 
 use crate::messages::Messages;
 use std::fmt;
@@ -15,7 +15,7 @@ pub enum StreamFault {
     Mechanism,
     /// A flag byte has reserved bits.
     Flags,
-    /// A command that may not come here or can't be read, an ERROR, or a message before READY.
+    /// A command that isn't allowed here or is malformed, an ERROR, or a message before READY.
     Command,
     /// READY has no Socket-Type, or one that doesn't fit.
     SocketType,
@@ -52,13 +52,13 @@ impl fmt::Debug for StreamFault {
     }
 }
 
-/// Why a piece wasn't read to its end.
+/// Why a piece wasn't read to the end.
 #[derive(Drop, Error)]
 pub enum FeedFault {
-    /// The side is as it was before the piece.
+    /// The decoder is as it was before the piece.
     #[error("out of memory")]
     OutOfMemory,
-    /// The messages that were complete before the fault, and what is wrong. It stays so for good.
+    /// The messages that were complete before the fault, and the fault, which every later piece returns too.
     #[error("{cause}")]
     Broken {
         before: Messages,

@@ -2,9 +2,8 @@
 ghost use Rattle.std.specs.Prelude.{◌≡◌, ◌+◌, ◌<◌, IfOk, IfErr, OnOk};
 ghost use Rattle.base_streams.specs.States.{IsReadable, IsWritable};
 ghost use Rattle.zmtp_wire.specs.declared.head.Stage.TheVariants.{Traffic};
-ghost use Rattle.zmtp_wire.specs.Ends.{Blames, BlamesReader, LostPeer, NoPeer, ReceivedOn};
-ghost use Rattle.zmtp_wire.specs.Receiving.{Received};
-ghost use Rattle.zmtp_wire.specs.Sending.{WroteFront, WroteWhole};
+ghost use Rattle.zmtp_wire.specs.Connections.{MakesHandshake, connection};
+ghost use Rattle.zmtp_wire.specs.Ends.{BlamesReader, LostPeer, ReceivedOn};
 
 use crate::decoder::Decoder;
 use crate::feeding::{Fed, feed};
@@ -20,17 +19,17 @@ use std::alloc::Global;
 // The size of a greeting, in bytes.
 const GREETING_SIZE: usize = 64;
 
-/// A peer whose READY was accepted, and the messages that came with it. The stream may be broken after
-/// them: then the next feed, of no bytes too, says so.
+/// A peer whose READY was accepted, and the messages that came with it. The stream may be broken after them;
+/// then the next feed, even of no bytes, returns the fault.
 #[derive(Drop)]
 pub struct Peer {
     pub decoder: Decoder,
     pub messages: Messages,
-    /// How often its reader was read by then; a call reads 4,294,967,295 times at most.
+    /// The number of reads so far. A conversation makes at most 4,294,967,295.
     pub reads: u32,
 }
 
-// Reads a piece before READY, and reports its length.
+// Reads a piece before READY, and returns its length.
 fn listen_once<I: Inlet>(alloc: Global, from: &mut I, peer: &mut Peer) -> Result<usize, PeerFault>
     requires readable { IsReadable (I.state from.old) }
     requires unready { peer.old.decoder.stage ≡ Traffic → ⊥ }
@@ -59,7 +58,7 @@ fn listen_once<I: Inlet>(alloc: Global, from: &mut I, peer: &mut Peer) -> Result
     }
 }
 
-// Reads until a greeting came, or READY, or as often as a conversation may read.
+// Reads until a greeting or READY has come, or the conversation has made its last read.
 fn await_greeting<I: Inlet>(alloc: Global, from: &mut I, peer: &mut Peer) -> Result<(), PeerFault>
     requires { IsReadable (I.state from.old) }
     ensures role { peer.new.decoder.role ≡ peer.old.decoder.role }
@@ -78,7 +77,7 @@ fn await_greeting<I: Inlet>(alloc: Global, from: &mut I, peer: &mut Peer) -> Res
     Ok(())
 }
 
-// Reads until READY was accepted.
+// Reads until the peer's READY is accepted.
 fn await_ready<I: Inlet>(alloc: Global, from: &mut I, peer: &mut Peer) -> Result<(), PeerFault>
     requires { IsReadable (I.state from.old) }
     ensures role { peer.new.decoder.role ≡ peer.old.decoder.role }
@@ -100,8 +99,8 @@ fn await_ready<I: Inlet>(alloc: Global, from: &mut I, peer: &mut Peer) -> Result
     Ok(())
 }
 
-/// Makes the handshake: writes the greeting, and READY once the peer's greeting came; then reads until the
-/// peer's READY was accepted. It never waits before it has written the greeting.
+/// Makes the handshake: writes the greeting, then READY once the peer's greeting has come, and reads until
+/// the peer's READY is accepted. It doesn't read before it has written the greeting.
 pub fn handshake<I: Inlet, W: Outlet>(
     alloc: Global,
     from: &mut I,
@@ -110,15 +109,8 @@ pub fn handshake<I: Inlet, W: Outlet>(
 ) -> Result<Peer, PeerFault>
     requires readable { IsReadable (I.state from.old) }
     requires writable { IsWritable (W.state to.old) }
-    // The peer has read what the reader gave, and holds the messages in it.
-    ensures received { IfOk result (Received (I.state from.old) (I.state from.new)) }
-    ensures ready { IfOk result (λ peer. peer.decoder.stage ≡ Traffic) }
-    ensures role { IfOk result (λ peer. peer.decoder.role ≡ role) }
-    ensures front { WroteFront (W.state to.old) (W.state to.new) role }
-    ensures whole { OnOk result (WroteWhole (W.state to.old) (W.state to.new) role) }
-    ensures good { OnOk result (IsReadable (I.state from.new) × IsWritable (W.state to.new)) }
-    ensures blames { IfErr result (λ fault. Blames fault (I.state from.new) (W.state to.new)) }
-    ensures lost { IfErr result (NoPeer role (I.state from.old) (I.state from.new)) }
+    ensures { MakesHandshake role (connection (I.state from.old) (W.state to.old))
+        (connection (I.state from.new) (W.state to.new)) result }
 {
     let (greeting, ready) = (greeting(), ready(role));
     let mut peer = Peer {

@@ -6,7 +6,7 @@ ghost use Rattle.zmtp_wire.specs.Head.{head_of, frame_head, long_size, room_at};
 
 use crate::fault::StreamFault;
 
-/// What a stream has come to: its greeting, the handshake, then traffic.
+/// The part of a stream that is read: the greeting, the handshake, then traffic.
 #[derive(Clone, Copy, PartialEq, Eq)]
 pub enum Stage {
     Greeting,
@@ -33,20 +33,20 @@ pub enum Kind {
 /// What the first bytes of an item say.
 #[derive(Clone, Copy)]
 pub enum Head {
-    /// More bytes are wanted.
+    /// More bytes are needed.
     Wants,
-    /// No item may begin so.
+    /// No item may begin with these bytes.
     Bad(StreamFault),
-    /// A whole greeting stands here.
+    /// A whole greeting.
     Greets,
-    /// A frame of this kind, whose body begins at this place and has this size.
+    /// A frame of this kind, the offset of its body, and the size of its body in bytes.
     Sized(Kind, usize, usize),
 }
 
-/// The bytes of a greeting.
+/// The size of a greeting, in bytes.
 pub const GREETING_SIZE: usize = 64;
 
-// The byte of the mechanism NULL at this place of the greeting.
+// What a byte at this place of a greeting breaks, if it is wrong.
 #[tactic(auto, unfolding(crate::specs::Greeting::broken_by))]
 fn broken_at(place: usize, byte: u8) -> Option<StreamFault>
     ensures { result ≡ broken_by place byte }
@@ -64,7 +64,7 @@ fn broken_at(place: usize, byte: u8) -> Option<StreamFault>
     if good { None } else { Some(cause) }
 }
 
-// What the first wrong byte of a greeting breaks; the bytes begin at this place of it.
+// What the first wrong byte of a greeting breaks, if there is one; the bytes begin at this place of it.
 fn first_broken_from(place: usize, bytes: &[u8]) -> Option<StreamFault>
     ensures { result ≡ first_broken place bytes.now }
 {
@@ -89,7 +89,7 @@ fn kind_of_flag(flag: u8) -> Option<Kind>
     }
 }
 
-// Why a frame may not come here, after this many frames of its message.
+// Why a frame of this kind isn't allowed here, after this many frames of its message.
 fn refusal_of(stage: Stage, count: usize, kind: Kind) -> Option<StreamFault>
     ensures { result ≡ refusal stage count kind }
 {
@@ -107,7 +107,7 @@ fn refusal_of(stage: Stage, count: usize, kind: Kind) -> Option<StreamFault>
     }
 }
 
-// The largest that a size may say with this many of its bytes to come.
+// The largest number that the bytes of a size so far may spell, with this many still to come.
 fn room_with(left: usize) -> u64
     ensures { result ≡ room_at left }
 {
@@ -119,7 +119,7 @@ fn room_with(left: usize) -> u64
     }
 }
 
-// What a long size says, with this many of its bytes to come.
+// What the bytes of a long size say, with this many to come, after the number so far.
 fn long_size_from(kind: Kind, left: usize, size: u64, bytes: &[u8]) -> Head
     requires left { left ≤ 8 }
     requires size { size ≤ 1048576 }
@@ -160,7 +160,7 @@ fn read_frame_head(stage: Stage, count: usize, bytes: &[u8]) -> Head
     }
 }
 
-/// What the bytes of an item say, where this many frames of its message came before it.
+/// What the bytes of an item say, after this many frames of its message.
 pub fn read_head(stage: Stage, count: usize, bytes: &[u8]) -> Head
     ensures { result ≡ head_of stage count bytes.now }
 {

@@ -1,12 +1,10 @@
-//! The heartbeat (Jupyter messaging 5.4, "Heartbeat for kernels"), which sends back what it reads.
+//! The heartbeat (Jupyter messaging 5.4, "Heartbeat for kernels"), which sends messages back.
 ghost use Rattle.std.specs.Prelude.{IfErr, OnOk};
 ghost use Rattle.base_streams.specs.States.{InletState, IsReadable, IsWritable};
-ghost use Rattle.zmtp_wire.specs.declared.role.Role.TheVariants.{Rep};
-ghost use Rattle.zmtp_wire.specs.Stream.{DecoderState};
-ghost use Rattle.zmtp_wire.specs.Wire.{Messages};
 ghost use Rattle.zmtp_wire.specs.Writing.{message_bytes};
-ghost use Rattle.zmtp_wire.specs.Ends.{Blames, Ends};
-ghost use Rattle.zmtp_wire.specs.Sending.{Echoes, Writes, messages_bytes};
+ghost use Rattle.zmtp_wire.specs.Connections.{EndsHeartbeat, connection};
+ghost use Rattle.zmtp_wire.specs.Ends.{Blames};
+ghost use Rattle.zmtp_wire.specs.Sending.{Writes, messages_bytes};
 ghost use Rattle.zmtp_wire.specs.Beating.{EchoedPiece, EchoedRound, LostPiece, LostRound};
 
 use crate::decoder::Decoder;
@@ -22,7 +20,7 @@ use base_streams::ports::{Inlet, Outlet};
 use base_text::sequence::Frames;
 use std::alloc::Global;
 
-// Writes a message; one of no frames has no bytes.
+// Writes a message. One with no frames has no bytes.
 fn echo_message<W: Outlet>(alloc: Global, to: &mut W, message: &Frames) -> Result<(), PeerFault>
     requires { IsWritable (W.state to.old) }
     ensures { Writes (message_bytes message.now) (W.state to.old) (W.state to.new) result }
@@ -61,7 +59,7 @@ fn echo_piece<W: Outlet>(
     ensures ok { OnOk result (EchoedPiece piece.now decoder.old decoder.new (W.state to.old)
         (W.state to.new)) }
     ensures good { OnOk result (IsWritable (W.state to.new)) }
-    // Whatever the reader is, it isn't to blame.
+    // The reader isn't to blame, whatever its state.
     ensures err { IfErr result (λ fault. (from : InletState) → LostPiece piece.now
         (record { inlet = from; decoder = decoder.old; outlet = W.state to.old })
         (record { inlet = from; decoder = decoder.new; outlet = W.state to.new }) fault) }
@@ -106,16 +104,13 @@ fn beat<I: Inlet, W: Outlet>(
     }
 }
 
-/// Makes the handshake as REP, and sends each message back as it came, until the reader, the writer or the
-/// stream ends it.
+/// Makes the handshake as REP, then sends each message back unchanged, until the peer ends or breaks the
+/// stream, a read or a write fails, or memory runs out. Returns which of these it was.
 pub fn heartbeat<I: Inlet, W: Outlet>(alloc: Global, from: &mut I, to: &mut W) -> PeerFault
     requires readable { IsReadable (I.state from.old) }
     requires writable { IsWritable (W.state to.old) }
-    ensures blames { Blames result (I.state from.new) (W.state to.new) }
-    // What was read of the stream, the messages in it, and what was written of them.
-    ensures echoes { (decoder : DecoderState) × (messages : Messages)
-        × Ends Rep (I.state from.old) (I.state from.new) result decoder messages
-        × Echoes (W.state to.old) (W.state to.new) decoder messages result }
+    ensures { EndsHeartbeat (connection (I.state from.old) (W.state to.old))
+        (connection (I.state from.new) (W.state to.new)) result }
 {
     let mut peer = match handshake(alloc, from, to, Role::Rep) {
         Ok(peer) => peer,
@@ -125,7 +120,7 @@ pub fn heartbeat<I: Inlet, W: Outlet>(alloc: Global, from: &mut I, to: &mut W) -
         Ok(()) => {}
         Err(fault) => return fault,
     }
-    // What came with READY may have broken the stream.
+    // The bytes that came with READY may have broken the stream.
     match echo_piece(alloc, to, &mut peer.decoder, &[]) {
         Ok(()) => {}
         Err(fault) => return fault,

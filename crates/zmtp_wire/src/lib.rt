@@ -1,8 +1,8 @@
-// ZMTP 3.0 (RFC 23) with the NULL mechanism: one side's reading and writing, its handshake and its heartbeat.
-// `Decoder::feed` takes the bytes as they come, however they are cut, and returns the messages that they
-// complete: those that a grammar of whole items says, which has one reading. A fault comes at the first byte
-// that decides it. `handshake` writes the greeting before it reads, and loses no message that came with the
-// peer's READY. `heartbeat` sends each message back as it came. A fault names what caused it.
+// ZMTP 3.0 (RFC 23) with the NULL mechanism: one side of a connection, its handshake and its heartbeat.
+// `Decoder::feed` takes a stream in pieces of any size and returns the messages that each piece completes.
+// They are those of a grammar of whole items, by which a stream has one reading. A fault is returned at the
+// first byte that decides it. `handshake` writes the greeting before it reads, and keeps the messages that
+// come with the peer's READY. `heartbeat` sends each message back unchanged. Every fault names its cause.
 #![tactic(auto)]
 
 mod command;

@@ -1,4 +1,4 @@
-//! What a piece of a stream completed.
+//! Messages.
 use base_text::sequence::{Frames, Sequence};
 
 /// Messages in the order in which they came, each a list of frames.

@@ -5,19 +5,19 @@ use thiserror::Error;
 /// Why a conversation with a peer ended.
 #[derive(Clone, Copy, PartialEq, Eq, Debug, Error)]
 pub enum PeerFault {
-    /// The allocator gave no memory.
+    /// An allocation failed.
     #[error("out of memory")]
     OutOfMemory,
-    /// The reader came to its end.
+    /// A read came to the end.
     #[error("the peer ended the stream")]
     PeerEnded,
-    /// The reader failed, or was read as often as a conversation may.
+    /// A read failed, or the conversation has made its last read.
     #[error("a read failed")]
     ReadFailed,
-    /// The writer failed.
+    /// A write failed.
     #[error("a write failed")]
     WriteFailed,
-    /// The stream can't be read on.
+    /// The stream is broken.
     #[error("{0}")]
     Wire(StreamFault),
 }

@@ -1,9 +1,9 @@
-//! A feed on its way through the bytes that it has: item by item, until none is whole.
-ghost use Rattle.std.specs.Prelude.{◌≡◌, ◌≤◌, [], length, drop, OnOk, OnErr, IfOk, option_copied};
-ghost use Rattle.zmtp_wire.specs.Stream.{Reads, with_frame};
+//! A feed on its way through its bytes, item by item, until none is whole.
+ghost use Rattle.std.specs.Prelude.{◌≡◌, OnOk, OnErr, IfOk, option_copied};
+ghost use Rattle.zmtp_wire.specs.Stream.{with_frame};
 ghost use Rattle.zmtp_wire.specs.declared.head.Position.{Position};
-ghost use Rattle.zmtp_wire.specs.Progress.{WhateverBefore, Takes, TakesCommand, TakesBody, EndsAt};
-ghost use Rattle.zmtp_wire.specs.Progress.{SameMessages, KeepsFirst, FirstFrames};
+ghost use Rattle.zmtp_wire.specs.Progress.{WhateverBefore, TakesItem, TakesItems, TakesCommand, TakesBody};
+ghost use Rattle.zmtp_wire.specs.Progress.{SameMessages, FirstFrames};
 
 use crate::command::{is_skipped, read_ready};
 use crate::fault::StreamFault;
@@ -19,26 +19,26 @@ pub struct Ready {
     pub identity: Option<Bytes>,
 }
 
-/// What a feed has come to.
+/// The state of a feed.
 #[derive(Drop)]
 pub struct Progress {
     pub stage: Stage,
-    /// The READY that came in this feed.
+    /// The READY that was accepted in this feed.
     pub accepted: Option<Ready>,
-    /// The frames of the message that has begun.
+    /// The frames of a message that isn't complete yet.
     pub frames: Frames,
     /// The messages that this feed has completed.
     pub messages: Vec<Frames>,
 }
 
-/// What stands at the front of bytes.
+/// What is at the front of some bytes.
 #[derive(Drop)]
 pub enum Taken {
     /// An item of this many bytes.
     Item(usize),
-    /// None that is whole.
+    /// No whole item.
     Partial,
-    /// One that breaks the stream.
+    /// An item that breaks the stream.
     Broken(StreamFault),
 }
 
@@ -88,7 +88,7 @@ fn copy_identity(alloc: Global, identity: Option<&[u8]>) -> Result<Option<Bytes>
     }
 }
 
-// Takes in a command's content, or reports why it is refused.
+// Takes in a command's content, or returns why it is refused.
 fn take_command(
     alloc: Global,
     role: Role,
@@ -114,7 +114,7 @@ fn take_command(
     }
 }
 
-// Takes in a frame's body.
+// Takes in a frame's body, or returns why it is refused.
 fn take_body(
     alloc: Global,
     role: Role,
@@ -135,14 +135,14 @@ fn take_body(
     }
 }
 
-// Takes in what stands at the front of the bytes.
+// Takes in the item at the front of the bytes.
 fn take_item(
     alloc: Global,
     role: Role,
     progress: &mut Progress,
     bytes: &[u8],
 ) -> Result<Taken, AllocError>
-    ensures ok { IfOk result (λ taken. Takes role bytes.now taken progress.old progress.new) }
+    ensures ok { IfOk result (λ taken. TakesItem role bytes.now taken progress.old progress.new) }
     ensures err { OnErr result (SameMessages progress.old progress.new) }
 {
     match read_head(progress.stage, progress.frames.len(), bytes) {
@@ -165,20 +165,15 @@ fn take_item(
     }
 }
 
-/// Takes in the whole items at the front of the bytes, and reports how many bytes these had and which
-/// fault follows them.
+/// Takes in the whole items at the front of the bytes. Returns their length in bytes, and the fault that
+/// follows them, if one does.
 pub fn take_items(
     alloc: Global,
     role: Role,
     progress: &mut Progress,
     bytes: &[u8],
 ) -> Result<(usize, Option<StreamFault>), AllocError>
-    ensures count { IfOk result (λ r. r.0 ≤ length bytes.now) }
-    ensures reads { IfOk result (λ r. WhateverBefore progress.old progress.new
-        (λ old new. Reads role old bytes.now new (drop r.0 bytes.now))) }
-    ensures ends { IfOk result (λ r. EndsAt role (drop r.0 bytes.now) r.1 progress.new) }
-    ensures err { OnErr result (progress.old.messages.items ≡ []
-        → KeepsFirst progress.old.frames progress.new.messages.items progress.new.frames) }
+    ensures { TakesItems role bytes.now result progress.old progress.new }
 {
     let mut place = 0usize;
     while place <= bytes.len() {
@@ -191,7 +186,7 @@ pub fn take_items(
     unreachable!()
 }
 
-/// The frames that had come of a message before this feed, which were so many.
+/// The frames of a message that had come before this feed, of which there were `count`.
 pub fn first_frames(progress: Progress, count: usize) -> Frames
     ensures { FirstFrames progress.messages.items progress.frames result count }
 {

@@ -7,10 +7,10 @@ ghost use Rattle.zmtp_wire.specs.Ends.{Stops};
 use crate::peer_fault::PeerFault;
 use base_streams::ports::Inlet;
 
-/// How much is read at once, in bytes.
+/// The most bytes that a read returns.
 pub(crate) const PIECE_SIZE: usize = 512;
 
-/// Reads a piece, which isn't empty, to the front of the buffer, and reports its length.
+/// Reads a piece, which isn't empty, into the front of the buffer, and returns its length.
 pub(crate) fn read_piece<I: Inlet>(
     from: &mut I,
     buffer: &mut [u8; PIECE_SIZE],

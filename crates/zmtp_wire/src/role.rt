@@ -1,10 +1,10 @@
-//! What a side is to its peer.
+//! The socket types.
 ghost use Rattle.std.specs.Prelude.{◌≡◌, [], ◌∷◌};
 ghost use Rattle.std.specs.List.{list_any};
 ghost use Rattle.std.specs.Str.{bytes_eq};
 ghost use Rattle.zmtp_wire.specs.Roles.{accepts, socket_name};
 
-/// The socket type of this side.
+/// The socket type of one side of a connection.
 #[derive(Clone, Copy, PartialEq, Eq)]
 pub enum Role {
     Router,
@@ -15,7 +15,7 @@ pub enum Role {
 }
 
 impl Role {
-    /// The name of the socket type, as READY's property `Socket-Type` has it.
+    /// The name of the socket type, as in READY's property `Socket-Type`.
     pub fn socket_name(self) -> &'static [u8]
         ensures { result.now ≡ socket_name self }
     {

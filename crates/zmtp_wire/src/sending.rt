@@ -7,7 +7,7 @@ use crate::peer_fault::PeerFault;
 use base_streams::ports::Outlet;
 use base_streams::writing::write_all;
 
-/// Writes all the bytes, or a front of them where the writer fails.
+/// Writes all the bytes, or a front of them if a write fails.
 pub(crate) fn send<W: Outlet>(to: &mut W, bytes: &[u8]) -> Result<(), PeerFault>
     ensures front { TookFront (W.state to.old) (W.state to.new) bytes.now }
     ensures all { OnOk result (Took (W.state to.old) (W.state to.new) bytes.now) }

@@ -13,5 +13,5 @@ invariant-loop g l = record {
       → Holds before (g.I.Inlet.state l.fn.from) l.fn.subscriber passed
       → Follows (record { key = l.key; header = l.header }) before
       (g.I.Inlet.state l.from) l.subscriber passed
-      (g.O.Outlet.state l.fn.output) (g.O.Outlet.state l.output) l.has_failed;
+      (g.O.Outlet.state l.fn.output) (g.O.Outlet.state l.output) l.course.has_failed;
 }

@@ -1,4 +1,4 @@
-use Rattle.std.proofs.Common.{Some, ap, ◌∙◌, arith}
+use Rattle.std.proofs.Common.{Some, ap, ◌∙◌, arith, rules}
 use Rattle.lab_turn.proofs.Acts.{on_top, Went, went, passes_turn, ended}
 use Rattle.lab_turn.proofs.queue.take_turn.Given.{Over}
 use Rattle.lab_turn.proofs.queue.take_turn.Goals as goal
@@ -62,9 +62,15 @@ fetch_add-requires g c =
           turn,
     )
 
-pub returns-clause-ok : goal.returns-clause-ok
-returns-clause-ok g c =
+pub returns : goal.returns
+returns g c =
     let j = g.J.Journaled in
-    let turn = turn_of g (goal.at.returns-clause-ok g c).After-exchange-left in
-    ended j.entries j.limit j.answer j.is_entry j.is_full c.args.token.now.table_id _ _ _ _
-    c.fetch_add.new.seat.me _ _ _ turn c.fetch_add.ensures.2
+    let turn = turn_of g (goal.at.returns g c).After-exchange-left in
+    record {
+      same = search rules;
+      idle = search rules;
+      ok =
+          ended j.entries j.limit j.answer j.is_entry j.is_full c.args.token.now.table_id _ _ _ _
+          c.fetch_add.new.seat.me _ _ _ turn c.fetch_add.ensures.2;
+      worn = tt;
+    }

@@ -29,7 +29,7 @@ value_there g c =
     let h =
     closes E L key.seats (L key.over.value) c.args.self seats limit c.into_token-token.result.table_id _ _
     c.in-Some.last _ _ _ _ _ c.close_with-closed.ensures.values.2 c.in-Some.ensures.items token.pass
-    c.gather.ensures.all (all_there g c) in
+    c.reclaim_passes.ensures.all (all_there g c) in
     (h.0, some-injective c.take-taken.result (Some h.0) (sym c.take-taken.ensures.value ∙ h.1), h.2, h.3)
 
 pub unreachable-requires-in_default-taken : goal.unreachable-requires-in_default-taken
@@ -80,10 +80,10 @@ token_there g c =
     token_table table _ _ c.into_token-token.ensures
     (of_last (λ (p : PassState _). p.turnstile.table ≡ table) _ _ _ c.in-Some.ensures.items (of_table g c))
 
-pub gather-requires : goal.gather-requires
-gather-requires g c =
+pub reclaim_passes-requires : goal.reclaim_passes-requires
+reclaim_passes-requires g c =
     let table = c.self.inside.table.shared.table_id in
-    let at = (goal.at.gather-requires g c).After-into_token-token in
+    let at = (goal.at.reclaim_passes-requires g c).After-into_token-token in
     record {
       table = (token_there g at, c.self.invariant.0);
       idle = c.into_token-token.ensures.idle;
@@ -94,7 +94,8 @@ gather-requires g c =
 
 pub close_with-closed-requires : goal.close_with-closed-requires
 close_with-closed-requires g c =
-    c.gather.ensures.token.0 ∙ token_there g (goal.at.close_with-closed-requires g c).After-into_token-token
+    c.reclaim_passes.ensures.token.0
+    ∙ token_there g (goal.at.close_with-closed-requires g c).After-into_token-token
 
 pub take-taken-requires : goal.take-taken-requires
 take-taken-requires g c =

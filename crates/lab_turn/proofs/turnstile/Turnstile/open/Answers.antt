@@ -2,8 +2,8 @@ use Rattle.std.proofs.Common.{[], sym, ap, ◌∙◌, arith}
 use Rattle.lab_turn.specs.Turns.{maker_at}
 use Rattle.lab_turn.proofs.turnstile.Turnstile.open.Goals as goal
 
-pub deal-requires : goal.deal-requires
-deal-requires g c =
+pub issue_passes-requires : goal.issue_passes-requires
+issue_passes-requires g c =
     let made = c.in-Ok-table_over.ensures in
     let L = g.J.Journaled.limit in
     let over = sym made.key.1 in

@@ -1,19 +1,24 @@
-use Rattle.std.proofs.Common.{subst, sym, ◌∙◌, ap, refl, Some, None, ◌≡◌, ◌++◌, drop}
+use Rattle.std.proofs.Common.{subst, sym, ◌∙◌, ap, refl, Some, None, ◌≡◌, ◌++◌, drop, rules}
 use Rattle.zmtp_wire.specs.declared.progress.Progress.{Progress}
 use Rattle.zmtp_wire.specs.contracts.decoder.Decoder.{the_view}
 use Rattle.zmtp_wire.specs.Stream.{DecoderState, Completes}
 use Rattle.zmtp_wire.proofs.FeedLemmas.{feed_completes, stays_broken, decoder_after}
 use Rattle.zmtp_wire.proofs.decoder.Decoder.feed.Goals as goal
 
-pub returns-in-Some-clause-err : goal.returns-in-Some-clause-err
-returns-in-Some-clause-err c =
+pub returns-in-Some : goal.returns-in-Some
+returns-in-Some c =
     let P : DecoderState → Type 0 =
     λ s. Completes s c.args.piece.now c.new-before.result s × (s.fault ≡ Some c.in-Some.cause) in
     let stays = stays_broken (the_view c.self.inside) c.args.piece.now c.in-Some.cause c.in-Some.is in
-    subst P c.self.view_is (rw c.new-before.ensures stays, c.in-Some.is)
+    record {
+      ok = tt;
+      good = tt;
+      err = subst P c.self.view_is (rw c.new-before.ensures stays, c.in-Some.is);
+      stored = search rules;
+    }
 
-pub returns-in-Ok-default-None-clause-ok : goal.returns-in-Ok-default-None-clause-ok
-returns-in-Ok-default-None-clause-ok c =
+pub returns-in-Ok-default-None : goal.returns-in-Ok-default-None
+returns-in-Ok-default-None c =
     let old : DecoderState = the_view c.self.inside in
     let buffer = c.as_slice.result.now in
     let rest = drop c.in-Ok-default-None.used buffer in
@@ -29,10 +34,15 @@ returns-in-Ok-default-None-clause-ok c =
     (rw c.in-Ok-default-None.field-0-1-is at c.in-Ok-default-None.ensures.ends) in
     let new : c.go_on.new.self ≡ decoder_after old after rest None =
     (let s = c.go_on.ensures.state in let f = c.in_default.is in cc (s, f, kept)) in
-    rw (← c.self.view_is, c.go_on.ensures.messages, new) done
+    record {
+      ok = rw (← c.self.view_is, c.go_on.ensures.messages, new) done;
+      good = search rules;
+      err = tt;
+      stored = search rules;
+    }
 
-pub returns-in-Ok-default-Some-clause-err : goal.returns-in-Ok-default-Some-clause-err
-returns-in-Ok-default-Some-clause-err c =
+pub returns-in-Ok-default-Some : goal.returns-in-Ok-default-Some
+returns-in-Ok-default-Some c =
     let old : DecoderState = the_view c.self.inside in
     let buffer = c.as_slice.result.now in
     let rest = drop c.in-Ok-default-Some.field-0-0 buffer in
@@ -48,4 +58,9 @@ returns-in-Ok-default-Some-clause-err c =
     (rw c.in-Ok-default-Some.field-0-1-is at c.in-Ok-default-Some.ensures.ends) in
     let new : c.go_on-before.new.self ≡ decoder_after old after rest fault =
     (let s = c.go_on-before.ensures.state in cc (s, kept)) in
-    rw (← c.self.view_is, c.go_on-before.ensures.messages, new) (done, refl)
+    record {
+      ok = tt;
+      good = tt;
+      err = rw (← c.self.view_is, c.go_on-before.ensures.messages, new) (done, refl);
+      stored = search rules;
+    }

@@ -1,7 +1,7 @@
 use Rattle.std.proofs.Common.{◌≡◌, ◌+◌, ◌≤◌, length, vec_capacity, []}
 use Rattle.lab_turn.specs.History.{FreshFrom}
 use Rattle.lab_turn.specs.Turns.{maker_at}
-use Rattle.lab_turn.proofs.turnstile.deal.Given as goal
+use Rattle.lab_turn.proofs.turnstile.issue_passes.Given as goal
 
 abbrev pub invariant-loop-seat : goal.invariant-loop-seat
 invariant-loop-seat g l = record {

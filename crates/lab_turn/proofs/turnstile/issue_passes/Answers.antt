@@ -3,7 +3,7 @@ use Rattle.lab_turn.specs.History.{fresh_pass}
 use Rattle.lab_turn.specs.Turns.{pass_of}
 use Rattle.lab_turn.proofs.Steps.{splits}
 use Rattle.lab_turn.proofs.Dealing.{fresh_push, dealt, maker_step}
-use Rattle.lab_turn.proofs.turnstile.deal.Goals as goal
+use Rattle.lab_turn.proofs.turnstile.issue_passes.Goals as goal
 
 pub split_seat-other-requires : goal.split_seat-other-requires
 split_seat-other-requires g c =

@@ -2,7 +2,7 @@ use Rattle.std.proofs.Common.{◌≡◌, ap, ◌∙◌, arith}
 use Rattle.lab_turn.specs.History.{PassState}
 use Rattle.lab_turn.proofs.Steps.{joins}
 use Rattle.lab_turn.proofs.Closing.{of_last, of_front, gathered_more, token_table}
-use Rattle.lab_turn.proofs.turnstile.gather.Goals as goal
+use Rattle.lab_turn.proofs.turnstile.reclaim_passes.Goals as goal
 
 pub join_seat-requires : goal.join_seat-requires
 join_seat-requires g c =
