@@ -1,4 +1,4 @@
--- A reset of the board, asked by a debugger.
+-- Debug requests: the reset of the board, and the other commands.
 use Rattle.std.proofs.Common.{◌≡◌, ◌≢◌, ◌∙◌, ℕ, List, [], ◌∷◌, ◌++◌, true, false, Result}
 use Rattle.std.proofs.Common.{Ok, Err, refl, ap, subst}
 use Rattle.std.proofs.lemmas.Bool.{false≢true}
@@ -48,15 +48,15 @@ by_reset n r d unix_seconds s is = by_command n r d.seq d.command unix_seconds s
 
 -- ---- the other commands
 
-abbrev pub Stood : Turn → KernelFields → Type 0
-Stood t new = (Ok Arrived ≡ t.answer) × StandsFor new (after t)
+abbrev pub HasArrived : Turn → KernelFields → Type 0
+HasArrived t new = (Ok Arrived ≡ t.answer) × StandsFor new (after t)
 
 -- the fields stand for a state with this board, and these letters are posted
 told_stands : (n : ℕ) (r : Request) (d : DapRequest) (unix_seconds : ℕ) (s : KernelState) (old : KernelFields)
     (lab : LabState) (store : StoreState) (b : Board) (told letters : List Letter)
     → StandsFor old s → LabStandsFor lab b → letters ≡ between_busy_and_idle s.connections r.header told
     → Keeps (posted unix_seconds letters s.posts) store
-    → Stood (posting Arrived unix_seconds (between_busy_and_idle s.connections r.header told)
+    → HasArrived (posting Arrived unix_seconds (between_busy_and_idle s.connections r.header told)
     (with_board b s.work s))
     (record old { lab = lab; store = store })
 told_stands n r d unix_seconds s old lab store b told letters stands board are kept =
@@ -76,7 +76,7 @@ pub refused_stands : (n : ℕ) (r : Request) (d : DapRequest) (unix_seconds : �
     → StandsFor old s
     → letters ≡ between_busy_and_idle s.connections r.header (debug_reply n r d (Refused message) ∷ [])
     → Keeps (posted unix_seconds letters s.posts) store
-    → Stood (refusing n r d message unix_seconds s) (record old { store = store })
+    → HasArrived (refusing n r d message unix_seconds s) (record old { store = store })
 refused_stands n r d unix_seconds s old store message letters stands are kept =
     told_stands n r d unix_seconds s old old.lab store s.board (debug_reply n r d (Refused message) ∷ [])
     letters stands stands.board are kept
@@ -88,7 +88,7 @@ by_performed : (g : Result (Body × Board) EventFault) (n : ℕ) (r : Request) (
     → letters ≡ between_busy_and_idle s.connections r.header
     (performed_letters res (after_letter (event_after d.command) r s) n r d)
     → Keeps (posted unix_seconds letters s.posts) store
-    → Stood (answering n r d unix_seconds s g) (record old { lab = lab; store = store })
+    → HasArrived (answering n r d unix_seconds s g) (record old { lab = lab; store = store })
 by_performed (Ok (body, b)) n r d unix_seconds s old lab store res letters stands other did are kept =
     let after = after_letter (event_after d.command) r s in
     let L : Result Body EventFault → List Letter =
@@ -110,7 +110,7 @@ pub performed_stands : (n : ℕ) (r : Request) (d : DapRequest) (unix_seconds : 
     → letters ≡ between_busy_and_idle s.connections r.header
     (performed_letters res (after_letter (event_after d.command) r s) n r d)
     → Keeps (posted unix_seconds letters s.posts) store
-    → Stood (performing n r d unix_seconds s) (record old { lab = lab; store = store })
+    → HasArrived (performing n r d unix_seconds s) (record old { lab = lab; store = store })
 performed_stands n r d unix_seconds s old lab store res letters stands other does want are kept =
-    by_performed (command_result d.command s.board) n r d unix_seconds s old lab store res letters stands other
-    (does s.board stands.board want) are kept
+    by_performed (command_result d.command s.board) n r d unix_seconds s old lab store res letters stands
+    other (does s.board stands.board want) are kept

@@ -1,4 +1,4 @@
--- One entry more.
+-- A kernel's fields stand for its entries again after one more.
 use Rattle.std.proofs.Common.{◌≡◌, ◌≢◌, ◌∙◌, ℕ, ◌<◌, true, false, List, [], ◌∷◌, ◌++◌}
 use Rattle.std.proofs.Common.{length, Result, Err, sym, ap, subst, arith, length-append}
 use Rattle.std.proofs.lemmas.Bool.{false≢true}
@@ -9,23 +9,24 @@ use Rattle.kern_core.specs.declared.fault.KernelFault.{KernelFault}
 use Rattle.kern_core.specs.declared.fault.KernelFault.TheVariants.{OutOfMemory}
 use Rattle.kern_core.specs.States.{kernel_before_calls, after}
 use Rattle.kern_core.specs.Turns.{turn, next, state_after}
-use Rattle.kern_core.specs.Stands.{KernelFields, StandsFor, Takes}
+use Rattle.kern_core.specs.Stands.{KernelFields, StandsFor, TakesTurn}
 use Rattle.kern_core.specs.Kernels.{IsKept, is_entry}
 
 state_after-more : (calls : List Call) (call : Call)
     → state_after (calls ++ call ∷ []) ≡ after (turn call (state_after calls))
 state_after-more calls call = fold-append next kernel_before_calls calls (call ∷ [])
 
-no_want : (answer : Result Reply KernelFault) → is_entry answer ≡ true → answer ≢ Err OutOfMemory
-no_want answer entry want = let is : false ≡ true = ap is_entry (sym want) ∙ entry in absurd (false≢true is)
+had_memory : (answer : Result Reply KernelFault) → is_entry answer ≡ true → answer ≢ Err OutOfMemory
+had_memory answer entry lacks =
+    let is : false ≡ true = ap is_entry (sym lacks) ∙ entry in absurd (false≢true is)
 
 pub kept_more : (old new : KernelFields) (calls : List Call) (limit : ℕ) (call : Call)
     (answer : Result Reply KernelFault)
-    → IsKept old calls limit → length calls < limit → Takes (turn call) old answer new
+    → IsKept old calls limit → length calls < limit → TakesTurn (turn call) old answer new
     → is_entry answer ≡ true
     → IsKept new (calls ++ call ∷ []) limit
 kept_more old new calls limit call answer kept room takes entry =
-    let made = takes.0 (state_after calls) kept.stands (no_want answer entry) in
+    let made = takes.0 (state_after calls) kept.stands (had_memory answer entry) in
     let more = length-append calls (call ∷ []) in
     let posts = kept.posts in
     let peers = kept.peers in
@@ -39,5 +40,5 @@ kept_more old new calls limit call answer kept room takes entry =
       peers = omega (arith, more);
       count = omega (arith, more);
       fits = omega (arith, more);
-      few = kept.few;
+      bounded = kept.bounded;
     }

@@ -1,4 +1,4 @@
--- The next cell: its letters, and the fields after it.
+-- Loading the next cell: its letters, and the fields after it.
 use Rattle.std.proofs.Common.{◌≡◌, ◌∙◌, ℕ, ◌+◌, ◌≤◌, Bool, true, false, List, ◌∷◌, not, ◌&&◌, Ok}
 use Rattle.std.proofs.Common.{refl, sym, ap, subst, arith, if◌then◌else◌}
 use Rattle.lab_core.specs.Labs.{LabState, StandsFor as LabStandsFor}

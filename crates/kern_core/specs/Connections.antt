@@ -41,7 +41,7 @@ leave_turn n s = with_peer n s (λ p. turn_without_posts reply.Left
 
 -- ---- subscribing
 
--- the kernel is busy where a run exists, a start is pending or executions wait
+-- the kernel is busy if there is a run, a start is pending, or executions wait
 abbrev pub is_some_start : Option ℕ → Bool
 is_some_start None = false
 is_some_start (Some address) = true
@@ -56,14 +56,14 @@ is_busy s = is_run s.board.run || (is_some_start s.work.pending || not (is_empty
 abbrev pub state_of : KernelState → ExecutionState
 state_of s = if is_busy s then Busy else Idle
 
--- to that connection alone
+-- a status letter to this connection alone
 abbrev pub status_to : ℕ → KernelState → Letter
 status_to n s = record {
   envelope = record { to = n ∷ []; head = Topic; parent = codes "{}" };
   content = Status (state_of s);
 }
 
--- who subscribes to statuses is told how the kernel is
+-- a connection that subscribes to statuses gets the current one
 abbrev pub first_status : ℕ → Bytes → KernelState → List Letter
 first_status n prefix s =
     if starts_with (λ x y. x == y) (codes "status") prefix then status_to n s ∷ [] else []

@@ -1,4 +1,4 @@
--- What is made ready before the board is asked for a debugger.
+-- What a debug request allocates before the board is asked.
 use Rattle.std.specs.Prelude.{◌≡◌, ℕ, List}
 use Rattle.dap_talk.specs.declared.command.DapRequest.{DapRequest}
 use Rattle.dap_talk.specs.Table.{name_of, spelling_of}
@@ -6,18 +6,21 @@ use Rattle.kern_request.specs.declared.request.Request.{Request}
 use Rattle.kern_peers.specs.Connections.{Connections}
 use Rattle.kern_post.specs.declared.post.Letter.{Letter}
 use Rattle.kern_exec.specs.Letters.{reply_envelope, between_busy_and_idle}
-use Rattle.kern_exec.specs.Kits.{IsEnclosed}
-use Rattle.kern_core.specs.declared.state.debug.DebugKit.{DebugKit}
+use Rattle.kern_exec.specs.Prepared.{IsBusyIdle}
+use Rattle.kern_core.specs.declared.state.debug.PreparedDebugReply.{PreparedDebugReply}
 
-pub record IsDebugKit (connections : Connections) (n : ℕ) (r : Request) (d : DapRequest) (k : DebugKit)
-    : Type 0 where
-  pub enclosed : IsEnclosed connections r.header k.enclosed
+-- k is the reply to the request, but for its outcome
+pub record IsPreparedDebugReply (connections : Connections) (n : ℕ) (r : Request) (d : DapRequest)
+    (k : PreparedDebugReply) : Type 0 where
+  pub busy_idle : IsBusyIdle connections r.header k.busy_idle
   pub envelope : k.envelope ≡ reply_envelope n r.identities r.header
   pub request_seq : k.request_seq ≡ d.seq
   pub command : k.command ≡ spelling_of (name_of d.command)
 
--- whichever request the kit is of, between busy and idle it is told so
-abbrev pub Tells : DebugKit → (ℕ → Request → DapRequest → List Letter) → List Letter → Type 0
-Tells k told letters =
-    (connections : Connections) (n : ℕ) (r : Request) (d : DapRequest) → IsDebugKit connections n r d k
-    → letters ≡ between_busy_and_idle connections r.header (told n r d)
+-- for whichever request k was prepared, the letters are busy, those of the content, and idle
+abbrev pub AnswersWith : PreparedDebugReply → (ℕ → Request → DapRequest → List Letter) → List Letter
+    → Type 0
+AnswersWith k content letters =
+    (connections : Connections) (n : ℕ) (r : Request) (d : DapRequest)
+    → IsPreparedDebugReply connections n r d k
+    → letters ≡ between_busy_and_idle connections r.header (content n r d)

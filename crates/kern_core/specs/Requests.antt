@@ -1,4 +1,4 @@
--- What each request is answered with, and what it makes of a kernel (Jupyter messaging, "Messages on the
+-- The reply to each request, and what the request does to the kernel (Jupyter messaging, "Messages on the
 -- shell channel" and the sections that follow it).
 use Rattle.std.specs.Prelude.{ℕ, nat_lt, nat_le, List, [], ◌∷◌, ◌++◌, length, Bool, true, false, ◌&&◌, Option}
 use Rattle.std.specs.Prelude.{Some, None, option_to_list, Result, Ok, Err, codes, if◌then◌else◌}
@@ -51,7 +51,7 @@ use Rattle.kern_core.specs.Connections.{with_peer}
 
 -- ---- one reply between busy and idle
 
--- a text is incomplete where its first fault, and so its only one, is that an ENDIF is missing
+-- a text is incomplete if its first fault is a missing ENDIF, which is then its only one
 abbrev pub completeness_by : FaultKind → Completeness
 completeness_by (Conditional true) = completeness.Incomplete
 completeness_by _ = completeness.Invalid
@@ -60,7 +60,7 @@ abbrev pub completeness_of : {A : Type 0} → Result A CellFault → Completenes
 completeness_of (Ok statements) = completeness.Complete
 completeness_of (Err (line, column, kind)) = completeness_by kind
 
--- what is answered by one reply that neither asks the board nor changes anything
+-- the reply to a request that does nothing but get a reply
 abbrev pub plain_reply : ℕ → RequestBody → Option Content
 plain_reply count body.KernelInfo = Some content.KernelInfoReply
 plain_reply count (body.IsComplete code) =
@@ -86,7 +86,7 @@ replying n r c unix_seconds s =
 
 -- ---- executions
 
--- the error, where the request isn't silent, and the reply
+-- the error, unless the request is silent, and the reply
 abbrev pub full_letters : ℕ → Request → Bool → Connections → ℕ → List Letter
 full_letters n r is_silent connections count =
     error_letters is_silent connections r.header (Failed cause.QueueFull) ++
@@ -102,13 +102,13 @@ executing n identity r x unix_seconds s =
     then turn_without_posts Arrived (record s { work = enqueue (execution_of n identity r x) s.work })
     else queue_full n r x unix_seconds s
 
--- ---- a run that is ended from outside
+-- ---- requests that end the run
 
--- the execution whose run is ended, if there is a run
+-- the execution whose run ends, if there is a run
 abbrev pub cut_of : KernelState → Option Current
 cut_of s = if is_run s.board.run then s.work.current else None
 
--- what it posts
+-- the letters of its end
 abbrev pub cut_letters : Cause → KernelState → List Letter
 cut_letters c s = letters_of_cut s.connections (cut_of s) c
 
@@ -127,7 +127,7 @@ interrupting n r unix_seconds s = posting Arrived unix_seconds
 abbrev pub set_shut : KernelState → KernelState
 set_shut s = record s { is_shut = true }
 
--- with a restart the board is reset
+-- the board is reset only if the kernel restarts
 abbrev pub shutting : ℕ → Request → Bool → ℕ → KernelState → Turn
 shutting n r false unix_seconds s = posting Arrived unix_seconds
     (between_busy_and_idle s.connections r.header (reply_to n r (content.ShutdownReply false) ∷ []))
@@ -157,7 +157,7 @@ ended_by command s = if is_reset command then cut_letters cause.Reset s else []
 abbrev pub work_by : DapCommand → KernelState → Work
 work_by command s = if is_reset command then cut_work s else s.work
 
--- what all are told when it was done
+-- the event that is published after the command was performed
 abbrev pub after_letter : Option Event → Request → KernelState → Option Letter
 after_letter None r s = None
 after_letter (Some e) r s = Some (publication s.connections r.header (content.DebugEvent e))
@@ -166,7 +166,7 @@ abbrev pub refusing : ℕ → Request → DapRequest → Text → ℕ → Kernel
 refusing n r d message unix_seconds s = posting Arrived unix_seconds
     (between_busy_and_idle s.connections r.header (debug_reply n r d (Refused message) ∷ [])) s
 
--- what is told of a command that was performed so, and after it of what was done
+-- the letters that report the result of a command, and the event after it if there is one
 abbrev pub performed_letters : Result Body EventFault → Option Letter → ℕ → Request → DapRequest → List Letter
 performed_letters (Ok body) after n r d = debug_reply n r d (Success body) ∷ option_to_list after
 performed_letters (Err fault) after n r d = debug_reply n r d (Refused (refusal_name fault)) ∷ []
@@ -181,7 +181,7 @@ answering n r d unix_seconds s (Err fault) = refusing n r d (refusal_name fault)
 abbrev pub performing : ℕ → Request → DapRequest → ℕ → KernelState → Turn
 performing n r d unix_seconds s = answering n r d unix_seconds s (command_result d.command s.board)
 
--- no request that was read is out of these bounds
+-- every request that was read from a message is within these bounds
 abbrev pub is_bounded : DapCommand → Bool
 is_bounded (SetBreakpoints path lines) = nat_le (length lines) 256
 is_bounded (Disassemble address offset instruction_offset count) = nat_le 1 count && nat_le count 256
@@ -192,7 +192,7 @@ debugging n r d unix_seconds s =
     if is_bounded d.command then performing n r d unix_seconds s
     else refusing n r d (codes "Arguments") unix_seconds s
 
--- ---- the others
+-- ---- other requests
 
 abbrev pub typing : Bytes → KernelState → Turn
 typing bytes s = turn_without_posts Arrived (record s { board = with_operation (Typed bytes) s.board })
@@ -202,11 +202,11 @@ closing r comm_id unix_seconds s = posting Arrived unix_seconds
     (between_busy_and_idle s.connections r.header
     (publication s.connections r.header (content.CommClose comm_id) ∷ [])) s
 
--- no more than busy and idle
+-- busy and idle, and no more
 abbrev pub passing : Request → ℕ → KernelState → Turn
 passing r unix_seconds s = posting Arrived unix_seconds (between_busy_and_idle s.connections r.header []) s
 
--- an input_reply that isn't as needed is passed over
+-- an input_reply with a bad content is ignored
 abbrev pub ignore_request : Request → NeedyRequest → ℕ → KernelState → Turn
 ignore_request r needy.InputReply unix_seconds s = turn_without_posts Arrived s
 ignore_request r _ unix_seconds s = passing r unix_seconds s

@@ -1,13 +1,13 @@
--- What is made ready before a slice of the run.
+-- What is allocated before a slice of the run.
 use Rattle.std.specs.Prelude.{Option, Some, None}
 use Rattle.kern_peers.specs.Connections.{Connections}
 use Rattle.kern_exec.specs.declared.execution.Current.{Current}
-use Rattle.kern_exec.specs.declared.slices.SliceKit.{SliceKit}
-use Rattle.kern_exec.specs.Kits.{IsSliceKit}
+use Rattle.kern_exec.specs.declared.slices.PreparedSlice.{PreparedSlice}
+use Rattle.kern_exec.specs.Prepared.{IsPreparedSlice}
 
--- the kit of the execution that is under way, if one is
-abbrev pub IsKitOf : Connections → Option Current → Option SliceKit → Type 0
-IsKitOf connections None None = Unit {0}
-IsKitOf connections (Some c) (Some k) = IsSliceKit connections c k
-IsKitOf connections None (Some k) = ⊥
-IsKitOf connections (Some c) None = ⊥
+-- what a slice of the current execution needs, if there is one
+abbrev pub IsPreparedFor : Connections → Option Current → Option PreparedSlice → Type 0
+IsPreparedFor connections None None = Unit {0}
+IsPreparedFor connections (Some c) (Some k) = IsPreparedSlice connections c k
+IsPreparedFor connections None (Some k) = ⊥
+IsPreparedFor connections (Some c) None = ⊥

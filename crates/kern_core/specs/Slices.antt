@@ -1,4 +1,4 @@
--- What a slice does: the next piece of the run, its start, or the next cell.
+-- What a Slice does: the next slice of the run, its start, or loading the next cell.
 use Rattle.std.specs.Prelude.{ℕ, List, [], ◌∷◌, Option, Some, None, if◌then◌else◌}
 use Rattle.lab_core.specs.declared.run_state.RunState.{RunState}
 use Rattle.lab_core.specs.declared.run_state.RunState.TheVariants.{NoRun, Running, Stopped}
@@ -19,7 +19,7 @@ use Rattle.kern_core.specs.declared.call.Reply.{Reply}
 use Rattle.kern_core.specs.declared.call.Reply.TheVariants.{More, Idle, Ended}
 use Rattle.kern_core.specs.States.{KernelState, Turn, turn_without_posts, posting}
 
--- ---- the run goes on
+-- ---- a slice of the run
 
 abbrev pub letters_of : Connections → Option Current → List PortOperation → SliceOutcome → List Letter
 letters_of connections None traffic ending = []
@@ -29,7 +29,7 @@ abbrev pub work_after : SliceOutcome → Work → Work
 work_after (outcome.End e) w = clear_current w
 work_after _ w = w
 
--- there is nothing to do for a run that waits
+-- a run that waits for an interrupt has nothing to do
 abbrev pub reply_of : SliceOutcome → Reply
 reply_of outcome.Waiting = Idle
 reply_of _ = More
@@ -59,7 +59,7 @@ abbrev pub loading : ℕ → List Execution → KernelState → Turn
 loading unix_seconds [] s = turn_without_posts Idle s
 loading unix_seconds (x ∷ rest) s = loading_as unix_seconds x rest (cell_given x.request.code s.board) s
 
--- ---- a slice
+-- ---- any slice
 
 abbrev pub by_start : Option ℕ → ℕ → KernelState → Turn
 by_start None unix_seconds s = loading unix_seconds s.work.queue s

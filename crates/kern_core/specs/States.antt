@@ -1,4 +1,4 @@
--- A kernel without its journal, and what a call makes of it.
+-- A kernel without its journal, and what a call does to it.
 use Rattle.std.specs.Prelude.{ℕ, List, [], Bool, false, Result, Ok, Err}
 use Rattle.lab_core.specs.Board.{Board, opening}
 use Rattle.kern_post.specs.declared.post.Letter.{Letter}
@@ -13,9 +13,9 @@ pub record KernelState : Type 0 where
   pub board : Board
   pub connections : Connections
   pub work : Work
-  -- all that were made
+  -- all posts so far
   pub posts : List Post
-  -- a shutdown came
+  -- the kernel was shut down
   pub is_shut : Bool
 
 abbrev pub kernel_before_calls : KernelState
@@ -27,8 +27,8 @@ kernel_before_calls = record {
   is_shut = false;
 }
 
--- what a call gives: the reply, the kernel with its posts so far, and the letters that it posts at this
--- moment
+-- the outcome of a call: the answer, the kernel with the posts before the call, and the letters that it
+-- then posts at this moment
 pub record Turn : Type 0 where
   pub answer : Result Reply KernelFault
   pub state : KernelState

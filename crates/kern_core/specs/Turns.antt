@@ -1,4 +1,4 @@
--- What each call answers, and the kernel after a list of calls.
+-- The turn of each call, and the kernel after a list of calls.
 use Rattle.std.specs.Prelude.{List, Result}
 use Rattle.std.specs.List.{fold}
 use Rattle.kern_core.specs.declared.call.Call.{Call}
@@ -21,10 +21,10 @@ turn (call.Fetch n from) s = fetch_turn n from s
 abbrev pub next : KernelState → Call → KernelState
 next s call = after (turn call s)
 
--- after these calls, from the first on
+-- the kernel after these calls, in their order
 abbrev pub state_after : List Call → KernelState
 state_after calls = fold next kernel_before_calls calls
 
--- what a call answers that follows these
+-- the answer to a call after these
 abbrev pub answer_after : List Call → Call → Result Reply KernelFault
 answer_after calls call = (turn call (state_after calls)).answer

@@ -1,4 +1,4 @@
-//! Calls on a kernel, and what they answer.
+//! Calls on a kernel, and their replies.
 
 use base_text::boxed::Boxed;
 use base_text::sequence::Bytes;
@@ -6,11 +6,13 @@ use jup_wire::channel::Channel;
 use kern_post::post::Posts;
 use kern_request::request::Request;
 
-/// What a connection wants or no longer wants: the posts whose topic begins with the prefix.
+/// A subscription to the posts whose topic begins with a prefix, or its cancellation.
 #[derive(Drop)]
 pub struct Subscription {
+    /// False if the subscription is cancelled.
     pub wants: bool,
     pub prefix: Bytes,
+    /// When it came, in seconds since 1970.
     pub unix_seconds: u64,
 }
 
@@ -18,49 +20,50 @@ pub struct Subscription {
 #[derive(Drop)]
 pub struct Arrival {
     pub request: Request,
+    /// In seconds since 1970.
     pub unix_seconds: u64,
 }
 
-/// A call, as it is journaled. Moments are seconds since 1970.
+/// A call, as it stands in the journal. Moments are in seconds since 1970.
 ///
-/// A running cell makes tens of thousands of slices a second, so a call takes 16 bytes: what is longer
-/// lies behind a pointer.
+/// A running cell makes tens of thousands of slices a second, so a call is 16 bytes long: what is longer is
+/// behind a pointer.
 #[derive(Drop)]
 pub enum Call {
-    /// A connection comes, with an identity or an empty one.
+    /// A connection joins a channel. Its identity may be empty.
     Join {
         channel: Channel,
         identity: Boxed<Bytes>,
     },
-    /// It goes.
+    /// A connection leaves.
     Leave {
         connection: u32,
     },
-    /// It wants posts, or no longer wants them.
+    /// An iopub connection subscribes, or cancels a subscription.
     Subscribe {
         connection: u32,
         subscription: Boxed<Subscription>,
     },
-    /// A request arrives on it.
+    /// A request arrives on a connection.
     Arrive {
         connection: u32,
         arrival: Boxed<Arrival>,
     },
-    /// The kernel goes on: with the run, its start or the next cell.
+    /// The kernel makes the next slice of the run, starts it, or loads the next cell.
     Slice {
         unix_seconds: u64,
     },
-    /// The posts to a connection among the 64 numbers from this one on.
+    /// A connection fetches its posts among the 64 numbers from this one on.
     Fetch {
         connection: u32,
         from: u64,
     },
 }
 
-/// What a call answers.
+/// The reply to a call.
 #[derive(Drop)]
 pub enum Reply {
-    /// The connection's number, and that of the next post.
+    /// The connection's number, and the number of the next post.
     Joined {
         connection: u32,
         from: u64,
@@ -68,13 +71,14 @@ pub enum Reply {
     Left,
     Subscribed,
     Arrived,
-    /// Something was done, and there may be more to do.
+    /// A slice did something, and there may be more to do.
     More,
-    /// There was nothing to do, or the run waits for an interrupt.
+    /// A slice had nothing to do, or the run waits for an interrupt.
     Idle,
-    /// A shutdown came.
+    /// The kernel was shut down, and a slice did nothing.
     Ended,
-    /// Posts, from which number to go on, and whether a shutdown came.
+    /// The posts that were fetched, the number from which to fetch next, and whether the kernel was shut
+    /// down.
     Fetched {
         posts: Posts,
         next: u64,

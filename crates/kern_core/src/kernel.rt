@@ -1,9 +1,6 @@
 //! The kernel.
-ghost use Rattle.std.specs.Prelude.{◌≡◌, ◌<◌, ◌≤◌, ◌++◌, ◌∷◌, [], length, nat_le, true, false, Err, IfOk};
-ghost use Rattle.std.specs.Prelude.{option_map, slice_get};
-ghost use Rattle.kern_core.specs.declared.fault.KernelFault.TheVariants.{JournalFull};
-ghost use Rattle.kern_core.specs.Turns.{answer_after};
-ghost use Rattle.kern_core.specs.Kernels.{is_entry, is_full};
+ghost use Rattle.std.specs.Prelude.{◌≡◌, ◌≤◌, [], length, nat_le, IfOk, option_map, slice_get};
+ghost use Rattle.kern_core.specs.Kernels.{is_entry, MakesCall};
 
 use crate::call::{Call, Reply};
 use crate::fault::KernelFault;
@@ -11,14 +8,14 @@ use crate::state::KernelState;
 use std::alloc::{AllocError, Global};
 use std::marker::Model;
 
-/// A kernel: its state, and its journal, which is the list of the calls that made it so.
+/// A kernel: its state, and its journal, which is the list of the calls that led to that state.
 pub struct Kernel {
     state: KernelState,
     entries: Vec<Call>,
     limit: u32,
 }
 
-// One function for all places where a kernel is dropped, here and in the crates above.
+// Written out so that kernels are dropped by one function, here and in the crates above.
 impl Drop for Kernel {
     fn drop(self) {
         let Self {
@@ -39,7 +36,7 @@ impl Model for Kernel {
     ghost invariant = { λ k. IsKept k.state k.entries.items k.limit };
 }
 
-/// Whether a call that was answered so is an entry of the journal.
+/// Whether a call with this answer is an entry of the journal.
 pub fn is_entry(answer: &Result<Reply, KernelFault>) -> bool
     ensures { result ≡ is_entry answer.now }
 {
@@ -50,10 +47,9 @@ pub fn is_entry(answer: &Result<Reply, KernelFault>) -> bool
 }
 
 impl Kernel {
-    /// A kernel with no entry, whose journal may have so many, from 1 to 4,194,304.
+    /// A kernel whose journal is empty and can have at most `journal_limit` entries, from 1 to 4,194,304.
     pub fn new(alloc: Global, journal_limit: u32) -> Result<Kernel, AllocError>
-        requires some { 1 ≤ journal_limit }
-        requires few { journal_limit ≤ 4194304 }
+        requires { (1 ≤ journal_limit) × (journal_limit ≤ 4194304) }
         ensures { IfOk result (λ kernel. kernel ≡ record { entries = []; limit = journal_limit }) }
     {
         let state = KernelState::new(alloc)?;
@@ -64,18 +60,10 @@ impl Kernel {
         })
     }
 
-    /// One call. It becomes the last entry, and its reply is the stated one after those before it; or
-    /// memory was wanting, or the journal has as many entries as it may, and nothing changed.
+    /// Makes a call, which becomes the last entry of the journal. If memory runs out or the journal is
+    /// full, nothing changes. A full journal is reported even if there is no memory either.
     pub fn act(&mut self, call: Call) -> Result<Reply, KernelFault>
-        ensures limit { self.new.limit ≡ self.old.limit }
-        ensures entered { is_entry result ≡ true → self.new.entries ≡ self.old.entries ++ call ∷ [] }
-        ensures answered { is_entry result ≡ true → result ≡ answer_after self.old.entries call }
-        ensures room { is_entry result ≡ true → length self.old.entries < self.old.limit }
-        ensures refused { is_entry result ≡ false → self.new ≡ self.old }
-        ensures full { is_full result ≡ true
-            → (is_entry result ≡ false) × (length self.old.entries ≡ self.old.limit) }
-        // Where the journal is full, that is told, and not that memory was wanting.
-        ensures limited { length self.old.entries ≡ self.old.limit → result ≡ Err JournalFull }
+        ensures { MakesCall call self.old result self.new }
     {
         if self.entries.len() >= self.limit as usize {
             drop(call);
@@ -95,14 +83,14 @@ impl Kernel {
         Err(KernelFault::OutOfMemory)
     }
 
-    /// Whether the journal has as many entries as it may.
+    /// Whether the journal has the most entries that it can have.
     pub fn full(&self) -> bool
         ensures { result ≡ nat_le self.now.limit (length self.now.entries) }
     {
         self.limit as usize <= self.entries.len()
     }
 
-    /// The entry at a place, from 0.
+    /// The entry at an index, from 0.
     pub fn entry(&self, place: usize) -> Option<&Call>
         ensures { option_map (λ call. call.now) result ≡ slice_get self.now.entries place }
     {

@@ -1,8 +1,8 @@
-// The kernel over memory: calls in, replies and posts out. The reply of each call and every post are those of
-// the stated kernel after exactly the calls before it, which are its journal. Out of memory and a full
-// journal leave no entry and change nothing; other refusals are entries that change nothing else. A slice
-// makes all its room before the board's first step. Values with many parts are dropped by a call, which keeps
-// proofs short.
+// The kernel in memory: calls in, replies and posts out. The reply to each call, and every post, is what
+// the definitions in specs/ say for the calls before it, which are the kernel's journal. A call that fails
+// because memory runs out or the journal is full leaves no entry and changes nothing; any other refused
+// call is an entry, and changes nothing else. A slice allocates all that it needs before the board's first
+// step. Values with many parts are dropped by a call, which keeps proofs short.
 #![tactic(auto)]
 
 pub mod call;

@@ -1,4 +1,4 @@
-//! Replies that neither ask the board nor change anything.
+//! Replies that need no board and change nothing.
 ghost use Rattle.std.specs.Prelude.{◌≡◌, IfOk, Ok, Err};
 ghost use Rattle.asm_text.specs.Statements.{statements_of};
 ghost use Rattle.kern_core.specs.Requests.{completeness_by, completeness_of, plain_reply};
@@ -46,7 +46,8 @@ fn bad_content(request: NeedyRequest, count: u64) -> Option<Content>
     }
 }
 
-/// The one reply to a request that is answered by one, after so many executions were counted.
+/// The reply to a request that does nothing but get a reply, and None for any other. `count` is the
+/// execution count.
 pub fn plain_reply(
     alloc: Global,
     body: &RequestBody,

@@ -2,7 +2,7 @@
 ghost use Rattle.std.specs.Prelude.{◌≡◌, IfOk};
 ghost use Rattle.kern_core.specs.States.{kernel_before_calls};
 ghost use Rattle.kern_core.specs.Turns.{turn};
-ghost use Rattle.kern_core.specs.Stands.{StandsFor, Stands, Takes, HasRoom};
+ghost use Rattle.kern_core.specs.Stands.{StandsFor, Stands, TakesTurn, HasRoom};
 
 mod connections;
 mod debug;
@@ -18,7 +18,7 @@ use lab_core::lab::Lab;
 use std::alloc::{AllocError, Global};
 use std::marker::Model;
 
-/// A kernel without its journal: the board, who is there, the executions, the posts that are kept.
+/// A kernel without its journal: the board, the connections, the executions, and the posts that are kept.
 #[derive(Drop)]
 pub struct KernelState {
     lab: Lab,
@@ -44,8 +44,8 @@ impl Model for KernelState {
 }
 
 impl KernelState {
-    /// A kernel on which no call was made, with room for all posts that are kept and all executions
-    /// that may wait.
+    /// A kernel on which no call was made. Allocates room for all posts that are kept and all executions
+    /// that can wait.
     pub fn new(alloc: Global) -> Result<KernelState, AllocError>
         ensures stands { IfOk result (λ state. StandsFor state kernel_before_calls) }
         ensures room { IfOk result (λ state. (state.store.made ≡ 0)
@@ -69,12 +69,12 @@ impl KernelState {
         }
     }
 
-    /// One call.
+    /// Makes a call.
     #[tactic(auto, unfolding(crate::specs::Turns::turn))]
     pub fn make(&mut self, call: &Call) -> Result<Reply, KernelFault>
         requires room { HasRoom self.old }
         requires stands { Stands self.old }
-        ensures { Takes (turn call.now) self.old result self.new }
+        ensures { TakesTurn (turn call.now) self.old result self.new }
     {
         match call {
             Call::Join { channel, identity } => self.join(*channel, identity.get()),

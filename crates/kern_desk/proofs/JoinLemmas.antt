@@ -1,4 +1,4 @@
--- What a Join is answered.
+-- The answers to a Join.
 use Rattle.std.proofs.Common.{◌≡◌, ℕ, Bool, true, false, if◌then◌else◌, List, Result, Ok, Err, IfOk, IfErr}
 use Rattle.std.proofs.Common.{refl, sym, subst}
 use Rattle.jup_wire.specs.declared.channel.Channel.{Channel}
@@ -41,7 +41,7 @@ pub join_answer : (v w : PassState Call) (channel : Channel) (identity : List �
 join_answer v w channel identity (Ok r) t = entry_fits v w channel identity (Ok r) t refl
 join_answer v w channel identity (Err f) t = tt
 
--- a refusal
+-- a refused Join
 pub unjoined_by : {J : Type 0} (v w : PassState Call) (call : Call) (answer : Result Reply KernelFault)
     (result : Result J KernelFault)
     → Turned seated_answer is_entry is_full v call answer w → IfErr result (λ f. answer ≡ Err f)
@@ -51,7 +51,7 @@ unjoined_by v w call answer (Err f) t e =
     let T : Result Reply KernelFault → Type 0 = λ a. Turned seated_answer is_entry is_full v call a w in
     IsRefused f (subst T e t)
 
--- a number, and where to begin
+-- a Join that added a connection
 pub came_by : (v w : PassState Call) (call : Call) (answer : Result Reply KernelFault)
     (result : Result Joined KernelFault)
     → Turned seated_answer is_entry is_full v call answer w

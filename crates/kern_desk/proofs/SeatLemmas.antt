@@ -1,4 +1,4 @@
--- Seats and calls, as many of the one as of the other.
+-- Lists of seats and of calls, of the same length.
 use Rattle.std.proofs.Common.{◌≡◌, ℕ, suc, zero, List, [], ◌∷◌, ◌++◌, length, Option, Some, None, slice_get}
 use Rattle.std.proofs.Common.{refl, sym, ap, arith}
 use Rattle.std.specs.List.{zip}
@@ -35,7 +35,7 @@ no-second : {A B : Type 0} (o : Option A) → option_zip {T = A} {U = B} o None 
 no-second None = refl
 no-second (Some x) = refl
 
--- an entry is the seat and the call at its place
+-- an entry is the seat and the call at its index
 pub get-zip : (ss : List ℕ) (cs : List Call) (k : ℕ)
     → slice_get (zip ss cs) k ≡ option_zip (slice_get ss k) (slice_get cs k)
 get-zip [] cs k = refl

@@ -1,4 +1,4 @@
--- Entries with their seats.
+-- Entries and their seats.
 use Rattle.std.specs.Prelude.{ℕ, List, map, Result}
 use Rattle.kern_core.specs.declared.call.Call.{Call}
 use Rattle.kern_core.specs.declared.call.Reply.{Reply}
@@ -13,6 +13,6 @@ pub record SeatedState : Type 0 where
 abbrev pub calls_of : List (ℕ × Call) → List Call
 calls_of entries = map (λ entry. entry.1) entries
 
--- what a call answers doesn't depend on seats
+-- the answer to a call doesn't depend on seats
 abbrev pub seated_answer : List (ℕ × Call) → Call → Result Reply KernelFault
 seated_answer entries call = answer_after (calls_of entries) call

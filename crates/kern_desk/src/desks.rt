@@ -1,11 +1,9 @@
-//! Desks over new kernels, opened and closed, and the Join of a connection.
-ghost use Rattle.std.specs.Prelude.{◌≡◌, ◌≢◌, ◌<◌, ◌≤◌, All, length, Ok, Err, IfOk, IfErr, IfSome, IfNone};
-ghost use Rattle.lab_turn.specs.History.{FreshFrom, IsHistoryOf, Turned};
+//! Opening and closing desks, and joining.
+ghost use Rattle.std.specs.Prelude.{◌≡◌, ◌<◌, ◌≤◌, All, Ok, Err, IfOk, IfErr};
 ghost use Rattle.kern_core.specs.declared.call.Call.TheVariants.{Join};
 ghost use Rattle.kern_core.specs.declared.call.Reply.TheVariants as reply;
-ghost use Rattle.kern_core.specs.Kernels.{is_entry, is_full};
-ghost use Rattle.kern_desk.specs.Joins.{IsJoinAnswer, IsUnjoined};
-ghost use Rattle.kern_desk.specs.Seats.{seated_answer};
+ghost use Rattle.kern_desk.specs.Desks.{IsNewDesk, ClosesDesk};
+ghost use Rattle.kern_desk.specs.Joins.{IsJoinAnswer, IsJoined, IsUnjoined};
 
 use crate::seated::{Desk, Pass, Seated};
 use base_text::boxed::Boxed;
@@ -18,26 +16,23 @@ use lab_turn::turnstile::Turnstile;
 use std::alloc::{AllocError, Global};
 use std::sync::Wait;
 
-/// The most entries that a journal may be allowed.
+/// The greatest limit that a journal can have.
 pub const MOST_ENTRIES: u32 = 4_194_304;
 
-/// A connection that came.
+/// A new connection.
 #[derive(Clone, Copy)]
 pub struct Joined {
     pub connection: u32,
-    /// The number of the first post that may be for it.
+    /// The number of the next post, from which the connection can fetch.
     pub from: u64,
 }
 
-/// A desk over a new kernel, and its passes, that of seat 0 first, with which no call was made.
+/// A desk over a new kernel whose journal has at most `limit` entries, and one pass for each seat, in the
+/// order of the seats.
 pub fn open_desk(alloc: Global, limit: u32, seats: u32) -> Result<(Desk, Vec<Pass>), AllocError>
-    requires some { 1 ≤ limit }
-    requires few { limit ≤ 4194304 }
+    requires limit { (1 ≤ limit) × (limit ≤ 4194304) }
     requires seats { (0 < seats) × (seats ≤ 1024) }
-    ensures desk { IfOk result (λ opened. (opened.0.seats ≡ seats) × (opened.0.limit ≡ limit)) }
-    ensures count { IfOk result (λ opened. length opened.1.items ≡ seats) }
-    ensures passes { IfOk result (λ opened. FreshFrom 0 opened.0 opened.1.items) }
-    ensures own { IfOk result (λ opened. All (λ p. p.turnstile ≡ opened.0) opened.1.items) }
+    ensures { IfOk result (λ opened. IsNewDesk limit seats opened.0 opened.1.items) }
 {
     let kernel = Kernel::new(alloc, limit)?;
     match Turnstile::open(alloc, Seated::new(alloc, kernel), seats) {
@@ -49,14 +44,11 @@ pub fn open_desk(alloc: Global, limit: u32, seats: u32) -> Result<(Desk, Vec<Pas
     }
 }
 
-/// The kernel with its seats, from a desk with all its passes; None where one is missing, and the desk is
-/// gone.
+/// Closes a desk, given all its passes, and returns the kernel with the seats of its entries. If a pass is
+/// missing, returns None, and the desk and the passes are dropped.
 pub fn close_desk(desk: Desk, passes: Vec<Pass>) -> Option<Seated>
     requires { All (λ p. p.turnstile ≡ desk) passes.items }
-    ensures history { IfSome result (λ seated. IsHistoryOf desk passes.items seated.entries) }
-    ensures limit { IfSome result (λ seated. seated.limit ≡ desk.limit) }
-    ensures all { IfSome result (λ seated. length passes.items ≡ desk.seats) }
-    ensures missing { IfNone result (length passes.items ≢ desk.seats) }
+    ensures { ClosesDesk desk passes.items result }
 {
     match desk.close(passes) {
         Ok(seated) => Some(seated),
@@ -90,8 +82,8 @@ fn joined_by(answer: &Result<Reply, KernelFault>) -> Result<Joined, KernelFault>
     }
 }
 
-/// A connection comes, with an identity or an empty one. That no more turns can be had is told as a full
-/// journal: the kernel takes no more calls.
+/// Adds a connection; its identity may be empty. Fails with `JournalFull` if the desk has no more turns to
+/// give, since the kernel gets no more calls then.
 pub fn join<R: Wait>(
     rt: &R,
     desk: &Desk,
@@ -101,8 +93,7 @@ pub fn join<R: Wait>(
 ) -> Result<Joined, KernelFault>
     requires { pass.old.turnstile ≡ desk.now }
     ensures same { (pass.new.turnstile ≡ desk.now) × (pass.new.seat ≡ pass.old.seat) }
-    ensures ok { IfOk result (λ joined. Turned seated_answer is_entry is_full pass.old (Join channel identity)
-        (Ok (reply.Joined joined.connection joined.from)) pass.new) }
+    ensures ok { IfOk result (IsJoined pass.old (Join channel identity) pass.new) }
     ensures err { IfErr result (IsUnjoined pass.old (Join channel identity) pass.new) }
 {
     match desk.turn(rt, pass, Call::Join { channel, identity }) {

@@ -1,4 +1,4 @@
-//! A kernel with the seat of each entry.
+//! A kernel with the seats of its entries.
 ghost use Rattle.std.specs.Prelude.{◌≡◌, [], option_map, slice_get};
 ghost use Rattle.kern_desk.specs.Seats.{calls_of};
 
@@ -10,7 +10,7 @@ use lab_turn::turnstile::Turnstile;
 use std::alloc::Global;
 use std::marker::Model;
 
-/// A kernel, and the seat of each of its entries.
+/// A kernel, and the seat that made each of its entries.
 #[derive(Drop)]
 pub struct Seated {
     kernel: Kernel,
@@ -32,10 +32,10 @@ impl Model for Seated {
     ghost invariant = { λ s. length s.seats.items ≡ length s.kernel.entries };
 }
 
-/// A desk: a kernel at which passes take turns.
+/// A kernel that passes take turns to call.
 pub type Desk = Turnstile<Seated>;
 
-/// A seat's right to make calls at a desk.
+/// The right to make calls at a desk for a seat.
 pub type Pass = lab_turn::pass::Pass<Seated>;
 
 fn seat_at(seats: &[u32], place: usize) -> Option<u32>
@@ -45,7 +45,7 @@ fn seat_at(seats: &[u32], place: usize) -> Option<u32>
 }
 
 impl Seated {
-    /// A kernel on which no call was made yet, without allocating.
+    /// A kernel on which no call was made yet. Allocates nothing.
     pub fn new(alloc: Global, kernel: Kernel) -> Seated
         requires { kernel.entries ≡ [] }
         ensures { result ≡ record { entries = []; limit = kernel.limit } }
@@ -56,7 +56,7 @@ impl Seated {
         }
     }
 
-    /// The entry at a place, from 0: the seat that made the call, and the call.
+    /// The entry at an index, from 0: the seat that made the call, and the call.
     pub fn entry(&self, place: usize) -> Option<(u32, &Call)>
         ensures { option_map (λ entry. (entry.0, entry.1.now)) result
             ≡ slice_get self.now.entries place }

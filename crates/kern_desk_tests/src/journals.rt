@@ -1,4 +1,4 @@
-//! Journals against the calls that were made, and the same calls on a new kernel.
+//! Compares journals with the recorded calls, and replays them on a new kernel.
 
 use crate::turns::{Row, Turn, act, expect_at};
 use kern_core::kernel::Kernel;
@@ -8,15 +8,15 @@ use kern_test_kit::actions::is_call;
 use std::alloc::Global;
 use std::process::Abort;
 
-/// An entry of a journal, with what came of the call.
+/// An entry of a journal, with the outcome of the call.
 #[derive(Clone, Copy)]
 pub struct Entry {
     pub seat: u32,
     pub turn: Turn,
 }
 
-/// The entries of a desk at which these calls were made, by seat. They must be exactly these calls, and
-/// those of each seat stand in their order.
+/// The entries of a journal, given the turns of each seat. The journal must have exactly their calls, those
+/// of each seat in their order.
 pub fn merge<R: Abort>(rt: &R, alloc: Global, seated: &Seated, made: &[Vec<Turn>]) -> Vec<Entry> {
     let count = count_of(made);
     expect_at(
@@ -42,7 +42,7 @@ fn count_of(made: &[Vec<Turn>]) -> usize {
     count
 }
 
-// The entry at a place, which must be the next call of its seat.
+// The entry at an index, which must be the next call of its seat.
 fn entry_at<R: Abort>(
     rt: &R,
     seated: &Seated,
@@ -54,12 +54,12 @@ fn entry_at<R: Abort>(
     let at = count_up(rt, next, seat);
     let turns = made.get(seat as usize).expect(rt, "the calls of a seat");
     let turn = *turns.get(at).expect(rt, "no more entries than calls");
-    let is_made = is_call(call, turn.action, turn.unix_seconds);
+    let is_made = is_call(call, turn.call.action, turn.call.unix_seconds);
     expect_at(rt, is_made, "another call at entry", place as u64);
     Entry { seat, turn }
 }
 
-// How many calls of the seat were met before this one.
+// How many calls of the seat come before this one. The next time it is one more.
 fn count_up<R: Abort>(rt: &R, next: &mut [usize; 3], seat: u32) -> usize {
     let count = next.get_mut(seat as usize).expect(rt, "one of three seats");
     let at = *count;
@@ -72,8 +72,7 @@ pub fn new_kernel<R: Abort>(rt: &R, alloc: Global) -> Kernel {
     Kernel::new(alloc, MOST_ENTRIES).expect(rt, "memory for a kernel")
 }
 
-/// Makes the calls once more, on a new kernel, in the order of the journal: what comes of them must be
-/// the same.
+/// Replays the calls on a new kernel in the order of the journal. They must have the same outcomes.
 pub fn replay<R: Abort>(rt: &R, alloc: Global, entries: &[Entry]) {
     let mut kernel = new_kernel(rt, alloc);
     make_again(rt, alloc, &mut kernel, entries);
@@ -82,18 +81,12 @@ pub fn replay<R: Abort>(rt: &R, alloc: Global, entries: &[Entry]) {
 
 fn make_again<R: Abort>(rt: &R, alloc: Global, kernel: &mut Kernel, entries: &[Entry]) {
     for (place, entry) in entries.iter().enumerate() {
-        let again = act(
-            rt,
-            alloc,
-            kernel,
-            entry.turn.action,
-            entry.turn.unix_seconds,
-        );
+        let again = act(rt, alloc, kernel, entry.turn.call);
         expect_at(rt, again == entry.turn.outcome, "entry", place as u64);
     }
 }
 
-/// The entries must be exactly the calls of these rows.
+/// Expects the entries of a journal to be exactly the calls of these rows.
 pub fn check_rows<R: Abort>(rt: &R, seated: &Seated, rows: &[Row]) {
     for (place, row) in rows.iter().enumerate() {
         expect_at(rt, is_row(seated, place, *row), "entry", place as u64);
@@ -109,7 +102,7 @@ pub fn check_rows<R: Abort>(rt: &R, seated: &Seated, rows: &[Row]) {
 
 fn is_row(seated: &Seated, place: usize, row: Row) -> bool {
     match seated.entry(place) {
-        Some((seat, call)) => seat as usize == row.0 && is_call(call, row.1, place as u64),
+        Some((seat, call)) => seat == row.0 && is_call(call, row.1, place as u64),
         None => false,
     }
 }

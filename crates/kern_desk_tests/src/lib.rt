@@ -1,8 +1,8 @@
-// The desk over a kernel, used by the passes of one thread and of many, and the limits of the kernel.
-// Calls and replies are plain data here, so that it is kept which seat made which call, and its reply.
-// Once a desk is closed, its journal has exactly these calls, those of each seat in their order.
-// Made again in the order of the journal, on a new kernel and one thread, they get the same replies.
-// What posts, replies and refusals must be is written out. Nothing is here but tests.
+// Tests of the desk over a kernel, with passes in one thread and in several, and of the kernel's limits.
+// Calls and outcomes are plain data here, so that tests can record which seat made which call.
+// Once a desk is closed, its journal has exactly the recorded calls, those of each seat in their order.
+// Replayed in the order of the journal on a new kernel in one thread, they have the same outcomes.
+// The expected posts, replies and faults are written out.
 #![tactic(auto)]
 
 #[cfg(test)]

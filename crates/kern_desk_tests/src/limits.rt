@@ -1,8 +1,8 @@
-//! How many posts are kept, and how many entries a journal has.
+//! The limits of a kernel: how many posts are kept, and how many entries a journal has.
 use crate::journals::new_kernel;
 use crate::outcomes::Outcome;
 use crate::seats::run_rows;
-use crate::turns::{Row, act, expect_at};
+use crate::turns::{Row, TimedAction, Turn, act, expect_at};
 use jup_wire::channel::Channel;
 use kern_core::fault::KernelFault;
 use kern_core::kernel::Kernel;
@@ -11,33 +11,32 @@ use kern_test_kit::actions::{Action, Question};
 use std::alloc::Global;
 use std::process::Abort;
 
-// Makes one call on a kernel, of which this must come.
-fn expect_act<R: Abort>(
-    rt: &R,
-    alloc: Global,
-    kernel: &mut Kernel,
-    action: Action,
-    unix_seconds: u64,
-    wanted: Outcome,
-) {
-    let outcome = act(rt, alloc, kernel, action, unix_seconds);
-    expect_at(rt, outcome == wanted, "the call at", unix_seconds);
+// Makes the call of a turn on a kernel, and expects its outcome.
+fn expect_turn<R: Abort>(rt: &R, alloc: Global, kernel: &mut Kernel, turn: Turn) {
+    let outcome = act(rt, alloc, kernel, turn.call);
+    expect_at(
+        rt,
+        outcome == turn.outcome,
+        "the call at",
+        turn.call.unix_seconds,
+    );
 }
 
-// Has a new kernel make 9,096 posts: a Join on shell as connection 1, and 3,032 requests of three posts.
-// The reply is the second of the three, and the only one that goes to the connection.
+// Makes a new kernel post 9,096 times: a Join on shell as connection 1, and 3,032 requests of three posts
+// each. The reply is the second of the three, and the only one that goes to the connection.
 fn request_often<R: Abort>(rt: &R, alloc: Global, kernel: &mut Kernel) {
-    act(rt, alloc, kernel, Action::Join(Channel::Shell), 0);
+    let join = Turn::new(Action::Join(Channel::Shell), 0, Outcome::Joined(1, 1));
+    expect_turn(rt, alloc, kernel, join);
     for unix_seconds in 1..3033 {
         let action = Action::Ask(1, Question::KernelInfo);
-        expect_act(rt, alloc, kernel, action, unix_seconds, Outcome::Arrived);
+        let turn = Turn::new(action, unix_seconds, Outcome::Arrived);
+        expect_turn(rt, alloc, kernel, turn);
     }
 }
 
 const LAGGED: Outcome = Outcome::Refused(KernelFault::Lagged { first: 5001 });
 
-// From which post to fetch, and what the fetch gives: of 9,096 posts the last 4,096 are kept, from 5,001
-// on.
+// From which post to fetch, and the outcome: of 9,096 posts the last 4,096 are kept, from 5,001 on.
 const KEPT: [(u64, Outcome); 10] = [
     (0, LAGGED),
     (1, LAGGED),
@@ -71,7 +70,12 @@ const KEPT: [(u64, Outcome); 10] = [
 
 fn expect_kept<R: Abort>(rt: &R, alloc: Global, kernel: &mut Kernel) {
     for (from, wanted) in KEPT {
-        expect_act(rt, alloc, kernel, Action::Fetch(1, from), from, wanted);
+        expect_turn(
+            rt,
+            alloc,
+            kernel,
+            Turn::new(Action::Fetch(1, from), from, wanted),
+        );
     }
 }
 
@@ -82,12 +86,16 @@ fn next_of(outcome: Outcome) -> Option<(usize, u64)> {
     }
 }
 
-// The kept posts are no more than 64 fetches of 64 numbers give: 1,365 of them are replies.
+// 64 fetches of 64 numbers each return all kept posts, of which 1,365 are replies.
 fn expect_all<R: Abort>(rt: &R, alloc: Global, kernel: &mut Kernel) {
     let mut from = 5001;
     let mut replies = 0usize;
     for _ in 0..64 {
-        let outcome = act(rt, alloc, kernel, Action::Fetch(1, from), 0);
+        let call = TimedAction {
+            action: Action::Fetch(1, from),
+            unix_seconds: 0,
+        };
+        let outcome = act(rt, alloc, kernel, call);
         let (count, next) = next_of(outcome).expect(rt, "a fetch");
         replies = replies.saturating_add(count);
         from = next;
@@ -107,26 +115,26 @@ fn kept_posts(rt: HostRuntime) {
 
 const FULL: Outcome = Outcome::Refused(KernelFault::JournalFull);
 
-// A journal takes exactly as many slices as its limit tells.
+// Expects a journal to take slices up to its limit.
 fn expect_slices<R: Abort>(rt: &R, alloc: Global, kernel: &mut Kernel, limit: u32) {
     for unix_seconds in 0..limit {
-        expect_at(rt, !kernel.full(), "full at", u64::from(unix_seconds));
-        expect_act(
-            rt,
-            alloc,
-            kernel,
-            Action::Slice,
-            u64::from(unix_seconds),
-            Outcome::Idle,
-        );
+        let unix_seconds = u64::from(unix_seconds);
+        expect_at(rt, !kernel.full(), "full at", unix_seconds);
+        let turn = Turn::new(Action::Slice, unix_seconds, Outcome::Idle);
+        expect_turn(rt, alloc, kernel, turn);
     }
 }
 
-// It is full then, and takes no slice more.
+// Expects it to be full then, and to take no more slices.
 fn expect_full<R: Abort>(rt: &R, alloc: Global, kernel: &mut Kernel, limit: u32) {
     expect_at(rt, kernel.full(), "not full at", u64::from(limit));
     for unix_seconds in 0..3 {
-        expect_act(rt, alloc, kernel, Action::Slice, unix_seconds, FULL);
+        expect_turn(
+            rt,
+            alloc,
+            kernel,
+            Turn::new(Action::Slice, unix_seconds, FULL),
+        );
     }
     let ends_there = kernel.entry(limit as usize).is_none();
     expect_at(rt, ends_there, "an entry past", u64::from(limit));
@@ -147,8 +155,8 @@ fn journals_of_slices(rt: HostRuntime) {
     }
 }
 
-// A journal of six entries at a desk: refusals by the kernel are entries too. Past the limit the desk
-// answers each seat that the journal is full, and no such call is an entry.
+// A journal with a limit of six entries, at a desk. Calls that the kernel refuses are entries too. Past the
+// limit every seat is told that the journal is full, and these calls are no entries.
 const FULL_JOURNAL: [Row; 12] = [
     (0, Action::Join(Channel::Shell), Outcome::Joined(1, 1)),
     (1, Action::Leave(9), NO_CONNECTION),

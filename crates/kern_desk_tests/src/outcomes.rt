@@ -1,17 +1,17 @@
-//! Replies as plain data.
+//! The outcomes of calls, as plain data.
 
 use kern_core::call::Reply;
 use kern_core::fault::KernelFault;
 use kern_post::content::{Cause, Content, Ending};
 use kern_post::post::{Post, Posts};
 
-// Of how many posts the numbers are told.
-const TOLD: usize = 6;
+// Of how many fetched posts an outcome has the numbers.
+const NUMBERED: usize = 6;
 
-/// What came of a call.
+/// The outcome of a call.
 #[derive(Clone, Copy, PartialEq, Eq)]
 pub enum Outcome {
-    /// The connection's number, and that of the next post.
+    /// The connection's number, and the number of the next post.
     Joined(u32, u64),
     Left,
     Subscribed,
@@ -19,13 +19,14 @@ pub enum Outcome {
     More,
     Idle,
     Ended,
-    /// How many posts, the numbers of the first six of them, with 0 where there are fewer, how many tell
-    /// that a cell was interrupted, from which number to go on, and whether a shutdown came.
-    Fetched(usize, [u64; TOLD], usize, u64, bool),
+    /// How many posts were fetched; the numbers of the first six, followed by zeros if there are fewer; how
+    /// many say that a cell was interrupted; from which number to fetch next; and whether the kernel was
+    /// shut down.
+    Fetched(usize, [u64; NUMBERED], usize, u64, bool),
     Refused(KernelFault),
 }
 
-/// What an answer tells.
+/// The outcome of a call with this answer.
 pub fn outcome_of(answer: &Result<Reply, KernelFault>) -> Outcome {
     match answer {
         Ok(reply) => outcome_of_reply(reply),
@@ -64,7 +65,7 @@ fn number_at(posts: &[Post], place: usize) -> u64 {
     }
 }
 
-fn numbers_of(posts: &[Post]) -> [u64; TOLD] {
+fn numbers_of(posts: &[Post]) -> [u64; NUMBERED] {
     [
         number_at(posts, 0),
         number_at(posts, 1),

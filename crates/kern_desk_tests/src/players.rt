@@ -1,8 +1,8 @@
-//! Passes that make calls one after the other, by a script.
+//! Passes that make calls one after the other, following a script.
 ghost use Rattle.std.specs.Prelude.{◌≡◌};
 
 use crate::outcomes::Outcome;
-use crate::turns::{Turn, make};
+use crate::turns::{TimedAction, Turn, make};
 use jup_wire::channel::Channel;
 use kern_desk::seated::{Desk, Pass};
 use kern_test_kit::actions::{Action, Question};
@@ -10,8 +10,8 @@ use std::alloc::Global;
 use std::process::Abort;
 use std::sync::Wait;
 
-/// A pass, its connection once it has one, the number from which it fetches next, and its calls. The
-/// moment of each call is its number among them, from 0.
+/// A pass, its connection once it has joined, the number from which it fetches next, and its turns so far.
+/// The moment of a call is the number of turns before it.
 #[derive(Drop)]
 pub struct Player {
     pub pass: Pass,
@@ -20,22 +20,22 @@ pub struct Player {
     pub turns: Vec<Turn>,
 }
 
-/// Which call comes next.
+/// Which calls a player makes.
 #[derive(Clone, Copy)]
 pub enum Script {
-    /// Joins on shell, then asks and fetches by turns.
+    /// It joins on shell, then alternately sends a request and fetches.
     Asks,
-    /// Joins on iopub, subscribes, then fetches.
+    /// It joins on iopub, subscribes, then fetches.
     Listens,
-    /// Fetches.
+    /// It fetches.
     Fetches,
-    /// Makes slices.
+    /// It makes slices.
     Runs,
-    /// Asks 40 times, interrupts, then fetches.
+    /// It sends 40 requests and an interrupt, then fetches.
     Interrupts,
 }
 
-/// A script, and how many of its calls are made.
+/// A script, and how many of its calls the player makes.
 pub type Part = (Script, u32);
 
 impl Script {
@@ -77,7 +77,7 @@ fn interrupt(turn: u32, connection: u32, from: u64) -> Action {
 }
 
 impl Player {
-    /// A pass with which no call was made.
+    /// A player that has made no call yet.
     pub fn new(alloc: Global, pass: Pass) -> Player
         ensures { result.pass ≡ pass }
     {
@@ -102,19 +102,18 @@ impl Player {
         }
     }
 
-    /// Makes one call.
+    /// Makes a call.
     pub fn make<R: Wait + Abort>(&mut self, rt: &R, alloc: Global, desk: &Desk, action: Action)
         requires { self.old.pass.turnstile ≡ desk.now }
         ensures { self.new.pass.turnstile ≡ desk.now }
     {
-        let unix_seconds = self.turns.len() as u64;
-        let outcome = make(rt, alloc, desk, &mut self.pass, action, unix_seconds);
-        self.note(outcome);
-        let turn = Turn {
+        let call = TimedAction {
             action,
-            unix_seconds,
-            outcome,
+            unix_seconds: self.turns.len() as u64,
         };
+        let outcome = make(rt, alloc, desk, &mut self.pass, call);
+        self.note(outcome);
+        let turn = Turn { call, outcome };
         self.turns.push(turn).expect(rt, "memory for a turn");
     }
 

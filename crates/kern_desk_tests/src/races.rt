@@ -15,8 +15,9 @@ use std::sync::Wait;
 use std::thread;
 use std::thread::Threads;
 
-// A game of two or three players, by seat: the calls that are made one after the other before they play at
-// once, each in a thread of its own, and what they play then, one after the other.
+// A game of two or three players, by seat: calls that are made one after the other at first, the parts that
+// the players then play at once, each in a thread of its own, and those that they play at last, one after
+// the other.
 #[derive(Clone, Copy)]
 struct Game {
     seats: u32,
@@ -25,19 +26,26 @@ struct Game {
     last: [Part; 3],
 }
 
-// The players play their parts, in so many threads.
-fn play_parts<R: Threads + Wait + Abort + Sync>(
+// A part for each player, by seat, and in how many threads they are played.
+#[derive(Clone, Copy)]
+struct Round {
+    threads: usize,
+    parts: [Part; 3],
+}
+
+// Plays a round.
+fn play_round<R: Threads + Wait + Abort + Sync>(
     rt: &R,
     alloc: Global,
     desk: &Desk,
     players: &mut [Player],
-    threads: usize,
-    parts: [Part; 3],
+    round: Round,
 )
     requires own { All (λ p. p.pass.turnstile ≡ desk.now) players.old }
-    requires threads { 0 < threads }
+    requires threads { 0 < round.threads }
     ensures { All (λ p. p.pass.turnstile ≡ desk.now) players.new }
 {
+    let Round { threads, parts } = round;
     thread::for_each_mut(
         rt,
         players,
@@ -84,8 +92,16 @@ fn play_game<R: Threads + Wait + Abort + Sync>(
     ensures { All (λ p. p.pass.turnstile ≡ desk.now) players.new }
 {
     make_calls(rt, alloc, desk, players, game.first);
-    play_parts(rt, alloc, desk, players, 3, game.race);
-    play_parts(rt, alloc, desk, players, 1, game.last);
+    let race = Round {
+        threads: 3,
+        parts: game.race,
+    };
+    play_round(rt, alloc, desk, players, race);
+    let last = Round {
+        threads: 1,
+        parts: game.last,
+    };
+    play_round(rt, alloc, desk, players, last);
 }
 
 // The players with these passes, by seat.
@@ -118,7 +134,7 @@ fn take_player(desk: &Desk, players: &mut Vec<Player>) -> Option<Player>
     players.pop()
 }
 
-// Their passes, and the calls that they made, by seat.
+// The passes of the players. Their turns go into `made`, by seat.
 fn passes_of<R: Abort>(
     rt: &R,
     alloc: Global,
@@ -140,7 +156,7 @@ fn passes_of<R: Abort>(
     passes
 }
 
-// The calls of a game in the order of the journal of its desk.
+// Plays a game at a new desk, and returns the entries of its journal.
 fn entries_of<R: Threads + Wait + Abort + Sync>(rt: &R, alloc: Global, game: &Game) -> Vec<Entry> {
     let seats = game.seats;
     assert!(rt; 0 < seats && seats <= 3);
@@ -155,26 +171,26 @@ fn entries_of<R: Threads + Wait + Abort + Sync>(rt: &R, alloc: Global, game: &Ga
     entries
 }
 
-// What the fetches of a seat gave: how many posts, how many that tell that a cell was interrupted, and from
-// which number to go on.
+// What the fetches of a seat returned: how many posts, how many of them say that a cell was interrupted,
+// and from which number to fetch next.
 fn fetches_of(entries: &[Entry], seat: u32) -> (usize, usize, u64) {
-    let mut told = (0usize, 0usize, 0);
+    let mut total = (0usize, 0usize, 0);
     for entry in entries {
         if entry.seat == seat {
-            told = add_outcome(told, entry.turn.outcome);
+            total = add_outcome(total, entry.turn.outcome);
         }
     }
-    told
+    total
 }
 
-fn add_outcome(told: (usize, usize, u64), outcome: Outcome) -> (usize, usize, u64) {
+fn add_outcome(total: (usize, usize, u64), outcome: Outcome) -> (usize, usize, u64) {
     match outcome {
         Outcome::Fetched(count, _, interrupted, next, _) => (
-            told.0.saturating_add(count),
-            told.1.saturating_add(interrupted),
+            total.0.saturating_add(count),
+            total.1.saturating_add(interrupted),
             next,
         ),
-        _ => told,
+        _ => total,
     }
 }
 
@@ -182,7 +198,7 @@ fn add_outcome(told: (usize, usize, u64), outcome: Outcome) -> (usize, usize, u6
 fn posts_to_listener(entries: &[Entry]) -> usize {
     let mut posts = 0usize;
     for entry in entries {
-        match entry.turn.action {
+        match entry.turn.call.action {
             Action::Subscribe(_) => posts = 1,
             Action::Ask(_, _) if posts > 0 => posts = posts.saturating_add(2),
             _ => {}
@@ -191,8 +207,8 @@ fn posts_to_listener(entries: &[Entry]) -> usize {
     posts
 }
 
-// One thread asks 300 times, each time for a reply between busy and idle, and fetches the replies.
-// The other joins and subscribes somewhere among these, and fetches.
+// One thread sends 300 requests, each of which is answered by a reply between busy and idle, and fetches
+// the replies. The other joins and subscribes at some moment among these, and fetches.
 const TWO: Game = Game {
     seats: 2,
     first: &[],
@@ -222,9 +238,9 @@ fn two_threads(rt: HostRuntime) {
     replay(&rt, rt.alloc(), entries.as_slice());
 }
 
-// One thread makes the slices of a cell that doesn't end by itself, one asks 40 times and interrupts it,
-// one listens. The Subscribe makes 1 post, the cell's beginning 2, the 40 requests 120, the interrupt 6:
-// the cell's error, execute_reply and idle, and its own reply, between busy and idle.
+// One thread makes the slices of a cell that doesn't end by itself, one sends 40 requests and interrupts
+// it, one listens. The Subscribe makes 1 post, the beginning of the cell 2, the 40 requests 120, the
+// interrupt 6: the cell's error, execute_reply and idle, and its own reply, between busy and idle.
 const THREE: Game = Game {
     seats: 3,
     first: &[
@@ -247,11 +263,11 @@ const THREE: Game = Game {
     ],
 };
 
-// While the cell runs, each slice leaves more to do; from the interrupt on none does.
+// Up to the interrupt each slice leaves more to do; after it there is nothing to do.
 fn check_slices<R: Abort>(rt: &R, entries: &[Entry]) {
     let mut wanted = Outcome::More;
     for (place, entry) in entries.iter().enumerate() {
-        match entry.turn.action {
+        match entry.turn.call.action {
             Action::Ask(_, Question::Interrupt) => wanted = Outcome::Idle,
             Action::Slice => {
                 expect_at(rt, entry.turn.outcome == wanted, "slice", place as u64);

@@ -1,10 +1,10 @@
 //! Calls of several seats, one after the other.
 ghost use Rattle.std.specs.Prelude.{◌≡◌, ◌≤◌, All};
 
-use crate::journals::check_rows;
+use crate::journals::{Entry, check_rows};
 use crate::outcomes::{Outcome, outcome_of};
-use crate::turns::{Row, expect_at, make};
-use dap_answers::answer::{Body, Outcome as Answered};
+use crate::turns::{Row, Turn, expect_at, make};
+use dap_answers::answer::{Body, Outcome as DebugOutcome};
 use jup_wire::channel::Channel;
 use kern_core::call::Reply;
 use kern_core::fault::KernelFault;
@@ -18,22 +18,29 @@ use std::alloc::Global;
 use std::process::Abort;
 use std::sync::Wait;
 
-// Makes the call of a row.
-fn make_row<R: Wait + Abort>(
+// The entry that the row at an index makes.
+fn entry_of(row: Row, place: usize) -> Entry {
+    let (seat, action, outcome) = row;
+    let turn = Turn::new(action, place as u64, outcome);
+    Entry { seat, turn }
+}
+
+// Makes the call of an entry, and expects its outcome.
+fn make_entry<R: Wait + Abort>(
     rt: &R,
     alloc: Global,
     desk: &Desk,
     passes: &mut [Pass],
-    row: Row,
-    unix_seconds: u64,
+    entry: Entry,
 )
     requires { All (λ p. p.turnstile ≡ desk.now) passes.old }
     ensures { All (λ p. p.turnstile ≡ desk.now) passes.new }
 {
-    let (seat, action, wanted) = row;
+    let Entry { seat, turn } = entry;
+    let seat = seat as usize;
     assert!(rt; seat < passes.len());
-    let outcome = make(rt, alloc, desk, &mut passes[seat], action, unix_seconds);
-    expect_at(rt, outcome == wanted, "row", unix_seconds);
+    let outcome = make(rt, alloc, desk, &mut passes[seat], turn.call);
+    expect_at(rt, outcome == turn.outcome, "row", turn.call.unix_seconds);
 }
 
 fn make_rows<R: Wait + Abort>(rt: &R, alloc: Global, desk: &Desk, passes: &mut [Pass], rows: &[Row])
@@ -41,7 +48,7 @@ fn make_rows<R: Wait + Abort>(rt: &R, alloc: Global, desk: &Desk, passes: &mut [
     ensures { All (λ p. p.turnstile ≡ desk.now) passes.new }
 {
     for (place, row) in rows.iter().enumerate() {
-        make_row(rt, alloc, desk, passes, *row, place as u64);
+        make_entry(rt, alloc, desk, passes, entry_of(*row, place));
     }
 }
 
@@ -52,17 +59,16 @@ fn ends_full(seated: Seated) -> bool {
     is_full
 }
 
-// A journal has exactly the calls of these rows, and is full or not.
+// Expects a journal to have exactly the calls of these rows, and to be full or not.
 fn check_closed<R: Abort>(rt: &R, seated: Seated, entries: &[Row], is_full: bool) {
     check_rows(rt, &seated, entries);
     assert!(rt; ends_full(seated) == is_full);
 }
 
-/// Makes the calls of the rows at a desk of three seats, and closes it: its journal has the calls of the
-/// first rows, as many as it may have.
+/// Makes the calls of the rows at a desk of three seats, and closes it. Its journal must then have the
+/// calls of the first rows, up to the limit.
 pub fn run_rows<R: Wait + Abort>(rt: &R, alloc: Global, limit: u32, rows: &[Row])
-    requires some { 1 ≤ limit }
-    requires few { limit ≤ 4194304 }
+    requires { (1 ≤ limit) × (limit ≤ 4194304) }
 {
     let (desk, mut passes) = open_desk(alloc, limit, 3).expect(rt, "a desk");
     make_rows(rt, alloc, &desk, passes.as_mut_slice(), rows);
@@ -72,7 +78,7 @@ pub fn run_rows<R: Wait + Abort>(rt: &R, alloc: Global, limit: u32, rows: &[Row]
     check_closed(rt, seated, entries, is_full);
 }
 
-// Six turns over three passes.
+// Six turns with three passes.
 const SIX_TURNS: [Row; 6] = [
     (0, Action::Join(Channel::Shell), Outcome::Joined(1, 1)),
     (1, Action::Join(Channel::Iopub), Outcome::Joined(2, 1)),
@@ -91,7 +97,7 @@ fn six_turns(rt: HostRuntime) {
     run_rows(&rt, rt.alloc(), MOST_ENTRIES, &SIX_TURNS);
 }
 
-// A cell from its request to its end, and a shutdown: the numbers of all posts.
+// A cell from its request to its end, and a shutdown, with the numbers of all posts.
 const SESSION: [Row; 20] = [
     (0, Action::Join(Channel::Shell), Outcome::Joined(1, 1)),
     (1, Action::Join(Channel::Iopub), Outcome::Joined(2, 1)),
@@ -160,7 +166,7 @@ fn a_session(rt: HostRuntime) {
     run_rows(&rt, rt.alloc(), MOST_ENTRIES, &SESSION);
 }
 
-// What a fetch tells, and whether its post 5 shows the switches as 05AH.
+// The outcome of a fetch, and whether its post 5 shows the switches as 05AH.
 fn outcome_with_switches(answer: Result<Reply, KernelFault>) -> (Outcome, bool) {
     (outcome_of(&answer), shows_switches(&answer))
 }
@@ -174,14 +180,14 @@ fn shows_switches(answer: &Result<Reply, KernelFault>) -> bool {
 
 fn is_shown(post: &Post) -> bool {
     match &post.letter.content {
-        Content::DebugReply(response) => post.number == 5 && is_told(&response.outcome),
+        Content::DebugReply(response) => post.number == 5 && has_switches(&response.outcome),
         _ => false,
     }
 }
 
-fn is_told(answered: &Answered) -> bool {
-    match answered {
-        Answered::Success(Body::Variables(variables)) => variables.as_slice().iter().any(|v| v
+fn has_switches(outcome: &DebugOutcome) -> bool {
+    match outcome {
+        DebugOutcome::Success(Body::Variables(variables)) => variables.as_slice().iter().any(|v| v
             .name
             .as_str()
             == "switches"
@@ -204,7 +210,7 @@ fn fetch_seen<R: Wait + Abort>(
     outcome_with_switches(answer)
 }
 
-// The switches that one seat sets are what another sees.
+// Expects a seat to see the switches as another has set them.
 fn expect_switches<R: Wait + Abort>(
     rt: &R,
     alloc: Global,
@@ -216,13 +222,13 @@ fn expect_switches<R: Wait + Abort>(
     ensures { All (λ p. p.turnstile ≡ desk.now) passes.new }
 {
     make_rows(rt, alloc, desk, passes, &rows[..3]);
-    let seat = rows[3].0;
+    let seat = rows[3].0 as usize;
     assert!(rt; seat < passes.len());
     let seen = fetch_seen(rt, alloc, desk, &mut passes[seat]);
     assert!(rt; seen == (rows[3].2, true));
 }
 
-// What a desk gives back that doesn't close: itself, and the passes that it was given.
+// What a desk returns if it doesn't close: itself, and the passes that it was given.
 fn fail_to_close<R: Abort>(rt: &R, desk: Desk, passes: Vec<Pass>) -> (Desk, Vec<Pass>)
     requires { All (λ p. p.turnstile ≡ desk) passes.items }
     ensures desk { result.0 ≡ desk }

@@ -1,4 +1,4 @@
-//! Calls made at a desk and on a kernel, and what came of them.
+//! Calls at a desk and on a kernel, and their outcomes.
 ghost use Rattle.std.specs.Prelude.{◌≡◌};
 
 use crate::outcomes::{Outcome, outcome_of};
@@ -11,49 +11,59 @@ use std::alloc::Global;
 use std::process::Abort;
 use std::sync::Wait;
 
-/// A row of a test: a seat, its call, and what must come of it. The call's moment is the row's number,
-/// from 0.
-pub type Row = (usize, Action, Outcome);
+/// A row of a test: a seat, its call, and the expected outcome. The call's moment is the row's number, from
+/// 0.
+pub type Row = (u32, Action, Outcome);
 
-/// A call that was made, and what came of it.
+/// A call with its moment, in seconds since 1970.
 #[derive(Clone, Copy)]
-pub struct Turn {
+pub struct TimedAction {
     pub action: Action,
     pub unix_seconds: u64,
+}
+
+/// A call and its outcome.
+#[derive(Clone, Copy)]
+pub struct Turn {
+    pub call: TimedAction,
     pub outcome: Outcome,
 }
 
-/// Ends the test where something doesn't hold, with what and at which number. The one place where a message
-/// is put together: in each place it would be so many more cases of the proof.
+impl Turn {
+    /// The turn with this call, at this moment, and this outcome.
+    pub fn new(action: Action, unix_seconds: u64, outcome: Outcome) -> Turn {
+        let call = TimedAction {
+            action,
+            unix_seconds,
+        };
+        Turn { call, outcome }
+    }
+}
+
+/// Fails the test unless something holds. The message names it and a number. All messages are put together
+/// here, since doing so takes many cases of a proof.
 pub fn expect_at<R: Abort>(rt: &R, holds: bool, what: &str, number: u64) {
     assert!(rt; holds, "{what} {number}");
 }
 
-/// Makes one call at a desk.
+/// Makes a call at a desk.
 pub fn make<R: Wait + Abort>(
     rt: &R,
     alloc: Global,
     desk: &Desk,
     pass: &mut Pass,
-    action: Action,
-    unix_seconds: u64,
+    call: TimedAction,
 ) -> Outcome
     requires { pass.old.turnstile ≡ desk.now }
     ensures { pass.new.turnstile ≡ desk.now }
 {
-    let call = call_of(alloc, action, unix_seconds).expect(rt, "memory for a call");
+    let call = call_of(alloc, call.action, call.unix_seconds).expect(rt, "memory for a call");
     take_outcome(desk.turn(rt, pass, call).expect(rt, "a turn"))
 }
 
-/// Makes one call on a kernel.
-pub fn act<R: Abort>(
-    rt: &R,
-    alloc: Global,
-    kernel: &mut Kernel,
-    action: Action,
-    unix_seconds: u64,
-) -> Outcome {
-    let call = call_of(alloc, action, unix_seconds).expect(rt, "memory for a call");
+/// Makes a call on a kernel.
+pub fn act<R: Abort>(rt: &R, alloc: Global, kernel: &mut Kernel, call: TimedAction) -> Outcome {
+    let call = call_of(alloc, call.action, call.unix_seconds).expect(rt, "memory for a call");
     take_outcome(kernel.act(call))
 }
 

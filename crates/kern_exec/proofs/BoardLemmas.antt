@@ -1,4 +1,4 @@
--- What the board's answers to the events of executions say.
+-- What follows from the board's answers to the events of executions.
 use Rattle.std.proofs.Common.{◌≡◌, ◌≢◌, ℕ, Result, Ok, Err, sym, ap, if◌then◌else◌}
 use Rattle.lab_core.specs.declared.run_state.RunState.{RunState}
 use Rattle.lab_core.specs.declared.run_state.RunState.TheVariants.{NoRun, Running, Stopped}

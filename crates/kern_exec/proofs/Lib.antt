@@ -1,2 +1,2 @@
-pub mod KitLemmas
+pub mod ListLemmas
 pub mod BoardLemmas

@@ -28,11 +28,11 @@ board_after b (Err f) = b
 
 -- ---- a cell
 
--- a cell is kept and loaded under the path by which frontends know it
+-- a cell is loaded and kept under the path that frontends know
 abbrev pub cell_given : Text → Board → Given
 cell_given text b = given (Load (cell_path text) text) b
 
--- the other refusals don't come where there is no run
+-- without a run there are no other refusals
 abbrev pub cause_of : EventFault → Cause
 cause_of (fault.Assembly f) = cause.Assembly f
 cause_of fault.SourceNameTaken = cause.SourceNameTaken
@@ -48,6 +48,6 @@ loading_of (Err f) = Ends (Failed (cause_of f))
 
 -- ---- a run
 
--- a run ends, where there is one
+-- the run ends, if there is one
 abbrev pub end_run_if_any : Board → Board
 end_run_if_any b = if is_run b.run then run_ended b else b

@@ -30,7 +30,7 @@ use Rattle.kern_exec.specs.Letters.{publication, reply_envelope, reply_letter}
 
 -- ---- the end
 
--- where the execution isn't silent and failed
+-- if the execution isn't silent and failed
 abbrev pub error_letters : Bool → Connections → Bytes → Ending → List Letter
 error_letters true connections parent ending = []
 error_letters false connections parent Done = []
@@ -44,7 +44,7 @@ end_letters connections c ending =
     (content.ExecuteReply c.count ending) ∷
     publication connections c.execution.header (content.Status Idle) ∷ []
 
--- a run that is ended from outside, if there is one
+-- the letters for a run that a request ends, if there is one
 abbrev pub cut_letters : Connections → Option Current → Cause → List Letter
 cut_letters connections None cause = []
 cut_letters connections (Some c) cause = end_letters connections c (Failed cause)
@@ -56,7 +56,7 @@ input_letters connections c =
     if c.execution.request.is_silent then [] else
     publication connections c.execution.header (content.ExecuteInput c.execution.request.code c.count) ∷ []
 
--- a cell without a start ends when it is loaded, and so does one that can't be
+-- the execution of a cell that names no start, or can't be loaded, ends at once
 abbrev pub end_of_loading : Connections → Current → Loading → List Letter
 end_of_loading connections c (Starts address) = []
 end_of_loading connections c (Ends ending) = end_letters connections c ending
@@ -78,8 +78,8 @@ abbrev pub to_stdin : Option ℕ → Current → Option Envelope
 to_stdin None c = None
 to_stdin (Some n) c = Some (reply_envelope n c.execution.identities c.execution.header)
 
--- a request for it goes to the stdin connection that has the identity with which the requester joined, where
--- the request allows it
+-- an input_request goes to the stdin connection with the same identity as the connection that requested the
+-- execution, if the request allows it
 abbrev pub line_envelope : Connections → Current → Option Envelope
 line_envelope connections c =
     if c.execution.request.allows_stdin then to_stdin (stdin_of c.execution.identity connections.peers) c
@@ -105,7 +105,7 @@ outcome_letters connections c (outcome.Stop s) =
     publication connections c.execution.header (content.DebugEvent (Stopped (reason_of s))) ∷ []
 outcome_letters connections c (outcome.End e) = end_letters connections c (ending_of e)
 
--- what a slice with this traffic posts that ended so
+-- what a slice posts, by its traffic and its outcome
 abbrev pub slice_letters : Connections → Current → List PortOperation → SliceOutcome → List Letter
 slice_letters connections c traffic ending =
     stream_letters connections c (filter_map written_to_console traffic) ++

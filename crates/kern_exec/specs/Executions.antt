@@ -1,4 +1,4 @@
--- Executions: those that wait, and the one that is under way.
+-- Executions: the queue, and the current one.
 use Rattle.std.specs.Prelude.{ℕ, ◌+◌, List, [], ◌∷◌, ◌++◌, not, ◌&&◌, Option, Some, None, if◌then◌else◌}
 use Rattle.base_text.specs.Bytes.{Bytes}
 use Rattle.kern_request.specs.declared.request.Request.{Request}
@@ -11,15 +11,15 @@ use Rattle.kern_exec.specs.declared.loading.Loading.TheVariants.{Starts, Ends}
 pub record Work : Type 0 where
   pub queue : List Execution
   pub current : Option Current
-  -- where its run is to start
+  -- the address at which its run is to start, if it hasn't started yet
   pub pending : Option ℕ
-  -- executions so far that were not silent and stored history
+  -- the execution count: executions so far that were not silent and stored history
   pub count : ℕ
 
 abbrev pub nothing : Work
 nothing = record { queue = []; current = None; pending = None; count = 0 }
 
--- what a connection asked for that joined with this identity
+-- the execution that a connection requests; the identity is the one with which the connection joined
 abbrev pub execution_of : ℕ → Bytes → Request → ExecuteRequest → Execution
 execution_of n identity r x = record {
   connection = n;
@@ -32,7 +32,7 @@ execution_of n identity r x = record {
 abbrev pub enqueue : Execution → Work → Work
 enqueue x w = record w { queue = w.queue ++ x ∷ [] }
 
--- the number of an execution that is taken after so many
+-- the execution count of an execution, by the count before it
 abbrev pub count_with : Execution → ℕ → ℕ
 count_with x n = if not x.request.is_silent && x.request.stores_history then n + 1 else n
 
@@ -47,7 +47,7 @@ abbrev pub start_of : Loading → Option ℕ
 start_of (Starts address) = Some address
 start_of (Ends ending) = None
 
--- the first that waits was loaded
+-- the first execution of the queue was loaded
 abbrev pub load_first : Execution → List Execution → Loading → Work → Work
 load_first x rest loading w = record w {
   queue = rest;
@@ -56,10 +56,10 @@ load_first x rest loading w = record w {
   count = count_with x w.count;
 }
 
--- its run was started
+-- the run of the current execution has started
 abbrev pub clear_pending : Work → Work
 clear_pending w = record w { pending = None }
 
--- its run has ended
+-- the current execution has ended
 abbrev pub clear_current : Work → Work
 clear_current w = record w { current = None }

@@ -1,5 +1,4 @@
--- Letters: to whom they go, and what stands round them (Jupyter messaging, "Request-Reply" and "Messages on
--- the IOPub channel").
+-- Letters and their envelopes (Jupyter messaging, "Request-Reply" and "Messages on the IOPub channel").
 use Rattle.std.specs.Prelude.{ℕ, List, [], ◌∷◌, ◌++◌}
 use Rattle.base_text.specs.Bytes.{Bytes, Text, Frames}
 use Rattle.kern_peers.specs.Connections.{Connections, subscribers}
@@ -11,7 +10,7 @@ use Rattle.kern_post.specs.declared.post.Head.TheVariants.{Topic, Identities}
 use Rattle.kern_post.specs.declared.post.Envelope.{Envelope}
 use Rattle.kern_post.specs.declared.post.Letter.{Letter}
 
--- to those who subscribed to the topic when the letter is made
+-- to the connections that have a subscription to the topic when the letter is made
 abbrev pub published_under : Connections → Bytes → Text → Envelope
 published_under connections parent topic =
     record { to = subscribers topic connections.peers; head = Topic; parent = parent }
@@ -27,7 +26,7 @@ reply_envelope n identities parent = record { to = n ∷ []; head = Identities i
 abbrev pub reply_letter : ℕ → Frames → Bytes → Content → Letter
 reply_letter n identities parent c = record { envelope = reply_envelope n identities parent; content = c }
 
--- between busy and idle
+-- the letters between busy and idle
 abbrev pub between_busy_and_idle : Connections → Bytes → List Letter → List Letter
 between_busy_and_idle connections parent letters =
     publication connections parent (Status Busy) ∷

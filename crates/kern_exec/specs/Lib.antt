@@ -1,5 +1,5 @@
 pub mod Letters
 pub mod Executions
 pub mod Ends
-pub mod Kits
+pub mod Prepared
 pub mod Boards

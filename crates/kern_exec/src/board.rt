@@ -1,4 +1,4 @@
-//! Events of the board.
+//! The board's events.
 ghost use Rattle.std.specs.Prelude.{◌≡◌, OnErr, Err};
 ghost use Rattle.lab_core.specs.Events.{Fits, given};
 ghost use Rattle.lab_core.specs.Memory.{MayLackMemory};
@@ -9,7 +9,7 @@ use lab_core::event::Event;
 use lab_core::fault::EventFault;
 use lab_core::lab::Lab;
 
-// One event.
+// Applies an event and drops it.
 pub(crate) fn apply_event(lab: &mut Lab, event: Event) -> Result<Answer, EventFault>
     requires { Fits event }
     ensures given { Does (given event) lab.old result lab.new }

@@ -8,10 +8,10 @@ ghost use Rattle.kern_exec.specs.declared.execution.Current.{Current};
 ghost use Rattle.kern_post.specs.declared.content.Ending.TheVariants.{Failed};
 ghost use Rattle.kern_exec.specs.Boards.{cell_given, cause_of, loading_by, loading_of, board_after};
 ghost use Rattle.kern_exec.specs.Ends.{input_letters, loading_letters};
-ghost use Rattle.kern_exec.specs.Kits.{IsLoadingKit};
+ghost use Rattle.kern_exec.specs.Prepared.{IsPreparedLoading};
 
 use crate::board::apply_event;
-use crate::ends::{EndKit, end_kit, push_end};
+use crate::ends::{PreparedEnd, prepare_end, push_end};
 use crate::execution::{Execution, copy_text};
 use crate::letters::{busy, publish};
 use crate::loading::Loading;
@@ -26,15 +26,15 @@ use lab_core::fault::EventFault;
 use lab_core::lab::Lab;
 use std::alloc::{AllocError, Global};
 
-/// What loading an execution's cell posts, made before the board changes: busy and the input stand in
-/// it already.
+/// What loading the cell of an execution posts, allocated before the board changes. Busy and the
+/// execute_input are among the letters already.
 #[derive(Drop)]
-pub struct LoadingKit {
+pub struct PreparedLoading {
     pub letters: Letters,
-    pub end: EndKit,
+    pub end: PreparedEnd,
 }
 
-// What is said of the input, where the execution isn't silent.
+// Adds the execute_input, unless the execution is silent.
 fn push_input(
     alloc: Global,
     letters: &mut Letters,
@@ -43,9 +43,9 @@ fn push_input(
     count: u64,
 ) -> Result<(), AllocError>
     requires { length letters.old < 8 }
-    ensures said { IfOk result (λ _. letters.new ≡ letters.old ++ input_letters peers.now
+    ensures letters { IfOk result (λ _. letters.new ≡ letters.old ++ input_letters peers.now
         (record { execution = execution.now; count = count })) }
-    ensures few { length letters.new ≤ length letters.old + 1 }
+    ensures bound { length letters.new ≤ length letters.old + 1 }
 {
     if execution.request.is_silent {
         return Ok(());
@@ -57,29 +57,30 @@ fn push_input(
     Ok(())
 }
 
-/// All that loading the cell of an execution with this number may post.
-pub fn loading_kit(
+/// Allocates all that posting after loading the cell of an execution needs. `count` is its execution count.
+pub fn prepare_loading(
     alloc: Global,
     peers: &Peers,
     execution: &Execution,
     count: u64,
-) -> Result<LoadingKit, AllocError>
-    ensures kit { IfOk result (IsLoadingKit peers.now (record { execution = execution.now; count = count })) }
-    ensures few { IfOk result (λ kit. length kit.letters ≤ 2) }
+) -> Result<PreparedLoading, AllocError>
+    ensures prepared { IfOk result
+        (IsPreparedLoading peers.now (record { execution = execution.now; count = count })) }
+    ensures bound { IfOk result (λ prepared. length prepared.letters ≤ 2) }
 {
     let mut letters = busy(alloc, peers, &execution.header)?;
     push_input(alloc, &mut letters, peers, execution, count)?;
-    let end = end_kit(alloc, peers, execution, count)?;
-    Ok(LoadingKit { letters, end })
+    let end = prepare_end(alloc, peers, execution, count)?;
+    Ok(PreparedLoading { letters, end })
 }
 
-/// What loading posts that came to this.
-pub fn letters_of(kit: LoadingKit, loading: Loading) -> Letters
-    requires { length kit.letters ≤ 2 }
-    ensures { (connections : Connections) (c : Current) → IsLoadingKit connections c kit
+/// The letters that loading a cell with this result posts.
+pub fn letters_of(prepared: PreparedLoading, loading: Loading) -> Letters
+    requires { length prepared.letters ≤ 2 }
+    ensures { (connections : Connections) (c : Current) → IsPreparedLoading connections c prepared
         → result ≡ loading_letters connections c loading }
 {
-    let LoadingKit { mut letters, end } = kit;
+    let PreparedLoading { mut letters, end } = prepared;
     match loading {
         Loading::Starts(_) => drop(end),
         Loading::Ends(ending) => push_end(&mut letters, end, ending),
@@ -97,7 +98,7 @@ fn cause_of(fault: EventFault) -> Cause
     }
 }
 
-// A cell that is refused ends its execution; that memory was wanting is no end.
+// A cell that the board refuses ends its execution. Out of memory doesn't.
 fn refusal_end(fault: EventFault) -> Result<Loading, AllocError>
     ensures ended { IfOk result (λ loading. loading ≡ Loading.Ends (Failed (cause_of fault))) }
     ensures other { IfOk result (λ _. fault ≢ EventFault.OutOfMemory) }
@@ -127,7 +128,7 @@ fn load_event(alloc: Global, code: &Text) -> Result<Event, AllocError>
     Ok(Event::Load { path, text })
 }
 
-/// Loads a cell under its path, and says what that comes to. Out of memory leaves the board as it was.
+/// Loads a cell into the board under its path. If memory runs out, the board is unchanged.
 pub fn load(alloc: Global, lab: &mut Lab, code: &Text) -> Result<Loading, AllocError>
     ensures loaded { (b : Board) → StandsFor lab.old b → IfOk result (λ loading.
         (loading ≡ loading_of (cell_given code.now b))

@@ -1,4 +1,4 @@
-//! How an execution ends.
+//! What the end of an execution posts.
 ghost use Rattle.std.specs.Prelude.{◌≡◌, ◌<◌, ◌≤◌, ◌+◌, ◌++◌, length, ◌∷◌, [], Option, option_map};
 ghost use Rattle.std.specs.Prelude.{IfOk, codes};
 ghost use Rattle.base_text.specs.Bytes.{Bytes};
@@ -7,7 +7,7 @@ ghost use Rattle.kern_exec.specs.declared.execution.Current.{Current};
 ghost use Rattle.kern_peers.specs.Connections.{Connections};
 ghost use Rattle.kern_exec.specs.Letters.{published_under};
 ghost use Rattle.kern_exec.specs.Ends.{error_letters, end_letters, cut_letters};
-ghost use Rattle.kern_exec.specs.Kits.{end_kit_of};
+ghost use Rattle.kern_exec.specs.Prepared.{prepared_end};
 
 use crate::execution::{Current, Execution};
 use crate::letters::{BusyIdle, address, published_under};
@@ -17,9 +17,10 @@ use kern_post::letters::Letters;
 use kern_post::post::{Envelope, Letter};
 use std::alloc::{AllocError, Global};
 
-/// The envelopes of an end, made before anything changes, so that the end itself takes no memory.
+/// The envelopes of the letters that report the end of an execution, allocated before anything changes, so
+/// that posting them can't fail.
 #[derive(Drop)]
-pub struct EndKit {
+pub struct PreparedEnd {
     pub error: Envelope,
     pub reply: Envelope,
     pub idle: Envelope,
@@ -27,14 +28,14 @@ pub struct EndKit {
     pub count: u64,
 }
 
-/// The envelopes for the end of an execution with this number.
-pub fn end_kit(
+/// Allocates the envelopes for the end of an execution. `count` is its execution count.
+pub fn prepare_end(
     alloc: Global,
     peers: &Peers,
     execution: &Execution,
     count: u64,
-) -> Result<EndKit, AllocError>
-    ensures { IfOk result (λ kit. kit ≡ end_kit_of peers.now
+) -> Result<PreparedEnd, AllocError>
+    ensures { IfOk result (λ prepared. prepared ≡ prepared_end peers.now
         (record { execution = execution.now; count = count })) }
 {
     let error = published_under(alloc, peers, &execution.header, "error")?;
@@ -45,7 +46,7 @@ pub fn end_kit(
         &execution.header,
     )?;
     match published_under(alloc, peers, &execution.header, "status") {
-        Ok(idle) => Ok(EndKit {
+        Ok(idle) => Ok(PreparedEnd {
             error,
             reply,
             idle,
@@ -62,10 +63,10 @@ pub fn end_kit(
 
 fn push_error(letters: &mut Letters, envelope: Envelope, is_silent: bool, ending: Ending)
     requires { length letters.old < 8 }
-    ensures said { (connections : Connections) (parent : Bytes)
+    ensures letters { (connections : Connections) (parent : Bytes)
         → envelope ≡ published_under connections parent (codes "error")
         → letters.new ≡ letters.old ++ error_letters is_silent connections parent ending }
-    ensures few { length letters.new ≤ length letters.old + 1 }
+    ensures bound { length letters.new ≤ length letters.old + 1 }
 {
     if is_silent {
         drop(envelope);
@@ -80,20 +81,21 @@ fn push_error(letters: &mut Letters, envelope: Envelope, is_silent: bool, ending
     }
 }
 
-/// What an end posts: the error where it failed and isn't silent, the reply, and idle.
-pub fn push_end(letters: &mut Letters, kit: EndKit, ending: Ending)
+/// Adds the letters of an end: the error, if the execution failed and isn't silent, the execute_reply, and
+/// idle.
+pub fn push_end(letters: &mut Letters, prepared: PreparedEnd, ending: Ending)
     requires { length letters.old + 3 ≤ 8 }
-    ensures said { (connections : Connections) (c : Current) → kit ≡ end_kit_of connections c
+    ensures letters { (connections : Connections) (c : Current) → prepared ≡ prepared_end connections c
         → letters.new ≡ letters.old ++ end_letters connections c ending }
-    ensures few { length letters.new ≤ length letters.old + 3 }
+    ensures bound { length letters.new ≤ length letters.old + 3 }
 {
-    let EndKit {
+    let PreparedEnd {
         error,
         reply,
         idle,
         is_silent,
         count,
-    } = kit;
+    } = prepared;
     push_error(letters, error, is_silent, ending);
     letters.push(Letter {
         envelope: reply,
@@ -105,29 +107,35 @@ pub fn push_end(letters: &mut Letters, kit: EndKit, ending: Ending)
     });
 }
 
-fn push_cut(letters: &mut Letters, kit: Option<EndKit>, cause: Cause)
+fn push_cut(letters: &mut Letters, prepared: Option<PreparedEnd>, cause: Cause)
     requires { length letters.old + 3 ≤ 8 }
-    ensures said { (connections : Connections) (cut : Option Current)
-        → kit ≡ option_map (end_kit_of connections) cut
+    ensures letters { (connections : Connections) (cut : Option Current)
+        → prepared ≡ option_map (prepared_end connections) cut
         → letters.new ≡ letters.old ++ cut_letters connections cut cause }
-    ensures few { length letters.new ≤ length letters.old + 3 }
+    ensures bound { length letters.new ≤ length letters.old + 3 }
 {
-    match kit {
+    match prepared {
         None => {}
-        Some(kit) => push_end(letters, kit, Ending::Failed(cause)),
+        Some(prepared) => push_end(letters, prepared, Ending::Failed(cause)),
     }
 }
 
-/// What a request posts that ends a run from outside: between busy and idle the end of the execution,
-/// if there is a run, and the reply.
-#[tactic(auto, using(crate::proofs::KitLemmas::grouped))]
-pub fn cut_letters(enclosed: BusyIdle, kit: Option<EndKit>, cause: Cause, reply: Letter) -> Letters
-    requires { length enclosed.letters ≤ 1 }
-    ensures { (peers : Connections) (cut : Option Current) → kit ≡ option_map (end_kit_of peers) cut
-        → result ≡ enclosed.letters ++ ((cut_letters peers cut cause ++ reply ∷ []) ++ enclosed.idle ∷ []) }
+/// The letters of a request that ends the run: busy, the letters of the execution's end if there is a run,
+/// the reply, and idle.
+#[tactic(auto, using(crate::proofs::ListLemmas::grouped))]
+pub fn cut_letters(
+    busy_idle: BusyIdle,
+    end: Option<PreparedEnd>,
+    cause: Cause,
+    reply: Letter,
+) -> Letters
+    requires { length busy_idle.letters ≤ 1 }
+    ensures { (peers : Connections) (cut : Option Current) → end ≡ option_map (prepared_end peers) cut
+        → result ≡ busy_idle.letters
+        ++ ((cut_letters peers cut cause ++ reply ∷ []) ++ busy_idle.idle ∷ []) }
 {
-    let BusyIdle { mut letters, idle } = enclosed;
-    push_cut(&mut letters, kit, cause);
+    let BusyIdle { mut letters, idle } = busy_idle;
+    push_cut(&mut letters, end, cause);
     letters.push(reply);
     letters.push(idle);
     letters

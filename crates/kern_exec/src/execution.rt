@@ -1,4 +1,4 @@
-//! One execution.
+//! An execution.
 ghost use Rattle.std.specs.Prelude.{◌≡◌, IfOk};
 ghost use Rattle.kern_exec.specs.Executions.{execution_of};
 
@@ -8,18 +8,21 @@ use kern_post::post::copy_bytes;
 use kern_request::request::{ExecuteRequest, Request};
 use std::alloc::{AllocError, Global};
 
-/// An execution that was asked for, and what its posts repeat of the request.
+/// A requested execution, with all that its posts repeat of the request.
 #[derive(Drop)]
 pub struct Execution {
+    /// The connection that requested it.
     pub connection: u32,
-    /// With which the connection joined.
+    /// The identity with which that connection joined.
     pub identity: Bytes,
+    /// The identities of the request.
     pub identities: Frames,
+    /// The header frame of the request.
     pub header: Bytes,
     pub request: ExecuteRequest,
 }
 
-/// An execution that was taken from the queue, and its number: how many were counted up to it.
+/// An execution that was taken from the queue, with its execution count.
 #[derive(Drop)]
 pub struct Current {
     pub execution: Execution,
@@ -51,7 +54,8 @@ fn copy_request(alloc: Global, request: &ExecuteRequest) -> Result<ExecuteReques
 }
 
 impl Execution {
-    /// What a connection asks for that joined with this identity, in copies.
+    /// The execution that a connection requests, with copies of the request's parts. `identity` is the one
+    /// with which the connection joined.
     pub fn copy_of(
         alloc: Global,
         connection: u32,

@@ -1,4 +1,4 @@
-//! The executions of a kernel: those that wait, and the one that is under way.
+//! The executions of a kernel: the queue, and the current one.
 ghost use Rattle.std.specs.Prelude.{◌≡◌, ◌<◌, ◌+◌, ◌^◌, [], ◌∷◌, List, length, drop, nat_lt, IfOk, None};
 ghost use Rattle.std.specs.Prelude.{option_map, MatchOption};
 ghost use Rattle.kern_exec.specs.declared.execution.Execution.{Execution};
@@ -13,11 +13,11 @@ use std::collections::VecDeque;
 use std::marker::Model;
 use std::mem;
 
-/// The most executions that wait.
+/// How many executions can wait, at most.
 pub const MOST_QUEUED: usize = 64;
 
-/// Executions that wait, in order, the one that is under way, where its run is to start, and how many
-/// were counted so far.
+/// The queue of executions that wait; the current one, which was taken from the queue and hasn't ended; the
+/// address at which its run is to start, if it hasn't started yet; and the execution count.
 #[derive(Drop)]
 pub struct Executions {
     queue: VecDeque<Execution>,
@@ -40,11 +40,12 @@ impl Model for Executions {
       count = e.count;
     } };
 
-    // Room for all that may wait is made at the start.
+    // Room for all that can wait is allocated at the beginning.
     ghost invariant = { λ e. (length e.queue.items ≤ 64) × (64 ≤ deque_capacity e.queue) };
 }
 
-/// The number of an execution that is taken after so many.
+/// The execution count of an execution: one more than the count before it, or the same if it is silent or
+/// stores no history.
 pub fn count_with(execution: &Execution, count: u64) -> u64
     requires { count + 1 < 2 ^ 63 }
     ensures { result ≡ count_with execution.now count }
@@ -82,7 +83,7 @@ fn start_of(loading: Loading) -> Option<u16>
 }
 
 impl Executions {
-    /// None, with room for all that may wait.
+    /// No executions. Allocates room for all that can wait.
     pub fn new(alloc: Global) -> Result<Executions, AllocError>
         ensures { IfOk result (λ e. e ≡ nothing) }
     {
@@ -95,14 +96,14 @@ impl Executions {
         })
     }
 
-    /// Whether one more may wait.
+    /// Whether the queue has room for one more.
     pub fn has_place(&self) -> bool
         ensures { result ≡ nat_lt (length self.now.queue) 64 }
     {
         self.queue.len() < MOST_QUEUED
     }
 
-    /// The first that waits.
+    /// The first execution of the queue.
     pub fn first(&self) -> Option<&Execution>
         ensures { MatchOption result (self.now.queue ≡ [])
             (λ x. self.now.queue ≡ x.now ∷ drop 1 self.now.queue) }
@@ -110,28 +111,28 @@ impl Executions {
         self.queue.front()
     }
 
-    /// Where a run is to start.
+    /// The address at which the run of the current execution is to start, if it hasn't started yet.
     pub fn pending_start(&self) -> Option<u16>
         ensures { result ≡ self.now.pending }
     {
         self.pending
     }
 
-    /// How many executions were counted.
+    /// The execution count: how many executions so far weren't silent and stored history.
     pub fn count(&self) -> u64
         ensures { result ≡ self.now.count }
     {
         self.count
     }
 
-    /// The one that is under way.
+    /// The current execution.
     pub fn current(&self) -> Option<&Current>
         ensures { option_map (λ c. c.now) result ≡ self.now.current }
     {
         self.current.as_ref()
     }
 
-    /// One more waits.
+    /// Adds an execution at the end of the queue.
     pub fn push(&mut self, execution: Execution)
         requires { length self.old.queue < 64 }
         ensures { self.new ≡ enqueue execution self.old }
@@ -139,9 +140,9 @@ impl Executions {
         self.queue.push_back_reserved(execution);
     }
 
-    /// The first that waits was loaded; there is one.
+    /// Takes the first execution from the queue after its cell was loaded with this result.
     pub fn take(&mut self, loading: Loading)
-        requires some { 0 < length self.old.queue }
+        requires nonempty { 0 < length self.old.queue }
         requires room { self.old.count + 1 < 2 ^ 63 }
         ensures { (x : Execution) (rest : List Execution) → self.old.queue ≡ x ∷ rest
             → self.new ≡ load_first x rest loading self.old }
@@ -156,14 +157,14 @@ impl Executions {
         self.count = count;
     }
 
-    /// The run of the one that is under way was started.
+    /// Notes that the run of the current execution has started.
     pub fn begin(&mut self)
         ensures { self.new ≡ clear_pending self.old }
     {
         self.pending = None;
     }
 
-    /// It has ended.
+    /// Notes that the current execution has ended.
     pub fn end(&mut self)
         ensures { self.new ≡ clear_current self.old }
     {

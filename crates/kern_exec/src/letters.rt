@@ -1,7 +1,7 @@
-//! Letters and the envelopes round them.
+//! Letters and their envelopes.
 ghost use Rattle.std.specs.Prelude.{◌≡◌, [], ◌∷◌, IfOk};
 ghost use Rattle.kern_exec.specs.Letters.{published_under, publication, reply_envelope, reply_letter};
-ghost use Rattle.kern_exec.specs.Kits.{IsEnclosed};
+ghost use Rattle.kern_exec.specs.Prepared.{IsBusyIdle};
 
 use crate::execution::copy_frames;
 use base_text::sequence::{Bytes, Frames, Sequence};
@@ -11,7 +11,7 @@ use kern_post::letters::Letters;
 use kern_post::post::{Envelope, Head, Letter, copy_bytes};
 use std::alloc::{AllocError, Global};
 
-/// The envelope of what goes to all who subscribed to a topic.
+/// The envelope of a letter to all connections that subscribed to the topic.
 pub fn published_under(
     alloc: Global,
     peers: &Peers,
@@ -29,7 +29,7 @@ pub fn published_under(
     })
 }
 
-/// A letter to all who subscribed to its topic.
+/// A letter to all connections that subscribed to its topic.
 pub fn publish(
     alloc: Global,
     peers: &Peers,
@@ -47,7 +47,7 @@ pub fn publish(
     }
 }
 
-/// The envelope of what goes to one connection, with the identities of a request.
+/// The envelope of a letter to one connection, with the identities of a request.
 pub fn address(
     alloc: Global,
     connection: u32,
@@ -85,14 +85,14 @@ pub fn reply(
     }
 }
 
-/// Letters that begin with busy, and the one that is to be the last: idle.
+/// Letters of which the first is busy, and idle, which is to be the last.
 #[derive(Drop)]
 pub struct BusyIdle {
     pub letters: Letters,
     pub idle: Letter,
 }
 
-// Letters that begin with busy.
+// Letters with busy as the first.
 pub(crate) fn busy(alloc: Global, peers: &Peers, header: &Bytes) -> Result<Letters, AllocError>
     ensures { IfOk result (λ letters. letters ≡ publication peers.now header.now
         (Content.Status ExecutionState.Busy) ∷ []) }
@@ -103,9 +103,9 @@ pub(crate) fn busy(alloc: Global, peers: &Peers, header: &Bytes) -> Result<Lette
     Ok(letters)
 }
 
-/// Busy and idle for a request with this header.
-pub fn enclose(alloc: Global, peers: &Peers, header: &Bytes) -> Result<BusyIdle, AllocError>
-    ensures { IfOk result (IsEnclosed peers.now header.now) }
+/// Busy and idle for the request with this header.
+pub fn busy_idle(alloc: Global, peers: &Peers, header: &Bytes) -> Result<BusyIdle, AllocError>
+    ensures { IfOk result (IsBusyIdle peers.now header.now) }
 {
     let letters = busy(alloc, peers, header)?;
     let idle = publish(alloc, peers, header, Content::Status(ExecutionState::Idle))?;

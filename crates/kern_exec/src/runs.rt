@@ -1,4 +1,4 @@
-//! The beginning of a run, its end from outside, and what is typed.
+//! Starting, interrupting and resetting a run, and console input.
 ghost use Rattle.std.specs.Prelude.{◌≡◌, is_ok, OnErr, OnOk};
 ghost use Rattle.i80_devs.specs.Past.{Typed};
 ghost use Rattle.lab_core.specs.declared.run_state.RunState.TheVariants.{NoRun};
@@ -24,21 +24,21 @@ fn is_done(answer: Result<Answer, EventFault>) -> bool
     is_done
 }
 
-/// Begins a run at an address; there is none.
+/// Starts a run at an address. There must be none.
 pub fn start(lab: &mut Lab, address: u16)
     ensures { (b : Board) → StandsFor lab.old b → b.run ≡ NoRun → StandsFor lab.new (started address b) }
 {
     drop(apply_event(lab, Event::Start(address)));
 }
 
-/// Ends the run, where there is one.
+/// Ends the run, if there is one.
 pub fn interrupt(lab: &mut Lab)
     ensures { (b : Board) → StandsFor lab.old b → StandsFor lab.new (end_run_if_any b) }
 {
     drop(apply_event(lab, Event::Interrupt));
 }
 
-/// Machine and devices as at power-on, and no run.
+/// Puts the machine and the devices back to their state at power-on, and ends the run.
 pub fn reset(lab: &mut Lab) -> Result<(), AllocError>
     ensures ok { OnOk result ((b : Board) → StandsFor lab.old b → StandsFor lab.new (reset b)) }
     ensures err { OnErr result (lab.new ≡ lab.old) }
@@ -49,7 +49,7 @@ pub fn reset(lab: &mut Lab) -> Result<(), AllocError>
     Err(AllocError)
 }
 
-/// Bytes typed at the console.
+/// Types bytes at the console.
 pub fn type_bytes(lab: &mut Lab, bytes: &Bytes) -> Result<(), AllocError>
     ensures ok { OnOk result ((b : Board) → StandsFor lab.old b
         → StandsFor lab.new (with_operation (Typed bytes.now) b)) }

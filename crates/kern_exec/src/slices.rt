@@ -1,13 +1,13 @@
-//! Slices of a run, and what they post.
+//! What a slice of a run posts.
 ghost use Rattle.std.specs.Prelude.{◌≡◌, ◌<◌, ◌≤◌, ◌+◌, ◌++◌, ◌∷◌, [], length, IfOk, vec_capacity, codes};
 ghost use Rattle.kern_peers.specs.Connections.{Connections};
 ghost use Rattle.kern_exec.specs.declared.execution.Current.{Current};
 ghost use Rattle.kern_exec.specs.Ends.{reason_of, ending_of, line_envelope, input_requests};
 ghost use Rattle.kern_exec.specs.Ends.{stream_letters, outcome_letters, slice_letters};
 ghost use Rattle.kern_exec.specs.Letters.{published_under};
-ghost use Rattle.kern_exec.specs.Kits.{IsSliceKit, end_kit_of};
+ghost use Rattle.kern_exec.specs.Prepared.{IsPreparedSlice, prepared_end};
 
-use crate::ends::{EndKit, end_kit, push_end};
+use crate::ends::{PreparedEnd, prepare_end, push_end};
 use crate::execution::Current;
 use crate::letters::{address, published_under};
 use base_text::sequence::Bytes;
@@ -22,17 +22,19 @@ use lab_slice::console::{is_line_requested, print_all};
 use lab_slice::slice::STEPS;
 use std::alloc::{AllocError, Global};
 
-/// All that a slice of an execution may post, made before its first step.
+/// Buffers and envelopes for all that a slice of an execution can post, allocated before its first step.
 #[derive(Drop)]
-pub struct SliceKit {
+pub struct PreparedSlice {
     pub letters: Letters,
-    /// Room for what is written to the console.
+    /// A buffer for the output to the console.
     pub text: Vec<u8>,
+    /// The envelope of the output.
     pub stream: Envelope,
-    /// Of a request for a line, where one may be asked for.
+    /// The envelope of an input_request, if the user can be asked.
     pub line: Option<Envelope>,
+    /// The envelope of a stopped event.
     pub stopped: Envelope,
-    pub end: EndKit,
+    pub end: PreparedEnd,
 }
 
 fn line_envelope(
@@ -55,18 +57,19 @@ fn line_envelope(
     }
 }
 
-// The envelopes for a stop and for the end.
-fn ending_parts(
+// The envelopes of a stopped event and of the end.
+fn prepare_stop_and_end(
     alloc: Global,
     peers: &Peers,
     current: &Current,
-) -> Result<(Envelope, EndKit), AllocError>
-    ensures { IfOk result (λ made. (made.0 ≡ published_under peers.now current.now.execution.header (codes "debug_event"))
-        × (made.1 ≡ end_kit_of peers.now current.now)) }
+) -> Result<(Envelope, PreparedEnd), AllocError>
+    ensures { IfOk result (λ made.
+        (made.0 ≡ published_under peers.now current.now.execution.header (codes "debug_event"))
+        × (made.1 ≡ prepared_end peers.now current.now)) }
 {
     let execution = &current.execution;
     let stopped = published_under(alloc, peers, &execution.header, "debug_event")?;
-    match end_kit(alloc, peers, execution, current.count) {
+    match prepare_end(alloc, peers, execution, current.count) {
         Ok(end) => Ok((stopped, end)),
         Err(_) => {
             drop(stopped);
@@ -75,17 +78,21 @@ fn ending_parts(
     }
 }
 
-/// All that a slice of an execution may post.
-pub fn slice_kit(alloc: Global, peers: &Peers, current: &Current) -> Result<SliceKit, AllocError>
-    ensures { IfOk result (IsSliceKit peers.now current.now) }
+/// Allocates all that posting after a slice of an execution needs.
+pub fn prepare_slice(
+    alloc: Global,
+    peers: &Peers,
+    current: &Current,
+) -> Result<PreparedSlice, AllocError>
+    ensures { IfOk result (IsPreparedSlice peers.now current.now) }
 {
     let header = &current.execution.header;
     let letters = Letters::new(alloc)?;
     let text = Vec::with_capacity(alloc, STEPS.into())?;
     let stream = published_under(alloc, peers, header, "stream")?;
     let line = line_envelope(alloc, peers, current)?;
-    match ending_parts(alloc, peers, current) {
-        Ok((stopped, end)) => Ok(SliceKit {
+    match prepare_stop_and_end(alloc, peers, current) {
+        Ok((stopped, end)) => Ok(PreparedSlice {
             letters,
             text,
             stream,
@@ -103,10 +110,10 @@ pub fn slice_kit(alloc: Global, peers: &Peers, current: &Current) -> Result<Slic
 
 fn push_stream(letters: &mut Letters, envelope: Envelope, is_silent: bool, text: Vec<u8>)
     requires { length letters.old < 8 }
-    ensures said { (connections : Connections) (c : Current) → is_silent ≡ c.execution.request.is_silent
+    ensures letters { (connections : Connections) (c : Current) → is_silent ≡ c.execution.request.is_silent
         → envelope ≡ published_under connections c.execution.header (codes "stream")
         → letters.new ≡ letters.old ++ stream_letters connections c text.items }
-    ensures few { length letters.new ≤ length letters.old + 1 }
+    ensures bound { length letters.new ≤ length letters.old + 1 }
 {
     if is_silent || text.is_empty() {
         drop(envelope);
@@ -120,8 +127,8 @@ fn push_stream(letters: &mut Letters, envelope: Envelope, is_silent: bool, text:
 
 fn push_line(letters: &mut Letters, envelope: Option<Envelope>, wants_line: bool)
     requires { length letters.old < 8 }
-    ensures said { letters.new ≡ letters.old ++ input_requests envelope wants_line }
-    ensures few { length letters.new ≤ length letters.old + 1 }
+    ensures letters { letters.new ≡ letters.old ++ input_requests envelope wants_line }
+    ensures bound { length letters.new ≤ length letters.old + 1 }
 {
     let Some(envelope) = envelope else {
         return;
@@ -153,9 +160,9 @@ fn ending_of(end: End) -> Ending
     }
 }
 
-fn push_outcome(letters: &mut Letters, stopped: Envelope, end: EndKit, outcome: SliceOutcome)
+fn push_outcome(letters: &mut Letters, stopped: Envelope, end: PreparedEnd, outcome: SliceOutcome)
     requires { length letters.old + 3 ≤ 8 }
-    ensures { (connections : Connections) (c : Current) → end ≡ end_kit_of connections c
+    ensures { (connections : Connections) (c : Current) → end ≡ prepared_end connections c
         → stopped ≡ published_under connections c.execution.header (codes "debug_event")
         → letters.new ≡ letters.old ++ outcome_letters connections c outcome }
 {
@@ -178,21 +185,25 @@ fn push_outcome(letters: &mut Letters, stopped: Envelope, end: EndKit, outcome: 
     }
 }
 
-/// What a slice with this traffic posts that ended so.
-pub fn letters_of(kit: SliceKit, traffic: &[PortOperation], outcome: SliceOutcome) -> Letters
-    requires room { length traffic.now ≤ vec_capacity kit.text }
-    requires empty { (kit.text.items ≡ []) × (kit.letters ≡ []) }
-    ensures { (connections : Connections) (c : Current) → IsSliceKit connections c kit
+/// The letters that a slice posts, by its traffic on the ports and its outcome.
+pub fn letters_of(
+    prepared: PreparedSlice,
+    traffic: &[PortOperation],
+    outcome: SliceOutcome,
+) -> Letters
+    requires room { length traffic.now ≤ vec_capacity prepared.text }
+    requires empty { (prepared.text.items ≡ []) × (prepared.letters ≡ []) }
+    ensures { (connections : Connections) (c : Current) → IsPreparedSlice connections c prepared
         → result ≡ slice_letters connections c traffic.now outcome }
 {
-    let SliceKit {
+    let PreparedSlice {
         mut letters,
         text,
         stream,
         line,
         stopped,
         end,
-    } = kit;
+    } = prepared;
     let text = print_all(text, traffic);
     push_stream(&mut letters, stream, end.is_silent, text);
     push_line(&mut letters, line, is_line_requested(traffic));

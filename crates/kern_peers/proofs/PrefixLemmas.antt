@@ -1,4 +1,4 @@
--- A subscription more or less, at the place of its connection, and at its own.
+-- A subscription is added to a connection, or removed: the index that a search finds is the definition's.
 use Rattle.std.proofs.Common.{◌≡◌, ℕ, ◌<◌, List, [], ◌∷◌, Some, None, Bool, refl, ap, arith, length, zero}
 use Rattle.std.proofs.Common.{suc, slice_set, slice_index_or, inl, inr, not}
 use Rattle.std.specs.List.{position, position_or_len, remove}
@@ -8,7 +8,7 @@ use Rattle.std.proofs.lemmas.List.Sums.{prefix_len-le-length}
 use Rattle.kern_peers.specs.declared.peer.Peer.{Peer}
 use Rattle.kern_peers.specs.Connections.{is_number, changed_at, without_first}
 
--- ---- the place that a search tells
+-- ---- the index that a search finds
 
 found : {X : Type 0} (p : X → Bool) (place : ℕ) (xs : List X) → Some place ≡ position p xs
     → (place ≡ position_or_len p xs) × (place < length xs)
@@ -66,7 +66,7 @@ pub changed_nowhere : (n : ℕ) (change : Change) (peers : List Peer) → None �
     → peers ≡ changed_at n change peers
 changed_nowhere n change peers e = nowhere n change peers (missing (is_number n) peers e)
 
--- ---- a prefix that goes
+-- ---- a removed prefix
 
 abbrev is_prefix : List ℕ → List ℕ → Bool
 is_prefix prefix p = bytes_eq p prefix

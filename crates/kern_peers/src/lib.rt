@@ -1,8 +1,8 @@
-// The connections of a kernel: who is there, under which number, and what each has subscribed to.
-// A connection gets the next number from 1 when it joins; no number is used twice.
-// `has_no_place` tells whether a channel is full or has the identity already.
-// `subscribers` are those to whom a post on iopub goes, `stdin_of` the one whose user can be asked.
-// Each call changes what it says and nothing else, and a refused growth changes nothing.
+// The connections of a kernel: their numbers, channels, identities and subscriptions.
+// Numbers count up from 1 in the order of the Joins, and none is used twice.
+// `has_no_place` tells whether a channel is full or already has a connection with the identity.
+// `subscribers` returns the connections that get an iopub post, `stdin_of` the one whose user can be asked.
+// If memory runs out, nothing changes.
 #![tactic(auto)]
 
 pub mod peer;

@@ -1,4 +1,4 @@
-//! The connections that are there.
+//! The open connections.
 ghost use Rattle.std.specs.Prelude.{◌≡◌, ◌<◌, ◌+◌, ◌^◌, ◌++◌, ◌∷◌, [], IfOk, OnOk, OnErr, option_map};
 ghost use Rattle.std.specs.Prelude.{count_by};
 ghost use Rattle.std.specs.List.{list_any, find, position};
@@ -16,10 +16,10 @@ use std::alloc::{AllocError, Global};
 use std::marker::Model;
 use std::mem;
 
-/// The most connections that a channel has.
+/// The most connections that a channel can have.
 pub const MOST_CONNECTIONS: usize = 16;
 
-/// The connections that are there, in order of their numbers, and how many ever joined.
+/// The open connections, in the order of their numbers, and how many ever joined.
 #[derive(Drop)]
 pub struct Peers {
     peers: Vec<Peer>,
@@ -36,7 +36,7 @@ impl Model for Peers {
 }
 
 impl Peers {
-    /// Nobody.
+    /// No connections, and no Join so far.
     pub fn new(alloc: Global) -> Peers
         ensures { result ≡ no_connections }
     {
@@ -47,22 +47,22 @@ impl Peers {
         }
     }
 
-    /// The connection of a number.
+    /// The connection with this number, if it is open.
     pub fn get(&self, number: u32) -> Option<&Peer>
         ensures { option_map (λ p. p.now) result ≡ peer_at number self.now.peers }
     {
         self.peers.iter().find(|p| p.number == number)
     }
 
-    /// Whether a channel has no place for one more with this identity: it is full, or the identity
-    /// isn't empty and another connection on it has the same.
+    /// Whether no connection with this identity can join the channel: because the channel is full, or
+    /// because the identity isn't empty and a connection of the channel has it.
     pub fn has_no_place(&self, channel: Channel, identity: &[u8]) -> bool
         ensures { result ≡ has_no_place channel identity.now self.now.peers }
     {
         MOST_CONNECTIONS <= self.count(channel) || self.is_taken(channel, identity)
     }
 
-    /// One more, with the next number, which it answers. It has no subscription yet.
+    /// Adds a connection without subscriptions, and returns its number, which is the next one.
     pub fn join(&mut self, channel: Channel, identity: Bytes) -> Result<u32, AllocError>
         requires { self.old.joined + 1 < 2 ^ 32 }
         ensures ok { OnOk result (self.new ≡ joined_by channel identity self.old) }
@@ -82,14 +82,14 @@ impl Peers {
         Ok(number)
     }
 
-    /// The connection of this number is no longer there.
+    /// Removes the connection with this number.
     pub fn leave(&mut self, number: u32)
         ensures { self.new ≡ without number self.old }
     {
         self.peers.retain(move |p| p.number != number);
     }
 
-    /// One more subscription of the connection of this number, if it is there.
+    /// Adds a subscription to the connection with this number, if it is open.
     pub fn subscribe(&mut self, number: u32, prefix: Bytes) -> Result<(), AllocError>
         ensures ok { OnOk result (self.new ≡ subscribed_by number prefix self.old) }
         ensures err { OnErr result (self.new ≡ self.old) }
@@ -100,7 +100,7 @@ impl Peers {
         Ok(())
     }
 
-    /// The first subscription of that connection with this prefix ends. Without one nothing changes.
+    /// Removes the first subscription to this prefix from the connection with this number, if there is one.
     pub fn cancel(&mut self, number: u32, prefix: &[u8])
         ensures { self.new ≡ without_subscription number prefix.now self.old }
     {
@@ -109,7 +109,7 @@ impl Peers {
         }
     }
 
-    /// The numbers of those on iopub that have a subscription to a prefix of this topic, in order.
+    /// The numbers of the iopub connections that subscribed to a prefix of this topic, in order.
     pub fn subscribers(&self, alloc: Global, topic: &str) -> Result<Sequence<u32>, AllocError>
         ensures { IfOk result (λ numbers. numbers ≡ subscribers topic.now self.now.peers) }
     {
@@ -120,7 +120,7 @@ impl Peers {
         Ok(numbers)
     }
 
-    /// The number of the connection on stdin that has this identity, where it isn't empty.
+    /// The number of the stdin connection with this identity. None has the empty one.
     pub fn stdin_of(&self, identity: &[u8]) -> Option<u32>
         ensures { result ≡ stdin_of identity.now self.now.peers }
     {
@@ -131,7 +131,7 @@ impl Peers {
         Some(peer.number)
     }
 
-    // The connection on stdin that has an identity.
+    // The stdin connection with this identity.
     fn on_stdin(&self, identity: &[u8]) -> Option<&Peer>
         ensures { option_map (λ p. p.now) result ≡ find (is_same Stdin identity.now) self.now.peers }
     {
@@ -140,14 +140,14 @@ impl Peers {
             .find(|p| is_same(p, Channel::Stdin, identity))
     }
 
-    // How many there are on a channel.
+    // How many connections a channel has.
     fn count(&self, channel: Channel) -> usize
         ensures { result ≡ count_by (is_on channel) self.now.peers }
     {
         self.peers.iter().filter(|p| is_on(p, channel)).count()
     }
 
-    // Whether an identity isn't empty, and one on a channel has it.
+    // Whether the identity isn't empty and a connection of the channel has it.
     fn is_taken(&self, channel: Channel, identity: &[u8]) -> bool
         ensures { result ≡ is_taken channel identity.now self.now.peers }
     {
@@ -161,7 +161,7 @@ impl Peers {
     }
 }
 
-// The place of the connection of a number.
+// The index of the connection with this number.
 fn place_of(peers: &[Peer], number: u32) -> Option<usize>
     ensures { result ≡ position (is_number number) peers.now }
 {
@@ -195,7 +195,7 @@ fn is_same(peer: &Peer, channel: Channel, identity: &[u8]) -> bool
     is_on(peer, channel) && peer.identity.as_slice() == identity
 }
 
-// Takes out the first of these prefixes that is this one.
+// Removes the first of the prefixes that equals this one.
 fn take_out(alloc: Global, prefixes: &mut Sequence<Bytes>, prefix: &[u8])
     ensures { prefixes.new ≡ without_first prefix.now prefixes.old }
 {
@@ -212,7 +212,7 @@ fn remove_first(prefixes: &mut Vec<Bytes>, prefix: &[u8])
     }
 }
 
-// The place of the first of these prefixes that is this one.
+// The index of the first of the prefixes that equals this one.
 fn first_of(prefixes: &[Bytes], prefix: &[u8]) -> Option<usize>
     ensures { result ≡ position (λ p. bytes_eq p prefix.now) prefixes.now }
 {

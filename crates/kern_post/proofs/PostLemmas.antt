@@ -1,4 +1,4 @@
--- Posting in turn, and fetching from what is kept.
+-- Posting one letter after the other, and fetching from the posts that are kept.
 use Rattle.std.proofs.Common.{◌≡◌, ◌∙◌, ℕ, ◌+◌, ◌-◌, ◌<◌, List, [], ◌∷◌, ◌++◌, length, take, drop, get_or}
 use Rattle.std.proofs.Common.{min, refl, ap, arith, append_assoc, length-append, length-drop, Bool, inl, inr}
 use Rattle.std.proofs.lemmas.List.{take_more, drop_all, take_all, drop-drop}
@@ -9,7 +9,7 @@ use Rattle.kern_post.specs.declared.post.Letter.{Letter}
 use Rattle.kern_post.specs.declared.post.Post.{Post}
 use Rattle.kern_post.specs.Posts.{numbered, posted}
 
--- posting the first letter, and then the others behind it
+-- posting the first letter, and then the others after it
 pub posted-cons : (unix_seconds : ℕ) (l : Letter) (ls : List Letter) (posts : List Post)
     → posted unix_seconds ls (posted unix_seconds (l ∷ []) posts) ≡ posted unix_seconds (l ∷ ls) posts
 posted-cons unix_seconds l ls posts =
@@ -38,7 +38,7 @@ take_min m n xs is = elim (cases_lt n m) [
       rw (all, take_all m xs (omega arith), take_all n xs (omega arith)) refl)
 ]
 
--- what a fetch looks at is what it is said to look at
+-- the posts that the loop of a fetch goes over are those of the definition
 pub looked_at : (posts kept : List Post) (from skipped start count : ℕ)
     → kept ≡ drop (length posts - 4096) posts → length posts < from + length kept
     → skipped + (length posts - length kept) + 1 ≡ from

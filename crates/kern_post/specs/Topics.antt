@@ -7,7 +7,7 @@ use Rattle.kern_post.specs.declared.content.Content.TheVariants as content
 use Rattle.kern_post.specs.declared.content.RefusedRequest.{RefusedRequest}
 use Rattle.kern_post.specs.declared.content.RefusedRequest.TheVariants as request
 
--- the reply to a request whose content isn't as needed
+-- the error reply to a request whose content is bad
 abbrev pub refused_topic : RefusedRequest → Text
 refused_topic request.IsComplete = codes "is_complete_reply"
 refused_topic request.Complete = codes "complete_reply"

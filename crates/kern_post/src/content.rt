@@ -1,4 +1,4 @@
-//! What posts say.
+//! The contents of posts.
 
 use asm_syntax::fault::AsmFault;
 use base_text::sequence::Bytes;
@@ -6,7 +6,7 @@ use base_text::text::Text;
 use dap_answers::answer::{Event, Response};
 use std::alloc::AllocError;
 
-/// Whether the kernel works on a request (Jupyter messaging, "Kernel status").
+/// Whether the kernel is working on a request (Jupyter messaging, "Kernel status").
 #[derive(Clone, Copy)]
 pub enum ExecutionState {
     Busy,
@@ -16,21 +16,21 @@ pub enum ExecutionState {
 /// Why a request failed.
 #[derive(Clone, Copy)]
 pub enum Cause {
-    /// The cell has this fault.
+    /// The cell doesn't assemble.
     Assembly(AsmFault),
-    /// The run came to an undefined opcode at this address.
+    /// The run came to an undefined opcode, at address `pc`.
     UndefinedOpcode { opcode: u8, pc: u16 },
     /// The run was interrupted.
     Interrupted,
-    /// The board was reset.
+    /// The board was reset during the run.
     Reset,
-    /// As many executions wait as may.
+    /// The most executions that can wait are waiting already.
     QueueFull,
-    /// The request's content isn't as needed.
+    /// The content of the request isn't an object, or has a required member missing or wrong.
     BadContent,
-    /// The cell's path is kept with another text.
+    /// The board keeps another text under the cell's path.
     SourceNameTaken,
-    /// As many texts are kept as may be.
+    /// The board keeps the most texts that it can.
     SourcesFull,
 }
 
@@ -41,16 +41,16 @@ pub enum Ending {
     Failed(Cause),
 }
 
-/// Whether a cell's text can be run as it stands (Jupyter messaging, "Code completeness").
+/// Whether the text of a cell is complete (Jupyter messaging, "Code completeness").
 #[derive(Clone, Copy)]
 pub enum Completeness {
     Complete,
-    /// Nothing but an ENDIF is missing.
+    /// The text only lacks an ENDIF.
     Incomplete,
     Invalid,
 }
 
-/// The requests, but for execute_request, that get a reply where their content isn't as needed.
+/// The requests other than execute_request that get an error reply if their content is bad.
 #[derive(Clone, Copy)]
 pub enum RefusedRequest {
     IsComplete,
@@ -58,14 +58,14 @@ pub enum RefusedRequest {
     Shutdown,
 }
 
-/// What a post says, and so its type.
+/// The content of a post, which also determines its type.
 #[derive(Drop)]
 pub enum Content {
     Status(ExecutionState),
     ExecuteInput { code: Text, count: u64 },
-    /// What was written to the console: each byte is the character of that number.
+    /// The program's output to the console, in Latin-1.
     Stream(Bytes),
-    /// The program asks its user for a line.
+    /// The program asks the user for a line of input.
     InputRequest,
     Error(Cause),
     CommClose { comm_id: Text },
@@ -80,7 +80,7 @@ pub enum Content {
     ShutdownReply { restarts: bool },
     InterruptReply,
     DebugReply(Response),
-    /// The reply to a request whose content isn't as needed.
+    /// The error reply to a request whose content is bad.
     BadContentReply(RefusedRequest),
 }
 
@@ -88,7 +88,7 @@ impl RefusedRequest {
     ghost use Rattle.std.specs.Prelude.{◌≡◌};
     ghost use Rattle.kern_post.specs.Topics.{refused_topic};
 
-    /// The type of the reply.
+    /// The type of the reply (`msg_type`).
     pub fn topic(self) -> &'static str
         ensures { result.now ≡ refused_topic self }
     {
@@ -104,7 +104,7 @@ impl Content {
     ghost use Rattle.std.specs.Prelude.{◌≡◌, IfOk};
     ghost use Rattle.kern_post.specs.Topics.{topic_of};
 
-    /// A copy. Only what is on the heap can want memory, so each other content is one step.
+    /// A copy. Only a content with data on the heap can fail.
     pub fn copy(&self) -> Result<Content, AllocError>
         ensures { IfOk result (λ copy. copy ≡ self.now) }
     {
@@ -142,8 +142,8 @@ impl Content {
         }
     }
 
-    /// The type of the post (Jupyter messaging, "General Message Format": `msg_type`), which on
-    /// iopub is its topic.
+    /// The type of the post (Jupyter messaging, "General Message Format": `msg_type`), which is also its
+    /// topic on iopub.
     pub fn topic(&self) -> &'static str
         ensures { result.now ≡ topic_of self.now }
     {

@@ -1,4 +1,4 @@
-//! Letters that wait to be posted.
+//! Letters that are about to be posted.
 ghost use Rattle.std.specs.Prelude.{◌≡◌, ◌↔◌, ◌<◌, ◌≤◌, ◌++◌, ◌∷◌, [], length, IfOk, IsTrue, MatchOption};
 
 use crate::post::Letter;
@@ -6,10 +6,10 @@ use std::alloc::{AllocError, Global};
 use std::collections::VecDeque;
 use std::marker::Model;
 
-/// The most letters that are posted at once.
+/// How many letters are posted at once, at most.
 pub const MOST_LETTERS: usize = 8;
 
-/// At most eight letters, with room for all, seen as the list of them.
+/// A list of at most eight letters, with room allocated for eight.
 #[derive(Drop)]
 pub struct Letters {
     letters: VecDeque<Letter>,
@@ -28,7 +28,7 @@ impl Model for Letters {
 }
 
 impl Letters {
-    /// No letter, with room for eight.
+    /// No letters. Allocates room for eight.
     pub fn new(alloc: Global) -> Result<Letters, AllocError>
         ensures { IfOk result (λ letters. letters ≡ []) }
     {
@@ -39,19 +39,19 @@ impl Letters {
     /// How many letters there are.
     pub fn len(&self) -> usize
         ensures count { result ≡ length self.now }
-        ensures few { result ≤ 8 }
+        ensures bound { result ≤ 8 }
     {
         self.letters.len()
     }
 
-    /// Whether there is no letter.
+    /// Whether there are no letters.
     pub fn is_empty(&self) -> bool
         ensures { IsTrue result ↔ (self.now ≡ []) }
     {
         self.letters.is_empty()
     }
 
-    /// Adds a letter as the last one, without allocating.
+    /// Adds a letter at the end, without allocating.
     pub fn push(&mut self, letter: Letter)
         requires { length self.old < 8 }
         ensures { self.new ≡ self.old ++ letter ∷ [] }
@@ -59,7 +59,7 @@ impl Letters {
         self.letters.push_back_reserved(letter);
     }
 
-    /// Takes the first letter out.
+    /// Removes the first letter and returns it.
     pub fn pop(&mut self) -> Option<Letter>
         ensures { MatchOption result (self.old ≡ []) (λ l. self.old ≡ l ∷ self.new) }
     {

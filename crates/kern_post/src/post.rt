@@ -1,41 +1,44 @@
-//! Posts.
+//! Posts, and the letters and envelopes of which they are made.
 ghost use Rattle.std.specs.Prelude.{◌≡◌, IfOk};
 
 use crate::content::Content;
 use base_text::sequence::{Bytes, Frames, Sequence};
 use std::alloc::AllocError;
 
-/// What stands before the delimiter: the topic, which is the type, or the identities of a request.
+/// The frames before the delimiter: the topic, which is the type, or the identities of a request.
 #[derive(Clone, Drop)]
 pub enum Head {
     Topic,
     Identities(Frames),
 }
 
-/// To which connections, and what stands round the content.
+/// All of a letter but its content.
 #[derive(Drop)]
 pub struct Envelope {
+    /// The connections that get it.
     pub to: Sequence<u32>,
     pub head: Head,
-    /// The header frame of the request, or `{}`.
+    /// The parent header: the header frame of the request, or `{}`.
     pub parent: Bytes,
 }
 
-/// What is sent.
+/// A message that has no number yet.
 #[derive(Drop)]
 pub struct Letter {
     pub envelope: Envelope,
     pub content: Content,
 }
 
-/// A letter with its number, from 1, and the moment at which it was made, in seconds since 1970.
+/// A letter that was posted.
 pub struct Post {
+    /// Its number, from 1.
     pub number: u64,
+    /// When it was posted, in seconds since 1970.
     pub unix_seconds: u64,
     pub letter: Letter,
 }
 
-// One function for all places where a post is dropped, here and in the crates above.
+// Written out so that posts are dropped by one function, here and in the crates above.
 impl Drop for Post {
     fn drop(self) {
         let Self {
@@ -46,7 +49,7 @@ impl Drop for Post {
     }
 }
 
-/// Posts in their order.
+/// Posts in the order of their numbers.
 pub type Posts = Sequence<Post>;
 
 impl Envelope {
@@ -98,7 +101,7 @@ fn copy_head(head: &Head) -> Result<Head, AllocError>
     head.clone()
 }
 
-/// A copy.
+/// A copy of bytes.
 pub fn copy_bytes(bytes: &Bytes) -> Result<Bytes, AllocError>
     ensures { IfOk result (λ copy. copy ≡ bytes.now) }
 {

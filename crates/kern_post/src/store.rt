@@ -12,13 +12,13 @@ use std::alloc::{AllocError, Global};
 use std::collections::VecDeque;
 use std::marker::Model;
 
-/// The most posts that are kept.
+/// How many posts are kept, at most.
 pub const MOST_KEPT: usize = 4096;
 
 /// How many numbers a fetch covers.
 pub const FETCHED_AT_ONCE: usize = 64;
 
-/// The last posts, and how many were made.
+/// The last posts, and how many were posted.
 #[derive(Drop)]
 pub struct Store {
     kept: VecDeque<Post>,
@@ -55,8 +55,8 @@ fn push_if_to(found: &mut Vec<Post>, post: &Post, connection: u32) -> Result<(),
     Ok(())
 }
 
-// Drops the first post, where there is one: a function of its own, since a post has many parts to
-// drop.
+// Drops the first post, if there is one. A function of its own, since a post has many parts to drop, each
+// of which is a case of the proof.
 fn drop_first(kept: &mut VecDeque<Post>)
     ensures items { kept.new.items ≡ drop 1 kept.old.items }
     ensures capacity { deque_capacity kept.new ≡ deque_capacity kept.old }
@@ -64,9 +64,9 @@ fn drop_first(kept: &mut VecDeque<Post>)
     kept.pop_front();
 }
 
-// Adds a post as the last one; the first goes where all places are taken.
+// Adds a post at the end, and drops the first one if 4,096 are kept already.
 fn push_behind(kept: &mut VecDeque<Post>, post: Post)
-    requires few { length kept.old.items ≤ 4096 }
+    requires bound { length kept.old.items ≤ 4096 }
     requires room { 4096 ≤ deque_capacity kept.old }
     ensures items { kept.new.items
         ≡ drop (length kept.old.items - 4095) (kept.old.items ++ post ∷ []) }
@@ -79,7 +79,7 @@ fn push_behind(kept: &mut VecDeque<Post>, post: Post)
 }
 
 impl Store {
-    /// No post, with room for as many as are kept.
+    /// No posts. Allocates room for all that are kept.
     pub fn new(alloc: Global) -> Result<Store, AllocError>
         ensures { IfOk result (Keeps []) }
     {
@@ -87,7 +87,7 @@ impl Store {
         Ok(Store { kept, made: 0 })
     }
 
-    /// How many posts were made.
+    /// How many posts there were so far, which is the number of the last one.
     pub fn post_count(&self) -> u64
         ensures made { result ≡ self.now.made }
         ensures fits { result < 2 ^ 63 }
@@ -95,7 +95,7 @@ impl Store {
         self.made
     }
 
-    /// The first number that is kept.
+    /// The number of the first post that is kept; the next post's, if none is.
     pub fn first(&self) -> u64
         ensures place { result + length self.now.kept ≡ self.now.made + 1 }
         ensures first { (posts : List Post) → Keeps posts self.now
@@ -104,7 +104,7 @@ impl Store {
         self.made - self.kept.len() as u64 + 1
     }
 
-    // Posts one letter; the oldest post goes where all places are taken.
+    // Posts one letter, and drops the oldest post if 4,096 are kept already.
     fn push(&mut self, unix_seconds: u64, letter: Letter)
         requires { self.old.made + 1 < 2 ^ 63 }
         ensures made { self.new.made ≡ self.old.made + 1 }
@@ -120,8 +120,8 @@ impl Store {
         push_behind(&mut self.kept, post);
     }
 
-    /// Posts letters in their order, all at one moment, in seconds since 1970. It takes no memory:
-    /// the oldest posts go where all places are taken.
+    /// Posts letters in their order, all at one moment, in seconds since 1970. Allocates nothing: the
+    /// oldest posts are dropped as soon as 4,096 are kept.
     pub fn push_all(&mut self, unix_seconds: u64, mut letters: Letters)
         requires { self.old.made + length letters < 2 ^ 63 }
         ensures made { self.new.made ≡ self.old.made + length letters }
@@ -139,7 +139,7 @@ impl Store {
         self.kept.len()
     }
 
-    // How many of the kept posts stand before this number.
+    // How many of the kept posts come before this number.
     fn skip_count(&self, from: u64) -> usize
         requires { self.now.made < from + length self.now.kept }
         ensures { result + (self.now.made - length self.now.kept) + 1 ≡ from }
@@ -148,8 +148,8 @@ impl Store {
         (from - (self.made - kept) - 1) as usize
     }
 
-    /// The posts to a connection among the 64 numbers from this one on, which is kept or yet to be
-    /// made: `first() <= from`.
+    /// The posts to a connection among the 64 numbers from this one on, which must not be below `first()`.
+    /// It may be the number of a post that is still to come.
     pub fn fetch(&self, alloc: Global, connection: u32, from: u64) -> Result<Posts, AllocError>
         requires { self.now.made < from + length self.now.kept }
         ensures { (posts : List Post) → Keeps posts self.now
@@ -165,7 +165,7 @@ impl Store {
         Ok(Posts::from(found))
     }
 
-    /// Where the next fetch goes on: behind the 64 numbers, but no further than behind the last.
+    /// The number from which to fetch next: 64 further, but not past the next post's.
     pub fn next(&self, from: u64) -> u64
         ensures { result ≡ next_from from self.now.made }
     {

@@ -1,4 +1,4 @@
--- How deep contents nest.
+-- How deep contents nest: at most 6.
 use Rattle.std.proofs.Common.{◌≤◌, ℕ, List, refl, arith}
 use Rattle.serde_json.specs.Data.{depth}
 use Rattle.dap_answers.specs.declared.answer.Outcome.{Outcome}

@@ -1,4 +1,4 @@
--- No number that is written is a float.
+-- No number in a content is a float.
 use Rattle.std.proofs.Common.{◌≡◌, ℕ, false, List, refl}
 use Rattle.serde_json.specs.Written.{has_float}
 use Rattle.dap_answers.specs.declared.answer.Outcome.{Outcome}

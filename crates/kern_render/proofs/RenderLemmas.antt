@@ -1,4 +1,4 @@
--- What is sealed of a post's draft are its frames.
+-- The frames that sealing makes of a post's draft are the post's.
 use Rattle.std.proofs.Common.{◌≡◌, ◌∙◌, List, ℕ, refl, sym, ap}
 use Rattle.std.specs.Prelude.{min}
 use Rattle.jup_wire.specs.declared.sealing.Draft.{Draft}
@@ -27,7 +27,7 @@ sealed_is_rendered key date session post draft frames dated of s =
     (s.parent_header ∙ of.parent_header) metadata body in
     (date, dated, s.whole ∙ ap (λ p. frames_of p (signature_frame key p)) same)
 
--- the frames follow from the date, which the moment has alone
+-- the frames follow from the date, and a moment has one date
 pub one_rendering : (key session : List ℕ) (post : Post) (a b : List (List ℕ))
     → IsRendered key session post a → IsRendered key session post b → a ≡ b
 one_rendering key session post a b (date, dated, is) (date', dated', is') =

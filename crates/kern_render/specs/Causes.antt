@@ -1,5 +1,5 @@
--- What is said of a cause (Jupyter messaging, "Request-reply", "Execution errors"): its name, its
--- value, and a traceback of one line.
+-- The name of an error, its value, and its traceback of one line (Jupyter messaging, "Request-reply",
+-- "Execution errors").
 use Rattle.std.specs.Prelude.{[], ◌∷◌, ◌++◌, codes, decimal}
 use Rattle.base_text.specs.Bytes.{Text}
 use Rattle.serde_json.specs.Data.{Data, string}
@@ -21,19 +21,19 @@ ename_of cause.BadContent = codes "BadContent"
 ename_of cause.SourceNameTaken = codes "SourceNameTaken"
 ename_of cause.SourcesFull = codes "SourcesFull"
 
--- the line and the column, from 1, and what is wrong there
+-- the line and the column, from 1, and the name of the fault there
 abbrev pub fault_text : AsmFault → Text
 fault_text asm.OutOfMemory = codes "OutOfMemory"
 fault_text (asm.At line column kind) =
     decimal line ++ codes ":" ++ decimal column ++ codes " " ++ fault_name kind
 
--- empty where the name says all
+-- empty if the name says all
 abbrev pub evalue_of : Cause → Text
 evalue_of (cause.Assembly f) = fault_text f
 evalue_of (cause.UndefinedOpcode opcode pc) = upper_byte opcode ++ codes " at " ++ upper_word pc
 evalue_of _ = []
 
--- the blank stands also before an empty value
+-- the space is there even if the value is empty
 abbrev pub error_line : Cause → Text
 error_line c = ename_of c ++ codes ": " ++ evalue_of c
 

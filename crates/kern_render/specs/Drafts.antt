@@ -1,4 +1,4 @@
--- What is handed over to be sealed.
+-- A message before it is signed.
 use Rattle.std.specs.Prelude.{◌≡◌}
 use Rattle.base_text.specs.Bytes.{Text}
 use Rattle.serde_json.specs.View.{view}
@@ -8,7 +8,7 @@ use Rattle.kern_post.specs.declared.post.Post.{Post}
 use Rattle.kern_render.specs.Json.{content_json}
 use Rattle.kern_render.specs.Rendering.{post_header, head_frames}
 
--- the draft of the post's message, with this date in the header
+-- d is the draft of the post's message with this date in the header
 pub record IsDraftOf (date session : Text) (post : Post) (d : Draft) : Type 0 where
   pub identities : d.identities ≡ head_frames post.letter.envelope.head post.letter.content
   pub header : view d.header ≡ post_header date session post.number post.letter.content

@@ -1,6 +1,6 @@
 -- The content of each message (Jupyter messaging, "Messages on the shell (ROUTER/DEALER) channel",
 -- "Messages on the IOPub (PUB/SUB) channel", "Messages on the stdin (ROUTER/DEALER) channel"). The
--- members of an object stand in the order of their keys' bytes.
+-- members of an object are in the order of their keys' bytes.
 use Rattle.std.specs.Prelude.{ℕ, Bool, true, false, List, [], ◌∷◌, codes}
 use Rattle.base_text.specs.Bytes.{Bytes, Text}
 use Rattle.serde_json.specs.Data.{Data, boolean, string}
@@ -24,7 +24,7 @@ empty_object = object_of []
 abbrev pub empty_list : Data
 empty_list = list_of string []
 
--- ---- what all frontends are told, and what one is asked
+-- ---- iopub and stdin
 
 abbrev pub state_text : ExecutionState → Text
 state_text state.Busy = codes "busy"
@@ -38,7 +38,7 @@ execute_input_json code count = object_of (
     (codes "code", string code) ∷
     (codes "execution_count", whole_number count) ∷ [])
 
--- each byte is the character of that number
+-- the bytes are Latin-1
 abbrev pub stream_json : Bytes → Data
 stream_json bytes = object_of (
     (codes "name", string (codes "stdout")) ∷
@@ -49,7 +49,7 @@ input_request_json = object_of (
     (codes "password", boolean false) ∷
     (codes "prompt", string []) ∷ [])
 
--- what an error and each reply that tells of one say of the cause
+-- the members that an error and each error reply have
 abbrev pub cause_members : Cause → List (Text × Data)
 cause_members c =
     (codes "ename", string (ename_of c)) ∷
@@ -146,7 +146,7 @@ error_reply_json c = object_of (
     (codes "status", string (codes "error")) ∷
     (codes "traceback", traceback_of c) ∷ [])
 
--- ---- each content, in the post with this number
+-- ---- any content, in the post with this number
 
 abbrev pub content_json : ℕ → Content → Data
 content_json number (content.Status state) = status_json state

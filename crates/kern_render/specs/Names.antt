@@ -9,6 +9,6 @@ use Rattle.uuid.specs.declared.Version.TheVariants.{Random}
 abbrev pub random_uuid : Bytes → Bytes
 random_uuid bytes = with_version (with_variant bytes RFC4122) Random
 
--- its digits in lower case, with hyphens
+-- its digits in lower case and with hyphens
 abbrev pub session_name : Bytes → Text
 session_name bytes = hyphenated_text lower (random_uuid bytes)

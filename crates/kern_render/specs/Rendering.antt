@@ -18,12 +18,12 @@ use Rattle.jup_wire.specs.Dates.{IsDate, last_moment}
 abbrev pub post_header : Text → Text → ℕ → Content → Data
 post_header date session number content = header_json date session number (topic_of content)
 
--- what stands before the delimiter
+-- the frames before the delimiter
 abbrev pub head_frames : Head → Content → Frames
 head_frames Topic content = topic_of content ∷ []
 head_frames (Identities frames) content = frames
 
--- the JSON parts are the compact texts of their values
+-- the header, the metadata and the content are the compact texts of their values
 abbrev pub parts_of : Text → Text → Post → Parts
 parts_of date session post = record {
   identities = head_frames post.letter.envelope.head post.letter.content;
@@ -33,12 +33,12 @@ parts_of date session post = record {
   content = compact_text (content_json post.number post.letter.content);
 }
 
--- the frames under a key, with this date in the header
+-- the frames of the post, signed with the key, with this date in the header
 abbrev pub frames_with_date : Text → Bytes → Text → Post → Frames
 frames_with_date date key session post =
     frames_of (parts_of date session post) (signature_frame key (parts_of date session post))
 
--- these are the frames; a later moment counts as the last one that is written
+-- the frames are those of the post, dated with its moment, or with the last moment that has a date
 abbrev pub IsRendered : Bytes → Text → Post → Frames → Type 0
 IsRendered key session post frames =
     (date : Text) × IsDate (min post.unix_seconds last_moment) date

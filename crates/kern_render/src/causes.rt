@@ -1,4 +1,4 @@
-//! What is said of a cause: its name, its value and its traceback.
+//! The name, value and traceback of an error.
 ghost use Rattle.std.specs.Prelude.{◌≡◌, ◌++◌, IfOk, codes, decimal, string_bytes};
 ghost use Rattle.base_text.specs.Hexadecimal.{upper_byte, upper_word};
 ghost use Rattle.serde_json.specs.View.{view};
@@ -10,7 +10,7 @@ use kern_post::content::Cause;
 use serde_json::{Value, json};
 use std::alloc::{AllocError, Global};
 
-/// The name of a cause.
+/// The name of an error (`ename`).
 pub(crate) fn ename(cause: Cause) -> &'static str
     ensures { result.now ≡ ename_of cause }
 {
@@ -26,7 +26,7 @@ pub(crate) fn ename(cause: Cause) -> &'static str
     }
 }
 
-// What is wrong at a line and a column.
+// The line and the column, from 1, and the name of the fault there.
 fn place_text(alloc: Global, line: usize, column: usize, name: &str) -> Result<String, AllocError>
     ensures { IfOk result (λ text. string_bytes text
         ≡ decimal line ++ codes ":" ++ decimal column ++ codes " " ++ name.now) }
@@ -56,7 +56,7 @@ fn opcode_text(alloc: Global, opcode: u8, pc: u16) -> Result<String, AllocError>
     Ok(text)
 }
 
-/// The value of a cause, empty where the name says all.
+/// The value of an error (`evalue`), which is empty if the name says all.
 pub(crate) fn evalue(alloc: Global, cause: Cause) -> Result<String, AllocError>
     ensures { IfOk result (λ text. string_bytes text ≡ evalue_of cause) }
 {
@@ -80,7 +80,7 @@ fn error_line(alloc: Global, cause: Cause) -> Result<String, AllocError>
     format!(in alloc; "{name}: {value}")
 }
 
-/// The traceback of a cause: one line.
+/// The traceback of an error: a list of one line.
 pub(crate) fn traceback(alloc: Global, cause: Cause) -> Result<Value, AllocError>
     ensures { IfOk result (λ v. view v ≡ traceback_of cause) }
 {

@@ -1,4 +1,4 @@
-//! The content of each post.
+//! The JSON of contents.
 ghost use Rattle.std.specs.Prelude.{◌≡◌, IfOk};
 ghost use Rattle.serde_json.specs.View.{view};
 ghost use Rattle.kern_render.specs.Json.{content_json};
@@ -14,8 +14,8 @@ use kern_post::content::{Cause, Content};
 use serde_json::Value;
 use std::alloc::{AllocError, Global};
 
-/// The JSON object of a content, in the post with this number, which is the `seq` of a debug reply
-/// and of a debug event (Jupyter messaging, "Debug request", "Debug event").
+/// The JSON object of the content of a post. The post's number is the `seq` of a debug reply and of a debug
+/// event (Jupyter messaging, "Debug request", "Debug event").
 pub fn content_json(alloc: Global, number: u64, content: &Content) -> Result<Value, AllocError>
     ensures { IfOk result (λ v. view v ≡ content_json number content.now) }
 {
@@ -26,7 +26,7 @@ pub fn content_json(alloc: Global, number: u64, content: &Content) -> Result<Val
         Content::InputRequest => input_request(alloc),
         Content::Error(cause) => error(alloc, *cause),
         Content::CommClose { comm_id } => comm_close(alloc, comm_id.as_str()),
-        Content::DebugEvent(told) => event(alloc, number, *told),
+        Content::DebugEvent(debug_event) => event(alloc, number, *debug_event),
         Content::KernelInfoReply => kernel_info(alloc),
         Content::ExecuteReply { count, ending } => execute_reply(alloc, *count, *ending),
         Content::IsCompleteReply(completeness) => is_complete(alloc, *completeness),

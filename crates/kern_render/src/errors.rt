@@ -1,4 +1,4 @@
-//! The content of errors and of the replies that tell of one.
+//! The content of errors and of error replies.
 ghost use Rattle.std.specs.Prelude.{◌≡◌, IfOk};
 ghost use Rattle.serde_json.specs.View.{view};
 ghost use Rattle.dap_answers.specs.Json.{members_from};
@@ -12,8 +12,8 @@ use kern_post::content::Cause;
 use serde_json::Value;
 use std::alloc::{AllocError, Global};
 
-// What each of them says of a cause.
-fn said_of(alloc: Global, cause: Cause) -> Result<Object, AllocError>
+// The members that all of them have.
+fn cause_object(alloc: Global, cause: Cause) -> Result<Object, AllocError>
     ensures { IfOk result (λ o. HasMembers o (members_from (cause_members cause))) }
 {
     let evalue = evalue(alloc, cause)?;
@@ -26,25 +26,25 @@ fn said_of(alloc: Global, cause: Cause) -> Result<Object, AllocError>
     )
 }
 
-/// Of `error` (Jupyter messaging, "Execution errors").
+/// The content of `error` (Jupyter messaging, "Execution errors").
 pub(crate) fn error(alloc: Global, cause: Cause) -> Result<Value, AllocError>
     ensures { IfOk result (λ v. view v ≡ error_json cause) }
 {
-    said_of(alloc, cause)?.finish()
+    cause_object(alloc, cause)?.finish()
 }
 
-/// Of a reply to a request that failed (Jupyter messaging, "Request-reply").
+/// The content of the reply to a request that failed (Jupyter messaging, "Request-reply").
 pub(crate) fn error_reply(alloc: Global, cause: Cause) -> Result<Value, AllocError>
     ensures { IfOk result (λ v. view v ≡ error_reply_json cause) }
 {
-    said_of(alloc, cause)?.text("status", "error").finish()
+    cause_object(alloc, cause)?.text("status", "error").finish()
 }
 
-/// Of `execute_reply` where the execution failed (Jupyter messaging, "Execution results").
+/// The content of `execute_reply` after an execution that failed (Jupyter messaging, "Execution results").
 pub(crate) fn failed_execution(alloc: Global, count: u64, cause: Cause) -> Result<Value, AllocError>
     ensures { IfOk result (λ v. view v ≡ execute_reply_json count (Failed cause)) }
 {
-    said_of(alloc, cause)?
+    cause_object(alloc, cause)?
         .number("execution_count", count)
         .text("status", "error")
         .finish()

@@ -1,4 +1,4 @@
-//! The content of what frontends are told unasked, and of what one is asked.
+//! The content of what is published on iopub, but for errors, and of the request for input.
 ghost use Rattle.std.specs.Prelude.{◌≡◌, IfOk};
 ghost use Rattle.serde_json.specs.View.{view};
 ghost use Rattle.kern_render.specs.Json.{state_text, status_json, execute_input_json, stream_json};
@@ -19,7 +19,7 @@ fn state_text(state: ExecutionState) -> &'static str
     }
 }
 
-/// Of `status` (Jupyter messaging, "Kernel status").
+/// The content of `status` (Jupyter messaging, "Kernel status").
 pub(crate) fn status(alloc: Global, state: ExecutionState) -> Result<Value, AllocError>
     ensures { IfOk result (λ v. view v ≡ status_json state) }
 {
@@ -28,7 +28,7 @@ pub(crate) fn status(alloc: Global, state: ExecutionState) -> Result<Value, Allo
         .finish()
 }
 
-/// Of `execute_input` (Jupyter messaging, "Code inputs").
+/// The content of `execute_input` (Jupyter messaging, "Code inputs").
 pub(crate) fn execute_input(alloc: Global, code: &str, count: u64) -> Result<Value, AllocError>
     ensures { IfOk result (λ v. view v ≡ execute_input_json code.now count) }
 {
@@ -38,8 +38,7 @@ pub(crate) fn execute_input(alloc: Global, code: &str, count: u64) -> Result<Val
         .finish()
 }
 
-/// Of `stream` (Jupyter messaging, "Streams (stdout, stderr, etc)"): each byte is the character of
-/// that number.
+/// The content of `stream` (Jupyter messaging, "Streams (stdout, stderr, etc)"), of bytes in Latin-1.
 pub(crate) fn stream(alloc: Global, bytes: &[u8]) -> Result<Value, AllocError>
     ensures { IfOk result (λ v. view v ≡ stream_json bytes.now) }
 {
@@ -50,7 +49,7 @@ pub(crate) fn stream(alloc: Global, bytes: &[u8]) -> Result<Value, AllocError>
         .finish()
 }
 
-/// Of `input_request` (Jupyter messaging, "Messages on the stdin (ROUTER/DEALER) channel").
+/// The content of `input_request` (Jupyter messaging, "Messages on the stdin (ROUTER/DEALER) channel").
 pub(crate) fn input_request(alloc: Global) -> Result<Value, AllocError>
     ensures { IfOk result (λ v. view v ≡ input_request_json) }
 {
@@ -60,7 +59,7 @@ pub(crate) fn input_request(alloc: Global) -> Result<Value, AllocError>
         .finish()
 }
 
-/// Of `comm_close` (Jupyter messaging, "Tearing Down Comms").
+/// The content of `comm_close` (Jupyter messaging, "Tearing Down Comms").
 pub(crate) fn comm_close(alloc: Global, comm_id: &str) -> Result<Value, AllocError>
     ensures { IfOk result (λ v. view v ≡ comm_close_json comm_id.now) }
 {

@@ -56,11 +56,11 @@ fn date_of(alloc: Global, post: &Post) -> Result<Text, AllocError>
     date_text(alloc, post.unix_seconds.min(LAST_MOMENT))
 }
 
-/// The frames of a post under a key, in the session of this name: the type of the content, which is
-/// the topic, or the identities of the request; the delimiter, the signature, the header, the header
-/// of the request, empty metadata, and the content (Jupyter messaging, "The Wire Protocol", "Message
-/// header"). With an empty key the signature is empty. The `msg_id` is the name of the session, `_`
-/// and the number of the post. A moment after 2100-01-01T00:00:00Z is dated as that one.
+/// The frames of a post, signed with a key, in the session with this name: the topic, which is the type of
+/// the content, or the identities of the request; the delimiter, the signature, the header, the parent
+/// header, empty metadata, and the content (Jupyter messaging, "The Wire Protocol", "Message header"). With
+/// an empty key the signature is empty. The `msg_id` is the name of the session, `_` and the number of the
+/// post. A moment later than 2100-01-01T00:00:00Z gets that date.
 pub fn render(alloc: Global, post: &Post, key: &[u8], session: &str) -> Result<Frames, AllocError>
     ensures { IfOk result (IsRendered key.now session.now post.now) }
 {

@@ -23,7 +23,7 @@ fn language(alloc: Global) -> Result<Value, AllocError>
         .finish()
 }
 
-/// Of `kernel_info_reply` (Jupyter messaging, "Kernel info").
+/// The content of `kernel_info_reply` (Jupyter messaging, "Kernel info").
 pub(crate) fn kernel_info(alloc: Global) -> Result<Value, AllocError>
     ensures { IfOk result (λ v. view v ≡ kernel_info_json) }
 {
@@ -51,7 +51,7 @@ fn done_execution(alloc: Global, count: u64) -> Result<Value, AllocError>
         .finish()
 }
 
-/// Of `execute_reply` (Jupyter messaging, "Execution results").
+/// The content of `execute_reply` (Jupyter messaging, "Execution results").
 pub(crate) fn execute_reply(alloc: Global, count: u64, ending: Ending) -> Result<Value, AllocError>
     ensures { IfOk result (λ v. view v ≡ execute_reply_json count ending) }
 {
@@ -61,7 +61,7 @@ pub(crate) fn execute_reply(alloc: Global, count: u64, ending: Ending) -> Result
     }
 }
 
-/// Of `is_complete_reply` (Jupyter messaging, "Code completeness").
+/// The content of `is_complete_reply` (Jupyter messaging, "Code completeness").
 pub(crate) fn is_complete(alloc: Global, completeness: Completeness) -> Result<Value, AllocError>
     ensures { IfOk result (λ v. view v ≡ is_complete_json completeness) }
 {
@@ -75,7 +75,7 @@ pub(crate) fn is_complete(alloc: Global, completeness: Completeness) -> Result<V
     }
 }
 
-/// Of `complete_reply` (Jupyter messaging, "Completion"): no matches.
+/// The content of `complete_reply` (Jupyter messaging, "Completion"), without matches.
 pub(crate) fn complete(alloc: Global, cursor_pos: u64) -> Result<Value, AllocError>
     ensures { IfOk result (λ v. view v ≡ complete_json cursor_pos) }
 {
@@ -88,7 +88,7 @@ pub(crate) fn complete(alloc: Global, cursor_pos: u64) -> Result<Value, AllocErr
         .finish()
 }
 
-/// Of `inspect_reply` (Jupyter messaging, "Introspection"): nothing is found.
+/// The content of `inspect_reply` (Jupyter messaging, "Introspection"), with nothing found.
 pub(crate) fn inspect(alloc: Global) -> Result<Value, AllocError>
     ensures { IfOk result (λ v. view v ≡ inspect_json) }
 {
@@ -100,7 +100,7 @@ pub(crate) fn inspect(alloc: Global) -> Result<Value, AllocError>
         .finish()
 }
 
-/// Of `history_reply` (Jupyter messaging, "History"): none is kept.
+/// The content of `history_reply` (Jupyter messaging, "History"), which is empty, since none is kept.
 pub(crate) fn history(alloc: Global) -> Result<Value, AllocError>
     ensures { IfOk result (λ v. view v ≡ history_json) }
 {
@@ -110,7 +110,7 @@ pub(crate) fn history(alloc: Global) -> Result<Value, AllocError>
         .finish()
 }
 
-/// Of `comm_info_reply` (Jupyter messaging, "Comm info"): no comms are open.
+/// The content of `comm_info_reply` (Jupyter messaging, "Comm info"), without comms.
 pub(crate) fn comm_info(alloc: Global) -> Result<Value, AllocError>
     ensures { IfOk result (λ v. view v ≡ comm_info_json) }
 {
@@ -120,7 +120,7 @@ pub(crate) fn comm_info(alloc: Global) -> Result<Value, AllocError>
         .finish()
 }
 
-/// Of `shutdown_reply` (Jupyter messaging, "Kernel shutdown").
+/// The content of `shutdown_reply` (Jupyter messaging, "Kernel shutdown").
 pub(crate) fn shutdown(alloc: Global, restarts: bool) -> Result<Value, AllocError>
     ensures { IfOk result (λ v. view v ≡ shutdown_json restarts) }
 {
@@ -130,7 +130,7 @@ pub(crate) fn shutdown(alloc: Global, restarts: bool) -> Result<Value, AllocErro
         .finish()
 }
 
-/// Of `interrupt_reply` (Jupyter messaging, "Kernel interrupt").
+/// The content of `interrupt_reply` (Jupyter messaging, "Kernel interrupt").
 pub(crate) fn interrupt(alloc: Global) -> Result<Value, AllocError>
     ensures { IfOk result (λ v. view v ≡ interrupt_json) }
 {

@@ -1,4 +1,4 @@
--- Debug requests that are refused.
+-- Refused debug requests.
 use Rattle.std.proofs.Common.{◌≡◌, ◌≢◌, Err, refl}
 use Rattle.dap_talk.specs.declared.fault.DapFault.{DapFault}
 use Rattle.dap_talk.specs.declared.fault.DapFault.TheVariants as fault

@@ -21,7 +21,7 @@ type_text message.Interrupt = codes "interrupt_request"
 type_text message.Debug = codes "debug_request"
 type_text message.InputReply = codes "input_reply"
 
--- what is answered on a channel
+-- the types that the kernel answers on a channel
 abbrev pub types_on : Channel → List MessageType
 types_on Shell =
     message.KernelInfo ∷ message.Execute ∷ message.IsComplete ∷ message.Complete ∷ message.Inspect ∷
@@ -30,10 +30,6 @@ types_on Control = message.KernelInfo ∷ message.Shutdown ∷ message.Interrupt
 types_on Stdin = message.InputReply ∷ []
 types_on Iopub = []
 
--- the first of these that is spelled so
-abbrev pub first_named : List MessageType → Text → Option MessageType
-first_named types t = find (λ message_type. bytes_eq (type_text message_type) t) types
-
--- the type that is spelled so, if the channel has it
+-- the type with this text, if the channel has it
 abbrev pub type_named : Channel → Text → Option MessageType
-type_named channel t = first_named (types_on channel) t
+type_named channel t = find (λ message_type. bytes_eq (type_text message_type) t) (types_on channel)

@@ -13,6 +13,7 @@ use Rattle.std.specs.Prelude.{
   option_map,
   option_and_then,
   codes,
+  unwrap_or,
 }
 use Rattle.base_text.specs.Bytes.{Text}
 use Rattle.serde_json.specs.Data.{Data}
@@ -33,20 +34,24 @@ use Rattle.kern_request.specs.declared.message_type.MessageType.{MessageType}
 use Rattle.kern_request.specs.declared.message_type.MessageType.TheVariants as message
 use Rattle.kern_request.specs.MessageTypes.{type_named}
 
--- ---- what stands in a content
+-- ---- members of a content
 
-abbrev pub truth_in : Bool → Option Data → Option Bool
-truth_in absent None = Some absent
-truth_in absent (Some d) = as_bool d
+abbrev pub bool_in : Option Data → Option (Option Bool)
+bool_in None = Some None
+bool_in (Some d) = option_map Some (as_bool d)
 
--- a truth value, and what it is where the object has none
-abbrev pub truth_or : Bool → Text → Data → Option Bool
-truth_or absent key content = option_and_then (truth_in absent) (member_at key content)
+-- a boolean, which may be absent
+abbrev pub bool_at : Text → Data → Option (Option Bool)
+bool_at key content = option_and_then bool_in (member_at key content)
+
+-- the same with a default
+abbrev pub bool_or : Bool → Text → Data → Option Bool
+bool_or absent key content = option_map (λ found. unwrap_or found absent) (bool_at key content)
 
 abbrev pub whole_at : Text → Data → Option ℕ
 whole_at key content = option_and_then whole (get key content)
 
--- ---- what is asked for, if the content is as needed
+-- ---- what is asked for, if the content has all that is needed
 
 abbrev pub execution : Text → Bool → Bool → Bool → RequestBody
 execution code silent stores_history allows_stdin =
@@ -63,9 +68,9 @@ execute_body content =
     (λ code. option_and_then
     (λ silent. option_and_then
     (λ stores_history. option_map (execution code silent stores_history)
-    (truth_or true (codes "allow_stdin") content))
-    (truth_or true (codes "store_history") content))
-    (truth_or false (codes "silent") content))
+    (bool_or true (codes "allow_stdin") content))
+    (bool_or true (codes "store_history") content))
+    (bool_or false (codes "silent") content))
     (text_at (codes "code") content)
 
 abbrev pub is_complete_body : Data → Option RequestBody
@@ -78,9 +83,9 @@ abbrev pub comm_open_body : Data → Option RequestBody
 comm_open_body content = option_map body.CommOpen (text_at (codes "comm_id") content)
 
 abbrev pub shutdown_body : Data → Option RequestBody
-shutdown_body content = option_map body.Shutdown (truth_or false (codes "restart") content)
+shutdown_body content = option_map body.Shutdown (bool_or false (codes "restart") content)
 
--- the line that was typed, with its LF
+-- the line that the user typed, with a line feed
 abbrev pub typed_line : Text → RequestBody
 typed_line value = body.InputReply (latin_bytes value ++ 10 ∷ [])
 
@@ -94,7 +99,7 @@ debug_body (unknown_command seq command) = body.BadDebug (refusal seq command (c
 debug_body (bad_arguments seq command) = body.BadDebug (refusal seq command (codes "Arguments"))
 debug_body (request seq command) = body.Debug (record { seq = seq; command = command })
 
--- ---- the ask
+-- ---- by type and channel
 
 abbrev pub body_or_bad : NeedyRequest → Option RequestBody → RequestBody
 body_or_bad needy_request None = body.BadContent needy_request
@@ -118,11 +123,11 @@ abbrev pub body_or_unknown : Option MessageType → Data → RequestBody
 body_or_unknown None content = body.Unknown
 body_or_unknown (Some message_type) content = body_by_type message_type content
 
--- what a message of this type asks for on this channel
+-- what a message of this type on this channel asks for
 unfoldable pub body_of : Channel → Text → Data → RequestBody
 body_of channel msg_type content = body_or_unknown (type_named channel msg_type) content
 
--- with what its reply repeats of it
+-- with what its replies repeat
 abbrev pub request_of : Channel → Message → Request
 request_of channel m = record {
   body = body_of channel m.header.msg_type (view m.content);

@@ -1,7 +1,7 @@
-// What a kernel is asked for: from a message (Jupyter messaging 5.4) to a typed request.
-// `body_of` is one definition of a message's channel, type and content, where no memory is wanting.
-// A type that its channel doesn't have is Unknown, a content that lacks what is needed BadContent.
-// A debug request that can't be carried out is the response that refuses it.
+// Requests to a kernel: reads a message (Jupyter messaging 5.4) as a typed request.
+// What `body_of` returns depends on the message's channel, type and content alone, unless memory runs out.
+// A type that the channel doesn't have becomes Unknown, and a content with a required member missing or
+// wrong BadContent. A debug request that can't be carried out becomes the response that refuses it.
 // `request_of` adds what the reply repeats: the identities and the header, moved out of the message.
 #![tactic(auto)]
 

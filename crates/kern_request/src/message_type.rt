@@ -1,6 +1,6 @@
 //! The types of requests.
 ghost use Rattle.std.specs.Prelude.{◌≡◌};
-ghost use Rattle.kern_request.specs.MessageTypes.{type_text, first_named};
+ghost use Rattle.kern_request.specs.MessageTypes.{type_text, types_on};
 
 use jup_wire::channel::Channel;
 
@@ -44,10 +44,12 @@ const ON_CONTROL: [MessageType; 4] = [
 
 const ON_STDIN: [MessageType; 1] = [MessageType::InputReply];
 
+const ON_IOPUB: [MessageType; 0] = [];
+
 impl MessageType {
     ghost use Rattle.kern_request.specs.MessageTypes.{type_named};
 
-    /// The text of `msg_type` in headers.
+    /// The text that stands at `msg_type` in a header.
     pub fn as_str(self) -> &'static str
         ensures { result.now ≡ type_text self }
     {
@@ -67,26 +69,25 @@ impl MessageType {
         }
     }
 
-    /// The type of this text, if it is answered on the channel.
+    /// The type with this text, if the kernel answers it on this channel.
     pub fn from_name(channel: Channel, text: &str) -> Option<MessageType>
         ensures { result ≡ type_named channel text.now }
     {
-        match channel {
-            Channel::Shell => first_named(&ON_SHELL, text),
-            Channel::Control => first_named(&ON_CONTROL, text),
-            Channel::Stdin => first_named(&ON_STDIN, text),
-            Channel::Iopub => None,
-        }
+        types_on(channel)
+            .iter()
+            .copied()
+            .find(|message_type| message_type.as_str() == text)
     }
 }
 
-fn first_named(types: &[MessageType], text: &str) -> Option<MessageType>
-    ensures { result ≡ first_named types.now text.now }
+// The types that the kernel answers on a channel.
+fn types_on(channel: Channel) -> &'static [MessageType]
+    ensures { result.now ≡ types_on channel }
 {
-    for message_type in types {
-        if message_type.as_str() == text {
-            return Some(*message_type);
-        }
+    match channel {
+        Channel::Shell => &ON_SHELL,
+        Channel::Control => &ON_CONTROL,
+        Channel::Stdin => &ON_STDIN,
+        Channel::Iopub => &ON_IOPUB,
     }
-    None
 }

@@ -1,4 +1,4 @@
-//! From a message to what it asks for.
+//! Reads messages as requests.
 ghost use Rattle.std.specs.Prelude.{◌≡◌, IfOk};
 ghost use Rattle.serde_json.specs.View.{view};
 ghost use Rattle.dap_talk.specs.Reading.{reading};
@@ -7,7 +7,7 @@ ghost use Rattle.kern_request.specs.Requests.{body_or_bad, execute_body, is_comp
 ghost use Rattle.kern_request.specs.Requests.{comm_open_body, shutdown_body, input_reply_body, debug_body};
 ghost use Rattle.kern_request.specs.Requests.{body_by_type, body_of, request_of};
 
-use crate::content::{truth_or, whole_at};
+use crate::content::{bool_at, whole_at};
 use crate::message_type::MessageType;
 use crate::request::{ExecuteRequest, NeedyRequest, Request, RequestBody};
 use base_text::latin::to_bytes;
@@ -28,21 +28,21 @@ fn execute(alloc: Global, content: &Value) -> Result<RequestBody, AllocError>
     let Some(code) = text_at(content, "code") else {
         return Ok(RequestBody::BadContent(NeedyRequest::Execute));
     };
-    let Some(is_silent) = truth_or(content, "silent", false) else {
+    let Some(silent) = bool_at(content, "silent") else {
         return Ok(RequestBody::BadContent(NeedyRequest::Execute));
     };
-    let Some(stores_history) = truth_or(content, "store_history", true) else {
+    let Some(store_history) = bool_at(content, "store_history") else {
         return Ok(RequestBody::BadContent(NeedyRequest::Execute));
     };
-    let Some(allows_stdin) = truth_or(content, "allow_stdin", true) else {
+    let Some(allow_stdin) = bool_at(content, "allow_stdin") else {
         return Ok(RequestBody::BadContent(NeedyRequest::Execute));
     };
     let code = Text::copy_of(alloc, code)?;
     Ok(RequestBody::Execute(ExecuteRequest {
         code,
-        is_silent,
-        stores_history,
-        allows_stdin,
+        is_silent: silent.unwrap_or(false),
+        stores_history: store_history.unwrap_or(true),
+        allows_stdin: allow_stdin.unwrap_or(true),
     }))
 }
 
@@ -80,8 +80,10 @@ fn comm_open(alloc: Global, content: &Value) -> Result<RequestBody, AllocError>
 fn shutdown(content: &Value) -> RequestBody
     ensures { result ≡ body_or_bad NeedyRequest.Shutdown (shutdown_body (view content.now)) }
 {
-    match truth_or(content, "restart", false) {
-        Some(restarts) => RequestBody::Shutdown { restarts },
+    match bool_at(content, "restart") {
+        Some(restart) => RequestBody::Shutdown {
+            restarts: restart.unwrap_or(false),
+        },
         None => RequestBody::BadContent(NeedyRequest::Shutdown),
     }
 }
@@ -135,9 +137,9 @@ fn body_by_type(
     }
 }
 
-/// What a message asks for on its channel (Jupyter messaging 5.4, "Messages on the shell channel" and
-/// the sections that follow it). The content is looked at only as far as the request needs it; then
-/// it must be an object.
+/// What a message on this channel asks for (Jupyter messaging 5.4, "Messages on the shell channel" and the
+/// sections that follow it). Members that the kernel doesn't use are ignored. The content must be an object
+/// if the kernel uses any of its members.
 #[tactic(auto, unfolding(crate::specs::Requests::body_of))]
 pub fn body_of(
     alloc: Global,
@@ -153,8 +155,7 @@ pub fn body_of(
     }
 }
 
-/// The request of a message: what it asks for, and its identities and header frame, which are moved
-/// out of it.
+/// Reads a message on this channel as a request. Its identities and its header frame are moved, not copied.
 pub fn request_of(alloc: Global, channel: Channel, message: Message) -> Result<Request, AllocError>
     ensures { IfOk result (λ request. request ≡ request_of channel message) }
 {

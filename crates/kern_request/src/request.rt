@@ -1,4 +1,4 @@
-//! What a request asks for.
+//! Requests.
 
 use base_text::sequence::{Bytes, Frames};
 use base_text::text::Text;
@@ -9,15 +9,15 @@ use dap_talk::command::DapRequest;
 #[derive(Drop)]
 pub struct ExecuteRequest {
     pub code: Text,
-    /// Nothing is shown on iopub of what the execution does.
+    /// If set, neither the cell nor its output nor an error is published on iopub.
     pub is_silent: bool,
-    /// The execution is counted, if it isn't silent.
+    /// If set, the execution is counted, unless it is silent.
     pub stores_history: bool,
-    /// The program may ask its user for a line.
+    /// If set, the program may ask the user for a line of input.
     pub allows_stdin: bool,
 }
 
-/// The requests whose content can lack what is needed.
+/// The requests of which the kernel needs some members of the content.
 #[derive(Clone, Copy)]
 pub enum NeedyRequest {
     Execute,
@@ -44,22 +44,23 @@ pub enum RequestBody {
     Interrupt,
     /// A debug request that can be carried out.
     Debug(DapRequest),
-    /// One that can't be, as the response that refuses it.
+    /// The response to a debug request that can't be carried out.
     BadDebug(Response),
-    /// A line that was typed: each character as the byte of its number, or as `?` above FFh, and LF.
+    /// The line that the user typed, in Latin-1 and with a line feed at its end. Characters above FFh are
+    /// `?`.
     InputReply { typed: Bytes },
-    /// A request whose content isn't as needed.
+    /// A request whose content isn't an object, or has a required member missing or wrong.
     BadContent(NeedyRequest),
-    /// A type that its channel doesn't have.
+    /// A message of a type that its channel doesn't have.
     Unknown,
 }
 
-/// A request: what it asks for, and what its reply repeats of it.
+/// A request: what it asks for, and the frames of its message that the replies repeat.
 #[derive(Drop)]
 pub struct Request {
     pub body: RequestBody,
-    /// The identities before the delimiter.
+    /// The identities, which stand before the delimiter.
     pub identities: Frames,
-    /// The header frame.
+    /// The header frame, which becomes the parent header of the replies.
     pub header: Bytes,
 }

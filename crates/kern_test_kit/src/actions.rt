@@ -11,26 +11,26 @@ use kern_request::reading::request_of;
 use kern_request::request::{ExecuteRequest, Request, RequestBody};
 use std::alloc::{AllocError, Global};
 
-/// A call, but for its moment.
+/// A call without its moment.
 #[derive(Clone, Copy)]
 pub enum Action {
-    /// A connection without an identity comes.
+    /// A connection without an identity joins.
     Join(Channel),
-    /// A connection with an identity comes.
+    /// A connection with an identity joins.
     JoinAs(Channel, &'static str),
     Leave(u32),
-    /// A connection wants all posts.
+    /// A connection subscribes to all posts.
     Subscribe(u32),
-    /// A connection asks.
+    /// A connection sends a request.
     Ask(u32, Question),
-    /// A message comes on a connection of this channel: its type, and its content as JSON in which `'` stands
-    /// for `"`.
+    /// A message comes on a connection of this channel: its type, and its content as JSON in which `'`
+    /// stands for `"`.
     Send(u32, Channel, &'static str, &'static str),
     Slice,
     Fetch(u32, u64),
 }
 
-/// What is asked.
+/// A request, as plain data.
 #[derive(Clone, Copy)]
 pub enum Question {
     KernelInfo,
@@ -41,7 +41,8 @@ pub enum Question {
     Variables(u32),
 }
 
-/// The call at a moment. Only want of memory hinders it: what is sent must be a message.
+/// The call of an action at this moment. What a `Send` sends must be a valid message, so this only fails if
+/// memory runs out.
 pub fn call_of(alloc: Global, action: Action, unix_seconds: u64) -> Result<Call, AllocError> {
     match action {
         Action::Join(channel) => join_call(alloc, channel, ""),
@@ -107,7 +108,7 @@ fn request_for(alloc: Global, question: Question) -> Result<Request, AllocError>
     })
 }
 
-// The request of a message goes the whole way of one that comes over a wire.
+// The request of a message, which is opened and read as if it had come over a wire.
 fn request_sent(
     alloc: Global,
     channel: Channel,
@@ -159,8 +160,8 @@ fn debug(command: DapCommand) -> RequestBody {
     RequestBody::Debug(DapRequest { seq: 1, command })
 }
 
-/// Whether a call is this one. A Join, a Leave and a Fetch have no moment; of one with an identity, and of
-/// what is sent, this isn't told.
+/// Whether a call is the one of this action at this moment. A Join, a Leave and a Fetch have no moment.
+/// Returns false for `JoinAs` and `Send`, which aren't compared.
 pub fn is_call(call: &Call, action: Action, unix_seconds: u64) -> bool {
     match (call, action) {
         (Call::Join { channel, .. }, Action::Join(wanted)) => *channel == wanted,
@@ -187,9 +188,9 @@ fn is_subscribe(call: &Call, wanted: u32, unix_seconds: u64) -> bool {
             connection,
             subscription,
         } => {
-            let told = subscription.get();
-            let is_for_all = told.wants && told.prefix.len() == 0;
-            is_for_all && told.unix_seconds == unix_seconds && *connection == wanted
+            let it = subscription.get();
+            let is_to_all = it.wants && it.prefix.len() == 0;
+            is_to_all && it.unix_seconds == unix_seconds && *connection == wanted
         }
         _ => false,
     }
@@ -201,9 +202,9 @@ fn is_arrive(call: &Call, wanted: u32, question: Question, unix_seconds: u64) ->
             connection,
             arrival,
         } => {
-            let told = arrival.get();
-            let is_asked = is_question(&told.request.body, question);
-            is_asked && told.unix_seconds == unix_seconds && *connection == wanted
+            let it = arrival.get();
+            let is_asked = is_question(&it.request.body, question);
+            is_asked && it.unix_seconds == unix_seconds && *connection == wanted
         }
         _ => false,
     }

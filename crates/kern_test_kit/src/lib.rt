@@ -1,5 +1,5 @@
-// For the crates that test kernels: calls as plain data, which can be made again, messages as they come over
-// a wire, and the names of replies. It promises nothing of its own. Nothing but tests stands on it.
+// For the crates that test kernels: calls as plain data, which can be repeated, messages as they come over
+// a wire, and the names of replies. It has no contracts, and only tests use it.
 #![tactic(auto)]
 
 pub mod actions;

@@ -12,8 +12,8 @@ fn push_copies(alloc: Global, frames: &mut Frames, items: &[&[u8]]) -> Result<()
     Ok(())
 }
 
-/// The message with this header and content behind these identities. It isn't signed; its parent header and
-/// its metadata are empty.
+/// The message with these identities, header and content. It isn't signed, and its parent header and its
+/// metadata are empty.
 pub fn message_of(
     alloc: Global,
     identities: Frames,

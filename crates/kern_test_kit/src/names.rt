@@ -1,4 +1,4 @@
-//! The names of replies and refusals.
+//! The names of replies and faults.
 
 use kern_core::call::Reply;
 use kern_core::fault::KernelFault;
@@ -17,7 +17,7 @@ pub fn reply_name(reply: &Reply) -> &'static str {
     }
 }
 
-/// The name of a refusal.
+/// The name of a fault.
 pub fn fault_name(fault: KernelFault) -> &'static str {
     match fault {
         KernelFault::OutOfMemory => "OutOfMemory",

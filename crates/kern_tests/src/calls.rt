@@ -11,7 +11,7 @@ use kern_test_kit::messages;
 use serde_json::Value;
 use std::alloc::Global;
 
-/// The call that a line tells.
+/// The call of a line.
 pub fn call_of(alloc: Global, call: &Value) -> Result<Call, SessionFault> {
     match text(call, "kind")? {
         "Join" => join(alloc, call),
@@ -72,7 +72,7 @@ fn fetch(call: &Value) -> Result<Call, SessionFault> {
     Ok(Call::Fetch { connection, from })
 }
 
-// The message goes the whole way of one that comes over a wire.
+// The message is opened and read as if it had come over a wire.
 fn arrive(alloc: Global, call: &Value) -> Result<Call, SessionFault> {
     let connection = small_number(call, "connection")?;
     let unix_seconds = number(call, "moment")?;
@@ -92,7 +92,7 @@ fn arrive(alloc: Global, call: &Value) -> Result<Call, SessionFault> {
     })
 }
 
-// The message of a line, without a key.
+// The message of a line, which isn't signed.
 fn message_of(alloc: Global, call: &Value) -> Result<Message, SessionFault> {
     let header = text(call, "header")?.as_bytes();
     let content = member(call, "content")?.to_vec(alloc)?;

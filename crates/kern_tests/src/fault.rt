@@ -1,19 +1,26 @@
-//! Why a session isn't kept to.
+//! Why the replay of a session fails.
 
 use jup_wire::message::WireFault;
 use std::alloc::{AllocError, AllocFailed};
 use std::fmt;
 
-/// Why a line of a session isn't kept to.
+/// Why a line of a session is bad, or how the kernel deviates from it.
 #[derive(Clone, Copy)]
 pub enum SessionFault {
     OutOfMemory,
+    /// The line is not JSON.
     Json,
+    /// The member of this name is missing or wrong.
     Member(&'static str),
+    /// The message of the line doesn't open.
     Wire(WireFault),
+    /// The kernel replied otherwise.
     Reply,
+    /// The kernel refused a fetch for this connection.
     Fetch(u32),
+    /// The kernel has other posts for this connection.
     Numbers(u32),
+    /// A part of this post is different.
     Post { number: u64, part: &'static str },
 }
 

@@ -1,8 +1,8 @@
-// The sessions of the kernel, each a file of calls with what they must give: see data/README.md.
-// For each file that the words name a new kernel gets the calls, and a line tells how many calls and
-// posts there were, or the first line of the file that the kernel didn't keep to.
-// Each call's reply is compared, and each post by fetches for the connections that it is addressed to.
-// No contract is claimed here: the kernel's promises stand with the kernel.
+// Replays recorded sessions of the kernel, which are files of calls with their expected replies and posts:
+// see data/README.md. Each file that the command line names is replayed on a new kernel. A line of output
+// says how many calls and posts it had, or names the first line of the file from which the kernel deviates.
+// Replies are compared directly, and posts by fetches for the connections to which they are addressed.
+// Nothing has a contract here: the kernel's own are in its crates.
 #![tactic(auto)]
 
 mod calls;
@@ -13,7 +13,7 @@ mod replies;
 mod session;
 
 use crate::fault::SessionFault;
-use crate::session::{Made, run_session};
+use crate::session::{Counts, run_session};
 use std::process::ExitCode;
 use std::rt::{Env, Files};
 use std::{env, fs, io};
@@ -26,7 +26,7 @@ fn main(rt: HostRuntime) -> ExitCode {
     }
 }
 
-// Whether each session that the words name was kept to.
+// Replays the sessions that the command line names, and returns whether the kernel kept to all of them.
 fn run(rt: &(impl Env + Files + Print + AllocGlobal)) -> io::Result<bool> {
     let names: Vec<String> = env::args(rt)?.skip(1).collect(rt.alloc())?;
     let mut all_kept = true;
@@ -40,20 +40,20 @@ fn run(rt: &(impl Env + Files + Print + AllocGlobal)) -> io::Result<bool> {
 
 fn run_file(rt: &(impl Files + Print + AllocGlobal), name: &str) -> io::Result<bool> {
     let text = fs::read_to_string(rt, name)?;
-    let told = run_session(rt.alloc(), text.as_str());
+    let outcome = run_session(rt.alloc(), text.as_str());
     drop(text);
-    report(rt, name, told)
+    report(rt, name, outcome)
 }
 
-// The line that tells of a session, and whether the session was kept to.
+// Prints the line on a session, and returns whether the kernel kept to the session.
 fn report(
     rt: &impl Print,
     name: &str,
-    told: Result<Made, (usize, SessionFault)>,
+    outcome: Result<Counts, (usize, SessionFault)>,
 ) -> io::Result<bool> {
-    match told {
-        Ok(made) => {
-            println!(rt; "{name}: {} calls, {} posts", made.calls, made.posts)?;
+    match outcome {
+        Ok(counts) => {
+            println!(rt; "{name}: {} calls, {} posts", counts.calls, counts.posts)?;
             Ok(true)
         }
         Err((line, fault)) => {

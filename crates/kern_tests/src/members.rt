@@ -1,4 +1,4 @@
-//! The members of a session's lines.
+//! The members of the JSON objects of a session.
 
 use crate::fault::SessionFault;
 use base_text::sequence::{Bytes, Frames};
@@ -6,26 +6,26 @@ use hex::FromHexError;
 use serde_json::Value;
 use std::alloc::Global;
 
-/// What stands at a key.
+/// The value at a key.
 pub fn member<'a>(value: &'a Value, key: &'static str) -> Result<&'a Value, SessionFault> {
     value.get(key).ok_or(SessionFault::Member(key))
 }
 
-/// A text.
+/// The text at a key.
 pub fn text<'a>(value: &'a Value, key: &'static str) -> Result<&'a str, SessionFault> {
     member(value, key)?
         .as_str()
         .ok_or(SessionFault::Member(key))
 }
 
-/// A whole number.
+/// The whole number at a key.
 pub fn number(value: &Value, key: &'static str) -> Result<u64, SessionFault> {
     member(value, key)?
         .as_u64()
         .ok_or(SessionFault::Member(key))
 }
 
-/// A whole number of 32 bits.
+/// The whole number at a key, which must fit into 32 bits.
 pub fn small_number(value: &Value, key: &'static str) -> Result<u32, SessionFault> {
     match u32::try_from(number(value, key)?) {
         Ok(n) => Ok(n),
@@ -33,24 +33,24 @@ pub fn small_number(value: &Value, key: &'static str) -> Result<u32, SessionFaul
     }
 }
 
-/// A truth value.
+/// The boolean at a key.
 pub fn truth(value: &Value, key: &'static str) -> Result<bool, SessionFault> {
     member(value, key)?
         .as_bool()
         .ok_or(SessionFault::Member(key))
 }
 
-/// A list.
+/// The items of the list at a key.
 pub fn list<'a>(value: &'a Value, key: &'static str) -> Result<&'a [Value], SessionFault> {
     items(value, key).ok_or(SessionFault::Member(key))
 }
 
-/// Bytes, in hexadecimal.
+/// The bytes at a key, which are in hexadecimal.
 pub fn bytes(alloc: Global, value: &Value, key: &'static str) -> Result<Bytes, SessionFault> {
     frame(alloc, member(value, key)?, key)
 }
 
-/// A list of frames, each in hexadecimal.
+/// The list of frames at a key, each of which is in hexadecimal.
 pub fn frames(alloc: Global, value: &Value, key: &'static str) -> Result<Frames, SessionFault> {
     let mut frames = Frames::new(alloc);
     for item in list(value, key)? {
@@ -59,7 +59,7 @@ pub fn frames(alloc: Global, value: &Value, key: &'static str) -> Result<Frames,
     Ok(frames)
 }
 
-// One frame, in hexadecimal; the key is for the fault alone.
+// A frame in hexadecimal. The key is only for the fault.
 fn frame(alloc: Global, item: &Value, key: &'static str) -> Result<Bytes, SessionFault> {
     let digits = item.as_str().ok_or(SessionFault::Member(key))?;
     match hex::decode(alloc, digits.as_bytes()) {
@@ -72,67 +72,67 @@ fn frame(alloc: Global, item: &Value, key: &'static str) -> Result<Bytes, Sessio
 /// Whether a value is this whole number.
 pub fn is_number(value: &Value, number: u64) -> bool {
     match value.as_u64() {
-        Some(told) => told == number,
+        Some(found) => found == number,
         None => false,
     }
 }
 
-/// Whether this whole number stands at a key.
+/// Whether the value at a key is this whole number.
 pub fn has_number(value: &Value, key: &str, number: u64) -> bool {
     match value.get(key) {
-        Some(told) => is_number(told, number),
+        Some(found) => is_number(found, number),
         None => false,
     }
 }
 
-/// Whether this truth value stands at a key.
+/// Whether the value at a key is this boolean.
 pub fn has_truth(value: &Value, key: &str, truth: bool) -> bool {
     match value.get(key) {
-        Some(Value::Bool(told)) => *told == truth,
+        Some(Value::Bool(found)) => *found == truth,
         _ => false,
     }
 }
 
-/// Whether this text stands at a key.
+/// Whether the value at a key is this text.
 pub fn has_text(value: &Value, key: &str, text: &str) -> bool {
     has_bytes(value, key, text.as_bytes())
 }
 
-/// Whether these bytes stand at a key, as a text.
+/// Whether the value at a key is the text of these bytes.
 pub fn has_bytes(value: &Value, key: &str, bytes: &[u8]) -> bool {
     match value.get(key) {
-        Some(told) => is_bytes(told, bytes),
+        Some(found) => is_bytes(found, bytes),
         None => false,
     }
 }
 
-fn is_bytes(told: &Value, bytes: &[u8]) -> bool {
-    match told.as_str() {
+fn is_bytes(found: &Value, bytes: &[u8]) -> bool {
+    match found.as_str() {
         Some(text) => text.as_bytes() == bytes,
         None => false,
     }
 }
 
-/// The items of the list at a key.
+/// The items of the list at a key, if there is one.
 pub fn items<'a>(value: &'a Value, key: &str) -> Option<&'a [Value]> {
     let items = value.get(key)?.as_array()?;
     Some(items.as_slice())
 }
 
-/// Whether the list at a key is these frames, each in hexadecimal.
+/// Whether the value at a key is the list of these frames, each of which is in hexadecimal.
 pub fn are_frames(
     alloc: Global,
     value: &Value,
     key: &'static str,
     frames: &Frames,
 ) -> Result<bool, SessionFault> {
-    let Some(told) = items(value, key) else {
+    let Some(found) = items(value, key) else {
         return Ok(false);
     };
-    if told.len() != frames.len() {
+    if found.len() != frames.len() {
         return Ok(false);
     }
-    for (item, wanted) in told.iter().zip(frames.as_slice()) {
+    for (item, wanted) in found.iter().zip(frames.as_slice()) {
         if frame(alloc, item, key)?.as_slice() != wanted.as_slice() {
             return Ok(false);
         }

@@ -8,46 +8,46 @@ use kern_post::post::{Post, Posts};
 use kern_test_kit::names::{fault_name, reply_name};
 use serde_json::Value;
 
-/// Compares an answer with the reply that a line tells.
+/// Compares an answer with the expected reply.
 pub fn compare_reply(
-    told: &Value,
+    expected: &Value,
     answer: &Result<Reply, KernelFault>,
 ) -> Result<(), SessionFault> {
-    let is_told = match answer {
-        Ok(reply) => is_reply(told, reply),
+    let is_same = match answer {
+        Ok(reply) => is_reply(expected, reply),
         Err(KernelFault::OutOfMemory) => return Err(SessionFault::OutOfMemory),
-        Err(fault) => is_refusal(told, *fault),
+        Err(fault) => is_refusal(expected, *fault),
     };
-    if is_told {
+    if is_same {
         return Ok(());
     }
     Err(SessionFault::Reply)
 }
 
-fn is_reply(told: &Value, reply: &Reply) -> bool {
-    if told.get("refused").is_some() || !has_text(told, "kind", reply_name(reply)) {
+fn is_reply(expected: &Value, reply: &Reply) -> bool {
+    if expected.get("refused").is_some() || !has_text(expected, "kind", reply_name(reply)) {
         return false;
     }
     match reply {
-        Reply::Joined { connection, from } => is_joined(told, *connection, *from),
-        Reply::Fetched { posts, next, ended } => is_fetched(told, posts, *next, *ended),
+        Reply::Joined { connection, from } => is_joined(expected, *connection, *from),
+        Reply::Fetched { posts, next, ended } => is_fetched(expected, posts, *next, *ended),
         _ => true,
     }
 }
 
-fn is_joined(told: &Value, connection: u32, from: u64) -> bool {
-    has_number(told, "connection", u64::from(connection)) && has_number(told, "from", from)
+fn is_joined(expected: &Value, connection: u32, from: u64) -> bool {
+    has_number(expected, "connection", u64::from(connection)) && has_number(expected, "from", from)
 }
 
-fn is_fetched(told: &Value, posts: &Posts, next: u64, ended: bool) -> bool {
-    has_number(told, "next", next)
-        && has_truth(told, "ended", ended)
-        && are_numbers(told, posts.as_slice())
+fn is_fetched(expected: &Value, posts: &Posts, next: u64, ended: bool) -> bool {
+    has_number(expected, "next", next)
+        && has_truth(expected, "ended", ended)
+        && are_numbers(expected, posts.as_slice())
 }
 
-// Whether the numbers that are told are those of the posts, in their order.
-fn are_numbers(told: &Value, posts: &[Post]) -> bool {
-    let Some(numbers) = items(told, "posts") else {
+// Whether the expected numbers are those of the posts, in their order.
+fn are_numbers(expected: &Value, posts: &[Post]) -> bool {
+    let Some(numbers) = items(expected, "posts") else {
         return false;
     };
     if numbers.len() != posts.len() {
@@ -61,13 +61,13 @@ fn are_numbers(told: &Value, posts: &[Post]) -> bool {
     true
 }
 
-fn is_refusal(told: &Value, fault: KernelFault) -> bool {
+fn is_refusal(expected: &Value, fault: KernelFault) -> bool {
     match fault {
-        KernelFault::Lagged { first } => is_lagged(told, first),
-        _ => has_text(told, "refused", fault_name(fault)),
+        KernelFault::Lagged { first } => is_lagged(expected, first),
+        _ => has_text(expected, "refused", fault_name(fault)),
     }
 }
 
-fn is_lagged(told: &Value, first: u64) -> bool {
-    has_text(told, "refused", "Lagged") && has_number(told, "first", first)
+fn is_lagged(expected: &Value, first: u64) -> bool {
+    has_text(expected, "refused", "Lagged") && has_number(expected, "first", first)
 }

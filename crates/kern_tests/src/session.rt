@@ -1,4 +1,4 @@
-//! One session.
+//! A session.
 
 use crate::calls::call_of;
 use crate::fault::SessionFault;
@@ -12,41 +12,44 @@ use kern_post::post::{Post, Posts};
 use serde_json::Value;
 use std::alloc::{AllocError, Global};
 
-/// The greatest limit of a journal. Only under it are fetches put in that the session doesn't have.
+/// The greatest limit that a journal can have. Fetches beside those of the session are only made with this
+/// limit.
 const MOST_ENTRIES: u32 = 4_194_304;
 
-/// How much a session did.
+/// How many calls and posts a session has.
 #[derive(Clone, Copy)]
-pub struct Made {
+pub struct Counts {
     pub calls: u64,
     pub posts: u64,
 }
 
-/// A kernel with what was told of it so far.
+/// A kernel, and the part of the session that was replayed.
 #[derive(Drop)]
 struct Session {
     kernel: Kernel,
-    // The lines so far, but for the repeated ones.
+    // The lines so far, but for those of repeated calls.
     lines: Vec<Value>,
+    // The open connections.
     present: Vec<u32>,
+    // Whether fetches are made after each line with posts.
     sees_posts: bool,
-    made: Made,
+    counts: Counts,
 }
 
-/// Makes the calls of a session, a line each, and compares what they give. The fault of the first line
-/// that isn't kept to comes with the number of the line, from 1.
-pub fn run_session(alloc: Global, text: &str) -> Result<Made, (usize, SessionFault)> {
+/// Makes the calls of a session, which is one line for each, and compares their replies and posts. Fails
+/// with the number of the first line, from 1, that is bad or from which the kernel deviates.
+pub fn run_session(alloc: Global, text: &str) -> Result<Counts, (usize, SessionFault)> {
     match open_session(alloc, text) {
         Ok(mut session) => {
-            let made = session.lines(alloc, text);
+            let counts = session.lines(alloc, text);
             drop(session);
-            made
+            counts
         }
         Err(fault) => Err((1, fault)),
     }
 }
 
-// A new kernel with the limit that the first line tells.
+// A new kernel with the limit of the first line.
 fn open_session(alloc: Global, text: &str) -> Result<Session, SessionFault> {
     let limit = limit_of(alloc, text)?;
     if limit == 0 || limit > MOST_ENTRIES {
@@ -57,7 +60,7 @@ fn open_session(alloc: Global, text: &str) -> Result<Session, SessionFault> {
         lines: Vec::new(alloc),
         present: Vec::new(alloc),
         sees_posts: limit == MOST_ENTRIES,
-        made: Made { calls: 0, posts: 0 },
+        counts: Counts { calls: 0, posts: 0 },
     })
 }
 
@@ -84,20 +87,20 @@ fn read_line(alloc: Global, text: &str) -> Result<Value, SessionFault> {
     }
 }
 
-// A line of repeated calls, for one of them.
+// A line of repeated calls as the line of one of them.
 fn with_number(alloc: Global, text: &str, number: u64) -> Result<String, AllocError> {
     let digits = format!(in alloc; "{number}")?;
     text.replace(alloc, '#', digits.as_str())
 }
 
 impl Session {
-    fn lines(&mut self, alloc: Global, text: &str) -> Result<Made, (usize, SessionFault)> {
+    fn lines(&mut self, alloc: Global, text: &str) -> Result<Counts, (usize, SessionFault)> {
         for (at, line) in text.lines().enumerate() {
             if let Err(fault) = self.line(alloc, line) {
                 return Err((at.saturating_add(1), fault));
             }
         }
-        Ok(self.made)
+        Ok(self.counts)
     }
 
     fn line(&mut self, alloc: Global, text: &str) -> Result<(), SessionFault> {
@@ -131,12 +134,12 @@ impl Session {
         }
     }
 
-    // The posts of repeated calls aren't told, but for how many they are.
+    // Of the posts of repeated calls the session has only the number.
     fn repeat(&mut self, alloc: Global, text: &str, line: &Value) -> Result<(), SessionFault> {
         let posts = number(line, "made")?;
         for k in 0..number(line, "repeat")? {
             self.call_again(alloc, text, k)?;
-            self.made.posts = self.made.posts.saturating_add(posts);
+            self.counts.posts = self.counts.posts.saturating_add(posts);
         }
         Ok(())
     }
@@ -156,18 +159,19 @@ impl Session {
         compared
     }
 
-    // Makes a call, and once more where the kernel had no memory for it: that must not have changed anything.
+    // Makes a call, and makes it again if the kernel ran out of memory, which must not have changed
+    // anything.
     fn act(
         &mut self,
         alloc: Global,
-        told: &Value,
+        call: &Value,
     ) -> Result<Result<Reply, KernelFault>, SessionFault> {
-        let answer = self.kernel.act(call_of(alloc, told)?);
-        if !is_refused(&answer) {
+        let answer = self.kernel.act(call_of(alloc, call)?);
+        if !lacked_memory(&answer) {
             return Ok(answer);
         }
         drop(answer);
-        Ok(self.kernel.act(call_of(alloc, told)?))
+        Ok(self.kernel.act(call_of(alloc, call)?))
     }
 
     fn compare(
@@ -177,11 +181,11 @@ impl Session {
         answer: &Result<Reply, KernelFault>,
     ) -> Result<(), SessionFault> {
         compare_reply(member(line, "reply")?, answer)?;
-        self.made.calls = self.made.calls.saturating_add(1);
+        self.counts.calls = self.counts.calls.saturating_add(1);
         self.follow(alloc, line, answer)
     }
 
-    // What an answer says of who is there and of earlier posts.
+    // Notes which connections are open, and compares fetched posts with earlier lines.
     fn follow(
         &mut self,
         alloc: Global,
@@ -204,13 +208,13 @@ impl Session {
         Ok(())
     }
 
-    // The posts of a line, by a fetch for each connection that is there.
+    // Compares the posts of a line, by a fetch for each open connection.
     fn see_posts(&mut self, alloc: Global, line: &Value) -> Result<(), SessionFault> {
-        let told = list(line, "posts")?;
-        let Some(first) = told.first() else {
+        let expected = list(line, "posts")?;
+        let Some(first) = expected.first() else {
             return Ok(());
         };
-        self.made.posts = self.made.posts.saturating_add(told.len() as u64);
+        self.counts.posts = self.counts.posts.saturating_add(expected.len() as u64);
         if !self.sees_posts {
             return Ok(());
         }
@@ -222,7 +226,7 @@ impl Session {
     }
 }
 
-fn is_refused(answer: &Result<Reply, KernelFault>) -> bool {
+fn lacked_memory(answer: &Result<Reply, KernelFault>) -> bool {
     matches!(answer, Err(KernelFault::OutOfMemory))
 }
 
@@ -234,7 +238,7 @@ fn see_posts_of(
     from: u64,
 ) -> Result<(), SessionFault> {
     let mut answer = kernel.act(Call::Fetch { connection, from });
-    if is_refused(&answer) {
+    if lacked_memory(&answer) {
         answer = kernel.act(Call::Fetch { connection, from });
     }
     let compared = compare_seen(alloc, line, connection, &answer);
@@ -242,7 +246,7 @@ fn see_posts_of(
     compared
 }
 
-// A fetch must give what the line tells of the posts to a connection.
+// Expects a fetch to return the posts of the line that are addressed to the connection.
 fn compare_seen(
     alloc: Global,
     line: &Value,
@@ -271,10 +275,10 @@ fn compare_fetched(
     Ok(())
 }
 
-// Whether posts are those of the told ones that are addressed to a connection, by their numbers.
-fn are_those_to(connection: u32, told: &[Value], posts: &[Post]) -> Result<bool, SessionFault> {
+// Whether the posts are those of the expected ones that are addressed to a connection, by their numbers.
+fn are_those_to(connection: u32, expected: &[Value], posts: &[Post]) -> Result<bool, SessionFault> {
     let mut place = 0usize;
-    for post in told {
+    for post in expected {
         if is_to(post, connection)? {
             if !is_at(posts, place, post) {
                 return Ok(false);
@@ -285,46 +289,46 @@ fn are_those_to(connection: u32, told: &[Value], posts: &[Post]) -> Result<bool,
     Ok(place == posts.len())
 }
 
-// Whether the post at a place has the number of a told one.
-fn is_at(posts: &[Post], place: usize, told: &Value) -> bool {
+// Whether the post at an index has the number of an expected one.
+fn is_at(posts: &[Post], place: usize, expected: &Value) -> bool {
     match posts.get(place) {
-        Some(post) => has_number(told, "number", post.number),
+        Some(post) => has_number(expected, "number", post.number),
         None => false,
     }
 }
 
-// Compares posts with what lines tell of them; of those of repeated calls nothing is told.
+// Compares posts with those that the lines expect. Posts of repeated calls are in no line.
 fn compare_posts(alloc: Global, lines: &[Value], posts: &Posts) -> Result<(), SessionFault> {
     for post in posts.as_slice() {
-        compare_told(alloc, lines, post)?;
+        compare_with_each(alloc, lines, post)?;
     }
     Ok(())
 }
 
-fn compare_told(alloc: Global, lines: &[Value], post: &Post) -> Result<(), SessionFault> {
+fn compare_with_each(alloc: Global, lines: &[Value], post: &Post) -> Result<(), SessionFault> {
     for line in lines {
         compare_with(alloc, line, post)?;
     }
     Ok(())
 }
 
-// Compares a post with what a line tells of it, if it does.
+// Compares a post with the one of the same number in a line, if there is one.
 fn compare_with(alloc: Global, line: &Value, post: &Post) -> Result<(), SessionFault> {
-    for told in list(line, "posts")? {
-        if number(told, "number")? == post.number {
-            compare_made(alloc, line, told, post)?;
+    for expected in list(line, "posts")? {
+        if number(expected, "number")? == post.number {
+            compare_made(alloc, line, expected, post)?;
         }
     }
     Ok(())
 }
 
-// Compares a post with what is told of it in the line of the call that made it.
+// Compares a post with the expected one in the line of the call that made it.
 fn compare_made(
     alloc: Global,
     line: &Value,
-    told: &Value,
+    expected: &Value,
     post: &Post,
 ) -> Result<(), SessionFault> {
     let unix_seconds = number(member(line, "call")?, "moment")?;
-    compare_post(alloc, told, unix_seconds, post)
+    compare_post(alloc, expected, unix_seconds, post)
 }

@@ -5,7 +5,7 @@ ghost use Rattle.kern_core.specs.Connections.{join_turn, leave_turn, subscribing
 ghost use Rattle.kern_core.specs.Connections.{fetching, fetch_turn};
 ghost use Rattle.kern_core.specs.Connections.{status_to, first_status, is_busy, state_of};
 ghost use Rattle.kern_peers.specs.Connections.{same_channel};
-ghost use Rattle.kern_core.specs.Stands.{StandsFor, Makes, Takes, HasRoom};
+ghost use Rattle.kern_core.specs.Stands.{StandsFor, MakesTurn, TakesTurn, HasRoom};
 ghost use Rattle.kern_core.specs.States.{KernelState as KernelStateOf};
 
 use crate::call::Reply;
@@ -33,7 +33,7 @@ fn begins_status(prefix: &[u8]) -> bool
 impl KernelState {
     pub(super) fn join(&mut self, channel: Channel, identity: &Bytes) -> Result<Reply, KernelFault>
         requires { HasRoom self.old }
-        ensures { Takes (join_turn channel identity.now) self.old result self.new }
+        ensures { TakesTurn (join_turn channel identity.now) self.old result self.new }
     {
         if self.peers.has_no_place(channel, identity.as_slice()) {
             return Err(KernelFault::Full);
@@ -48,7 +48,7 @@ impl KernelState {
 
     pub(super) fn leave(&mut self, connection: u32) -> Result<Reply, KernelFault>
         requires { HasRoom self.old }
-        ensures { Takes (leave_turn connection) self.old result self.new }
+        ensures { TakesTurn (leave_turn connection) self.old result self.new }
     {
         if self.peers.get(connection).is_none() {
             return Err(KernelFault::NoConnection);
@@ -58,7 +58,7 @@ impl KernelState {
     }
 
     pub(super) fn fetch(&self, connection: u32, from: u64) -> Result<Reply, KernelFault>
-        ensures { Makes (fetch_turn connection from) self.now result self.now }
+        ensures { MakesTurn (fetch_turn connection from) self.now result self.now }
     {
         match self.peers.get(connection) {
             None => Err(KernelFault::NoConnection),
@@ -67,7 +67,7 @@ impl KernelState {
     }
 
     fn fetch_from(&self, connection: u32, from: u64) -> Result<Reply, KernelFault>
-        ensures { Makes (fetching connection from) self.now result self.now }
+        ensures { MakesTurn (fetching connection from) self.now result self.now }
     {
         let first = self.store.first();
         if from < first {
@@ -100,7 +100,7 @@ impl KernelState {
         }
     }
 
-    // The status to a connection that has just subscribed.
+    // A status letter to this connection alone.
     fn status_to(&self, connection: u32) -> Result<Letter, AllocError>
         ensures { (s : KernelStateOf) → StandsFor self.now s
             → IfOk result (λ letter. letter ≡ status_to connection s) }
@@ -137,7 +137,7 @@ impl KernelState {
         unix_seconds: u64,
     ) -> Result<Reply, KernelFault>
         requires { HasRoom self.old }
-        ensures { Takes (new_subscription connection prefix.now unix_seconds) self.old result self.new }
+        ensures { TakesTurn (new_subscription connection prefix.now unix_seconds) self.old result self.new }
     {
         let letters = self.first_status(connection, prefix.as_slice())?;
         let prefix = copy_bytes(prefix)?;
@@ -154,7 +154,7 @@ impl KernelState {
         unix_seconds: u64,
     ) -> Result<Reply, KernelFault>
         requires { HasRoom self.old }
-        ensures { Takes (subscribing connection wants prefix.now unix_seconds) self.old result self.new }
+        ensures { TakesTurn (subscribing connection wants prefix.now unix_seconds) self.old result self.new }
     {
         let Some(peer) = self.peers.get(connection) else {
             return Err(KernelFault::NoConnection);

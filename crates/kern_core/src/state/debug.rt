@@ -1,13 +1,13 @@
-//! Requests of a debugger.
+//! Debug requests.
 ghost use Rattle.std.specs.Prelude.{◌≡◌, ◌<◌, ◌≤◌, ◌+◌, ◌++◌, ◌∷◌, length, true, false, option_to_list, None};
 ghost use Rattle.std.specs.Prelude.{Err, IfOk, IsOk, IsErr, IsTrue, codes};
 ghost use Rattle.dap_board.specs.Commands.{IsPerformable};
 ghost use Rattle.dap_board.specs.Names.{event_after};
 ghost use Rattle.kern_core.specs.Requests.{is_reset, after_letter, is_bounded, refusing, performing};
 ghost use Rattle.kern_core.specs.Requests.{debugging, debug_reply, performed_letters};
-ghost use Rattle.kern_core.specs.Debugging.{IsDebugKit, Tells};
+ghost use Rattle.kern_core.specs.Debugging.{IsPreparedDebugReply, AnswersWith};
 ghost use Rattle.kern_core.specs.States.{KernelState as KernelStateOf};
-ghost use Rattle.kern_core.specs.Stands.{StandsFor, Takes, HasRoom};
+ghost use Rattle.kern_core.specs.Stands.{StandsFor, TakesTurn, HasRoom};
 
 use crate::call::Reply;
 use crate::fault::KernelFault;
@@ -17,7 +17,7 @@ use dap_answers::answer::{Body, Outcome, Response};
 use dap_board::names::{event_after, outcome_of};
 use dap_board::perform::perform;
 use dap_talk::command::{DapCommand, DapRequest};
-use kern_exec::letters::{BusyIdle, address, enclose, publish};
+use kern_exec::letters::{BusyIdle, address, busy_idle, publish};
 use kern_post::content::{Cause, Content};
 use kern_post::letters::Letters;
 use kern_post::post::{Envelope, Letter};
@@ -25,13 +25,13 @@ use kern_request::request::Request;
 use lab_core::fault::EventFault;
 use std::alloc::{AllocError, Global};
 
-/// The most lines of a list of breakpoints.
+/// How many lines a setBreakpoints request can have, at most.
 const MOST_LINES: usize = 256;
 
-/// All that the answer to a debug request needs, made before the board is asked.
+/// All of a debug reply but its outcome, allocated before the board is asked.
 #[derive(Drop)]
-pub struct DebugKit {
-    pub enclosed: BusyIdle,
+pub struct PreparedDebugReply {
+    pub busy_idle: BusyIdle,
     pub envelope: Envelope,
     pub request_seq: u32,
     pub command: Text,
@@ -59,8 +59,8 @@ fn is_bounded(command: &DapCommand) -> bool
 
 fn push_some(letters: &mut Letters, letter: Option<Letter>)
     requires { length letters.old < 8 }
-    ensures said { letters.new ≡ letters.old ++ option_to_list letter }
-    ensures few { length letters.new ≤ length letters.old + 1 }
+    ensures letters { letters.new ≡ letters.old ++ option_to_list letter }
+    ensures bound { length letters.new ≤ length letters.old + 1 }
 {
     match letter {
         None => {}
@@ -68,18 +68,18 @@ fn push_some(letters: &mut Letters, letter: Option<Letter>)
     }
 }
 
-// Between busy and idle the reply with this outcome, and what all are told after it.
-fn debug_letters(kit: DebugKit, outcome: Outcome, after: Option<Letter>) -> Letters
-    requires { length kit.enclosed.letters ≤ 1 }
-    ensures { Tells kit (λ n r d. debug_reply n r d outcome ∷ option_to_list after) result }
+// The reply with this outcome, and the letter after it if there is one, between busy and idle.
+fn debug_letters(prepared: PreparedDebugReply, outcome: Outcome, after: Option<Letter>) -> Letters
+    requires { length prepared.busy_idle.letters ≤ 1 }
+    ensures { AnswersWith prepared (λ n r d. debug_reply n r d outcome ∷ option_to_list after) result }
 {
-    let DebugKit {
-        enclosed,
+    let PreparedDebugReply {
+        busy_idle,
         envelope,
         request_seq,
         command,
-    } = kit;
-    let BusyIdle { mut letters, idle } = enclosed;
+    } = prepared;
+    let BusyIdle { mut letters, idle } = busy_idle;
     letters.push(Letter {
         envelope,
         content: Content::DebugReply(Response {
@@ -93,42 +93,46 @@ fn debug_letters(kit: DebugKit, outcome: Outcome, after: Option<Letter>) -> Lett
     letters
 }
 
-// The same of a refusal; that memory was wanting is none.
-fn refusal_letters(alloc: Global, kit: DebugKit, fault: EventFault) -> Result<Letters, AllocError>
-    requires few { length kit.enclosed.letters ≤ 1 }
-    ensures told { IfOk result (Tells kit (performed_letters (Err fault) None)) }
-    ensures want { fault ≡ EventFault.OutOfMemory → IsErr result }
+// The reply that refuses a command, between busy and idle. Out of memory is an error and gets no reply.
+fn refusal_letters(
+    alloc: Global,
+    prepared: PreparedDebugReply,
+    fault: EventFault,
+) -> Result<Letters, AllocError>
+    requires bound { length prepared.busy_idle.letters ≤ 1 }
+    ensures letters { IfOk result (AnswersWith prepared (performed_letters (Err fault) None)) }
+    ensures memory { fault ≡ EventFault.OutOfMemory → IsErr result }
 {
     if matches!(fault, EventFault::OutOfMemory) {
-        drop(kit);
+        drop(prepared);
         return Err(AllocError);
     }
     match outcome_of(alloc, fault) {
-        Ok(outcome) => Ok(debug_letters(kit, outcome, None)),
+        Ok(outcome) => Ok(debug_letters(prepared, outcome, None)),
         Err(_) => {
-            drop(kit);
+            drop(prepared);
             Err(AllocError)
         }
     }
 }
 
-// The letters that tell what became of a command. What was done is told without memory.
+// The letters that report the result of a command. For a command that was performed they need no memory.
 fn letters_by(
     alloc: Global,
-    kit: DebugKit,
+    prepared: PreparedDebugReply,
     performed: Result<Body, EventFault>,
     after: Option<Letter>,
 ) -> Result<Letters, AllocError>
-    requires few { length kit.enclosed.letters ≤ 1 }
-    ensures told { IfOk result (Tells kit (performed_letters performed after)) }
+    requires bound { length prepared.busy_idle.letters ≤ 1 }
+    ensures letters { IfOk result (AnswersWith prepared (performed_letters performed after)) }
     ensures done { IsOk performed → IsOk result }
-    ensures want { performed ≡ Err EventFault.OutOfMemory → IsErr result }
+    ensures memory { performed ≡ Err EventFault.OutOfMemory → IsErr result }
 {
     match performed {
-        Ok(body) => Ok(debug_letters(kit, Outcome::Success(body), after)),
+        Ok(body) => Ok(debug_letters(prepared, Outcome::Success(body), after)),
         Err(fault) => {
             drop(after);
-            refusal_letters(alloc, kit, fault)
+            refusal_letters(alloc, prepared, fault)
         }
     }
 }
@@ -142,7 +146,8 @@ impl KernelState {
         unix_seconds: u64,
     ) -> Result<Reply, KernelFault>
         requires { HasRoom self.old }
-        ensures { Takes (debugging connection request.now debug.now unix_seconds) self.old result self.new }
+        ensures { TakesTurn (debugging connection request.now debug.now unix_seconds)
+            self.old result self.new }
     {
         if !is_bounded(&debug.command) {
             return self.refuse(connection, request, debug, unix_seconds);
@@ -153,19 +158,19 @@ impl KernelState {
         self.perform(connection, request, debug, unix_seconds)
     }
 
-    fn debug_kit(
+    fn prepare_debug_reply(
         &self,
         connection: u32,
         request: &Request,
         debug: &DapRequest,
-    ) -> Result<DebugKit, AllocError>
-        ensures { IfOk result (IsDebugKit self.now.connections connection request.now debug.now) }
+    ) -> Result<PreparedDebugReply, AllocError>
+        ensures { IfOk result (IsPreparedDebugReply self.now.connections connection request.now debug.now) }
     {
         let command = Text::copy_of(self.alloc, debug.command.name().as_str())?;
         let envelope = address(self.alloc, connection, &request.identities, &request.header)?;
-        let enclosed = enclose(self.alloc, &self.peers, &request.header)?;
-        Ok(DebugKit {
-            enclosed,
+        let busy_idle = busy_idle(self.alloc, &self.peers, &request.header)?;
+        Ok(PreparedDebugReply {
+            busy_idle,
             envelope,
             request_seq: debug.seq,
             command,
@@ -195,14 +200,15 @@ impl KernelState {
         connection: u32,
         request: &Request,
         debug: &DapRequest,
-    ) -> Result<(DebugKit, Option<Letter>), AllocError>
-        ensures kit { IfOk result (λ made. IsDebugKit self.now.connections connection request.now debug.now made.0) }
+    ) -> Result<(PreparedDebugReply, Option<Letter>), AllocError>
+        ensures prepared { IfOk result (λ made.
+            IsPreparedDebugReply self.now.connections connection request.now debug.now made.0) }
         ensures after { (s : KernelStateOf) → StandsFor self.now s → IfOk result (λ made.
             made.1 ≡ after_letter (event_after debug.now.command) request.now s) }
     {
         let after = self.after_letter(request, &debug.command)?;
-        match self.debug_kit(connection, request, debug) {
-            Ok(kit) => Ok((kit, after)),
+        match self.prepare_debug_reply(connection, request, debug) {
+            Ok(prepared) => Ok((prepared, after)),
             Err(_) => {
                 drop(after);
                 Err(AllocError)
@@ -218,17 +224,17 @@ impl KernelState {
         unix_seconds: u64,
     ) -> Result<Reply, KernelFault>
         requires { HasRoom self.old }
-        ensures { Takes (refusing connection request.now debug.now (codes "Arguments") unix_seconds)
+        ensures { TakesTurn (refusing connection request.now debug.now (codes "Arguments") unix_seconds)
             self.old result self.new }
     {
         let message = Text::copy_of(self.alloc, "Arguments")?;
-        let kit = self.debug_kit(connection, request, debug)?;
-        let letters = debug_letters(kit, Outcome::Refused(message), None);
+        let prepared = self.prepare_debug_reply(connection, request, debug)?;
+        let letters = debug_letters(prepared, Outcome::Refused(message), None);
         self.store.push_all(unix_seconds, letters);
         Ok(Reply::Arrived)
     }
 
-    // The board is reset by a debugger.
+    // Performs a board/reset request.
     fn reset_by(
         &mut self,
         connection: u32,
@@ -238,7 +244,8 @@ impl KernelState {
     ) -> Result<Reply, KernelFault>
         requires room { HasRoom self.old }
         requires reset { is_reset debug.now.command ≡ true }
-        ensures { Takes (performing connection request.now debug.now unix_seconds) self.old result self.new }
+        ensures { TakesTurn (performing connection request.now debug.now unix_seconds)
+            self.old result self.new }
     {
         let command = Text::copy_of(self.alloc, debug.command.name().as_str())?;
         let content = Content::DebugReply(Response {
@@ -261,11 +268,12 @@ impl KernelState {
         requires room { HasRoom self.old }
         requires bounded { IsPerformable debug.now.command }
         requires other { is_reset debug.now.command ≡ false }
-        ensures { Takes (performing connection request.now debug.now unix_seconds) self.old result self.new }
+        ensures { TakesTurn (performing connection request.now debug.now unix_seconds)
+            self.old result self.new }
     {
-        let (kit, after) = self.prepare(connection, request, debug)?;
+        let (prepared, after) = self.prepare(connection, request, debug)?;
         let result = perform(self.alloc, &mut self.lab, &debug.command);
-        let letters = letters_by(self.alloc, kit, result, after)?;
+        let letters = letters_by(self.alloc, prepared, result, after)?;
         self.store.push_all(unix_seconds, letters);
         Ok(Reply::Arrived)
     }

@@ -1,18 +1,18 @@
-//! Requests, but for those of a debugger.
+//! Requests other than debug requests.
 ghost use Rattle.std.specs.Prelude.{◌≡◌, ◌<◌, ◌≤◌, ◌+◌, ◌∷◌, ◌++◌, [], length, IfOk, OnOk, OnErr};
 ghost use Rattle.std.specs.Prelude.{if◌then◌else◌, option_map};
 ghost use Rattle.kern_post.specs.declared.content.Ending.TheVariants.{Failed};
-ghost use Rattle.kern_exec.specs.Letters.{between_busy_and_idle as enclosed_of};
+ghost use Rattle.kern_exec.specs.Letters.{between_busy_and_idle};
 ghost use Rattle.kern_exec.specs.Executions.{clear_current};
 ghost use Rattle.kern_exec.specs.Ends.{error_letters};
-ghost use Rattle.kern_exec.specs.Kits.{IsEnclosed, end_kit_of};
+ghost use Rattle.kern_exec.specs.Prepared.{IsBusyIdle, prepared_end};
 ghost use Rattle.kern_exec.specs.Boards.{is_run};
 ghost use Rattle.kern_core.specs.Requests.{reply_to, replying, full_letters, executing, cut_of, cut_letters};
 ghost use Rattle.kern_core.specs.Requests.{interrupting, shutting, typing, closing, passing, ignore_request};
 ghost use Rattle.kern_core.specs.Requests.{other, arriving, with_board, cut_work};
 ghost use Rattle.lab_core.specs.Events.{reset as reset_of};
 ghost use Rattle.kern_core.specs.States.{KernelState as KernelStateOf, after, posting};
-ghost use Rattle.kern_core.specs.Stands.{StandsFor, Takes, HasRoom, Grows};
+ghost use Rattle.kern_core.specs.Stands.{StandsFor, TakesTurn, HasRoom, Grows};
 
 use crate::call::Reply;
 use crate::fault::KernelFault;
@@ -21,9 +21,9 @@ use crate::state::KernelState;
 use crate::state::connections::is_iopub;
 use base_text::sequence::Bytes;
 use base_text::text::Text;
-use kern_exec::ends::{EndKit, cut_letters, end_kit};
+use kern_exec::ends::{PreparedEnd, cut_letters, prepare_end};
 use kern_exec::execution::Execution;
-use kern_exec::letters::{BusyIdle, enclose, publish, reply};
+use kern_exec::letters::{BusyIdle, busy_idle, publish, reply};
 use kern_exec::runs::{interrupt, reset, type_bytes};
 use kern_post::content::{Cause, Content, Ending};
 use kern_post::letters::Letters;
@@ -50,7 +50,7 @@ impl KernelState {
         unix_seconds: u64,
     ) -> Result<Reply, KernelFault>
         requires { HasRoom self.old }
-        ensures { Takes (arriving connection request.now unix_seconds) self.old result self.new }
+        ensures { TakesTurn (arriving connection request.now unix_seconds) self.old result self.new }
     {
         let Some(peer) = self.peers.get(connection) else {
             return Err(KernelFault::NoConnection);
@@ -65,7 +65,7 @@ impl KernelState {
         }
     }
 
-    // The reply of a request.
+    // The reply to a request.
     pub(super) fn reply_to(
         &self,
         connection: u32,
@@ -83,14 +83,13 @@ impl KernelState {
         )
     }
 
-    // One letter between busy and idle.
-    fn enclosed_one(&self, header: &Bytes, letter: Letter) -> Result<Letters, AllocError>
+    // A letter between busy and idle.
+    fn enclose(&self, header: &Bytes, letter: Letter) -> Result<Letters, AllocError>
         ensures { IfOk result (λ letters. letters
-            ≡ enclosed_of self.now.connections header.now (letter ∷ [])) }
+            ≡ between_busy_and_idle self.now.connections header.now (letter ∷ [])) }
     {
-        match enclose(self.alloc, &self.peers, header) {
-            Ok(frame) => {
-                let BusyIdle { mut letters, idle } = frame;
+        match busy_idle(self.alloc, &self.peers, header) {
+            Ok(BusyIdle { mut letters, idle }) => {
                 letters.push(letter);
                 letters.push(idle);
                 Ok(letters)
@@ -110,10 +109,10 @@ impl KernelState {
         unix_seconds: u64,
     ) -> Result<Reply, KernelFault>
         requires { HasRoom self.old }
-        ensures { Takes (replying connection request.now content unix_seconds) self.old result self.new }
+        ensures { TakesTurn (replying connection request.now content unix_seconds) self.old result self.new }
     {
         let letter = self.reply_to(connection, request, content)?;
-        let letters = self.enclosed_one(&request.header, letter)?;
+        let letters = self.enclose(&request.header, letter)?;
         self.store.push_all(unix_seconds, letters);
         Ok(Reply::Arrived)
     }
@@ -126,7 +125,8 @@ impl KernelState {
         unix_seconds: u64,
     ) -> Result<Reply, KernelFault>
         requires { HasRoom self.old }
-        ensures { Takes (other connection identity request.now request.now.body unix_seconds) self.old result self.new }
+        ensures { TakesTurn (other connection identity request.now request.now.body unix_seconds)
+            self.old result self.new }
     {
         match &request.body {
             RequestBody::Execute(execute) => self.execute(
@@ -146,7 +146,7 @@ impl KernelState {
             RequestBody::Interrupt => self.interrupt(connection, request, unix_seconds),
             RequestBody::Debug(debug) => self.debug(connection, request, debug, unix_seconds),
             RequestBody::InputReply { typed } => self.type_line(typed),
-            RequestBody::BadContent(lacking) => self.pass_lacking(request, *lacking, unix_seconds),
+            RequestBody::BadContent(bad) => self.ignore_request(request, *bad, unix_seconds),
             RequestBody::KernelInfo
             | RequestBody::IsComplete { .. }
             | RequestBody::Complete { .. }
@@ -154,27 +154,27 @@ impl KernelState {
             | RequestBody::History
             | RequestBody::CommInfo
             | RequestBody::BadDebug(_)
-            | RequestBody::Unknown => self.pass(request, unix_seconds),
+            | RequestBody::Unknown => self.post_busy_idle(request, unix_seconds),
         }
     }
 
-    // A content that isn't as needed, where no reply tells it.
-    fn pass_lacking(
+    // A request with a bad content, of a type that gets no error reply.
+    fn ignore_request(
         &mut self,
         request: &Request,
-        lacking: NeedyRequest,
+        bad: NeedyRequest,
         unix_seconds: u64,
     ) -> Result<Reply, KernelFault>
         requires { HasRoom self.old }
-        ensures { Takes (ignore_request request.now lacking unix_seconds) self.old result self.new }
+        ensures { TakesTurn (ignore_request request.now bad unix_seconds) self.old result self.new }
     {
-        match lacking {
+        match bad {
             NeedyRequest::InputReply => Ok(Reply::Arrived),
             NeedyRequest::Execute
             | NeedyRequest::IsComplete
             | NeedyRequest::Complete
             | NeedyRequest::CommOpen
-            | NeedyRequest::Shutdown => self.pass(request, unix_seconds),
+            | NeedyRequest::Shutdown => self.post_busy_idle(request, unix_seconds),
         }
     }
 
@@ -187,7 +187,8 @@ impl KernelState {
         unix_seconds: u64,
     ) -> Result<Reply, KernelFault>
         requires { HasRoom self.old }
-        ensures { Takes (executing connection identity request.now execute.now unix_seconds) self.old result self.new }
+        ensures { TakesTurn (executing connection identity request.now execute.now unix_seconds)
+            self.old result self.new }
     {
         if self.executions.has_place() {
             let execution = Execution::copy_of(self.alloc, connection, identity, request, execute)?;
@@ -205,10 +206,11 @@ impl KernelState {
         request: &Request,
         is_silent: bool,
     ) -> Result<Letters, AllocError>
-        ensures { IfOk result (λ letters. letters ≡ enclosed_of self.now.connections request.now.header
+        ensures { IfOk result (λ letters. letters
+            ≡ between_busy_and_idle self.now.connections request.now.header
             (full_letters connection request.now is_silent self.now.connections self.now.work.count)) }
     {
-        let BusyIdle { mut letters, idle } = enclose(self.alloc, &self.peers, &request.header)?;
+        let BusyIdle { mut letters, idle } = busy_idle(self.alloc, &self.peers, &request.header)?;
         match self.push_full(&mut letters, connection, request, is_silent) {
             Ok(()) => {
                 letters.push(idle);
@@ -221,7 +223,7 @@ impl KernelState {
         }
     }
 
-    // That the queue is full: the error and the reply.
+    // Adds the error and the reply of an execute_request that finds the queue full.
     #[tactic(auto, using(std::proofs::Common::append_assoc))]
     fn push_full(
         &self,
@@ -231,9 +233,9 @@ impl KernelState {
         is_silent: bool,
     ) -> Result<(), AllocError>
         requires { length letters.old ≤ 1 }
-        ensures said { IfOk result (λ _. letters.new ≡ letters.old ++
+        ensures letters { IfOk result (λ _. letters.new ≡ letters.old ++
             full_letters connection request.now is_silent self.now.connections self.now.work.count) }
-        ensures few { length letters.new ≤ length letters.old + 2 }
+        ensures bound { length letters.new ≤ length letters.old + 2 }
     {
         self.push_error(letters, request, is_silent)?;
         let content = Content::ExecuteReply {
@@ -245,7 +247,7 @@ impl KernelState {
         Ok(())
     }
 
-    // The error, where the request isn't silent.
+    // Adds the error, unless the request is silent.
     fn push_error(
         &self,
         letters: &mut Letters,
@@ -253,9 +255,9 @@ impl KernelState {
         is_silent: bool,
     ) -> Result<(), AllocError>
         requires { length letters.old < 8 }
-        ensures said { IfOk result (λ _. letters.new ≡ letters.old ++
+        ensures letters { IfOk result (λ _. letters.new ≡ letters.old ++
             error_letters is_silent self.now.connections request.now.header (Failed Cause.QueueFull)) }
-        ensures few { length letters.new ≤ length letters.old + 1 }
+        ensures bound { length letters.new ≤ length letters.old + 1 }
     {
         if is_silent {
             return Ok(());
@@ -273,38 +275,38 @@ impl KernelState {
         unix_seconds: u64,
     ) -> Result<Reply, KernelFault>
         requires { HasRoom self.old }
-        ensures { Takes (closing request.now comm_id.now unix_seconds) self.old result self.new }
+        ensures { TakesTurn (closing request.now comm_id.now unix_seconds) self.old result self.new }
     {
         let comm_id = Text::copy_of(self.alloc, comm_id.as_str())?;
         let content = Content::CommClose { comm_id };
         let letter = publish(self.alloc, &self.peers, &request.header, content)?;
-        let letters = self.enclosed_one(&request.header, letter)?;
+        let letters = self.enclose(&request.header, letter)?;
         self.store.push_all(unix_seconds, letters);
         Ok(Reply::Arrived)
     }
 
-    fn pass(&mut self, request: &Request, unix_seconds: u64) -> Result<Reply, KernelFault>
+    // Posts busy and idle, and no more.
+    fn post_busy_idle(&mut self, request: &Request, unix_seconds: u64) -> Result<Reply, KernelFault>
         requires { HasRoom self.old }
-        ensures { Takes (passing request.now unix_seconds) self.old result self.new }
+        ensures { TakesTurn (passing request.now unix_seconds) self.old result self.new }
     {
-        let frame = enclose(self.alloc, &self.peers, &request.header)?;
-        let mut letters = frame.letters;
-        letters.push(frame.idle);
+        let BusyIdle { mut letters, idle } = busy_idle(self.alloc, &self.peers, &request.header)?;
+        letters.push(idle);
         self.store.push_all(unix_seconds, letters);
         Ok(Reply::Arrived)
     }
 
     fn type_line(&mut self, typed: &Bytes) -> Result<Reply, KernelFault>
-        ensures { Takes (typing typed.now) self.old result self.new }
+        ensures { TakesTurn (typing typed.now) self.old result self.new }
     {
         type_bytes(&mut self.lab, typed)?;
         Ok(Reply::Arrived)
     }
 
-    // The envelopes for the end of the execution under way, where there is a run.
-    fn cut_kit(&self) -> Result<Option<EndKit>, AllocError>
-        ensures { (s : KernelStateOf) → StandsFor self.now s → IfOk result (λ kit.
-            kit ≡ option_map (end_kit_of s.connections) (cut_of s)) }
+    // The envelopes for the end of the current execution, if there is a run.
+    fn prepare_end_of_run(&self) -> Result<Option<PreparedEnd>, AllocError>
+        ensures { (s : KernelStateOf) → StandsFor self.now s → IfOk result (λ end.
+            end ≡ option_map (prepared_end s.connections) (cut_of s)) }
     {
         if !self.has_run() {
             return Ok(None);
@@ -312,13 +314,13 @@ impl KernelState {
         match self.executions.current() {
             None => Ok(None),
             Some(current) => {
-                let kit = end_kit(self.alloc, &self.peers, &current.execution, current.count)?;
-                Ok(Some(kit))
+                let end = prepare_end(self.alloc, &self.peers, &current.execution, current.count)?;
+                Ok(Some(end))
             }
         }
     }
 
-    // What a request posts that ends a run from outside, and that is answered so.
+    // The letters of a request that ends the run, with the reply of this content.
     pub(super) fn cut_letters(
         &self,
         connection: u32,
@@ -327,12 +329,12 @@ impl KernelState {
         content: Content,
     ) -> Result<Letters, AllocError>
         ensures { (s : KernelStateOf) → StandsFor self.now s → IfOk result (λ letters.
-            letters ≡ enclosed_of s.connections request.now.header
+            letters ≡ between_busy_and_idle s.connections request.now.header
             (cut_letters cause s ++ reply_to connection request.now content ∷ [])) }
     {
         let reply = self.reply_to(connection, request, content)?;
-        match self.cut_frame(&request.header) {
-            Ok((frame, kit)) => Ok(cut_letters(frame, kit, cause, reply)),
+        match self.prepare_cut(&request.header) {
+            Ok((busy_idle, end)) => Ok(cut_letters(busy_idle, end, cause, reply)),
             Err(_) => {
                 drop(reply);
                 Err(AllocError)
@@ -340,24 +342,24 @@ impl KernelState {
         }
     }
 
-    // Busy and idle, and the envelopes for the end between them.
-    fn cut_frame(&self, header: &Bytes) -> Result<(BusyIdle, Option<EndKit>), AllocError>
-        ensures enclosed { IfOk result (λ made. IsEnclosed self.now.connections header.now made.0) }
-        ensures kit { (s : KernelStateOf) → StandsFor self.now s → IfOk result (λ made.
-            made.1 ≡ option_map (end_kit_of s.connections) (cut_of s)) }
+    // Busy and idle, and the envelopes for the end of the run between them.
+    fn prepare_cut(&self, header: &Bytes) -> Result<(BusyIdle, Option<PreparedEnd>), AllocError>
+        ensures busy_idle { IfOk result (λ made. IsBusyIdle self.now.connections header.now made.0) }
+        ensures end { (s : KernelStateOf) → StandsFor self.now s → IfOk result (λ made.
+            made.1 ≡ option_map (prepared_end s.connections) (cut_of s)) }
     {
-        let kit = self.cut_kit()?;
-        match enclose(self.alloc, &self.peers, header) {
-            Ok(frame) => Ok((frame, kit)),
+        let end = self.prepare_end_of_run()?;
+        match busy_idle(self.alloc, &self.peers, header) {
+            Ok(busy_idle) => Ok((busy_idle, end)),
             Err(_) => {
-                drop(kit);
+                drop(end);
                 Err(AllocError)
             }
         }
     }
 
-    // The execution under way has ended, where there was a run.
-    pub(super) fn end_where(&mut self, had_run: bool)
+    // Ends the current execution if there was a run.
+    pub(super) fn end_if(&mut self, had_run: bool)
         ensures { self.new ≡ record self.old {
           work =
               if had_run then clear_current self.old.work else self.old.work;
@@ -375,7 +377,7 @@ impl KernelState {
         unix_seconds: u64,
     ) -> Result<Reply, KernelFault>
         requires { HasRoom self.old }
-        ensures { Takes (interrupting connection request.now unix_seconds) self.old result self.new }
+        ensures { TakesTurn (interrupting connection request.now unix_seconds) self.old result self.new }
     {
         let letters = self.cut_letters(
             connection,
@@ -385,12 +387,12 @@ impl KernelState {
         )?;
         let had_run = self.has_run();
         interrupt(&mut self.lab);
-        self.end_where(had_run);
+        self.end_if(had_run);
         self.store.push_all(unix_seconds, letters);
         Ok(Reply::Arrived)
     }
 
-    // The board is reset, and these letters, which tell the end of a run, are posted.
+    // Resets the board, and posts these letters, which report the end of the run.
     pub(super) fn reset_board(
         &mut self,
         letters: Letters,
@@ -405,7 +407,7 @@ impl KernelState {
     {
         let had_run = self.has_run();
         reset(&mut self.lab)?;
-        self.end_where(had_run);
+        self.end_if(had_run);
         self.store.push_all(unix_seconds, letters);
         Ok(())
     }
@@ -418,7 +420,7 @@ impl KernelState {
         unix_seconds: u64,
     ) -> Result<Reply, KernelFault>
         requires { HasRoom self.old }
-        ensures { Takes (shutting connection request.now restarts unix_seconds) self.old result self.new }
+        ensures { TakesTurn (shutting connection request.now restarts unix_seconds) self.old result self.new }
     {
         let content = Content::ShutdownReply { restarts };
         if restarts {
@@ -428,7 +430,7 @@ impl KernelState {
             return Ok(Reply::Arrived);
         }
         let letter = self.reply_to(connection, request, content)?;
-        let letters = self.enclosed_one(&request.header, letter)?;
+        let letters = self.enclose(&request.header, letter)?;
         self.store.push_all(unix_seconds, letters);
         self.is_shut = true;
         Ok(Reply::Arrived)

@@ -1,4 +1,4 @@
-//! Slices: the next piece of the run, its start, or the next cell.
+//! The call Slice: the next slice of the run, its start, or loading the next cell.
 ghost use Rattle.std.specs.Prelude.{◌≡◌, ◌<◌, ◌≤◌, ◌+◌, [], ◌∷◌, List, length, vec_capacity, IfOk};
 ghost use Rattle.std.specs.Prelude.{IfSome, Ok};
 ghost use Rattle.lab_core.specs.declared.run_state.RunState.TheVariants.{NoRun, Running};
@@ -8,22 +8,22 @@ ghost use Rattle.kern_exec.specs.declared.execution.Current.{Current};
 ghost use Rattle.kern_exec.specs.declared.execution.Execution.{Execution};
 ghost use Rattle.kern_exec.specs.Executions.{load_first};
 ghost use Rattle.kern_exec.specs.Ends.{loading_letters as loading_letters_of};
-ghost use Rattle.kern_exec.specs.Kits.{IsLoadingKit};
+ghost use Rattle.kern_exec.specs.Prepared.{IsPreparedLoading};
 ghost use Rattle.kern_core.specs.Slices.{letters_of as slice_letters_of, work_after, reply_of, running};
 ghost use Rattle.kern_core.specs.Slices.{beginning, by_start, loading, slicing};
-ghost use Rattle.kern_core.specs.Running.{IsKitOf};
+ghost use Rattle.kern_core.specs.Running.{IsPreparedFor};
 ghost use Rattle.kern_core.specs.States.{KernelState as KernelStateOf};
-ghost use Rattle.kern_core.specs.Stands.{Stands, Takes, TakesIn, HasRoom};
+ghost use Rattle.kern_core.specs.Stands.{Stands, TakesTurn, TakesTurnIn, HasRoom};
 
 use crate::call::Reply;
 use crate::fault::KernelFault;
 use crate::state::KernelState;
 use i80_devs::traffic::Traffic;
-use kern_exec::cells::{LoadingKit, letters_of as loading_letters, load, loading_kit};
+use kern_exec::cells::{PreparedLoading, letters_of as loading_letters, load, prepare_loading};
 use kern_exec::executions::count_with;
 use kern_exec::loading::Loading;
 use kern_exec::runs::start;
-use kern_exec::slices::{SliceKit, letters_of, slice_kit};
+use kern_exec::slices::{PreparedSlice, letters_of, prepare_slice};
 use lab_core::answer::SliceOutcome;
 use lab_core::run_state::RunState;
 use lab_slice::slice::run_slice;
@@ -33,7 +33,7 @@ impl KernelState {
     pub(super) fn slice(&mut self, unix_seconds: u64) -> Result<Reply, KernelFault>
         requires room { HasRoom self.old }
         requires stands { Stands self.old }
-        ensures { Takes (slicing unix_seconds) self.old result self.new }
+        ensures { TakesTurn (slicing unix_seconds) self.old result self.new }
     {
         if self.is_shut {
             return Ok(Reply::Ended);
@@ -47,7 +47,7 @@ impl KernelState {
 
     fn go_on(&mut self, unix_seconds: u64) -> Result<Reply, KernelFault>
         requires { HasRoom self.old }
-        ensures { TakesIn NoRun (λ s. by_start s.work.pending unix_seconds s) self.old result self.new }
+        ensures { TakesTurnIn NoRun (λ s. by_start s.work.pending unix_seconds s) self.old result self.new }
     {
         match self.executions.pending_start() {
             None => self.load(unix_seconds),
@@ -56,7 +56,7 @@ impl KernelState {
     }
 
     fn begin(&mut self, address: u16) -> Reply
-        ensures { TakesIn NoRun (beginning address) self.old (Ok result) self.new }
+        ensures { TakesTurnIn NoRun (beginning address) self.old (Ok result) self.new }
     {
         start(&mut self.lab, address);
         self.executions.begin();
@@ -65,33 +65,34 @@ impl KernelState {
 
     fn load(&mut self, unix_seconds: u64) -> Result<Reply, KernelFault>
         requires { HasRoom self.old }
-        ensures { TakesIn NoRun (λ s. loading unix_seconds s.work.queue s) self.old result self.new }
+        ensures { TakesTurnIn NoRun (λ s. loading unix_seconds s.work.queue s) self.old result self.new }
     {
         let Some(execution) = self.executions.first() else {
             return Ok(Reply::Idle);
         };
         let count = count_with(execution, self.executions.count());
-        let kit = loading_kit(self.alloc, &self.peers, execution, count)?;
+        let prepared = prepare_loading(self.alloc, &self.peers, execution, count)?;
         match load(self.alloc, &mut self.lab, &execution.request.code) {
             Ok(loading) => {
-                self.post_loading(unix_seconds, kit, loading);
+                self.post_loading(unix_seconds, prepared, loading);
                 Ok(Reply::More)
             }
             Err(_) => {
-                drop(kit);
+                drop(prepared);
                 Err(KernelFault::OutOfMemory)
             }
         }
     }
 
-    // The first that waits was loaded: what that posts, and what it makes of the executions.
-    fn post_loading(&mut self, unix_seconds: u64, kit: LoadingKit, loading: Loading)
+    // Takes the first execution from the queue, whose cell was loaded, and posts the letters of that.
+    fn post_loading(&mut self, unix_seconds: u64, prepared: PreparedLoading, loading: Loading)
         requires room { HasRoom self.old }
-        requires few { length kit.letters ≤ 2 }
-        requires some { 0 < length self.old.work.queue }
-        ensures posts { (c : Current) → IsLoadingKit self.old.connections c kit → (posts : List Post)
-            → Keeps posts self.old.store
-            → Keeps (posted unix_seconds (loading_letters_of self.old.connections c loading) posts) self.new.store }
+        requires bound { length prepared.letters ≤ 2 }
+        requires nonempty { 0 < length self.old.work.queue }
+        ensures posts { (c : Current) → IsPreparedLoading self.old.connections c prepared
+            → (posts : List Post) → Keeps posts self.old.store
+            → Keeps (posted unix_seconds (loading_letters_of self.old.connections c loading) posts)
+            self.new.store }
         ensures rest { self.new ≡ record self.old { work = self.new.work; store = self.new.store } }
         ensures work { (x : Execution) (rest : List Execution) → self.old.work.queue ≡ x ∷ rest
             → self.new.work ≡ load_first x rest loading self.old.work }
@@ -99,18 +100,18 @@ impl KernelState {
     {
         self.executions.take(loading);
         self.store
-            .push_all(unix_seconds, loading_letters(kit, loading));
+            .push_all(unix_seconds, loading_letters(prepared, loading));
     }
 
-    // All that a slice of the execution under way may post.
-    fn kit(&self) -> Result<Option<SliceKit>, AllocError>
-        ensures { IfOk result (IsKitOf self.now.connections self.now.work.current) }
+    // Allocates all that posting after a slice of the current execution needs.
+    fn prepare_current_slice(&self) -> Result<Option<PreparedSlice>, AllocError>
+        ensures { IfOk result (IsPreparedFor self.now.connections self.now.work.current) }
     {
         match self.executions.current() {
             None => Ok(None),
             Some(current) => {
-                let kit = slice_kit(self.alloc, &self.peers, current)?;
-                Ok(Some(kit))
+                let prepared = prepare_slice(self.alloc, &self.peers, current)?;
+                Ok(Some(prepared))
             }
         }
     }
@@ -118,16 +119,16 @@ impl KernelState {
     fn run(&mut self, unix_seconds: u64) -> Result<Reply, KernelFault>
         requires room { HasRoom self.old }
         requires stands { Stands self.old }
-        ensures { TakesIn Running (running unix_seconds) self.old result self.new }
+        ensures { TakesTurnIn Running (running unix_seconds) self.old result self.new }
     {
-        let kit = self.kit()?;
+        let prepared = self.prepare_current_slice()?;
         match run_slice(&mut self.lab) {
             Ok((traffic, outcome)) => {
-                self.post_slice(unix_seconds, kit, &traffic, outcome);
+                self.post_slice(unix_seconds, prepared, &traffic, outcome);
                 Ok(self.leave_run(outcome))
             }
             Err(_) => {
-                drop(kit);
+                drop(prepared);
                 Err(KernelFault::OutOfMemory)
             }
         }
@@ -136,24 +137,24 @@ impl KernelState {
     fn post_slice(
         &mut self,
         unix_seconds: u64,
-        kit: Option<SliceKit>,
+        prepared: Option<PreparedSlice>,
         traffic: &Traffic,
         outcome: SliceOutcome,
     )
         requires room { HasRoom self.old }
-        requires text { IfSome kit (λ k. length traffic.now ≤ vec_capacity k.text) }
-        requires empty { IfSome kit (λ k. (k.text.items ≡ []) × (k.letters ≡ [])) }
-        ensures posts { (s : KernelStateOf) → IsKitOf s.connections s.work.current kit
+        requires text { IfSome prepared (λ k. length traffic.now ≤ vec_capacity k.text) }
+        requires empty { IfSome prepared (λ k. (k.text.items ≡ []) × (k.letters ≡ [])) }
+        ensures posts { (s : KernelStateOf) → IsPreparedFor s.connections s.work.current prepared
             → Keeps s.posts self.old.store
-            → Keeps (posted unix_seconds (slice_letters_of s.connections s.work.current traffic.now outcome) s.posts)
-            self.new.store }
+            → Keeps (posted unix_seconds
+            (slice_letters_of s.connections s.work.current traffic.now outcome) s.posts) self.new.store }
         ensures rest { self.new ≡ record self.old { store = self.new.store } }
         ensures made { self.new.store.made ≤ self.old.store.made + 8 }
     {
-        match kit {
+        match prepared {
             None => {}
-            Some(kit) => {
-                let letters = letters_of(kit, traffic.as_slice(), outcome);
+            Some(prepared) => {
+                let letters = letters_of(prepared, traffic.as_slice(), outcome);
                 self.store.push_all(unix_seconds, letters);
             }
         }

@@ -20,7 +20,8 @@ returns-in-Ok c =
       λ s stands ne.
           let viewed : StandsFor _ s = subst (λ v. StandsFor v s) (sym c.self.view_is) stands.0 in
           let cell = c.in-Ok.ensures.loaded s.board viewed.board in
-          let posts = c.post_loading.ensures.posts current c.in_ok-kit.ensures.kit s.posts viewed.posts in
+          let prepared = c.in_ok-prepared.ensures.prepared in
+          let posts = c.post_loading.ensures.posts current prepared s.posts viewed.posts in
           load_stands c.args.unix_seconds s _ new lab x rest current c.in-Ok.loading viewed c.in-Some.ensures
           is_current cell.0 cell.1 loaded work posts,
       (

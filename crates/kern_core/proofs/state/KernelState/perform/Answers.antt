@@ -4,7 +4,7 @@ use Rattle.kern_peers.specs.Connections.{Connections}
 use Rattle.kern_post.specs.declared.post.Letter.{Letter}
 use Rattle.kern_exec.specs.Letters.{between_busy_and_idle}
 use Rattle.kern_core.specs.Requests.{performed_letters}
-use Rattle.kern_core.specs.Debugging.{IsDebugKit}
+use Rattle.kern_core.specs.Debugging.{IsPreparedDebugReply}
 use Rattle.kern_core.specs.Stands.{StandsFor}
 use Rattle.kern_core.proofs.DebugLemmas.{performed_stands}
 use Rattle.kern_core.proofs.state.KernelState.perform.Goals as goal
@@ -16,17 +16,17 @@ returns c = (
       let n = c.args.connection in
       let r = c.args.request.now in
       let d = c.args.debug.now in
-      let K : Connections → Type 0 = λ w. IsDebugKit w n r d c.in_ok-kit.kit in
-      let kit = subst K stands.connections c.in_ok-kit.ensures.kit in
-      let letter = c.in_ok-kit.ensures.after s stands in
+      let K : Connections → Type 0 = λ w. IsPreparedDebugReply w n r d c.in_ok-prepared.prepared in
+      let prepared = subst K stands.connections c.in_ok-prepared.ensures.prepared in
+      let letter = c.in_ok-prepared.ensures.after s stands in
       let L : Option Letter → List Letter =
       λ after. between_busy_and_idle s.connections r.header
       (performed_letters c.perform-result.result after n r d) in
-      let told = c.in_ok-letters.ensures.told s.connections n r d kit ∙ ap L letter in
+      let told = c.in_ok-letters.ensures.letters s.connections n r d prepared ∙ ap L letter in
       performed_stands n r d c.args.unix_seconds s _ c.perform-result.new.lab c.push_all.new.self
       c.perform-result.result c.in_ok-letters.letters
       viewed c.requires.other c.perform-result.ensures.0
-      (λ e. absurd (false≢true (c.in_ok-letters.ensures.want e))) told
+      (λ e. absurd (false≢true (c.in_ok-letters.ensures.memory e))) told
       (c.push_all.ensures.keeps s.posts viewed.posts),
   search rules,
 )

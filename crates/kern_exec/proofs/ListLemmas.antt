@@ -1,4 +1,4 @@
--- Of letters one after the other.
+-- Lists one after the other.
 use Rattle.std.proofs.Common.{◌≡◌, ◌∙◌, List, [], ◌∷◌, ◌++◌, sym, ap, append_assoc}
 
 pub grouped : {A : Type 0} (first second third : List A) (x : A)
