@@ -8,14 +8,14 @@ use Rattle.lab_turn.proofs.HistoryLemmas.{prefix_trans}
 use Rattle.kern_core.specs.declared.call.Call.{Call}
 use Rattle.kern_core.specs.declared.call.Call.TheVariants.{Slice}
 use Rattle.kern_net.specs.Gates.{WorkerPolls}
-use Rattle.kern_net.specs.Work.{Sliced, SawShutdown, WorkEnds, untaken}
+use Rattle.kern_net.specs.Work.{Sliced, SawShutdown, WorkEnds, MakesSlices, untaken}
 use Rattle.kern_net.specs.declared.end.PumpEnd.TheVariants as end
 use Rattle.kern_net.specs.declared.end.PumpEnd.{PumpEnd}
 use Rattle.kern_host.specs.declared.guest.Passes.{Passes}
 use Rattle.kern_host.specs.Guests.{GuestState, IsComing, IsSeated, AreOf, without_passes}
 use Rattle.kern_host.specs.OneHistory.{History, Place, SeesShutdown, WorkingEnds, Works}
 use Rattle.kern_host.specs.Visits.{House, VisitedWith, Visited}
-use Rattle.kern_host.specs.Hosting.{AtEach, HasBoth, Worked, Serves, ServesEach, seats_at}
+use Rattle.kern_host.specs.Hosting.{AtEach, HasBoth, Serves, ServesEach, seats_at}
 use Rattle.kern_host.specs.Hosting.{seated_at, worker_at}
 use Rattle.kern_host.proofs.AskedLemmas.{IsAt, full_there, is_part}
 
@@ -106,7 +106,8 @@ working_ends end.Worn pass polls place a h = h.0
 working_ends _ pass polls place a h = absurd h
 
 pub works_in : (desk : TurnstileState) (seat guests : ℕ) (old new : PassState Call) (a b : WorkerPolls)
-    (e : PumpEnd) (back : List (PassState Call)) (history : History) → Worked desk old new a b e
+    (e : PumpEnd) (back : List (PassState Call)) (history : History)
+    → MakesSlices desk (record { pass = old; polls = a }) (record { pass = new; polls = b }) e
     → old ≡ fresh_pass desk seat → seat + 1 ≡ 2 * guests + 1 → IsHistoryOf desk (back ++ new ∷ []) history
     → Works (worker_at desk.limit guests history) a b e
 works_in desk seat guests old new a b e back history w is count h =

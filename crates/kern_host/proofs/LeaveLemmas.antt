@@ -79,3 +79,6 @@ left_on c u v w left a b = record {
   calls = b.calls ∙ ap (λ (l : List Call). l ++ leaving c left) a.counted;
   cause = b.cause;
 }
+
+-- what one try after the other shows
+pub ruleset tries = (sees_first, sees_on, left_on)

@@ -26,7 +26,7 @@ use Rattle.kern_net.specs.declared.end.PumpEnd.{PumpEnd}
 use Rattle.kern_net.specs.Routes.{Source}
 use Rattle.kern_net.specs.Calls.{TurnedBy}
 use Rattle.kern_net.specs.ReadEnds.{Reader}
-use Rattle.kern_net.specs.Reading.{Granted, NoCall, OneMore, ReadOut}
+use Rattle.kern_net.specs.Reading.{TakesTurns, NoCall, OneMore, ReadOut}
 use Rattle.kern_net.specs.Out.{WroteOut}
 use Rattle.kern_net.proofs.CallLemmas.{turned_prefix, entry_calls, no_entry_calls}
 use Rattle.kern_host.specs.declared.end.Ends.{Ends}
@@ -117,7 +117,7 @@ module _ (house : House) (before : Passes) (w : PassState Call) (call : Call) (h
 
 -- ---- reading
 
-granted_onward : (old new : PassState Call) (calls : List Call) → Granted old new calls
+granted_onward : (old new : PassState Call) (calls : List Call) → TakesTurns old new calls
     → IsPrefix old.seen new.seen
 granted_onward old new calls NoCall = prefix_self old.seen
 granted_onward old new calls1 (OneMore mid new1 calls call reply g t) =

@@ -9,12 +9,11 @@ use zmtp_wire::peer_fault::PeerFault;
 pub enum LeaveFault {
     /// The journal takes no more calls.
     JournalFull,
-    /// No more turns can be had.
+    /// The desk has no more turns.
     Worn,
 }
 
-/// How a connection that had joined ended: why it was read no more, why it was written to no more, and
-/// whether it left.
+/// How a connection that had joined ended: how its reading and its writing ended, and whether it left.
 #[derive(Clone, Copy, PartialEq, Eq)]
 pub struct Ends {
     pub reading: PumpEnd,
@@ -25,9 +24,9 @@ pub struct Ends {
 /// How a visit ended.
 #[derive(Clone, Copy, PartialEq, Eq)]
 pub enum VisitEnd {
-    /// The handshake ended without a peer.
+    /// The handshake failed.
     NoHandshake(PeerFault),
-    /// The kernel took no Join of the peer.
+    /// The peer's Join failed.
     NoJoin(KernelFault),
     /// The peer joined, and was served.
     Served(Ends),

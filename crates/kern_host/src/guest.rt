@@ -1,4 +1,4 @@
-//! Connections that a kernel is to serve.
+//! The connections that a kernel serves.
 ghost use Rattle.std.specs.Prelude.{◌≡◌, Some, None};
 
 use crate::end::VisitEnd;
@@ -11,14 +11,14 @@ use std::marker::Model;
 /// The passes of a connection's two threads.
 #[derive(Drop)]
 pub struct Passes {
-    /// Makes the Join, the calls that are asked for, and the Leave.
+    /// For the Join, the calls that messages ask for, and the Leave.
     pub reading: Pass,
-    /// Fetches.
+    /// For the Fetches.
     pub writing: Pass,
 }
 
-/// A connection: its channel, its reader and its writer, the gates of its two threads, their passes while it
-/// has them, and how its visit ended, once it has.
+/// A connection: its channel, inlet and outlet, the gates of its two threads, their passes while it has them,
+/// and how its visit ended once it has.
 #[derive(Drop)]
 pub struct Guest<I: Inlet + Drop, W: Outlet + Drop, G: ReaderGate + Drop, H: WriterGate + Drop> {
     pub(crate) channel: Channel,
@@ -53,7 +53,7 @@ impl<I: Inlet + Drop, W: Outlet + Drop, G: ReaderGate + Drop, H: WriterGate + Dr
     G,
     H,
 > {
-    /// A connection that is to be served, without passes.
+    /// A connection that hasn't been visited yet, without passes.
     pub fn new(channel: Channel, inlet: I, outlet: W, reader: G, writer: H) -> Guest<I, W, G, H>
         ensures { result ≡ record {
           channel = channel;
@@ -76,28 +76,28 @@ impl<I: Inlet + Drop, W: Outlet + Drop, G: ReaderGate + Drop, H: WriterGate + Dr
         }
     }
 
-    /// How its visit ended, once it has.
+    /// How its visit ended, if it has.
     pub fn end(&self) -> Option<VisitEnd>
         ensures { result ≡ self.now.end }
     {
         self.end
     }
 
-    /// What it is written to.
+    /// Its outlet, with what was written.
     pub fn outlet(&self) -> &W
         ensures { W.state result.now ≡ self.now.outlet }
     {
         &self.outlet
     }
 
-    /// It takes the passes of its two threads.
+    /// Gives it the passes of its two threads.
     pub fn sit(&mut self, passes: Passes)
         ensures { self.new ≡ record self.old { passes = Some passes } }
     {
         self.passes = Some(passes);
     }
 
-    /// It gives them back.
+    /// Takes its passes, if it has them.
     pub fn rise(&mut self) -> Option<Passes>
         ensures passes { result ≡ self.old.passes }
         ensures guest { self.new ≡ record self.old { passes = None } }
@@ -105,7 +105,7 @@ impl<I: Inlet + Drop, W: Outlet + Drop, G: ReaderGate + Drop, H: WriterGate + Dr
         self.passes.take()
     }
 
-    /// Its visit has ended so, and it has its passes again.
+    /// Notes how its visit ended, and gives it its passes again.
     pub(crate) fn finish(&mut self, passes: Passes, end: VisitEnd)
         ensures { self.new ≡ record self.old { passes = Some passes; end = Some end } }
     {

@@ -1,13 +1,13 @@
 //! A kernel with its connections, from the first call to the last.
 ghost use Rattle.std.specs.Prelude.{◌≡◌, ◌+◌, ◌*◌, ◌≤◌, [], All, IfOk, IfErr, length, vec_capacity};
-ghost use Rattle.lab_turn.specs.History.{FreshFrom, IsLegal};
+ghost use Rattle.lab_turn.specs.History.{FreshFrom};
 ghost use Rattle.std.specs.Thread.{IsSync, IsSend};
 ghost use Rattle.std.specs.Fork.{AcceptsEach};
 ghost use Rattle.kern_net.specs.Gates.{no_polls};
-ghost use Rattle.kern_host.specs.OneHistory.{Works};
+ghost use Rattle.kern_net.specs.Work.{MakesSlices};
 ghost use Rattle.kern_host.specs.Guests.{IsComing, IsSeated};
 ghost use Rattle.kern_host.specs.Visits.{house_of, Visited};
-ghost use Rattle.kern_host.specs.Hosting.{AtEach, Changed, Worked, ServesEach, worker_at};
+ghost use Rattle.kern_host.specs.Hosting.{AtEach, IsChangedBy, CanHost, HostsAll, host_with};
 
 use crate::guest::Guest;
 use crate::seating::{seat_all, take_all, take_last};
@@ -27,17 +27,17 @@ use std::sync::Wait;
 use std::thread;
 use std::thread::Threads;
 
-// A call at each place, each in a thread of its own.
+// Calls the closure on each element, in a thread of its own.
 fn at_each<R: Threads + Sync, T: Send, F: Fn(usize, &mut T) + Sync>(rt: &R, f: &F, all: &mut [T])
     requires { AcceptsEach F.Fn f.now all.old }
-    ensures { Changed F.Fn f.now all.old all.new }
+    ensures { IsChangedBy F.Fn f.now all.old all.new }
 {
     let threads = all.len().max(1);
     thread::for_each_mut(rt, all, threads, f);
 }
 
-// The worker, and beside it a call at each place. What stands there is a type parameter: a closure that
-// captures a reference to a value with a model that has parameters gets no proof yet.
+// Runs the worker, and beside it the closure on each element. The elements' type is a parameter, since the
+// prover can't yet handle a closure that captures a reference to a value whose model has parameters.
 fn run_beside<R: Threads + Wait + Sync, P: WorkerGate + Send, T: Send, F: Fn(usize, &mut T) + Sync>(
     rt: &R,
     desk: &Desk,
@@ -49,25 +49,27 @@ fn run_beside<R: Threads + Wait + Sync, P: WorkerGate + Send, T: Send, F: Fn(usi
     requires own { working.old.turnstile ≡ desk.now }
     requires gate { P.polls gate.old ≡ no_polls }
     requires accepts { AcceptsEach F.Fn f.now all.old }
-    ensures worked { Worked desk.now working.old working.new (P.polls gate.old) (P.polls gate.new) result }
-    ensures changed { Changed F.Fn f.now all.old all.new }
+    ensures worked { MakesSlices desk.now (record { pass = working.old; polls = P.polls gate.old })
+        (record { pass = working.new; polls = P.polls gate.new }) result }
+    ensures changed { IsChangedBy F.Fn f.now all.old all.new }
 {
     let (end, ()) = thread::join_mut(
         rt,
         &mut || -> PumpEnd
             requires { (working.now.turnstile ≡ desk.now) × (P.polls gate.now ≡ no_polls) }
-            ensures { Worked desk.entry.now working.entry.now working.exit.now (P.polls gate.entry.now)
-                (P.polls gate.exit.now) result }
+            ensures { MakesSlices desk.entry.now
+                (record { pass = working.entry.now; polls = P.polls gate.entry.now })
+                (record { pass = working.exit.now; polls = P.polls gate.exit.now }) result }
         { worker(rt, desk, working, gate) },
         &mut ||
             requires { IsSync R.row × IsSync F.row × IsSend T.row × AcceptsEach F.Fn f.now all.now }
-            ensures { Changed F.Fn f.entry.now all.entry.now all.exit.now }
+            ensures { IsChangedBy F.Fn f.entry.now all.entry.now all.exit.now }
         { at_each(rt, f, all) },
     );
     end
 }
 
-// The worker, and beside it all visits, each in a thread of its own.
+// Runs the worker, and beside it all visits, each in a thread of its own.
 fn run_all<
     R: Threads + Wait + Clock + Sync,
     I: Inlet + Drop + Send,
@@ -86,8 +88,8 @@ fn run_all<
     requires own { working.old.turnstile ≡ server.now.desk.now }
     requires gate { P.polls gate.old ≡ no_polls }
     requires guests { All (IsSeated server.now.desk.now) guests.old }
-    ensures worked { Worked server.now.desk.now working.old working.new (P.polls gate.old)
-        (P.polls gate.new) result }
+    ensures worked { MakesSlices server.now.desk.now (record { pass = working.old; polls = P.polls gate.old })
+        (record { pass = working.new; polls = P.polls gate.new }) result }
     ensures visited { AtEach (λ k a b. Visited (house_of server.now.seal server.now.desk.now.limit) a b)
         guests.old guests.new }
 {
@@ -105,14 +107,22 @@ fn run_all<
     )
 }
 
-/// A kernel with the seat of each call, and how its worker ended.
+/// A kernel whose journal has the seat of each call, and how its worker ended.
 #[derive(Drop)]
 pub struct Hosted {
     pub seated: Seated,
     pub end: PumpEnd,
 }
 
-// Seats the guests, runs all threads, and closes the desk with the passes.
+// An open desk, its passes, and room for them when they are given back.
+#[derive(Drop)]
+struct OpenDesk {
+    desk: Desk,
+    passes: Vec<Pass>,
+    back: Vec<Pass>,
+}
+
+// Gives the guests their passes, runs all threads, and closes the desk with the passes.
 fn host_at<
     R: Threads + Wait + Clock + Sync,
     I: Inlet + Drop + Send,
@@ -123,25 +133,26 @@ fn host_at<
 >(
     rt: &R,
     alloc: Global,
-    desk: Desk,
-    mut passes: Vec<Pass>,
-    mut back: Vec<Pass>,
+    opened: OpenDesk,
     seal: &Seal<'_>,
     gate: &mut P,
     guests: &mut [Guest<I, W, G, H>],
 ) -> Hosted
-    requires fresh { FreshFrom 0 desk passes.items }
-    requires count { length passes.items ≡ 2 * length guests.old + 1 }
-    requires seats { desk.seats ≡ 2 * length guests.old + 1 }
-    requires empty { back.items ≡ [] }
-    requires room { 2 * length guests.old + 1 ≤ vec_capacity back }
+    requires fresh { FreshFrom 0 opened.desk opened.passes.items }
+    requires count { length opened.passes.items ≡ 2 * length guests.old + 1 }
+    requires seats { opened.desk.seats ≡ 2 * length guests.old + 1 }
+    requires empty { opened.back.items ≡ [] }
+    requires room { 2 * length guests.old + 1 ≤ vec_capacity opened.back }
     requires coming { All IsComing guests.old }
     requires gate { P.polls gate.old ≡ no_polls }
-    ensures legal { IsLegal desk.seats desk.limit result.seated.entries }
-    ensures guests { ServesEach (house_of seal.now desk.limit) guests.old guests.new result.seated.entries }
-    ensures worker { Works (worker_at desk.limit (length guests.old) result.seated.entries)
-        (P.polls gate.old) (P.polls gate.new) result.end }
+    ensures { HostsAll (house_of seal.now opened.desk.limit) (host_with guests.old (P.polls gate.old))
+        (host_with guests.new (P.polls gate.new)) result }
 {
+    let OpenDesk {
+        desk,
+        mut passes,
+        mut back,
+    } = opened;
     let mut working = take_last(&desk, &mut passes);
     seat_all(&desk, &mut passes, guests);
     let server = Server {
@@ -160,14 +171,13 @@ fn host_at<
     Hosted { seated, end }
 }
 
-/// Serves connections with a kernel, each reader, each writer and the worker in a thread of its own, until
-/// all have ended. In whatever order the threads take turns: their calls stand in one history, which comes
-/// back with the kernel; the calls of a connection there are those that its bytes ask for; what it was sent
-/// are the posts that the kernel makes in that history for it; and each reader and writer ended for its
-/// cause.
+/// Serves connections with a new kernel until all threads have ended: one for each reader, one for each
+/// writer, and the worker's. In whatever order they take turns, their calls stand in one history, which is
+/// returned with the kernel. There the calls of a connection are those that its bytes ask for, and it was
+/// sent the posts that the kernel makes for it; and each reader and writer ended for a stated cause.
 ///
-/// It may wait, or never end, as the gates and the readers do. Without memory to begin nothing is read or
-/// written.
+/// It may wait, or never return, as the gates and the readers do. If memory runs out before it begins, it
+/// returns the kernel, and nothing was read or written.
 pub fn host<
     R: Threads + Wait + Clock + Sync,
     I: Inlet + Drop + Send,
@@ -183,18 +193,9 @@ pub fn host<
     gate: &mut P,
     guests: &mut [Guest<I, W, G, H>],
 ) -> Result<Hosted, Kernel>
-    requires kernel { kernel.entries ≡ [] }
-    requires few { length guests.old ≤ 511 }
-    requires coming { All IsComing guests.old }
-    requires gate { P.polls gate.old ≡ no_polls }
-    // One history of these seats alone: two for each connection, and the worker's.
-    ensures legal { IfOk result (λ hosted. IsLegal
-        (2 * length guests.old + 1) kernel.limit hosted.seated.entries) }
-    ensures guests { IfOk result (λ hosted.
-        ServesEach (house_of seal.now kernel.limit) guests.old guests.new hosted.seated.entries) }
-    ensures worker { IfOk result (λ hosted.
-        Works (worker_at kernel.limit (length guests.old) hosted.seated.entries) (P.polls gate.old)
-        (P.polls gate.new) hosted.end) }
+    requires { CanHost kernel (host_with guests.old (P.polls gate.old)) }
+    ensures ok { IfOk result (HostsAll (house_of seal.now kernel.limit)
+        (host_with guests.old (P.polls gate.old)) (host_with guests.new (P.polls gate.new))) }
     ensures err { IfErr result (λ back. (back ≡ kernel) × (guests.new ≡ guests.old)) }
 {
     let seats = 2 * guests.len() + 1;
@@ -202,7 +203,10 @@ pub fn host<
         return Err(kernel);
     };
     match Turnstile::open(alloc, Seated::new(alloc, kernel), seats as u32) {
-        Ok((desk, passes)) => Ok(host_at(rt, alloc, desk, passes, back, seal, gate, guests)),
+        Ok((desk, passes)) => {
+            let opened = OpenDesk { desk, passes, back };
+            Ok(host_at(rt, alloc, opened, seal, gate, guests))
+        }
         Err(OpenFault::OutOfMemory(seated)) => Err(seated.into_kernel()),
     }
 }

@@ -11,10 +11,10 @@ use std::sync::Wait;
 use std::thread;
 use std::time::Duration;
 
-// How long a Leave waits that found no memory.
-const AGAIN_MILLIS: u64 = 10;
+// The time from a Leave that ran out of memory to the next try.
+const RETRY_MILLIS: u64 = 10;
 
-// What the answer to a Leave comes to.
+// Whether the connection has left, or why it can't; None if memory ran out.
 fn left_by(answer: &Result<Reply, KernelFault>) -> Option<Result<(), LeaveFault>>
     ensures { result ≡ left_by answer.now }
 {
@@ -27,7 +27,7 @@ fn left_by(answer: &Result<Reply, KernelFault>) -> Option<Result<(), LeaveFault>
     }
 }
 
-// Makes a Leave, if there is memory for the entry.
+// Tries to leave; None if there is no memory for the entry.
 #[tactic(auto, using(crate::proofs::LeaveLemmas::tried, crate::proofs::LeaveLemmas::left_worn))]
 fn try_to_leave<R: Wait>(
     rt: &R,
@@ -47,9 +47,9 @@ fn try_to_leave<R: Wait>(
     left
 }
 
-/// Leaves, but where the kernel takes no more calls. Where memory is wanting for the entry it tries again, so
-/// that no place and no identity stay taken by nobody.
-#[tactic(auto, using(crate::proofs::LeaveLemmas::sees_first, crate::proofs::LeaveLemmas::sees_on, crate::proofs::LeaveLemmas::left_on))]
+/// Leaves, unless the kernel takes no more calls. While there is no memory for the entry it tries again, so
+/// that the connection's place and identity become free.
+#[tactic(auto, using(crate::proofs::LeaveLemmas::tries))]
 pub(crate) fn leave<R: Wait + Clock>(
     rt: &R,
     desk: &Desk,
@@ -63,7 +63,7 @@ pub(crate) fn leave<R: Wait + Clock>(
     for _ in rt.forever() {
         match try_to_leave(rt, desk, pass, connection) {
             Some(left) => return left,
-            None => thread::sleep(rt, Duration::from_millis(AGAIN_MILLIS)),
+            None => thread::sleep(rt, Duration::from_millis(RETRY_MILLIS)),
         }
     }
     unreachable!()

@@ -1,8 +1,8 @@
 // A kernel with all its connections. `host` runs it from the first call to the last, and its contract is the
-// whole statement: there is one history of all calls, in it each connection asked for what its bytes ask for,
-// and was sent the posts that the stated kernel makes for it there, none left out, and each end has its
-// cause. `visit` serves one connection, from its handshake to its Leave, whatever other threads do at the
-// desk. `laws` say the same of each pump alone.
+// project's main theorem: there is one history of all calls; each connection asked for what its bytes ask
+// for, and was sent the posts that the stated kernel makes for it there, none left out; the worker's calls
+// are Slices; and each thread ended for a stated cause. `visit` serves one connection, from its handshake to
+// its Leave, whatever other threads do at the desk. `laws` say the same of each pump alone.
 #![tactic(auto)]
 
 pub mod end;

@@ -1,4 +1,4 @@
-//! Guests take the passes of their seats, and give them back.
+//! Giving guests the passes of their seats, and taking them back.
 ghost use Rattle.std.specs.Prelude.{◌≡◌, ◌+◌, ◌*◌, ◌<◌, ◌≤◌, ◌++◌, All, length, vec_capacity};
 ghost use Rattle.lab_turn.specs.History.{FreshFrom, fresh_pass};
 ghost use Rattle.kern_host.specs.Guests.{AreOf, passes_in, without_passes};
@@ -9,7 +9,7 @@ use base_streams::ports::{Inlet, Outlet};
 use kern_desk::seated::{Desk, Pass};
 use kern_net::gate::{ReaderGate, WriterGate};
 
-// The pass of the last seat.
+// Takes the pass of the last seat.
 pub(crate) fn take_last(desk: &Desk, passes: &mut Vec<Pass>) -> Pass
     requires fresh { FreshFrom 0 desk.now passes.old.items }
     requires some { 0 < length passes.old.items }
@@ -23,7 +23,7 @@ pub(crate) fn take_last(desk: &Desk, passes: &mut Vec<Pass>) -> Pass
     pass
 }
 
-// Each guest takes the passes of its two seats.
+// Gives each guest the passes of its two seats.
 pub(crate) fn seat_all<
     I: Inlet + Drop,
     W: Outlet + Drop,
@@ -42,7 +42,7 @@ pub(crate) fn seat_all<
     }
 }
 
-// A guest gives its passes back.
+// Takes a guest's passes back.
 fn give_back<I: Inlet + Drop, W: Outlet + Drop, G: ReaderGate + Drop, H: WriterGate + Drop>(
     desk: &Desk,
     guest: &mut Guest<I, W, G, H>,
@@ -62,7 +62,7 @@ fn give_back<I: Inlet + Drop, W: Outlet + Drop, G: ReaderGate + Drop, H: WriterG
     back.push_reserved(writing);
 }
 
-// All guests give their passes back.
+// Takes all guests' passes back.
 pub(crate) fn take_all<
     I: Inlet + Drop,
     W: Outlet + Drop,

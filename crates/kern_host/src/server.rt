@@ -1,13 +1,13 @@
-//! What serves connections.
+//! What all connections of a kernel share.
 
 use kern_desk::seated::Desk;
 
-/// What is the same for all messages that a kernel reads and writes.
+/// The key and the session of all messages that a kernel reads and writes.
 #[derive(Clone, Copy)]
 pub struct Seal<'a> {
-    /// The key of the signatures; with an empty one none is checked, and none written.
+    /// The key of the signatures. If it is empty, none is checked and none is written.
     pub key: &'a [u8],
-    /// The session's name in the headers.
+    /// The session's identifier in the headers.
     pub session: &'a str,
 }
 

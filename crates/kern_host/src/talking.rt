@@ -1,9 +1,9 @@
 //! Reading from a connection and writing to it at once.
 ghost use Rattle.std.specs.Prelude.{◌≡◌, IsSome, IfSome};
-ghost use Rattle.base_streams.specs.States.{IsReadable, IsWritable};
+ghost use Rattle.base_streams.specs.States.{IsReadable};
 ghost use Rattle.kern_net.specs.Reading.{ReadOut};
 ghost use Rattle.kern_host.specs.Guests.{IsComing};
-ghost use Rattle.kern_net.specs.Out.{WroteOut};
+ghost use Rattle.kern_net.specs.Out.{WroteOut, CanWrite, PumpsOut, writer_with};
 ghost use Rattle.kern_net.specs.Routes.{source_of, target_of};
 
 use crate::guest::{Guest, Passes};
@@ -14,13 +14,14 @@ use kern_net::gate::{ReaderGate, WriterGate};
 use kern_net::pump_in::pump_in;
 use kern_net::pump_out::pump_out;
 use kern_net::routes::{IncomingRoute, OutgoingRoute};
+use kern_net::runtime::Runtime;
 use std::alloc::Global;
 use std::sync::Wait;
 use std::thread;
 use std::thread::Threads;
 use zmtp_wire::handshake::Peer;
 
-/// The routes of a connection, and the number of the first post that may be for it.
+/// The two routes of a connection, and the number of the first post that may be for it.
 #[derive(Clone, Copy)]
 pub(crate) struct Routes<'a> {
     pub(crate) incoming: IncomingRoute<'a>,
@@ -28,10 +29,9 @@ pub(crate) struct Routes<'a> {
     pub(crate) from: u64,
 }
 
-// Reads from the peer to the end.
+// Reads from the peer to its end.
 fn read_on<R: Wait, I: Inlet, G: ReaderGate>(
-    rt: &R,
-    alloc: Global,
+    runtime: &Runtime<'_, R>,
     pass: &mut Pass,
     gate: &mut G,
     from: &mut I,
@@ -49,7 +49,7 @@ fn read_on<R: Wait, I: Inlet, G: ReaderGate>(
     let Some(peer) = peer.take() else {
         unreachable!()
     };
-    pump_in(rt, alloc, pass, gate, from, peer, route)
+    pump_in(runtime, pass, gate, from, peer, route)
 }
 
 /// Reads and writes, each in a thread of its own, until both have ended.
@@ -79,10 +79,10 @@ pub(crate) fn talk<
         (record { inlet = guest.old.inlet; pass = passes.old.reading })
         (record { inlet = guest.new.inlet; pass = passes.new.reading }) result.0 }
     ensures wrote { WroteOut (target_of routes.now.outgoing) routes.now.from
-        (record { outlet = guest.old.outlet; pass = passes.old.writing; polls = guest.old.writer })
-        (record { outlet = guest.new.outlet; pass = passes.new.writing; polls = guest.new.writer }) result.1 }
+        (writer_with guest.old.outlet passes.old.writing guest.old.writer)
+        (writer_with guest.new.outlet passes.new.writing guest.new.writer) result.1 }
 {
-    // The reader takes the peer out of here.
+    // The reader's thread takes the peer out of here.
     let mut held = Some(peer);
     let peer = &mut held;
     let (incoming, outgoing) = (&routes.incoming, &routes.outgoing);
@@ -103,26 +103,22 @@ pub(crate) fn talk<
             ensures read { IfSome peer.entry.now (λ p. ReadOut (source_of incoming.entry.now) p
                 (record { inlet = I.state from.entry.now; pass = reading.entry.now })
                 (record { inlet = I.state from.exit.now; pass = reading.exit.now }) result) }
-        { read_on(rt, alloc, reading, reader, from, peer, incoming) },
+        {
+            read_on(
+                &Runtime { rt, alloc },
+                reading,
+                reader,
+                from,
+                peer,
+                incoming,
+            )
+        },
         &mut || -> PumpEnd
-            requires { (writing.now.turnstile ≡ outgoing.now.desk.now) × IsWritable (W.state to.now)
-                × ((H.polls writer.now).idle.no ≡ 0) }
-            ensures same { (writing.exit.now.turnstile ≡ outgoing.entry.now.desk.now)
-                × (writing.exit.now.seat ≡ writing.entry.now.seat) }
-            ensures wrote { WroteOut (target_of outgoing.entry.now) first
-                (record {
-                  outlet = W.state to.entry.now;
-                  pass = writing.entry.now;
-                  polls = H.polls
-                      writer.entry.now;
-                })
-                (record {
-                  outlet = W.state to.exit.now;
-                  pass = writing.exit.now;
-                  polls = H.polls
-                      writer.exit.now;
-                })
-                result }
-        { pump_out(rt, alloc, writing, writer, to, outgoing, first) },
+            requires { CanWrite outgoing.now.desk.now
+                (writer_with (W.state to.now) writing.now (H.polls writer.now)) }
+            ensures { PumpsOut outgoing.entry.now first
+                (writer_with (W.state to.entry.now) writing.entry.now (H.polls writer.entry.now))
+                (writer_with (W.state to.exit.now) writing.exit.now (H.polls writer.exit.now)) result }
+        { pump_out(&Runtime { rt, alloc }, writing, writer, to, outgoing, first) },
     )
 }

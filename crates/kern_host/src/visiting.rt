@@ -31,7 +31,7 @@ use std::thread::Threads;
 use zmtp_wire::handshake::{Peer, handshake};
 use zmtp_wire::role::Role;
 
-// The side that the kernel is on a channel.
+// The kernel's socket type on a channel.
 fn role_on(channel: Channel) -> Role
     ensures { result ≡ role_on channel }
 {
@@ -41,7 +41,7 @@ fn role_on(channel: Channel) -> Role
     }
 }
 
-// The identity of a peer, or an empty one.
+// The identity of a peer; empty if it has none.
 fn identity_of(alloc: Global, peer: &Peer) -> Result<Boxed<Bytes>, AllocError>
     ensures { IfOk result (λ held. held ≡ identity_of peer.now) }
 {
@@ -51,7 +51,7 @@ fn identity_of(alloc: Global, peer: &Peer) -> Result<Boxed<Bytes>, AllocError>
     }
 }
 
-// Joins a peer, if there is memory for that and the kernel lets it.
+// Makes a peer's Join.
 fn join_peer<R: Wait>(
     rt: &R,
     alloc: Global,
@@ -72,7 +72,7 @@ fn join_peer<R: Wait>(
     }
 }
 
-// The routes of a connection on a channel.
+// The routes of a connection that has joined on a channel.
 fn routes_of<'a>(server: &Server<'a>, channel: Channel, joined: Joined) -> Routes<'a>
     ensures desks { (result.incoming.desk.now ≡ server.now.desk.now)
         × (result.outgoing.desk.now ≡ server.now.desk.now) }
@@ -153,11 +153,10 @@ fn visit_with<
     })
 }
 
-/// Visits a connection with its passes: makes the handshake, joins, reads and writes at once until both have
-/// ended, and leaves. Whatever the history is of which its passes are a part, the connection was served in
-/// it.
+/// Serves a connection with its passes: makes the handshake, joins, reads and writes at the same time until
+/// both have ended, and leaves. In each history of which its passes are a part, the connection was served.
 ///
-/// It may wait, or never end, as the reader and the gates do.
+/// It may wait, or never return, as the reader and the gates do.
 pub fn visit<
     R: Threads + Wait + Clock + Sync,
     I: Inlet + Drop + Send,

@@ -19,10 +19,10 @@ use zmtp_wire::peer_fault::PeerFault;
 // How often a gate is polled before it says no.
 const POLLS: u64 = 2;
 
-// So many entries are looked at.
+// The most entries that are looked at.
 const MOST: usize = 1000;
 
-// How it ends behind so many bytes.
+// How the visit ends if the connection breaks off after this many bytes.
 fn end_behind(count: usize) -> VisitEnd {
     if count < HELLO_BYTES {
         return VisitEnd::NoHandshake(PeerFault::PeerEnded);
@@ -34,7 +34,7 @@ fn end_behind(count: usize) -> VisitEnd {
     })
 }
 
-// The calls of its reader's seat then: Joins, requests, Leaves.
+// How many Joins, requests and Leaves its reader's seat has made then.
 fn calls_behind(count: usize) -> [u32; 3] {
     if count < HELLO_BYTES {
         return [0, 0, 0];
@@ -58,7 +58,7 @@ fn add(calls: &mut [u32; 3], call: &Call) {
     calls[kind] = calls[kind].saturating_add(1);
 }
 
-// The calls of a seat in a journal.
+// How many Joins, requests and Leaves of a seat are in a journal.
 fn calls_of(seated: &Seated, seat: u32) -> [u32; 3] {
     let mut calls = [0u32; 3];
     for place in 0..MOST {

@@ -1,8 +1,8 @@
 //! What clients write, by the rules of RFC 23, RFC 37 and Jupyter messaging 5.4, and what the kernel writes
 //! in its handshake.
 
-/// The greeting and the READY of a client of shell, and two requests, unsigned. Each frame is its flags, 1
-/// where more follow, its size and its bytes.
+/// The greeting and the READY of a client of shell, and two unsigned requests. Each frame is a byte of flags,
+/// with 1 if more frames follow, its size and its bytes.
 pub const RUNS: &[u8] = b"\xFF\0\0\0\0\0\0\0\x01\x7F\x03\0NULL\
     \0\0\0\0\0\0\0\0\0\0\0\0\0\0\0\0\0\0\0\0\0\0\0\0\0\0\0\0\0\0\0\0\0\0\0\0\0\0\0\0\0\0\0\0\0\0\0\0\
     \x04\x1C\x05READY\x0BSocket-Type\0\0\0\x06DEALER\
@@ -13,12 +13,12 @@ pub const RUNS: &[u8] = b"\xFF\0\0\0\0\0\0\0\x01\x7F\x03\0NULL\
     \x01\x3E{\"msg_id\":\"m-1\",\"msg_type\":\"execute_request\",\"session\":\"anna\"}\
     \x01\x02{}\x01\x02{}\0\x1C{\"code\":\"MVI A,7\\nHLT\\nEND\"}";
 
-/// So many of them are the handshake, and so many the first request with it.
+/// How many of them are the handshake, and how many the handshake and the first request.
 pub const HELLO_BYTES: usize = 94;
 
 pub const FIRST_BYTES: usize = 193;
 
-/// A client that asks for comms.
+/// A client that sends a comm_info_request.
 pub const ASKS: &[u8] = b"\xFF\0\0\0\0\0\0\0\x01\x7F\x03\0NULL\
     \0\0\0\0\0\0\0\0\0\0\0\0\0\0\0\0\0\0\0\0\0\0\0\0\0\0\0\0\0\0\0\0\0\0\0\0\0\0\0\0\0\0\0\0\0\0\0\0\
     \x04\x1C\x05READY\x0BSocket-Type\0\0\0\x06DEALER\
@@ -26,7 +26,7 @@ pub const ASKS: &[u8] = b"\xFF\0\0\0\0\0\0\0\x01\x7F\x03\0NULL\
     \x01\x40{\"msg_id\":\"m-1\",\"msg_type\":\"comm_info_request\",\"session\":\"anna\"}\
     \x01\x02{}\x01\x02{}\0\x02{}";
 
-/// A client of control that asks to shut down.
+/// A client of control that sends a shutdown_request.
 pub const SHUTS: &[u8] = b"\xFF\0\0\0\0\0\0\0\x01\x7F\x03\0NULL\
     \0\0\0\0\0\0\0\0\0\0\0\0\0\0\0\0\0\0\0\0\0\0\0\0\0\0\0\0\0\0\0\0\0\0\0\0\0\0\0\0\0\0\0\0\0\0\0\0\
     \x04\x1C\x05READY\x0BSocket-Type\0\0\0\x06DEALER\
@@ -40,7 +40,7 @@ pub const HEARS: &[u8] = b"\xFF\0\0\0\0\0\0\0\x01\x7F\x03\0NULL\
     \x04\x19\x05READY\x0BSocket-Type\0\0\0\x03SUB\
     \0\x01\x01";
 
-/// No greeting.
+/// Bytes that aren't a greeting.
 pub const STRANGE: &[u8] =
     b"GET / HTTP/1.0\r\n\r\nGET / HTTP/1.0\r\n\r\nGET / HTTP/1.0\r\n\r\nGET / HTTP/1.0\r\n\r\n";
 
@@ -51,13 +51,13 @@ pub const GREETING: &[u8] = b"\xFF\0\0\0\0\0\0\0\0\x7F\x03\0NULL\
 /// Its READY on shell and on control.
 pub const ROUTER: &[u8] = b"\x04\x1C\x05READY\x0BSocket-Type\0\0\0\x06ROUTER";
 
-/// And on iopub.
+/// Its READY on iopub.
 pub const PUB: &[u8] = b"\x04\x19\x05READY\x0BSocket-Type\0\0\0\x03PUB";
 
-/// What says on iopub that a request is done.
+/// The part of a status on iopub that says that a request is done.
 pub const IDLE: &[u8] = b"\"execution_state\":\"idle\"";
 
-/// How often a text stands in bytes.
+/// How often a text occurs in bytes.
 pub fn count_of(bytes: &[u8], text: &[u8]) -> u32 {
     let mut count = 0u32;
     for place in 0..bytes.len() {

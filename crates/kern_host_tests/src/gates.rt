@@ -1,4 +1,4 @@
-//! The gates of the threads. They wait a little at each poll, and say no only where the test has failed.
+//! The gates of the threads. They wait a millisecond at each poll, and say no only if the test has failed.
 ghost use Rattle.std.specs.Prelude.{◌≡◌};
 ghost use Rattle.kern_net.specs.Gates.{no_polls};
 
@@ -21,7 +21,7 @@ pub struct WorkGate<'a, C: Clock> {
 }
 
 impl<'a, C: Clock> WorkGate<'a, C> {
-    /// A gate that wasn't polled yet, and says no once there was nothing to do so often.
+    /// A gate that hasn't been polled yet, whose `idle` says no after `most` times yes.
     pub fn new(clock: &'a C, most: u64) -> WorkGate<'a, C>
         ensures { result.polls ≡ no_polls }
     {
@@ -37,15 +37,18 @@ impl<'a, C: Clock> WorkerGate for WorkGate<'a, C> {
     ghost polls = { λ g. g.polls };
 
     fn before<R: Wait>(&mut self, rt: &R, _slices: u64) -> bool {
-        self.polls.add_before(rt, true);
+        self.polls.add_before_yes(rt);
         true
     }
 
     fn idle<R: Wait>(&mut self, rt: &R) -> bool {
         rest(self.clock);
-        let says = self.polls.idle().yes() < self.most;
-        self.polls.add_idle(rt, says);
-        says
+        if self.polls.idle().yes() < self.most {
+            self.polls.add_idle_yes(rt);
+            return true;
+        }
+        self.polls.add_idle_no(rt);
+        false
     }
 
     fn wake<R: Wait>(&mut self, rt: &R) {
@@ -57,7 +60,7 @@ impl<'a, C: Clock> WorkerGate for WorkGate<'a, C> {
     }
 }
 
-/// A reader's gate, which tells of each call.
+/// A reader's gate, which signals each call.
 #[derive(Drop)]
 pub struct InGate<'a> {
     wakes: u64,
@@ -66,7 +69,7 @@ pub struct InGate<'a> {
 }
 
 impl<'a> InGate<'a> {
-    /// A gate that has told nothing.
+    /// A gate that has woken nobody yet.
     pub fn new(signals: &'a Signals) -> InGate<'a> {
         InGate {
             wakes: 0,
@@ -103,7 +106,7 @@ pub struct OutGate<'a, C: Clock> {
 }
 
 impl<'a, C: Clock> OutGate<'a, C> {
-    /// A gate that wasn't polled yet, and says no after so many polls.
+    /// A gate that hasn't been polled yet, and says no after `most` times yes.
     pub fn new(clock: &'a C, most: u64) -> OutGate<'a, C>
         ensures { result.idle ≡ record { yes = 0; no = 0 } }
     {
@@ -120,8 +123,11 @@ impl<'a, C: Clock> WriterGate for OutGate<'a, C> {
 
     fn idle<R: Wait>(&mut self, rt: &R, _pass: &Pass, _next: u64) -> bool {
         rest(self.clock);
-        let says = self.idle.yes() < self.most;
-        self.idle.add(rt, says);
-        says
+        if self.idle.yes() < self.most {
+            self.idle.add_yes(rt);
+            return true;
+        }
+        self.idle.add_no(rt);
+        false
     }
 }

@@ -1,7 +1,7 @@
 // A kernel that serves connections over memory, each reader and each writer in a thread of its own. What each
-// was sent is compared to the byte with the journal's calls made once more, one by one, on a new kernel. A
-// peer that breaks off is among them, and one shuts the kernel down once the others have been answered. A connection that
-// breaks off does so at each of its bytes.
+// of them was sent is compared to the byte with what a new kernel gives if the journal's calls are made on it
+// again, one by one. One connection isn't a ZMTP peer, and one shuts the kernel down once the others have
+// been answered. Another test breaks a connection off at each of its bytes.
 #![tactic(auto)]
 
 #[cfg(test)]

@@ -1,4 +1,4 @@
-//! The calls of a journal, made once more, one by one, on a new kernel.
+//! Making the calls of a journal again on a new kernel, one by one.
 
 use crate::gates::MOMENT;
 use jup_wire::channel::Channel;
@@ -17,13 +17,13 @@ use std::process::Abort;
 pub struct Script {
     pub channel: Channel,
     pub bytes: &'static [u8],
-    /// They come once so many calls were heard, and so many requests done.
+    /// They come once readers have made this many calls, and this many requests are done.
     pub heard: u32,
     pub done: u32,
     pub asks: &'static [(&'static str, &'static str)],
 }
 
-// What the worker's seat makes is Slices alone.
+// The worker's seat only makes Slices.
 const NO_SCRIPT: Script = Script {
     channel: Channel::Stdin,
     bytes: b"",
@@ -32,10 +32,10 @@ const NO_SCRIPT: Script = Script {
     asks: &[],
 };
 
-// So many entries are looked at.
+// The most entries that are looked at.
 const MOST: usize = 1_000_000;
 
-// The call as plain data; a request is to be the guest's next one.
+// The call as plain data. A request must be the guest's next one.
 fn action_of(call: &Call, script: Script, asked: usize) -> Option<Action> {
     match call {
         Call::Join { .. } => Some(Action::Join(script.channel)),
@@ -63,7 +63,7 @@ fn entry_at<R: Abort>(
     let script = scripts.get(guest).copied().unwrap_or(NO_SCRIPT);
     let next = asked.get_mut(guest).expect(rt, "one of eight guests");
     let action = action_of(call, script, *next).expect(rt, "a request of the guest");
-    // What was sent is told by what is answered.
+    // A request's content is checked by the answer to it.
     let is_sent = matches!(action, Action::Send(..));
     if is_sent {
         *next = next.saturating_add(1);
@@ -73,7 +73,7 @@ fn entry_at<R: Abort>(
     Some((seat, action))
 }
 
-// The messages of the posts that a call was answered with.
+// The messages of the posts in an answer.
 fn bytes_of(alloc: Global, answer: &Result<Reply, KernelFault>) -> Option<Vec<u8>> {
     match answer {
         Ok(Reply::Fetched { posts, .. }) => stream_of(alloc, posts.as_slice(), b"", "S").ok(),
@@ -81,7 +81,7 @@ fn bytes_of(alloc: Global, answer: &Result<Reply, KernelFault>) -> Option<Vec<u8
     }
 }
 
-// Makes a call, and gives the messages of the posts that it was answered with.
+// Makes a call, and returns the messages of the posts in its answer.
 fn make<R: Abort>(rt: &R, alloc: Global, kernel: &mut Kernel, action: Action) -> Option<Vec<u8>> {
     let call = call_of(alloc, action, MOMENT).expect(rt, "memory for a call");
     let answer = kernel.act(call);
@@ -90,7 +90,7 @@ fn make<R: Abort>(rt: &R, alloc: Global, kernel: &mut Kernel, action: Action) ->
     bytes
 }
 
-/// What the journal's Fetches of a seat give on a new kernel.
+/// What a seat's Fetches in the journal give on a new kernel.
 pub fn sent_to<R: Abort>(
     rt: &R,
     alloc: Global,

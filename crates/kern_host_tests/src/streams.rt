@@ -1,11 +1,11 @@
-//! The two ends of a connection.
+//! The inlet and the outlet of a connection.
 
 use crate::bytes::{IDLE, count_of};
 use crate::signals::Signals;
 use base_streams::ports::{Inlet, IoFault, Outlet};
 use std::rt::Clock;
 
-/// A reader that gives nothing before so many calls were heard, and so many requests done.
+/// An inlet that gives nothing before readers have made `heard` calls and `done` requests are done.
 #[derive(Drop)]
 pub struct HeldInlet<'a, I: Inlet + Drop, C: Clock> {
     pub from: I,
@@ -25,7 +25,7 @@ impl<'a, I: Inlet + Drop, C: Clock> Inlet for HeldInlet<'a, I, C> {
     }
 }
 
-/// A writer that tells which requests are done.
+/// An outlet that signals requests that are done.
 #[derive(Drop)]
 pub struct ToldOutlet<'a, W: Outlet + Drop> {
     pub to: W,
@@ -35,7 +35,7 @@ pub struct ToldOutlet<'a, W: Outlet + Drop> {
 impl<'a, W: Outlet + Drop> Outlet for ToldOutlet<'a, W> {
     ghost state = { λ s. W.state s.to };
 
-    // What is written at once is written whole: the writer below takes any number of bytes.
+    // Each call writes all its bytes, since the outlet below takes any number.
     fn write(&mut self, bytes: &[u8]) -> Result<usize, IoFault> {
         let written = self.to.write(bytes);
         self.signals.done.give(count_of(bytes, IDLE));

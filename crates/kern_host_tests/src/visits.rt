@@ -23,8 +23,8 @@ use std::rt::Clock;
 use std::sync::Wait;
 use std::thread::Threads;
 
-// One hears all, two ask once that is so, one is no peer, and the last shuts the kernel down once the
-// three requests of the others are done.
+// One subscribes to everything, and two send requests once it has. One isn't a ZMTP peer, and the last shuts
+// the kernel down once the requests of the others are done.
 const SCRIPTS: [Script; 5] = [
     Script {
         channel: Channel::Iopub,
@@ -66,7 +66,7 @@ const SCRIPTS: [Script; 5] = [
     },
 ];
 
-// How often a gate is polled before it gives up.
+// How often a gate is polled before it says no.
 const POLLS: u64 = 20_000;
 
 /// A connection over memory.
@@ -77,7 +77,7 @@ pub type MemoryGuest<'a, C> = Guest<
     OutGate<'a, C>,
 >;
 
-/// A guest whose writer's gate says no after so many polls.
+/// A guest whose writer's gate says no after `polls` polls.
 pub fn guest_of<'a, R: Abort + Clock>(
     rt: &'a R,
     alloc: Global,
@@ -134,7 +134,7 @@ fn is_served(end: Option<VisitEnd>) -> bool {
     }))
 }
 
-// What stands in the bytes behind a front, if they have it.
+// The bytes after a front, if they begin with it.
 fn behind<'a>(bytes: &'a [u8], front: &[u8]) -> Option<&'a [u8]> {
     if bytes.starts_with(front) {
         return bytes.get(front.len()..);
@@ -155,7 +155,8 @@ fn is_handshake_and(bytes: &[u8], channel: Channel, others: &[u8]) -> bool {
     behind(rest, ready) == Some(others)
 }
 
-// What a guest was sent is what the journal's calls give once more; the one that is no peer got a greeting.
+// A guest was sent what the journal's calls give if they are made again. The one that isn't a peer was sent a
+// greeting.
 fn check_guest<R: Abort>(rt: &R, alloc: Global, seated: &Seated, place: usize, bytes: &[u8]) {
     let Some(script) = SCRIPTS.get(place) else {
         return;
@@ -197,8 +198,8 @@ fn check_sent<R: Abort + Clock>(
     );
 }
 
-/// A kernel has served these guests, if there was memory to begin. The worker's gate says no after so many
-/// polls.
+/// Serves guests with a new kernel; None if there is no memory to begin. The worker's gate says no after
+/// `polls` polls.
 pub fn serve<R: Threads + Wait + Clock + Abort + Sync>(
     rt: &R,
     alloc: Global,

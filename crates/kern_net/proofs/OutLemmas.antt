@@ -31,12 +31,13 @@ use Rattle.kern_net.specs.Gates.{AnswerCounts, WriterPolls, with_answer, times, 
 use Rattle.kern_net.specs.Calls.{TurnedBy, LastCall}
 use Rattle.kern_net.proofs.CallLemmas.{turned_prefix, last_call}
 use Rattle.kern_net.specs.declared.pump_out.Batch.{Batch}
+use Rattle.kern_net.specs.declared.pump_out.Cursor.{Cursor}
 use Rattle.kern_net.specs.Streams.{posts_in, window, IsStreamOf}
 use Rattle.kern_net.specs.Routes.{Target}
 use Rattle.kern_net.specs.Out.{FetchedOn, OneFetch, StopsFetching, Writer, is_whole, WroteFront, WroteAll}
-use Rattle.kern_net.specs.Out.{WroteOut, OutEnds}
-use Rattle.kern_net.specs.Rounds.{Answers, Denied, IsWorn, IsRefused, Cut, IsUnfit, IsFailed, Went, Halted}
-use Rattle.kern_net.specs.Rounds.{IsDenied, IsCut, Sender}
+use Rattle.kern_net.specs.Out.{WroteOut, OutEnds, writer_with}
+use Rattle.kern_net.specs.Rounds.{GivesBatch, FetchFails, IsWorn, IsRefused, WriteFails, IsUnfit, IsFailed}
+use Rattle.kern_net.specs.Rounds.{WritesBatch, RoundFails, IsDenied, IsCut, Sender}
 use Rattle.kern_net.proofs.StreamLemmas.{no_posts, stream-append}
 use Rattle.kern_net.proofs.GrowLemmas.{Grows, posts_grow}
 use Rattle.kern_net.proofs.FetchLemmas.{Gives, gives, reaches}
@@ -91,8 +92,8 @@ window_none c from P = let z : from - from ≡ 0 = omega arith in rw z refl
 abbrev pub sender : OutletState → PassState Call → Sender
 sender outlet pass = record { outlet = outlet; pass = pass }
 
-abbrev pub writer : OutletState → PassState Call → WriterPolls → Writer
-writer outlet pass polls = record { outlet = outlet; pass = pass; polls = polls }
+abbrev pub cursor : ℕ → Bool → Cursor
+cursor next ended = record { next = next; ended = ended }
 
 -- ---- what was told
 
@@ -288,14 +289,14 @@ moved c f v w posts next ended t =
     }
 
 pub went_calls : (target : Target) (b d : OutletState) (f next : ℕ) (ended : Bool)
-    (v w : PassState Call) → Went target f (sender b v) (sender d w) (next, ended)
+    (v w : PassState Call) → WritesBatch target f (sender b v) (sender d w) (cursor next ended)
     → w.calls ≡ v.calls ++ Fetch target.connection f ∷ []
 went_calls target b d f next ended v w s = (s.turned.entered refl).counted
 
 -- a refusal
 pub denied_by : (c f : ℕ) (v w : PassState Call) (answer : Result Reply KernelFault)
     (r : Result Batch PumpEnd)
-    → TurnedBy v (Fetch c f) answer w → Answers answer r → IfErr r (Denied c v w f)
+    → TurnedBy v (Fetch c f) answer w → GivesBatch answer r → IfErr r (FetchFails c v w f)
 denied_by c f v w answer (Ok b) t e = tt
 denied_by c f v w answer (Err e) t (x, is, same) =
     let T : Result Reply KernelFault → Type 0 = λ a. TurnedBy v (Fetch c f) a w in
@@ -305,7 +306,7 @@ denied_by c f v w answer (Err e) t (x, is, same) =
 
 pub went_on : (target : Target) (a b d : OutletState) (from f next : ℕ) (ended : Bool)
     (v w : PassState Call) → Written target a b from f v.seen
-    → Went target f (sender b v) (sender d w) (next, ended)
+    → WritesBatch target f (sender b v) (sender d w) (cursor next ended)
     → Written target a d from next w.seen
 went_on target a b d from f next ended v w r s =
     let k = moved target.connection f v w s.posts next ended s.turned in
@@ -314,11 +315,12 @@ went_on target a b d from f next ended v w r s =
 
 pub went_fetched : (target : Target) (b d : OutletState) (from f next : ℕ) (ended : Bool)
     (o v w : PassState Call) → FetchedOn target.connection from o v f
-    → Went target f (sender b v) (sender d w) (next, ended) → FetchedOn target.connection from o w next
+    → WritesBatch target f (sender b v) (sender d w) (cursor next ended)
+    → FetchedOn target.connection from o w next
 went_fetched target b d from f next ended o v w k s = OneFetch v w f next s.posts ended k s.turned
 
 pub went_longer : (target : Target) (b d : OutletState) (f next : ℕ) (ended : Bool)
-    (v w : PassState Call) → Went target f (sender b v) (sender d w) (next, ended)
+    (v w : PassState Call) → WritesBatch target f (sender b v) (sender d w) (cursor next ended)
     → length w.calls ≡ length v.calls + 1
 went_longer target b d f next ended v w s =
     ap length (went_calls target b d f next ended v w s)
@@ -338,13 +340,13 @@ refused_ends c next x fault.Full n = n
 refused_ends c next x fault.NoConnection n = n
 
 denied_ends : (c f next : ℕ) (v w : PassState Call) (x : Writer) (e : PumpEnd) → x.polls.idle.no ≡ 0
-    → IsWritable x.outlet → Denied c v w f e → OutEnds c next x e
+    → IsWritable x.outlet → FetchFails c v w f e → OutEnds c next x e
 denied_ends c f next v w x e o n (IsWorn e1 h k) = ends_as c next x e end.Worn h (n, o)
 denied_ends c f next v w x e o n (IsRefused e1 fault h t) =
     ends_as c next x e (end_by_kernel fault) h (refused_ends c next x fault (n, o))
 
 cut_ends : (target : Target) (b : OutletState) (next : ℕ) (x : Writer) (posts : List Post) (e : PumpEnd)
-    → x.polls.idle.no ≡ 0 → Cut target b x.outlet posts e → OutEnds target.connection next x e
+    → x.polls.idle.no ≡ 0 → WriteFails target b x.outlet posts e → OutEnds target.connection next x e
 cut_ends target b next x posts e o (IsUnfit e1 h same n) =
     ends_as target.connection next x e end.OutOfMemory h (n, o)
 cut_ends target b next x posts e o (IsFailed e1 h front n) =
@@ -352,7 +354,7 @@ cut_ends target b next x posts e o (IsFailed e1 h front n) =
 
 -- the Fetch left no post
 fetched_all : (target : Target) (b d : OutletState) (f next : ℕ) (ended : Bool) (v w : PassState Call)
-    → Went target f (sender b v) (sender d w) (next, ended) → next - f < 64
+    → WritesBatch target f (sender b v) (sender d w) (cursor next ended) → next - f < 64
     → FetchedAll target.connection w next ended
 fetched_all target b d f next ended v w s short =
     let last = last_call v w (Fetch target.connection f) (Ok (reply.Fetched s.posts next ended)) refl
@@ -365,7 +367,7 @@ fetched_all target b d f next ended v w s short =
     }
 
 pub went_up : (target : Target) (b d : OutletState) (f next : ℕ) (ended : Bool) (v w : PassState Call)
-    → Went target f (sender b v) (sender d w) (next, ended) → next - f < 64 → HasCaughtUp w next
+    → WritesBatch target f (sender b v) (sender d w) (cursor next ended) → next - f < 64 → HasCaughtUp w next
 went_up target b d f next ended v w s short =
     (target.connection, ended, fetched_all target b d f next ended v w s short)
 
@@ -374,12 +376,21 @@ pub said_no : (a b : WriterPolls) (r : Bool) → b.idle ≡ with_answer r a.idle
 said_no a b true e n z = absurd cc
 said_no a b false e n z = let y = ap (λ (x : AnswerCounts). x.no) e in omega (arith, y, z)
 
+pub said_once : (a b : WriterPolls) (r : Bool) → b.idle ≡ with_answer r a.idle
+    → times b.idle ≡ times a.idle + 1
+said_once a b true e =
+    let y = ap (λ (x : AnswerCounts). x.yes) e in let z = ap (λ (x : AnswerCounts). x.no) e in
+    omega (arith, y, z)
+said_once a b false e =
+    let y = ap (λ (x : AnswerCounts). x.yes) e in let z = ap (λ (x : AnswerCounts). x.no) e in
+    omega (arith, y, z)
+
 -- it ended after a whole round
 went_done : (target : Target) (a b d : OutletState) (p q : WriterPolls) (from f next : ℕ) (ended : Bool)
     (o v w : PassState Call) → Written target a b from f v.seen → FetchedOn target.connection from o v f
-    → Went target f (sender b v) (sender d w) (next, ended)
-    → OutEnds target.connection next (writer d w q) end.Ended
-    → WroteOut target from (writer a o p) (writer d w q) end.Ended
+    → WritesBatch target f (sender b v) (sender d w) (cursor next ended)
+    → OutEnds target.connection next (writer_with d w q) end.Ended
+    → WroteOut target from (writer_with a o p) (writer_with d w q) end.Ended
 went_done target a b d p q from f next ended o v w r k s cause =
     let t = went_on target a b d from f next ended v w r s in
     record {
@@ -397,8 +408,8 @@ went_done target a b d p q from f next ended o v w r k s cause =
 -- since a shutdown was seen
 pub went_over : (target : Target) (a b d : OutletState) (p q : WriterPolls) (from f next : ℕ) (ended : Bool)
     (o v w : PassState Call) → Written target a b from f v.seen → FetchedOn target.connection from o v f
-    → Went target f (sender b v) (sender d w) (next, ended) → IsWritable d → next - f < 64 → q.idle.no ≡ 0
-    → ended ≡ true → WroteOut target from (writer a o p) (writer d w q) end.Ended
+    → WritesBatch target f (sender b v) (sender d w) (cursor next ended) → IsWritable d → next - f < 64
+    → q.idle.no ≡ 0 → ended ≡ true → WroteOut target from (writer_with a o p) (writer_with d w q) end.Ended
 went_over target a b d p q from f next ended o v w r k s good short still shut =
     went_done target a b d p q from f next ended o v w r k s
     (good, (ended, fetched_all target b d f next ended v w s short, inr (still, shut)))
@@ -406,8 +417,8 @@ went_over target a b d p q from f next ended o v w r k s good short still shut =
 -- since the gate has said no
 pub went_closed : (target : Target) (a b d : OutletState) (p q : WriterPolls) (from f next : ℕ) (ended : Bool)
     (o v w : PassState Call) → Written target a b from f v.seen → FetchedOn target.connection from o v f
-    → Went target f (sender b v) (sender d w) (next, ended) → IsWritable d → next - f < 64 → q.idle.no ≡ 1
-    → WroteOut target from (writer a o p) (writer d w q) end.Ended
+    → WritesBatch target f (sender b v) (sender d w) (cursor next ended) → IsWritable d → next - f < 64
+    → q.idle.no ≡ 1 → WroteOut target from (writer_with a o p) (writer_with d w q) end.Ended
 went_closed target a b d p q from f next ended o v w r k s good short closed =
     went_done target a b d p q from f next ended o v w r k s
     (good, (ended, fetched_all target b d f next ended v w s short, inl closed))
@@ -437,7 +448,8 @@ module _ (target : Target) (a b d : OutletState) (p q : WriterPolls) (from f : �
     (written : Written target a b from f v.seen) (fetched : FetchedOn target.connection from o v f)
     (still : q.idle.no ≡ 0) where
   standing : (e : PumpEnd) → IsPrefix v.seen w.seen → StopsFetching target.connection f v w e → d ≡ b
-      → OutEnds target.connection f (writer d w q) e → WroteOut target from (writer a o p) (writer d w q) e
+      → OutEnds target.connection f (writer_with d w q) e
+      → WroteOut target from (writer_with a o p) (writer_with d w q) e
   standing e onward last same cause =
       let kept = written_kept target a b from f v.seen w.seen onward written in
       let T : OutletState
@@ -455,22 +467,22 @@ module _ (target : Target) (a b d : OutletState) (p q : WriterPolls) (from f : �
         cause = cause;
       }
 
-  denied : (e : PumpEnd) → Denied target.connection v w f e → d ≡ b → IsWritable d
-      → WroteOut target from (writer a o p) (writer d w q) e
+  denied : (e : PumpEnd) → FetchFails target.connection v w f e → d ≡ b → IsWritable d
+      → WroteOut target from (writer_with a o p) (writer_with d w q) e
   denied e (IsWorn e1 h k) same good =
       standing e ([], append-nil v.seen ∙ sym (ap (λ (x : PassState Call). x.seen) k))
       (stops_as target.connection f v w e end.Worn h k) same
-      (denied_ends target.connection f f v w (writer d w q) e still good (IsWorn e1 h k))
+      (denied_ends target.connection f f v w (writer_with d w q) e still good (IsWorn e1 h k))
   denied e (IsRefused e1 x h t) same good =
       standing e (turned_prefix v w (Fetch target.connection f) (Err x) t)
       (stops_as target.connection f v w e (end_by_kernel x) h
       (stops_refused target.connection f v w x t)) same
-      (denied_ends target.connection f f v w (writer d w q) e still good (IsRefused e1 x h t))
+      (denied_ends target.connection f f v w (writer_with d w q) e still good (IsRefused e1 x h t))
 
   cut_at : (e : PumpEnd) (posts : List Post) (next : ℕ) (ended : Bool) → is_whole e ≡ false
       → TurnedBy v (Fetch target.connection f) (Ok (reply.Fetched posts next ended)) w
-      → WroteFront target b d posts → OutEnds target.connection next (writer d w q) e
-      → WroteOut target from (writer a o p) (writer d w q) e
+      → WroteFront target b d posts → OutEnds target.connection next (writer_with d w q) e
+      → WroteOut target from (writer_with a o p) (writer_with d w q) e
   cut_at e posts next ended n t front cause =
       let k = moved target.connection f v w posts next ended t in
       let kept = written_kept target a b from f v.seen w.seen k.onward written in
@@ -488,17 +500,17 @@ module _ (target : Target) (a b d : OutletState) (p q : WriterPolls) (from f : �
 
   cut : (e : PumpEnd) (posts : List Post) (next : ℕ) (ended : Bool)
       → TurnedBy v (Fetch target.connection f) (Ok (reply.Fetched posts next ended)) w
-      → Cut target b d posts e → WroteOut target from (writer a o p) (writer d w q) e
+      → WriteFails target b d posts e → WroteOut target from (writer_with a o p) (writer_with d w q) e
   cut e posts next ended t (IsUnfit e1 h same x) =
       let F : OutletState → Type 0 = λ y. WroteFront target b y posts in
       cut_at e posts next ended (ap is_whole h) t (subst F (sym same) (no_front target b posts))
-      (cut_ends target b next (writer d w q) posts e still (IsUnfit e1 h same x))
+      (cut_ends target b next (writer_with d w q) posts e still (IsUnfit e1 h same x))
   cut e posts next ended t (IsFailed e1 h front x) =
       cut_at e posts next ended (ap is_whole h) t front
-      (cut_ends target b next (writer d w q) posts e still (IsFailed e1 h front x))
+      (cut_ends target b next (writer_with d w q) posts e still (IsFailed e1 h front x))
 
-  pub halted : (e : PumpEnd) → Halted target f (sender b v) (sender d w) e
-      → WroteOut target from (writer a o p) (writer d w q) e
+  pub halted : (e : PumpEnd) → RoundFails target f (sender b v) (sender d w) e
+      → WroteOut target from (writer_with a o p) (writer_with d w q) e
   halted e (IsDenied e1 h same good) = denied e h same good
   halted e (IsCut e1 posts next ended t h) = cut e posts next ended t h
 
@@ -519,14 +531,14 @@ turned_calls v w c f r true h t =
     let k = ap length (t.entered h).counted in omega (arith, k, length-append v.calls (Fetch c f ∷ []))
 turned_calls v w c f r false h t = let k = ap length (t.refused h).counted in omega (arith, k)
 
-denied_calls : (c f : ℕ) (v w : PassState Call) (e : PumpEnd) → Denied c v w f e
+denied_calls : (c f : ℕ) (v w : PassState Call) (e : PumpEnd) → FetchFails c v w f e
     → length v.calls ≤ length w.calls
 denied_calls c f v w e (IsWorn e1 h k) =
     let l = ap (λ (x : PassState Call). length x.calls) k in omega (arith, l)
 denied_calls c f v w e (IsRefused e1 x h t) = turned_calls v w c f (Err x) (is_entry (Err x)) refl t
 
 pub halted_calls : (target : Target) (b d : OutletState) (f : ℕ) (v w : PassState Call)
-    (e : PumpEnd) → Halted target f (sender b v) (sender d w) e → length v.calls ≤ length w.calls
+    (e : PumpEnd) → RoundFails target f (sender b v) (sender d w) e → length v.calls ≤ length w.calls
 halted_calls target b d f v w e (IsDenied e1 h same n) = denied_calls target.connection f v w e h
 halted_calls target b d f v w e (IsCut e1 posts next ended t h) =
     turned_calls v w target.connection f (Ok (reply.Fetched posts next ended)) true refl t

@@ -16,8 +16,8 @@ use Rattle.kern_net.specs.declared.end.PumpEnd.TheVariants as pump
 use Rattle.kern_net.specs.Submitting.{Submits, NoMore, Submitted, Dropped}
 use Rattle.kern_net.specs.Routes.{Source}
 use Rattle.kern_net.specs.ReadEnds.{Reader, IsRefusal, StopsBy, StopsPiece, EndsBy, submits_all}
-use Rattle.kern_net.specs.Reading.{Granted, NoCall, OneMore, Made, SubmittedAll, SubmittedFront, Receiver}
-use Rattle.kern_net.specs.Reading.{ReceivedAll, ReceivedFront, ReadOut}
+use Rattle.kern_net.specs.Reading.{TakesTurns, NoCall, OneMore, TakesTurnsUntil, SubmittedAll}
+use Rattle.kern_net.specs.Reading.{SubmittedFront, Receiver, ReceivedAll, ReceivedFront, ReadOut}
 use Rattle.kern_net.proofs.SubmitLemmas.{submitted_none, not_all}
 use Rattle.kern_net.proofs.CallLemmas.{calls_on}
 
@@ -70,16 +70,17 @@ completes_on s t u x y m n p q = record {
 
 -- ---- calls
 
-granted_on : (a b c : PassState Call) (x y : List Call) → Granted a b x → Granted b c y → Granted a c (x ++ y)
+granted_on : (a b c : PassState Call) (x y : List Call) → TakesTurns a b x → TakesTurns b c y
+    → TakesTurns a c (x ++ y)
 granted_on a b c x y p NoCall =
-    let P : List Call → Type 0 = λ l. Granted a b l in subst P (sym (append-nil x)) p
+    let P : List Call → Type 0 = λ l. TakesTurns a b l in subst P (sym (append-nil x)) p
 granted_on a b c x y p (OneMore mid new calls call reply q turned) =
-    let P : List Call → Type 0 = λ l. Granted a c l in
+    let P : List Call → Type 0 = λ l. TakesTurns a c l in
     subst P (append_assoc x calls (call ∷ []))
     (OneMore mid c (x ++ calls) call reply (granted_on a b mid x calls p q) turned)
 
-made_all : (old new : PassState Call) (added : List Call) (e : PumpEnd) → Granted old new added
-    → Made old new added e
+made_all : (old new : PassState Call) (added : List Call) (e : PumpEnd) → TakesTurns old new added
+    → TakesTurnsUntil old new added e
 made_all old new added e p =
     record { mid = new; granted = added; turns = p; onward = ([], append-nil new.seen); last = inl refl }
 
@@ -91,8 +92,8 @@ last_on x added granted e (inl same) = inl (ap (λ (l : List Call). x ++ l) same
 last_on x added granted e (inr (refusal, (call, is))) =
     inr (refusal, (call, ap (λ (l : List Call). x ++ l) is ∙ sym (append_assoc x granted (call ∷ []))))
 
-made_on : (old mid new : PassState Call) (x y : List Call) (e : PumpEnd) → Granted old mid x
-    → Made mid new y e → Made old new (x ++ y) e
+made_on : (old mid new : PassState Call) (x y : List Call) (e : PumpEnd) → TakesTurns old mid x
+    → TakesTurnsUntil mid new y e → TakesTurnsUntil old new (x ++ y) e
 made_on old mid new x y e p m = record {
   mid = m.mid;
   granted = x ++ m.granted;
@@ -509,3 +510,9 @@ read_enough source peer g h t reads old new p enough good =
       within = p.within;
       cause = (good.0, inr (good.1, most_at reads (omega (arith, enough, within))));
     }
+
+-- ---- for the goals of each function
+
+pub ruleset comings = (coming_first, coming_on, coming_refused, coming_end)
+
+pub ruleset receivings = (receives_piece, receives_broken, receives_refused, receives_not, stops_piece)

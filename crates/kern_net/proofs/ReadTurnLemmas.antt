@@ -13,6 +13,8 @@ use Rattle.kern_desk.specs.Seats.{seated_answer}
 use Rattle.kern_net.specs.declared.end.PumpEnd.TheVariants as pump
 use Rattle.kern_net.specs.ReadEnds.{IsReaderCall, LastAnswer, StopsBy}
 use Rattle.kern_net.specs.Calls.{TurnedBy}
+use Rattle.kern_net.proofs.CallLemmas.{turned_prefix}
+use Rattle.kern_net.proofs.RingLemmas.{woke_by, told_by, woke_not, told_not}
 use Rattle.kern_net.proofs.SubmitLemmas.{Grants, Refuses}
 use Rattle.kern_net.proofs.LagLemmas.{no_lag}
 
@@ -89,3 +91,23 @@ pub refuses_unknown : (old new : PassState Call) (call : Call) (answer : Result 
     → Turned seated_answer is_entry is_full old call answer new → answer ≡ Err NoConnection
     → Refuses old call new (pump.Refused NoConnection)
 refuses_unknown old new call answer turned is = inr (tt, (turned.entered (ap is_entry is)).counted)
+
+-- what each answer to a call shows, and whom it wakes
+pub ruleset outcomes = (
+  woke_by,
+  told_by,
+  woke_not,
+  told_not,
+  stops_full,
+  stops_unknown,
+  stops_journal_full,
+  never_lagged,
+  call_granted,
+  worn_onward,
+  refuses_worn,
+  refuses_memory,
+  refuses_journal_full,
+  refuses_full,
+  refuses_unknown,
+  turned_prefix,
+)

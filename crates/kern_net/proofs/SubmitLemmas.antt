@@ -236,3 +236,6 @@ pub unopened : (source : Source) (frames : List (List ℕ)) (old : PassState Cal
     → (source.channel ≡ Iopub → ⊥) → IsUnopened source.key frames → SubmittedAll source (frames ∷ []) old old
 unopened source frames old other none =
     dropped_one source frames old (dropped_on source.channel source frames other none)
+
+-- frames that are no subscription ask for nothing
+pub ruleset dropped_subscription = (no_subscription, submitted_none)

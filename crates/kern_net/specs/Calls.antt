@@ -1,4 +1,4 @@
--- Turns on the kernel, and what the last call of a pass was answered.
+-- Turns at the kernel's desk, and the answer to the last call of a pass.
 use Rattle.std.specs.Prelude.{◌≡◌, ℕ, List, [], ◌∷◌, ◌++◌, length, Result}
 use mathlib.Core.List.{IsPrefix}
 use Rattle.lab_turn.specs.History.{PassState, Turned, calls_of}
@@ -12,7 +12,8 @@ use Rattle.kern_desk.specs.Seats.{seated_answer}
 abbrev pub TurnedBy : PassState Call → Call → Result Reply KernelFault → PassState Call → Type 0
 TurnedBy old call answer new = Turned seated_answer is_entry is_full old call answer new
 
--- In the history that the pass has seen its last call is this one, and this is the kernel's answer there.
+-- This is the last call of the pass in the history that it has seen, and this is the kernel's answer to it
+-- there.
 pub record LastCall (pass : PassState Call) (call : Call) (answer : Result Reply KernelFault) : Type 0 where
   pub before : List (ℕ × Call)
   pub seen : IsPrefix (before ++ (pass.seat, call) ∷ []) pass.seen

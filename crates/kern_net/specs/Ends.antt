@@ -1,4 +1,4 @@
--- How a peer's fault, or a call's, ends a thread's work.
+-- How a pump ends when its peer or a call fails.
 use Rattle.kern_core.specs.declared.fault.KernelFault.{KernelFault}
 use Rattle.kern_core.specs.declared.fault.KernelFault.TheVariants as fault
 use Rattle.zmtp_wire.specs.declared.peer_fault.PeerFault.{PeerFault}

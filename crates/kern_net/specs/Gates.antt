@@ -1,4 +1,4 @@
--- What gates were asked, how often each answer came, and how often others were woken by them.
+-- How often gates were polled, how often each answer came, and how often they woke others.
 use Rattle.std.specs.Prelude.{◌≡◌, ℕ, ◌+◌, ◌<◌, ◌≤◌, Bool, true, false, length, count_by, List, Ok}
 use Rattle.lab_turn.specs.History.{PassState}
 use Rattle.kern_post.specs.declared.post.Post.{Post}
@@ -18,7 +18,7 @@ abbrev pub with_answer : Bool → AnswerCounts → AnswerCounts
 with_answer true a = record a { yes = a.yes + 1 }
 with_answer false a = record a { no = a.no + 1 }
 
--- how often it was put
+-- how often it was asked
 abbrev pub times : AnswerCounts → ℕ
 times a = a.yes + a.no
 
@@ -37,7 +37,7 @@ pub record ReaderPolls : Type 0 where
 pub record WriterPolls : Type 0 where
   pub idle : AnswerCounts
 
--- with one answer or one waking more
+-- with one more answer, or one more call of `wake`
 abbrev pub before_polled : Bool → WorkerPolls → WorkerPolls
 before_polled answer p = record p { before = with_answer answer p.before }
 
@@ -47,12 +47,12 @@ idle_polled answer p = record p { idle = with_answer answer p.idle }
 abbrev pub with_wake : WorkerPolls → WorkerPolls
 with_wake p = record p { wakes = p.wakes + 1 }
 
--- all were woken, or those were told whom a call tells something that gives the worker nothing to do
+-- `wake` was called once more, or `tell`, by whether the call concerns the worker
 abbrev pub rung : Bool → ReaderPolls → ReaderPolls
 rung true p = record p { wakes = p.wakes + 1 }
 rung false p = record p { tells = p.tells + 1 }
 
--- of a gate that wasn't polled yet, and woke nobody
+-- a gate that hasn't been polled yet, and has woken nobody
 abbrev pub no_polls : WorkerPolls
 no_polls = record { before = record { yes = 0; no = 0 }; idle = record { yes = 0; no = 0 }; wakes = 0 }
 
@@ -64,28 +64,28 @@ noes p = p.before.no + p.idle.no
 abbrev pub IsOpen : WorkerPolls → Type 0
 IsOpen p = (p.before.no ≡ 0) × (p.idle.no ≡ 0)
 
--- `idle` was polled once at most for each call that was added
+-- `idle` was polled at most once for each call that was added
 abbrev pub PolledForEach : PassState Call → PassState Call → WriterPolls → WriterPolls → Type 0
 PolledForEach old new a b = times b.idle + length old.calls ≤ times a.idle + length new.calls
 
--- all were woken once for each call that was added and may give the worker something to do
+-- `wake` was called once for each call that was added and may give the worker something to do
 abbrev pub WokeForEach : PassState Call → PassState Call → ReaderPolls → ReaderPolls → Type 0
 WokeForEach old new a b =
     b.wakes + count_by concerns_worker old.calls ≡ a.wakes + count_by concerns_worker new.calls
 
--- and those whom it concerns were told once for each other
+-- and `tell` once for each other call that was added
 abbrev pub ToldForEach : PassState Call → PassState Call → ReaderPolls → ReaderPolls → Type 0
 ToldForEach old new a b =
     b.tells + count_by spares_worker old.calls ≡ a.tells + count_by spares_worker new.calls
 
--- The last call of the pass was a Fetch on this connection. It was answered with this number to go on at,
--- behind the last post that there was, and with whether a shutdown had come.
+-- The last call of the pass was a Fetch for this connection. It was answered with this number to go on at,
+-- after the last post that there was, and with whether a shutdown had come.
 pub record FetchedAll (connection : ℕ) (pass : PassState Call) (next : ℕ) (ended : Bool) : Type 0 where
   pub from : ℕ
   pub posts : List Post
   pub last : LastCall pass (Fetch connection from) (Ok (Fetched posts next ended))
   pub all : length (posts_in last.before) < next
 
--- and this is where to go on
+-- the pass has fetched all posts, and this is the number to go on at
 abbrev pub HasCaughtUp : PassState Call → ℕ → Type 0
 HasCaughtUp pass next = (connection : ℕ) × (ended : Bool) × FetchedAll connection pass next ended

@@ -39,7 +39,7 @@ abbrev pub IsRefusal : PumpEnd → Type 0
 IsRefusal (pump.Refused fault) = Unit {0}
 IsRefusal _ = ⊥
 
--- an end by a turn, which comes after these calls, or for want of memory
+-- an end by a turn, which comes after these calls, or because memory ran out
 abbrev pub StopsBy : PumpEnd → List Call → PassState Call → Type 0
 StopsBy pump.OutOfMemory old pass = Unit {0}
 StopsBy pump.JournalFull old pass = length pass.seen ≡ pass.turnstile.limit
@@ -52,8 +52,8 @@ abbrev pub StopsPiece : PumpEnd → List Call → PassState Call → DecoderStat
 StopsPiece (pump.Wire cause) old pass decoder = decoder.fault ≡ Some cause
 StopsPiece e old pass decoder = StopsBy e old pass
 
--- why it ended, as the pass, the reader, the decoder after it and the number of reads show it; a reader ends
--- or fails only where reading ends so
+-- why reading ended, as the pass, the reader, the decoder and the number of reads show it; the reader has
+-- ended or failed only if reading ends as PeerEnded or ReadFailed
 abbrev pub EndsBy : PumpEnd → Reader → Reader → DecoderState → ℕ → Type 0
 EndsBy pump.PeerEnded old new decoder reads = (new.inlet.ended ≡ true) × (new.inlet.failed ≡ false)
 EndsBy pump.ReadFailed old new decoder reads =
@@ -61,7 +61,7 @@ EndsBy pump.ReadFailed old new decoder reads =
     × ((new.inlet.failed ≡ true) ⊎ ((new.inlet.failed ≡ false) × (reads ≡ most_reads)))
 EndsBy e old new decoder reads = IsReadable new.inlet × StopsPiece e old.pass.calls new.pass decoder
 
--- at these ends all was submitted
+-- at these ends all calls were made that the messages ask for
 abbrev pub submits_all : PumpEnd → Bool
 submits_all pump.PeerEnded = true
 submits_all pump.ReadFailed = true

@@ -2,6 +2,7 @@
 use Rattle.std.specs.Prelude.{◌≡◌, ◌≤◌, ◌⊎◌, ℕ, true, List, [], ◌∷◌, ◌++◌, Result, Ok, MatchResult}
 use Rattle.zmtp_wire.specs.Wire.{Bytes, Messages}
 use mathlib.Core.List.{IsPrefix}
+use Rattle.base_streams.specs.States.{InletState}
 use Rattle.base_streams.specs.Told.{Gave, WasRead}
 use Rattle.lab_turn.specs.History.{PassState}
 use Rattle.zmtp_wire.specs.Stream.{DecoderState, Completes}
@@ -10,34 +11,36 @@ use Rattle.zmtp_wire.specs.Receiving.{most_reads}
 use Rattle.kern_core.specs.declared.call.Call.{Call}
 use Rattle.kern_core.specs.declared.call.Reply.{Reply}
 use Rattle.kern_net.specs.declared.end.PumpEnd.{PumpEnd}
-use Rattle.kern_net.specs.Routes.{Source}
+use Rattle.kern_net.specs.declared.routes.IncomingRoute.{IncomingRoute}
+use Rattle.kern_net.specs.Routes.{Source, source_of}
 use Rattle.kern_net.specs.Submitting.{Submits}
 use Rattle.kern_net.specs.Calls.{TurnedBy}
+use Rattle.kern_net.specs.Gates.{ReaderPolls, WokeForEach, ToldForEach}
 use Rattle.kern_net.specs.ReadEnds.{Reader, IsRefusal, StopsBy, StopsPiece, EndsBy, submits_all}
 
 -- these calls were made, one turn after the other, and none was refused
-pub data Granted (old : PassState Call) : PassState Call → List Call → Type 0 where
-  NoCall : Granted old old []
+pub data TakesTurns (old : PassState Call) : PassState Call → List Call → Type 0 where
+  NoCall : TakesTurns old old []
   OneMore : (mid new : PassState Call) (calls : List Call) (call : Call) (reply : Reply)
-      → Granted old mid calls → TurnedBy mid call (Ok reply) new → Granted old new (calls ++ call ∷ [])
+      → TakesTurns old mid calls → TurnedBy mid call (Ok reply) new → TakesTurns old new (calls ++ call ∷ [])
 
--- these calls were made, and none was refused, but for the last where the end is its refusal
-pub record Made (old new : PassState Call) (added : List Call) (e : PumpEnd) : Type 0 where
+-- these calls were made, and none was refused, except the last if the end is its refusal
+pub record TakesTurnsUntil (old new : PassState Call) (added : List Call) (e : PumpEnd) : Type 0 where
   pub mid : PassState Call
   pub granted : List Call
-  pub turns : Granted old mid granted
+  pub turns : TakesTurns old mid granted
   pub onward : IsPrefix mid.seen new.seen
   pub last : (added ≡ granted) ⊎ (IsRefusal e × ((call : Call) × (added ≡ granted ++ call ∷ [])))
 
--- all that these messages ask for was submitted, and granted
+-- all calls that these messages ask for were made, and none was refused
 pub record SubmittedAll (source : Source) (messages : Messages) (old new : PassState Call)
     : Type 0 where
   pub added : List Call
   pub submits : Submits source messages added
   pub calls : new.calls ≡ old.calls ++ added
-  pub turns : Granted old new added
+  pub turns : TakesTurns old new added
 
--- what a front of these messages asks for was submitted, until this end
+-- the calls that a front of these messages asks for were made, until this end
 pub record SubmittedFront (source : Source) (messages : Messages) (old new : PassState Call)
     (e : PumpEnd) : Type 0 where
   pub front : Messages
@@ -46,31 +49,32 @@ pub record SubmittedFront (source : Source) (messages : Messages) (old new : Pas
   pub added : List Call
   pub submits : Submits source front added
   pub calls : new.calls ≡ old.calls ++ added
-  pub made : Made old new added e
+  pub made : TakesTurnsUntil old new added e
   pub all : submits_all e ≡ true → others ≡ []
 
--- what these messages ask for was submitted: all of it where it goes on; else a front, and why it stops there
+-- the calls that these messages ask for were made: on Ok all of them, else those of a front, with the cause
+-- why it stops there
 abbrev pub SubmittedFor : Source → Messages → PassState Call → PassState Call
     → Result (Unit {0}) PumpEnd → Type 0
 SubmittedFor source messages old new result = MatchResult result
     (λ _. SubmittedAll source messages old new)
     (λ e. SubmittedFront source messages old new e × StopsBy e old.calls new)
 
--- the decoder that a peer's bytes are read by, and the pass of the calls that are made for them
+-- the decoder of a peer's stream, and the pass of the calls that are made for it
 pub record Receiver : Type 0 where
   pub decoder : DecoderState
   pub pass : PassState Call
 
--- the decoder read these bytes, and what the messages that were held and those in the bytes ask for was
--- granted
+-- the decoder read these bytes, and the calls were made that the messages held before and those in the bytes
+-- ask for
 pub record ReceivedAll (source : Source) (held : Messages) (bytes : Bytes) (old new : Receiver)
     : Type 0 where
   pub messages : Messages
   pub reads : Completes old.decoder bytes messages new.decoder
   pub submitted : SubmittedAll source (held ++ messages) old.pass new.pass
 
--- the decoder read a front of the bytes, and a front of what the messages ask for was submitted, until this
--- end
+-- the decoder read a front of the bytes, and the calls were made that a front of the messages asks for, until
+-- this end
 pub record ReceivedFront (source : Source) (held : Messages) (bytes : Bytes) (old new : Receiver)
     (e : PumpEnd) : Type 0 where
   pub taken : Bytes
@@ -81,14 +85,14 @@ pub record ReceivedFront (source : Source) (held : Messages) (bytes : Bytes) (ol
   pub submitted : SubmittedFront source (held ++ messages) old.pass new.pass e
   pub all : submits_all e ≡ true → unread ≡ []
 
--- the decoder took this piece, and what its messages ask for was submitted: all of it where it goes on; else
--- as far as the end says, and why it stops there
+-- the decoder read this piece, and the calls that its messages ask for were made: on Ok all of them, else as
+-- far as the end says, with the cause why it stops there
 abbrev pub PieceSubmitted : Source → Bytes → Receiver → Receiver → Result (Unit {0}) PumpEnd → Type 0
 PieceSubmitted source piece old new result = MatchResult result
     (λ _. ReceivedAll source [] piece old new)
     (λ e. ReceivedFront source [] piece old new e × StopsPiece e old.pass.calls new.pass new.decoder)
 
--- a peer was read from to this end, beginning with the messages that it held
+-- a peer was read from to this end, beginning with the messages that came with its READY
 pub record ReadOut (source : Source) (peer : Peer) (old new : Reader) (e : PumpEnd) : Type 0 where
   pub bytes : Bytes
   pub after : DecoderState
@@ -99,3 +103,22 @@ pub record ReadOut (source : Source) (peer : Peer) (old new : Reader) (e : PumpE
   pub was_read : WasRead old.inlet new.inlet reads
   pub within : reads ≤ most_reads
   pub cause : EndsBy e old new after reads
+
+-- what is read, the pass of the calls that are made for it, and what the reader's gate was polled
+pub record GatedReader : Type 0 where
+  pub inlet : InletState
+  pub pass : PassState Call
+  pub polls : ReaderPolls
+
+abbrev pub reader_with : InletState → PassState Call → ReaderPolls → GatedReader
+reader_with inlet pass polls = record { inlet = inlet; pass = pass; polls = polls }
+
+-- A peer was read from to this end, by calls of one seat at the route's desk. All were woken once for each
+-- call that may give the worker something to do, and those whom it concerns were told once for each other
+-- call.
+pub record PumpsIn (route : IncomingRoute) (peer : Peer) (old new : GatedReader) (e : PumpEnd) : Type 0 where
+  pub same : (new.pass.turnstile ≡ route.desk.now) × (new.pass.seat ≡ old.pass.seat)
+  pub woke : WokeForEach old.pass new.pass old.polls new.polls
+  pub told : ToldForEach old.pass new.pass old.polls new.polls
+  pub read : ReadOut (source_of route) peer (record { inlet = old.inlet; pass = old.pass })
+      (record { inlet = new.inlet; pass = new.pass }) e

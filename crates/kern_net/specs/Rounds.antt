@@ -13,48 +13,50 @@ use Rattle.kern_net.specs.declared.end.PumpEnd.TheVariants as end
 use Rattle.kern_net.specs.Ends.{end_by_kernel}
 use Rattle.kern_net.specs.Calls.{TurnedBy}
 use Rattle.kern_net.specs.declared.pump_out.Batch.{Batch}
+use Rattle.kern_net.specs.declared.pump_out.Cursor.{Cursor}
 use Rattle.kern_net.specs.Routes.{Target}
 use Rattle.kern_net.specs.Out.{WroteFront, WroteAll}
 
--- posts, or a refusal
+-- the answer is posts, or a refusal
 abbrev pub IsFetchAnswer : Result Reply KernelFault → Type 0
 IsFetchAnswer (Ok (reply.Fetched posts next ended)) = Unit {0}
 IsFetchAnswer (Ok _) = ⊥
 IsFetchAnswer (Err fault) = Unit {0}
 
--- the answer gives the batch, or is a refusal that ends the work so
-abbrev pub Answers : Result Reply KernelFault → Result Batch PumpEnd → Type 0
-Answers answer (Ok b) = answer ≡ Ok (reply.Fetched b.posts b.next b.ended)
-Answers answer (Err e) = (fault : KernelFault) × (answer ≡ Err fault) × (e ≡ end_by_kernel fault)
+-- the answer gives the batch, or is a refusal, which is how the pump ends
+abbrev pub GivesBatch : Result Reply KernelFault → Result Batch PumpEnd → Type 0
+GivesBatch answer (Ok b) = answer ≡ Ok (reply.Fetched b.posts b.next b.ended)
+GivesBatch answer (Err e) = (fault : KernelFault) × (answer ≡ Err fault) × (e ≡ end_by_kernel fault)
 
--- no turn was had, or it was refused
-pub data Denied (connection : ℕ) (old new : PassState Call) (from : ℕ) : PumpEnd → Type 0 where
-  IsWorn : (e : PumpEnd) → e ≡ end.Worn → new ≡ record old { worn = true } → Denied connection old new from e
+-- there was no turn for the Fetch, or it was refused
+pub data FetchFails (connection : ℕ) (old new : PassState Call) (from : ℕ) : PumpEnd → Type 0 where
+  IsWorn : (e : PumpEnd) → e ≡ end.Worn → new ≡ record old { worn = true }
+      → FetchFails connection old new from e
   IsRefused : (e : PumpEnd) (fault : KernelFault) → e ≡ end_by_kernel fault
-      → TurnedBy old (Fetch connection from) (Err fault) new → Denied connection old new from e
+      → TurnedBy old (Fetch connection from) (Err fault) new → FetchFails connection old new from e
 
--- memory for the posts was wanting, or the writer failed
-pub data Cut (target : Target) (to to' : OutletState) (posts : List Post) : PumpEnd → Type 0 where
-  IsUnfit : (e : PumpEnd) → e ≡ end.OutOfMemory → to' ≡ to → IsWritable to' → Cut target to to' posts e
+-- there was no memory for the posts' bytes, or a write failed
+pub data WriteFails (target : Target) (to to' : OutletState) (posts : List Post) : PumpEnd → Type 0 where
+  IsUnfit : (e : PumpEnd) → e ≡ end.OutOfMemory → to' ≡ to → IsWritable to' → WriteFails target to to' posts e
   IsFailed : (e : PumpEnd) → e ≡ end.WriteFailed → WroteFront target to to' posts → to'.failed ≡ true
-      → Cut target to to' posts e
+      → WriteFails target to to' posts e
 
 -- what is written to, and the pass of the calls that fetch
 pub record Sender : Type 0 where
   pub outlet : OutletState
   pub pass : PassState Call
 
--- a Fetch was answered with where to go on and whether a shutdown came, and what it gave is written
-pub record Went (target : Target) (from : ℕ) (old new : Sender) (answer : ℕ × Bool) : Type 0 where
+-- a Fetch was answered with this cursor, and its posts are written
+pub record WritesBatch (target : Target) (from : ℕ) (old new : Sender) (cursor : Cursor) : Type 0 where
   pub posts : List Post
-  pub turned : TurnedBy old.pass (Fetch target.connection from) (Ok (reply.Fetched posts answer.0 answer.1))
-      new.pass
+  pub turned : TurnedBy old.pass (Fetch target.connection from)
+      (Ok (reply.Fetched posts cursor.next cursor.ended)) new.pass
   pub all : WroteAll target old.outlet new.outlet posts
 
--- or it went no further: it was denied, or what it gave isn't all written
-pub data Halted (target : Target) (from : ℕ) (old new : Sender) : PumpEnd → Type 0 where
-  IsDenied : (e : PumpEnd) → Denied target.connection old.pass new.pass from e → new.outlet ≡ old.outlet
-      → IsWritable new.outlet → Halted target from old new e
+-- the Fetch failed, or its posts aren't all written
+pub data RoundFails (target : Target) (from : ℕ) (old new : Sender) : PumpEnd → Type 0 where
+  IsDenied : (e : PumpEnd) → FetchFails target.connection old.pass new.pass from e → new.outlet ≡ old.outlet
+      → IsWritable new.outlet → RoundFails target from old new e
   IsCut : (e : PumpEnd) (posts : List Post) (next : ℕ) (ended : Bool)
       → TurnedBy old.pass (Fetch target.connection from) (Ok (reply.Fetched posts next ended)) new.pass
-      → Cut target old.outlet new.outlet posts e → Halted target from old new e
+      → WriteFails target old.outlet new.outlet posts e → RoundFails target from old new e

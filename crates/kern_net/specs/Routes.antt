@@ -1,11 +1,11 @@
--- A connection as its messages are read and written, at whatever desk its calls are made.
+-- A connection as its messages are read and written, whatever the desk of its calls is.
 use Rattle.std.specs.Prelude.{ℕ}
 use Rattle.zmtp_wire.specs.Wire.{Bytes}
 use Rattle.jup_wire.specs.declared.channel.Channel.{Channel}
 use Rattle.kern_net.specs.declared.routes.IncomingRoute.{IncomingRoute}
 use Rattle.kern_net.specs.declared.routes.OutgoingRoute.{OutgoingRoute}
 
--- where messages come from: the connection's number and channel, and the key that they open under
+-- where messages come from: the connection's number and channel, and the key of the messages
 pub record Source : Type 0 where
   pub connection : ℕ
   pub channel : Channel

@@ -14,7 +14,8 @@ use Rattle.kern_render.specs.Rendering.{IsRendered}
 abbrev pub posts_in : List (ℕ × Call) → List Post
 posts_in history = (state_after (calls_of history)).posts
 
--- the posts to a connection from a number on and below another; a post's number is its place, from 1
+-- the posts to a connection from one number on and below another; a post's number is its place in the list,
+-- from 1
 unfoldable pub window : ℕ → ℕ → ℕ → List Post → List Post
 window connection from next posts = filter (is_to connection) (take (next - from) (drop (from - 1) posts))
 
@@ -23,7 +24,7 @@ unfoldable pub IsMessageOf : Bytes → Bytes → Post → Bytes → Type 0
 IsMessageOf key session post bytes =
     (frames : Frames) × IsRendered key session post frames × (bytes ≡ message_bytes frames)
 
--- the bytes are the posts' messages, one behind the other
+-- the bytes are the posts' messages, one after the other
 unfoldable pub IsStreamOf : Bytes → Bytes → List Post → Bytes → Type 0
 IsStreamOf key session [] bytes = bytes ≡ []
 IsStreamOf key session (post ∷ posts) bytes =

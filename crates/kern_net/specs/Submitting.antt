@@ -1,4 +1,4 @@
--- What the messages of a connection ask its desk for.
+-- The calls that the messages of a connection ask for.
 use Rattle.std.specs.Prelude.{◌≡◌, ◌≤◌, ℕ, Bool, true, false, List, [], ◌∷◌}
 use Rattle.zmtp_wire.specs.Wire.{Bytes, Frames, Messages}
 use Rattle.serde_json.specs.Data.{Data}
@@ -32,7 +32,7 @@ mark false = 0
 abbrev pub subscription_frames : Bool → Bytes → Frames
 subscription_frames wants prefix = (mark wants ∷ prefix) ∷ []
 
--- the call for these frames
+-- the call for the frames of a subscription
 pub record IsSubscription (source : Source) (frames : Frames) (call : Call) : Type 0 where
   pub wants : Bool
   pub prefix : Bytes
@@ -50,7 +50,7 @@ IsSubmissionOn _ source frames call = IsArrival source frames call
 abbrev pub IsSubmission : Source → Frames → Call → Type 0
 IsSubmission source frames call = IsSubmissionOn source.channel source frames call
 
--- the frames are no message under the key
+-- the frames are not a message that opens under the key
 abbrev pub IsUnopened : Bytes → Frames → Type 0
 IsUnopened key frames = (p : Parts) (h : Header) (content : Data) → IsMessage key frames p h content → ⊥
 
@@ -65,7 +65,7 @@ IsDroppedOn _ source frames = IsUnopened source.key frames
 abbrev pub IsDropped : Source → Frames → Type 0
 IsDropped source frames = IsDroppedOn source.channel source frames
 
--- one call for each message that asks for something, in order, and none for another
+-- one call for each message that asks for something, in order, and none for the others
 pub data Submits (source : Source) : Messages → List Call → Type 0 where
   NoMore : Submits source [] []
   Submitted : (frames : Frames) (messages : Messages) (call : Call) (calls : List Call)

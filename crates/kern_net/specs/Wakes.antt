@@ -1,4 +1,4 @@
--- Which of a reader's calls may give the worker something to do, and what the others leave alone.
+-- Which of a reader's calls may give the worker something to do, and what the others leave unchanged.
 use Rattle.std.specs.Prelude.{◌≡◌, ◌⊎◌, ℕ, ◌∷◌, [], List, Bool, true, false, not, is_some, All}
 use Rattle.dap_talk.specs.declared.command.DapCommand.{DapCommand}
 use Rattle.dap_talk.specs.declared.command.DapCommand.TheVariants as command
@@ -37,7 +37,7 @@ spared_by (body.BadContent lacking) = true
 spared_by body.Unknown = true
 spared_by other = is_some (plain_reply 0 other)
 
--- The call gives the worker nothing to do. Of calls that no reader makes this isn't said.
+-- the call gives the worker nothing to do, which is only said of the calls that a reader makes
 abbrev pub spares_worker : Call → Bool
 spares_worker (Subscribe connection subscription) = true
 spares_worker (Arrive connection arrival) = spared_by arrival.request.body
@@ -52,8 +52,8 @@ GoesTo connection c letter =
     (letter.envelope.to ≡ connection ∷ [])
     ⊎ ((topic : List ℕ) × (letter.envelope.to ≡ subscribers topic c.peers))
 
--- A turn of this connection's leaves what a Slice goes by as it was, so that a worker that found nothing to
--- do still has nothing to do; and its letters go to the connection, or to iopub.
+-- The turn changes nothing that a Slice depends on, so a worker that had nothing to do still has nothing to
+-- do; and its letters go to this connection, or to iopub.
 pub record LeavesWork (connection : ℕ) (s : KernelState) (t : Turn) : Type 0 where
   pub board : t.state.board ≡ s.board
   pub work : t.state.work ≡ s.work

@@ -1,7 +1,7 @@
 -- What the worker did.
 use Rattle.std.specs.Prelude.{◌≡◌, ℕ, ◌+◌, ◌≤◌, ◌⊎◌, true, List, [], ◌∷◌, ◌++◌, length, All}
 use Rattle.std.specs.Prelude.{Option, Some, None, Result, Ok, Err}
-use Rattle.lab_turn.specs.History.{PassState}
+use Rattle.lab_turn.specs.History.{PassState, TurnstileState}
 use Rattle.kern_core.specs.declared.call.Call.{Call}
 use Rattle.kern_core.specs.declared.call.Call.TheVariants.{Slice}
 use Rattle.kern_core.specs.declared.call.Reply.{Reply}
@@ -21,7 +21,7 @@ IsSlice call = (unix_seconds : ℕ) × (call ≡ Slice unix_seconds)
 abbrev pub OneSlice : List Call → List Call → Type 0
 OneSlice old new = (unix_seconds : ℕ) × (new ≡ old ++ Slice unix_seconds ∷ [])
 
--- what the answers to a Slice say: how it went, or how the work ends; others are none
+-- what the answers to a Slice say: how it went, or how the work ends; a Slice has no others
 abbrev pub progress_of : Result Reply KernelFault → Option (Result Progress PumpEnd)
 progress_of (Ok reply.More) = Some (Ok progress.More)
 progress_of (Ok reply.Idle) = Some (Ok progress.Idle)
@@ -30,26 +30,26 @@ progress_of (Err OutOfMemory) = Some (Err end.OutOfMemory)
 progress_of (Err JournalFull) = Some (Err end.JournalFull)
 progress_of _ = None
 
--- how many Slices were let through that the kernel didn't take, by how the work ends
+-- how many Slices were let through that the kernel didn't take, by how the work ended
 abbrev pub untaken : PumpEnd → ℕ
 untaken end.OutOfMemory = 1
 untaken end.JournalFull = 1
 untaken end.Worn = 1
 untaken _ = 0
 
--- the last call was a Slice, and was answered that a shutdown came
+-- the last call was a Slice, and was answered that a shutdown has come
 abbrev pub SawShutdown : PassState Call → Type 0
 SawShutdown pass = (unix_seconds : ℕ) × LastCall pass (Slice unix_seconds) (Ok reply.Ended)
 
--- how a Slice that isn't taken ends the work
+-- how a Slice that wasn't taken ends the work
 abbrev pub SliceEnds : PassState Call → PassState Call → PumpEnd → Type 0
 SliceEnds old new end.OutOfMemory = new.calls ≡ old.calls
 SliceEnds old new end.JournalFull = (new.calls ≡ old.calls) × IsJournalFull new
 SliceEnds old new end.Worn = (new.calls ≡ old.calls) × (new.worn ≡ true)
 SliceEnds old new _ = ⊥
 
--- Slices were added and nothing else. `before` has let through those and as many that weren't taken; `idle`
--- was polled once for each at most; and others were woken once for each.
+-- Only Slices were added. `before` let them through, and this many more that weren't taken; `idle` was polled
+-- at most once for each; and others were woken once for each.
 pub record Sliced (old new : List Call) (a b : WorkerPolls) (short : ℕ) : Type 0 where
   pub added : List Call
   pub calls : new ≡ old ++ added
@@ -58,11 +58,22 @@ pub record Sliced (old new : List Call) (a b : WorkerPolls) (short : ℕ) : Type
   pub idle : times b.idle ≤ times a.idle + length added
   pub woke : b.wakes ≡ a.wakes + length added
 
--- Ended comes where the gate has said no, once, or where it hasn't and a shutdown was seen; the others come
--- as a turn said, and the gate has not said no.
+-- The work ends as Ended if the gate has said no, once, or if it hasn't and a shutdown was seen. Else it ends
+-- as a turn said, and the gate hasn't said no.
 abbrev pub WorkEnds : PassState Call → WorkerPolls → PumpEnd → Type 0
 WorkEnds pass polls end.Ended = (noes polls ≡ 1) ⊎ (IsOpen polls × SawShutdown pass)
 WorkEnds pass polls end.OutOfMemory = IsOpen polls
 WorkEnds pass polls end.JournalFull = IsOpen polls × IsJournalFull pass
 WorkEnds pass polls end.Worn = IsOpen polls × (pass.worn ≡ true)
 WorkEnds pass polls _ = ⊥
+
+-- a worker's pass, and what its gate was polled
+pub record WorkerState : Type 0 where
+  pub pass : PassState Call
+  pub polls : WorkerPolls
+
+-- the worker made Slices and nothing else, from one seat at this desk, to this end
+pub record MakesSlices (desk : TurnstileState) (old new : WorkerState) (e : PumpEnd) : Type 0 where
+  pub same : (new.pass.turnstile ≡ desk) × (new.pass.seat ≡ old.pass.seat)
+  pub sliced : Sliced old.pass.calls new.pass.calls old.polls new.polls (untaken e)
+  pub ends : WorkEnds new.pass new.polls e

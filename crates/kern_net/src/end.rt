@@ -10,19 +10,19 @@ pub enum PumpEnd {
     OutOfMemory,
     /// The peer's stream ended.
     PeerEnded,
-    /// A read failed, or as many reads were made as are allowed.
+    /// A read failed, or 4,294,967,295 reads were made.
     ReadFailed,
     WriteFailed,
-    /// The peer's stream can't be read on.
+    /// The peer's stream broke the protocol.
     Wire(StreamFault),
-    /// Posts that were to be written are kept no longer.
+    /// Posts that were to be written next are no longer kept.
     Lagged,
     JournalFull,
-    /// A gate said no, or a shutdown came and all is written.
+    /// The gate said no, or a shutdown has come and everything is written.
     Ended,
     /// A call was refused for another reason.
     Refused(KernelFault),
-    /// No more turns can be had.
+    /// The desk has no more turns.
     Worn,
 }
 

@@ -1,8 +1,8 @@
-// What the threads of a kernel's connections do, over readers and writers that tell their bytes, however many
-// share the desk. `pump_in` makes one call for each message that asks for something, up to the first that is
-// refused; `pump_out` writes the posts to a connection, in order, none left out; `worker` makes slices and
-// does nothing else. Each ends only for its cause, a `PumpEnd`. Three gates say whether to go on, wait, and
-// wake others.
+// What the threads of a kernel's connections do, over any readers and writers that share a desk, however many
+// there are. `pump_in` reads a connection and makes one call for each message that asks for something, up to
+// the first that is refused. `pump_out` writes all posts to a connection, in order. `worker` makes Slices and
+// nothing else. Each stops only for its stated cause, a `PumpEnd`. The gates (`gate`) tell a thread to go on,
+// block it while it has nothing to do, and wake the others.
 #![tactic(auto)]
 
 pub mod end;
@@ -10,6 +10,7 @@ pub mod gate;
 pub mod pump_in;
 pub mod pump_out;
 pub mod routes;
+pub mod runtime;
 pub mod stream;
 mod submitting;
 pub mod tally;

@@ -1,17 +1,18 @@
-//! Writing the posts that go to a connection.
+//! Writing a connection's posts.
 ghost use Rattle.std.specs.Prelude.{◌≡◌, IfOk, IfErr, OnOk, Ok};
 ghost use Rattle.base_streams.specs.States.{IsWritable};
 ghost use Rattle.kern_core.specs.declared.call.Call.TheVariants.{Fetch};
 ghost use Rattle.kern_core.specs.declared.call.Reply.TheVariants.{Fetched};
 ghost use Rattle.kern_net.specs.Calls.{TurnedBy};
-ghost use Rattle.kern_net.specs.Gates.{PolledForEach};
-ghost use Rattle.kern_net.specs.Out.{WroteAll, WroteOut};
-ghost use Rattle.kern_net.specs.Rounds.{IsFetchAnswer, Answers, Denied, Cut, Went, Halted};
+ghost use Rattle.kern_net.specs.Out.{WroteAll, CanWrite, PumpsOut, writer_with};
+ghost use Rattle.kern_net.specs.Rounds.{IsFetchAnswer, GivesBatch, FetchFails, WriteFails};
+ghost use Rattle.kern_net.specs.Rounds.{WritesBatch, RoundFails};
 ghost use Rattle.kern_net.specs.Routes.{target_of};
 
 use crate::end::PumpEnd;
 use crate::gate::WriterGate;
 use crate::routes::OutgoingRoute;
+use crate::runtime::Runtime;
 use crate::stream::stream_of;
 use base_streams::ports::Outlet;
 use base_streams::writing::write_all;
@@ -23,20 +24,20 @@ use kern_post::store::FETCHED_AT_ONCE;
 use std::alloc::Global;
 use std::sync::Wait;
 
-/// How far a Fetch goes that leaves posts.
+/// How many numbers a Fetch covers unless it reaches the last post.
 pub const NUMBERS_OF_A_FETCH: u64 = FETCHED_AT_ONCE as u64;
 
-// What a Fetch gave: posts, where to go on, and whether a shutdown came.
+// What a Fetch gave: the posts, the number to go on at, and whether a shutdown has come.
 struct Batch {
     posts: Posts,
     next: u64,
     ended: bool,
 }
 
-// What the answer to a Fetch gives, or how it ends the work.
+// What the answer to a Fetch gives, or how it ends the pump.
 fn batch_of(answer: Result<Reply, KernelFault>) -> Result<Batch, PumpEnd>
     requires { IsFetchAnswer answer }
-    ensures { Answers answer result }
+    ensures { GivesBatch answer result }
 {
     match answer {
         Ok(Reply::Fetched { posts, next, ended }) => Ok(Batch { posts, next, ended }),
@@ -64,7 +65,7 @@ fn fetch<R: Wait>(
     ensures same { (pass.new.turnstile ≡ route.now.desk.now) × (pass.new.seat ≡ pass.old.seat) }
     ensures ok { IfOk result (λ batch. TurnedBy pass.old (Fetch route.now.connection from)
         (Ok (Fetched batch.posts batch.next batch.ended)) pass.new) }
-    ensures err { IfErr result (Denied route.now.connection pass.old pass.new from) }
+    ensures err { IfErr result (FetchFails route.now.connection pass.old pass.new from) }
 {
     let connection = route.connection;
     match route.desk.turn(rt, pass, Call::Fetch { connection, from }) {
@@ -73,7 +74,7 @@ fn fetch<R: Wait>(
     }
 }
 
-// Writes the messages of posts, all of them or a front.
+// Writes the messages of posts. On an error a front of them is written.
 fn write_posts<W: Outlet>(
     alloc: Global,
     to: &mut W,
@@ -83,7 +84,8 @@ fn write_posts<W: Outlet>(
     requires { IsWritable (W.state to.old) }
     ensures ok { OnOk result (WroteAll (target_of route.now) (W.state to.old) (W.state to.new) posts.now) }
     ensures good { OnOk result (IsWritable (W.state to.new)) }
-    ensures err { IfErr result (Cut (target_of route.now) (W.state to.old) (W.state to.new) posts.now) }
+    ensures err { IfErr result
+        (WriteFails (target_of route.now) (W.state to.old) (W.state to.new) posts.now) }
 {
     let Ok(bytes) = stream_of(alloc, posts, route.key, route.session) else {
         return Err(PumpEnd::OutOfMemory);
@@ -94,31 +96,36 @@ fn write_posts<W: Outlet>(
     }
 }
 
-// Fetches the posts from a number on and writes them; answers where to go on, and whether a shutdown
-// came.
+// Where the next Fetch is to begin, and whether a shutdown has come.
+#[derive(Clone, Copy)]
+struct Cursor {
+    next: u64,
+    ended: bool,
+}
+
+// Fetches the posts from a number on, and writes them.
 fn fetch_on<R: Wait, W: Outlet>(
-    rt: &R,
-    alloc: Global,
+    runtime: &Runtime<'_, R>,
     pass: &mut Pass,
     to: &mut W,
     route: &OutgoingRoute<'_>,
     from: u64,
-) -> Result<(u64, bool), PumpEnd>
+) -> Result<Cursor, PumpEnd>
     requires pass { pass.old.turnstile ≡ route.now.desk.now }
     requires good { IsWritable (W.state to.old) }
     ensures same { (pass.new.turnstile ≡ route.now.desk.now) × (pass.new.seat ≡ pass.old.seat) }
-    ensures ok { IfOk result (Went (target_of route.now) from
+    ensures ok { IfOk result (WritesBatch (target_of route.now) from
         (record { outlet = W.state to.old; pass = pass.old })
         (record { outlet = W.state to.new; pass = pass.new })) }
     ensures good { OnOk result (IsWritable (W.state to.new)) }
-    ensures err { IfErr result (Halted (target_of route.now) from
+    ensures err { IfErr result (RoundFails (target_of route.now) from
         (record { outlet = W.state to.old; pass = pass.old })
         (record { outlet = W.state to.new; pass = pass.new })) }
 {
-    match fetch(rt, pass, route, from) {
+    match fetch(runtime.rt, pass, route, from) {
         Ok(Batch { posts, next, ended }) => {
-            match write_posts(alloc, to, route, posts.as_slice()) {
-                Ok(()) => Ok((next, ended)),
+            match write_posts(runtime.alloc, to, route, posts.as_slice()) {
+                Ok(()) => Ok(Cursor { next, ended }),
                 Err(end) => Err(end),
             }
         }
@@ -126,39 +133,33 @@ fn fetch_on<R: Wait, W: Outlet>(
     }
 }
 
-/// Writes the posts that go to a connection, from a number on, each once and in order, until the gate
-/// says no, a shutdown was seen and all is written, a turn is refused, the writer fails or memory is
-/// wanting. Where a Fetch left no post it polls `idle`, and makes no other before that.
+/// Writes the posts to a connection from number `from` on, each once and in order. After each Fetch that
+/// reached the last post, it polls the gate's `idle` before the next one.
 ///
-/// It may wait, or never end, as its gate does.
+/// Returns when the gate says no, when a shutdown has come and everything is written, when a Fetch is
+/// refused, when a write fails, or when memory runs out. It may wait, or never return, as its gate does.
 pub fn pump_out<R: Wait, W: Outlet, G: WriterGate>(
-    rt: &R,
-    alloc: Global,
+    runtime: &Runtime<'_, R>,
     pass: &mut Pass,
     gate: &mut G,
     to: &mut W,
     route: &OutgoingRoute<'_>,
     from: u64,
 ) -> PumpEnd
-    requires pass { pass.old.turnstile ≡ route.now.desk.now }
-    requires good { IsWritable (W.state to.old) }
-    requires gate { (G.polls gate.old).idle.no ≡ 0 }
-    ensures same { (pass.new.turnstile ≡ route.now.desk.now) × (pass.new.seat ≡ pass.old.seat) }
-    ensures wrote { WroteOut (target_of route.now) from
-        (record { outlet = W.state to.old; pass = pass.old; polls = G.polls gate.old })
-        (record { outlet = W.state to.new; pass = pass.new; polls = G.polls gate.new }) result }
-    ensures idle { PolledForEach pass.old pass.new (G.polls gate.old) (G.polls gate.new) }
+    requires { CanWrite route.now.desk.now (writer_with (W.state to.old) pass.old (G.polls gate.old)) }
+    ensures { PumpsOut route.now from (writer_with (W.state to.old) pass.old (G.polls gate.old))
+        (writer_with (W.state to.new) pass.new (G.polls gate.new)) result }
 {
     let mut next = from;
-    for _ in rt.forever() {
-        match fetch_on(rt, alloc, pass, to, route, next) {
+    for _ in runtime.rt.forever() {
+        match fetch_on(runtime, pass, to, route, next) {
             Err(end) => return end,
-            Ok((after, ended)) => {
+            Ok(Cursor { next: after, ended }) => {
                 if after.saturating_sub(next) < NUMBERS_OF_A_FETCH {
                     if ended {
                         return PumpEnd::Ended;
                     }
-                    if !gate.idle(rt, pass, after) {
+                    if !gate.idle(runtime.rt, pass, after) {
                         return PumpEnd::Ended;
                     }
                 }

@@ -1,4 +1,4 @@
-//! The bytes of posts.
+//! The bytes that posts are written as.
 ghost use Rattle.std.specs.Prelude.{◌≡◌, ◌∷◌, ◌++◌, IfOk, OnOk};
 ghost use Rattle.kern_net.specs.Streams.{IsMessageOf, IsStreamOf};
 
@@ -16,7 +16,7 @@ fn message_of(alloc: Global, post: &Post, key: &[u8], session: &str) -> Result<B
     put_message(alloc, frames.as_slice())
 }
 
-/// The messages of posts, one behind the other, under a key and in the session of this name.
+/// The ZMTP messages of posts, one after the other, signed with a key and in a session.
 pub fn stream_of(
     alloc: Global,
     posts: &[Post],

@@ -1,4 +1,4 @@
-//! Submitting what one message asks for.
+//! The calls that a message asks for.
 ghost use Rattle.std.specs.Prelude.{◌≡◌, ◌≤◌, ◌⊎◌, ◌++◌, ◌∷◌, [], true, false, OnOk, OnErr, Ok};
 ghost use Rattle.std.specs.Prelude.{Err, IfOk, IfErr};
 ghost use mathlib.Core.List.{IsPrefix};
@@ -19,7 +19,8 @@ ghost use Rattle.kern_net.specs.Routes.{source_of};
 use crate::end::PumpEnd;
 use crate::gate::ReaderGate;
 use crate::routes::IncomingRoute;
-use crate::wakes::gives_work;
+use crate::runtime::Runtime;
+use crate::wakes::concerns_worker;
 use base_text::boxed::Boxed;
 use base_text::sequence::{Bytes, Frames};
 use jup_wire::channel::Channel;
@@ -32,7 +33,7 @@ use kern_request::reading::request_of;
 use std::alloc::{AllocError, Global};
 use std::sync::Wait;
 
-// Why a call was refused, if it was.
+// An error if the call was refused.
 fn refusal(answer: Result<Reply, KernelFault>) -> Result<(), KernelFault>
     ensures ok { OnOk result ((reply : Reply) × (answer ≡ Ok reply)) }
     ensures err { IfErr result (λ fault. answer ≡ Err fault) }
@@ -43,7 +44,7 @@ fn refusal(answer: Result<Reply, KernelFault>) -> Result<(), KernelFault>
     }
 }
 
-// Wakes all, or tells those whom a call concerns that gives the worker nothing to do.
+// Wakes everybody if the worker may have something to do, else those whom the call may have posted to.
 fn ring<R: Wait, G: ReaderGate>(rt: &R, gate: &mut G, has_work: bool)
     ensures { G.polls gate.new ≡ rung has_work (G.polls gate.old) }
 {
@@ -54,8 +55,8 @@ fn ring<R: Wait, G: ReaderGate>(rt: &R, gate: &mut G, has_work: bool)
     }
 }
 
-// Makes one turn, and rings where its call stands in the journal.
-#[tactic(auto, using(crate::proofs::RingLemmas::woke_by, crate::proofs::RingLemmas::told_by, crate::proofs::RingLemmas::woke_not, crate::proofs::RingLemmas::told_not, crate::proofs::ReadTurnLemmas::stops_full, crate::proofs::ReadTurnLemmas::stops_unknown, crate::proofs::ReadTurnLemmas::stops_journal_full, crate::proofs::ReadTurnLemmas::never_lagged, crate::proofs::ReadTurnLemmas::call_granted, crate::proofs::ReadTurnLemmas::worn_onward, crate::proofs::ReadTurnLemmas::refuses_worn, crate::proofs::ReadTurnLemmas::refuses_memory, crate::proofs::ReadTurnLemmas::refuses_journal_full, crate::proofs::ReadTurnLemmas::refuses_full, crate::proofs::ReadTurnLemmas::refuses_unknown, crate::proofs::CallLemmas::turned_prefix))]
+// Makes a call, and wakes others if it stands in the journal.
+#[tactic(auto, using(crate::proofs::ReadTurnLemmas::outcomes))]
 fn make_call<R: Wait, G: ReaderGate>(
     rt: &R,
     desk: &Desk,
@@ -74,7 +75,7 @@ fn make_call<R: Wait, G: ReaderGate>(
     ensures counted { IfErr result (λ e. (pass.new.calls ≡ pass.old.calls)
         ⊎ (IsRefusal e × (pass.new.calls ≡ pass.old.calls ++ call ∷ []))) }
 {
-    let has_work = gives_work(&call);
+    let has_work = concerns_worker(&call);
     let Ok(answer) = desk.turn(rt, pass, call) else {
         return Err(PumpEnd::Worn);
     };
@@ -103,7 +104,7 @@ struct Wish<'a> {
     prefix: &'a [u8],
 }
 
-// What the frames want, if they are those of a subscription or of the end of one.
+// What the frames ask for, if they are those of a subscription or of the end of one.
 fn wish_in(frames: &Frames) -> Option<Wish<'_>>
     ensures some { IfSome result (λ w. frames.now ≡ subscription_frames w.wants w.prefix.now) }
     ensures none { IfNone result (IsNoSubscription frames.now) }
@@ -175,7 +176,7 @@ fn arrive_call(
     })
 }
 
-// The message that these frames are, if they are one.
+// The message in these frames, if they are one and it opens.
 #[tactic(auto, using(crate::proofs::SubmitLemmas::refused_message))]
 fn message_in(alloc: Global, frames: Frames, key: &[u8]) -> Result<Option<Message>, AllocError>
     ensures some { IfOk result (λ found.
@@ -193,10 +194,9 @@ fn message_in(alloc: Global, frames: Frames, key: &[u8]) -> Result<Option<Messag
     }
 }
 
-#[tactic(auto, using(crate::proofs::SubmitLemmas::no_subscription, crate::proofs::SubmitLemmas::submitted_none))]
+#[tactic(auto, using(crate::proofs::SubmitLemmas::dropped_subscription))]
 fn subscribe<R: Wait, G: ReaderGate>(
-    rt: &R,
-    alloc: Global,
+    runtime: &Runtime<'_, R>,
     pass: &mut Pass,
     gate: &mut G,
     route: &IncomingRoute<'_>,
@@ -212,9 +212,9 @@ fn subscribe<R: Wait, G: ReaderGate>(
     let Some(Wish { wants, prefix }) = wish_in(frames) else {
         return Ok(());
     };
-    let unix_seconds = gate.unix_seconds(rt);
-    match subscribe_call(alloc, route.connection, wants, prefix, unix_seconds) {
-        Ok(call) => match make_call(rt, route.desk, pass, gate, call) {
+    let unix_seconds = gate.unix_seconds(runtime.rt);
+    match subscribe_call(runtime.alloc, route.connection, wants, prefix, unix_seconds) {
+        Ok(call) => match make_call(runtime.rt, route.desk, pass, gate, call) {
             Ok(()) => Ok(()),
             Err(end) => Err(end),
         },
@@ -224,8 +224,7 @@ fn subscribe<R: Wait, G: ReaderGate>(
 
 #[tactic(auto, using(crate::proofs::SubmitLemmas::unopened, crate::proofs::SubmitLemmas::submitted_none))]
 fn arrive<R: Wait, G: ReaderGate>(
-    rt: &R,
-    alloc: Global,
+    runtime: &Runtime<'_, R>,
     pass: &mut Pass,
     gate: &mut G,
     route: &IncomingRoute<'_>,
@@ -238,11 +237,11 @@ fn arrive<R: Wait, G: ReaderGate>(
     ensures told { ToldForEach pass.old pass.new (G.polls gate.old) (G.polls gate.new) }
     ensures submitted { SubmittedFor (source_of route.now) (frames ∷ []) pass.old pass.new result }
 {
-    match message_in(alloc, frames, route.key) {
+    match message_in(runtime.alloc, frames, route.key) {
         Ok(Some(message)) => {
-            let unix_seconds = gate.unix_seconds(rt);
-            match arrive_call(alloc, route, message, unix_seconds) {
-                Ok(call) => match make_call(rt, route.desk, pass, gate, call) {
+            let unix_seconds = gate.unix_seconds(runtime.rt);
+            match arrive_call(runtime.alloc, route, message, unix_seconds) {
+                Ok(call) => match make_call(runtime.rt, route.desk, pass, gate, call) {
                     Ok(()) => Ok(()),
                     Err(end) => Err(end),
                 },
@@ -254,10 +253,9 @@ fn arrive<R: Wait, G: ReaderGate>(
     }
 }
 
-/// Submits what one message asks for, if that is anything.
+/// Makes the call that a message asks for, if it asks for one.
 pub(crate) fn submit<R: Wait, G: ReaderGate>(
-    rt: &R,
-    alloc: Global,
+    runtime: &Runtime<'_, R>,
     pass: &mut Pass,
     gate: &mut G,
     route: &IncomingRoute<'_>,
@@ -270,7 +268,7 @@ pub(crate) fn submit<R: Wait, G: ReaderGate>(
     ensures submitted { SubmittedFor (source_of route.now) (frames ∷ []) pass.old pass.new result }
 {
     if route.channel == Channel::Iopub {
-        return subscribe(rt, alloc, pass, gate, route, &frames);
+        return subscribe(runtime, pass, gate, route, &frames);
     }
-    arrive(rt, alloc, pass, gate, route, frames)
+    arrive(runtime, pass, gate, route, frames)
 }

@@ -1,11 +1,11 @@
-//! How often a gate was polled and what it answered, as a gate may keep it.
-ghost use Rattle.std.specs.Prelude.{◌≡◌, ◌+◌, ◌<◌, ◌↔◌, IsTrue};
+//! Counters of how often a gate was polled and what it answered, for gates to keep.
+ghost use Rattle.std.specs.Prelude.{◌≡◌, ◌+◌, ◌<◌, ◌↔◌, IsTrue, true, false};
 ghost use Rattle.kern_net.specs.Gates.{with_answer, before_polled, idle_polled, with_wake, no_polls, noes};
 
 use std::marker::Model;
 use std::sync::Wait;
 
-/// One more; more than can be counted have no answer.
+/// `count + 1`. Never returns if that overflows.
 pub fn one_more<R: Wait>(rt: &R, count: u64) -> u64
     ensures { result ≡ count + 1 }
 {
@@ -32,22 +32,25 @@ impl Model for Tally {
 }
 
 impl Tally {
-    /// Of a question that wasn't put yet.
+    /// The tally of a question that hasn't been asked yet.
     pub fn new() -> Tally
         ensures { result ≡ record { yes = 0; no = 0 } }
     {
         Tally { yes: 0, no: 0 }
     }
 
-    /// It was answered so.
-    pub fn add<R: Wait>(&mut self, rt: &R, answer: bool)
-        ensures { self.new ≡ with_answer answer self.old }
+    /// Counts an answer yes.
+    pub fn add_yes<R: Wait>(&mut self, rt: &R)
+        ensures { self.new ≡ with_answer true self.old }
     {
-        if answer {
-            self.yes = one_more(rt, self.yes);
-        } else {
-            self.no = one_more(rt, self.no);
-        }
+        self.yes = one_more(rt, self.yes);
+    }
+
+    /// Counts an answer no.
+    pub fn add_no<R: Wait>(&mut self, rt: &R)
+        ensures { self.new ≡ with_answer false self.old }
+    {
+        self.no = one_more(rt, self.no);
     }
 
     /// How often it was answered yes.
@@ -65,7 +68,7 @@ impl Tally {
     }
 }
 
-/// What a worker's gate was polled for.
+/// How often a worker's gate was polled, what it answered, and how often it woke others.
 #[derive(Drop)]
 pub struct WorkerTally {
     before: Tally,
@@ -82,7 +85,7 @@ impl Model for WorkerTally {
 }
 
 impl WorkerTally {
-    /// Of a gate that wasn't polled yet.
+    /// The tally of a gate that hasn't been polled yet.
     pub fn new() -> WorkerTally
         ensures { result ≡ no_polls }
     {
@@ -93,21 +96,35 @@ impl WorkerTally {
         }
     }
 
-    /// `before` was answered so.
-    pub fn add_before<R: Wait>(&mut self, rt: &R, answer: bool)
-        ensures { self.new ≡ before_polled answer self.old }
+    /// Counts an answer yes of `before`.
+    pub fn add_before_yes<R: Wait>(&mut self, rt: &R)
+        ensures { self.new ≡ before_polled true self.old }
     {
-        self.before.add(rt, answer);
+        self.before.add_yes(rt);
     }
 
-    /// `idle` was answered so.
-    pub fn add_idle<R: Wait>(&mut self, rt: &R, answer: bool)
-        ensures { self.new ≡ idle_polled answer self.old }
+    /// Counts an answer no of `before`.
+    pub fn add_before_no<R: Wait>(&mut self, rt: &R)
+        ensures { self.new ≡ before_polled false self.old }
     {
-        self.idle.add(rt, answer);
+        self.before.add_no(rt);
     }
 
-    /// Others were woken.
+    /// Counts an answer yes of `idle`.
+    pub fn add_idle_yes<R: Wait>(&mut self, rt: &R)
+        ensures { self.new ≡ idle_polled true self.old }
+    {
+        self.idle.add_yes(rt);
+    }
+
+    /// Counts an answer no of `idle`.
+    pub fn add_idle_no<R: Wait>(&mut self, rt: &R)
+        ensures { self.new ≡ idle_polled false self.old }
+    {
+        self.idle.add_no(rt);
+    }
+
+    /// Counts a call of `wake`.
     pub fn add_wake<R: Wait>(&mut self, rt: &R)
         ensures { self.new ≡ with_wake self.old }
     {
@@ -135,7 +152,7 @@ impl WorkerTally {
         &self.idle
     }
 
-    /// How often others were woken.
+    /// How often it woke others.
     pub fn wakes(&self) -> u64
         ensures { result ≡ self.now.wakes }
     {

@@ -38,7 +38,7 @@ fn is_look(command: &DapCommand) -> bool
     }
 }
 
-// Whether the kernel may go on otherwise after a request.
+// Whether a request may give the worker something to do.
 fn asks_for_work(body: &RequestBody) -> bool
     ensures { result ≡ not (spared_by body.now) }
 {
@@ -61,10 +61,10 @@ fn asks_for_work(body: &RequestBody) -> bool
     }
 }
 
-/// Whether a call may give the worker something to do. One that doesn't posts to its own connection and on
-/// iopub alone.
+/// Whether a call may give the worker something to do. A reader's call that doesn't posts only to its own
+/// connection and on iopub.
 #[tactic(auto, using(crate::proofs::WakeLemmas::gives_none))]
-pub(crate) fn gives_work(call: &Call) -> bool
+pub(crate) fn concerns_worker(call: &Call) -> bool
     ensures means { result ≡ concerns_worker call.now }
     ensures law { result ≡ false → (s : KernelState) → GivesNone call.now s }
 {

@@ -1,9 +1,9 @@
-//! The worker, which makes the kernel go on.
+//! The worker, which runs the kernel's cells.
 ghost use Rattle.std.specs.Prelude.{◌≡◌, ◌+◌, length, Some, IsSome, IfOk, IfErr, OnOk};
 ghost use Rattle.kern_net.specs.declared.worker.Progress.TheVariants as progress;
 ghost use Rattle.kern_net.specs.Gates.{no_polls, IsOpen};
 ghost use Rattle.kern_net.specs.Work.{progress_of, untaken, OneSlice, SawShutdown, SliceEnds, Sliced};
-ghost use Rattle.kern_net.specs.Work.{WorkEnds};
+ghost use Rattle.kern_net.specs.Work.{WorkEnds, MakesSlices};
 
 use crate::end::PumpEnd;
 use crate::gate::WorkerGate;
@@ -12,18 +12,18 @@ use kern_core::fault::KernelFault;
 use kern_desk::seated::{Desk, Pass};
 use std::sync::Wait;
 
-/// What a Slice came to.
+/// What a Slice was answered.
 #[derive(Clone, Copy, PartialEq, Eq)]
 pub(crate) enum Progress {
     /// There may be more to do at once.
     More,
-    /// There was nothing to do, or no more.
+    /// There is nothing to do now.
     Idle,
     /// A shutdown has come.
     ShutDown,
 }
 
-// What the answer to a Slice says.
+// What the answer to a Slice says, or how it ends the work.
 fn progress_of(answer: Result<Reply, KernelFault>) -> Result<Progress, PumpEnd>
     requires { IsSome (progress_of answer) }
     ensures { progress_of answer ≡ Some result }
@@ -47,7 +47,7 @@ fn progress_of(answer: Result<Reply, KernelFault>) -> Result<Progress, PumpEnd>
     }
 }
 
-// Makes one Slice, and wakes others once the kernel has taken it.
+// Makes one Slice, and wakes others if it was taken.
 fn slice<R: Wait, G: WorkerGate>(
     rt: &R,
     desk: &Desk,
@@ -77,7 +77,7 @@ fn slice<R: Wait, G: WorkerGate>(
     }
 }
 
-// One round: `before`, a Slice, and where that found nothing to do, `idle`.
+// One round: `before`, a Slice, and `idle` if the Slice found nothing to do.
 fn round<R: Wait, G: WorkerGate>(
     rt: &R,
     desk: &Desk,
@@ -113,18 +113,16 @@ fn round<R: Wait, G: WorkerGate>(
     }
 }
 
-/// Makes Slices, each at the gate's time, until the gate says no, a shutdown is seen or a turn is refused.
-/// Before each it polls `before` with the number of those that it made; after each it wakes others; and
-/// where there was nothing to do it polls `idle`.
+/// Makes Slices, each at the gate's time. Before each it polls the gate's `before` with the number of Slices
+/// made so far, after each it wakes others, and if there was nothing to do it polls `idle`.
 ///
-/// It may wait, or never end, as its gate does.
+/// Returns when the gate says no, when a shutdown has come, or when a Slice is refused. It may wait, or never
+/// return, as its gate does.
 pub fn worker<R: Wait, G: WorkerGate>(rt: &R, desk: &Desk, pass: &mut Pass, gate: &mut G) -> PumpEnd
     requires pass { pass.old.turnstile ≡ desk.now }
     requires gate { G.polls gate.old ≡ no_polls }
-    ensures same { (pass.new.turnstile ≡ desk.now) × (pass.new.seat ≡ pass.old.seat) }
-    ensures sliced { Sliced pass.old.calls pass.new.calls
-        (G.polls gate.old) (G.polls gate.new) (untaken result) }
-    ensures ends { WorkEnds pass.new (G.polls gate.new) result }
+    ensures { MakesSlices desk.now (record { pass = pass.old; polls = G.polls gate.old })
+        (record { pass = pass.new; polls = G.polls gate.new }) result }
 {
     for slices in 0..u64::MAX {
         match round(rt, desk, pass, gate, slices) {

@@ -1,4 +1,4 @@
-//! Conversations with a new kernel: what is written, how reading and writing end, and the calls made.
+//! Conversations with a new kernel: what is written, how reading and writing end, and which calls are made.
 
 use crate::messages::Part::{
     BadCommand, BadFlags, BadSize, Dealer, Empty, Example, Forged, ForgedExample, Info, Letter,
@@ -18,8 +18,8 @@ use std::sync::Wait;
 use zmtp_wire::fault::StreamFault;
 use zmtp_wire::peer_fault::PeerFault;
 
-// A client and what it writes, how the conversation goes, how many bytes are written, and the calls in the
-// journal: J for a Join, U for a Subscribe, A for an Arrive, F for a Fetch.
+// A client and what it writes, how the conversation ends, how many bytes are written to it, and the calls in
+// the journal: J for a Join, U for a Subscribe, A for an Arrive, F for a Fetch.
 type Row = (Client, &'static [Part], Course, usize, &'static str);
 
 const FLAGS: Course = Course::Met(PumpEnd::Wire(StreamFault::Flags), PumpEnd::Ended);
@@ -28,8 +28,8 @@ const FRAME_SIZE: Course = Course::Met(PumpEnd::Wire(StreamFault::FrameSize), Pu
 
 const COMMAND: Course = Course::Met(PumpEnd::Wire(StreamFault::Command), PumpEnd::Ended);
 
-// The handshake has 94 bytes on shell, and 91 on iopub; the reply to a request 478, the status that a
-// subscriber is told 175.
+// The handshake has 94 bytes on shell and 91 on iopub, the reply to a request 478, and a subscriber's first
+// status 175.
 const ROWS: [Row; 22] = [
     // A handshake and nothing else: three Fetches, after the last of which the gate says no.
     (Shell, &[Dealer], BOTH_END, 94, "JFFF"),
@@ -99,7 +99,7 @@ const BOTH_FULL: Course = Course::Met(PumpEnd::JournalFull, PumpEnd::JournalFull
 
 const WRITER_FULL: Course = Course::Met(PumpEnd::PeerEnded, PumpEnd::JournalFull);
 
-// How many entries the journal may have, how two requests go then, how many bytes are written, and the calls.
+// The journal's limit, how a conversation of two requests ends, how many bytes are written, and the calls.
 const JOURNALS: [(u32, Course, usize, &str); 6] = [
     (1, BOTH_FULL, 94, "J"),
     (2, BOTH_FULL, 94, "JA"),
@@ -109,7 +109,7 @@ const JOURNALS: [(u32, Course, usize, &str); 6] = [
     (6, BOTH_END, 1050, "JAAFFF"),
 ];
 
-/// A conversation must have gone so in a row of a test.
+/// Fails the test in this row unless a conversation ended like this.
 pub fn expect_told<R: Abort>(rt: &R, told: Told, course: Course, written: usize, row: usize) {
     let bytes = told.written as u64;
     expect_at(rt, told.is_front, "other bytes", row, bytes);
@@ -133,7 +133,7 @@ fn check_row<R: Wait + Abort>(
     expect_at(rt, is_called, "other calls", place, pace.read.0 as u64);
 }
 
-// Where the client is met, byte by byte all goes the same.
+// Byte by byte, conversations go the same.
 #[test]
 fn conversations(rt: HostRuntime) {
     for (place, row) in ROWS.iter().enumerate() {
@@ -143,7 +143,7 @@ fn conversations(rt: HostRuntime) {
     check_row(&rt, rt.alloc(), UNMET, MOST_ENTRIES, ROWS.len(), AMPLE);
 }
 
-// Two requests, and a journal that is full at some point, or isn't.
+// Two requests, with a journal that is full at some point or not at all.
 #[test]
 fn full_journals(rt: HostRuntime) {
     for (place, (limit, course, written, calls)) in JOURNALS.iter().enumerate() {

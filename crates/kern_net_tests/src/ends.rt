@@ -1,5 +1,5 @@
-//! How the worker and the pumps end: by a gate, by a full journal, by posts that are gone, by a connection
-//! that isn't there, by a shutdown.
+//! How the worker and the pumps end: by a gate, a full journal, dropped posts, an unknown connection, or a
+//! shutdown.
 
 use crate::conversations::expect_told;
 use crate::gates::{InGate, OutGate, WorkGate};
@@ -18,19 +18,20 @@ use std::process::Abort;
 use std::sync::Wait;
 use zmtp_wire::peer_fault::PeerFault;
 
-// How many entries the journal may have, how often `before` and `idle` say yes, how the worker ends, what
-// they have said then, how often yes and no, and the calls in the journal: S for a Slice.
+// The journal's limit, how often `before` and `idle` are to answer yes, how the worker ends, how often each
+// answered yes and no by then, and the calls in the journal: S for a Slice.
 type Work = (u32, u64, u64, PumpEnd, [u64; 4], &'static str);
 
 const WORK: [Work; 4] = [
     (MOST_ENTRIES, 2, 99, PumpEnd::Ended, [2, 1, 2, 0], "SS"),
     (MOST_ENTRIES, 99, 1, PumpEnd::Ended, [2, 0, 1, 1], "SS"),
     (MOST_ENTRIES, 0, 0, PumpEnd::Ended, [0, 1, 0, 0], ""),
-    // The worker meets a full journal at its fourth slice, for which `before` said yes.
+    // The journal is full at the worker's fourth Slice, for which `before` said yes.
     (3, 99, 99, PumpEnd::JournalFull, [4, 0, 3, 0], "SSS"),
 ];
 
-// Without a request the worker makes a slice for each yes, wakes the others and polls `idle` after each.
+// Without a request the worker makes a Slice for each yes, and after each it wakes the others and polls
+// `idle`.
 fn check_work<R: Wait + Abort>(rt: &R, alloc: Global, row: Work, place: usize) {
     let (limit, befores, idles, wanted, said, calls) = row;
     let mut table = open_table(rt, alloc, limit);
@@ -53,7 +54,7 @@ fn work_without_requests(rt: HostRuntime) {
 
 const REQUEST: &[Part] = &[Part::Dealer, Part::Unsigned, Part::Info];
 
-/// Whether a peer was met and reading ended so.
+/// Whether the handshake succeeded and reading ended like this.
 pub fn has_ended(read: Result<PumpEnd, PeerFault>, wanted: PumpEnd) -> bool {
     match read {
         Ok(end) => end == wanted,
@@ -70,7 +71,7 @@ fn ask<R: Wait + Abort>(rt: &R, alloc: Global, table: &mut Table, given: &[Part]
     expect_at(rt, has_ended, "another end of a request", 0, 0);
 }
 
-// A connection comes, with the number 1, and asks so often what the kernel is.
+// Connection 1 joins, and sends a number of kernel_info_requests.
 fn ask_often<R: Wait + Abort>(rt: &R, alloc: Global, table: &mut Table, count: u32) {
     let connection = table.join(rt, alloc, Channel::Shell);
     expect_at(rt, connection == 1, "connection", 0, u64::from(connection));
@@ -79,8 +80,8 @@ fn ask_often<R: Wait + Abort>(rt: &R, alloc: Global, table: &mut Table, count: u
     }
 }
 
-// How writing ends, what its gate said, how many bytes are written, how many replies, and how often those of
-// post 4,034 and 4,094.
+// How writing ended, what its gate answered, how many bytes and replies were written, and how often the
+// replies that are posts 4,034 and 4,094.
 #[derive(Clone, Copy)]
 struct Wrote {
     end: PumpEnd,
@@ -114,7 +115,8 @@ fn write_from<R: Wait>(
     wrote
 }
 
-// The writer meets a full journal at its second Fetch, with more to write: the first covers 64 of 90 numbers.
+// The journal is full at the writer's second Fetch, and there is more to write: the first covers 64 of 90
+// numbers.
 #[test]
 fn a_journal_full_of_requests(rt: HostRuntime) {
     let mut table = open_table(&rt, rt.alloc(), 32);
@@ -127,8 +129,8 @@ fn a_journal_full_of_requests(rt: HostRuntime) {
     expect_at(&rt, wrote.replies == 21, "replies", 0, wrote.replies as u64);
 }
 
-// From which post to write, how that ends, how many replies are written, and how often those of post 4,034
-// and 4,094.
+// The first post to write, how writing ends, how many replies are written, and how often those that are posts
+// 4,034 and 4,094.
 const STARTS: [(u64, PumpEnd, usize, usize, usize); 7] = [
     (0, PumpEnd::Lagged, 0, 0, 0),
     (1, PumpEnd::Lagged, 0, 0, 0),
@@ -149,9 +151,8 @@ fn check_starts<R: Wait + Abort>(rt: &R, alloc: Global, table: &mut Table) {
     }
 }
 
-// A connection, 1,365 requests of three posts, and one of an unknown type, which has two: 4,097 posts, of
-// which the first is gone. Posts that are gone end the writing; those that are kept are all written, 64
-// numbers a Fetch.
+// A connection makes 1,365 requests with three posts each, and one of an unknown type with two: 4,097 posts,
+// of which the first is dropped. Writing ends at dropped posts; all others are written, 64 numbers a Fetch.
 #[test]
 fn posts_that_are_gone(rt: HostRuntime) {
     let mut table = open_table(&rt, rt.alloc(), MOST_ENTRIES);
@@ -168,7 +169,7 @@ fn posts_that_are_gone(rt: HostRuntime) {
 
 const REFUSED: PumpEnd = PumpEnd::Refused(KernelFault::NoConnection);
 
-// Nobody joined: the first turn of each pump is refused, but is an entry. The writer writes nothing.
+// Nobody has joined. The first call of each pump is refused, but is an entry; the writer writes nothing.
 #[test]
 fn no_connection(rt: HostRuntime) {
     let mut table = open_table(&rt, rt.alloc(), MOST_ENTRIES);
@@ -186,8 +187,8 @@ fn no_connection(rt: HostRuntime) {
     expect_at(&rt, is_called, "other calls", 0, 0);
 }
 
-// After a shutdown the writer writes what is left by one Fetch and ends, and the worker ends after one slice.
-// Neither gate is polled by `idle`. The replies have 478 and 238 bytes, behind the 94 of the handshake.
+// After a shutdown the writer writes what is left, by one Fetch, and ends; the worker ends after one Slice.
+// No `idle` is polled. The replies have 478 and 238 bytes, after the 94 of the handshake.
 #[test]
 fn shut_down(rt: HostRuntime) {
     let mut table = open_table(&rt, rt.alloc(), MOST_ENTRIES);

@@ -1,5 +1,5 @@
-//! Each read and each write of a conversation failing once: what is written is cut there, and no more is
-//! asked than was read before.
+//! Each read and each write of a conversation fails once. What is written is cut off there, and no calls are
+//! made but for what was read before.
 
 use crate::conversations::expect_told;
 use crate::messages::Part;
@@ -20,18 +20,19 @@ const UNWRITTEN: Course = Course::Unmet(PeerFault::WriteFailed);
 
 const WRITE_FAILS: Course = Course::Met(PumpEnd::PeerEnded, PumpEnd::WriteFailed);
 
-// What fails, after so many calls.
+// What fails, after a number of calls.
 #[derive(Clone, Copy)]
 enum Failing {
     Reads,
     Writes,
 }
 
-// What fails, and how many bytes a call of it moves; from how many calls before the one that fails, to how
-// many; how the conversation goes then, and how many bytes are written where the first of these fails.
+// What fails, and how many bytes a call of it moves at most; the least and the greatest number of calls
+// before the one that fails; how the conversation ends then, and how many bytes are written for the least
+// number.
 type Row = (Failing, usize, u64, u64, Course, usize);
 
-// A kernel is asked once. The greeting and READY have 94 bytes, the request has 90, and the reply 478.
+// One kernel_info_request. The greeting and READY have 94 bytes, the request has 90, and the reply 478.
 const ROWS: [Row; 24] = [
     (Failing::Reads, 1, 0, 63, UNREAD, 64),
     (Failing::Reads, 1, 64, 93, UNREAD, 94),
@@ -45,11 +46,11 @@ const ROWS: [Row; 24] = [
     (Failing::Reads, 4096, 0, 0, UNREAD, 64),
     (Failing::Reads, 4096, 1, 1, READ_FAILS, 572),
     (Failing::Reads, 4096, 2, 2, BOTH_END, 572),
-    // As many bytes are written as calls of one byte were made.
+    // One byte is written for each call.
     (Failing::Writes, 1, 0, 93, UNWRITTEN, 0),
     (Failing::Writes, 1, 94, 571, WRITE_FAILS, 94),
     (Failing::Writes, 1, 572, 572, BOTH_END, 572),
-    // A writer that takes all that it is given, or a hundred bytes, or nothing.
+    // A writer that takes nothing, everything, or a hundred bytes.
     (Failing::Writes, 0, 9999, 9999, UNWRITTEN, 0),
     (Failing::Writes, 4096, 0, 0, UNWRITTEN, 0),
     (Failing::Writes, 4096, 1, 1, UNWRITTEN, 64),
@@ -61,7 +62,7 @@ const ROWS: [Row; 24] = [
     (Failing::Writes, 100, 7, 7, BOTH_END, 572),
 ];
 
-// How the conversation goes over ports of this pace.
+// How the conversation ends over ports of this pace.
 fn outcome<R: Wait + Abort>(rt: &R, alloc: Global, pace: Pace) -> Told {
     let mut table = open_table(rt, alloc, MOST_ENTRIES);
     let given = [Part::Dealer, Part::Unsigned, Part::Info];
@@ -70,7 +71,7 @@ fn outcome<R: Wait + Abort>(rt: &R, alloc: Global, pace: Pace) -> Told {
     told
 }
 
-// The pace where a call fails.
+// The pace at which a call fails.
 fn pace_of(failing: Failing, most: usize, calls: u64) -> Pace {
     match failing {
         Failing::Reads => Pace {
@@ -84,7 +85,7 @@ fn pace_of(failing: Failing, most: usize, calls: u64) -> Pace {
     }
 }
 
-// How many more bytes are written where so many more calls of one byte are made.
+// How many more bytes are written if this many more calls of one byte are made.
 fn more_at(failing: Failing, more: u64) -> usize {
     match failing {
         Failing::Reads => 0,

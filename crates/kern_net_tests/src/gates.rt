@@ -1,4 +1,4 @@
-//! Gates that say yes so often and then no, and count what they said. They wait for nothing.
+//! Gates that answer yes a number of times and then no, and count their answers. They never wait.
 ghost use Rattle.std.specs.Prelude.{◌≡◌};
 ghost use Rattle.kern_net.specs.Gates.{no_polls};
 
@@ -10,7 +10,7 @@ use std::sync::Wait;
 /// The time at all gates, 2000-02-29T00:00:00Z.
 pub const MOMENT: u64 = 951_782_400;
 
-/// A worker's gate whose `before` and `idle` say yes so often.
+/// A worker's gate whose `before` and `idle` answer yes a number of times.
 #[derive(Drop)]
 pub struct WorkGate {
     befores: u64,
@@ -19,7 +19,7 @@ pub struct WorkGate {
 }
 
 impl WorkGate {
-    /// A gate that wasn't polled yet.
+    /// A gate that hasn't been polled yet.
     pub fn new(befores: u64, idles: u64) -> WorkGate
         ensures { result.polls ≡ no_polls }
     {
@@ -30,7 +30,7 @@ impl WorkGate {
         }
     }
 
-    /// How often `before` said yes and no, and `idle` yes and no.
+    /// How often `before` answered yes and no, and `idle` yes and no.
     pub fn answers(&self) -> [u64; 4] {
         let (before, idle) = (self.polls.before(), self.polls.idle());
         [before.yes(), before.no(), idle.yes(), idle.no()]
@@ -41,15 +41,21 @@ impl WorkerGate for WorkGate {
     ghost polls = { λ g. g.polls };
 
     fn before<R: Wait>(&mut self, rt: &R, slices: u64) -> bool {
-        let said = slices < self.befores;
-        self.polls.add_before(rt, said);
-        said
+        if slices < self.befores {
+            self.polls.add_before_yes(rt);
+            return true;
+        }
+        self.polls.add_before_no(rt);
+        false
     }
 
     fn idle<R: Wait>(&mut self, rt: &R) -> bool {
-        let said = self.polls.idle().yes() < self.idles;
-        self.polls.add_idle(rt, said);
-        said
+        if self.polls.idle().yes() < self.idles {
+            self.polls.add_idle_yes(rt);
+            return true;
+        }
+        self.polls.add_idle_no(rt);
+        false
     }
 
     fn wake<R: Wait>(&mut self, rt: &R) {
@@ -64,13 +70,13 @@ impl WorkerGate for WorkGate {
 /// A reader's gate.
 #[derive(Drop)]
 pub struct InGate {
-    /// How often it woke all, and told those whom a call concerned.
+    /// How often `wake` and `tell` were called.
     pub wakes: u64,
     pub tells: u64,
 }
 
 impl InGate {
-    /// A gate that woke nobody.
+    /// A gate that has woken nobody yet.
     pub fn new() -> InGate {
         InGate { wakes: 0, tells: 0 }
     }
@@ -92,7 +98,7 @@ impl ReaderGate for InGate {
     }
 }
 
-/// A writer's gate whose `idle` says yes so often.
+/// A writer's gate whose `idle` answers yes a number of times.
 #[derive(Drop)]
 pub struct OutGate {
     idles: u64,
@@ -100,7 +106,7 @@ pub struct OutGate {
 }
 
 impl OutGate {
-    /// A gate that wasn't polled yet.
+    /// A gate that hasn't been polled yet.
     pub fn new(idles: u64) -> OutGate
         ensures { result.idle ≡ record { yes = 0; no = 0 } }
     {
@@ -110,7 +116,7 @@ impl OutGate {
         }
     }
 
-    /// How often `idle` said yes and no.
+    /// How often `idle` answered yes and no.
     pub fn answers(&self) -> [u64; 2] {
         [self.idle.yes(), self.idle.no()]
     }
@@ -120,8 +126,11 @@ impl WriterGate for OutGate {
     ghost polls = { λ g. record { idle = g.idle } };
 
     fn idle<R: Wait>(&mut self, rt: &R, _pass: &Pass, _next: u64) -> bool {
-        let said = self.idle.yes() < self.idles;
-        self.idle.add(rt, said);
-        said
+        if self.idle.yes() < self.idles {
+            self.idle.add_yes(rt);
+            return true;
+        }
+        self.idle.add_no(rt);
+        false
     }
 }

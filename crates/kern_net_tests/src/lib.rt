@@ -1,7 +1,7 @@
-// What no clause of kern_net says: whole conversations over memory, worked out by hand from RFC 23 and
-// the Jupyter messaging document, with what is written to the byte and why each thread's work ends.
-// Readers and writers that move a byte a call, or fail at any call, end a conversation as they should.
-// How often a gate was asked is counted. Nothing is here but tests.
+// What no clause of kern_net says: whole conversations over memory, worked out by hand from RFC 23 and the
+// Jupyter messaging document, with every byte that is written and the end of each thread. Conversations end
+// as they should if readers and writers move one byte a call, or fail at any call. How often the gates are
+// polled is counted. Nothing is here but tests.
 #![tactic(auto)]
 
 #[cfg(test)]

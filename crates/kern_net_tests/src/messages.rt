@@ -1,6 +1,6 @@
-//! Messages as bytes, by the rules of RFC 23 and of Jupyter messaging 5.4. A message is told in parts that
-//! several messages have: the frames to the signature, then the four behind it. A frame is its flags, 1
-//! where more follow; its size in one byte, or in eight with flag 2; and its bytes.
+//! Messages as bytes, by the rules of RFC 23 and of Jupyter messaging 5.4. They are made of parts that
+//! several messages share: the frames up to the signature, and the four after it. A frame is a byte of flags,
+//! with 1 if more frames follow; its size in one byte, or in eight with flag 2; and its bytes.
 
 use std::alloc::Global;
 use std::process::Abort;
@@ -28,17 +28,17 @@ const PUB: &[u8] = b"\xFF\0\0\0\0\0\0\0\0\x7F\x03\0NULL\
 // The first frames of a message that isn't signed.
 const UNSIGNED: &[u8] = b"\x01\x09<IDS|MSG>\x01\0";
 
-// What a kernel_info_request has behind its signature.
+// What comes after the signature of a kernel_info_request.
 const INFO: &[u8] =
     b"\x01\x3F{\"msg_id\":\"r_1\",\"msg_type\":\"kernel_info_request\",\"session\":\"r\"}\
     \x01\x02{}\x01\x02{}\0\x02{}";
 
-// What a shutdown_request has behind its signature.
+// What comes after the signature of a shutdown_request.
 const SHUTDOWN: &[u8] =
     b"\x01\x3C{\"msg_id\":\"r_2\",\"msg_type\":\"shutdown_request\",\"session\":\"r\"}\
     \x01\x02{}\x01\x02{}\0\x02{}";
 
-// What a request of a type that no channel has is behind its signature.
+// What comes after the signature of a request of an unknown type.
 const UNKNOWN: &[u8] =
     b"\x01\x3B{\"msg_id\":\"r_3\",\"msg_type\":\"unknown_request\",\"session\":\"r\"}\
     \x01\x02{}\x01\x02{}\0\x02{}";
@@ -64,7 +64,7 @@ const BOARD_RESET: &[u8] =
 /// The key of RFC 2104's second example.
 pub const KEY: &[u8] = b"Jefe";
 
-// That example, whose text these four frames are together.
+// That example: these four frames together are its text.
 const EXAMPLE: &[u8] = b"\x01\x09<IDS|MSG>\
     \x01\x405bdcc146bf60754e6a042426089575c75a003f089d2739839dec58b964ec3843\
     \x01\x0Bwhat do ya \x01\x05want \x01\x04for \0\x08nothing?";
@@ -90,7 +90,7 @@ const INFO_REPLY_2: &[u8] = b"\x01\x7F{\"date\":\"2000-02-29T00:00:00Z\",\"msg_i
 const INFO_REPLY_5: &[u8] = b"\x01\x7F{\"date\":\"2000-02-29T00:00:00Z\",\"msg_id\":\"S_5\",\
     \"msg_type\":\"kernel_info_reply\",\"session\":\"S\",\"username\":\"kernel\",\"version\":\"5.4\"}";
 
-// What such a reply has behind its header: one frame has more than 255 bytes.
+// What comes after the header of such a reply. Its last frame has more than 255 bytes.
 const INFO_REPLY: &[u8] =
     b"\x01\x3F{\"msg_id\":\"r_1\",\"msg_type\":\"kernel_info_request\",\"session\":\"r\"}\
     \x01\x02{}\x02\0\0\0\0\0\0\x01\x02\
@@ -99,13 +99,13 @@ const INFO_REPLY: &[u8] =
     \"language_info\":{\"file_extension\":\".asm\",\"mimetype\":\"text/x-asm\",\"name\":\"i8080\",\
     \"version\":\"1.0\"},\"protocol_version\":\"5.4\",\"status\":\"ok\"}";
 
-// What the reply to a shutdown_request has behind its signature, where it is the fifth post.
+// What comes after the signature of the reply to a shutdown_request, where it is the fifth post.
 const SHUTDOWN_REPLY_5: &[u8] = b"\x01\x7C{\"date\":\"2000-02-29T00:00:00Z\",\"msg_id\":\"S_5\",\
     \"msg_type\":\"shutdown_reply\",\"session\":\"S\",\"username\":\"kernel\",\"version\":\"5.4\"}\
     \x01\x3C{\"msg_id\":\"r_2\",\"msg_type\":\"shutdown_request\",\"session\":\"r\"}\
     \x01\x02{}\0\x1F{\"restart\":false,\"status\":\"ok\"}";
 
-// What a subscriber is told first.
+// What a subscriber is sent first.
 const STATUS: &[u8] = b"\x01\x06status\x01\x09<IDS|MSG>\x01\0\
     \x01\x74{\"date\":\"2000-02-29T00:00:00Z\",\"msg_id\":\"S_1\",\"msg_type\":\"status\",\
     \"session\":\"S\",\"username\":\"kernel\",\"version\":\"5.4\"}\
@@ -135,7 +135,7 @@ pub enum Part {
     InfoReply,
     ShutdownReply5,
     Status,
-    // What a subscriber sends behind READY.
+    // What a subscriber sends after READY.
     WantsAll,
     WantsStatus,
     WantsStream,
@@ -143,7 +143,7 @@ pub enum Part {
     NoSubscription,
     Empty,
     TwoFrames,
-    // What breaks a stream, and a frame that is no message.
+    // What breaks a stream, and a frame that isn't a message.
     BadFlags,
     BadSize,
     BadCommand,
@@ -189,7 +189,7 @@ impl Part {
     }
 }
 
-/// What a client on shell writes that asks twice what the kernel is.
+/// What a client on shell writes that sends two kernel_info_requests.
 pub const TWO: &[Part] = &[
     Part::Dealer,
     Part::Unsigned,
@@ -209,12 +209,12 @@ pub fn bytes_of<R: Abort>(rt: &R, alloc: Global, parts: &[Part]) -> Vec<u8> {
     bytes
 }
 
-// Whether bytes begin with a part, or are a front of it.
+// Whether bytes begin with a part, or are a front of the part.
 fn is_met(bytes: &[u8], part: &[u8]) -> bool {
     bytes.starts_with(part) || part.starts_with(bytes)
 }
 
-/// Whether bytes are a front of some parts together.
+/// Whether bytes are a front of some parts, one after the other.
 pub fn is_front(bytes: &[u8], parts: &[Part]) -> bool {
     let mut rest = bytes;
     for part in parts {

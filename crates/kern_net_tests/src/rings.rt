@@ -1,5 +1,5 @@
-//! Whom a reader wakes after the calls of a conversation: all, or those whom a call concerns that gives the
-//! worker nothing to do.
+//! Whom a reader wakes after the calls of a conversation: everybody, or only those to whom a call may have
+//! posted that gave the worker nothing to do.
 
 use crate::ends::has_ended;
 use crate::gates::InGate;
@@ -18,7 +18,7 @@ use std::alloc::Global;
 use std::process::Abort;
 use std::sync::Wait;
 
-// A channel, what is written on it, and how often all are woken and those told whom it concerns.
+// A channel, what is written on it, and how often `wake` and `tell` are called.
 type Row = (Channel, &'static [Part], u64, u64);
 
 const ROWS: [Row; 11] = [

@@ -1,4 +1,4 @@
-//! A kernel's desk with a pass for what is read and one for what is written.
+//! A kernel's desk with one pass for reading and one for writing.
 ghost use Rattle.std.specs.Prelude.{◌≡◌, All, false};
 ghost use Rattle.kern_net.specs.Gates.{no_polls};
 
@@ -14,13 +14,14 @@ use kern_net::end::PumpEnd;
 use kern_net::pump_in::pump_in;
 use kern_net::pump_out::pump_out;
 use kern_net::routes::{IncomingRoute, OutgoingRoute};
+use kern_net::runtime::Runtime;
 use kern_net::worker::worker;
 use std::alloc::Global;
 use std::process::Abort;
 use std::sync::Wait;
 use zmtp_wire::handshake::Peer;
 
-// What stands for a call in the text of a journal.
+// The letter of a call in the text of a journal.
 fn letter_of(call: &Call) -> u8 {
     match call {
         Call::Join { .. } => b'J',
@@ -39,7 +40,7 @@ fn is_at(seated: &Seated, place: usize, letter: u8) -> bool {
     }
 }
 
-// Whether a journal is these calls, a letter for each.
+// Whether a journal has exactly these calls, given by their letters.
 fn are_entries(seated: &Seated, calls: &str) -> bool {
     for (place, letter) in calls.as_bytes().iter().enumerate() {
         if !is_at(seated, place, *letter) {
@@ -49,7 +50,7 @@ fn are_entries(seated: &Seated, calls: &str) -> bool {
     seated.entry(calls.len()).is_none()
 }
 
-/// Where messages come from at a table, and how they are signed.
+/// The connection from which messages come, and their key.
 #[derive(Clone, Copy)]
 pub struct Origin<'a> {
     pub connection: u32,
@@ -57,7 +58,7 @@ pub struct Origin<'a> {
     pub key: &'a [u8],
 }
 
-/// A connection of this number on a channel, whose messages aren't signed.
+/// A connection whose messages aren't signed.
 pub fn unsigned_origin(channel: Channel, connection: u32) -> Origin<'static> {
     Origin {
         connection,
@@ -66,7 +67,7 @@ pub fn unsigned_origin(channel: Channel, connection: u32) -> Origin<'static> {
     }
 }
 
-/// A desk with two passes.
+/// A desk with its two passes.
 #[derive(Drop)]
 pub struct Table {
     desk: Desk,
@@ -76,7 +77,7 @@ pub struct Table {
     ghost writing_own: { writing.turnstile ≡ desk },
 }
 
-/// A desk over a new kernel, whose journal may have so many entries.
+/// Opens a desk over a new kernel, with this limit of its journal's entries.
 pub fn open_table<R: Abort>(rt: &R, alloc: Global, limit: u32) -> Table {
     assert!(rt; 1 <= limit && limit <= MOST_ENTRIES);
     let (desk, mut passes) = open_desk(alloc, limit, 2).expect(rt, "a desk");
@@ -91,14 +92,14 @@ pub fn open_table<R: Abort>(rt: &R, alloc: Global, limit: u32) -> Table {
 }
 
 impl Table {
-    /// A connection without an identity comes; its number.
+    /// Makes the Join of a connection without an identity, and returns its number.
     pub fn join<R: Wait + Abort>(&mut self, rt: &R, alloc: Global, channel: Channel) -> u32 {
         let identity = Boxed::new(alloc, Bytes::new(alloc)).expect(rt, "memory for an identity");
         let answer = join(rt, &self.desk, &mut self.reading, channel, identity);
         answer.expect(rt, "a connection").connection
     }
 
-    /// Reads from a peer to the end, at a gate.
+    /// Reads from a peer to its end.
     pub fn read<R: Wait>(
         &mut self,
         rt: &R,
@@ -117,10 +118,11 @@ impl Table {
             channel: origin.channel,
             key: origin.key,
         };
-        pump_in(rt, alloc, &mut self.reading, gate, from, peer, &route)
+        let runtime = Runtime { rt, alloc };
+        pump_in(&runtime, &mut self.reading, gate, from, peer, &route)
     }
 
-    /// Writes the posts of a connection from a number on, at a gate and without a key.
+    /// Writes the posts to a connection from a number on, unsigned.
     pub fn write<R: Wait>(
         &mut self,
         rt: &R,
@@ -139,10 +141,11 @@ impl Table {
             key: b"",
             session: "S",
         };
-        pump_out(rt, alloc, &mut self.writing, gate, to, &route, from)
+        let runtime = Runtime { rt, alloc };
+        pump_out(&runtime, &mut self.writing, gate, to, &route, from)
     }
 
-    /// Makes slices at a gate.
+    /// Runs the worker.
     pub fn work<R: Wait>(&mut self, rt: &R, gate: &mut WorkGate) -> PumpEnd
         requires { gate.old.polls ≡ no_polls }
     {
@@ -160,8 +163,8 @@ impl Table {
         close_desk(desk, passes).expect(rt, "all passes")
     }
 
-    /// Whether the journal is these calls, with a letter for each: J for a Join, U for a Subscribe, A for an
-    /// Arrive, S for a Slice, F for a Fetch.
+    /// Closes the desk, and returns whether its journal has exactly these calls, with a letter for each: J
+    /// for a Join, U for a Subscribe, A for an Arrive, S for a Slice, F for a Fetch.
     pub fn is_told<R: Abort>(self, rt: &R, alloc: Global, calls: &str) -> bool {
         let seated = self.close(rt, alloc);
         let is_told = are_entries(&seated, calls);

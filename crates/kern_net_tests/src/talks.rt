@@ -1,4 +1,4 @@
-//! Conversations over memory: all that a client sends is read, then all that it is sent is written.
+//! Conversations over memory: first everything is read that a client sends, then everything is written to it.
 ghost use Rattle.std.specs.Prelude.{◌≡◌, false};
 
 use crate::gates::{InGate, OutGate};
@@ -14,7 +14,7 @@ use zmtp_wire::handshake::handshake;
 use zmtp_wire::peer_fault::PeerFault;
 use zmtp_wire::role::Role;
 
-/// How much a reader and a writer move a call, and after how many calls they fail.
+/// How many bytes a reader and a writer move at most in a call, and after how many calls they fail.
 #[derive(Clone, Copy)]
 pub struct Pace {
     pub read: (usize, u64),
@@ -31,26 +31,26 @@ pub const BYTE_BY_BYTE: Pace = Pace {
     written: (1, 9999),
 };
 
-/// How a conversation goes.
+/// How a conversation ends.
 #[derive(Clone, Copy, PartialEq, Eq)]
 pub enum Course {
-    /// The handshake ends it.
+    /// The handshake fails.
     Unmet(PeerFault),
-    /// How reading ends, and then writing, which is allowed to find nothing twice.
+    /// How reading ends, and then writing, whose gate answers yes twice.
     Met(PumpEnd, PumpEnd),
 }
 
-/// Both ends come as they should.
+/// The stream ends, and then the writer's gate says no.
 pub const BOTH_END: Course = Course::Met(PumpEnd::PeerEnded, PumpEnd::Ended);
 
 /// A client of the kernel.
 #[derive(Clone, Copy)]
 pub enum Client {
-    /// One that asks what the kernel is, on shell, and doesn't sign.
+    /// Sends unsigned kernel_info_requests on shell.
     Shell,
-    /// The same under the key.
+    /// The same, signed with the key.
     Signing,
-    /// One that asks what the kernel is, and then for its end.
+    /// Sends a kernel_info_request, and then a shutdown_request.
     Closing,
     Subscriber,
 }
@@ -70,7 +70,7 @@ impl Client {
         }
     }
 
-    // What the kernel writes to it: no more than this, and less if less is asked or something fails.
+    // What the kernel writes to it at most. It is less if the client asks for less, or if something fails.
     fn replies(self) -> &'static [Part] {
         match self {
             Client::Closing => CLOSED,
@@ -101,8 +101,7 @@ const CLOSED: &[Part] = &[
 
 const SUBSCRIBED: &[Part] = &[Part::Pub, Part::Status];
 
-/// How a conversation went, how many bytes were written, and whether they are a front of those that are
-/// wanted.
+/// How a conversation ended, how many bytes were written, and whether they are a front of the expected ones.
 #[derive(Clone, Copy)]
 pub struct Told {
     pub course: Course,
@@ -139,7 +138,7 @@ fn course_of<R: Wait + Abort>(
     Course::Met(read, wrote)
 }
 
-/// How a conversation at a table goes, in which the client writes some parts.
+/// Has a conversation at a table, in which the client writes some parts.
 pub fn talk_at<R: Wait + Abort>(
     rt: &R,
     alloc: Global,
@@ -168,6 +167,7 @@ fn role_on(channel: Channel) -> Role {
     }
 }
 
+// Makes a handshake, and reads to the end. What the handshake writes isn't kept.
 fn read_met<R: Wait>(
     rt: &R,
     alloc: Global,
@@ -175,19 +175,20 @@ fn read_met<R: Wait>(
     gate: &mut InGate,
     origin: Origin<'_>,
     from: &mut Source,
-    to: &mut Sink,
 ) -> Result<PumpEnd, PeerFault>
     requires ended { from.old.ended ≡ false }
     requires failed { from.old.failed ≡ false }
-    requires good { to.old.failed ≡ false }
 {
-    match handshake(alloc, from, to, role_on(origin.channel)) {
+    let mut to = Sink::new(alloc, 4096, 9999);
+    let met = handshake(alloc, from, &mut to, role_on(origin.channel));
+    drop(to);
+    match met {
         Ok(peer) => Ok(table.read(rt, alloc, gate, from, peer, origin)),
         Err(fault) => Err(fault),
     }
 }
 
-/// How reading ends at a gate, or why the handshake isn't made. Nothing else is written.
+/// How reading ends, or why the handshake failed.
 pub fn read_as<R: Wait + Abort>(
     rt: &R,
     alloc: Global,
@@ -197,9 +198,7 @@ pub fn read_as<R: Wait + Abort>(
     given: &[Part],
 ) -> Result<PumpEnd, PeerFault> {
     let mut from = Source::new(bytes_of(rt, alloc, given), 4096, 9999);
-    let mut to = Sink::new(alloc, 4096, 9999);
-    let end = read_met(rt, alloc, table, gate, origin, &mut from, &mut to);
+    let end = read_met(rt, alloc, table, gate, origin, &mut from);
     drop(from);
-    drop(to);
     end
 }

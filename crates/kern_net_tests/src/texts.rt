@@ -1,6 +1,6 @@
 //! Texts in bytes.
 
-/// How often a text stands in bytes.
+/// How often a text occurs in bytes.
 pub fn count_of(bytes: &[u8], text: &[u8]) -> usize {
     let mut count = 0usize;
     for place in 0..bytes.len() {

@@ -1,8 +1,8 @@
--- How fast a channel takes bytes that nobody signed: 256,000 at once, and then 4,000 a second. Moments are
--- milliseconds since the server began.
+-- How fast a channel reads unsigned bytes: 256,000 at once, and then 4,000 a second. Times are milliseconds
+-- since the server began.
 use Rattle.std.specs.Prelude.{ℕ, ◌+◌, ◌-◌, ◌*◌, ◌/◌, min, max}
 
--- how many bytes were owed at which moment
+-- how many bytes are owed, and since when
 pub record BudgetState : Type 0 where
   pub owed : ℕ
   pub since : ℕ
@@ -11,7 +11,7 @@ pub record BudgetState : Type 0 where
 abbrev pub owed_at : ℕ → BudgetState → ℕ
 owed_at now b = b.owed - 4 * (now - b.since)
 
--- so many bytes more are owed
+-- with so many bytes more
 abbrev pub after_bytes : ℕ → ℕ → BudgetState → BudgetState
 after_bytes now bytes b = record { owed = min (owed_at now b + bytes) 1000000000000; since = max now b.since }
 

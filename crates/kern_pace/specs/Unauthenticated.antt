@@ -1,5 +1,5 @@
--- How a channel throttles connections while many unauthenticated peers come, which are peers that left
--- without a message that opens. Moments are milliseconds since the server began.
+-- How a channel throttles connections while many unauthenticated peers come: peers that left without a
+-- message that opens. Times are milliseconds since the server began.
 use Rattle.std.specs.Prelude.{◌≡◌, ℕ, ◌+◌, ◌-◌, ◌<◌, min, List, ◌∷◌, [], ◌++◌, drop, All}
 
 -- until when each of the last eight unauthenticated peers counts, and when the next turn begins at the
@@ -16,7 +16,7 @@ with_unauthenticated now s = record s { until = drop 1 s.until ++ (now + 1000) �
 abbrev pub IsCrowded : ℕ → ThrottleState → Type 0
 IsCrowded now s = All (λ until. now < until) s.until
 
--- A connection waits so long for its turn, at most 800 milliseconds, and the next one comes 50 after it.
+-- a connection waits this long for its turn, at most 800 milliseconds, and the next turn comes 50 later
 pub record HasTurn (now : ℕ) (old new : ThrottleState) (wait : ℕ) : Type 0 where
   pub waits : wait ≡ min (old.next - now) 800
   pub then : new ≡ record old { next = now + wait + 50 }

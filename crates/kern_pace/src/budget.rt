@@ -1,19 +1,20 @@
-//! How a channel makes bytes wait that nobody signed. Moments are milliseconds since the server began.
+//! How long a channel's unsigned bytes wait. Times are milliseconds since the server began.
 ghost use Rattle.std.specs.Prelude.{◌≡◌, ◌≤◌};
 ghost use Rattle.kern_pace.specs.Budgets.{owed_at, after_bytes, wait_at};
 
 use std::marker::Model;
 
-// So many bytes are read at once.
+// How many bytes are read without waiting.
 const AT_ONCE: u64 = 256_000;
 
-// Then so many a millisecond.
+// How many bytes a millisecond pays for.
 const RATE: u64 = 4;
 
-// More than is owed by any count of readers: each waits before its next read.
+// More than all readers of a channel can owe, since each waits before its next read.
 const MOST: u64 = 1_000_000_000_000;
 
-/// The bytes of a channel that were read and aren't paid for by time yet.
+/// How many of a channel's unsigned bytes were read ahead of its rate, and when that was counted. Time pays
+/// for them, at 4 bytes a millisecond.
 #[derive(Drop)]
 pub struct Budget {
     owed: u64,
@@ -30,14 +31,14 @@ impl Model for Budget {
 }
 
 impl Budget {
-    /// Of a channel on which nothing was read.
+    /// The budget of a channel on which nothing has been read.
     pub fn new() -> Budget
         ensures { result ≡ record { owed = 0; since = 0 } }
     {
         Budget { owed: 0, since: 0 }
     }
 
-    // How many bytes are owed now.
+    // How many bytes are owed at a time.
     fn owed_at(&self, now: u64) -> u64
         requires { now ≤ 1000000000000000 }
         ensures owed { result ≡ owed_at now self.now }
@@ -47,7 +48,7 @@ impl Budget {
             .saturating_sub(RATE * now.saturating_sub(self.since))
     }
 
-    /// So many bytes were read now.
+    /// Counts bytes that are read now.
     pub fn spend(&mut self, now: u64, bytes: u64)
         requires now { now ≤ 1000000000000000 }
         requires bytes { bytes ≤ 1000000000000 }
@@ -57,7 +58,7 @@ impl Budget {
         self.since = self.since.max(now);
     }
 
-    /// How long to wait before more is read, in milliseconds.
+    /// How long to wait before the next read, in milliseconds.
     pub fn wait(&self, now: u64) -> u64
         requires { now ≤ 1000000000000000 }
         ensures { result ≡ wait_at now self.now }

@@ -1,11 +1,11 @@
-//! How a channel throttles connections while many unauthenticated peers come, which are peers that left
-//! without a message that opens. Moments are milliseconds since the server began.
+//! How a channel throttles connections while many unauthenticated peers come: peers that left without a
+//! message that opens. Times are milliseconds since the server began.
 ghost use Rattle.std.specs.Prelude.{◌≡◌, ◌≤◌, ◌↔◌, ⊤, IsTrue, replicate};
 ghost use Rattle.kern_pace.specs.Unauthenticated.{with_unauthenticated, IsCrowded, HasTurn};
 
 use std::marker::Model;
 
-// So many unauthenticated peers within a second are a crowd.
+// How many unauthenticated peers within a second are a crowd.
 const CROWD: usize = 8;
 
 const SECOND: u64 = 1_000;
@@ -13,7 +13,7 @@ const SECOND: u64 = 1_000;
 // The time from one turn to the next.
 const GAP: u64 = 50;
 
-// As long as sixteen turns: a channel has so many slots.
+// The time of sixteen turns, one for each slot of a channel.
 const LONGEST_WAIT: u64 = 800;
 
 /// The unauthenticated peers and the turns of a channel.
@@ -32,7 +32,7 @@ impl Model for Throttle {
 }
 
 impl Throttle {
-    /// Of a channel to which nobody came.
+    /// The throttle of a channel to which nobody has connected.
     pub fn new() -> Throttle
         ensures { result ≡ record { until = replicate 8 0; next = 0 } }
     {
@@ -42,7 +42,7 @@ impl Throttle {
         }
     }
 
-    /// An unauthenticated peer has left.
+    /// Counts an unauthenticated peer that leaves now.
     #[tactic(auto, using(crate::proofs::ThrottleLemmas::first_last))]
     pub fn add_unauthenticated(&mut self, now: u64)
         requires { now ≤ 1000000000000000 }
@@ -52,14 +52,15 @@ impl Throttle {
         self.until.rotate_left(1);
     }
 
-    // Whether eight unauthenticated peers have left within a second.
+    // Whether eight unauthenticated peers have left within the last second.
     fn is_crowded(&self, now: u64) -> bool
         ensures { IsTrue result ↔ IsCrowded now self.now }
     {
         self.until.iter().all(|until| now < *until)
     }
 
-    /// How long a connection that came now is to wait, in milliseconds.
+    /// How long a connection that is made now waits for its turn to join, in milliseconds: 0 unless the
+    /// channel is crowded, and 800 at most.
     pub fn admit(&mut self, now: u64) -> u64
         requires { now ≤ 1000000000000000 }
         ensures turn { IsCrowded now self.old → HasTurn now self.old self.new result }

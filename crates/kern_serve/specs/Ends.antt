@@ -7,8 +7,8 @@ use Rattle.kern_serve.specs.declared.server.ServerEnd.TheVariants.{ShutDown, Jou
 use Rattle.kern_serve.specs.declared.fault.ServerFault.{ServerFault}
 use Rattle.kern_serve.specs.declared.fault.ServerFault.TheVariants.{OutOfMemory, System}
 
--- what the worker's end is for the server, by whether its gate has said no, as it does where the journal is
--- full
+-- how the server ends when the worker has ended, by whether the worker's gate has said no, which it does if
+-- the journal is full
 abbrev pub server_end : Bool → PumpEnd → Result ServerEnd ServerFault
 server_end false pump.Ended = Ok ShutDown
 server_end true pump.Ended = Ok JournalFull

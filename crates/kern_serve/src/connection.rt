@@ -20,6 +20,7 @@ use kern_net::end::PumpEnd;
 use kern_net::pump_in::pump_in;
 use kern_net::pump_out::pump_out;
 use kern_net::routes::{IncomingRoute, OutgoingRoute};
+use kern_net::runtime::Runtime;
 use kern_waits::event_count::EventCount;
 use kern_waits::throttles::Throttles;
 use kern_waits::unsigned::{FREE_BYTES, UnsignedStream};
@@ -38,13 +39,13 @@ use zmtp_wire::handshake::Peer;
 pub struct Shared {
     pub desk: Desk,
     pub wakeups: Wakeups,
-    /// What peers wait by that have shown no key.
+    /// How long peers wait that haven't shown the key.
     pub throttles: Throttles,
     /// Which connection has which slot.
     pub slots: Slots,
     /// The key of the signatures.
     pub key: Text,
-    /// The session's name in the headers of what the kernel sends.
+    /// The session's identifier in the headers of what the kernel sends.
     pub session: Text,
     pub listeners: Listeners,
 }
@@ -61,11 +62,11 @@ pub struct PassPair {
 struct Connection {
     slot: Slot,
     joined: Joined,
-    // What the writer's event count was before it joined.
+    // The writer's event count before the connection joined.
     seen: u64,
     stream: Arc<TcpStream>,
     is_closed: AtomicBool,
-    // Where its writer waits until its reader has begun.
+    // Where its writer waits for its reader to begin.
     begun: EventCount,
 }
 
@@ -82,15 +83,19 @@ impl Connection {
     }
 }
 
-// How often, and for how long, the writer looks whether the reader has begun.
-const LOOKS: u32 = 100;
+// How often the writer checks whether the reader has begun, and how long it waits each time.
+const CHECKS: u32 = 100;
 
-const LOOK_MILLIS: u64 = 10;
+const CHECK_MILLIS: u64 = 10;
 
-// Whether the reader begins. Without a thread it would begin after the writer has ended, which waits for it.
+// The time from a Leave that ran out of memory to the next try.
+const RETRY_MILLIS: u64 = 10;
+
+// Whether the reader begins. If no thread could be started for it, it would only begin once the writer has
+// ended.
 fn has_reader<R: Wait>(rt: &R, connection: &Connection) -> bool {
-    for _ in 0..LOOKS {
-        let most = Duration::from_millis(LOOK_MILLIS);
+    for _ in 0..CHECKS {
+        let most = Duration::from_millis(CHECK_MILLIS);
         if connection.begun.wait_timeout(rt, 0, most) != 0 {
             return true;
         }
@@ -98,11 +103,10 @@ fn has_reader<R: Wait>(rt: &R, connection: &Connection) -> bool {
     false
 }
 
-// Reads until the end, and then closes both halves: but a full journal leaves its writer what was posted. A
-// peer of which nothing was accepted was unauthenticated.
+// Reads to the end, and then closes both halves of the socket. If the journal is full, it leaves them open,
+// and the writer writes what was posted. A peer from which nothing was accepted was unauthenticated.
 fn read_on<R: Wait + Clock>(
-    rt: &R,
-    alloc: Global,
+    runtime: &Runtime<'_, R>,
     shared: &Shared,
     mut pass: Pass,
     peer: &mut Option<Peer>,
@@ -115,6 +119,7 @@ fn read_on<R: Wait + Clock>(
     let Some(peer) = peer.take() else {
         return pass;
     };
+    let rt = runtime.rt;
     let wakeups = &shared.wakeups;
     let mut gate = InGate::new(wakeups, &shared.slots, rt, connection.slot);
     let mut from = StdInlet::new(UnsignedStream {
@@ -132,7 +137,7 @@ fn read_on<R: Wait + Clock>(
         channel: connection.slot.channel,
         key: shared.key.as_str().as_bytes(),
     };
-    let end = pump_in(rt, alloc, &mut pass, &mut gate, &mut from, peer, &route);
+    let end = pump_in(runtime, &mut pass, &mut gate, &mut from, peer, &route);
     if end == PumpEnd::JournalFull {
         wakeups.wake_all();
         return pass;
@@ -148,10 +153,9 @@ fn read_on<R: Wait + Clock>(
     pass
 }
 
-// Writes until the end, and then closes both halves; where there is no reader it closes them at once.
+// Writes to the end, and then closes both halves of the socket. Without a reader it closes them at once.
 fn write_on<R: Wait + Clock>(
-    rt: &R,
-    alloc: Global,
+    runtime: &Runtime<'_, R>,
     shared: &Shared,
     mut pass: Pass,
     connection: &Connection,
@@ -159,6 +163,7 @@ fn write_on<R: Wait + Clock>(
     requires { pass.turnstile ≡ shared.now.desk }
     ensures { result.turnstile ≡ shared.now.desk }
 {
+    let rt = runtime.rt;
     if !has_reader(rt, connection) {
         close(&*connection.stream);
         return pass;
@@ -181,15 +186,7 @@ fn write_on<R: Wait + Clock>(
     };
     wakeups.add_writer(rt, connection.slot.channel);
     if gate.wait_for_posts(rt) {
-        let _ = pump_out(
-            rt,
-            alloc,
-            &mut pass,
-            &mut gate,
-            &mut to,
-            &route,
-            joined.from,
-        );
+        let _ = pump_out(runtime, &mut pass, &mut gate, &mut to, &route, joined.from);
     }
     close(&*connection.stream);
     wakeups.remove_writer(rt, connection.slot.channel);
@@ -198,8 +195,7 @@ fn write_on<R: Wait + Clock>(
 
 // Reads and writes, each in a thread of its own, until both have ended.
 fn pump<R: Host>(
-    rt: &R,
-    alloc: Global,
+    runtime: &Runtime<'_, R>,
     shared: &Shared,
     peer: Peer,
     connection: Connection,
@@ -209,23 +205,32 @@ fn pump<R: Host>(
     ensures { AreOf shared.now.desk result }
 {
     let PassPair { first, second } = passes;
-    // The reader takes the peer out of here.
+    let (rt, alloc) = (runtime.rt, runtime.alloc);
+    // The reader's thread takes the peer out of here.
     let mut peer = Some(peer);
     let (first, second) = thread::join(
         rt,
         || -> Pass
             requires { first.turnstile ≡ shared.now.desk }
             ensures { result.turnstile ≡ shared.entry.now.desk }
-        { read_on(rt, alloc, shared, first, &mut peer, &connection) },
+        {
+            read_on(
+                &Runtime { rt, alloc },
+                shared,
+                first,
+                &mut peer,
+                &connection,
+            )
+        },
         || -> Pass
             requires { second.turnstile ≡ shared.now.desk }
             ensures { result.turnstile ≡ shared.entry.now.desk }
-        { write_on(rt, alloc, shared, second, &connection) },
+        { write_on(&Runtime { rt, alloc }, shared, second, &connection) },
     );
     PassPair { first, second }
 }
 
-// The identity of a peer, or an empty one.
+// The identity of a peer; empty if it has none.
 fn identity_of(alloc: Global, peer: &Peer) -> Result<Boxed<Bytes>, AllocError> {
     match peer.decoder.identity() {
         Some(identity) => Boxed::new(alloc, Bytes::copy_of(alloc, identity.as_slice())?),
@@ -233,7 +238,7 @@ fn identity_of(alloc: Global, peer: &Peer) -> Result<Boxed<Bytes>, AllocError> {
     }
 }
 
-// Joins, if the kernel lets it.
+// Makes a Join; None if it fails.
 fn join_as<R: Wait>(
     rt: &R,
     shared: &Shared,
@@ -255,10 +260,9 @@ fn join_as<R: Wait>(
     }
 }
 
-// Joins a peer, if there is memory for that and the kernel lets it.
+// Makes a peer's Join; None if it fails.
 fn join_peer<R: Wait>(
-    rt: &R,
-    alloc: Global,
+    runtime: &Runtime<'_, R>,
     shared: &Shared,
     pass: &mut Pass,
     channel: Channel,
@@ -267,14 +271,14 @@ fn join_peer<R: Wait>(
     requires { pass.old.turnstile ≡ shared.now.desk }
     ensures { pass.new.turnstile ≡ shared.now.desk }
 {
-    match identity_of(alloc, peer) {
-        Ok(identity) => join_as(rt, shared, pass, channel, identity),
+    match identity_of(runtime.alloc, peer) {
+        Ok(identity) => join_as(runtime.rt, shared, pass, channel, identity),
         Err(_) => None,
     }
 }
 
-// Leaves, but where the kernel takes no more calls. Where memory is wanting for the entry it tries again, so
-// that no slot and no identity stay taken by nobody.
+// Leaves, unless the kernel takes no more calls. While there is no memory for the entry it tries again, so
+// that the connection's place and identity become free.
 fn leave<R: Wait + Clock>(rt: &R, shared: &Shared, pass: &mut Pass, connection: u32)
     requires { pass.old.turnstile ≡ shared.now.desk }
     ensures { pass.new.turnstile ≡ shared.now.desk }
@@ -282,20 +286,19 @@ fn leave<R: Wait + Clock>(rt: &R, shared: &Shared, pass: &mut Pass, connection: 
     shared.wakeups.count_entries(1);
     for _ in rt.forever() {
         let answer = shared.desk.turn(rt, pass, Call::Leave { connection });
-        let wants_memory = matches!(&answer, Ok(Err(KernelFault::OutOfMemory)));
+        let is_out_of_memory = matches!(&answer, Ok(Err(KernelFault::OutOfMemory)));
         drop(answer);
-        if !wants_memory {
+        if !is_out_of_memory {
             return;
         }
-        thread::sleep(rt, Duration::from_millis(LOOK_MILLIS));
+        thread::sleep(rt, Duration::from_millis(RETRY_MILLIS));
     }
 }
 
-/// Serves a connection in a slot until it ends, and returns its passes. One that makes no handshake, or for
-/// which the kernel has no room, is closed. If many unauthenticated peers come it waits for its turn to join.
+/// Serves a connection in a slot until it ends, and returns its passes. Closes it if its handshake or its
+/// Join fails. While many unauthenticated peers come, it waits for its turn to join.
 pub fn serve_connection<R: Host>(
-    rt: &R,
-    alloc: Global,
+    runtime: &Runtime<'_, R>,
     shared: &Shared,
     slot: Slot,
     stream: TcpStream,
@@ -304,18 +307,18 @@ pub fn serve_connection<R: Host>(
     requires { AreOf shared.now.desk passes }
     ensures { AreOf shared.now.desk result }
 {
-    let channel = slot.channel;
-    let Some(peer) = meet(rt, alloc, &shared.throttles, &stream, channel) else {
+    let (rt, channel) = (runtime.rt, slot.channel);
+    let Some(peer) = meet(rt, runtime.alloc, &shared.throttles, &stream, channel) else {
         drop(stream);
         return passes;
     };
-    let Ok(stream) = Arc::new(alloc, stream) else {
+    let Ok(stream) = Arc::new(runtime.alloc, stream) else {
         drop(peer);
         return passes;
     };
     shared.throttles.admit(rt, channel);
     let seen = shared.wakeups.event_count(slot).count();
-    let Some(joined) = join_peer(rt, alloc, shared, &mut passes.first, channel, &peer) else {
+    let Some(joined) = join_peer(runtime, shared, &mut passes.first, channel, &peer) else {
         shared.throttles.add_unauthenticated(rt, channel);
         drop(peer);
         drop(stream);
@@ -325,7 +328,7 @@ pub fn serve_connection<R: Host>(
         shared.slots.enter(rt, slot, shown);
     }
     let connection = Connection::new(slot, joined, seen, stream);
-    passes = pump(rt, alloc, shared, peer, connection, passes);
+    passes = pump(runtime, shared, peer, connection, passes);
     shared.slots.leave(rt, slot);
     leave(rt, shared, &mut passes.first, joined.connection);
     passes

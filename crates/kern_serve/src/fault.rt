@@ -1,13 +1,13 @@
-//! Why a server or a client can't begin or go on.
+//! Why a server or a client can't start or go on.
 use thiserror::Error;
 
-/// Why a server can't begin or go on.
+/// Why a server can't start or go on.
 #[derive(Clone, Copy, PartialEq, Eq, Debug, Error)]
 pub enum ServerFault {
-    /// Memory was wanting; or a thread couldn't be started, of which nobody says why.
+    /// Out of memory, or a thread couldn't be started, for which the library gives no reason.
     #[error("out of memory")]
     OutOfMemory,
-    /// No random bytes could be had for the session's name.
+    /// The system has no random bytes for the session's identifier, or a write to standard output failed.
     #[error("the system refused random bytes")]
     System,
 }

@@ -1,4 +1,4 @@
-//! The gates of a server: where its threads wait, and what they wake others by.
+//! The gates of a server: where its threads wait, and how they wake one another.
 ghost use Rattle.std.specs.Prelude.{◌≡◌, ◌≤◌, ◌+◌, ◌<◌, ◌↔◌, IsTrue};
 
 use crate::slots::Slots;
@@ -9,8 +9,8 @@ use kern_net::gate::{ReaderGate, WorkerGate, WriterGate};
 use kern_net::pump_out::NUMBERS_OF_A_FETCH;
 use kern_net::tally::{Tally, WorkerTally, one_more};
 use kern_pace::pace::{
-    SHORTEST_GAP, free_slices, is_free_subscription, is_full, is_nearly_full, lag_pause, next_gap,
-    slice_pause, subscription_pause,
+    Look, SHORTEST_GAP, free_slices, is_free_subscription, is_full, is_nearly_full, lag_pause,
+    next_gap, slice_pause, subscription_pause,
 };
 use kern_waits::event_count::EventCount;
 use kern_waits::wakeups::{Readers, Slot, Wakeups};
@@ -20,7 +20,7 @@ use std::sync::atomic::{AtomicBool, Ordering};
 use std::thread;
 use std::time::Duration;
 
-/// A reader's gate. If many subscriptions were taken, further ones wait so that the journal lasts.
+/// A reader's gate. After many subscriptions, further ones wait so that the journal lasts.
 #[derive(Drop)]
 pub struct InGate<'a, C: Clock> {
     wakeups: &'a Wakeups,
@@ -29,14 +29,14 @@ pub struct InGate<'a, C: Clock> {
     own: &'a EventCount,
     clock: &'a C,
     slot: Slot,
-    // How many entries there were when something came through it last.
+    // How many entries the journal had at its last subscription.
     entries: u64,
     wakes: u64,
     tells: u64,
 }
 
 impl<'a, C: Clock> InGate<'a, C> {
-    /// A gate through which nothing has come yet, of the connection in this slot.
+    /// The gate of the connection in a slot, before its first call.
     pub fn new(wakeups: &'a Wakeups, slots: &'a Slots, clock: &'a C, slot: Slot) -> InGate<'a, C> {
         InGate {
             wakeups,
@@ -50,14 +50,14 @@ impl<'a, C: Clock> InGate<'a, C> {
         }
     }
 
-    /// Whether anything came through it: a message that opens, or on iopub a subscription.
+    /// Whether the connection has made a call: a message of it opened, or on iopub it subscribed.
     pub fn was_used(&self) -> bool
         ensures { IsTrue result ↔ (0 < self.now.wakes + self.now.tells) }
     {
         self.wakes > 0 || self.tells > 0
     }
 
-    // After many subscriptions, waits for the next one.
+    // Waits after a subscription, if there were many.
     fn hold(&mut self)
         ensures { (self.new.wakes ≡ self.old.wakes) × (self.new.tells ≡ self.old.tells) }
     {
@@ -69,7 +69,7 @@ impl<'a, C: Clock> InGate<'a, C> {
         }
     }
 
-    // Counts a call; the first one shows that the peer has the key.
+    // Counts a call. The first one shows that the peer has the key.
     fn count<R: Wait>(&self, rt: &R) {
         self.wakeups.count_entries(1);
         if !self.was_used() {
@@ -94,7 +94,7 @@ impl<'a, C: Clock> ReaderGate for InGate<'a, C> {
                 self.wakeups.after_subscription();
                 self.hold();
             }
-            // A debugger's look at the board, mostly.
+            // Mostly a debugger that looks at the board.
             Channel::Control => self.wakeups.after_look(self.clock, self.own),
             Channel::Shell | Channel::Stdin => self.wakeups.after_request(self.own),
         }
@@ -106,26 +106,26 @@ impl<'a, C: Clock> ReaderGate for InGate<'a, C> {
     }
 }
 
-/// A writer's gate. It waits until something may have been posted; it says no once its connection is closed,
-/// or once all is written that was posted before the worker ended.
+/// A writer's gate. It waits until something may have been posted. It says no once its connection is closed,
+/// or once everything is written that was posted before the worker ended.
 #[derive(Drop)]
 pub struct OutGate<'a> {
     wakeups: &'a Wakeups,
     slot: Slot,
-    // Where it waits, and how often somebody had rung there before the last Fetch.
+    // Where it waits, and the event count there before the last Fetch.
     own: &'a EventCount,
     seen: u64,
     is_closed: &'a AtomicBool,
     // Whether the worker had ended before the last Fetch.
     is_closing: bool,
-    // From which number to go on, when it was polled last.
+    // The number to go on at when it was last polled.
     next: u64,
     idle: Tally,
 }
 
 impl<'a> OutGate<'a> {
-    /// The gate of a writer that makes no Fetch yet, the first of which is to begin at this number. So often
-    /// somebody had rung where it waits before that number was told.
+    /// The gate of a writer before its first Fetch, which begins at number `from`. `seen` is the event count
+    /// where it waits, as it was before that number was known.
     pub fn new(
         wakeups: &'a Wakeups,
         slot: Slot,
@@ -147,7 +147,8 @@ impl<'a> OutGate<'a> {
         }
     }
 
-    // Counts the Fetches since it was polled last. All but the last of them went as far as they could.
+    // Counts the Fetches since it was last polled. All but the last of them covered as many numbers as they
+    // could.
     fn count(&mut self, next: u64)
         ensures { self.new.idle ≡ self.old.idle }
     {
@@ -156,7 +157,7 @@ impl<'a> OutGate<'a> {
         self.next = next;
     }
 
-    /// Waits until something may have been posted, and tells whether there is still somebody to write to.
+    /// Waits until something may have been posted, and returns whether the connection is still open.
     pub fn wait_for_posts<R: Wait>(&mut self, rt: &R) -> bool
         ensures { self.new.idle ≡ self.old.idle }
     {
@@ -174,31 +175,37 @@ impl<'a> WriterGate for OutGate<'a> {
     fn idle<R: Wait>(&mut self, rt: &R, _pass: &Pass, next: u64) -> bool {
         self.count(next);
         self.wakeups.note_posts(rt, self.slot, next);
-        let goes_on = !self.is_closing && self.wait_for_posts(rt);
-        self.idle.add(rt, goes_on);
-        goes_on
+        if !self.is_closing && self.wait_for_posts(rt) {
+            self.idle.add_yes(rt);
+            return true;
+        }
+        self.idle.add_no(rt);
+        false
     }
 }
 
-/// The worker's gate. It waits until there may be work, and says no once the journal is full but for a reserve,
-/// of which it warns. It makes a long run wait so that the journal lasts, and has a writer look for its posts.
+/// The worker's gate. It waits until there may be something to do, and says no once the journal is full
+/// except for its reserve; it prints a warning before that. It slows a long run down so that the journal
+/// lasts, and has a writer look for its posts.
 #[derive(Drop)]
 pub struct WorkGate<'a, C: Wait + Clock + Print> {
     wakeups: &'a Wakeups,
     clock: &'a C,
     seen: u64,
-    // How many slices may be made at full speed yet.
+    // How many more slices may be made at full speed.
     free: u64,
-    // How many slices it had let through at the last pause, and how many by now.
+    // How many slices there had been at the last pause, and how many there are now.
     paused: u64,
     slices: u64,
-    // When posts were looked for last, in microseconds since it began, and after how many slices; how long
-    // not to look again, and how often some had been found by then.
+    // When it last had a writer look for posts, in microseconds since the server began, and after how many
+    // slices.
     looked: u64,
     looked_slices: u64,
-    // How many slices may have been posted that readers lag behind.
+    // How many slices readers may lag behind.
     unread: u64,
+    // The time from one look to the next, in microseconds.
     gap: u64,
+    // How often a look had found posts by the last one.
     finds: u64,
     // Whether it has printed that the journal is nearly full.
     has_warned: bool,
@@ -209,7 +216,7 @@ pub struct WorkGate<'a, C: Wait + Clock + Print> {
 impl<'a, C: Wait + Clock + Print> WorkGate<'a, C> {
     ghost use Rattle.kern_net.specs.Gates.{no_polls, noes};
 
-    /// A gate that wasn't polled yet.
+    /// A gate that hasn't been polled yet.
     pub fn new(wakeups: &'a Wakeups, clock: &'a C) -> WorkGate<'a, C>
         ensures { result.polls ≡ no_polls }
     {
@@ -230,7 +237,7 @@ impl<'a, C: Wait + Clock + Print> WorkGate<'a, C> {
         }
     }
 
-    /// Whether it has said no, which it does only where the journal is full.
+    /// Whether it has said no, which it only does when the journal is full.
     pub fn is_closed(&self) -> bool
         ensures { IsTrue result ↔ (0 < noes self.now.polls) }
     {
@@ -242,7 +249,7 @@ impl<'a, C: Wait + Clock + Print> WorkGate<'a, C> {
         self.slices.saturating_add(self.wakeups.entries())
     }
 
-    // Whether the rest of the journal is for the writers. Where it is nearly full, it says so once.
+    // Whether the rest of the journal is reserved for the writers. Prints a warning once it is nearly full.
     fn is_full(&mut self) -> bool
         ensures { self.new.polls ≡ self.old.polls }
     {
@@ -254,7 +261,7 @@ impl<'a, C: Wait + Clock + Print> WorkGate<'a, C> {
         is_full(entries)
     }
 
-    // Waits so that the journal lasts, unless work comes meanwhile.
+    // Waits so that the journal lasts, but no longer than until there may be something to do.
     fn hold(&mut self)
         ensures { self.new.polls ≡ self.old.polls }
     {
@@ -281,7 +288,7 @@ impl<'a, C: Wait + Clock + Print> WorkGate<'a, C> {
         self.hold();
     }
 
-    // Has a writer look for posts, if the time for it has come.
+    // Has a writer look for posts, if it is time.
     fn look_for_posts(&mut self, now: u64)
         ensures { self.new.polls ≡ self.old.polls }
     {
@@ -289,7 +296,12 @@ impl<'a, C: Wait + Clock + Print> WorkGate<'a, C> {
             return;
         }
         let finds = self.wakeups.finds();
-        self.gap = next_gap(self.gap, finds != self.finds);
+        let last = if finds == self.finds {
+            Look::Nothing
+        } else {
+            Look::Posts
+        };
+        self.gap = next_gap(self.gap, last);
         self.finds = finds;
         self.looked = now;
         let slices = self.slices.saturating_sub(self.looked_slices);
@@ -299,7 +311,8 @@ impl<'a, C: Wait + Clock + Print> WorkGate<'a, C> {
         }
     }
 
-    // Waits so that posts are read before they are dropped, unless work comes, which the next Slice finds.
+    // Waits so that posts are read before they are dropped, but no longer than until there may be something
+    // to do.
     fn wait_for_readers(&mut self)
         ensures { self.new.polls ≡ self.old.polls }
     {
@@ -316,12 +329,13 @@ impl<'a, C: Wait + Clock + Print> WorkerGate for WorkGate<'a, C> {
 
     fn before<R: Wait>(&mut self, rt: &R, slices: u64) -> bool {
         self.slices = slices;
-        let goes_on = !self.is_full();
-        if goes_on {
-            self.pass();
+        if self.is_full() {
+            self.polls.add_before_no(rt);
+            return false;
         }
-        self.polls.add_before(rt, goes_on);
-        goes_on
+        self.pass();
+        self.polls.add_before_yes(rt);
+        true
     }
 
     fn idle<R: Wait>(&mut self, rt: &R) -> bool {
@@ -330,15 +344,18 @@ impl<'a, C: Wait + Clock + Print> WorkerGate for WorkGate<'a, C> {
         self.free = free_slices();
         self.unread = 0;
         self.gap = SHORTEST_GAP;
-        let goes_on = !self.is_full();
-        self.polls.add_idle(rt, goes_on);
-        goes_on
+        if self.is_full() {
+            self.polls.add_idle_no(rt);
+            return false;
+        }
+        self.polls.add_idle_yes(rt);
+        true
     }
 
     fn wake<R: Wait>(&mut self, rt: &R) {
         match self.wakeups.micros(self.clock) {
             Some(now) => {
-                // Before the next slice may come a pause.
+                // The worker may pause before the next slice.
                 self.wakeups
                     .flush_statuses(now, slice_pause(1, self.count()));
                 self.look_for_posts(now);

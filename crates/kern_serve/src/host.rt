@@ -1,10 +1,10 @@
-//! What a server needs of its host.
+//! What a server needs from its runtime.
 use std::net::{Net, TcpListener, TcpStream};
 use std::rt::Clock;
 use std::sync::Wait;
 use std::thread::Threads;
 
-/// Waiting, time, lines on standard output, and threads, to which it may be handed.
+/// Waiting, the clock, standard output and threads, in a runtime that can be handed to threads.
 pub trait Host: Wait + Clock + Print + Threads + Clone + Send + Sync + Drop + 'static {}
 
 impl<R: Wait + Clock + Print + Threads + Clone + Send + Sync + Drop + 'static> Host for R {}

@@ -5,7 +5,7 @@ use jup_wire::connection_file::ConnectionFile;
 use std::io;
 use std::net::{Ipv4Addr, TcpListener};
 
-// Two ports, each bound.
+// Two bound ports.
 #[derive(Drop)]
 struct Pair(TcpListener, TcpListener);
 
@@ -24,7 +24,7 @@ fn bind_pair<R: TcpNet>(rt: &R, ip: Ipv4Addr, first: u16, second: u16) -> io::Re
     }
 }
 
-/// The five ports of a kernel, each bound.
+/// The five bound ports of a kernel.
 #[derive(Drop)]
 pub struct Listeners {
     shell: TcpListener,
@@ -34,7 +34,7 @@ pub struct Listeners {
     heartbeat: TcpListener,
 }
 
-// The ports of the channels, in the order of their fields.
+// Binds the ports of the channels: shell and iopub, stdin and control.
 fn bind_channels<R: TcpNet>(rt: &R, file: &ConnectionFile) -> io::Result<(Pair, Pair)> {
     let first = bind_pair(rt, file.ip, file.shell_port, file.iopub_port)?;
     match bind_pair(rt, file.ip, file.stdin_port, file.control_port) {
@@ -47,7 +47,7 @@ fn bind_channels<R: TcpNet>(rt: &R, file: &ConnectionFile) -> io::Result<(Pair, 
 }
 
 impl Listeners {
-    /// Binds the ports of a connection file at its address. From then on clients can connect, though they are
+    /// Binds the ports of a connection file at its address. From then on clients can connect, but they are
     /// answered only once the listeners are served. A port is free again as soon as its server has ended.
     pub fn bind<R: TcpNet>(rt: &R, file: &ConnectionFile) -> io::Result<Listeners> {
         let heartbeat = bind_port(rt, file.ip, file.hb_port)?;

@@ -15,9 +15,10 @@ use crate::system::new_session;
 use base_text::text::Text;
 use jup_wire::channel::Channel;
 use jup_wire::connection_file::ConnectionFile;
-use kern_desk::desks::open_desk;
+use kern_desk::desks::{MOST_ENTRIES, open_desk};
 use kern_desk::seated::{Desk, Pass};
 use kern_net::end::PumpEnd;
+use kern_net::runtime::Runtime;
 use kern_net::worker::worker;
 use kern_pace::pace::JOURNAL_LIMIT;
 use kern_waits::throttles::Throttles;
@@ -42,10 +43,13 @@ pub enum ServerEnd {
 // Two passes for each slot of four channels, and the worker's.
 const PASSES: u32 = 129;
 
+// A server's journal may have as many entries as a kernel allows.
+const _: () = prove!(JOURNAL_LIMIT == MOST_ENTRIES);
+
 // How long the writers have to write what was posted, once the worker has ended.
 const FAREWELL_MILLIS: u64 = 400;
 
-// How long to wait after a connection couldn't be accepted, as where too many files are open.
+// How long to wait after accepting a connection failed, for example because too many files are open.
 const RETRY_MILLIS: u64 = 50;
 
 // Serves one connection after another in a slot.
@@ -56,7 +60,7 @@ fn serve_slot<R: Host>(rt: &R, alloc: Global, shared: &Shared, slot: Slot, mut p
     for _ in rt.forever() {
         match listener.accept() {
             Ok((stream, _)) => {
-                passes = serve_connection(rt, alloc, shared, slot, stream, passes);
+                passes = serve_connection(&Runtime { rt, alloc }, shared, slot, stream, passes);
             }
             Err(_) => thread::sleep(rt, Duration::from_millis(RETRY_MILLIS)),
         }
@@ -76,14 +80,14 @@ fn serve_heartbeats<R: Wait + Clock>(rt: &R, alloc: Global, listener: &TcpListen
     }
 }
 
-// What a thread of the server does for good.
+// What a thread of the server does, without end.
 #[derive(Drop)]
 enum Task {
     // Serves one connection after another in a slot.
     Connections(Slot, PassPair),
     // Serves one connection of the heartbeat after another.
     Heartbeat,
-    // Lets silent connections of a channel go where others wait.
+    // Closes silent connections of a channel while others wait.
     EvictSilent(Channel),
 }
 
@@ -121,7 +125,7 @@ fn start_task<R: Host>(
     );
     match started {
         Ok(_) => Ok(()),
-        // The library doesn't tell why. That there is no memory for one of some 85 stacks is the likeliest.
+        // The library doesn't say why. Most likely there is no memory for another stack, of some 85.
         Err(_) => Err(ServerFault::OutOfMemory),
     }
 }
@@ -164,7 +168,7 @@ fn start_heartbeats<R: Host>(
     Ok(())
 }
 
-// What the worker's end is for the server. Its gate says no only where the journal is full.
+// How the server ends when the worker has ended. The worker's gate says no only if the journal is full.
 fn end_of(end: PumpEnd, is_closed: bool) -> Result<ServerEnd, ServerFault>
     ensures { result ≡ server_end is_closed end }
 {
@@ -181,7 +185,7 @@ fn end_of(end: PumpEnd, is_closed: bool) -> Result<ServerEnd, ServerFault>
     }
 }
 
-// Works until a shutdown came or the journal is full, and lets the writers end.
+// Runs the worker until a shutdown has come or the journal is full, and then lets the writers end.
 fn work<R: Host>(rt: &R, shared: &Shared, mut pass: Pass) -> Result<ServerEnd, ServerFault>
     requires { pass.turnstile ≡ shared.now.desk }
 {
@@ -210,7 +214,7 @@ fn open_desk_and_wakeups<C: Clock>(
     }
 }
 
-// What the threads share, and the passes of its desk.
+// What the threads share, and the passes of the desk.
 fn open<C: Clock>(
     clock: &C,
     alloc: Global,
@@ -251,7 +255,7 @@ fn open<C: Clock>(
     }
 }
 
-// Starts all threads, and gives a pass that is left, the worker's.
+// Starts all threads, and returns the pass that is left, the worker's.
 fn start<R: Host>(
     rt: &R,
     alloc: Global,
@@ -269,7 +273,7 @@ fn start<R: Host>(
     passes.pop().ok_or(ServerFault::System)
 }
 
-// Starts all threads, says that it listens, and works.
+// Starts all threads, prints that the server listens, and runs the worker.
 fn run<R: Host>(
     rt: &R,
     alloc: Global,
@@ -287,7 +291,7 @@ fn run<R: Host>(
     work(rt, shared, pass)
 }
 
-// Serves under a session's name.
+// Serves with a session's identifier.
 fn serve_as<R: Host>(
     rt: &R,
     alloc: Global,
@@ -311,10 +315,12 @@ fn serve_as<R: Host>(
 }
 
 /// Serves bound ports until a client asks for a shutdown or the journal is full. Prints `listening` once all
-/// threads are there. By then what was posted has been written to each client that reads, or half a second
-/// has passed. The threads that serve connections aren't joined: the program is to end.
+/// threads have started. When it returns, everything posted has been written to each client that reads, or
+/// half a second has passed. The threads that serve connections aren't joined, since the program is about to
+/// end.
 ///
-/// A connection that breaks the protocol, or doesn't make its handshake or read for ten seconds, ends alone.
+/// A connection is closed alone if it breaks the protocol, takes more than ten seconds for its handshake, or
+/// doesn't read for ten seconds.
 pub fn serve<R: Host + RandomSource>(
     rt: &R,
     alloc: Global,

@@ -1,5 +1,6 @@
 //! Which connection has which slot. If all slots of a channel are taken and another connection waits, one is
-//! closed that has been there for a minute without a message that opens: its peer has not shown the key.
+//! closed that has been there for a minute without a message that opened, so that its peer hasn't shown the
+//! key.
 use crate::listeners::Listeners;
 use crate::socket::close;
 use jup_wire::channel::Channel;
@@ -17,10 +18,10 @@ use std::time::Duration;
 // How long a connection may be silent, in milliseconds.
 const MOST_SILENCE: u64 = 60_000;
 
-// How long to wait before it is looked again whether one can be let go, in milliseconds.
-const LOOK_MILLIS: u64 = 500;
+// The time between two checks whether a connection can be closed, in milliseconds.
+const CHECK_MILLIS: u64 = 500;
 
-// The connection in a slot: its socket, since when, and whether a message of it has opened.
+// The connection in a slot: its socket, since when it is there, and whether a message of it has opened.
 #[derive(Drop)]
 struct Occupant {
     stream: Arc<TcpStream>,
@@ -32,7 +33,7 @@ struct Occupant {
 #[derive(Drop)]
 struct ChannelSlots {
     occupants: Mutex<Vec<Option<Occupant>>>,
-    // Notified when all are taken.
+    // Notified when all slots are taken.
     full: EventCount,
 }
 
@@ -52,7 +53,8 @@ fn is_full(occupants: &[Option<Occupant>]) -> bool {
     occupants.iter().all(|occupant| occupant.is_some())
 }
 
-// The socket of the newest connection that has been silent for a minute: those that take all slots come last.
+// The socket of the newest connection that has been silent for a minute. Those that fill the slots are the
+// newest.
 fn newest_silent(occupants: &[Option<Occupant>], now: u64) -> Option<&TcpStream> {
     let mut found: Option<&Occupant> = None;
     for occupant in occupants.iter().flatten() {
@@ -102,7 +104,7 @@ impl Slots {
         }
     }
 
-    /// A connection takes a slot.
+    /// Notes that a connection takes a slot.
     pub fn enter<R: Wait + Clock>(&self, rt: &R, slot: Slot, stream: Arc<TcpStream>) {
         let since = self.stopwatch.millis(rt).unwrap_or(0);
         let slots = self.of(slot.channel);
@@ -119,7 +121,7 @@ impl Slots {
         }
     }
 
-    /// A message of the connection in a slot has opened.
+    /// Notes that a message of the connection in a slot has opened.
     pub fn hear<R: Wait>(&self, rt: &R, slot: Slot) {
         let mut occupants = self.of(slot.channel).occupants.lock(rt);
         if let Some(Some(occupant)) = occupants.get_mut(slot.number) {
@@ -127,7 +129,7 @@ impl Slots {
         }
     }
 
-    /// The connection in a slot has left.
+    /// Notes that the connection in a slot has left.
     pub fn leave<R: Wait>(&self, rt: &R, slot: Slot) {
         let mut occupants = self.of(slot.channel).occupants.lock(rt);
         if let Some(occupant) = occupants.get_mut(slot.number) {
@@ -154,7 +156,7 @@ impl Slots {
                 return;
             }
             self.evict_one(rt, channel);
-            thread::sleep(rt, Duration::from_millis(LOOK_MILLIS));
+            thread::sleep(rt, Duration::from_millis(CHECK_MILLIS));
         }
     }
 

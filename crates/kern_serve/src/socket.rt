@@ -1,4 +1,4 @@
-//! A socket whose handshake is made.
+//! Sockets: their options, their handshakes, and the heartbeat.
 use base_streams::std_io::{StdInlet, StdOutlet};
 use jup_wire::channel::Channel;
 use kern_waits::sockets::keep_alive;
@@ -21,7 +21,7 @@ const PATIENCE_SECONDS: u64 = 10;
 // The size of a greeting, in bytes.
 const GREETING_SIZE: usize = 64;
 
-/// Ends reads and writes on a socket, whatever thread waits in one.
+/// Ends all reads and writes on a socket, in whatever thread.
 pub fn close(stream: &TcpStream) {
     let _ = stream.shutdown(Shutdown::Both);
 }
@@ -37,14 +37,14 @@ fn patience() -> Duration {
     Duration::from_secs(PATIENCE_SECONDS)
 }
 
-// A message is sent at once; a peer that never reads is given up, and so is one that has vanished.
+// Messages are sent without delay; a peer that doesn't read, or that has vanished, is given up.
 fn prepare(stream: &TcpStream) -> io::Result<()> {
     keep_alive(stream);
     stream.set_nodelay(true)?;
     stream.set_write_timeout(Some(patience()))
 }
 
-// A socket whose first bytes, more than so many, must come in time; later reads may wait for ever.
+// A socket from which more than `first` bytes must come in time. Later reads may wait for ever.
 #[derive(Drop)]
 struct PatientStream<'a, C: Clock> {
     stream: &'a TcpStream,
@@ -65,7 +65,7 @@ impl<'a, C: Clock> PatientStream<'a, C> {
         }
     }
 
-    // How much patience is left; where no clock can be read, all.
+    // The time that is left; all of it if the clock can't be read.
     fn rest(&self) -> Duration {
         let Some(begun) = &self.begun else {
             return patience();
@@ -78,7 +78,7 @@ impl<'a, C: Clock> PatientStream<'a, C> {
 }
 
 impl<'a, C: Clock> Read for PatientStream<'a, C> {
-    // A read that may wait no time at all fails.
+    // A read with no time left fails.
     fn read(&mut self, buffer: &mut [u8]) -> io::Result<usize> {
         let mut stream = self.stream;
         if self.read > self.first {
@@ -117,8 +117,8 @@ fn greet<R: Wait + Clock>(
     }
 }
 
-/// Makes the handshake on a socket of a channel, for which there are ten seconds. From then on a read may
-/// wait for ever, and a write ten seconds.
+/// Makes the handshake on a socket of a channel, within ten seconds. Afterwards a read may wait for ever, and
+/// a write for ten seconds. None if the handshake fails.
 pub fn meet<R: Wait + Clock>(
     rt: &R,
     alloc: Global,
@@ -137,7 +137,7 @@ pub fn meet<R: Wait + Clock>(
     Some(peer)
 }
 
-/// Serves a socket of the heartbeat until it ends. More than a greeting must come within ten seconds.
+/// Serves a heartbeat socket until it ends. More than a greeting must come within ten seconds.
 pub fn serve_heartbeat<C: Clock>(clock: &C, alloc: Global, stream: &TcpStream) -> io::Result<()> {
     prepare(stream)?;
     let mut from = StdInlet::new(PatientStream::new(stream, clock, GREETING_SIZE));

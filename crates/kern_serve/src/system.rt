@@ -1,4 +1,4 @@
-//! What is asked of the system: the time, and the name of a session.
+//! The system's clock, and random identifiers of sessions.
 ghost use Rattle.std.specs.Prelude.{◌≤◌};
 
 use crate::fault::ServerFault;
@@ -11,7 +11,8 @@ use std::time::{SystemTime, UNIX_EPOCH};
 
 const LAST_MOMENT: u64 = 4_102_444_800;
 
-/// Whole seconds since 1970, at most those of 2100-01-01T00:00:00Z; 0 where no clock can be read.
+/// Whole seconds since 1970-01-01T00:00:00Z. A time after 2100-01-01T00:00:00Z counts as that; 0 if the clock
+/// can't be read.
 pub fn unix_seconds<C: Clock>(clock: &C) -> u64
     ensures { result ≤ 4102444800 }
 {
@@ -24,7 +25,7 @@ pub fn unix_seconds<C: Clock>(clock: &C) -> u64
     }
 }
 
-/// A name for a session, of random bytes.
+/// A random identifier for a session.
 pub fn new_session(alloc: Global, rt: &impl RandomSource) -> Result<Text, ServerFault> {
     let mut random = [0u8; 16];
     if rt.fill_bytes(&mut random).is_err() {

@@ -12,14 +12,14 @@ use std::sync::Wait;
 // The time at all gates, 2000-02-29T00:00:00Z.
 const MOMENT: u64 = 951_782_400;
 
-// Two slices load the cell and start it; the next is the first of its program.
+// The first two slices load the cell and start it; the next one is the first of its program.
 const SLICES_BEFORE: u64 = 2;
 
-// How often the writer's gate lets it look for posts, a millisecond apart.
+// How often the writer's gate answers yes at most, a millisecond apart.
 const MOST_LOOKS: u64 = 30_000;
 
-/// The worker's gate: it holds the first slice of the program until the pause is answered, and ends the work
-/// where there is nothing to do.
+/// The worker's gate. It holds the first slice of the program until the pause is answered, and says no once
+/// there is nothing to do.
 #[derive(Drop)]
 pub struct WorkGate<'a, C: Clock> {
     signals: &'a Signals,
@@ -28,7 +28,7 @@ pub struct WorkGate<'a, C: Clock> {
 }
 
 impl<'a, C: Clock> WorkGate<'a, C> {
-    /// A gate that wasn't polled yet.
+    /// A gate that hasn't been polled yet.
     pub fn new(signals: &'a Signals, clock: &'a C) -> WorkGate<'a, C>
         ensures { result.polls ≡ no_polls }
     {
@@ -39,8 +39,8 @@ impl<'a, C: Clock> WorkGate<'a, C> {
         }
     }
 
-    /// How often `before` said yes and no, and `idle` yes and no.
-    pub fn told(&self) -> [u64; 4] {
+    /// How often `before` answered yes and no, and `idle` yes and no.
+    pub fn answers(&self) -> [u64; 4] {
         let (before, idle) = (self.polls.before(), self.polls.idle());
         [before.yes(), before.no(), idle.yes(), idle.no()]
     }
@@ -58,13 +58,16 @@ impl<'a, C: Clock> WorkerGate for WorkGate<'a, C> {
     ghost polls = { λ g. g.polls };
 
     fn before<R: Wait>(&mut self, rt: &R, slices: u64) -> bool {
-        let said = self.lets_on(slices);
-        self.polls.add_before(rt, said);
-        said
+        if self.lets_on(slices) {
+            self.polls.add_before_yes(rt);
+            return true;
+        }
+        self.polls.add_before_no(rt);
+        false
     }
 
     fn idle<R: Wait>(&mut self, rt: &R) -> bool {
-        self.polls.add_idle(rt, false);
+        self.polls.add_idle_no(rt);
         false
     }
 
@@ -100,7 +103,7 @@ impl ReaderGate for InGate {
     }
 }
 
-/// The writer's gate: it says no once the pause is answered.
+/// The writer's gate. It says no once the pause is answered.
 #[derive(Drop)]
 pub struct OutGate<'a, C: Clock> {
     signals: &'a Signals,
@@ -109,7 +112,7 @@ pub struct OutGate<'a, C: Clock> {
 }
 
 impl<'a, C: Clock> OutGate<'a, C> {
-    /// A gate that wasn't polled yet.
+    /// A gate that hasn't been polled yet.
     pub fn new(signals: &'a Signals, clock: &'a C) -> OutGate<'a, C>
         ensures { result.idle ≡ record { yes = 0; no = 0 } }
     {
@@ -126,8 +129,11 @@ impl<'a, C: Clock> WriterGate for OutGate<'a, C> {
 
     fn idle<R: Wait>(&mut self, rt: &R, _pass: &Pass, _next: u64) -> bool {
         rest(self.clock);
-        let said = !self.signals.answered.has_come() && self.idle.yes() < MOST_LOOKS;
-        self.idle.add(rt, said);
-        said
+        if !self.signals.answered.has_come() && self.idle.yes() < MOST_LOOKS {
+            self.idle.add_yes(rt);
+            return true;
+        }
+        self.idle.add_no(rt);
+        false
     }
 }

@@ -1,43 +1,43 @@
-//! What the threads tell one another.
+//! Signals between the threads.
 
 use std::rt::Clock;
 use std::sync::atomic::{AtomicBool, Ordering};
 use std::thread;
 use std::time::Duration;
 
-// How often one looks for a signal, a millisecond before each look, until one gives up.
+// How often a signal is checked before a thread gives up, a millisecond apart.
 const LOOKS: u32 = 10_000;
 
-/// Waits for a millisecond.
+/// Sleeps for a millisecond.
 pub fn rest(clock: &impl Clock) {
     thread::sleep(clock, Duration::from_millis(1));
 }
 
-/// What comes to pass once.
+/// An event that happens once.
 #[derive(Drop)]
 pub struct Signal {
     has_come: AtomicBool,
 }
 
 impl Signal {
-    /// One that has not come.
+    /// An event that hasn't happened yet.
     pub fn new() -> Signal {
         Signal {
             has_come: AtomicBool::new(false),
         }
     }
 
-    /// It comes.
+    /// Notes that it has happened.
     pub fn give(&self) {
         self.has_come.store(true, Ordering::SeqCst);
     }
 
-    /// Whether it has come.
+    /// Whether it has happened.
     pub fn has_come(&self) -> bool {
         self.has_come.load(Ordering::SeqCst)
     }
 
-    /// Whether it comes before one gives up.
+    /// Waits until it has happened; false if it hasn't after ten seconds.
     pub fn comes(&self, clock: &impl Clock) -> bool {
         for _ in 0..LOOKS {
             rest(clock);
@@ -56,14 +56,14 @@ pub struct Signals {
     pub held: Signal,
     /// The answer to the pause was written.
     pub answered: Signal,
-    /// Some answer refused a request.
+    /// An answer refused a request.
     pub refused: Signal,
-    /// The pause came though the worker wasn't held.
+    /// The pause came although the worker wasn't held.
     pub late: Signal,
 }
 
 impl Signals {
-    /// None of which has come.
+    /// Signals of which none has happened.
     pub fn new() -> Signals {
         Signals {
             held: Signal::new(),

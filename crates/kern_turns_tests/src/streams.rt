@@ -1,11 +1,11 @@
-//! The reader's and the writer's ends of the control connection.
+//! The inlet and the outlet of the control connection.
 
 use crate::bytes::{PAUSED, REFUSED, has_text};
 use crate::signals::Signals;
 use base_streams::ports::{Inlet, IoFault, Outlet};
 use std::rt::Clock;
 
-/// A reader that gives nothing before the worker is held.
+/// An inlet that gives nothing before the worker is held.
 #[derive(Drop)]
 pub struct HeldInlet<'a, I: Inlet + Drop, C: Clock> {
     pub from: I,
@@ -24,7 +24,7 @@ impl<'a, I: Inlet + Drop, C: Clock> Inlet for HeldInlet<'a, I, C> {
     }
 }
 
-/// A writer that tells what is answered.
+/// An outlet that signals what is answered.
 #[derive(Drop)]
 pub struct ToldOutlet<'a, W: Outlet + Drop> {
     pub to: W,
@@ -34,7 +34,7 @@ pub struct ToldOutlet<'a, W: Outlet + Drop> {
 impl<'a, W: Outlet + Drop> Outlet for ToldOutlet<'a, W> {
     ghost state = { λ s. W.state s.to };
 
-    // What is written at once is written whole: the writer below takes any number of bytes.
+    // Each call writes all its bytes, since the outlet below takes any number.
     fn write(&mut self, bytes: &[u8]) -> Result<usize, IoFault> {
         if has_text(bytes, REFUSED) {
             self.signals.refused.give();

@@ -13,6 +13,7 @@ use kern_net::end::PumpEnd;
 use kern_net::pump_in::pump_in;
 use kern_net::pump_out::pump_out;
 use kern_net::routes::{IncomingRoute, OutgoingRoute};
+use kern_net::runtime::Runtime;
 use kern_net::worker::worker;
 use kern_test_kit::actions::{Action, Question, call_of};
 use std::alloc::Global;
@@ -24,7 +25,7 @@ use std::thread::Threads;
 use zmtp_wire::handshake::{Peer, handshake};
 use zmtp_wire::role::Role;
 
-// A program that never ends, on shell; and a debugger on control.
+// A program that never ends, on shell, and a debugger on control.
 const FIRST: [Action; 4] = [
     Action::Join(Channel::Shell),
     Action::Join(Channel::Control),
@@ -39,7 +40,7 @@ const FIRST: [Action; 4] = [
 
 const CONTROL: u32 = 2;
 
-// Makes a call, which must be taken.
+// Makes a call, which must succeed.
 fn make<R: Wait + Abort>(rt: &R, alloc: Global, desk: &Desk, pass: &mut Pass, action: Action)
     requires { pass.old.turnstile ≡ desk.now }
     ensures { pass.new.turnstile ≡ desk.now }
@@ -60,7 +61,7 @@ fn make_first<R: Wait + Abort>(rt: &R, alloc: Global, desk: &Desk, pass: &mut Pa
     }
 }
 
-// How the worker ends, and what its gate said: of `before` yes and no, of `idle` yes and no.
+// How the worker ends, and how often `before` and `idle` answered yes and no.
 fn work<R: Wait + Clock>(
     rt: &R,
     desk: &Desk,
@@ -71,7 +72,14 @@ fn work<R: Wait + Clock>(
 {
     let mut gate = WorkGate::new(signals, rt);
     let end = worker(rt, desk, &mut pass, &mut gate);
-    (end, gate.told())
+    (end, gate.answers())
+}
+
+// The debugger on control: a peer whose handshake is made, and the bytes that it writes after it.
+#[derive(Drop)]
+struct Debugger {
+    peer: Peer,
+    bytes: Vec<u8>,
 }
 
 fn meet<R: Abort>(rt: &R, alloc: Global) -> Peer {
@@ -90,11 +98,11 @@ fn read<R: Wait + Clock>(
     desk: &Desk,
     mut pass: Pass,
     signals: &Signals,
-    peer: Peer,
-    bytes: Vec<u8>,
+    debugger: Debugger,
 ) -> PumpEnd
     requires { pass.turnstile ≡ desk.now }
 {
+    let Debugger { peer, bytes } = debugger;
     let mut from = HeldInlet {
         from: Source::new(bytes, 4096, 9999),
         signals,
@@ -107,7 +115,8 @@ fn read<R: Wait + Clock>(
         channel: Channel::Control,
         key: b"",
     };
-    pump_in(rt, alloc, &mut pass, &mut gate, &mut from, peer, &route)
+    let runtime = Runtime { rt, alloc };
+    pump_in(&runtime, &mut pass, &mut gate, &mut from, peer, &route)
 }
 
 fn write<R: Wait + Clock>(
@@ -130,18 +139,18 @@ fn write<R: Wait + Clock>(
         key: b"",
         session: "S",
     };
-    pump_out(rt, alloc, &mut pass, &mut gate, &mut to, &route, 1)
+    let runtime = Runtime { rt, alloc };
+    pump_out(&runtime, &mut pass, &mut gate, &mut to, &route, 1)
 }
 
-// What is read, and what is written meanwhile.
+// Reads and writes at the same time. How both end.
 fn talk<R: Threads + Wait + Clock + Sync>(
     rt: &R,
     alloc: Global,
     desk: &Desk,
     passes: (Pass, Pass),
     signals: &Signals,
-    peer: Peer,
-    bytes: Vec<u8>,
+    debugger: Debugger,
 ) -> (PumpEnd, PumpEnd)
     requires { (passes.0.turnstile ≡ desk.now) × (passes.1.turnstile ≡ desk.now) }
 {
@@ -150,14 +159,14 @@ fn talk<R: Threads + Wait + Clock + Sync>(
         rt,
         || -> PumpEnd
             requires { reading.turnstile ≡ desk.now }
-        { read(rt, alloc, desk, reading, signals, peer, bytes) },
+        { read(rt, alloc, desk, reading, signals, debugger) },
         || -> PumpEnd
             requires { writing.turnstile ≡ desk.now }
         { write(rt, alloc, desk, writing, signals) },
     )
 }
 
-// What comes of the worker, and of reading and writing meanwhile.
+// Runs the worker, and reads and writes at the same time. How all of them end.
 fn run<R: Threads + Wait + Clock + Abort + Sync>(
     rt: &R,
     alloc: Global,
@@ -171,6 +180,7 @@ fn run<R: Threads + Wait + Clock + Abort + Sync>(
 {
     let peer = meet(rt, alloc);
     let bytes = PAUSE.to_vec(alloc).expect(rt, "memory for bytes");
+    let debugger = Debugger { peer, bytes };
     thread::join(
         rt,
         || -> (PumpEnd, [u64; 4])
@@ -178,7 +188,7 @@ fn run<R: Threads + Wait + Clock + Abort + Sync>(
         { work(rt, desk, working, signals) },
         || -> (PumpEnd, PumpEnd)
             requires { (talking.0.turnstile ≡ desk.now) × (talking.1.turnstile ≡ desk.now) }
-        { talk(rt, alloc, desk, talking, signals, peer, bytes) },
+        { talk(rt, alloc, desk, talking, signals, debugger) },
     )
 }
 

@@ -2,15 +2,15 @@
 use Rattle.std.specs.Prelude.{◌≡◌, ℕ, ◌-◌, ◌*◌, ◌^◌, ◌<◌, min, false}
 use Rattle.kern_waits.specs.declared.wakeups.KnownPosts.{KnownPosts}
 
--- how many posts came since those that are known
+-- how many posts there are after those that are known
 abbrev pub posts_since : KnownPosts → ℕ → ℕ
 posts_since known next = next - known.next
 
--- how many posts the requests make that came since then
+-- how many posts the requests after them make
 abbrev pub posts_of : KnownPosts → ℕ → ℕ
 posts_of known requests = min (3 * (requests - known.requests)) (2 ^ 64 - 1)
 
--- fewer posts came than these requests make, and did not the time before
+-- there are fewer posts than these requests make, and at the last look there weren't
 abbrev pub IsFirstDoubt : KnownPosts → ℕ → ℕ → Type 0
 IsFirstDoubt known next requests =
     (posts_since known next < posts_of known requests) × (known.is_in_doubt ≡ false)

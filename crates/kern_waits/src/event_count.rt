@@ -19,8 +19,8 @@ fn count_in(word: u64) -> u64 {
 #[derive(Drop)]
 pub struct EventCount {
     word: AtomicU64,
-    // A thread counts itself here before it sleeps, and who notifies looks here after the word has changed:
-    // so either the sleep doesn't begin, or it is ended.
+    // A thread counts itself here before it sleeps, and a notifier reads this after it has changed the word.
+    // So either the sleep doesn't begin, or the notifier ends it.
     sleepers: AtomicU64,
 }
 
@@ -33,7 +33,7 @@ impl EventCount {
         }
     }
 
-    /// How many notifications there were.
+    /// How many notifications there have been.
     pub fn count(&self) -> u64 {
         count_in(self.word.load(Ordering::SeqCst))
     }
@@ -50,12 +50,12 @@ impl EventCount {
         self.sleepers.load(Ordering::SeqCst) != 0
     }
 
-    /// Adds one and wakes all that wait here.
+    /// Adds one and wakes all threads that wait here.
     pub fn notify(&self) {
         self.add(NOTIFY);
     }
 
-    /// Wakes all that wait here without adding one, so that they check their cancel flag.
+    /// Wakes all threads that wait here without adding one, so that they check their cancel flag.
     pub fn wake(&self) {
         self.add(WAKE);
     }
@@ -79,8 +79,8 @@ impl EventCount {
         unreachable!()
     }
 
-    /// Waits until the count differs from `seen` or the flag is set, and returns the count. Who sets the flag
-    /// must call `wake` afterwards.
+    /// Waits until the count differs from `seen` or the flag is set, and returns the count. The thread that
+    /// sets the flag must call `wake` afterwards.
     pub fn wait_unless<R: Wait>(&self, rt: &R, seen: u64, is_canceled: &AtomicBool) -> u64 {
         for _ in rt.forever() {
             let word = self.word.load(Ordering::SeqCst);
@@ -92,7 +92,8 @@ impl EventCount {
         unreachable!()
     }
 
-    /// Waits until the count differs from `seen` or `wake` is called, but no longer than `most`.
+    /// Waits until the count differs from `seen` or `wake` is called, but no longer than `most`. Returns the
+    /// count.
     pub fn wait_timeout<R: Wait>(&self, rt: &R, seen: u64, most: Duration) -> u64 {
         let word = self.word.load(Ordering::SeqCst);
         if count_in(word) == seen && !most.is_zero() {

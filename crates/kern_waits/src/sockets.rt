@@ -1,18 +1,18 @@
-//! Calls on sockets that the library of the language lacks.
+//! System calls on sockets that the standard library lacks.
 use libc::net as c;
 use libc::types::pollfd;
 use std::net::{TcpListener, TcpStream};
 use std::os::fd::AsRawFd;
 
-// A connection on which nothing comes for so many seconds is probed, so often, so many seconds apart; and
-// what isn't acknowledged ends it after so many milliseconds. So a peer that vanished is found within two
-// minutes.
+// How long a connection may be silent before it is probed, the time between two probes, and their number. So
+// a peer that vanished is detected within two minutes.
 const IDLE_SECONDS: u32 = 60;
 
 const PROBE_SECONDS: u32 = 10;
 
 const PROBES: u32 = 6;
 
+// How long sent bytes may stay unacknowledged.
 const UNACKNOWLEDGED_MILLIS: u32 = 60_000;
 
 // An option's value as the system reads it.
@@ -22,7 +22,7 @@ fn option_bytes(value: u32) -> [u8; 16] {
     bytes
 }
 
-/// Has the system find a peer that vanishes, within two minutes. An option that can't be set is left as it
+/// Has the system detect a peer that vanishes, within two minutes. An option that can't be set is left as it
 /// is.
 pub fn keep_alive(stream: &TcpStream) {
     let fd = stream.as_raw_fd();
@@ -39,7 +39,7 @@ pub fn keep_alive(stream: &TcpStream) {
     let _ = unsafe { c::setsockopt(fd, c::IPPROTO_TCP, c::TCP_USER_TIMEOUT, &unacknowledged, 4) };
 }
 
-/// Waits until a connection waits to be accepted.
+/// Waits until there is a connection to accept.
 pub fn await_connection(listener: &TcpListener) {
     let mut fds = [pollfd {
         fd: listener.as_raw_fd(),

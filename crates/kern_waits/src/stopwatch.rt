@@ -4,24 +4,24 @@ ghost use Rattle.std.specs.Prelude.{◌≤◌, IfSome};
 use std::rt::Clock;
 use std::time::Instant;
 
-// As many microseconds as are told apart: some 30,000 years.
+// The most microseconds that are counted, some 30,000 years.
 const LAST_MICROS: u128 = 1_000_000_000_000_000_000;
 
-/// When a server began, if a clock could be read.
+/// Measures the time since a server began, if it could read the clock.
 #[derive(Drop)]
 pub struct Stopwatch {
     begun: Option<Instant>,
 }
 
 impl Stopwatch {
-    /// That of a server that begins now.
+    /// The stopwatch of a server that begins now.
     pub fn new<C: Clock>(clock: &C) -> Stopwatch {
         Stopwatch {
             begun: Instant::now(clock).ok(),
         }
     }
 
-    /// Microseconds since then; none if no clock can be read, and nobody waits then.
+    /// Microseconds since the server began. None if the clock can't be read; nobody is delayed then.
     pub fn micros<C: Clock>(&self, clock: &C) -> Option<u64>
         ensures { IfSome result (λ now. now ≤ 1000000000000000000) }
     {
@@ -34,7 +34,7 @@ impl Stopwatch {
         }
     }
 
-    /// Whole milliseconds since then.
+    /// Whole milliseconds since the server began, or None.
     pub fn millis<C: Clock>(&self, clock: &C) -> Option<u64>
         ensures { IfSome result (λ now. now ≤ 1000000000000000) }
     {

@@ -1,4 +1,4 @@
-//! The throttles of a server's channels, which all its connection threads share.
+//! The throttles of a server's channels, shared by all its connection threads.
 use crate::stopwatch::Stopwatch;
 use jup_wire::channel::Channel;
 use kern_pace::budget::Budget;
@@ -8,7 +8,7 @@ use std::sync::{Mutex, Wait};
 use std::thread;
 use std::time::Duration;
 
-// What a channel makes peers wait by.
+// How long a channel delays peers that haven't shown the key.
 #[derive(Drop)]
 struct ChannelThrottle {
     joins: Mutex<Throttle>,
@@ -24,7 +24,7 @@ impl ChannelThrottle {
     }
 }
 
-/// For each channel what its peers wait by that have shown no key: how they join, and how their bytes are
+/// How long each channel delays peers that haven't shown the key, when they join and when their bytes are
 /// read.
 #[derive(Drop)]
 pub struct Throttles {
@@ -36,7 +36,7 @@ pub struct Throttles {
 }
 
 impl Throttles {
-    /// Those of a server that begins now.
+    /// The throttles of a server that begins now.
     pub fn new<C: Clock>(clock: &C) -> Throttles {
         Throttles {
             stopwatch: Stopwatch::new(clock),
@@ -56,7 +56,7 @@ impl Throttles {
         }
     }
 
-    /// Lets a connection of a channel on, once its turn has come.
+    /// Waits for a connection's turn to join a channel.
     pub fn admit<R: Wait + Clock>(&self, rt: &R, channel: Channel) {
         let Some(now) = self.stopwatch.millis(rt) else {
             return;
@@ -67,21 +67,21 @@ impl Throttles {
         }
     }
 
-    /// An unauthenticated peer has left a channel.
+    /// Counts an unauthenticated peer that has left a channel.
     pub fn add_unauthenticated<R: Wait + Clock>(&self, rt: &R, channel: Channel) {
         if let Some(now) = self.stopwatch.millis(rt) {
             self.of(channel).joins.lock(rt).add_unauthenticated(now);
         }
     }
 
-    /// So many bytes were read on a channel that nobody has signed.
+    /// Counts unsigned bytes that were read on a channel.
     pub fn spend<R: Wait + Clock>(&self, rt: &R, channel: Channel, bytes: u32) {
         if let Some(now) = self.stopwatch.millis(rt) {
             self.of(channel).bytes.lock(rt).spend(now, u64::from(bytes));
         }
     }
 
-    /// How long to wait before more of them are read, in milliseconds.
+    /// How long to wait before more unsigned bytes are read, in milliseconds.
     pub fn wait_for_bytes<R: Wait + Clock>(&self, rt: &R, channel: Channel) -> u64 {
         match self.stopwatch.millis(rt) {
             Some(now) => self.of(channel).bytes.lock(rt).wait(now),

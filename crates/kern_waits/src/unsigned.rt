@@ -1,5 +1,5 @@
-//! Reading bytes that nobody has signed: those of a handshake, and on iopub all. What the kernel keeps of
-//! them it keeps for good, so they are read no faster than their channel's budget allows.
+//! Reading unsigned bytes: those of a handshake, and all bytes on iopub. What the kernel keeps of them it
+//! keeps for good, so they are read no faster than their channel's budget allows.
 use crate::throttles::Throttles;
 use jup_wire::channel::Channel;
 use std::io::Read;
@@ -8,18 +8,17 @@ use std::sync::Wait;
 use std::time::Duration;
 use std::{io, thread};
 
-/// So many bytes of a connection neither wait nor count: an honest client's handshake and its first
+/// How many bytes of a connection are neither delayed nor counted. An honest client's handshake and first
 /// subscriptions have fewer.
 pub const FREE_BYTES: usize = 192;
 
-// Then so many are read at a time, so that a connection owes little when it is to wait.
+// How many bytes are read at a time after that, so that a connection owes little when it has to wait.
 const PIECE: usize = 4_096;
 
-// The longest sleep before it is asked again how long to wait.
+// The longest sleep before the budget is checked again.
 const SLEEP_MILLIS: u64 = 500;
 
-/// A reader whose bytes, if they are unsigned, wait for the budget of their channel, each read for so many
-/// milliseconds at most. So many were read without waiting.
+/// A reader that delays unsigned bytes as the budget of their channel says.
 #[derive(Drop)]
 pub struct UnsignedStream<'a, S: Read + Drop, R: Wait + Clock> {
     pub stream: S,
@@ -27,12 +26,14 @@ pub struct UnsignedStream<'a, S: Read + Drop, R: Wait + Clock> {
     pub throttles: &'a Throttles,
     pub channel: Channel,
     pub is_signed: bool,
+    /// The longest delay of one read, in milliseconds.
     pub patience: u64,
+    /// How many bytes were read so far.
     pub read: usize,
 }
 
 impl<'a, S: Read + Drop, R: Wait + Clock> UnsignedStream<'a, S, R> {
-    // Waits until the budget allows a read, or patience has ended.
+    // Waits until the budget allows a read, or `patience` is over.
     fn wait(&self) {
         let mut left = self.patience;
         for _ in self.rt.forever() {

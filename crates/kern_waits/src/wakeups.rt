@@ -1,4 +1,4 @@
-//! What the threads of a server use to wake one another.
+//! How the threads of a server wake one another.
 ghost use Rattle.std.specs.Prelude.{◌≡◌, ◌≢◌, ◌↔◌, IsTrue, true, false};
 ghost use Rattle.kern_waits.specs.Known.{posts_since, posts_of, IsFirstDoubt};
 
@@ -14,15 +14,15 @@ use std::time::Duration;
 /// How many connections of a channel are served at the same time.
 pub const SLOTS: usize = 16;
 
-// Everybody is woken after every 256 notifications that woke only some. A writer to which nothing was posted
-// then moves on, past posts to others: else the posts from which it is to go on would be dropped at last (a
-// call makes at most eight, and 4,096 are kept). And the worker checks how full the journal is.
+// Every 256th notification that would wake only some threads wakes them all. So a writer to which nothing was
+// posted moves on past the posts to others, before the post at which it is to go on is dropped (a call makes
+// at most eight posts, and 4,096 are kept). And the worker checks how full the journal is.
 const TARGETED_PER_ROUND: u64 = 256;
 
-// How many posts a request makes that gives the worker nothing to do: busy, its reply and idle.
+// How many posts a request makes that gives the worker nothing to do: busy, its reply, and idle.
 const POSTS_OF_A_REQUEST: u64 = 3;
 
-// How long the statuses of debug requests may wait, in microseconds: somewhat less than a quarter of a
+// How long the statuses of debug requests may be delayed, in microseconds: a little less than a quarter of a
 // second.
 const STATUS_MICROS: u64 = 245_000;
 
@@ -33,19 +33,20 @@ pub struct Slot {
     pub number: usize,
 }
 
-// Up to where posts are known not to be a running cell's.
+// The posts that are known not to be a running cell's.
 #[derive(Drop)]
 struct KnownPosts {
-    // The number of the next post, and how many requests had been counted by then.
+    // The number of the first post that isn't known, and how many requests had been counted by then.
     next: u64,
     requests: u64,
-    // Whether the last look found fewer posts than these requests make.
+    // Whether the last look found fewer posts than the requests make.
     is_in_doubt: bool,
 }
 
 impl KnownPosts {
-    // Notes the number of the next post after so many requests, and returns whether a running cell may have
-    // posted something. A request makes three posts; if fewer came twice in a row, some requests made fewer.
+    // Notes the number of the next post and the number of requests, and returns whether a running cell may
+    // have posted something. A request makes three posts; if there were fewer twice in a row, some requests
+    // made fewer.
     fn has_more(&mut self, next: u64, requests: u64) -> bool
         ensures doubt { IsFirstDoubt self.old next requests
             → (result ≡ false) × (self.new ≡ record self.old { is_in_doubt = true }) }
@@ -76,26 +77,26 @@ pub enum Readers {
     LagBehind,
 }
 
-/// An event count for the worker, one for the writer of each connection slot, and plain counters that nobody
-/// waits for.
+/// An event count for the worker, one for the writer of each connection slot, and plain counters on which
+/// nobody waits.
 #[derive(Drop)]
 pub struct Wakeups {
     work: EventCount,
     iopub: Vec<EventCount>,
     others: Vec<EventCount>,
     targeted: AtomicU64,
-    // Whether statuses of debug requests wait for the writers of iopub, and since when.
+    // Whether statuses of debug requests are delayed, and since when.
     has_looks: AtomicBool,
     looked: AtomicU64,
     stopwatch: Stopwatch,
-    // The requests that gave the worker nothing to do, whose posts are known.
+    // How many requests gave the worker nothing to do. Their posts are known.
     requests: AtomicU64,
     known: Mutex<KnownPosts>,
-    // The slot of iopub whose writer looks for posts, counted from 1, and how often posts of a running cell
-    // were found.
+    // The slot of iopub whose writer looks for posts, counted from 1, and how often it found posts of a
+    // running cell.
     poller: AtomicU64,
     finds: AtomicU64,
-    // How many writers of iopub there are.
+    // The number of writers of iopub.
     subscribers: AtomicU64,
     is_closing: AtomicBool,
     writers: Mutex<u64>,
@@ -104,7 +105,7 @@ pub struct Wakeups {
     subscriptions: AtomicU64,
 }
 
-// So many event counts of 0.
+// A number of event counts of 0.
 fn new_event_counts(alloc: Global, count: usize) -> Result<Vec<EventCount>, AllocError> {
     let mut counts = Vec::new(alloc);
     for _ in 0..count {
@@ -179,7 +180,7 @@ impl Wakeups {
         }
     }
 
-    // Counts a call that notified only some.
+    // Counts a notification that woke only some threads.
     fn count_targeted(&self) {
         let targeted = self.targeted.fetch_add(1, Ordering::SeqCst);
         if targeted % TARGETED_PER_ROUND == TARGETED_PER_ROUND - 1 {
@@ -201,8 +202,8 @@ impl Wakeups {
         self.count_targeted();
     }
 
-    /// Wakes this connection's writer for the reply to a debug request. Its statuses go out with what iopub
-    /// is sent next, after a quarter of a second at most.
+    /// Wakes this connection's writer for the reply to a debug request. Its statuses go out with what is
+    /// written on iopub next, after a quarter of a second at most.
     pub fn after_look<C: Clock>(&self, clock: &C, own: &EventCount) {
         self.requests.fetch_add(1, Ordering::SeqCst);
         own.notify();
@@ -215,12 +216,12 @@ impl Wakeups {
         self.count_targeted();
     }
 
-    /// Microseconds since the server began; none if no clock can be read.
+    /// Microseconds since the server began. None if the clock can't be read.
     pub fn micros<C: Clock>(&self, clock: &C) -> Option<u64> {
         self.stopwatch.micros(clock)
     }
 
-    // How long the statuses of debug requests may still wait, in microseconds.
+    // How much longer the statuses of debug requests may be delayed, in microseconds.
     fn remaining_delay(&self, now: u64) -> u64 {
         let until = self
             .looked
@@ -229,14 +230,15 @@ impl Wakeups {
         until.saturating_sub(now)
     }
 
-    /// Wakes the writers of iopub if statuses wait that must go out within so many microseconds.
+    /// Wakes the writers of iopub if there are delayed statuses that must go out within the next `micros`
+    /// microseconds.
     pub fn flush_statuses(&self, now: u64, micros: u64) {
         if self.has_looks.load(Ordering::SeqCst) && self.remaining_delay(now) <= micros {
             self.wake_iopub();
         }
     }
 
-    // Whether the writer that looked for posts last is still busy with what it found.
+    // Whether the writer that last looked for posts is still busy with what it found.
     fn is_poller_busy(&self) -> bool {
         let last = self.poller.load(Ordering::SeqCst) as usize;
         match self.iopub.get(last.wrapping_sub(1)) {
@@ -245,7 +247,7 @@ impl Wakeups {
         }
     }
 
-    // A writer of iopub that sleeps, after the one that looked for posts last.
+    // The next writer of iopub that sleeps, after the one that last looked for posts.
     fn next_poller(&self) -> Option<(usize, &EventCount)> {
         let last = self.poller.load(Ordering::SeqCst) as usize;
         for step in 0..SLOTS {
@@ -259,9 +261,9 @@ impl Wakeups {
         None
     }
 
-    /// Has one writer of iopub look whether a running cell has posted something; if the last one is still
+    /// Has one writer of iopub look whether a running cell has posted something. If the last one is still
     /// busy with that, if all are busy, or if there is none, wakes all writers. So a cell that posts nothing
-    /// costs one Fetch, and not one for each writer. Tells whether the writers keep up.
+    /// costs one Fetch, and not one for each writer. Returns whether the writers keep up.
     pub fn look_for_posts(&self) -> Readers {
         if !self.is_poller_busy()
             && let Some((number, event_count)) = self.next_poller()
@@ -280,8 +282,8 @@ impl Wakeups {
         Readers::LagBehind
     }
 
-    /// A writer has fetched all posts below this number. If it is the one that looks for posts, and a running
-    /// cell has made some, all writers are woken.
+    /// Notes that a writer has fetched all posts below number `next`. If it is the one that looks for posts,
+    /// and a running cell has posted something, wakes all writers.
     pub fn note_posts<R: Wait>(&self, rt: &R, slot: Slot, next: u64) {
         let number = (slot.number as u64).saturating_add(1);
         if slot.channel != Channel::Iopub || self.poller.load(Ordering::SeqCst) != number {
@@ -294,12 +296,13 @@ impl Wakeups {
         }
     }
 
-    /// How often posts of a running cell were found.
+    /// How often a look has found posts of a running cell.
     pub fn finds(&self) -> u64 {
         self.finds.load(Ordering::SeqCst)
     }
 
-    /// Waits until work may have come since the count was `seen`, and meanwhile lets statuses go out in time.
+    /// Waits until the worker may have something to do, where its event count was `seen`, and returns that
+    /// count. Meanwhile it lets delayed statuses go out in time.
     pub fn wait_for_work<R: Wait + Clock>(&self, rt: &R, seen: u64) -> u64 {
         for _ in rt.forever() {
             let mut count = self.work.wait_unless(rt, seen, &self.has_looks);
@@ -320,17 +323,18 @@ impl Wakeups {
         unreachable!()
     }
 
-    /// The same, but for no longer than `most`.
+    /// Waits until the worker may have something to do, but no longer than `most`, and returns its event
+    /// count.
     pub fn wait_for_work_timeout<R: Wait>(&self, rt: &R, seen: u64, most: Duration) -> u64 {
         self.work.wait_timeout(rt, seen, most)
     }
 
-    /// Whether the worker has ended: what was posted by now is all that it posts.
+    /// Whether the worker has ended, so that it posts nothing more.
     pub fn is_closing(&self) -> bool {
         self.is_closing.load(Ordering::SeqCst)
     }
 
-    /// A writer begins.
+    /// Counts a writer that begins.
     pub fn add_writer<R: Wait>(&self, rt: &R, channel: Channel) {
         if channel == Channel::Iopub {
             self.subscribers.fetch_add(1, Ordering::SeqCst);
@@ -339,7 +343,7 @@ impl Wakeups {
         *writers = writers.wrapping_add(1);
     }
 
-    /// A writer has ended.
+    /// Counts a writer that has ended.
     pub fn remove_writer<R: Wait>(&self, rt: &R, channel: Channel) {
         if channel == Channel::Iopub {
             self.subscribers.fetch_sub(1, Ordering::SeqCst);
@@ -350,8 +354,8 @@ impl Wakeups {
         self.writers_ended.notify_all();
     }
 
-    /// Tells the writers that the worker has ended, and waits until none is left, but no longer than so
-    /// long.
+    /// Tells the writers that the worker has ended, and waits until all have ended, but no longer than
+    /// `most`.
     pub fn close<R: Wait + Clock>(&self, rt: &R, most: Duration) {
         self.is_closing.store(true, Ordering::SeqCst);
         self.wake_writers();
@@ -360,7 +364,7 @@ impl Wakeups {
             .wait_timeout_while(rt, self.writers.lock(rt), most, |writers| *writers != 0);
     }
 
-    /// So many calls were made that may have left entries in the journal.
+    /// Counts calls that may have left entries in the journal.
     pub fn count_entries(&self, count: u64) {
         self.entries.fetch_add(count, Ordering::SeqCst);
     }
@@ -370,7 +374,7 @@ impl Wakeups {
         self.entries.load(Ordering::SeqCst)
     }
 
-    /// A subscription was taken, after so many others.
+    /// Counts a subscription, and returns how many there were before it.
     pub fn count_subscription(&self) -> u64 {
         self.subscriptions.fetch_add(1, Ordering::SeqCst)
     }

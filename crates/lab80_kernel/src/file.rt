@@ -1,4 +1,4 @@
-//! Connection files on disk.
+//! Reading connection files.
 use crate::line::say;
 use cli_io::status::Status;
 use jup_wire::connection_file::{ConnectionFile, FileFault};
@@ -6,7 +6,7 @@ use std::os::unix::fs::FileTypeExt;
 use std::rt::Files;
 use std::{fs, io};
 
-// Says why a file isn't read, and gives the status.
+// Prints why a file can't be read, and returns the status.
 fn tell_unread(rt: &impl Print, kind: io::ErrorKind) -> Status {
     match kind {
         io::ErrorKind::OutOfMemory => Status::OutOfMemory,
@@ -15,7 +15,7 @@ fn tell_unread(rt: &impl Print, kind: io::ErrorKind) -> Status {
     }
 }
 
-// Whether it is a pipe: to read one waits for ever if nobody writes to it.
+// Whether a file is a pipe. Reading one would wait for ever if nobody writes to it.
 fn is_pipe<R: Files>(rt: &R, file: &str) -> bool {
     match fs::metadata(rt, file) {
         Ok(metadata) => metadata.file_type().is_fifo(),
@@ -37,7 +37,7 @@ fn read_bytes<R: Files + Print + AllocGlobal>(rt: &R, file: &str) -> Result<Vec<
     }
 }
 
-/// Reads a connection file; where it can't, says why, and gives the status.
+/// Reads a connection file. If it can't, prints why, and returns the status.
 pub fn read_file<R: Files + Print + AllocGlobal>(
     rt: &R,
     file: &str,

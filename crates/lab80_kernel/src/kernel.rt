@@ -1,4 +1,4 @@
-//! The word `kernel`.
+//! The subcommand `kernel`.
 use crate::file::read_file;
 use crate::line::say;
 use cli_io::status::Status;
@@ -13,7 +13,7 @@ use std::rt::{Clock, Files};
 use std::sync::Wait;
 use std::thread::Threads;
 
-// Says why the ports can't be had, and gives the status.
+// Prints why the ports can't be bound, and returns the status.
 fn tell_unbound(rt: &impl Print, kind: io::ErrorKind) -> Status {
     match kind {
         io::ErrorKind::AddrInUse => say(rt, "port in use", Status::Failed),
@@ -21,7 +21,7 @@ fn tell_unbound(rt: &impl Print, kind: io::ErrorKind) -> Status {
     }
 }
 
-// The listeners of a connection file.
+// Binds the ports of a connection file.
 fn listen<R: Print + Net<Listener = TcpListener, Stream = TcpStream>>(
     rt: &R,
     file: &ConnectionFile,
@@ -36,18 +36,18 @@ fn listen<R: Print + Net<Listener = TcpListener, Stream = TcpStream>>(
     }
 }
 
-// How serving ended.
+// Prints how serving ended, where that needs a line, and returns the status.
 fn tell_end(rt: &impl Print, end: Result<ServerEnd, ServerFault>) -> Status {
     match end {
         Ok(ServerEnd::ShutDown) => Status::Success,
-        // A full journal is told by the number of want of memory: no call has room any more.
+        // A full journal has the status of out of memory, since there is no room for another call.
         Ok(ServerEnd::JournalFull) => say(rt, "journal full", Status::OutOfMemory),
         Err(ServerFault::OutOfMemory) => Status::OutOfMemory,
         Err(ServerFault::System) => Status::Failed,
     }
 }
 
-// A connection file, and the listeners of its ports.
+// Reads a connection file and binds its ports.
 fn prepare<R: Files + Print + AllocGlobal + Net<Listener = TcpListener, Stream = TcpStream>>(
     rt: &R,
     file: &str,

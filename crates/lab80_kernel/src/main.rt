@@ -1,8 +1,7 @@
-// lab80's kernel: `lab80 kernel FILE` serves as the Jupyter kernel of a connection file, `lab80 term FILE`
-// runs the cell on standard input on one, and prints what it streams.
-// What each word does stands in crates of its own, with its contract: kern_serve and lab_term.
-// This file calls them with the files, sockets and streams of the system. The word `step` is that of the
-// program lab80_step, `asm` and `dis` are those of lab80.
+// lab80's kernel. `lab80 kernel FILE` serves as the Jupyter kernel of a connection file; `lab80 term FILE`
+// runs the cell on standard input on such a kernel, and prints its output. The crates kern_serve and lab_term
+// do this, and have the contracts; this program hands them the system's files, sockets and streams. The
+// subcommand `step` is the program lab80_step's, `asm` and `dis` are lab80's.
 #![tactic(auto)]
 
 mod file;

@@ -1,4 +1,4 @@
-//! The word `term`.
+//! The subcommand `term`.
 ghost use Rattle.std.specs.Prelude.{◌≡◌, ◌≤◌, false, IfOk};
 
 use crate::file::read_file;
@@ -18,12 +18,12 @@ use std::random::RandomSource;
 use std::rt::{Clock, Files};
 use std::{io, str};
 
-// What is printed where no connection could be made.
+// What is printed if there is no connection to a kernel.
 const NO_KERNEL: &str = "no kernel";
 
 type Socket = Connection<StdInlet<TcpStream>, StdOutlet<TcpStream>>;
 
-// A connection to a port of the kernel.
+// Connects to a port of the kernel.
 fn connect<R: Net<Listener = TcpListener, Stream = TcpStream>>(
     rt: &R,
     file: &ConnectionFile,
@@ -41,7 +41,7 @@ fn connect<R: Net<Listener = TcpListener, Stream = TcpStream>>(
     })
 }
 
-// The connections to shell and to iopub, if both could be made.
+// Connects to shell and to iopub.
 fn connect_both<R: Net<Listener = TcpListener, Stream = TcpStream>>(
     rt: &R,
     file: &ConnectionFile,
@@ -71,7 +71,7 @@ fn status_of(ran: Result<CellEnd, TermFault>) -> Status {
     }
 }
 
-// Runs the cell over two connections, and prints what it streams.
+// Runs the cell over two connections, and prints its output.
 fn run_over<R: Print + AllocGlobal>(
     rt: &R,
     shell: &mut Socket,
@@ -118,7 +118,7 @@ fn run_named<R: Net<Listener = TcpListener, Stream = TcpStream> + Print + AllocG
     }
 }
 
-// Runs the cell on a kernel, and prints what it streams.
+// Runs the cell on a kernel, and prints its output.
 fn run<
     R: Net<Listener = TcpListener, Stream = TcpStream> + Print + AllocGlobal + RandomSource + Clock,
 >(rt: &R, file: &ConnectionFile, code: &str) -> Status {

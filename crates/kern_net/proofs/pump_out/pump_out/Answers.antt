@@ -1,7 +1,7 @@
 use Rattle.std.proofs.Common.{refl, ◌∙◌, arith}
 use Rattle.kern_net.specs.Out.{NoFetch}
 use Rattle.kern_net.proofs.OutLemmas.{written_first, halted, halted_calls, went_on, went_fetched, went_longer}
-use Rattle.kern_net.proofs.OutLemmas.{went_over, went_closed, went_up, said_yes, said_no}
+use Rattle.kern_net.proofs.OutLemmas.{went_over, went_closed, went_up, said_yes, said_no, said_once}
 use Rattle.kern_net.proofs.pump_out.pump_out.Goals as goal
 
 pub loop-init : goal.loop-init
@@ -15,38 +15,54 @@ loop-init g c = record {
   polled = omega arith;
 }
 
-pub returns-in-Err-clause-wrote : goal.returns-in-Err-clause-wrote
-returns-in-Err-clause-wrote g c =
+pub returns-in-Err : goal.returns-in-Err
+returns-in-Err g c =
     let i = c.loop.invariant in
-    halted _ _ _ _ (g.G.WriterGate.polls c.args.gate.now)
-    (g.G.WriterGate.polls c.loop.gate) _ _ _ _ _ i.written i.fetched
-    i.gate _ c.in-Err.ensures.err
-
-pub returns-in-Err-clause-idle : goal.returns-in-Err-clause-idle
-returns-in-Err-clause-idle g c =
-    let a = c.loop.invariant.polled in
+    let a = i.polled in
     let h = halted_calls _ _ _ _ _ _ _ c.in-Err.ensures.err in
-    omega (arith, a, h)
+    record {
+      same = (c.fetch_on.ensures.same.0, c.fetch_on.ensures.same.1 ∙ i.seat);
+      wrote =
+          halted _ _ _ _ (g.G.WriterGate.polls c.args.gate.now) (g.G.WriterGate.polls c.loop.gate) _ _ _ _ _
+          i.written i.fetched i.gate _ c.in-Err.ensures.err;
+      idle = omega (arith, a, h);
+    }
 
-pub returns-then-ended-clause-wrote : goal.returns-then-ended-clause-wrote
-returns-then-ended-clause-wrote g c =
+pub returns-then-ended : goal.returns-then-ended
+returns-then-ended g c =
     let i = c.loop.invariant in
+    let a = i.polled in
+    let n = went_longer _ _ _ _ _ _ _ _ c.in-Ok.ensures.ok in
     let moved = c.saturating_sub.ensures in
     let short = c.if-saturating_sub-lt-NUMBERS_OF_A_FETCH.true in
-    went_over _ _ _ _ (g.G.WriterGate.polls c.args.gate.now)
-    (g.G.WriterGate.polls c.loop.gate) _ _ _ _ _ _ _ i.written
-    i.fetched c.in-Ok.ensures.ok c.in-Ok.ensures.good (omega (arith, moved, short)) i.gate c.if-ended.true
+    record {
+      same = (c.fetch_on.ensures.same.0, c.fetch_on.ensures.same.1 ∙ i.seat);
+      wrote =
+          went_over _ _ _ _ (g.G.WriterGate.polls c.args.gate.now) (g.G.WriterGate.polls c.loop.gate)
+          _ _ _ _ _ _ _ i.written i.fetched c.in-Ok.ensures.ok c.in-Ok.ensures.good (omega
+          (arith, moved, short)) i.gate c.if-ended.true;
+      idle = omega (arith, a, n);
+    }
 
-pub returns-then-not-idle-clause-wrote : goal.returns-then-not-idle-clause-wrote
-returns-then-not-idle-clause-wrote g c =
+pub returns-then-not-idle : goal.returns-then-not-idle
+returns-then-not-idle g c =
     let i = c.loop.invariant in
+    let a = i.polled in
+    let n = went_longer _ _ _ _ _ _ _ _ c.in-Ok.ensures.ok in
+    let once = said_once (g.G.WriterGate.polls c.loop.gate) (g.G.WriterGate.polls c.idle.new.self) _
+    c.idle.ensures in
     let moved = c.saturating_sub.ensures in
     let short = c.if-saturating_sub-lt-NUMBERS_OF_A_FETCH.true in
-    went_closed _ _ _ _ (g.G.WriterGate.polls c.args.gate.now)
-    (g.G.WriterGate.polls c.idle.new.self) _ _ _ _ _ _ _
-    i.written i.fetched c.in-Ok.ensures.ok c.in-Ok.ensures.good (omega (arith, moved, short))
-    (said_no (g.G.WriterGate.polls c.loop.gate) (g.G.WriterGate.polls c.idle.new.self) _ c.idle.ensures
-    c.if-not-idle.true i.gate)
+    record {
+      same = (c.fetch_on.ensures.same.0, c.fetch_on.ensures.same.1 ∙ i.seat);
+      wrote =
+          went_closed _ _ _ _ (g.G.WriterGate.polls c.args.gate.now)
+          (g.G.WriterGate.polls c.idle.new.self) _ _ _ _ _ _ _
+          i.written i.fetched c.in-Ok.ensures.ok c.in-Ok.ensures.good (omega (arith, moved, short))
+          (said_no (g.G.WriterGate.polls c.loop.gate) (g.G.WriterGate.polls c.idle.new.self) _ c.idle.ensures
+          c.if-not-idle.true i.gate);
+      idle = omega (arith, a, n, once);
+    }
 
 pub loop-preserved-else-not-idle : goal.loop-preserved-else-not-idle
 loop-preserved-else-not-idle g c =

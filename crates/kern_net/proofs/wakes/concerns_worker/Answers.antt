@@ -2,7 +2,7 @@ use Rattle.std.proofs.Common.{◌∙◌, sym, ap, not}
 use Rattle.kern_core.specs.declared.call.Arrival.{Arrival}
 use Rattle.kern_net.specs.Wakes.{spared_by, concerns_worker}
 use Rattle.kern_net.proofs.WakeLemmas.{gives_none}
-use Rattle.kern_net.proofs.wakes.gives_work.Goals as goal
+use Rattle.kern_net.proofs.wakes.concerns_worker.Goals as goal
 
 pub returns-in-Subscribe-clause-law : goal.returns-in-Subscribe-clause-law
 returns-in-Subscribe-clause-law c = λ none. gives_none c.args.call.now (ap concerns_worker c.in-Subscribe.is)
