@@ -13,8 +13,8 @@ use Rattle.lab_core.specs.declared.answer.Stop.TheVariants as stop
 use Rattle.lab_core.specs.Board.{Board}
 use Rattle.lab_core.specs.Slices.{traffic_of}
 use Rattle.lab_core.specs.Labs.{LabState, StandsFor}
-use Rattle.lab_slice.specs.Slices.{slice_end, after_slice}
-use Rattle.lab_slice.specs.Console.{written_to_console, wants_line}
+use Rattle.lab_core.specs.SliceEnds.{slice_end, after_slice}
+use Rattle.i80_devs.specs.Console.{written_to_console, wants_line}
 use Rattle.dap_answers.specs.declared.answer.StopReason.{StopReason}
 use Rattle.dap_answers.specs.declared.answer.StopReason.TheVariants as reason
 use Rattle.dap_editor.specs.declared.message.EditorEvent.{EditorEvent}

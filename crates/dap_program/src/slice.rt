@@ -19,8 +19,8 @@ use dap_editor::message::{EditorEvent, EditorStop, Message, OutputCategory};
 use i80_exec::ports::PortOperation;
 use lab_core::answer::{End, SliceOutcome, Stop};
 use lab_core::lab::Lab;
-use lab_slice::console::{is_line_requested, print_all};
-use lab_slice::slice::{STEPS, run_slice};
+use i80_devs::console::{is_line_requested, print_all};
+use lab_core::run_slice::{STEPS, run_slice};
 use std::alloc::{AllocError, Global};
 
 /// The messages about a slice, and how it ended.

@@ -35,8 +35,8 @@ use Rattle.dap_program.specs.Failures.{load_event}
 use Rattle.dap_program.specs.Loading.{load_result}
 use Rattle.dap_program.specs.Openings.{changed_events, first_events, opening_events}
 use Rattle.dap_program.specs.Messages.{as_messages, events_of}
-use Rattle.lab_slice.specs.Slices.{slice_end}
-use Rattle.lab_slice.specs.Console.{written_to_console}
+use Rattle.lab_core.specs.SliceEnds.{slice_end}
+use Rattle.i80_devs.specs.Console.{written_to_console}
 use Rattle.dap_program.specs.Slices.{slice_events, console_events, line_events, outcome_events}
 use Rattle.dap_program.specs.Slices.{run_end_events}
 use Rattle.dap_program.proofs.SliceLemmas.{told-append}

@@ -7,7 +7,7 @@ use Rattle.lab_core.specs.declared.run_state.RunState.{RunState}
 use Rattle.lab_core.specs.declared.run_state.RunState.TheVariants.{NoRun, Running, Stopped}
 use Rattle.lab_core.specs.Board.{Board}
 use Rattle.lab_core.specs.Labs.{LabState, StandsFor as LabStandsFor, Did}
-use Rattle.lab_slice.specs.Slices.{after_slice}
+use Rattle.lab_core.specs.SliceEnds.{after_slice}
 use Rattle.dap_answers.specs.declared.answer.Body.{Body}
 use Rattle.dap_board.specs.Commands.{Performed, Performs}
 use Rattle.dap_program.specs.Boards.{Stands}

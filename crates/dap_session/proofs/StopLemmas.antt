@@ -18,8 +18,8 @@ use Rattle.lab_core.specs.declared.run_state.RunState.TheVariants.{NoRun, Runnin
 use Rattle.lab_core.specs.Board.{Board}
 use Rattle.lab_core.specs.Events.{given}
 use Rattle.lab_core.specs.Slices.{traffic_of, after_steps, left_by}
-use Rattle.lab_slice.specs.Slices.{slice_end}
-use Rattle.lab_slice.specs.Console.{written_to_console, wants_line}
+use Rattle.lab_core.specs.SliceEnds.{slice_end}
+use Rattle.i80_devs.specs.Console.{written_to_console, wants_line}
 use Rattle.dap_answers.specs.declared.answer.Body.TheVariants as body
 use Rattle.dap_answers.specs.Murmur.{cell_path}
 use Rattle.dap_talk.specs.declared.command.DapCommand.{DapCommand}

@@ -17,8 +17,8 @@ use Rattle.dap_editor.specs.declared.request.Asked.{Asked}
 use Rattle.dap_editor.specs.declared.request.Asked.TheVariants as asked
 use Rattle.dap_editor.specs.declared.request.EditorCommand.TheVariants as editor
 use Rattle.dap_program.specs.declared.messages.Caller.{Caller}
-use Rattle.lab_slice.specs.Slices.{slice_end}
-use Rattle.lab_slice.specs.Console.{written_to_console}
+use Rattle.lab_core.specs.SliceEnds.{slice_end}
+use Rattle.i80_devs.specs.Console.{written_to_console}
 use Rattle.dap_launch.specs.declared.program.Phase.{Phase}
 use Rattle.dap_launch.specs.declared.program.Phase.TheVariants as phase
 use Rattle.dap_launch.specs.declared.program.Program.{Program}

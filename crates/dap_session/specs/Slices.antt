@@ -7,7 +7,7 @@ use Rattle.dap_editor.specs.declared.message.Message.{Message}
 use Rattle.dap_editor.specs.declared.request.EditorRequest.{EditorRequest}
 use Rattle.dap_program.specs.declared.messages.Caller.{Caller}
 use Rattle.dap_program.specs.Messages.{as_messages, turn_messages}
-use Rattle.lab_slice.specs.Slices.{slice_end}
+use Rattle.lab_core.specs.SliceEnds.{slice_end}
 use Rattle.dap_program.specs.Slices.{slice_events}
 use Rattle.dap_launch.specs.declared.file.FileText.{FileText}
 use Rattle.dap_session.specs.declared.settings.SessionSettings.{SessionSettings}

@@ -5,6 +5,7 @@
 // `reserve_out` makes room for them beforehand, so that no IN or OUT can fail.
 #![tactic(auto)]
 
+pub mod console;
 pub mod devices;
 pub mod laws;
 mod panel;

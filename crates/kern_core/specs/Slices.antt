@@ -13,7 +13,7 @@ use Rattle.kern_exec.specs.declared.execution.Execution.{Execution}
 use Rattle.kern_exec.specs.declared.execution.Current.{Current}
 use Rattle.kern_exec.specs.Executions.{Work, current_of, load_first, clear_pending, clear_current}
 use Rattle.kern_exec.specs.Ends.{loading_letters, slice_letters}
-use Rattle.lab_slice.specs.Slices.{slice_end, after_slice}
+use Rattle.lab_core.specs.SliceEnds.{slice_end, after_slice}
 use Rattle.kern_exec.specs.Boards.{cell_given, loading_of, board_after}
 use Rattle.kern_core.specs.declared.call.Reply.{Reply}
 use Rattle.kern_core.specs.declared.call.Reply.TheVariants.{More, Idle, Ended}

@@ -10,7 +10,7 @@ use Rattle.lab_core.specs.declared.answer.End.{End}
 use Rattle.lab_core.specs.declared.answer.End.TheVariants as end
 use Rattle.lab_core.specs.declared.answer.Stop.{Stop}
 use Rattle.lab_core.specs.declared.answer.Stop.TheVariants as stop
-use Rattle.lab_slice.specs.Console.{written_to_console, wants_line}
+use Rattle.i80_devs.specs.Console.{written_to_console, wants_line}
 use Rattle.dap_answers.specs.declared.answer.StopReason.{StopReason}
 use Rattle.dap_answers.specs.declared.answer.StopReason.TheVariants as reason
 use Rattle.dap_answers.specs.declared.answer.Event.TheVariants.{Stopped}

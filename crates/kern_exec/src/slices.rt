@@ -18,8 +18,8 @@ use kern_post::content::{Cause, Content, Ending};
 use kern_post::letters::Letters;
 use kern_post::post::{Envelope, Letter};
 use lab_core::answer::{End, SliceOutcome, Stop};
-use lab_slice::console::{is_line_requested, print_all};
-use lab_slice::slice::STEPS;
+use i80_devs::console::{is_line_requested, print_all};
+use lab_core::run_slice::STEPS;
 use std::alloc::{AllocError, Global};
 
 /// Buffers and envelopes for all that a slice of an execution can post, allocated before its first step.

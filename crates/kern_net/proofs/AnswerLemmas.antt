@@ -8,7 +8,7 @@ use Rattle.lab_core.specs.declared.answer.SliceOutcome.TheVariants as outcome
 use Rattle.lab_core.specs.declared.run_state.RunState.{RunState}
 use Rattle.lab_core.specs.declared.run_state.RunState.TheVariants as run
 use Rattle.kern_exec.specs.declared.execution.Execution.{Execution}
-use Rattle.lab_slice.specs.Slices.{slice_end}
+use Rattle.lab_core.specs.SliceEnds.{slice_end}
 use Rattle.kern_core.specs.declared.call.Call.{Call}
 use Rattle.kern_core.specs.declared.call.Call.TheVariants.{Slice}
 use Rattle.kern_core.specs.declared.call.Reply.{Reply}

@@ -24,7 +24,7 @@ use Rattle.kern_post.specs.declared.content.Content.{Content}
 use Rattle.kern_post.specs.Posts.{fetched as posts_to, first_kept, next_from}
 use Rattle.kern_exec.specs.declared.execution.Execution.{Execution}
 use Rattle.kern_exec.specs.Executions.{execution_of, enqueue}
-use Rattle.lab_slice.specs.Slices.{slice_end}
+use Rattle.lab_core.specs.SliceEnds.{slice_end}
 use Rattle.kern_core.specs.declared.call.Call.{Call}
 use Rattle.kern_core.specs.declared.call.Call.TheVariants as call
 use Rattle.kern_core.specs.declared.call.Reply.TheVariants as reply

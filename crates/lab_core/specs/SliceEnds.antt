@@ -24,3 +24,10 @@ sliced_at b (k, ending) = (answer.Sliced k (traffic_of k b) ending, left_by endi
 abbrev pub traffic_in : Answer → List PortOperation
 traffic_in (answer.Sliced k traffic ending) = traffic
 traffic_in _ = []
+
+-- where a slice of 4,096 steps ends, and how
+abbrev pub slice_end : Board → ℕ × SliceOutcome
+slice_end b = slice_from 4096 0 b
+
+abbrev pub after_slice : Board → Board
+after_slice b = left_by (slice_end b).1 (after_steps (slice_end b).0 b)

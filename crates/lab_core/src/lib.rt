@@ -12,4 +12,5 @@ pub mod fault;
 pub mod lab;
 pub mod laws;
 pub mod marks;
+pub mod run_slice;
 pub mod run_state;

@@ -26,7 +26,7 @@ use kern_exec::runs::start;
 use kern_exec::slices::{PreparedSlice, letters_of, prepare_slice};
 use lab_core::answer::SliceOutcome;
 use lab_core::run_state::RunState;
-use lab_slice::slice::run_slice;
+use lab_core::run_slice::run_slice;
 use std::alloc::AllocError;
 
 impl KernelState {

@@ -1,7 +1,7 @@
 use Rattle.std.proofs.Common.{◌≡◌, ◌≤◌, take, vec_len, vec_capacity, length}
 use Rattle.std.specs.List.{filter_map}
-use Rattle.lab_slice.specs.Console.{written_to_console}
-use Rattle.lab_slice.proofs.console.print_all.Given as goal
+use Rattle.i80_devs.specs.Console.{written_to_console}
+use Rattle.i80_devs.proofs.console.print_all.Given as goal
 
 abbrev pub invariant-loop-operation : goal.invariant-loop-operation
 invariant-loop-operation l = record {

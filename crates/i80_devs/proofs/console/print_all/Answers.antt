@@ -2,9 +2,9 @@ use Rattle.std.proofs.Common.{◌∙◌, ◌++◌, ◌∷◌, [], ap, sym, arith
 use Rattle.std.specs.List.{filter_map}
 use Rattle.i80_exec.specs.declared.ports.PortOperation.{PortOperation}
 use Rattle.i80_exec.specs.declared.ports.PortOperation.TheVariants.{In}
-use Rattle.lab_slice.specs.Console.{written_to_console as written}
-use Rattle.lab_slice.proofs.ConsoleLemmas.{written_more}
-use Rattle.lab_slice.proofs.console.print_all.Goals as goal
+use Rattle.i80_devs.specs.Console.{written_to_console as written}
+use Rattle.i80_devs.proofs.ConsoleLemmas.{written_more}
+use Rattle.i80_devs.proofs.console.print_all.Goals as goal
 
 pub loop-operation-preserved : goal.loop-operation-preserved
 loop-operation-preserved c =

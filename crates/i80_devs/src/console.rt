@@ -1,7 +1,7 @@
 //! What port operations say of the console.
 ghost use Rattle.std.specs.Prelude.{◌≡◌, ◌<◌, ◌≤◌, ◌+◌, ◌++◌, ◌∷◌, [], length, vec_len, vec_capacity};
 ghost use Rattle.std.specs.List.{filter_map, list_any};
-ghost use Rattle.lab_slice.specs.Console.{written_to_console, wants_line};
+ghost use Rattle.i80_devs.specs.Console.{written_to_console, wants_line};
 
 use i80_exec::ports::PortOperation;
 

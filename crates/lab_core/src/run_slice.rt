@@ -4,12 +4,12 @@ ghost use Rattle.lab_core.specs.declared.run_state.RunState.TheVariants.{Running
 ghost use Rattle.lab_core.specs.Board.{Board};
 ghost use Rattle.lab_core.specs.Slices.{traffic_of};
 ghost use Rattle.lab_core.specs.Labs.{StandsFor};
-ghost use Rattle.lab_slice.specs.Slices.{slice_end, after_slice};
+ghost use Rattle.lab_core.specs.SliceEnds.{slice_end, after_slice};
 
 use i80_devs::traffic::Traffic;
-use lab_core::answer::{Answer, SliceOutcome};
-use lab_core::event::Event;
-use lab_core::lab::Lab;
+use crate::answer::{Answer, SliceOutcome};
+use crate::event::Event;
+use crate::lab::Lab;
 use std::alloc::AllocError;
 
 /// The steps of a slice, at most: so few that a pause or an interrupt waits a fraction of a millisecond.

@@ -4,7 +4,7 @@ use Rattle.std.proofs.lemmas.List.{take_more}
 use Rattle.std.proofs.lemmas.List.Elements.{filter_map-append}
 use Rattle.std.specs.List.{filter_map}
 use Rattle.i80_exec.specs.declared.ports.PortOperation.{PortOperation}
-use Rattle.lab_slice.specs.Console.{written_to_console as written}
+use Rattle.i80_devs.specs.Console.{written_to_console as written}
 
 pub written_more : (xs : List PortOperation) (i : ℕ) (d : PortOperation) → i < length xs
     → filter_map written (take (i + 1) xs)

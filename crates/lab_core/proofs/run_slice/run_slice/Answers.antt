@@ -1,7 +1,7 @@
 use Rattle.std.proofs.Common.{◌≤◌, length, refl, subst}
 use Rattle.lab_core.specs.declared.answer.Answer.{Answer}
 use Rattle.lab_core.specs.SliceEnds.{traffic_in}
-use Rattle.lab_slice.proofs.slice.run_slice.Goals as goal
+use Rattle.lab_core.proofs.run_slice.run_slice.Goals as goal
 
 pub returns-in-Ok-Sliced-clause-few : goal.returns-in-Ok-Sliced-clause-few
 returns-in-Ok-Sliced-clause-few c = λ b stands.
