@@ -1,5 +1,6 @@
 pub mod Ascii
 pub mod Faults
 pub mod Lexemes
+pub mod Numerals
 pub mod Outcome
 pub mod Words

@@ -6,6 +6,7 @@
 
 pub mod fault;
 pub mod keyword;
+pub mod numeral;
 pub mod statement;
 pub mod token;
 pub mod word;

@@ -8,7 +8,7 @@ use Rattle.base_text.specs.Bytes.{Text}
 use Rattle.asm_syntax.specs.Faults.{fault_name}
 use Rattle.asm_syntax.specs.Outcome.{CellFault, ◌>>=◌}
 use Rattle.asm_build.specs.Meaning.{Meaning}
-use Rattle.i80_dis.specs.Text.{word_text}
+use Rattle.asm_syntax.specs.Numerals.{word_text}
 use Rattle.lab_views.specs.declared.place.Place.{Place}
 use Rattle.lab_core.specs.Board.{Board}
 use Rattle.lab_core.specs.Events.{assembled}

@@ -3,7 +3,7 @@ ghost use Rattle.std.specs.Prelude.{◌≡◌, ◌≢◌, Result, Err, IfOk};
 ghost use Rattle.std.specs.List.{list_any};
 ghost use Rattle.asm_syntax.specs.Outcome.{CellFault, Gives};
 ghost use Rattle.asm_build.specs.Meaning.{Meaning, meaning_in};
-ghost use Rattle.i80_dis.specs.Text.{word_text};
+ghost use Rattle.asm_syntax.specs.Numerals.{word_text};
 ghost use Rattle.lab_core.specs.Board.{Board};
 ghost use Rattle.lab_core.specs.Events.{assembled};
 ghost use Rattle.lab_core.specs.Labs.{StandsFor};
@@ -17,7 +17,7 @@ use asm_build::cell::build;
 use asm_syntax::fault::AsmFault;
 use asm_text::statements::statements;
 use base_text::text::Text;
-use i80_dis::numeral::push_word;
+use asm_syntax::numeral::push_word;
 use lab_core::lab::Lab;
 use std::alloc::{AllocError, Global};
 

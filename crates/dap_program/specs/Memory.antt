@@ -2,7 +2,7 @@
 use Rattle.std.specs.Prelude.{◌≡◌, ℕ, ◌+◌, List, [], ◌∷◌, take}
 use Rattle.base_text.specs.Bytes.{Bytes}
 use Rattle.base_text.specs.Hexadecimal.{upper_word}
-use Rattle.i80_dis.specs.Text.{byte_text}
+use Rattle.asm_syntax.specs.Numerals.{byte_text}
 use Rattle.lab_core.specs.declared.event.Event.{Event}
 use Rattle.lab_core.specs.declared.event.Event.TheVariants.{Poke}
 use Rattle.lab_core.specs.Board.{Board}

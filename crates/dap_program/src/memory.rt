@@ -8,7 +8,7 @@ ghost use Rattle.dap_program.specs.Memory.{poke_of, with_bytes_at, WritesSome};
 use crate::change::change;
 use base_text::hexadecimal::push_word;
 use base_text::text::Text;
-use i80_dis::numeral::push_byte;
+use asm_syntax::numeral::push_byte;
 use lab_core::event::Event;
 use lab_core::lab::Lab;
 use std::alloc::{AllocError, Global};

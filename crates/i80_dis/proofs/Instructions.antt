@@ -40,7 +40,8 @@ use Rattle.asm_text.specs.Forms.{register_instruction, pair_instruction, index_i
 use Rattle.asm_text.specs.Forms.{move_between}
 use Rattle.asm_text.specs.Registers as word
 use Rattle.i80_dis.specs.declared.line.Shown.TheVariants.{Instruction, Datum}
-use Rattle.i80_dis.specs.Text.{byte_text, word_text, register_word, pair_word, index_word, stack_word}
+use Rattle.asm_syntax.specs.Numerals.{byte_text, word_text}
+use Rattle.i80_dis.specs.Text.{register_word, pair_word, index_word, stack_word}
 use Rattle.i80_dis.specs.Text.{vector_word, condition_word, operation_word, immediate_word, rotation_word}
 use Rattle.i80_dis.specs.Text.{operand_field, text_of}
 use Rattle.i80_dis.specs.Law.{AreBytes}

@@ -21,7 +21,8 @@ use Rattle.asm_lex.proofs.Spelled.{or_false}
 use Rattle.i80_rows.specs.declared.instruction.Vector.{Vector}
 use Rattle.i80_rows.specs.Codes.{vector_code}
 use Rattle.i80_rows.proofs.Each.{each_vector}
-use Rattle.i80_dis.specs.Text.{operand_field, byte_text, word_text, vector_word}
+use Rattle.asm_syntax.specs.Numerals.{byte_text, word_text}
+use Rattle.i80_dis.specs.Text.{operand_field, vector_word}
 use Rattle.i80_dis.proofs.Words.{is_word, IsNamed}
 
 -- ---- a text that is a token by itself

@@ -12,7 +12,8 @@ use Rattle.asm_syntax.specs.declared.statement.Statement.{Statement}
 use Rattle.asm_syntax.specs.Lexemes.{Number}
 use Rattle.asm_syntax.specs.Words.{keyword_of}
 use Rattle.asm_text.specs.Statements.{step_of, statements_from, statements_of}
-use Rattle.i80_dis.specs.Text.{word_text, operand_field, text_line, origin_line}
+use Rattle.asm_syntax.specs.Numerals.{word_text}
+use Rattle.i80_dis.specs.Text.{operand_field, text_line, origin_line}
 use Rattle.i80_dis.proofs.Printed.{IsShort, address_printed}
 use Rattle.asm_text.proofs.PlainLines.{number_at, does, Says, origin_says}
 use Rattle.i80_dis.proofs.Instructions.{Giving, action_by, IsSaid, one_said}

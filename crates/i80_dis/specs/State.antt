@@ -6,7 +6,8 @@ use Rattle.i80_dis.specs.declared.operand.Operands.{Operands}
 use Rattle.i80_dis.specs.declared.operand.Operands.TheVariants as operands
 use Rattle.i80_rows.specs.declared.instruction.Instr.{Instr}
 use Rattle.i80_rows.specs.declared.instruction.Instr.TheVariants.{JumpIf, CallIf, RetIf}
-use Rattle.i80_dis.specs.Text.{byte_text, word_text, condition_word, mnemonic}
+use Rattle.asm_syntax.specs.Numerals.{byte_text, word_text}
+use Rattle.i80_dis.specs.Text.{condition_word, mnemonic}
 
 -- a mnemonic without its condition, and the condition
 abbrev pub stem : Instr → List ℕ

@@ -1,7 +1,7 @@
 -- How a listing is written: mnemonics and operands of the 8080/8085 Assembly Language Programming
 -- Manual, chapter 3; numbers in hexadecimal, of two digits for a byte and four for a word.
 use Rattle.std.specs.Prelude.{ℕ, List, [], ◌∷◌, ◌++◌, codes}
-use Rattle.base_text.specs.Hexadecimal.{upper_byte, upper_word}
+use Rattle.asm_syntax.specs.Numerals.{byte_text, word_text}
 use Rattle.i80_rows.specs.declared.instruction.Cond.{Cond}
 use Rattle.i80_rows.specs.declared.instruction.Cond.TheVariants as cond
 use Rattle.i80_rows.specs.declared.instruction.IndexPair.{IndexPair}
@@ -29,16 +29,6 @@ use Rattle.i80_rows.specs.Codes.{reg_of}
 use Rattle.i80_dis.specs.declared.line.Shown.{Shown}
 use Rattle.i80_dis.specs.declared.line.Shown.TheVariants.{Instruction, Datum}
 use Rattle.i80_dis.specs.Shown.{first_shown, lines_of}
-
--- ---- numbers
-
--- a byte as `0hhH`, which begins with a digit
-abbrev pub byte_text : ℕ → List ℕ
-byte_text n = codes "0" ++ upper_byte n ++ codes "H"
-
--- a word as `0hhhhH`
-abbrev pub word_text : ℕ → List ℕ
-word_text n = codes "0" ++ upper_word n ++ codes "H"
 
 -- ---- words
 

@@ -8,5 +8,4 @@ pub mod laws;
 pub mod line;
 pub mod listing;
 mod mnemonic;
-pub mod numeral;
 mod operand;

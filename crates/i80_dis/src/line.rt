@@ -5,7 +5,7 @@ ghost use Rattle.i80_dis.specs.Shown.{first_shown, next_shown};
 ghost use Rattle.i80_dis.specs.Text.{text_of, first_text};
 
 use crate::mnemonic::push_mnemonic;
-use crate::numeral::push_byte;
+use asm_syntax::numeral::push_byte;
 use crate::operand::{operands_of, push_operands};
 use i80_rows::decoding::decode;
 use i80_rows::instruction::{DecodeFault, Instr};

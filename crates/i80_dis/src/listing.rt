@@ -2,11 +2,12 @@
 ghost use Rattle.std.specs.Prelude.{◌≡◌, ◌≤◌, ◌+◌, ◌++◌, length, map, IfOk, OnOk, codes, string_bytes};
 ghost use Rattle.i80_dis.specs.declared.line.Shown.TheVariants.{Datum};
 ghost use Rattle.i80_dis.specs.Shown.{lines_of};
-ghost use Rattle.i80_dis.specs.Text.{word_text, text_of, text_line, origin_line, text_of_lines};
+ghost use Rattle.asm_syntax.specs.Numerals.{word_text};
+ghost use Rattle.i80_dis.specs.Text.{text_of, text_line, origin_line, text_of_lines};
 ghost use Rattle.i80_dis.specs.Text.{listing_of};
 
 use crate::line::{Shown, next_shown, push_text};
-use crate::numeral::push_word;
+use asm_syntax::numeral::push_word;
 use std::alloc::{AllocError, Global};
 
 /// The most bytes of a line with its end: the longest is `LXI SP,0FFFFH`.

@@ -4,7 +4,7 @@ ghost use Rattle.i80_dis.specs.Text.{register_word, pair_word, index_word, stack
 ghost use Rattle.i80_dis.specs.Text.{operand_field};
 ghost use Rattle.i80_dis.specs.State.{operand_text, texts_of};
 
-use crate::numeral::{push_byte, push_word};
+use asm_syntax::numeral::{push_byte, push_word};
 use i80_rows::instruction::{IndexPair, Instr, Pair, Reg, StackPair, Vector};
 use std::alloc::AllocError;
 

@@ -10,7 +10,7 @@ use Rattle.std.specs.List.{range_with_len, Contains}
 use Rattle.std.specs.Str.{bytes_eq}
 use Rattle.base_text.specs.Hexadecimal.{upper_word}
 use Rattle.i80_exec.specs.State.{MachineState, byte_at, stored}
-use Rattle.i80_dis.specs.Text.{byte_text}
+use Rattle.asm_syntax.specs.Numerals.{byte_text}
 use Rattle.lab_views.specs.Paging.{asked_for}
 use Rattle.lab_views.specs.Parts.{Parts}
 use Rattle.lab_views.specs.Variables.{variable, register_variables, memory_variable}

@@ -9,7 +9,7 @@ use Rattle.i80_exec.specs.declared.registers.Registers.{Registers}
 use Rattle.i80_exec.specs.declared.registers.Interrupts.{Interrupts}
 use Rattle.i80_exec.specs.declared.registers.Interrupts.TheVariants.{Off, Arming, On}
 use Rattle.i80_devs.specs.Past.{PanelState, panel_after}
-use Rattle.i80_dis.specs.Text.{byte_text, word_text}
+use Rattle.asm_syntax.specs.Numerals.{byte_text, word_text}
 use Rattle.asm_build.specs.declared.symbols.Symbol.{Symbol}
 use Rattle.asm_build.specs.Reading.{Entries}
 use Rattle.lab_shown.specs.declared.shown.Variable.{Variable}

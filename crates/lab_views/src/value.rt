@@ -1,14 +1,14 @@
 //! What places hold, as texts, and as numbers that the assembler reads (8080/8085 Assembly Language
 //! Programming Manual, chapter 2).
 ghost use Rattle.std.specs.Prelude.{◌≡◌, ◌≤◌, IfOk};
-ghost use Rattle.i80_dis.specs.Text.{byte_text, word_text};
+ghost use Rattle.asm_syntax.specs.Numerals.{byte_text, word_text};
 ghost use Rattle.lab_views.specs.Values.{largest_at, number_spelled, value_spelled, text_at};
 
 use crate::place::Place;
 use crate::poke_fault::PokeFault;
 use asm_lex::number::number_of;
 use base_text::text::Text;
-use i80_dis::numeral::{push_byte, push_word};
+use asm_syntax::numeral::{push_byte, push_word};
 use std::alloc::{AllocError, Global};
 
 /// The number that the assembler reads from a text. It must begin with a digit.

@@ -1,7 +1,7 @@
 //! The variables of the five scopes.
 ghost use Rattle.std.specs.Prelude.{◌≡◌, ◌∷◌, ◌++◌, [], List, IfOk, OnOk};
 ghost use Rattle.std.specs.Fmt.{decimal};
-ghost use Rattle.i80_dis.specs.Text.{byte_text, word_text};
+ghost use Rattle.asm_syntax.specs.Numerals.{byte_text, word_text};
 ghost use Rattle.i80_devs.specs.Past.{Operation, StandsFor, panel_after};
 ghost use Rattle.lab_views.specs.Paging.{asked_for, page};
 ghost use Rattle.lab_views.specs.Variables as variables;
@@ -13,7 +13,7 @@ use base_text::hexadecimal;
 use base_text::sequence::Sequence;
 use base_text::text::Text;
 use i80_devs::devices::Devices;
-use i80_dis::numeral;
+use asm_syntax::numeral;
 use i80_exec::machine::Machine;
 use i80_exec::registers::{Interrupts, Registers};
 use i80_rows::memory::MEMORY_SIZE;

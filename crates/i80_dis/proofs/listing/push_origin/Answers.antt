@@ -1,6 +1,6 @@
 use Rattle.std.proofs.Common.{◌++◌, append_assoc, string_bytes}
 use Rattle.std.specs.Prelude.{codes}
-use Rattle.i80_dis.specs.Text.{word_text}
+use Rattle.asm_syntax.specs.Numerals.{word_text}
 use Rattle.i80_dis.proofs.listing.push_origin.Goals as goal
 
 pub returns : goal.returns

@@ -1,7 +1,7 @@
 //! Numbers of a listing (8080/8085 Assembly Language Programming Manual, chapter 3): upper-case
 //! hexadecimal that begins with the digit 0 and ends with H.
 ghost use Rattle.std.specs.Prelude.{◌≡◌, ◌++◌, OnOk, string_bytes};
-ghost use Rattle.i80_dis.specs.Text.{byte_text, word_text};
+ghost use Rattle.asm_syntax.specs.Numerals.{byte_text, word_text};
 
 use base_text::hexadecimal;
 use std::alloc::AllocError;
