@@ -1,4 +1,4 @@
--- What the layout round knows stands for the lines before, and its steps are those of the definition.
+-- What the layout round knows represents the lines before, and its steps are those of the definition.
 use Rattle.std.proofs.Common.{◌≡◌, ℕ, ◌+◌, ◌<◌, ◌≤◌, List, [], ◌∷◌, ◌++◌, Bool, true, false, cond, ◌||◌}
 use Rattle.std.proofs.Common.{Option, Some, None, Result, Ok, Err, length, get_or, drop}
 use Rattle.std.proofs.Common.{refl, sym, ap, ◌∙◌, arith}
@@ -21,7 +21,7 @@ use Rattle.asm_build.specs.Reading.{Entries, Lines, symbol_at, or_else, given_by
 use Rattle.asm_build.specs.Reading.{last_definition, parts_past, place_after, has_ended, is_selected}
 use Rattle.asm_build.specs.Layout.{Past, past, is_among, needs, uses, laid_out, laid_after, layout}
 use Rattle.asm_build.specs.Meaning.{with_symbol, with_definition, definitions}
-use Rattle.asm_build.specs.State.{lines_of, past_of, with_line_definition, Advances, IsLayoutAfter}
+use Rattle.asm_build.specs.State.{lines_of, past_of, with_line_definition, LaysOutNext, IsLayoutAfter}
 
 -- ---- look-ups in the cell's own symbols
 
@@ -75,10 +75,10 @@ definitions_at (p ∷ ps) x =
     defined_at p.1.is_assembled (definition_of p.0) p.1 (definitions ps) x
     ∙ ap (or_else (defined_on p x)) (definitions_at ps x)
 
--- ---- what stands for the lines before
+-- ---- what represents the lines before
 
 pub stands_next : (earlier : Lines) (old new : Layout) (s : Statement) (r : Laid) → IsLayoutAfter earlier old
-    → Advances old new s r → IsLayoutAfter ((s, r) ∷ earlier) new
+    → LaysOutNext old new s r → IsLayoutAfter ((s, r) ∷ earlier) new
 stands_next earlier old new s r was goes = record {
   own = goes.own ∙ ap (λ es. with_line_definition es s r) was.own;
   needed = λ x. goes.needed x ∙ ap (λ b. needs (s, r) x || b) (was.needed x);

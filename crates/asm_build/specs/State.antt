@@ -40,7 +40,7 @@ with_line_definition es s r =
     if r.is_assembled then with_definition (definition_of s) r es else es
 
 -- the new layout is the old one after a statement that is laid out so
-pub record Advances (old new : Layout) (s : Statement) (r : Laid) : Type 0 where
+pub record LaysOutNext (old new : Layout) (s : Statement) (r : Laid) : Type 0 where
   pub own : new.own ≡ with_line_definition old.own s r
   pub needed : Adds (needs (s, r)) old.needed new.needed
   pub used : Adds (uses (s, r)) old.used new.used

@@ -15,7 +15,7 @@ ghost use Rattle.asm_build.specs.Meaning.{definitions};
 ghost use Rattle.asm_build.specs.Layout.{is_among, Adds, Notes, needs, uses, check_first, check_defined};
 ghost use Rattle.asm_build.specs.Layout.{check_definition, early, within, lay_statement, laid_out, layout};
 ghost use Rattle.asm_build.specs.State.{past_in, past_of, lines_of, with_line_definition};
-ghost use Rattle.asm_build.specs.State.{Advances, IsLayoutAfter};
+ghost use Rattle.asm_build.specs.State.{LaysOutNext, IsLayoutAfter};
 
 use crate::faults::{at, on_line};
 use crate::laid::Laid;
@@ -425,7 +425,7 @@ impl<'a> Layout<'a> {
         row: Laid,
     ) -> Result<(), AllocError>
         requires { next_place (statement.now, row) ≤ 65536 }
-        ensures { OnOk result (Advances self.old self.new statement.now row) }
+        ensures { OnOk result (LaysOutNext self.old self.new statement.now row) }
     {
         define(alloc, &mut self.own, statement, row)?;
         note_names(alloc, &mut self.needed, &mut self.used, statement, row)?;
@@ -448,7 +448,7 @@ impl<'a> Layout<'a> {
         ensures exact { Gives (λ r. r) result (at_line line
             (laid_out (past_of kept.now self.old) self.old.place
             (is_selected self.old.has_ended self.old.parts statement.now) statement.now)) }
-        ensures advances { IfOk result (λ r. Advances self.old self.new statement.now r) }
+        ensures advances { IfOk result (λ r. LaysOutNext self.old self.new statement.now r) }
         ensures small { OnOk result (self.new.place ≤ 65536) }
     {
         match self.lay_out(alloc, kept, statement) {

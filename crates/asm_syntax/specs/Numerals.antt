@@ -1,5 +1,5 @@
--- Numbers in hexadecimal as a cell may have them (8080/8085 Assembly Language Programming Manual, chapter 2): they
--- begin with a digit and end with H.
+-- Hexadecimal numbers as a cell may have them (8080/8085 Assembly Language Programming Manual, chapter 2):
+-- they begin with a digit and end with H.
 use Rattle.std.specs.Prelude.{ℕ, List, ◌++◌, codes}
 use Rattle.base_text.specs.Hexadecimal.{upper_byte, upper_word}
 

@@ -2,7 +2,7 @@
 use Rattle.std.specs.Prelude.{ℕ, List, [], ◌++◌, Option, Some, None, Result, Ok, Err, codes, if◌then◌else◌}
 use Rattle.std.specs.Fmt.{decimal}
 use Rattle.std.specs.Str.{is_utf8}
-use Rattle.i80_exec.specs.State.{power_on, with_pc, loaded}
+use Rattle.i80_exec.specs.State.{power_on, with_pc, with_image_bytes}
 use Rattle.asm_syntax.specs.Outcome.{CellFault, ◌>>=◌}
 use Rattle.asm_syntax.specs.Faults.{fault_name}
 use Rattle.asm_text.specs.Statements.{statements_of}
@@ -17,7 +17,7 @@ use Rattle.cli_engines.specs.Image.{image_text}
 
 -- a machine after power-on with the image in its memory, about to begin at this address
 abbrev pub begun_at : ℕ → List (ℕ × ℕ) → Computer
-begun_at address image = fresh (with_pc (loaded power_on image) address)
+begun_at address image = fresh (with_pc (with_image_bytes power_on image) address)
 
 -- the start of the program and how it ends after at most 100,000 steps, if the cell has a start
 abbrev pub start_text : List (ℕ × ℕ) → Option ℕ → List ℕ

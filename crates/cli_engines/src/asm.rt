@@ -9,7 +9,7 @@ ghost use Rattle.cli_io.specs.TextState.{IsText};
 ghost use Rattle.asm_syntax.specs.Faults.{fault_name};
 ghost use Rattle.cli_engines.specs.AsmText.{start_text, built_text, begun_at, fault_line, cell_of};
 ghost use Rattle.cli_engines.specs.AsmText.{cell_text, cell_status, asm_text, asm_status};
-ghost use Rattle.cli_run.specs.Runner.{StandsFor};
+ghost use Rattle.cli_run.specs.Runner.{RepresentsComputer};
 
 use crate::image::{push_image, store_image};
 use asm_build::built::Built;
@@ -140,7 +140,7 @@ fn push_start(
 
 /// A machine after power-on with the image in its memory, about to begin at an address.
 fn begun_at(alloc: Global, image: &[(u16, u8)], address: u16) -> Result<Runner, AllocError>
-    ensures { IfOk result (λ runner. StandsFor runner (begun_at address image.now)) }
+    ensures { IfOk result (λ runner. RepresentsComputer runner (begun_at address image.now)) }
 {
     let mut machine = Machine::new(alloc)?;
     store_image(&mut machine, image);

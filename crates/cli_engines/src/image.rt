@@ -1,7 +1,7 @@
 //! The image of a cell, bytes with their addresses: stored in a machine, and printed.
 ghost use Rattle.std.specs.Prelude.{◌≡◌, ◌<◌, ◌≤◌, ◌+◌, ◌++◌, ◌∷◌, List, ℕ, OnOk, IfOk, length, drop, take};
 ghost use Rattle.std.specs.Prelude.{string_bytes};
-ghost use Rattle.i80_exec.specs.State.{loaded};
+ghost use Rattle.i80_exec.specs.State.{with_image_bytes};
 ghost use Rattle.cli_engines.specs.Image.{fill, cells_of, leading, spaced_bytes, image_line};
 ghost use Rattle.cli_engines.specs.Image.{lines_from, image_text};
 
@@ -16,7 +16,7 @@ const LINE_BYTES: usize = 16;
 
 /// Stores each byte of an image at its address.
 pub fn store_image(machine: &mut Machine, image: &[(u16, u8)])
-    ensures { machine.new ≡ loaded machine.old image.now }
+    ensures { machine.new ≡ with_image_bytes machine.old image.now }
 {
     for (address, byte) in image {
         machine.poke(*address, *byte);

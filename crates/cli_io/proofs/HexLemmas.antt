@@ -12,7 +12,7 @@ use Rattle.std.proofs.lemmas.List.{map-append, length-map, length-take, take_all
 use Rattle.cli_io.specs.HexInput.{characters, is_blank, is_hex_digit, digit_value, byte_pairs, BadHex}
 use Rattle.cli_io.specs.HexInput.{PastEnd}
 use Rattle.cli_io.specs.HexInput.{Bytes, input_of}
-use Rattle.cli_io.specs.HexState.{HexState, most_digits, state_of, kept_more, StandsFor, TakesPiece, IsBad}
+use Rattle.cli_io.specs.HexState.{HexState, most_digits, state_of, kept_more, HasReadHex, TakesPiece, IsBad}
 
 take_kept : (n : ℕ) (xs : List ℕ) (x : ℕ)
     → take n (xs ++ x ∷ []) ≡ cond (nat_lt (length (take n xs)) n) (take n xs ++ x ∷ []) (take n xs)
@@ -111,13 +111,13 @@ bad_input text bad = rw bad refl
 pub bad_around : (before piece behind : List ℕ) → IsBad piece → input_of (before ++ piece ++ behind) ≡ BadHex
 bad_around before piece behind bad = bad_input (before ++ piece ++ behind) (bad_among before piece behind bad)
 
-pub found_odd : (h : HexState) (text : List ℕ) → StandsFor h text → h.is_odd ≡ true → input_of text ≡ BadHex
+pub found_odd : (h : HexState) (text : List ℕ) → HasReadHex h text → h.is_odd ≡ true → input_of text ≡ BadHex
 found_odd h text s odd =
     let is_odd : (length (characters text) % 2 == 1) ≡ true =
     ap (λ (x : HexState). x.is_odd) (sym s.kept) ∙ odd in
     rw (s.all_digits, is_odd) refl
 
-pub found_long : (h : HexState) (text : List ℕ) → StandsFor h text → h.is_odd ≡ false → h.is_long ≡ true
+pub found_long : (h : HexState) (text : List ℕ) → HasReadHex h text → h.is_odd ≡ false → h.is_long ≡ true
     → input_of text ≡ PastEnd
 unfolding most_digits
 found_long h text s odd long =
@@ -128,7 +128,7 @@ found_long h text s odd long =
     let past : nat_lt 65536 (length (characters text) / 2) ≡ true = grind (arith, nat_tests) in
     rw (s.all_digits, even, past) refl
 
-pub found_bytes : (h : HexState) (text : List ℕ) → StandsFor h text → h.is_odd ≡ false → h.is_long ≡ false
+pub found_bytes : (h : HexState) (text : List ℕ) → HasReadHex h text → h.is_odd ≡ false → h.is_long ≡ false
     → input_of text ≡ Bytes (byte_pairs h.digits)
 unfolding most_digits
 found_bytes h text s odd long =

@@ -37,7 +37,7 @@ pub took_most : (reads : ℕ) (old now : InletState) (bytes : List ℕ)
     → Took reads old.left now.left bytes → 4294967295 ≤ reads → IsEndless old
 took_most reads old now bytes t most = most_left reads old.left now.left bytes t most
 
--- these bytes were read so far, and are stood for
+-- these bytes were read so far, and are represented
 pub record HasRead {S : Type 0} (Stands : S → List ℕ → Type 0) (reads : ℕ) (old now : InletState) (s : S)
     : Type 0 where
   pub bytes : List ℕ

@@ -11,7 +11,7 @@ use Rattle.std.specs.Prelude.{String}
 use Rattle.std.specs.Str.{is_utf8}
 use Rattle.cli_io.specs.declared.text_input.TextFault.{TextFault}
 use Rattle.cli_io.specs.declared.text_input.TextFault.TheVariants as fault
-use Rattle.cli_io.specs.TextState.{TextState, IsCut, StandsFor, TakesPiece, NeverText, IsBad, Splits}
+use Rattle.cli_io.specs.TextState.{TextState, IsCut, HasReadText, TakesPiece, NeverText, IsBad, Splits}
 use Rattle.cli_io.specs.TextState.{IsDecoded}
 use Rattle.cli_io.specs.TextState.{IsText}
 use Rattle.cli_io.proofs.Utf8Lemmas.{after_whole, never_behind}
@@ -84,7 +84,7 @@ bad_piece kept piece limit true never text s =
 
 pub found_text : (limit : ℕ) (r : Result (Option (String Global)) TextFault) (kept : List ℕ)
     (is_long : Bool) (text : List ℕ)
-    → StandsFor (state kept limit is_long) text → is_long ≡ false → IsDecoded r kept → IsText limit r text
+    → HasReadText (state kept limit is_long) text → is_long ≡ false → IsDecoded r kept → IsText limit r text
 found_text limit (Ok (Some t)) kept is_long text s short d =
     (subst (λ xs. is_utf8 xs ≡ true) (s.keeps short) d.0, d.1 ∙ s.keeps short)
 found_text limit (Err fault.BadText) kept is_long text s short d =
@@ -92,7 +92,7 @@ found_text limit (Err fault.BadText) kept is_long text s short d =
 found_text limit _ kept is_long text s short d = absurd d
 
 pub found_long : (kept : List ℕ) (limit : ℕ) (is_long : Bool) (text : List ℕ)
-    → StandsFor (state kept limit is_long) text
+    → HasReadText (state kept limit is_long) text
     → is_long ≡ true → kept ≡ [] → (is_utf8 text ≡ true) × (limit < length text)
 found_long kept limit false text s long none = let odd : false ≡ true = long in cc
 found_long kept limit true text s long none =
@@ -105,7 +105,7 @@ found_long kept limit true text s long none =
     past n h = grind (arith, nat_tests)
 
 pub found_cut : (kept : List ℕ) (limit : ℕ) (is_long : Bool) (text : List ℕ)
-    → StandsFor (state kept limit is_long) text
+    → HasReadText (state kept limit is_long) text
     → is_long ≡ true → (kept ≡ [] → ⊥) → is_utf8 text ≡ false
 found_cut kept limit false text s long some = let odd : false ≡ true = long in cc
 found_cut kept limit true text s long some = by (is_utf8 text) refl

@@ -26,13 +26,13 @@ state_of digits = record {
 }
 
 -- the text so far has only digits and blanks, and this is kept of them
-pub record StandsFor (h : HexState) (text : List ℕ) : Type 0 where
+pub record HasReadHex (h : HexState) (text : List ℕ) : Type 0 where
   pub all_digits : list_all is_hex_digit (characters text) ≡ true
   pub kept : h ≡ state_of (characters text)
 
--- whatever text the old one stands for, the new one stands for it and this piece
+-- whatever text the old one represents, the new one represents it and this piece
 abbrev pub TakesPiece : List ℕ → HexState → HexState → Type 0
-TakesPiece piece old new = (text : List ℕ) → StandsFor old text → StandsFor new (text ++ piece)
+TakesPiece piece old new = (text : List ℕ) → HasReadHex old text → HasReadHex new (text ++ piece)
 
 -- something in the piece is neither a digit nor a blank
 abbrev pub IsBad : List ℕ → Type 0

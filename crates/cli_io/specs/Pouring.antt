@@ -3,7 +3,7 @@ use Rattle.std.specs.Prelude.{ℕ, List, Result, Ok, Err}
 use Rattle.cli_io.specs.declared.intake.PourFault.{PourFault}
 use Rattle.cli_io.specs.declared.intake.PourFault.TheVariants as fault
 
--- it stands for the input, or the input is refused
+-- it represents the input, or the input is refused
 abbrev pub IsPoured : {I : Type 0} → (I → List ℕ → Type 0) → (List ℕ → Type 0) → Result I PourFault → List ℕ
     → Type 0
 IsPoured Stands Refuses (Ok read) input = Stands read input

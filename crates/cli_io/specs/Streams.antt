@@ -3,7 +3,7 @@ use Rattle.std.specs.Prelude.{◌≡◌, ◌≤◌, ◌⊎◌, ℕ, List, length
 use Rattle.std.specs.Global.{Vec}
 use Rattle.base_streams.specs.States.{InletState}
 use Rattle.cli_io.specs.HexInput.{input_of, BadHex, PastEnd, Bytes}
-use Rattle.cli_io.specs.HexState.{HexState, StandsFor}
+use Rattle.cli_io.specs.HexState.{HexState, HasReadHex}
 use Rattle.cli_io.specs.declared.hex_input.HexFault.{HexFault}
 use Rattle.cli_io.specs.declared.hex_input.HexFault.TheVariants as fault
 use Rattle.cli_io.specs.declared.text_input.TextFault.{TextFault}
@@ -38,7 +38,7 @@ BlamesReader IfReported result old new =
 
 -- the digits of an input, or that one of its characters is bad
 abbrev pub IsReading : Result HexState HexFault → List ℕ → Type 0
-IsReading (Ok h) input = StandsFor h input
+IsReading (Ok h) input = HasReadHex h input
 IsReading (Err fault.BadHex) input = input_of input ≡ BadHex
 IsReading (Err fault.PastEnd) input = ⊥
 IsReading (Err fault.OutOfMemory) input = Unit {0}

@@ -20,14 +20,14 @@ pub record IsCut (kept text : List ℕ) : Type 0 where
   pub alone : IsUtf8 kept → kept ≡ []
 
 -- whether the text so far has more bytes than the limit, and what is kept of it
-pub record StandsFor (t : TextState) (text : List ℕ) : Type 0 where
+pub record HasReadText (t : TextState) (text : List ℕ) : Type 0 where
   pub long : t.is_long ≡ nat_lt t.limit (length text)
   pub keeps : t.is_long ≡ false → t.kept ≡ text
   pub cuts : t.is_long ≡ true → IsCut t.kept text
 
--- whatever text the old one stands for, the new one stands for it and this piece
+-- whatever text the old one represents, the new one represents it and this piece
 abbrev pub TakesPiece : List ℕ → TextState → TextState → Type 0
-TakesPiece piece old new = (text : List ℕ) → StandsFor old text → StandsFor new (text ++ piece)
+TakesPiece piece old new = (text : List ℕ) → HasReadText old text → HasReadText new (text ++ piece)
 
 -- whatever follows, it isn't UTF-8
 abbrev pub NeverText : List ℕ → Type 0
@@ -35,7 +35,7 @@ NeverText bytes = (more : List ℕ) → is_utf8 (bytes ++ more) ≡ false
 
 -- after the text so far this piece makes what can't be UTF-8
 abbrev pub IsBad : List ℕ → TextState → Type 0
-IsBad piece old = (text : List ℕ) → StandsFor old text → NeverText (text ++ piece)
+IsBad piece old = (text : List ℕ) → HasReadText old text → NeverText (text ++ piece)
 
 -- so many bytes at the front are whole characters, and the others, at most three, are no whole characters
 pub record Splits (bytes : List ℕ) (n : ℕ) : Type 0 where
@@ -68,7 +68,7 @@ IsText limit (Err fault.Read) input = Unit {0}
 
 -- what is kept of an input that was read to its end, or that it isn't UTF-8
 abbrev pub IsTextReading : Result TextState TextFault → List ℕ → Type 0
-IsTextReading (Ok t) input = StandsFor t input
+IsTextReading (Ok t) input = HasReadText t input
 IsTextReading (Err fault.BadText) input = is_utf8 input ≡ false
 IsTextReading (Err fault.OutOfMemory) input = Unit {0}
 IsTextReading (Err fault.Read) input = Unit {0}

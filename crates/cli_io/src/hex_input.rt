@@ -74,9 +74,9 @@ impl Model for HexInput {
 impl Intake for HexInput {
     ghost use Rattle.std.specs.Prelude.{◌≡◌};
     ghost use Rattle.cli_io.specs.HexInput.{input_of, BadHex};
-    ghost use Rattle.cli_io.specs.HexState.{StandsFor};
+    ghost use Rattle.cli_io.specs.HexState.{HasReadHex};
 
-    ghost stands = { StandsFor };
+    ghost stands = { HasReadHex };
 
     ghost refuses = { λ input. input_of input ≡ BadHex };
 
@@ -93,11 +93,11 @@ impl Intake for HexInput {
 }
 
 impl HexInput {
-    ghost use Rattle.cli_io.specs.HexState.{StandsFor, TakesPiece, IsBad, Finds};
+    ghost use Rattle.cli_io.specs.HexState.{HasReadHex, TakesPiece, IsBad, Finds};
 
     /// No text yet.
     pub fn new(alloc: Global) -> HexInput
-        ensures { StandsFor result [] }
+        ensures { HasReadHex result [] }
     {
         HexInput {
             digits: Vec::new(alloc),
@@ -121,7 +121,7 @@ impl HexInput {
 
     /// The values of the digits, the high one of each byte first, at the end of the text.
     pub fn digits(&self) -> Result<&[u8], HexFault>
-        ensures found { (text : List ℕ) → StandsFor self.now text
+        ensures found { (text : List ℕ) → HasReadHex self.now text
             → Finds (λ digits. digits.now) result (input_of text) }
         ensures small { IfOk result (λ digits. All (λ d. d < 16) digits.now) }
     {

@@ -24,7 +24,7 @@ pub(crate) enum PourFault {
 
 /// What takes an input piece by piece.
 pub(crate) trait Intake: Drop {
-    // The text so far that it stands for, the inputs that it refuses, and its limit.
+    // The text so far that it represents, the inputs that it refuses, and its limit.
     ghost stands: { Self → List ℕ → Type 0 };
 
     ghost refuses: { List ℕ → Type 0 };

@@ -2,7 +2,7 @@
 ghost use Rattle.std.specs.Prelude.{◌≡◌, ◌<◌, [], IfSome, IfOk, IfErr, length, vec_len};
 ghost use Rattle.cli_io.specs.Engine.{IsFailure, IfFailed};
 ghost use Rattle.cli_io.specs.Streams.{IsReading, IsHex, IfReadFailed, IfTextFailed, BlamesReader};
-ghost use Rattle.cli_io.specs.TextState.{StandsFor, IsText, IsTextReading};
+ghost use Rattle.cli_io.specs.TextState.{HasReadText, IsText, IsTextReading};
 
 pub use crate::hex_input::HexFault;
 use crate::hex_input::{HexInput, pair_digits};
@@ -79,7 +79,7 @@ fn read_pieces<R: Inlet>(
     input: TextInput,
 ) -> Result<TextInput, TextFault>
     requires buffer { 0 < length buffer.old }
-    requires input { StandsFor input [] }
+    requires input { HasReadText input [] }
     ensures limit { IfOk result (λ read. read.limit ≡ input.limit) }
     ensures text { IfSome (R.state reader.old).left (IsTextReading result) }
     ensures blame { BlamesReader IfTextFailed result (R.state reader.old) (R.state reader.new) }

@@ -1,7 +1,7 @@
 //! Text, read piece by piece and kept up to a limit.
 ghost use Rattle.std.specs.Prelude.{◌≡◌, ◌≢◌, ◌||◌, ◌++◌, true, false, ℕ, List, [], nat_lt, length, OnOk};
 ghost use Rattle.std.specs.Prelude.{IsErrOf, IfErr, IfSome, IfNone};
-ghost use Rattle.cli_io.specs.TextState.{StandsFor, TakesPiece, IsBad, NeverText, IsText, IsDecoded};
+ghost use Rattle.cli_io.specs.TextState.{HasReadText, TakesPiece, IsBad, NeverText, IsText, IsDecoded};
 ghost use Rattle.cli_io.specs.TextState.{Splits, Cuts};
 ghost use Rattle.cli_io.specs.TextState.{KeepsFew};
 
@@ -44,9 +44,9 @@ impl Model for TextInput {
 impl Intake for TextInput {
     ghost use Rattle.std.specs.Prelude.{◌≡◌, false};
     ghost use Rattle.std.specs.Str.{is_utf8};
-    ghost use Rattle.cli_io.specs.TextState.{StandsFor};
+    ghost use Rattle.cli_io.specs.TextState.{HasReadText};
 
-    ghost stands = { StandsFor };
+    ghost stands = { HasReadText };
 
     ghost refuses = { λ input. is_utf8 input ≡ false };
 
@@ -64,7 +64,7 @@ impl Intake for TextInput {
 impl TextInput {
     /// No text yet.
     pub fn new(alloc: Global, limit: usize) -> TextInput
-        ensures stands { StandsFor result [] }
+        ensures stands { HasReadText result [] }
         ensures limit { result.limit ≡ limit }
     {
         TextInput {
@@ -124,7 +124,7 @@ impl TextInput {
 
     /// The text at its end, or `None` if it is longer than the limit.
     pub fn into_text(self) -> Result<Option<String>, TextFault>
-        ensures text { (text : List ℕ) → StandsFor self text → IsText self.limit result text }
+        ensures text { (text : List ℕ) → HasReadText self text → IsText self.limit result text }
         ensures fault { IfErr result (λ fault. fault ≡ TextFault.BadText) }
     {
         let TextInput { kept, is_long, .. } = self;

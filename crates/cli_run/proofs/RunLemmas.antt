@@ -7,12 +7,12 @@ use Rattle.cli_run.specs.declared.ending.Ending.{Ending}
 use Rattle.cli_run.specs.Computer.{Computer, next, after, end_of, end_at, least_from, run_length}
 use Rattle.cli_io.specs.Report.{line}
 use Rattle.cli_run.specs.Printed.{register_line}
-use Rattle.cli_run.specs.Runner.{RunnerState, StandsFor, HasRun}
+use Rattle.cli_run.specs.Runner.{RunnerState, RepresentsComputer, HasRun}
 use Rattle.cli_run.specs.RunText.{lines_of, word_of, end_line, run_text, run_end_text}
 
 -- after k steps: the board, and no end before
 pub record IsAt (limit : ℕ) (start : Computer) (k : ℕ) (r : RunnerState) : Type 0 where
-  pub stands : StandsFor r (after k start)
+  pub stands : RepresentsComputer r (after k start)
   pub least : least_from (end_at limit start) k (limit - k) ≡ run_length limit start
 
 -- and the lines of the steps are printed
@@ -21,12 +21,14 @@ pub record HasPrinted (limit : ℕ) (start : Computer) (k : ℕ) (r : RunnerStat
     pub is_at : IsAt limit start k r
     pub lines : text ≡ before ++ lines_of k start
 
-pub at_start : (limit : ℕ) (start : Computer) (r : RunnerState) → StandsFor r start → IsAt limit start 0 r
+pub at_start : (limit : ℕ) (start : Computer) (r : RunnerState) → RepresentsComputer r start
+    → IsAt limit start 0 r
 unfolding after
 at_start limit start r s =
     record { stands = s; least = ap (λ n. least_from (end_at limit start) 0 n) (omega arith) }
 
-pub printed_start : (limit : ℕ) (start : Computer) (r : RunnerState) (text : List ℕ) → StandsFor r start
+pub printed_start : (limit : ℕ) (start : Computer) (r : RunnerState) (text : List ℕ)
+    → RepresentsComputer r start
     → HasPrinted limit start 0 r text text
 unfolding lines_of
 printed_start limit start r text s =
@@ -42,8 +44,8 @@ least_later : (f : ℕ → Option Ending) (k n : ℕ) → f k ≡ None → least
 unfolding least_from
 least_later f k n h = rw h refl
 
--- the end at a board that a runner stands for
-end_seen : (limit : ℕ) (start : Computer) (k : ℕ) (r : RunnerState) → StandsFor r (after k start)
+-- the end at a board that a runner represents
+end_seen : (limit : ℕ) (start : Computer) (k : ℕ) (r : RunnerState) → RepresentsComputer r (after k start)
     → end_at limit start k ≡ end_of (k == limit) r.last r.machine
 unfolding end_at
 end_seen limit start k r s = rw (s.last, s.machine) refl
@@ -53,7 +55,7 @@ not_last k limit lt = grind (arith, nat_tests)
 
 pub at_next : (limit : ℕ) (start : Computer) (k : ℕ) (r r' : RunnerState) → k < limit
     → IsAt limit start k r → end_of false r.last r.machine ≡ None
-    → StandsFor r' (next (after k start)) → IsAt limit start (k + 1) r'
+    → RepresentsComputer r' (next (after k start)) → IsAt limit start (k + 1) r'
 unfolding after
 at_next limit start k r r' lt here no-end s =
     let one : suc k ≡ k + 1 = omega arith in
@@ -62,7 +64,7 @@ at_next limit start k r r' lt here no-end s =
     end_seen limit start k r here.stands ∙ ap (λ (b : Bool). end_of b r.last r.machine)
     (not_last k limit lt) ∙ no-end in
     record {
-      stands = subst (λ (j : ℕ). StandsFor r' (after j start)) one s;
+      stands = subst (λ (j : ℕ). RepresentsComputer r' (after j start)) one s;
       least =
           sym (least_later (end_at limit start) k (limit - (k + 1)) goes_on)
           ∙ ap (λ (n : ℕ). least_from (end_at limit start) k n) (sym left) ∙ here.least;
@@ -71,7 +73,7 @@ at_next limit start k r r' lt here no-end s =
 pub printed_next : (limit : ℕ) (start : Computer) (k : ℕ) (r r' : RunnerState) (before text text' : List ℕ)
     → k < limit
     → HasPrinted limit start k r before text → end_of false r.last r.machine ≡ None
-    → StandsFor r' (next (after k start)) → text' ≡ text ++ register_line r'.machine.regs
+    → RepresentsComputer r' (next (after k start)) → text' ≡ text ++ register_line r'.machine.regs
     → HasPrinted limit start (k + 1) r' before text'
 unfolding after lines_of
 printed_next limit start k r r' before text text' lt here no-end s added =
@@ -114,7 +116,7 @@ has_run_before limit start k r e lt here ends =
     let end : end_at limit start k ≡ Some e = end_before limit start k r e lt here ends in
     let steps : k ≡ run_length limit start = stops limit start k r e here end in
     record {
-      stands = subst (λ (j : ℕ). StandsFor r (after j start)) steps here.stands;
+      stands = subst (λ (j : ℕ). RepresentsComputer r (after j start)) steps here.stands;
       ending_is = sym end ∙ ap (end_at limit start) steps;
     }
 
@@ -127,7 +129,7 @@ has_run_all limit start k r e same here ends =
     let steps : k ≡ run_length limit start =
     ap (λ (n : ℕ). least_from (end_at limit start) k n) (sym none) ∙ here.least in
     record {
-      stands = subst (λ (j : ℕ). StandsFor r (after j start)) steps here.stands;
+      stands = subst (λ (j : ℕ). RepresentsComputer r (after j start)) steps here.stands;
       ending_is = ends ∙ sym (end_behind limit start k r same here) ∙ ap (end_at limit start) steps;
     }
 

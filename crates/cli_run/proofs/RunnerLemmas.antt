@@ -1,4 +1,4 @@
--- A runner after one instruction stands for the board after one instruction.
+-- A runner after one instruction represents the board after one instruction.
 use Rattle.std.proofs.Common.{◌≡◌, List, ◌++◌, map, Option, Some, None, ap, sym, ◌∙◌, append-nil}
 use Rattle.i80_exec.specs.declared.ports.PortOperation.{PortOperation}
 use Rattle.i80_exec.specs.State.{MachineState}

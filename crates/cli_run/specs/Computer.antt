@@ -7,7 +7,7 @@ use Rattle.i80_exec.specs.declared.registers.Stepped.{Stepped}
 use Rattle.i80_exec.specs.declared.registers.Stepped.TheVariants as stepped
 use Rattle.i80_exec.specs.declared.registers.Interrupts.{Interrupts}
 use Rattle.i80_exec.specs.declared.registers.Interrupts.TheVariants.{Off, Arming, On}
-use Rattle.i80_exec.specs.State.{MachineState, byte_at, stored, power_on}
+use Rattle.i80_exec.specs.State.{MachineState, byte_at, with_byte, power_on}
 use Rattle.i80_exec.specs.Step.{instruction, is_halt, operation_list}
 use Rattle.i80_devs.specs.Past.{Operation, Port, answer, panel_after}
 use Rattle.cli_run.specs.declared.ending.Ending.{Ending}
@@ -22,7 +22,7 @@ pub record Computer : Type 0 where
 -- the bytes stored from an address on
 abbrev pub stored_from : ℕ → List ℕ → MachineState → MachineState
 stored_from address [] m = m
-stored_from address (byte ∷ bytes) m = stored_from (address + 1) bytes (stored m address byte)
+stored_from address (byte ∷ bytes) m = stored_from (address + 1) bytes (with_byte m address byte)
 
 -- a machine with new devices
 abbrev pub fresh : MachineState → Computer

@@ -31,11 +31,11 @@ impl Model for Runner {
 }
 
 impl Runner {
-    ghost use Rattle.cli_run.specs.Runner.{StandsFor, Steps, HasRun};
+    ghost use Rattle.cli_run.specs.Runner.{RepresentsComputer, Steps, HasRun};
 
     /// A runner of this machine, with new devices.
     pub fn new(alloc: Global, machine: Machine) -> Runner
-        ensures { StandsFor result (fresh machine) }
+        ensures { RepresentsComputer result (fresh machine) }
     {
         Runner {
             machine,
@@ -46,7 +46,7 @@ impl Runner {
 
     /// Appends the registers after each of at most `limit` steps, and how the run ended.
     pub fn print_run(&mut self, limit: u64, text: &mut String) -> Result<(), AllocError>
-        ensures { OnOk result ((start : Computer) → StandsFor self.old start
+        ensures { OnOk result ((start : Computer) → RepresentsComputer self.old start
             → string_bytes text.new ≡ string_bytes text.old ++ run_text limit start) }
     {
         for _ in 0..limit {
@@ -69,7 +69,7 @@ impl Runner {
 
     /// Appends the registers at the end of a run of at most `limit` steps, and how it ended.
     pub fn print_end(&mut self, limit: u64, text: &mut String) -> Result<(), AllocError>
-        ensures { OnOk result ((start : Computer) → StandsFor self.old start
+        ensures { OnOk result ((start : Computer) → RepresentsComputer self.old start
             → string_bytes text.new ≡ string_bytes text.old ++ run_end_text limit start) }
     {
         let ending = self.run(limit)?;
@@ -82,7 +82,7 @@ impl Runner {
 
     /// Makes at most `limit` steps, up to the end of the run.
     fn run(&mut self, limit: u64) -> Result<Option<Ending>, AllocError>
-        ensures { IfOk result (λ ending. (start : Computer) → StandsFor self.old start
+        ensures { IfOk result (λ ending. (start : Computer) → RepresentsComputer self.old start
             → HasRun limit start self.new ending) }
     {
         for _done in 0..limit {

@@ -5,7 +5,7 @@ use Rattle.base_text.specs.Bytes.{Text}
 use Rattle.base_text.specs.Latin.{latin_bytes}
 use Rattle.i80_rows.specs.declared.board.Board.{Board as BoardOption}
 use Rattle.i80_rows.specs.declared.board.Board.TheVariants.{Strict, Aliases}
-use Rattle.i80_exec.specs.State.{MachineState, wrapped}
+use Rattle.i80_exec.specs.State.{MachineState, modulo_65536}
 use Rattle.lab_views.specs.declared.view.View.TheVariants as view
 use Rattle.lab_views.specs.Code.{after_instructions}
 use Rattle.lab_core.specs.declared.answer.Answer.{Answer}
@@ -18,7 +18,7 @@ use Rattle.lab_core.specs.declared.event.Granularity.TheVariants as board_granul
 use Rattle.lab_core.specs.declared.event.StepRequest.{StepRequest}
 use Rattle.lab_core.specs.declared.fault.EventFault.{EventFault}
 use Rattle.lab_core.specs.Board.{Board}
-use Rattle.lab_core.specs.Events.{Given, given}
+use Rattle.lab_core.specs.Events.{EventResult, result_of}
 use Rattle.lab_core.specs.Labs.{LabState, Does}
 use Rattle.dap_answers.specs.declared.answer.Body.{Body}
 use Rattle.dap_answers.specs.declared.answer.Body.TheVariants as body
@@ -39,17 +39,17 @@ abbrev pub Performs : (Board → Performed) → LabState → Result Body EventFa
 Performs f old result new = Does f old result new × OnErr result (new ≡ old)
 
 -- the result of an event, with a body in place of the answer
-abbrev pub with_body : (Answer → Body) → Given → Performed
+abbrev pub with_body : (Answer → Body) → EventResult → Performed
 with_body to_body (Ok (answer, b)) = Ok (to_body answer, b)
 with_body to_body (Err fault) = Err fault
 
 -- the event is done, and the body carries its answer
 abbrev pub event_result : Event → Board → Performed
-event_result event b = with_body body_of (given event b)
+event_result event b = with_body body_of (result_of event b)
 
 -- the event is done, and the body is this one
 abbrev pub event_with_body : Event → Body → Board → Performed
-event_with_body event body b = with_body (λ _. body) (given event b)
+event_with_body event body b = with_body (λ _. body) (result_of event b)
 
 abbrev pub step_kind : StepKind → BoardStepKind
 step_kind Over = board_kind.Over
@@ -70,7 +70,7 @@ step_request kind granularity = record {
 -- Addresses wrap, and the count of instructions does not.
 abbrev pub first_line : MachineState → ℕ → ℕ → ℕ → ℕ
 first_line m address offset instruction_offset =
-    after_instructions m (wrapped (address + offset)) instruction_offset
+    after_instructions m (modulo_65536 (address + offset)) instruction_offset
 
 abbrev pub code_lines_result : ℕ → ℕ → ℕ → ℕ → Board → Performed
 code_lines_result address offset instruction_offset count b =

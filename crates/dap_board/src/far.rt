@@ -2,7 +2,7 @@
 ghost use Rattle.std.specs.Prelude.{◌≡◌, ◌<◌, IfSome};
 ghost use Rattle.lab_views.specs.Code as code;
 ghost use Rattle.lab_core.specs.Board.{Board};
-ghost use Rattle.lab_core.specs.Labs.{StandsFor};
+ghost use Rattle.lab_core.specs.Labs.{RepresentsBoard};
 
 use lab_core::lab::Lab;
 
@@ -15,7 +15,7 @@ const ADDRESSES: u32 = 65_536;
 /// The number of instructions after which an address recurs, if it does.
 /// No more than `ADDRESSES` need to be tried.
 fn cycle_at(lab: &Lab, address: u16) -> Option<u32>
-    ensures cycles { (b : Board) → StandsFor lab.now b
+    ensures cycles { (b : Board) → RepresentsBoard lab.now b
         → IfSome result (λ n. code.after_instructions b.machine address n ≡ address) }
     ensures positive { IfSome result (λ n. 0 < n) }
 {
@@ -31,7 +31,8 @@ fn cycle_at(lab: &Lab, address: u16) -> Option<u32>
 
 /// The address after `count` instructions, found by passing each of them.
 fn in_strides(lab: &Lab, address: u16, count: u32) -> u16
-    ensures { (b : Board) → StandsFor lab.now b → result ≡ code.after_instructions b.machine address count }
+    ensures { (b : Board) → RepresentsBoard lab.now b
+        → result ≡ code.after_instructions b.machine address count }
 {
     let mut next = address;
     let mut left = count;
@@ -46,7 +47,8 @@ fn in_strides(lab: &Lab, address: u16, count: u32) -> u16
 /// Each address has one successor, so that after 65,536 instructions the addresses repeat; whole cycles are
 /// skipped.
 pub fn after_instructions(lab: &Lab, address: u16, count: u32) -> u16
-    ensures { (b : Board) → StandsFor lab.now b → result ≡ code.after_instructions b.machine address count }
+    ensures { (b : Board) → RepresentsBoard lab.now b
+        → result ≡ code.after_instructions b.machine address count }
 {
     if count <= STRIDE {
         return in_strides(lab, address, count);

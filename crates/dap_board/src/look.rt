@@ -1,6 +1,6 @@
 //! The commands that show something of a board and change nothing.
 ghost use Rattle.std.specs.Prelude.{◌≡◌, ◌+◌};
-ghost use Rattle.i80_exec.specs.State.{wrapped};
+ghost use Rattle.i80_exec.specs.State.{modulo_65536};
 ghost use Rattle.dap_board.specs.Commands.{command_result, event_result, code_lines_result, Performs, IsLook};
 
 use crate::event::answer_to;
@@ -52,7 +52,7 @@ fn variables(lab: &mut Lab, reference: u32, start: u32, count: u32) -> Result<Bo
 
 /// The address `offset` bytes after another one. Addresses wrap.
 fn address_after(address: u16, offset: u32) -> u16
-    ensures { result ≡ wrapped (address + offset) }
+    ensures { result ≡ modulo_65536 (address + offset) }
 {
     ((u64::from(address) + u64::from(offset)) % 65_536) as u16
 }

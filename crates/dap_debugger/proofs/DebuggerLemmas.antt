@@ -4,7 +4,7 @@ use Rattle.std.proofs.lemmas.List.{append-nil}
 use Rattle.dap_editor.specs.declared.message.Message.{Message}
 use Rattle.dap_session.specs.States.{SessionState, session_before_requests}
 use Rattle.dap_session.specs.Slices.{Input, step, play_all}
-use Rattle.dap_session.specs.Stands.{StandsFor, Tells}
+use Rattle.dap_session.specs.Stands.{RepresentsSession, Tells}
 use Rattle.dap_debugger.specs.Sending.{sent_bytes, concat_messages}
 use Rattle.dap_debugger.specs.Debuggers.{DebuggerState, Past}
 use Rattle.dap_debugger.proofs.SendingLemmas.{sent_bytes-append}
@@ -45,7 +45,7 @@ past_more old new inputs bytes input messages lists all p tells sent old_is all_
     new_is ∙ (ap concat_messages all_is ∙
     (joined_push lists messages ∙ ap (λ m. m ++ messages) (sym old_is))) in
     record {
-      session = subst (StandsFor new.session)
+      session = subst (RepresentsSession new.session)
           (sym (played_state inputs input session_before_requests)) tells.1;
       before = p.before;
       messages = played_messages inputs input session_before_requests
@@ -60,7 +60,8 @@ pub past_sent : (old new : DebuggerState) (inputs : List Input) (bytes more : Li
     → new.session ≡ old.session → new.told ≡ [] → new.sent ≡ old.sent + length old.told
     → more ≡ sent_bytes old.sent old.told → Past new inputs (bytes ++ more)
 past_sent old new inputs bytes more p session told sent is = record {
-  session = subst (λ v. StandsFor v (play_all inputs session_before_requests).state) (sym session) p.session;
+  session = subst (λ v. RepresentsSession v (play_all inputs session_before_requests).state) (sym session)
+      p.session;
   before = p.before ++ old.told;
   messages = p.messages ∙ (sym (append-nil (p.before ++ old.told))
       ∙ ap (λ m. (p.before ++ old.told) ++ m) (sym told));

@@ -11,7 +11,7 @@ use Rattle.asm_build.specs.Meaning.{Meaning}
 use Rattle.asm_syntax.specs.Numerals.{word_text}
 use Rattle.lab_views.specs.declared.place.Place.{Place}
 use Rattle.lab_core.specs.Board.{Board}
-use Rattle.lab_core.specs.Events.{assembled}
+use Rattle.lab_core.specs.Events.{cell_meaning}
 use Rattle.dap_inspect.specs.declared.fault.EvaluateFault.{EvaluateFault}
 use Rattle.dap_inspect.specs.declared.fault.EvaluateFault.TheVariants as fault
 use Rattle.dap_inspect.specs.Registers.{place_named, shown_at}
@@ -37,7 +37,7 @@ start_of (Err (line, column, kind)) = Err (fault.Assembly (column_in column) kin
 
 -- the value of an expression with the kept symbols, and PC for `$`
 abbrev pub value_of : Board → Text → Result ℕ EvaluateFault
-value_of b expression = start_of (assembled b.symbols (cell_of b.machine.regs.pc expression))
+value_of b expression = start_of (cell_meaning b.symbols (cell_of b.machine.regs.pc expression))
 
 -- ---- what is shown
 

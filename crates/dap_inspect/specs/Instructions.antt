@@ -1,6 +1,6 @@
 -- The addresses at which the instructions before an address begin. Addresses wrap.
 use Rattle.std.specs.Prelude.{ℕ, zero, suc, ◌+◌, ◌-◌, [], ◌∷◌, Bool, ◌&&◌, ◌==◌, find, unwrap_or}
-use Rattle.i80_exec.specs.State.{wrapped}
+use Rattle.i80_exec.specs.State.{modulo_65536}
 use Rattle.lab_image.specs.Loads.{origin_of}
 use Rattle.lab_views.specs.Code.{next_address}
 use Rattle.lab_core.specs.Board.{Board}
@@ -12,7 +12,7 @@ ends_before b address start =
     is_first (origin_of b.loads start) && next_address b.machine start == address
 
 abbrev pub bytes_before : ℕ → ℕ → ℕ
-bytes_before address count = wrapped (address + (65536 - count))
+bytes_before address count = modulo_65536 (address + (65536 - count))
 
 -- the nearest start of such a statement, of 1 to 3 bytes; if there is none, the byte before
 abbrev pub instruction_before : Board → ℕ → ℕ

@@ -1,14 +1,14 @@
 //! Going back over instructions.
 ghost use Rattle.std.specs.Prelude.{◌≡◌, ◌≤◌};
 ghost use Rattle.lab_core.specs.Board.{Board};
-ghost use Rattle.lab_core.specs.Labs.{StandsFor};
+ghost use Rattle.lab_core.specs.Labs.{RepresentsBoard};
 ghost use Rattle.dap_inspect.specs.Instructions as instructions;
 
 use lab_core::lab::Lab;
 
 /// Whether a loaded statement begins at `start`, and the line of code there ends right before `address`.
 fn ends_before(lab: &Lab, address: u16, start: u16) -> bool
-    ensures { (b : Board) → StandsFor lab.now b → result ≡ instructions.ends_before b address start }
+    ensures { (b : Board) → RepresentsBoard lab.now b → result ≡ instructions.ends_before b address start }
 {
     match lab.origin_at(start) {
         Some(origin) => origin.is_first && lab.after_instructions(start, 1) == address,
@@ -18,7 +18,7 @@ fn ends_before(lab: &Lab, address: u16, start: u16) -> bool
 
 /// The address at which the instruction before an address begins.
 fn instruction_before(lab: &Lab, address: u16) -> u16
-    ensures { (b : Board) → StandsFor lab.now b → result ≡ instructions.instruction_before b address }
+    ensures { (b : Board) → RepresentsBoard lab.now b → result ≡ instructions.instruction_before b address }
 {
     let one_byte = address.wrapping_sub(1);
     let two_bytes = address.wrapping_sub(2);
@@ -42,7 +42,8 @@ fn instruction_before(lab: &Lab, address: u16) -> u16
 /// there is none, it is the byte before.
 pub fn before_instructions(lab: &Lab, address: u16, count: u32) -> u16
     requires { count ≤ 65536 }
-    ensures { (b : Board) → StandsFor lab.now b → result ≡ instructions.before_instructions b address count }
+    ensures { (b : Board) → RepresentsBoard lab.now b
+        → result ≡ instructions.before_instructions b address count }
 {
     let mut first = address;
     for _ in 0..count {

@@ -5,8 +5,8 @@ ghost use Rattle.asm_syntax.specs.Outcome.{CellFault, Gives};
 ghost use Rattle.asm_build.specs.Meaning.{Meaning, meaning_in};
 ghost use Rattle.asm_syntax.specs.Numerals.{word_text};
 ghost use Rattle.lab_core.specs.Board.{Board};
-ghost use Rattle.lab_core.specs.Events.{assembled};
-ghost use Rattle.lab_core.specs.Labs.{StandsFor};
+ghost use Rattle.lab_core.specs.Events.{cell_meaning};
+ghost use Rattle.lab_core.specs.Labs.{RepresentsBoard};
 ghost use Rattle.dap_inspect.specs.Expressions as expressions;
 ghost use Rattle.dap_inspect.specs.Expressions.{expression_text};
 
@@ -15,9 +15,9 @@ use crate::register::{place_named, shown_at};
 use asm_build::built::Built;
 use asm_build::cell::build;
 use asm_syntax::fault::AsmFault;
+use asm_syntax::numeral::push_word;
 use asm_text::statements::statements;
 use base_text::text::Text;
-use asm_syntax::numeral::push_word;
 use lab_core::lab::Lab;
 use std::alloc::{AllocError, Global};
 
@@ -56,7 +56,8 @@ fn cell_of(alloc: Global, here: u16, expression: &str) -> Result<Text, AllocErro
 
 /// Assembles a cell with the kept symbols.
 fn assemble(alloc: Global, lab: &Lab, cell: &str) -> Result<Built, AsmFault>
-    ensures { (b : Board) → StandsFor lab.now b → Gives meaning_in result (assembled b.symbols cell.now) }
+    ensures { (b : Board) → RepresentsBoard lab.now b
+        → Gives meaning_in result (cell_meaning b.symbols cell.now) }
 {
     let statements = statements(alloc, cell)?;
     let built = build(alloc, &statements, lab.symbols());
@@ -81,7 +82,7 @@ fn start_of(built: Result<Built, AsmFault>) -> Result<u16, EvaluateFault>
 
 /// The value of an expression of the assembler, in which `$` is PC.
 fn value_of(alloc: Global, lab: &Lab, expression: &str) -> Result<u16, EvaluateFault>
-    ensures { (b : Board) → StandsFor lab.now b → result ≢ Err EvaluateFault.OutOfMemory
+    ensures { (b : Board) → RepresentsBoard lab.now b → result ≢ Err EvaluateFault.OutOfMemory
         → result ≡ expressions.value_of b expression.now }
 {
     let cell = cell_of(alloc, lab.regs().pc, expression)?;
@@ -97,7 +98,7 @@ fn word_text(alloc: Global, word: u16) -> Result<Text, AllocError>
 }
 
 fn value_shown(alloc: Global, lab: &Lab, expression: &str) -> Result<Text, EvaluateFault>
-    ensures { (b : Board) → StandsFor lab.now b → result ≢ Err EvaluateFault.OutOfMemory
+    ensures { (b : Board) → RepresentsBoard lab.now b → result ≢ Err EvaluateFault.OutOfMemory
         → result ≡ expressions.value_shown b expression.now }
 {
     match value_of(alloc, lab, expression) {
@@ -108,7 +109,7 @@ fn value_shown(alloc: Global, lab: &Lab, expression: &str) -> Result<Text, Evalu
 
 /// The value of an expression without white space at its ends.
 fn evaluate_trimmed(alloc: Global, lab: &Lab, text: &str) -> Result<Text, EvaluateFault>
-    ensures { (b : Board) → StandsFor lab.now b → result ≢ Err EvaluateFault.OutOfMemory
+    ensures { (b : Board) → RepresentsBoard lab.now b → result ≢ Err EvaluateFault.OutOfMemory
         → result ≡ expressions.trimmed_shown b text.now }
 {
     if !is_expression(text) {
@@ -131,7 +132,7 @@ fn evaluate_trimmed(alloc: Global, lab: &Lab, text: &str) -> Result<Text, Evalua
 /// Programming Manual, chapter 2).
 #[tactic(auto, unfolding(crate::specs::Expressions::expression_text))]
 pub fn evaluate(alloc: Global, lab: &Lab, expression: &str) -> Result<Text, EvaluateFault>
-    ensures { (b : Board) → StandsFor lab.now b → result ≢ Err EvaluateFault.OutOfMemory
+    ensures { (b : Board) → RepresentsBoard lab.now b → result ≢ Err EvaluateFault.OutOfMemory
         → result ≡ expression_text b expression.now }
 {
     evaluate_trimmed(alloc, lab, expression.trim())

@@ -1,7 +1,7 @@
 //! The lines of labels.
 ghost use Rattle.std.specs.Prelude.{◌≡◌, IfOk};
 ghost use Rattle.lab_core.specs.Board.{Board};
-ghost use Rattle.lab_core.specs.Labs.{StandsFor};
+ghost use Rattle.lab_core.specs.Labs.{RepresentsBoard};
 ghost use Rattle.dap_inspect.specs.Labels as labels;
 
 use lab_core::lab::Lab;
@@ -38,7 +38,7 @@ fn line_begun(origin: Option<Origin>) -> Option<SourceLine>
 /// case of the name are the same. A line number of more than 32 bits isn't found, since no breakpoint can be
 /// there.
 pub fn line_of_label(alloc: Global, lab: &Lab, name: &str) -> Result<Option<SourceLine>, AllocError>
-    ensures { (b : Board) → StandsFor lab.now b
+    ensures { (b : Board) → RepresentsBoard lab.now b
         → IfOk result (λ line. line ≡ labels.line_of_label b name.now) }
 {
     let name = name.to_ascii_uppercase(alloc)?;

@@ -2,7 +2,7 @@
 ghost use Rattle.std.specs.Prelude.{◌≡◌, IfOk};
 ghost use Rattle.lab_views.specs.Code as code;
 ghost use Rattle.lab_core.specs.Board.{Board};
-ghost use Rattle.lab_core.specs.Labs.{StandsFor};
+ghost use Rattle.lab_core.specs.Labs.{RepresentsBoard};
 
 use base_text::sequence::{Bytes, Sequence};
 use base_text::text::Text;
@@ -13,7 +13,7 @@ use std::alloc::{AllocError, Global};
 
 /// The three bytes from an address on, which is the longest instruction's length.
 fn bytes_at(lab: &Lab, address: u16) -> [u8; 3]
-    ensures { (b : Board) → StandsFor lab.now b → result ≡ code.bytes_at b.machine address }
+    ensures { (b : Board) → RepresentsBoard lab.now b → result ≡ code.bytes_at b.machine address }
 {
     [
         lab.peek(address),
@@ -23,7 +23,7 @@ fn bytes_at(lab: &Lab, address: u16) -> [u8; 3]
 }
 
 fn code_line(alloc: Global, lab: &Lab, address: u16) -> Result<CodeLine, AllocError>
-    ensures { (b : Board) → StandsFor lab.now b
+    ensures { (b : Board) → RepresentsBoard lab.now b
         → IfOk result (λ line. line ≡ code.line_at b.machine address) }
 {
     let all = bytes_at(lab, address);
@@ -44,7 +44,7 @@ pub fn code_lines(
     address: u16,
     count: u16,
 ) -> Result<Sequence<CodeLine>, AllocError>
-    ensures { (b : Board) → StandsFor lab.now b
+    ensures { (b : Board) → RepresentsBoard lab.now b
         → IfOk result (λ lines. lines ≡ code.lines_from b.machine address count) }
 {
     let mut next = address;

@@ -1,7 +1,7 @@
 //! Bytes of memory.
 ghost use Rattle.std.specs.Prelude.{◌≡◌, IfOk};
 ghost use Rattle.lab_core.specs.Board.{Board};
-ghost use Rattle.lab_core.specs.Labs.{StandsFor};
+ghost use Rattle.lab_core.specs.Labs.{RepresentsBoard};
 ghost use Rattle.dap_inspect.specs.Memory as memory;
 
 use base_text::sequence::Bytes;
@@ -14,7 +14,7 @@ const ADDRESSES: u32 = MEMORY_SIZE as u32;
 
 /// `count` bytes from an address on, or fewer if the last address comes before.
 pub fn read_memory(alloc: Global, lab: &Lab, address: u16, count: u32) -> Result<Bytes, AllocError>
-    ensures { (b : Board) → StandsFor lab.now b
+    ensures { (b : Board) → RepresentsBoard lab.now b
         → IfOk result (λ bytes. bytes ≡ memory.bytes_from b.machine address count) }
 {
     let start = u32::from(address);

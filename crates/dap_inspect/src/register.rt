@@ -4,7 +4,7 @@ ghost use Rattle.i80_rows.specs.declared.instruction.Pair.TheVariants as pair;
 ghost use Rattle.i80_exec.specs.State.{get_pair};
 ghost use Rattle.lab_views.specs.Values.{largest_at};
 ghost use Rattle.lab_core.specs.Board.{Board};
-ghost use Rattle.lab_core.specs.Labs.{StandsFor};
+ghost use Rattle.lab_core.specs.Labs.{RepresentsBoard};
 ghost use Rattle.dap_inspect.specs.Registers as registers;
 
 use base_text::text::Text;
@@ -25,7 +25,7 @@ fn hl(regs: Registers) -> u16
 
 /// The place with this name, in upper case: a register, or for M the byte at HL.
 pub(crate) fn place_named(lab: &Lab, name: &str) -> Option<Place>
-    ensures { (b : Board) → StandsFor lab.now b → result ≡ registers.place_named b.machine name.now }
+    ensures { (b : Board) → RepresentsBoard lab.now b → result ≡ registers.place_named b.machine name.now }
 {
     if name == "M" {
         return Some(Place::Memory(hl(lab.regs())));
@@ -38,7 +38,7 @@ pub(crate) fn place_named(lab: &Lab, name: &str) -> Option<Place>
 
 /// The value of a place.
 fn value_at(lab: &Lab, place: Place) -> u16
-    ensures value { (b : Board) → StandsFor lab.now b → result ≡ registers.value_at b.machine place }
+    ensures value { (b : Board) → RepresentsBoard lab.now b → result ≡ registers.value_at b.machine place }
     ensures fits { result ≤ largest_at place }
 {
     let regs = lab.regs();
@@ -58,7 +58,7 @@ fn value_at(lab: &Lab, place: Place) -> u16
 
 /// The value of a place as text.
 pub(crate) fn shown_at(alloc: Global, lab: &Lab, place: Place) -> Result<Text, AllocError>
-    ensures { (b : Board) → StandsFor lab.now b
+    ensures { (b : Board) → RepresentsBoard lab.now b
         → IfOk result (λ text. text ≡ registers.shown_at b.machine place) }
 {
     text_of(alloc, place, value_at(lab, place))

@@ -1,7 +1,7 @@
 //! What an editor is told of a program that is loaded.
 ghost use Rattle.std.specs.Prelude.{◌≡◌, IfOk};
 ghost use Rattle.lab_core.specs.Board.{Board};
-ghost use Rattle.lab_core.specs.Labs.{StandsFor};
+ghost use Rattle.lab_core.specs.Labs.{RepresentsBoard};
 ghost use Rattle.dap_program.specs.Messages.{turn_messages};
 ghost use Rattle.dap_program.specs.Openings.{accepted_outcome, opening_events};
 ghost use Rattle.dap_launch.specs.Programs.{begun_follow, program_lines, program_labels};
@@ -43,7 +43,7 @@ pub fn loaded_messages(
     points: &Points,
     follow: Follow,
 ) -> Result<Sequence<Message>, AllocError>
-    ensures { (b : Board) → StandsFor loaded.now.lab b → IfOk result (λ messages. messages
+    ensures { (b : Board) → RepresentsBoard loaded.now.lab b → IfOk result (λ messages. messages
         ≡ turn_messages opening.caller accepted_outcome
         (opening_events opening.occasion (program_lines loaded.now.program points.now)
         (program_labels loaded.now.program points.now b) follow)) }

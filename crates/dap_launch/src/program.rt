@@ -1,7 +1,7 @@
 //! A launched program, and its breakpoints.
 ghost use Rattle.std.specs.Prelude.{◌≡◌, OnOk, IfOk};
 ghost use Rattle.lab_core.specs.Board.{Board};
-ghost use Rattle.lab_core.specs.Labs.{StandsFor};
+ghost use Rattle.lab_core.specs.Labs.{RepresentsBoard};
 ghost use Rattle.dap_launch.specs.Programs.{pauses, program_lines, program_labels, program_board};
 
 use base_text::sequence::Sequence;
@@ -86,7 +86,7 @@ pub fn program_labels(
     points: &Points,
     lab: &Lab,
 ) -> Result<Sequence<PlacedBreakpoint>, AllocError>
-    ensures { (b : Board) → StandsFor lab.now b
+    ensures { (b : Board) → RepresentsBoard lab.now b
         → IfOk result (λ labels. labels ≡ program_labels program.now points.now b) }
 {
     let path = program.launch.program.as_str();
@@ -100,8 +100,8 @@ pub fn arm_program(
     program: &Program,
     points: &Points,
 ) -> Result<(), AllocError>
-    ensures { (b : Board) → StandsFor lab.old b
-        → OnOk result (StandsFor lab.new (program_board program.now points.now b)) }
+    ensures { (b : Board) → RepresentsBoard lab.old b
+        → OnOk result (RepresentsBoard lab.new (program_board program.now points.now b)) }
 {
     let path = &program.launch.program;
     arm(

@@ -3,15 +3,15 @@ use Rattle.std.specs.Prelude.{ℕ, Bool, Ok, Err, if◌then◌else◌}
 use Rattle.lab_core.specs.declared.event.Event.{Event}
 use Rattle.lab_core.specs.declared.event.Event.TheVariants as event
 use Rattle.lab_core.specs.Board.{Board}
-use Rattle.lab_core.specs.Events.{Given, given}
-use Rattle.lab_core.specs.Labs.{LabState, StandsFor}
+use Rattle.lab_core.specs.Events.{EventResult, result_of}
+use Rattle.lab_core.specs.Labs.{LabState, RepresentsBoard}
 
-abbrev pub board_after : Board → Given → Board
+abbrev pub board_after : Board → EventResult → Board
 board_after b (Ok (answer, b')) = b'
 board_after b (Err fault) = b
 
 abbrev pub after : Event → Board → Board
-after e b = board_after b (given e b)
+after e b = board_after b (result_of e b)
 
 -- the events that allocate nothing
 abbrev pub IsSure : Event → Type 0
@@ -28,6 +28,6 @@ abbrev pub begin_run : ℕ → Bool → Board → Board
 begin_run start pauses b =
     if pauses then after event.Pause (after (event.Start start) b) else after (event.Start start) b
 
--- the lab stands for some board
-abbrev pub Stands : LabState → Type 0
-Stands lab = (b : Board) × StandsFor lab b
+-- the lab represents some board
+abbrev pub RepresentsSomeBoard : LabState → Type 0
+RepresentsSomeBoard lab = (b : Board) × RepresentsBoard lab b

@@ -7,8 +7,8 @@ use Rattle.lab_core.specs.declared.answer.Answer.TheVariants as answer
 use Rattle.lab_core.specs.declared.fault.EventFault.{EventFault}
 use Rattle.lab_core.specs.declared.fault.EventFault.TheVariants as refused
 use Rattle.lab_core.specs.Board.{Board, opening}
-use Rattle.lab_core.specs.Events.{Given, given}
-use Rattle.lab_core.specs.Labs.{StandsFor}
+use Rattle.lab_core.specs.Events.{EventResult, result_of}
+use Rattle.lab_core.specs.Labs.{RepresentsBoard}
 use Rattle.dap_board.specs.Commands.{board_with}
 use Rattle.dap_editor.specs.declared.request.Launch.{Launch}
 use Rattle.dap_program.specs.declared.load.Loaded.{Loaded}
@@ -37,17 +37,17 @@ abbrev pub fault_of : EventFault → LoadFault
 fault_of refused.OutOfMemory = fault.OutOfMemory
 fault_of f = fault.Refused f
 
-abbrev pub loaded_by : Given → Result (Board × ℕ) LoadFault
+abbrev pub loaded_by : EventResult → Result (Board × ℕ) LoadFault
 loaded_by (Ok (a, b)) = with_start (start_of a) b
 loaded_by (Err f) = Err (fault_of f)
 
 -- the board with the program, and its start address
 unfoldable pub load_result : Launch → Text → Result (Board × ℕ) LoadFault
-load_result l text = loaded_by (given (event.Load l.program text) (board_to_load_on l))
+load_result l text = loaded_by (result_of (event.Load l.program text) (board_to_load_on l))
 
 -- what is loaded is so
 abbrev pub Loads : Result (Board × ℕ) LoadFault → Result Loaded LoadFault → Type 0
-Loads (Ok (b, start)) (Ok l) = StandsFor l.lab b × (l.start ≡ start)
+Loads (Ok (b, start)) (Ok l) = RepresentsBoard l.lab b × (l.start ≡ start)
 Loads (Err f) (Err f') = f' ≡ f
 Loads (Ok (b, start)) (Err f') = ⊥
 Loads (Err f) (Ok l) = ⊥

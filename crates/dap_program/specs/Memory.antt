@@ -6,7 +6,7 @@ use Rattle.asm_syntax.specs.Numerals.{byte_text}
 use Rattle.lab_core.specs.declared.event.Event.{Event}
 use Rattle.lab_core.specs.declared.event.Event.TheVariants.{Poke}
 use Rattle.lab_core.specs.Board.{Board}
-use Rattle.lab_core.specs.Labs.{LabState, StandsFor}
+use Rattle.lab_core.specs.Labs.{LabState, RepresentsBoard}
 use Rattle.dap_program.specs.Boards.{after}
 
 -- a change by hand of the byte at an address, in the scope Memory (5)
@@ -20,4 +20,4 @@ with_bytes_at start (byte ∷ bytes) b = with_bytes_at (start + 1) bytes (after 
 
 -- some of them are written, from the first on
 abbrev pub WritesSome : ℕ → Bytes → Board → LabState → Type 0
-WritesSome start bytes b lab = (k : ℕ) × StandsFor lab (with_bytes_at start (take k bytes) b)
+WritesSome start bytes b lab = (k : ℕ) × RepresentsBoard lab (with_bytes_at start (take k bytes) b)

@@ -12,7 +12,7 @@ use Rattle.lab_core.specs.declared.answer.Stop.{Stop}
 use Rattle.lab_core.specs.declared.answer.Stop.TheVariants as stop
 use Rattle.lab_core.specs.Board.{Board}
 use Rattle.lab_core.specs.Slices.{traffic_of}
-use Rattle.lab_core.specs.Labs.{LabState, StandsFor}
+use Rattle.lab_core.specs.Labs.{LabState, RepresentsBoard}
 use Rattle.lab_core.specs.SliceEnds.{slice_end, after_slice}
 use Rattle.i80_devs.specs.Console.{written_to_console, wants_line}
 use Rattle.dap_answers.specs.declared.answer.StopReason.{StopReason}
@@ -75,4 +75,4 @@ slice_events traffic ending =
 pub record IsSliceOf (b : Board) (s : Slice) (lab : LabState) : Type 0 where
   pub messages : s.messages ≡ as_messages (slice_events (traffic_of (slice_end b).0 b) (slice_end b).1)
   pub outcome : s.outcome ≡ (slice_end b).1
-  pub stands : StandsFor lab (after_slice b)
+  pub stands : RepresentsBoard lab (after_slice b)

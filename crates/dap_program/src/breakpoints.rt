@@ -1,7 +1,7 @@
 //! The breakpoints of a program on its board.
 ghost use Rattle.std.specs.Prelude.{◌≡◌, ◌≤◌, length, IfOk, OnOk, OnErr};
 ghost use Rattle.lab_core.specs.Board.{Board};
-ghost use Rattle.lab_core.specs.Labs.{StandsFor};
+ghost use Rattle.lab_core.specs.Labs.{RepresentsBoard};
 ghost use Rattle.dap_program.specs.Breakpoints.{label_line, label_points, labels_behind, board_armed_at};
 
 use crate::change::change;
@@ -18,7 +18,7 @@ use std::alloc::{AllocError, Global};
 const MOST_LINES: usize = 256;
 
 fn label_line(alloc: Global, lab: &Lab, name: &str) -> Result<Option<u32>, AllocError>
-    ensures { (b : Board) → StandsFor lab.now b → IfOk result (λ line. line ≡ label_line b name.now) }
+    ensures { (b : Board) → RepresentsBoard lab.now b → IfOk result (λ line. line ≡ label_line b name.now) }
 {
     match line_of_label(alloc, lab, name)? {
         Some(at) => Ok(Some(at.line)),
@@ -33,7 +33,7 @@ fn label_points(
     names: &[Text],
 ) -> Result<Sequence<PlacedBreakpoint>, AllocError>
     requires { length names.now ≤ 256 }
-    ensures { (b : Board) → StandsFor lab.now b
+    ensures { (b : Board) → RepresentsBoard lab.now b
         → IfOk result (λ points. points ≡ label_points b room 0 names.now) }
 {
     let mut points = Sequence::new(alloc);
@@ -56,7 +56,7 @@ pub fn labels_behind(
     names: &[Text],
 ) -> Result<Sequence<PlacedBreakpoint>, AllocError>
     requires { length names.now ≤ 256 }
-    ensures { (b : Board) → StandsFor lab.now b
+    ensures { (b : Board) → RepresentsBoard lab.now b
         → IfOk result (λ points. points ≡ labels_behind lines.now names.now b) }
 {
     label_points(alloc, lab, room_behind(lines), names)
@@ -72,8 +72,8 @@ pub fn arm(
     names: &[Text],
 ) -> Result<(), AllocError>
     requires { length names.now ≤ 256 }
-    ensures ok { (b : Board) → StandsFor lab.old b
-        → OnOk result (StandsFor lab.new (board_armed_at path.now lines.now names.now b)) }
+    ensures ok { (b : Board) → RepresentsBoard lab.old b
+        → OnOk result (RepresentsBoard lab.new (board_armed_at path.now lines.now names.now b)) }
     ensures err { OnErr result (lab.new ≡ lab.old) }
 {
     let labels = labels_behind(alloc, lab, lines, names)?;

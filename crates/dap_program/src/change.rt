@@ -2,7 +2,7 @@
 ghost use Rattle.std.specs.Prelude.{◌≡◌, true, Err, OnOk, OnErr};
 ghost use Rattle.lab_core.specs.Board.{Board};
 ghost use Rattle.lab_core.specs.Events.{Fits};
-ghost use Rattle.lab_core.specs.Labs.{StandsFor};
+ghost use Rattle.lab_core.specs.Labs.{RepresentsBoard};
 ghost use Rattle.dap_program.specs.Boards.{IsSure, after, begin_run};
 
 use lab_core::answer::Answer;
@@ -23,7 +23,8 @@ fn is_out_of_memory(answer: Result<Answer, EventFault>) -> bool
 /// Applies an event. If the board refuses it, the board stays as it was.
 pub fn change(lab: &mut Lab, event: Event) -> Result<(), AllocError>
     requires { Fits event }
-    ensures ok { (b : Board) → StandsFor lab.old b → OnOk result (StandsFor lab.new (after event b)) }
+    ensures ok { (b : Board) → RepresentsBoard lab.old b
+        → OnOk result (RepresentsBoard lab.new (after event b)) }
     ensures err { OnErr result (lab.new ≡ lab.old) }
 {
     let answer = lab.apply(&event);
@@ -37,7 +38,7 @@ pub fn change(lab: &mut Lab, event: Event) -> Result<(), AllocError>
 /// Applies an event that allocates nothing. If the board refuses it, the board stays as it was.
 pub fn change_surely(lab: &mut Lab, event: Event)
     requires { IsSure event }
-    ensures { (b : Board) → StandsFor lab.old b → StandsFor lab.new (after event b) }
+    ensures { (b : Board) → RepresentsBoard lab.old b → RepresentsBoard lab.new (after event b) }
 {
     let answer = lab.apply(&event);
     drop(event);
@@ -46,7 +47,7 @@ pub fn change_surely(lab: &mut Lab, event: Event)
 
 /// Begins a run at an address. If `pauses`, it is stopped before its first step.
 pub fn begin(lab: &mut Lab, start: u16, pauses: bool)
-    ensures { (b : Board) → StandsFor lab.old b → StandsFor lab.new (begin_run start pauses b) }
+    ensures { (b : Board) → RepresentsBoard lab.old b → RepresentsBoard lab.new (begin_run start pauses b) }
 {
     change_surely(lab, Event::Start(start));
     if pauses {

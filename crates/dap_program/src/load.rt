@@ -1,7 +1,7 @@
 //! Loading a program.
 ghost use Rattle.std.specs.Prelude.{◌≡◌, ◌≢◌, Err, IfOk};
 ghost use Rattle.lab_core.specs.Board.{opening};
-ghost use Rattle.lab_core.specs.Labs.{StandsFor};
+ghost use Rattle.lab_core.specs.Labs.{RepresentsBoard};
 ghost use Rattle.dap_board.specs.Commands.{board_with};
 ghost use Rattle.dap_program.specs.Loading.{board_to_load_on, start_of, fault_of, load_result, Loads};
 
@@ -53,8 +53,8 @@ fn board_with_aliases(has_aliases: bool) -> Board
 
 // Sets up a new board for a launch.
 fn prepare(lab: &mut Lab, launch: &Launch)
-    requires { StandsFor lab.old opening }
-    ensures { StandsFor lab.new (board_to_load_on launch.now) }
+    requires { RepresentsBoard lab.old opening }
+    ensures { RepresentsBoard lab.new (board_to_load_on launch.now) }
 {
     change_surely(lab, Event::SetBoard(board_with_aliases(launch.has_aliases)));
     change_surely(lab, Event::Switches(launch.switches));

@@ -1,14 +1,14 @@
 //! Bytes that a debugger writes.
 ghost use Rattle.std.specs.Prelude.{◌≡◌, ◌≤◌, ◌+◌, length, IfOk, OnOk, OnErr};
 ghost use Rattle.lab_core.specs.Board.{Board};
-ghost use Rattle.lab_core.specs.Labs.{StandsFor};
+ghost use Rattle.lab_core.specs.Labs.{RepresentsBoard};
 ghost use Rattle.dap_program.specs.Boards.{after};
 ghost use Rattle.dap_program.specs.Memory.{poke_of, with_bytes_at, WritesSome};
 
 use crate::change::change;
+use asm_syntax::numeral::push_byte;
 use base_text::hexadecimal::push_word;
 use base_text::text::Text;
-use asm_syntax::numeral::push_byte;
 use lab_core::event::Event;
 use lab_core::lab::Lab;
 use std::alloc::{AllocError, Global};
@@ -31,8 +31,8 @@ fn poke_of(alloc: Global, address: u16, byte: u8) -> Result<Event, AllocError>
 }
 
 fn write_byte(alloc: Global, lab: &mut Lab, address: u16, byte: u8) -> Result<(), AllocError>
-    ensures ok { (b : Board) → StandsFor lab.old b
-        → OnOk result (StandsFor lab.new (after (poke_of address byte) b)) }
+    ensures ok { (b : Board) → RepresentsBoard lab.old b
+        → OnOk result (RepresentsBoard lab.new (after (poke_of address byte) b)) }
     ensures err { OnErr result (lab.new ≡ lab.old) }
 {
     let event = poke_of(alloc, address, byte)?;
@@ -43,9 +43,10 @@ fn write_byte(alloc: Global, lab: &mut Lab, address: u16, byte: u8) -> Result<()
 /// allocates: if memory runs out, the bytes before stay written.
 pub fn write_bytes(alloc: Global, lab: &mut Lab, start: u16, bytes: &[u8]) -> Result<(), AllocError>
     requires { start + length bytes.now ≤ 65536 }
-    ensures ok { (b : Board) → StandsFor lab.old b
-        → OnOk result (StandsFor lab.new (with_bytes_at start bytes.now b)) }
-    ensures err { (b : Board) → StandsFor lab.old b → OnErr result (WritesSome start bytes.now b lab.new) }
+    ensures ok { (b : Board) → RepresentsBoard lab.old b
+        → OnOk result (RepresentsBoard lab.new (with_bytes_at start bytes.now b)) }
+    ensures err { (b : Board) → RepresentsBoard lab.old b
+        → OnErr result (WritesSome start bytes.now b lab.new) }
 {
     let mut address = u32::from(start);
     for byte in bytes {

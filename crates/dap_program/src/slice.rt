@@ -4,8 +4,8 @@ ghost use Rattle.std.specs.Prelude.{vec_len, codes};
 ghost use Rattle.base_text.specs.Hexadecimal.{upper_digit, upper_byte};
 ghost use Rattle.lab_core.specs.declared.run_state.RunState.TheVariants.{Running};
 ghost use Rattle.lab_core.specs.Board.{Board};
-ghost use Rattle.lab_core.specs.Labs.{StandsFor};
-ghost use Rattle.dap_program.specs.Boards.{Stands};
+ghost use Rattle.lab_core.specs.Labs.{RepresentsBoard};
+ghost use Rattle.dap_program.specs.Boards.{RepresentsSomeBoard};
 ghost use Rattle.dap_program.specs.Messages.{as_messages};
 ghost use Rattle.dap_program.specs.Slices as slices;
 ghost use Rattle.dap_program.specs.Slices.{console_events, line_question, line_events, run_end_events};
@@ -16,10 +16,10 @@ use crate::messages::Messages;
 use base_text::sequence::{Bytes, Sequence};
 use dap_answers::answer::StopReason;
 use dap_editor::message::{EditorEvent, EditorStop, Message, OutputCategory};
+use i80_devs::console::{is_line_requested, print_all};
 use i80_exec::ports::PortOperation;
 use lab_core::answer::{End, SliceOutcome, Stop};
 use lab_core::lab::Lab;
-use i80_devs::console::{is_line_requested, print_all};
 use lab_core::run_slice::{STEPS, run_slice};
 use std::alloc::{AllocError, Global};
 
@@ -223,8 +223,8 @@ impl SliceKit {
 /// Makes at most 4,096 steps of the run on a board, and returns the messages about them. If no run goes on,
 /// it fails like out of memory. If it fails, the board stays as it was.
 pub fn make_slice(alloc: Global, lab: &mut Lab) -> Result<Slice, AllocError>
-    requires { Stands lab.old }
-    ensures made { (b : Board) → StandsFor lab.old b → b.run ≡ Running
+    requires { RepresentsSomeBoard lab.old }
+    ensures made { (b : Board) → RepresentsBoard lab.old b → b.run ≡ Running
         → IfOk result (λ slice. IsSliceOf b slice lab.new) }
     ensures err { OnErr result (lab.new ≡ lab.old) }
 {

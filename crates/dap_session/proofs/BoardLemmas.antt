@@ -18,9 +18,10 @@ use Rattle.lab_core.specs.declared.fault.EventFault.TheVariants.{Vector, Latched
 use Rattle.lab_core.specs.declared.run_state.RunState.{RunState}
 use Rattle.lab_core.specs.declared.run_state.RunState.TheVariants.{NoRun, Running, Stopped}
 use Rattle.lab_core.specs.Board.{Board}
-use Rattle.lab_core.specs.Events.{Given, given, without_run, with_run, while_stopped, while_running}
+use Rattle.lab_core.specs.Events.{EventResult, result_of, without_run, with_run, while_stopped, while_running}
 use Rattle.lab_core.specs.Events.{while_attached, with_source, with_breakpoints, or_poke, or_source}
-use Rattle.lab_core.specs.Events.{or_assembly, assembled, as_answer, parts_of, started, stopped, ended}
+use Rattle.lab_core.specs.Events.{or_assembly, cell_meaning, as_answer, parts_of, after_start, after_stop}
+use Rattle.lab_core.specs.Events.{after_end}
 use Rattle.lab_core.specs.Slices.{after_steps}
 use Rattle.dap_editor.specs.declared.request.Launch.{Launch}
 use Rattle.dap_program.specs.declared.load.LoadFault.{LoadFault}
@@ -48,22 +49,22 @@ same_twice a b c first second = record {
 }
 
 -- so it is after what an event gives
-abbrev pub KeepsRun : Board → Given → Type 0
+abbrev pub KeepsRun : Board → EventResult → Type 0
 KeepsRun b (Ok (a, b')) = SameRun b b'
 KeepsRun b (Err f) = Unit {0}
 
-kept_after : (b : Board) (g : Given) → KeepsRun b g → SameRun b (board_after b g)
+kept_after : (b : Board) (g : EventResult) → KeepsRun b g → SameRun b (board_after b g)
 kept_after b (Ok (a, b')) kept = kept
 kept_after b (Err f) kept = same b
 
 -- ---- conditions
 
-pub kept_without : (r : RunState) (b : Board) (g : Given) → KeepsRun b g → KeepsRun b (without_run r g)
+pub kept_without : (r : RunState) (b : Board) (g : EventResult) → KeepsRun b g → KeepsRun b (without_run r g)
 kept_without NoRun b g kept = kept
 kept_without Running b g kept = tt
 kept_without Stopped b g kept = tt
 
-kept_stopped : (r : RunState) (b : Board) (g : Given) → KeepsRun b g → KeepsRun b (while_stopped r g)
+kept_stopped : (r : RunState) (b : Board) (g : EventResult) → KeepsRun b g → KeepsRun b (while_stopped r g)
 kept_stopped NoRun b g kept = tt
 kept_stopped Running b g kept = tt
 kept_stopped Stopped b g kept = kept
@@ -74,46 +75,47 @@ kept_latch true d f h b b' kept = tt
 kept_latch false true f h b b' kept = tt
 kept_latch false false f h b b' kept = kept
 
-kept_step : {A : Type 0} (r : Result A EventFault) (b : Board) (f : A → Given) → ((x : A) → KeepsRun b (f x))
+kept_step : {A : Type 0} (r : Result A EventFault) (b : Board) (f : A → EventResult) → ((x : A)
+    → KeepsRun b (f x))
     → KeepsRun b (r >>= f)
 kept_step (Ok x) b f kept = kept x
 kept_step (Err e) b f kept = tt
 
-kept_source : (o : Option (ℕ × List ℕ)) (b : Board) (f : ℕ → List ℕ → Given)
+kept_source : (o : Option (ℕ × List ℕ)) (b : Board) (f : ℕ → List ℕ → EventResult)
     → ((n : ℕ) (text : List ℕ) → KeepsRun b (f n text)) → KeepsRun b (with_source o f)
 kept_source None b f kept = tt
 kept_source (Some (n, text)) b f kept = kept n text
 
 -- ---- events
 
-pub kept_load : (path text : Text) (b : Board) → KeepsRun b (given (event.Load path text) b)
+pub kept_load : (path text : Text) (b : Board) → KeepsRun b (result_of (event.Load path text) b)
 kept_load path text b =
     kept_without b.run b _
     (kept_step (or_source (place_of (record { path = path; text = text }) b.sources)) b _
-    (λ place. kept_step (or_assembly (assembled b.symbols text)) b _
+    (λ place. kept_step (or_assembly (cell_meaning b.symbols text)) b _
     (λ m. record { run = refl; is_attached = refl })))
 
-pub kept_dump : (path text : Text) (b : Board) → KeepsRun b (given (event.Dump path text) b)
+pub kept_dump : (path text : Text) (b : Board) → KeepsRun b (result_of (event.Dump path text) b)
 kept_dump path text b =
     kept_step (or_source (place_of (record { path = path; text = text }) b.sources)) b _
     (λ place. record { run = refl; is_attached = refl })
 
 pub kept_poke : (reference : ℕ) (name value : Text) (b : Board)
-    → KeepsRun b (given (event.Poke reference name value) b)
+    → KeepsRun b (result_of (event.Poke reference name value) b)
 kept_poke reference name value b =
     kept_stopped b.run b _
     (kept_step (or_poke (place_named reference name)) b _
     (λ place. kept_step (or_poke (value_spelled place value)) b _
     (λ n. record { run = refl; is_attached = refl })))
 
-pub kept_press : (n : ℕ) (b : Board) → KeepsRun b (given (event.Press n) b)
+pub kept_press : (n : ℕ) (b : Board) → KeepsRun b (result_of (event.Press n) b)
 kept_press n b = kept_latch _ _ Vector Latched b _ (record { run = refl; is_attached = refl })
 
 kept_answer : (r : Result Shown ViewFault) (b : Board) → KeepsRun b (as_answer r b)
 kept_answer (Ok s) b = same b
 kept_answer (Err f) b = tt
 
-pub kept_show : (view : View) (b : Board) → KeepsRun b (given (event.Show view) b)
+pub kept_show : (view : View) (b : Board) → KeepsRun b (result_of (event.Show view) b)
 kept_show view b = kept_answer (view_of view (parts_of b)) b
 
 kept_lines : (path : Text) (lines : List ℕ) (b : Board) → KeepsRun b (with_breakpoints path lines b)
@@ -142,7 +144,7 @@ abbrev IsPoke : Event → Type 0
 IsPoke (event.Poke reference name value) = Unit {0}
 IsPoke other = ⊥
 
-kept_by_hand : (e : Event) (b : Board) → IsPoke e → KeepsRun b (given e b)
+kept_by_hand : (e : Event) (b : Board) → IsPoke e → KeepsRun b (result_of e b)
 kept_by_hand (event.Poke reference name value) b is = kept_poke reference name value b
 kept_by_hand other b is = absurd is
 
@@ -151,7 +153,7 @@ kept_written [] start b = same b
 kept_written (byte ∷ bytes) start b =
     let b' = after (poke_of start byte) b in
     same_twice b b' (with_bytes_at start (byte ∷ bytes) b)
-    (kept_after b (given (poke_of start byte) b) (kept_by_hand (poke_of start byte) b tt))
+    (kept_after b (result_of (poke_of start byte) b) (kept_by_hand (poke_of start byte) b tt))
     (kept_written bytes (start + 1) b')
 
 -- ---- steps
@@ -163,19 +165,23 @@ kept_steps (suc k) b = let kept = kept_steps k b in record { run = kept.run; is_
 -- ---- a run begins, or ends
 
 begins : (r : RunState) (start : ℕ) (b : Board) → r ≡ NoRun
-    → board_after b (without_run r (Ok (answer.Started, started start b))) ≡ started start b
+    → board_after b (without_run r (Ok (answer.Started, after_start start b))) ≡ after_start start b
 begins NoRun start b is = refl
 begins Running start b is = absurd cc
 begins Stopped start b is = absurd cc
 
 pauses : (a : Bool) (b : Board) → a ≡ true
-    → (board_after b (while_attached a (while_running Running (Ok (answer.Accepted, stopped b))))).run
+    → (board_after b (while_attached a (while_running Running (Ok (answer.Accepted, after_stop b))))).run
     ≡ Stopped
 pauses true b is = refl
 pauses false b is = absurd cc
 
 keeps_attached : (a : Bool) (b : Board)
-    → (board_after b (while_attached a (while_running Running (Ok (answer.Accepted, stopped b))))).is_attached
+    → (board_after b (while_attached a (while_running Running (Ok (
+      answer.Accepted,
+      after_stop
+          b,
+    ))))).is_attached
     ≡ b.is_attached
 keeps_attached true b = refl
 keeps_attached false b = refl
@@ -188,24 +194,24 @@ pub begun_run : (q : Bool) (start : ℕ) (b : Board) → b.run ≡ NoRun → (q 
     → (begin_run start q b).run ≡ run_started q
 begun_run true start b none attached =
     subst (λ x. (after event.Pause x).run ≡ Stopped) (sym (begins b.run start b none))
-    (pauses b.is_attached (started start b) (attached refl))
+    (pauses b.is_attached (after_start start b) (attached refl))
 begun_run false start b none attached = ap (λ (x : Board). x.run) (begins b.run start b none)
 
 pub begun_attached : (q : Bool) (start : ℕ) (b : Board) → b.run ≡ NoRun
     → (begin_run start q b).is_attached ≡ b.is_attached
 begun_attached true start b none =
     subst (λ x. (after event.Pause x).is_attached ≡ b.is_attached) (sym (begins b.run start b none))
-    (keeps_attached b.is_attached (started start b))
+    (keeps_attached b.is_attached (after_start start b))
 begun_attached false start b none = ap (λ (x : Board). x.is_attached) (begins b.run start b none)
 
 interrupted_from : (r : RunState) (b : Board) → b.run ≡ r
-    → (board_after b (with_run r (Ok (answer.Interrupted, ended b)))).run ≡ NoRun
+    → (board_after b (with_run r (Ok (answer.Interrupted, after_end b)))).run ≡ NoRun
 interrupted_from NoRun b is = is
 interrupted_from Running b is = refl
 interrupted_from Stopped b is = refl
 
 interrupted_attached : (r : RunState) (b : Board)
-    → (board_after b (with_run r (Ok (answer.Interrupted, ended b)))).is_attached ≡ b.is_attached
+    → (board_after b (with_run r (Ok (answer.Interrupted, after_end b)))).is_attached ≡ b.is_attached
 interrupted_attached NoRun b = refl
 interrupted_attached Running b = refl
 interrupted_attached Stopped b = refl
@@ -236,7 +242,7 @@ loaded_start : (o : Option ℕ) (l : Launch) (b : Board) → b.run ≡ NoRun →
 loaded_start None l b none attached = tt
 loaded_start (Some start) l b none attached = (none, attached)
 
-loaded_so : (g : Given) (l : Launch) (b : Board) → KeepsRun b g → b.run ≡ NoRun
+loaded_so : (g : EventResult) (l : Launch) (b : Board) → KeepsRun b g → b.run ≡ NoRun
     → b.is_attached ≡ l.is_debugged
     → IsLoaded l (loaded_by g)
 loaded_so (Ok (a, b')) l b kept none attached =
@@ -247,5 +253,5 @@ pub is_loaded : (l : Launch) (text : Text) → IsLoaded l (load_result l text)
 unfolding load_result
 is_loaded l text =
     let b = board_to_load_on l in
-    loaded_so (given (event.Load l.program text) b) l b (kept_load l.program text b)
+    loaded_so (result_of (event.Load l.program text) b) l b (kept_load l.program text b)
     (attached_run l.is_debugged _) (attached_so l.is_debugged _ refl)

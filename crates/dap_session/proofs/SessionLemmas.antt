@@ -1,4 +1,4 @@
--- Sessions, and the states that they stand for.
+-- Sessions, and the states that they represent.
 use Rattle.std.proofs.Common.{◌≡◌, ℕ, zero, suc, ◌-◌, List, [], ◌∷◌, take, Bool, true, false, Result, Ok, Err}
 use Rattle.std.proofs.Common.{Option, Some, None, IfOk, OnErr, codes, if◌then◌else◌, sym, refl, ap, subst}
 use Rattle.std.specs.declared.alloc.AllocError.{AllocError}
@@ -20,7 +20,7 @@ use Rattle.dap_session.specs.Turns.{Replied, turn_of, refusing}
 use Rattle.dap_session.specs.Memory.{is_stopped, address_at, writing_from, writing}
 use Rattle.dap_session.specs.Launches.{beginning, beginning_in, beginning_where, begin_if_configured}
 use Rattle.dap_session.specs.Slices.{Told, told_in}
-use Rattle.dap_session.specs.Stands.{SessionFields, StandsFor, Tells, TellsAs, TellsFor, IsLeft}
+use Rattle.dap_session.specs.Stands.{SessionFields, RepresentsSession, Tells, TellsAs, TellsFor, IsLeft}
 use Rattle.dap_session.specs.Stands.{WritesFirst}
 
 -- ---- want of memory
@@ -35,7 +35,8 @@ write_command address offset bytes = asked.Editor (editor.WriteMemory address of
 -- a write that is refused, and that would be so of no bytes too
 pub refused_write : (address : ℕ) (offset : Shift) (bytes text : Bytes) (c : Caller) (old new : SessionFields)
     (r : Result (List Message) AllocError)
-    → ((xs : Bytes) (s : SessionState) → StandsFor old s → writing address offset xs s ≡ refusing text s)
+    → ((xs : Bytes) (s : SessionState) → RepresentsSession old s
+    → writing address offset xs s ≡ refusing text s)
     → TellsAs (λ s. told_in c (turn_of (refusing text s))) old r new
     → TellsFor (write_command address offset bytes)
     (λ s. told_in c (turn_of (writing address offset bytes s))) old r
@@ -45,10 +46,10 @@ refused_write address offset bytes text c old new r same takes = (
       let P : Replied → Type 0 = λ t. IfOk r (λ messages. Tells (told_in c (turn_of t)) messages new) in
       subst P (sym (same bytes s stands)) (takes.0 s stands),
   on_err r (λ kept s stands.
-      let P : Replied → Type 0 = λ t. StandsFor new t.state in (
+      let P : Replied → Type 0 = λ t. RepresentsSession new t.state in (
         0,
         subst P (sym (same (take 0 bytes) s stands))
-            (subst (λ v. StandsFor v s) (sym kept) stands),
+            (subst (λ v. RepresentsSession v s) (sym kept) stands),
       )) takes.1,
 )
 
@@ -80,11 +81,12 @@ taken_twice (suc m) (suc n) (x ∷ xs) = ap (λ rest. x ∷ rest) (taken_twice m
 -- a write that is done, or of which some bytes are written
 pub done_write : (address start : ℕ) (offset : Shift) (bytes : Bytes) (c : Caller) (old new : SessionFields)
     (r : Result (List Message) AllocError)
-    → ((s : SessionState) → StandsFor old s → is_stopped s.board.run ≡ true)
+    → ((s : SessionState) → RepresentsSession old s → is_stopped s.board.run ≡ true)
     → address_at address offset ≡ Some start
-    → ((s : SessionState) → StandsFor old s → IfOk r (λ messages.
+    → ((s : SessionState) → RepresentsSession old s → IfOk r (λ messages.
     Tells (told_in c (turn_of (writing_from (Some start) bytes s))) messages new))
-    → ((s : SessionState) → StandsFor old s → OnErr r (WritesFirst start (take (65536 - start) bytes) s new))
+    → ((s : SessionState) → RepresentsSession old s
+    → OnErr r (WritesFirst start (take (65536 - start) bytes) s new))
     → TellsFor (write_command address offset bytes)
     (λ s. told_in c (turn_of (writing address offset bytes s))) old r
     new
@@ -99,8 +101,9 @@ done_write address start offset bytes c old new (Err lack) stopped at made err =
   λ s stands.
       let some = err s stands in
       let k = some.0 in
-      let P : Replied → Type 0 = λ t. StandsFor new t.state in
-      let B : Bytes → Type 0 = λ xs. StandsFor new (with_board (with_bytes_at start xs s.board) s) in (
+      let P : Replied → Type 0 = λ t. RepresentsSession new t.state in
+      let B : Bytes → Type 0 =
+      λ xs. RepresentsSession new (with_board (with_bytes_at start xs s.board) s) in (
         k,
         subst P (sym (somewhere address start offset (take k bytes) s (stopped s stands) at))
             (subst B (taken_twice k (65536 - start) bytes) some.1),
@@ -129,8 +132,9 @@ unwritten false o s = refl
 pub left_same : (a : Asked) (old new : SessionFields) → new ≡ old → IsLeft a old new
 left_same (asked.Editor (editor.WriteMemory address offset bytes)) old new same = λ s stands. (
   0,
-  subst (λ t. StandsFor new t) (sym (unwritten (is_stopped s.board.run) (address_at address offset) s))
-      (subst (λ v. StandsFor v s) (sym same) stands),
+  subst (λ t. RepresentsSession new t) (sym (unwritten (is_stopped s.board.run) (address_at address offset)
+      s))
+      (subst (λ v. RepresentsSession v s) (sym same) stands),
 )
 left_same (asked.Board c) old new same = same
 left_same (asked.Faulty f) old new same = same

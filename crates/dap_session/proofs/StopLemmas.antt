@@ -16,7 +16,7 @@ use Rattle.lab_core.specs.declared.event.Event.TheVariants as event
 use Rattle.lab_core.specs.declared.run_state.RunState.{RunState}
 use Rattle.lab_core.specs.declared.run_state.RunState.TheVariants.{NoRun, Running, Stopped}
 use Rattle.lab_core.specs.Board.{Board}
-use Rattle.lab_core.specs.Events.{given}
+use Rattle.lab_core.specs.Events.{result_of}
 use Rattle.lab_core.specs.Slices.{traffic_of, after_steps, left_by}
 use Rattle.lab_core.specs.SliceEnds.{slice_end}
 use Rattle.i80_devs.specs.Console.{written_to_console, wants_line}
@@ -82,15 +82,16 @@ goes_command command.InspectVariables s reached = goes_shown (view.Variables 1 0
 goes_command (command.SetVariable reference name value) s reached =
     goes_board body_of _ s reached (kept_poke reference name value s.board)
 goes_command (command.BoardSwitches value) s reached =
-    goes_board (λ _. body.Empty) (given (event.Switches value) s.board) s reached
+    goes_board (λ _. body.Empty) (result_of (event.Switches value) s.board) s reached
     (record { run = refl; is_attached = refl })
 goes_command (command.BoardPress vector) s reached =
-    goes_board (λ _. body.Empty) (given (event.Press vector) s.board) s reached (kept_press vector s.board)
+    goes_board (λ _. body.Empty) (result_of (event.Press vector) s.board) s reached (kept_press vector
+    s.board)
 goes_command (command.BoardType text) s reached =
-    goes_board (λ _. body.Empty) (given (event.Typed (latin_bytes text)) s.board) s reached
+    goes_board (λ _. body.Empty) (result_of (event.Typed (latin_bytes text)) s.board) s reached
     (record { run = refl; is_attached = refl })
 goes_command (command.BoardAliases aliases) s reached =
-    goes_board (λ _. body.Empty) (given (event.SetBoard (board_with aliases)) s.board) s reached
+    goes_board (λ _. body.Empty) (result_of (event.SetBoard (board_with aliases)) s.board) s reached
     (kept_without s.board.run s.board (Ok (answer.BoardSet, _)) (record { run = refl; is_attached = refl }))
 
 goes_editing : (c : EditorCommand) (s : SessionState) → IsReached (seen s) → GoesBy s (editing c s)

@@ -10,8 +10,9 @@ use Rattle.lab_core.specs.declared.event.Event.TheVariants as event
 use Rattle.lab_core.specs.declared.event.StepRequest.{StepRequest}
 use Rattle.lab_core.specs.declared.run_state.RunState.{RunState}
 use Rattle.lab_core.specs.declared.run_state.RunState.TheVariants.{NoRun, Running, Stopped}
-use Rattle.lab_core.specs.Events.{Given, given, while_stopped, while_running, while_attached, going_on}
-use Rattle.lab_core.specs.Events.{stopped as board_stopped}
+use Rattle.lab_core.specs.Events.{EventResult, result_of, while_stopped, while_running, while_attached}
+use Rattle.lab_core.specs.Events.{going_on}
+use Rattle.lab_core.specs.Events.{after_stop as board_stopped}
 use Rattle.dap_answers.specs.declared.answer.Body.{Body}
 use Rattle.dap_answers.specs.declared.answer.Body.TheVariants as body
 use Rattle.dap_answers.specs.declared.answer.StopReason.TheVariants.{Pause as ByPause}
@@ -52,16 +53,16 @@ pub goes_either : (b : Bool) (s : SessionState) (r r' : Replied) → GoesBy s r 
 goes_either true s r r' one two = one
 goes_either false s r r' one two = two
 
-pub goes_board : (to_body : Answer → Body) (g : Given) (s : SessionState) → IsReached (seen s)
+pub goes_board : (to_body : Answer → Body) (g : EventResult) (s : SessionState) → IsReached (seen s)
     → KeepsRun s.board g → GoesBy s (board_done (with_body to_body g) follow.Nothing s)
 goes_board to_body (Ok (a, b)) s reached kept = still s (with_board b s) reached (seen_board b s kept)
 goes_board to_body (Err f) s reached kept = still s s reached refl
 
 pub goes_shown : (v : View) (s : SessionState) → IsReached (seen s)
-    → GoesBy s (board_done (with_body body_of (given (event.Show v) s.board)) follow.Nothing s)
-goes_shown v s reached = goes_board body_of (given (event.Show v) s.board) s reached (kept_show v s.board)
+    → GoesBy s (board_done (with_body body_of (result_of (event.Show v) s.board)) follow.Nothing s)
+goes_shown v s reached = goes_board body_of (result_of (event.Show v) s.board) s reached (kept_show v s.board)
 
-goes_command_reply : (to_body : Answer → Body) (g : Given) (s : SessionState) → IsReached (seen s)
+goes_command_reply : (to_body : Answer → Body) (g : EventResult) (s : SessionState) → IsReached (seen s)
     → KeepsRun s.board g → GoesBy s (command_reply (with_body to_body g) s)
 goes_command_reply to_body (Ok (a, b)) s reached kept = still s (with_board b s) reached (seen_board b s kept)
 goes_command_reply to_body (Err f) s reached kept = still s s reached refl
@@ -71,7 +72,7 @@ goes_switches : (o : Option ℕ) (expression : Text) (s : SessionState) → IsRe
 unfolding command_result
 goes_switches None expression s reached = still s s reached refl
 goes_switches (Some value) expression s reached =
-    goes_command_reply (λ _. body.Empty) (given (event.Switches value) s.board) s reached
+    goes_command_reply (λ _. body.Empty) (result_of (event.Switches value) s.board) s reached
     (record { run = refl; is_attached = refl })
 
 goes_press : (o : Option ℕ) (expression : Text) (s : SessionState) → IsReached (seen s)
@@ -79,14 +80,14 @@ goes_press : (o : Option ℕ) (expression : Text) (s : SessionState) → IsReach
 unfolding command_result
 goes_press None expression s reached = still s s reached refl
 goes_press (Some vector) expression s reached =
-    goes_command_reply (λ _. body.Empty) (given (event.Press vector) s.board) s reached
+    goes_command_reply (λ _. body.Empty) (result_of (event.Press vector) s.board) s reached
     (kept_press vector s.board)
 
 goes_type : (text expression : Text) (s : SessionState) → IsReached (seen s)
     → GoesBy s (command_reply (command_result (command.BoardType text) s.board) s)
 unfolding command_result
 goes_type text expression s reached =
-    goes_command_reply (λ _. body.Empty) (given (event.Typed (latin_bytes text)) s.board) s reached
+    goes_command_reply (λ _. body.Empty) (result_of (event.Typed (latin_bytes text)) s.board) s reached
     (record { run = refl; is_attached = refl })
 
 goes_value : (r : Result Text EvaluateFault) (s : SessionState) → IsReached (seen s)

@@ -2,7 +2,7 @@
 use Rattle.std.specs.Prelude.{ℕ, ◌+◌, ◌-◌, ◌%◌, [], length, take, nat_le, Bool, true, false, Option, Some}
 use Rattle.std.specs.Prelude.{None, codes, if◌then◌else◌}
 use Rattle.base_text.specs.Bytes.{Bytes}
-use Rattle.i80_exec.specs.State.{MachineState, wrapped}
+use Rattle.i80_exec.specs.State.{MachineState, modulo_65536}
 use Rattle.lab_views.specs.Code.{lines_from, after_instructions}
 use Rattle.dap_answers.specs.declared.answer.Body.TheVariants.{Instructions}
 use Rattle.dap_editor.specs.declared.request.Shift.{Shift}
@@ -58,8 +58,8 @@ writing address offset bytes s =
 
 -- the address at this distance from another; addresses wrap
 abbrev pub wrapped_at : ℕ → Shift → ℕ
-wrapped_at address (Forward n) = wrapped (address + n)
-wrapped_at address (Back n) = wrapped (address + (65536 - n % 65536))
+wrapped_at address (Forward n) = modulo_65536 (address + n)
+wrapped_at address (Back n) = modulo_65536 (address + (65536 - n % 65536))
 
 -- the address of the line of code that is so many instructions from an address
 abbrev pub first_line : ℕ → Shift → Board → ℕ

@@ -1,7 +1,7 @@
--- Which states a session stands for.
+-- Which states a session represents.
 use Rattle.std.specs.Prelude.{◌≡◌, ℕ, take, Result, List, OnErr, IfOk}
 use Rattle.std.specs.declared.alloc.AllocError.{AllocError}
-use Rattle.lab_core.specs.Labs.{LabState, StandsFor as LabStandsFor}
+use Rattle.lab_core.specs.Labs.{LabState, RepresentsBoard}
 use Rattle.base_text.specs.Bytes.{Bytes, Text}
 use Rattle.dap_editor.specs.declared.message.Message.{Message}
 use Rattle.dap_editor.specs.declared.message.PlacedBreakpoint.{PlacedBreakpoint}
@@ -23,49 +23,49 @@ pub record SessionFields : Type 0 where
   pub lab : LabState
   pub settings : SessionSettings
 
-pub record StandsFor (v : SessionFields) (s : SessionState) : Type 0 where
-  pub board : LabStandsFor v.lab s.board
+pub record RepresentsSession (v : SessionFields) (s : SessionState) : Type 0 where
+  pub board : RepresentsBoard v.lab s.board
   pub settings : v.settings ≡ s.settings
 
--- the reply is this one, and the session stands for the state after it
+-- the reply is this one, and the session represents the state after it
 pub record Replies (r : Replied) (reply : Reply) (new : SessionFields) : Type 0 where
   pub outcome : reply.outcome ≡ r.outcome
   pub follow : reply.follow ≡ r.follow
-  pub stands : StandsFor new r.state
+  pub stands : RepresentsSession new r.state
 
--- The reply is that of `f` for each state that the session stands for. If memory runs out the session stays
+-- The reply is that of `f` for each state that the session represents. If memory runs out the session stays
 -- as it was.
 abbrev pub RepliesAs : (SessionState → Replied) → SessionFields → Result Reply AllocError → SessionFields
     → Type 0
 RepliesAs f old result new =
-    ((s : SessionState) → StandsFor old s → IfOk result (λ reply. Replies (f s) reply new))
+    ((s : SessionState) → RepresentsSession old s → IfOk result (λ reply. Replies (f s) reply new))
     × OnErr result (new ≡ old)
 
--- these messages go out, and the session stands for the state after them
+-- these messages go out, and the session represents the state after them
 abbrev pub Tells : Told → List Message → SessionFields → Type 0
-Tells t messages new = (messages ≡ t.messages) × StandsFor new t.state
+Tells t messages new = (messages ≡ t.messages) × RepresentsSession new t.state
 
 -- The session after memory ran out: as it was; but of the bytes that a `writeMemory` was to write some may be
 -- written, from the first on, as if it had asked for no others.
 abbrev pub IsLeft : Asked → SessionFields → SessionFields → Type 0
 IsLeft (asked.Editor (editor.WriteMemory address offset bytes)) old new =
-    (s : SessionState) → StandsFor old s → (k : ℕ)
-    × StandsFor new (writing address offset (take k bytes) s).state
+    (s : SessionState) → RepresentsSession old s → (k : ℕ)
+    × RepresentsSession new (writing address offset (take k bytes) s).state
 IsLeft other old new = new ≡ old
 
--- The messages are those of `f` for each state that the session stands for.
+-- The messages are those of `f` for each state that the session represents.
 abbrev pub TellsFor : Asked → (SessionState → Told) → SessionFields → Result (List Message) AllocError
     → SessionFields
     → Type 0
 TellsFor a f old result new =
-    ((s : SessionState) → StandsFor old s → IfOk result (λ messages. Tells (f s) messages new))
+    ((s : SessionState) → RepresentsSession old s → IfOk result (λ messages. Tells (f s) messages new))
     × OnErr result (IsLeft a old new)
 
 -- The same, for requests that leave the session as it was if memory runs out.
 abbrev pub TellsAs : (SessionState → Told) → SessionFields → Result (List Message) AllocError → SessionFields
     → Type 0
 TellsAs f old result new =
-    ((s : SessionState) → StandsFor old s → IfOk result (λ messages. Tells (f s) messages new))
+    ((s : SessionState) → RepresentsSession old s → IfOk result (λ messages. Tells (f s) messages new))
     × OnErr result (new ≡ old)
 
 -- these are the breakpoints at labels, and the board stops at them
@@ -73,9 +73,10 @@ pub record LabelsPlaced (names : List Text) (s : SessionState) (points : List Pl
     (new : SessionFields)
     : Type 0 where
   pub placed : points ≡ labels_behind (program_lines s.settings.program s.settings.points) names s.board
-  pub stands : StandsFor new (with_board (labels_armed s.settings.program names s.settings.points s.board) s)
+  pub stands : RepresentsSession new (with_board (labels_armed s.settings.program names s.settings.points
+      s.board) s)
 
 -- the first of these bytes are written, from an address on
 abbrev pub WritesFirst : ℕ → Bytes → SessionState → SessionFields → Type 0
-WritesFirst start bytes s new = (k : ℕ) × StandsFor new
+WritesFirst start bytes s new = (k : ℕ) × RepresentsSession new
     (with_board (with_bytes_at start (take k bytes) s.board) s)

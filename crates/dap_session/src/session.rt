@@ -6,7 +6,7 @@ ghost use Rattle.dap_session.specs.Turns.{turn_of, refusing};
 ghost use Rattle.dap_session.specs.Requests as requests;
 ghost use Rattle.dap_session.specs.Requests.{turn, asking, asking_unless, objection, is_bounded, replying};
 ghost use Rattle.dap_session.specs.Slices.{told_in, request_told};
-ghost use Rattle.dap_session.specs.Stands.{StandsFor, RepliesAs, TellsAs, TellsFor};
+ghost use Rattle.dap_session.specs.Stands.{RepresentsSession, RepliesAs, TellsAs, TellsFor};
 
 mod breakpoints;
 mod evaluations;
@@ -28,7 +28,7 @@ use lab_core::run_state::RunState;
 use std::alloc::{AllocError, Global};
 use std::marker::Model;
 
-/// A debugger's session: a board, and what the editor asked for so far. It stands for some state.
+/// A debugger's session: a board, and what the editor asked for so far. It represents some state.
 pub struct Session {
     lab: Lab,
     settings: SessionSettings,
@@ -45,20 +45,20 @@ impl Drop for Session {
 }
 
 impl Model for Session {
-    ghost use Rattle.dap_program.specs.Boards.{Stands};
+    ghost use Rattle.dap_program.specs.Boards.{RepresentsSomeBoard};
     ghost use Rattle.dap_session.specs.Stands.{SessionFields};
 
     ghost Value = { SessionFields };
 
     ghost view = { λ s. record { lab = s.lab; settings = s.settings } };
 
-    ghost invariant = { λ s. Stands s.lab };
+    ghost invariant = { λ s. RepresentsSomeBoard s.lab };
 }
 
 impl Session {
     /// A session before its first request.
     pub fn new(alloc: Global) -> Result<Session, AllocError>
-        ensures { IfOk result (λ session. StandsFor session session_before_requests) }
+        ensures { IfOk result (λ session. RepresentsSession session session_before_requests) }
     {
         let points = Points::new(alloc)?;
         let lab = Lab::new(alloc)?;
@@ -203,7 +203,7 @@ impl Session {
     /// Whether `run` has something to do: a run goes on, and no slice since the last request found it waiting
     /// for a button.
     pub fn wants_slice(&self) -> bool
-        ensures { (s : SessionState) → StandsFor self.now s → result ≡ states.wants_slice s }
+        ensures { (s : SessionState) → RepresentsSession self.now s → result ≡ states.wants_slice s }
     {
         match self.lab.run_state() {
             RunState::Running => !self.settings.waits,
@@ -213,7 +213,7 @@ impl Session {
 
     /// The path whose text a request needs: that of a launch, or for a restart that of the program.
     pub fn wanted_file<'a>(&'a self, request: &'a EditorRequest) -> Option<&'a str>
-        ensures { (s : SessionState) → StandsFor self.now s
+        ensures { (s : SessionState) → RepresentsSession self.now s
             → option_map (λ path. path.now) result ≡ requests.wanted_file request.now.asked s }
     {
         match &request.asked {
@@ -228,7 +228,7 @@ impl Session {
 
     /// Whether a `disconnect` was answered.
     pub fn has_ended(&self) -> bool
-        ensures { (s : SessionState) → StandsFor self.now s → result ≡ s.settings.has_ended }
+        ensures { (s : SessionState) → RepresentsSession self.now s → result ≡ s.settings.has_ended }
     {
         self.settings.has_ended
     }

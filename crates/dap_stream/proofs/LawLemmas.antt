@@ -12,7 +12,7 @@ use Rattle.dap_stream.specs.Header.{lengths}
 use Rattle.dap_stream.specs.Faults.{CanBe, Any, AtMostOne, Single, IsNumber, Numbered, Small, Sized, Begins}
 use Rattle.dap_stream.specs.Faults.{Lacks, NoHeader, Twice, NoNumber, TooLarge, Missing}
 use Rattle.dap_stream.specs.Stream.{IsMessage, Reads, Stays, Goes, IsPartial, InHeader, InBody, IsFault}
-use Rattle.dap_stream.specs.Stream.{InLine, InSize, DecoderState, StandsFor, EndsIn}
+use Rattle.dap_stream.specs.Stream.{InLine, InSize, DecoderState, HasReadBodies, EndsIn}
 use Rattle.dap_stream.specs.Reading.{EndsAt}
 use Rattle.dap_stream.proofs.HeaderLemmas.{at_empty, after_lines}
 use Rattle.dap_stream.proofs.LengthLemmas.{all_digits, digits_stop}
@@ -353,8 +353,8 @@ rest_of s t rest (Some c) e f = e.0 ∙ sym f.0
 abbrev state_of : List ℕ → Option StreamFault → DecoderState
 state_of rest fault = record { rest = rest; fault = fault }
 
-pub one_state : (s t : DecoderState) (stream : List ℕ) (m n : List (List ℕ)) → StandsFor s stream m
-    → StandsFor t stream n → (m ≡ n) × (s ≡ t)
+pub one_state : (s t : DecoderState) (stream : List ℕ) (m n : List (List ℕ)) → HasReadBodies s stream m
+    → HasReadBodies t stream n → (m ≡ n) × (s ≡ t)
 one_state s t stream m n a b =
     let o = one_reading_lem stream a.rest b.rest m n s.fault t.fault a.reads
     (ends_of s a.rest s.fault a.ends) b.reads

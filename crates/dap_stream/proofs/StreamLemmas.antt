@@ -11,7 +11,7 @@ use Rattle.dap_stream.specs.Header.{line_end, Ends as NoLines, IsHeaderOf}
 use Rattle.dap_stream.specs.Faults.{Begins}
 use Rattle.dap_stream.specs.Lines.{IsFront, Passes, Ends, IsBroken, LinesSay}
 use Rattle.dap_stream.specs.Stream.{Reads, Stays, Goes, IsPartial, InHeader, InBody, IsFault, InLine}
-use Rattle.dap_stream.specs.Stream.{InSize, DecoderState, StandsFor, Completes, EndsIn}
+use Rattle.dap_stream.specs.Stream.{InSize, DecoderState, HasReadBodies, Completes, EndsIn}
 use Rattle.dap_stream.specs.Reading.{HeaderSays, Parts, EndsAt, IsReading}
 use Rattle.dap_stream.specs.Feeding.{Feeds, Leads}
 use Rattle.dap_stream.proofs.FrontLemmas.{begins_after}
@@ -174,7 +174,7 @@ pub stays_broken : (s : DecoderState) (piece : List ℕ) (c : StreamFault) → s
     piece [] s
 stays_broken s piece c f stream before st =
     let e = subst (EndsIn s st.rest) f st.ends in
-    subst (StandsFor s (stream ++ piece)) (sym (append-nil before)) (record {
+    subst (HasReadBodies s (stream ++ piece)) (sym (append-nil before)) (record {
       rest = st.rest ++ piece;
       reads = reads_more stream st.rest piece before st.reads;
       ends = subst (EndsIn s (st.rest ++ piece)) (sym f) (e.0, fault_more st.rest piece c e.1);
@@ -192,7 +192,7 @@ feed_completes old new piece rest bodies f reads ends stream before st =
       ends = ends;
     }
 
-pub stands_new : (s : DecoderState) → s.rest ≡ [] → s.fault ≡ None → StandsFor s [] []
+pub stands_new : (s : DecoderState) → s.rest ≡ [] → s.fault ≡ None → HasReadBodies s [] []
 stands_new s r f = record {
   rest = [];
   reads = Stays [];

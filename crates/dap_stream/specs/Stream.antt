@@ -44,7 +44,7 @@ EndsIn s rest None = (rest ≡ s.rest) × IsPartial rest
 EndsIn s rest (Some c) = (s.rest ≡ []) × IsFault rest c
 
 -- the decoder has read this stream, and these were all the bodies in it
-pub record StandsFor (s : DecoderState) (stream : Bytes) (bodies : Bodies) : Type 0 where
+pub record HasReadBodies (s : DecoderState) (stream : Bytes) (bodies : Bodies) : Type 0 where
   pub rest : Bytes
   pub reads : Reads stream bodies rest
   pub ends : EndsIn s rest s.fault
@@ -52,5 +52,5 @@ pub record StandsFor (s : DecoderState) (stream : Bytes) (bodies : Bodies) : Typ
 -- whatever the stream was before, this piece comes after it, and completes these messages
 abbrev pub Completes : DecoderState → Bytes → Bodies → DecoderState → Type 0
 Completes old piece bodies new =
-    (stream : Bytes) (before : Bodies) → StandsFor old stream before
-    → StandsFor new (stream ++ piece) (before ++ bodies)
+    (stream : Bytes) (before : Bodies) → HasReadBodies old stream before
+    → HasReadBodies new (stream ++ piece) (before ++ bodies)

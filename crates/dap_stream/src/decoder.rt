@@ -36,12 +36,12 @@ fn keep_from(bytes: &mut Vec<u8>, from: usize)
 }
 
 impl Decoder {
-    ghost use Rattle.dap_stream.specs.Stream.{StandsFor};
+    ghost use Rattle.dap_stream.specs.Stream.{HasReadBodies};
     ghost use Rattle.dap_stream.specs.Feeding.{Feeds, GoesOn};
 
     /// A decoder at the beginning of a stream.
     pub fn new(alloc: Global) -> Decoder
-        ensures stands { StandsFor result [] [] }
+        ensures stands { HasReadBodies result [] [] }
         ensures fault { result.fault ≡ None }
     {
         Decoder {

@@ -1,13 +1,13 @@
 //! Laws of the definitions.
 ghost use Rattle.std.specs.Prelude.{◌≡◌, ◌≤◌, [], length, All};
-ghost use Rattle.dap_stream.specs.Stream.{DecoderState, StandsFor, Reads};
+ghost use Rattle.dap_stream.specs.Stream.{DecoderState, HasReadBodies, Reads};
 ghost use Rattle.dap_stream.specs.Wire.{Bytes, Bodies};
 ghost use Rattle.dap_stream.specs.Writing.{bytes_of_messages};
 
 /// A stream has one reading, however it was cut into pieces: the same bodies, and the same state or fault.
 pub fn one_reading()
     ensures { (s t : DecoderState) (stream : Bytes) (m n : Bodies)
-        → StandsFor s stream m → StandsFor t stream n → (m ≡ n) × (s ≡ t) }
+        → HasReadBodies s stream m → HasReadBodies t stream n → (m ≡ n) × (s ≡ t) }
 {}
 
 /// What is written is read as these messages and nothing more.

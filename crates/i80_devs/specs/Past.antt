@@ -103,13 +103,13 @@ pub record DeviceState : Type 0 where
   pub spare : ℕ
 
 -- the devices are what this past makes of them
-abbrev pub StandsFor : DeviceState → List Operation → Type 0
-StandsFor d past = d.panel ≡ panel_after past
+abbrev pub RepresentsPast : DeviceState → List Operation → Type 0
+RepresentsPast d past = d.panel ≡ panel_after past
 
 -- whatever the past was, it has this operation more
 abbrev pub Appends : Operation → DeviceState → DeviceState → Type 0
-Appends operation old new = (past : List Operation) → StandsFor old past
-    → StandsFor new (past ++ operation ∷ [])
+Appends operation old new = (past : List Operation) → RepresentsPast old past
+    → RepresentsPast new (past ++ operation ∷ [])
 
 -- the port operations and the room for more are unchanged
 pub record SamePorts (old new : DeviceState) : Type 0 where

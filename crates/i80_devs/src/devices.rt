@@ -75,12 +75,12 @@ impl Ports for Devices {
 
 impl Devices {
     ghost use Rattle.i80_devs.specs.Past.{panel_after, Operation, Typed, Switches, Taken};
-    ghost use Rattle.i80_devs.specs.Past.{StandsFor, Appends, SamePorts};
+    ghost use Rattle.i80_devs.specs.Past.{RepresentsPast, Appends, SamePorts};
     ghost use Rattle.i80_devs.specs.Presses.{Presses};
 
     /// Devices after power-on: no input, switches and lamps 0, no request.
     pub fn new(alloc: Global) -> Devices
-        ensures past { StandsFor result [] }
+        ensures past { RepresentsPast result [] }
         ensures operations { result.operations ≡ [] }
         ensures spare { result.spare ≡ 0 }
     {
@@ -115,7 +115,7 @@ impl Devices {
 
     /// The number of typed bytes that wait.
     pub fn bytes_waiting(&self) -> usize
-        ensures { (past : List Operation) → StandsFor self.now past
+        ensures { (past : List Operation) → RepresentsPast self.now past
             → result ≡ length (panel_after past).waiting }
     {
         self.panel.bytes_waiting()
@@ -131,7 +131,7 @@ impl Devices {
 
     /// The switches, one bit each.
     pub fn switches(&self) -> u8
-        ensures { (past : List Operation) → StandsFor self.now past
+        ensures { (past : List Operation) → RepresentsPast self.now past
             → result ≡ (panel_after past).switches }
     {
         self.panel.switches()
@@ -139,7 +139,7 @@ impl Devices {
 
     /// The lamps, one bit each.
     pub fn lamps(&self) -> u8
-        ensures { (past : List Operation) → StandsFor self.now past
+        ensures { (past : List Operation) → RepresentsPast self.now past
             → result ≡ (panel_after past).lamps }
     {
         self.panel.lamps()
@@ -163,7 +163,7 @@ impl Devices {
     /// The request that is latched: n of 0 to 7, for RST n.
     #[inline]
     pub fn request(&self) -> Option<u8>
-        ensures value { (past : List Operation) → StandsFor self.now past
+        ensures value { (past : List Operation) → RepresentsPast self.now past
             → result ≡ (panel_after past).latched }
         ensures vector { IfSome result (λ n. n ≤ 7) }
     {
@@ -199,7 +199,7 @@ impl Devices {
     /// Resets the devices to their state after power-on. Allocates nothing, and leaves no room for port
     /// operations.
     pub fn clear(&mut self)
-        ensures past { StandsFor self.new [] }
+        ensures past { RepresentsPast self.new [] }
         ensures operations { self.new.operations ≡ [] }
         ensures spare { self.new.spare ≡ 0 }
     {

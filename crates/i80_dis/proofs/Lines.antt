@@ -5,7 +5,7 @@ use Rattle.std.proofs.Common.{Option, Some, None, Result, Ok, Err, refl, sym, ap
 use Rattle.std.proofs.lemmas.List.{drop_all, append-nil}
 use Rattle.i80_rows.specs.declared.instruction.Instr.{Instr}
 use Rattle.i80_rows.specs.declared.instruction.DecodeFault.{DecodeFault}
-use Rattle.i80_rows.specs.Rows.{Row, Undefined, Alone, Byte, Word, row, read, read_row}
+use Rattle.i80_rows.specs.Rows.{Row, Undefined, Alone, Byte, Word, row, first_instruction, read_row}
 use Rattle.i80_dis.specs.declared.line.Shown.{Shown}
 use Rattle.i80_dis.specs.declared.line.Shown.TheVariants.{Datum}
 use Rattle.i80_dis.specs.Shown.{is_cut_off, first_shown, next_shown, lines_from, lines_of}
@@ -48,7 +48,7 @@ row_within (Word f) i n opcode (low ∷ (high ∷ rest)) e =
     long i (f (low + 256 * high)) n 3 e in
     record { some = omega (arith, n_is); most = omega (arith, n_is) }
 
-pub read_within : (i : Instr) (n : ℕ) (bytes : List ℕ) → read bytes ≡ Ok (i, n) → Within n bytes
+pub read_within : (i : Instr) (n : ℕ) (bytes : List ℕ) → first_instruction bytes ≡ Ok (i, n) → Within n bytes
 read_within i n [] e = absurd cc
 read_within i n (opcode ∷ rest) e = row_within (row opcode) i n opcode rest e
 
@@ -64,7 +64,8 @@ less_one : (n : ℕ) → suc n - 1 ≡ n
 less_one n = omega arith
 
 -- the first line, and those behind it
-next_line : (cut : Bool) (s : Shown) (n b : ℕ) (bytes : List ℕ) → is_cut_off (read (b ∷ bytes)) ≡ cut
+next_line : (cut : Bool) (s : Shown) (n b : ℕ) (bytes : List ℕ)
+    → is_cut_off (first_instruction (b ∷ bytes)) ≡ cut
     → (if cut then None else next_is (first_shown (b ∷ bytes))) ≡ next_is (s, suc n)
     → lines_of (b ∷ bytes) ≡ s ∷ lines_of (drop n bytes)
 unfolding lines_from
@@ -77,9 +78,10 @@ pub line_goes : (s : Shown) (n : ℕ) (bytes : List ℕ) → 0 < length bytes �
     → next_shown bytes ≡ Some (s, n) → lines_of bytes ≡ s ∷ lines_of (drop n bytes)
 line_goes s n [] lt pos e = absurd (omega (arith, lt))
 line_goes s zero (b ∷ bytes) lt pos e = absurd (omega (arith, pos))
-line_goes s (suc n) (b ∷ bytes) lt pos e = next_line (is_cut_off (read (b ∷ bytes))) s n b bytes refl e
+line_goes s (suc n) (b ∷ bytes) lt pos e =
+    next_line (is_cut_off (first_instruction (b ∷ bytes))) s n b bytes refl e
 
-cut_off : (cut : Bool) (b : ℕ) (bytes : List ℕ) → is_cut_off (read (b ∷ bytes)) ≡ cut
+cut_off : (cut : Bool) (b : ℕ) (bytes : List ℕ) → is_cut_off (first_instruction (b ∷ bytes)) ≡ cut
     → (if cut then None else next_is (first_shown (b ∷ bytes))) ≡ None
     → lines_of (b ∷ bytes) ≡ map Datum (b ∷ bytes)
 unfolding lines_from
@@ -89,7 +91,7 @@ cut_off false b bytes e h = absurd cc
 pub cut_off_lines : (bytes : List ℕ) → 0 < length bytes → next_shown bytes ≡ None
     → lines_of bytes ≡ map Datum bytes
 cut_off_lines [] lt h = absurd (omega (arith, lt))
-cut_off_lines (b ∷ bytes) lt h = cut_off (is_cut_off (read (b ∷ bytes))) b bytes refl h
+cut_off_lines (b ∷ bytes) lt h = cut_off (is_cut_off (first_instruction (b ∷ bytes))) b bytes refl h
 
 -- ---- their text, added one by one
 

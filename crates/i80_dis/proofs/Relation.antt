@@ -6,7 +6,7 @@ use Rattle.std.proofs.Math.Seq.{drop-append_seam}
 use Rattle.i80_rows.specs.declared.instruction.Instr.{Instr}
 use Rattle.i80_rows.specs.declared.instruction.DecodeFault.{DecodeFault}
 use Rattle.i80_rows.specs.declared.instruction.DecodeFault.TheVariants as fault
-use Rattle.i80_rows.specs.Rows.{Row, Undefined, Alone, Byte, Word, row, read, read_row}
+use Rattle.i80_rows.specs.Rows.{Row, Undefined, Alone, Byte, Word, row, first_instruction, read_row}
 use Rattle.i80_rows.specs.Encoding.{Encodes}
 use Rattle.i80_rows.proofs.DecodeLemmas.{read_found, encoded_read}
 use Rattle.i80_dis.specs.declared.line.Shown.{Shown}
@@ -16,34 +16,35 @@ use Rattle.i80_dis.proofs.Lines.{read_within, line_goes, cut_off_lines}
 
 -- ---- what the first line shows, by what is read
 
-instruction_next : (i : Instr) (n : ℕ) (bytes : List ℕ) → read bytes ≡ Ok (i, n)
+instruction_next : (i : Instr) (n : ℕ) (bytes : List ℕ) → first_instruction bytes ≡ Ok (i, n)
     → next_shown bytes ≡ Some (Instruction i, n)
 instruction_next i n [] e = absurd cc
 instruction_next i n (b ∷ bytes) e = rw e refl
 
-undefined_next : (b : ℕ) (bytes : List ℕ) → read (b ∷ bytes) ≡ Err fault.Undefined
+undefined_next : (b : ℕ) (bytes : List ℕ) → first_instruction (b ∷ bytes) ≡ Err fault.Undefined
     → next_shown (b ∷ bytes) ≡ Some (Datum b, 1)
 undefined_next b bytes e = rw e refl
 
-cut_off_next : (n : ℕ) (bytes : List ℕ) → read bytes ≡ Err (fault.Short n) → next_shown bytes ≡ None
+cut_off_next : (n : ℕ) (bytes : List ℕ) → first_instruction bytes ≡ Err (fault.Short n)
+    → next_shown bytes ≡ None
 cut_off_next n bytes e = rw e refl
 
-some_there : (i : Instr) (n : ℕ) (bytes : List ℕ) → read bytes ≡ Ok (i, n) → 0 < length bytes
+some_there : (i : Instr) (n : ℕ) (bytes : List ℕ) → first_instruction bytes ≡ Ok (i, n) → 0 < length bytes
 some_there i n bytes e =
     let w = read_within i n bytes e in let p = w.some in let q = w.most in omega (arith, p, q)
 
-pub instruction_line : (i : Instr) (n : ℕ) (bytes : List ℕ) → read bytes ≡ Ok (i, n)
+pub instruction_line : (i : Instr) (n : ℕ) (bytes : List ℕ) → first_instruction bytes ≡ Ok (i, n)
     → lines_of bytes ≡ Instruction i ∷ lines_of (drop n bytes)
 instruction_line i n bytes e =
     let w = read_within i n bytes e in
     line_goes (Instruction i) n bytes (some_there i n bytes e) w.some (instruction_next i n bytes e)
 
-pub undefined_line : (b : ℕ) (bytes : List ℕ) → read (b ∷ bytes) ≡ Err fault.Undefined
+pub undefined_line : (b : ℕ) (bytes : List ℕ) → first_instruction (b ∷ bytes) ≡ Err fault.Undefined
     → lines_of (b ∷ bytes) ≡ Datum b ∷ lines_of bytes
 undefined_line b bytes e =
     line_goes (Datum b) 1 (b ∷ bytes) (omega arith) (omega arith) (undefined_next b bytes e)
 
-pub cut_off_line : (n b : ℕ) (bytes : List ℕ) → read (b ∷ bytes) ≡ Err (fault.Short n)
+pub cut_off_line : (n b : ℕ) (bytes : List ℕ) → first_instruction (b ∷ bytes) ≡ Err (fault.Short n)
     → lines_of (b ∷ bytes) ≡ Datum b ∷ map Datum bytes
 cut_off_line n b bytes e = cut_off_lines (b ∷ bytes) (omega arith) (cut_off_next n (b ∷ bytes) e)
 
@@ -64,7 +65,8 @@ none_listed : lines_of [] ≡ []
 unfolding lines_from
 none_listed = refl
 
-undefined_read : (b : ℕ) (rest : List ℕ) → row b ≡ Undefined → read (b ∷ rest) ≡ Err fault.Undefined
+undefined_read : (b : ℕ) (rest : List ℕ) → row b ≡ Undefined
+    → first_instruction (b ∷ rest) ≡ Err fault.Undefined
 undefined_read b rest e = rw e refl
 
 listed : (lines : List Shown) (bytes : List ℕ) → Lists bytes lines → lines ≡ lines_of bytes
@@ -101,7 +103,8 @@ short_row (Word f) n opcode [] e = omega arith
 short_row (Word f) n opcode (b ∷ []) e = omega arith
 short_row (Word f) n opcode (b ∷ (c ∷ rest)) e = absurd cc
 
-pub encodes_front : (i : Instr) (n : ℕ) (bytes : List ℕ) → read bytes ≡ Ok (i, n) → Encodes i (take n bytes)
+pub encodes_front : (i : Instr) (n : ℕ) (bytes : List ℕ) → first_instruction bytes ≡ Ok (i, n)
+    → Encodes i (take n bytes)
 encodes_front i n bytes e =
     subst (λ (r : Result (Instr × ℕ) DecodeFault). IfOk r (λ p. Encodes p.0 (take p.1 bytes))) e
     (read_found bytes)
@@ -110,7 +113,7 @@ abbrev Listed : ℕ → Type 0
 Listed k = (bytes : List ℕ) → length bytes ≤ k → Lists bytes (lines_of bytes)
 
 lists_by : (r : Result (Instr × ℕ) DecodeFault) (k b : ℕ) (bytes : List ℕ) → Listed k → length bytes ≤ k
-    → read (b ∷ bytes) ≡ r → Lists (b ∷ bytes) (lines_of (b ∷ bytes))
+    → first_instruction (b ∷ bytes) ≡ r → Lists (b ∷ bytes) (lines_of (b ∷ bytes))
 lists_by (Ok (i, n)) k b bytes more le e =
     let w = read_within i n (b ∷ bytes) e in
     let some : 0 < n = w.some in
@@ -133,7 +136,8 @@ lists_by (Err (fault.Short n)) k b bytes more le e =
 lists : (k : ℕ) → Listed k
 lists k [] le = subst (Lists []) (sym none_listed) refl
 lists zero (b ∷ bytes) le = absurd (omega (arith, le))
-lists (suc k) (b ∷ bytes) le = lists_by (read (b ∷ bytes)) k b bytes (lists k) (omega (arith, le)) refl
+lists (suc k) (b ∷ bytes) le =
+    lists_by (first_instruction (b ∷ bytes)) k b bytes (lists k) (omega (arith, le)) refl
 
 pub listed_lines : (bytes : List ℕ) → Lists bytes (lines_of bytes)
 listed_lines bytes = lists (length bytes) bytes (omega arith)

@@ -4,7 +4,7 @@ use Rattle.std.specs.Prelude.{false, Option, Some, None, Result, Ok, Err, if◌t
 use Rattle.i80_rows.specs.declared.instruction.Instr.{Instr}
 use Rattle.i80_rows.specs.declared.instruction.DecodeFault.{DecodeFault}
 use Rattle.i80_rows.specs.declared.instruction.DecodeFault.TheVariants as fault
-use Rattle.i80_rows.specs.Rows.{Row, Undefined, Alone, Byte, Word, row, read}
+use Rattle.i80_rows.specs.Rows.{Row, Undefined, Alone, Byte, Word, row, first_instruction}
 use Rattle.i80_rows.specs.Encoding.{Encodes, encoding_of}
 use Rattle.i80_dis.specs.declared.line.Shown.{Shown}
 use Rattle.i80_dis.specs.declared.line.Shown.TheVariants.{Instruction, Datum}
@@ -51,18 +51,18 @@ shown_by opcode (Err f) = (Datum opcode, 1)
 
 abbrev pub first_shown : List ℕ → Shown × ℕ
 first_shown [] = (Datum 0, 1)
-first_shown (opcode ∷ rest) = shown_by opcode (read (opcode ∷ rest))
+first_shown (opcode ∷ rest) = shown_by opcode (first_instruction (opcode ∷ rest))
 
 -- the same, but nothing where they are cut off
 abbrev pub next_shown : List ℕ → Option (Shown × ℕ)
-next_shown bytes = if is_cut_off (read bytes) then None else Some (first_shown bytes)
+next_shown bytes = if is_cut_off (first_instruction bytes) then None else Some (first_shown bytes)
 
 -- the lines, where the first bytes belong to a line before
 unfoldable pub lines_from : ℕ → List ℕ → List Shown
 lines_from skip [] = []
 lines_from (suc skip) (b ∷ rest) = lines_from skip rest
 lines_from zero (b ∷ rest) =
-    if is_cut_off (read (b ∷ rest)) then map Datum (b ∷ rest)
+    if is_cut_off (first_instruction (b ∷ rest)) then map Datum (b ∷ rest)
     else (first_shown (b ∷ rest)).0 ∷ lines_from ((first_shown (b ∷ rest)).1 - 1) rest
 
 abbrev pub lines_of : List ℕ → List Shown

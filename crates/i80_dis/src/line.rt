@@ -5,8 +5,8 @@ ghost use Rattle.i80_dis.specs.Shown.{first_shown, next_shown};
 ghost use Rattle.i80_dis.specs.Text.{text_of, first_text};
 
 use crate::mnemonic::push_mnemonic;
-use asm_syntax::numeral::push_byte;
 use crate::operand::{operands_of, push_operands};
+use asm_syntax::numeral::push_byte;
 use i80_rows::decoding::decode;
 use i80_rows::instruction::{DecodeFault, Instr};
 use std::alloc::{AllocError, Global};

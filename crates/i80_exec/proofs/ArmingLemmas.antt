@@ -21,13 +21,13 @@ use Rattle.i80_exec.specs.declared.registers.Interrupts.{Interrupts}
 use Rattle.i80_exec.specs.declared.registers.Interrupts.TheVariants.{Off, Arming, On}
 use Rattle.i80_exec.specs.State.{
   MachineState,
-  wrapped,
+  modulo_65536,
   byte_at,
   word_at,
   with_pc,
   with_interrupts,
   get,
-  put,
+  with_reg,
   get_pair,
   put_pair,
   get_index,
@@ -38,8 +38,10 @@ use Rattle.i80_rows.specs.declared.arithmetic.AluResult.{AluResult}
 use Rattle.i80_rows.specs.Arithmetic.{increment, decrement}
 use Rattle.i80_exec.specs.declared.registers.Stepped.{Stepped}
 use Rattle.i80_exec.specs.declared.registers.Stepped.TheVariants as stepped
-use Rattle.i80_exec.specs.Effect.{Outcome, effect, done, called, returned, popped, operated, holds, to_reg}
-use Rattle.i80_exec.specs.Step.{interrupts_after, executed, by_row, is_arming, settled, armed_again}
+use Rattle.i80_exec.specs.Effect.{Outcome, effect, done_at, after_call, after_return, after_pop}
+use Rattle.i80_exec.specs.Effect.{after_operation, holds, to_reg}
+use Rattle.i80_exec.specs.Step.{interrupts_after, instruction_outcome, by_row, is_arming, after_pending_ei}
+use Rattle.i80_exec.specs.Step.{armed_again}
 use Rattle.i80_exec.specs.Step.{IsOutcome, Settles}
 use Rattle.i80_exec.proofs.UndefinedLemmas.{IsDefined, Defines, effect-defined}
 use Rattle.i80_exec.specs.declared.registers.Kind.TheVariants as kind
@@ -64,7 +66,7 @@ never_arming Off = refl
 never_arming On = refl
 never_arming Arming = refl
 
-pub stays_settled : (m : MachineState) → is_arming m.regs.interrupts ≡ false → settled m ≡ m
+pub stays_settled : (m : MachineState) → is_arming m.regs.interrupts ≡ false → after_pending_ei m ≡ m
 stays_settled m not_arming = ap (with_interrupts m) (stays m.regs.interrupts not_arming)
 
 -- ---- an instruction does the same where interrupts are on already
@@ -82,7 +84,7 @@ after_settled i Arming = after_on i
 -- ---- what leaves SP and the interrupt state
 
 pub put_settles : (r : Reg) (m : MachineState) (byte : ℕ) → is_arming m.regs.interrupts ≡ false
-    → Settles kind.Quiet m (put m r byte)
+    → Settles kind.Quiet m (with_reg m r byte)
 put_settles reg.B m byte settled = (refl, settled)
 put_settles reg.C m byte settled = (refl, settled)
 put_settles reg.D m byte settled = (refl, settled)
@@ -93,7 +95,7 @@ put_settles reg.M m byte settled = (refl, settled)
 put_settles reg.A m byte settled = (refl, settled)
 
 pub operated_settles : (x : Operation) (m : MachineState) (byte : ℕ) → is_arming m.regs.interrupts ≡ false
-    → Settles kind.Quiet m (operated x m byte)
+    → Settles kind.Quiet m (after_operation x m byte)
 operated_settles operation.Add m byte settled = (refl, settled)
 operated_settles operation.Adc m byte settled = (refl, settled)
 operated_settles operation.Sub m byte settled = (refl, settled)
@@ -120,7 +122,7 @@ get_over reg.M m j = refl
 get_over reg.A m j = refl
 
 put_over : (r : Reg) (m : MachineState) (j k : Interrupts) (byte : ℕ)
-    → with_interrupts (put (with_interrupts m j) r byte) k ≡ with_interrupts (put m r byte) k
+    → with_interrupts (with_reg (with_interrupts m j) r byte) k ≡ with_interrupts (with_reg m r byte) k
 put_over reg.B m j k byte = refl
 put_over reg.C m j k byte = refl
 put_over reg.D m j k byte = refl
@@ -176,7 +178,8 @@ put_stack_pair_over stack.H m j k word = refl
 put_stack_pair_over stack.Psw m j k word = refl
 
 operated_over : (x : Operation) (m : MachineState) (j k : Interrupts) (byte : ℕ)
-    → with_interrupts (operated x (with_interrupts m j) byte) k ≡ with_interrupts (operated x m byte) k
+    → with_interrupts (after_operation x (with_interrupts m j) byte) k
+    ≡ with_interrupts (after_operation x m byte) k
 operated_over operation.Add m j k byte = refl
 operated_over operation.Adc m j k byte = refl
 operated_over operation.Sub m j k byte = refl
@@ -187,63 +190,64 @@ operated_over operation.Ora m j k byte = refl
 operated_over operation.Cmp m j k byte = refl
 
 jump_over : (holds : Bool) (m : MachineState) (j k : Interrupts) (address : ℕ)
-    → with_interrupts_to k (if holds then done (with_pc (with_interrupts m j) address)
-    else done (with_interrupts m j))
-    ≡ with_interrupts_to k (if holds then done (with_pc m address) else done m)
+    → with_interrupts_to k (if holds then done_at (with_pc (with_interrupts m j) address)
+    else done_at (with_interrupts m j))
+    ≡ with_interrupts_to k (if holds then done_at (with_pc m address) else done_at m)
 jump_over true m j k address = refl
 jump_over false m j k address = refl
 
 call_over : (holds : Bool) (m : MachineState) (j k : Interrupts) (address : ℕ)
-    → with_interrupts_to k (if holds then called (with_interrupts m j) address else done
+    → with_interrupts_to k (if holds then after_call (with_interrupts m j) address else done_at
     (with_interrupts m j))
-    ≡ with_interrupts_to k (if holds then called m address else done m)
+    ≡ with_interrupts_to k (if holds then after_call m address else done_at m)
 call_over true m j k address = refl
 call_over false m j k address = refl
 
 return_over : (holds : Bool) (m : MachineState) (j k : Interrupts)
-    → with_interrupts_to k (if holds then returned (with_interrupts m j) else done (with_interrupts m j))
-    ≡ with_interrupts_to k (if holds then returned m else done m)
+    → with_interrupts_to k (if holds then after_return (with_interrupts m j) else done_at (with_interrupts
+    m j))
+    ≡ with_interrupts_to k (if holds then after_return m else done_at m)
 return_over true m j k = refl
 return_over false m j k = refl
 
 effect_over : (i : Instr) (input : ℕ → ℕ) (m : MachineState) (j k : Interrupts)
     → with_interrupts_to k (effect i input (with_interrupts m j)) ≡ with_interrupts_to k (effect i input m)
-effect_over (Lxi p word) input m j k = ap done (put_pair_over p m j k word)
+effect_over (Lxi p word) input m j k = ap done_at (put_pair_over p m j k word)
 effect_over (Stax p) input m j k = rw (get_index_over p m j) refl
 effect_over (Ldax p) input m j k = rw (get_index_over p m j) refl
 effect_over (Inx p) input m j k =
-    rw (get_pair_over p m j) (ap done (put_pair_over p m j k (wrapped (get_pair m p + 1))))
+    rw (get_pair_over p m j) (ap done_at (put_pair_over p m j k (modulo_65536 (get_pair m p + 1))))
 effect_over (Dcx p) input m j k =
-    rw (get_pair_over p m j) (ap done (put_pair_over p m j k (wrapped (get_pair m p + 65535))))
+    rw (get_pair_over p m j) (ap done_at (put_pair_over p m j k (modulo_65536 (get_pair m p + 65535))))
 effect_over (Dad p) input m j k = rw (get_pair_over p m j) refl
 effect_over (Inr r) input m j k =
-    rw (get_over r m j) (ap done (to_reg_over r m j k (increment (get m r) m.regs.flags.cy)))
+    rw (get_over r m j) (ap done_at (to_reg_over r m j k (increment (get m r) m.regs.flags.cy)))
 effect_over (Dcr r) input m j k =
-    rw (get_over r m j) (ap done (to_reg_over r m j k (decrement (get m r) m.regs.flags.cy)))
-effect_over (Mvi r byte) input m j k = ap done (put_over r m j k byte)
+    rw (get_over r m j) (ap done_at (to_reg_over r m j k (decrement (get m r) m.regs.flags.cy)))
+effect_over (Mvi r byte) input m j k = ap done_at (put_over r m j k byte)
 effect_over (Mov to from) input m j k =
-    rw (get_over (reg_of from) m j) (ap done (put_over (reg_of to) m j k (get m (reg_of from))))
-effect_over (MovFromM to) input m j k = ap done (put_over (reg_of to) m j k (get m reg.M))
+    rw (get_over (reg_of from) m j) (ap done_at (put_over (reg_of to) m j k (get m (reg_of from))))
+effect_over (MovFromM to) input m j k = ap done_at (put_over (reg_of to) m j k (get m reg.M))
 effect_over (MovToM from) input m j k = rw (get_over (reg_of from) m j) refl
-effect_over (Alu x r) input m j k = rw (get_over r m j) (ap done (operated_over x m j k (get m r)))
-effect_over (AluImmediate x byte) input m j k = ap done (operated_over x m j k byte)
+effect_over (Alu x r) input m j k = rw (get_over r m j) (ap done_at (operated_over x m j k (get m r)))
+effect_over (AluImmediate x byte) input m j k = ap done_at (operated_over x m j k byte)
 effect_over (JumpIf c address) input m j k = jump_over (holds c m.regs.flags) m j k address
 effect_over (CallIf c address) input m j k = call_over (holds c m.regs.flags) m j k address
 effect_over (RetIf c) input m j k = return_over (holds c m.regs.flags) m j k
 effect_over (Push p) input m j k = rw (get_stack_pair_over p m j) refl
-effect_over (Pop p) input m j k = ap done (put_stack_pair_over p (popped m) j k (word_at m m.regs.sp))
+effect_over (Pop p) input m j k = ap done_at (put_stack_pair_over p (after_pop m) j k (word_at m m.regs.sp))
 effect_over _ input m j k = refl
 
 executed_settled : (i : Instr) (size : ℕ) (input : ℕ → ℕ) (m : MachineState)
-    → executed i size input (settled m) ≡ executed i size input m
+    → instruction_outcome i size input (after_pending_ei m) ≡ instruction_outcome i size input m
 executed_settled i size input m =
     let began = m.regs.interrupts in
-    let past = with_pc m (wrapped (m.regs.pc + size)) in
+    let past = with_pc m (modulo_65536 (m.regs.pc + size)) in
     effect_over i input past (interrupts_after Nop began) (interrupts_after i (interrupts_after Nop began))
     ∙ ap (λ k. with_interrupts_to k (effect i input past)) (after_settled i began)
 
 row_settled : (r : Row) (input : ℕ → ℕ) (m : MachineState) → is_undefined r ≡ false
-    → by_row r input (settled m) ≡ by_row r input m
+    → by_row r input (after_pending_ei m) ≡ by_row r input m
 row_settled Undefined input m defined = cc
 row_settled (Alone i) input m defined = executed_settled i 1 input m
 row_settled (Byte f) input m defined = executed_settled (f (byte_at m (m.regs.pc + 1))) 2 input m
@@ -254,7 +258,7 @@ row_settled (Word f) input m defined = executed_settled (f (word_at m (m.regs.pc
 -- what such a step did, and what it left and answered
 pub record IsSettledStep (r : Row) (input : ℕ → ℕ) (m after : MachineState) (answer : Stepped) : Type 0 where
   pub after_is : armed_again answer after ≡ (by_row r input m).after
-  pub operation_is : (by_row r input (settled m)).operation ≡ (by_row r input m).operation
+  pub operation_is : (by_row r input (after_pending_ei m)).operation ≡ (by_row r input m).operation
   pub answer_is : answer ≡ (by_row r input m).answer
 
 not_again : (answer : Stepped) (m : MachineState) → IsDefined answer → armed_again answer m ≡ m
@@ -266,7 +270,7 @@ arming_machine m arming = ap (with_interrupts m) (sym arming)
 
 defined_step : (r : Row) (input : ℕ → ℕ) (m after : MachineState) (answer : Stepped)
     → is_undefined r ≡ false → Defines (by_row r input m)
-    → IsOutcome (by_row r input (settled m)) after answer → IsSettledStep r input m after answer
+    → IsOutcome (by_row r input (after_pending_ei m)) after answer → IsSettledStep r input m after answer
 defined_step r input m after answer defined defines o =
     let same = row_settled r input m defined in
     let is : answer ≡ (by_row r input m).answer = rw same at o.answer_is in
@@ -278,7 +282,7 @@ defined_step r input m after answer defined defines o =
 
 pub settled_step : (r : Row) (input : ℕ → ℕ) (m after : MachineState) (answer : Stepped)
     → is_arming m.regs.interrupts ≡ true
-    → IsOutcome (by_row r input (settled m)) after answer → IsSettledStep r input m after answer
+    → IsOutcome (by_row r input (after_pending_ei m)) after answer → IsSettledStep r input m after answer
 settled_step Undefined input m after answer arming o =
     rw (o.answer_is, o.after_is)
     (record {
@@ -288,10 +292,10 @@ settled_step Undefined input m after answer arming o =
     })
 settled_step (Alone i) input m after answer arming o =
     defined_step (Alone i) input m after answer refl
-    (effect-defined i input (with_pc m (wrapped (m.regs.pc + 1)))) o
+    (effect-defined i input (with_pc m (modulo_65536 (m.regs.pc + 1)))) o
 settled_step (Byte f) input m after answer arming o =
     defined_step (Byte f) input m after answer refl
-    (effect-defined (f (byte_at m (m.regs.pc + 1))) input (with_pc m (wrapped (m.regs.pc + 2)))) o
+    (effect-defined (f (byte_at m (m.regs.pc + 1))) input (with_pc m (modulo_65536 (m.regs.pc + 2)))) o
 settled_step (Word f) input m after answer arming o =
     defined_step (Word f) input m after answer refl
-    (effect-defined (f (word_at m (m.regs.pc + 1))) input (with_pc m (wrapped (m.regs.pc + 3)))) o
+    (effect-defined (f (word_at m (m.regs.pc + 1))) input (with_pc m (modulo_65536 (m.regs.pc + 3)))) o

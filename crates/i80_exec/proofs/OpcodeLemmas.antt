@@ -10,20 +10,21 @@ use Rattle.i80_rows.specs.Rows.{row}
 use Rattle.i80_rows.proofs.Tables.{agree, table}
 use Rattle.i80_exec.specs.declared.registers.Stepped.TheVariants.{Halted}
 use Rattle.i80_exec.specs.declared.registers.Interrupts.{Interrupts}
-use Rattle.i80_exec.specs.State.{MachineState, wrapped, with_pc, with_interrupts, get, put}
-use Rattle.i80_exec.specs.Effect.{Outcome, done, operated, to_reg}
+use Rattle.i80_exec.specs.State.{MachineState, modulo_65536, with_pc, with_interrupts, get, with_reg}
+use Rattle.i80_exec.specs.Effect.{Outcome, done_at, after_operation, to_reg}
 use Rattle.i80_exec.specs.Step.{by_row, interrupts_after}
 use Rattle.i80_exec.specs.Opcodes.{reg_at, operation_at}
 
 -- the machine with PC past an instruction of one byte, and arming ended
 abbrev pub past : MachineState → MachineState
-past m = with_interrupts (with_pc m (wrapped (m.regs.pc + 1))) (interrupts_after Nop m.regs.interrupts)
+past m = with_interrupts (with_pc m (modulo_65536 (m.regs.pc + 1))) (interrupts_after Nop m.regs.interrupts)
 
 abbrev pub halted : MachineState → Outcome
 halted m = record { after = past m; operation = None; answer = Halted }
 
 abbrev does_move : ℕ → MachineState → Outcome
-does_move opcode m = done (put (past m) (reg_at (opcode / 8 % 8)) (get (past m) (reg_at (opcode % 8))))
+does_move opcode m = done_at (with_reg (past m) (reg_at (opcode / 8 % 8)) (get (past m) (reg_at (opcode %
+    8))))
 
 abbrev moved : ℕ → MachineState → Outcome
 moved opcode m = cond (opcode == 118) (halted m) (does_move opcode m)
@@ -35,7 +36,7 @@ moves input m = refl
 
 abbrev pub computed : ℕ → MachineState → Outcome
 computed opcode m =
-    done (operated (operation_at (opcode / 8 % 8)) (past m) (get (past m) (reg_at (opcode % 8))))
+    done_at (after_operation (operation_at (opcode / 8 % 8)) (past m) (get (past m) (reg_at (opcode % 8))))
 
 computes : (input : ℕ → ℕ) (m : MachineState)
     → table (λ k. by_row (row (k + 128)) input m) 64 ≡ table (λ k. computed (k + 128) m) 64
@@ -65,7 +66,7 @@ is_halt opcode same = grind (arith, nat_tests)
 pub move_row : (opcode : ℕ) (input : ℕ → ℕ) (m : MachineState) → 64 ≤ opcode → opcode < 128
     → (opcode ≡ 118 → ⊥)
     → by_row (row opcode) input m
-    ≡ done (put (past m) (reg_at (opcode / 8 % 8)) (get (past m) (reg_at (opcode % 8))))
+    ≡ done_at (with_reg (past m) (reg_at (opcode / 8 % 8)) (get (past m) (reg_at (opcode % 8))))
 move_row opcode input m low high other =
     move_or_halt opcode input m low high ∙ ap (λ b. cond b (halted m) (does_move opcode m))
     (not_halt opcode other)

@@ -5,7 +5,7 @@ use Rattle.i80_rows.specs.declared.instruction.Instr.{Instr}
 use Rattle.i80_rows.specs.declared.instruction.Instr.TheVariants.{In}
 use Rattle.i80_rows.specs.Rows.{Row, Undefined, Alone, Byte, Word}
 use Rattle.i80_exec.specs.declared.registers.Stepped.{Stepped}
-use Rattle.i80_exec.specs.State.{MachineState, wrapped, byte_at, word_at, with_pc}
+use Rattle.i80_exec.specs.State.{MachineState, modulo_65536, byte_at, word_at, with_pc}
 use Rattle.i80_exec.specs.Effect.{effect}
 use Rattle.i80_exec.specs.Step.{by_row, with_interrupts_after, PortDevices}
 use Rattle.i80_exec.specs.Step.{IsOutcome, IsWithoutPort, Performs}
@@ -22,15 +22,15 @@ pub unasked_row : (r : Row) (input : ℕ → ℕ) (m : MachineState)
 unasked_row Undefined input m silent = refl
 unasked_row (Alone i) input m silent =
     ap (with_interrupts_after i m.regs.interrupts)
-    (unasked_effect i input (with_pc m (wrapped (m.regs.pc + 1))) silent)
+    (unasked_effect i input (with_pc m (modulo_65536 (m.regs.pc + 1))) silent)
 unasked_row (Byte f) input m silent =
     let i = f (byte_at m (m.regs.pc + 1)) in
     ap (with_interrupts_after i m.regs.interrupts)
-    (unasked_effect i input (with_pc m (wrapped (m.regs.pc + 2))) silent)
+    (unasked_effect i input (with_pc m (modulo_65536 (m.regs.pc + 2))) silent)
 unasked_row (Word f) input m silent =
     let i = f (word_at m (m.regs.pc + 1)) in
     ap (with_interrupts_after i m.regs.interrupts)
-    (unasked_effect i input (with_pc m (wrapped (m.regs.pc + 3))) silent)
+    (unasked_effect i input (with_pc m (modulo_65536 (m.regs.pc + 3))) silent)
 
 -- what asked no port is the outcome, whatever the ports would answer, and nothing was done at them
 pub outcome_without_port : {S : Type 0} (r : Row) (m after : MachineState) (answer : Stepped)

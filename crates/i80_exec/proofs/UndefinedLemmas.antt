@@ -8,8 +8,8 @@ use Rattle.i80_exec.specs.declared.registers.Stepped.{Stepped}
 use Rattle.i80_exec.specs.declared.registers.Stepped.TheVariants as stepped
 use Rattle.i80_exec.specs.declared.registers.Kind.{Kind}
 use Rattle.i80_exec.specs.declared.registers.Kind.TheVariants as kind
-use Rattle.i80_exec.specs.State.{MachineState, wrapped, byte_at, word_at, with_pc}
-use Rattle.i80_exec.specs.Effect.{Outcome, done, effect, called, returned, holds}
+use Rattle.i80_exec.specs.State.{MachineState, modulo_65536, byte_at, word_at, with_pc}
+use Rattle.i80_exec.specs.Effect.{Outcome, done_at, effect, after_call, after_return, holds}
 use Rattle.i80_exec.specs.Step.{by_row, answer_of}
 
 -- an answer other than Undefined
@@ -22,11 +22,11 @@ Defines o = IsDefined o.answer
 
 pub effect-defined : (i : Instr) (input : ℕ → ℕ) (m : MachineState) → Defines (effect i input m)
 effect-defined (JumpIf c address) input m =
-    cond_both (holds c m.regs.flags) (done (with_pc m address)) (done m) Defines (λ _. tt) (λ _. tt)
+    cond_both (holds c m.regs.flags) (done_at (with_pc m address)) (done_at m) Defines (λ _. tt) (λ _. tt)
 effect-defined (CallIf c address) input m =
-    cond_both (holds c m.regs.flags) (called m address) (done m) Defines (λ _. tt) (λ _. tt)
+    cond_both (holds c m.regs.flags) (after_call m address) (done_at m) Defines (λ _. tt) (λ _. tt)
 effect-defined (RetIf c) input m =
-    cond_both (holds c m.regs.flags) (returned m) (done m) Defines (λ _. tt) (λ _. tt)
+    cond_both (holds c m.regs.flags) (after_return m) (done_at m) Defines (λ _. tt) (λ _. tt)
 effect-defined _ input m = tt
 
 -- what such a row is, does and leaves
@@ -45,14 +45,18 @@ pub row-nothing : (r : Row) (input : ℕ → ℕ) (m : MachineState) (opcode : �
 row-nothing Undefined input m opcode is =
     record { row_is = refl; opcode_is = cc; after_is = refl; operation_is = refl }
 row-nothing (Alone i) input m opcode is =
-    absurd (not_defined (effect i input (with_pc m (wrapped (m.regs.pc + 1)))) opcode is
-    (effect-defined i input (with_pc m (wrapped (m.regs.pc + 1)))))
+    absurd (not_defined (effect i input (with_pc m (modulo_65536 (m.regs.pc + 1)))) opcode is
+    (effect-defined i input (with_pc m (modulo_65536 (m.regs.pc + 1)))))
 row-nothing (Byte f) input m opcode is =
-    absurd (not_defined (effect (f (byte_at m (m.regs.pc + 1))) input (with_pc m (wrapped (m.regs.pc + 2))))
-    opcode is (effect-defined (f (byte_at m (m.regs.pc + 1))) input (with_pc m (wrapped (m.regs.pc + 2)))))
+    absurd (not_defined (effect (f (byte_at m (m.regs.pc + 1))) input (with_pc m (modulo_65536 (m.regs.pc +
+    2))))
+    opcode is (effect-defined (f (byte_at m (m.regs.pc + 1))) input (with_pc m (modulo_65536 (m.regs.pc +
+    2)))))
 row-nothing (Word f) input m opcode is =
-    absurd (not_defined (effect (f (word_at m (m.regs.pc + 1))) input (with_pc m (wrapped (m.regs.pc + 3))))
-    opcode is (effect-defined (f (word_at m (m.regs.pc + 1))) input (with_pc m (wrapped (m.regs.pc + 3)))))
+    absurd (not_defined (effect (f (word_at m (m.regs.pc + 1))) input (with_pc m (modulo_65536 (m.regs.pc +
+    3))))
+    opcode is (effect-defined (f (word_at m (m.regs.pc + 1))) input (with_pc m (modulo_65536 (m.regs.pc +
+    3)))))
 
 pub row-some : (r : Row) (input : ℕ → ℕ) (m : MachineState) → Defines (by_row r input m)
     → is_undefined r ≡ false

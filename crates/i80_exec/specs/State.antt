@@ -23,25 +23,25 @@ pub record MachineState : Type 0 where
   pub board : Board
 
 -- every address, SP and PC wrap
-abbrev pub wrapped : ℕ → ℕ
-wrapped n = n % 65536
+abbrev pub modulo_65536 : ℕ → ℕ
+modulo_65536 n = n % 65536
 
 abbrev pub byte_at : MachineState → ℕ → ℕ
-byte_at m address = slice_index m.memory (wrapped address)
+byte_at m address = slice_index m.memory (modulo_65536 address)
 
-abbrev pub stored : MachineState → ℕ → ℕ → MachineState
-stored m address byte = record m { memory = slice_set m.memory (wrapped address) byte }
+abbrev pub with_byte : MachineState → ℕ → ℕ → MachineState
+with_byte m address byte = record m { memory = slice_set m.memory (modulo_65536 address) byte }
 
 -- each byte of an image is stored at its address, in order
-abbrev pub loaded : MachineState → List (ℕ × ℕ) → MachineState
-loaded m image = fold (λ m p. stored m p.0 p.1) m image
+abbrev pub with_image_bytes : MachineState → List (ℕ × ℕ) → MachineState
+with_image_bytes m image = fold (λ m p. with_byte m p.0 p.1) m image
 
 -- words lie low byte first
 abbrev pub word_at : MachineState → ℕ → ℕ
 word_at m address = byte_at m address + 256 * byte_at m (address + 1)
 
 abbrev pub stored_word : MachineState → ℕ → ℕ → MachineState
-stored_word m address word = stored (stored m address (word % 256)) (address + 1) (word / 256)
+stored_word m address word = with_byte (with_byte m address (word % 256)) (address + 1) (word / 256)
 
 abbrev pub with_regs : MachineState → Registers → MachineState
 with_regs m regs = record m { regs = regs }
@@ -88,15 +88,15 @@ get m reg.L = m.regs.l
 get m reg.M = byte_at m (get_pair m pair.H)
 get m reg.A = m.regs.a
 
-abbrev pub put : MachineState → Reg → ℕ → MachineState
-put m reg.B byte = with_regs m (record m.regs { b = byte })
-put m reg.C byte = with_regs m (record m.regs { c = byte })
-put m reg.D byte = with_regs m (record m.regs { d = byte })
-put m reg.E byte = with_regs m (record m.regs { e = byte })
-put m reg.H byte = with_regs m (record m.regs { h = byte })
-put m reg.L byte = with_regs m (record m.regs { l = byte })
-put m reg.M byte = stored m (get_pair m pair.H) byte
-put m reg.A byte = with_a m byte
+abbrev pub with_reg : MachineState → Reg → ℕ → MachineState
+with_reg m reg.B byte = with_regs m (record m.regs { b = byte })
+with_reg m reg.C byte = with_regs m (record m.regs { c = byte })
+with_reg m reg.D byte = with_regs m (record m.regs { d = byte })
+with_reg m reg.E byte = with_regs m (record m.regs { e = byte })
+with_reg m reg.H byte = with_regs m (record m.regs { h = byte })
+with_reg m reg.L byte = with_regs m (record m.regs { l = byte })
+with_reg m reg.M byte = with_byte m (get_pair m pair.H) byte
+with_reg m reg.A byte = with_a m byte
 
 -- the address in BC or DE
 abbrev pub get_index : MachineState → IndexPair → ℕ

@@ -28,8 +28,8 @@ use Rattle.i80_exec.specs.declared.registers.Kind.TheVariants as kind
 use Rattle.i80_exec.specs.declared.registers.Interrupts.{Interrupts}
 use Rattle.i80_exec.specs.declared.registers.Interrupts.TheVariants.{Off, Arming, On}
 use Rattle.i80_exec.specs.declared.ports.PortOperation.{PortOperation}
-use Rattle.i80_exec.specs.State.{MachineState, wrapped, byte_at, word_at, with_pc, with_interrupts}
-use Rattle.i80_exec.specs.Effect.{Outcome, effect, called}
+use Rattle.i80_exec.specs.State.{MachineState, modulo_65536, byte_at, word_at, with_pc, with_interrupts}
+use Rattle.i80_exec.specs.Effect.{Outcome, effect, after_call}
 
 -- whether a step was HLT
 abbrev pub is_halt : Stepped → Bool
@@ -43,7 +43,7 @@ answer_of kind.Quiet m = stepped.Done
 answer_of kind.Moved m = stepped.Done
 answer_of kind.Armed m = stepped.Done
 answer_of kind.Called m = stepped.Called m.regs.sp m.regs.pc
-answer_of kind.Returned m = stepped.Returned (wrapped (m.regs.sp + 65534))
+answer_of kind.Returned m = stepped.Returned (modulo_65536 (m.regs.sp + 65534))
 answer_of kind.Halted m = stepped.Halted
 answer_of kind.Undefined m = stepped.Undefined (byte_at m m.regs.pc)
 
@@ -73,8 +73,8 @@ abbrev pub with_interrupts_after : Instr → Interrupts → Outcome → Outcome
 with_interrupts_after i began o = record o { after = with_interrupts o.after (interrupts_after i began) }
 
 -- a machine whose interrupts are on where EI was its last instruction
-abbrev pub settled : MachineState → MachineState
-settled m = with_interrupts m (interrupts_after Nop m.regs.interrupts)
+abbrev pub after_pending_ei : MachineState → MachineState
+after_pending_ei m = with_interrupts m (interrupts_after Nop m.regs.interrupts)
 
 -- an undefined opcode leaves arming as it was
 abbrev pub armed_again : Stepped → MachineState → MachineState
@@ -82,17 +82,17 @@ armed_again (stepped.Undefined opcode) m = with_interrupts m Arming
 armed_again answer m = m
 
 -- an instruction of this length: PC is set past it, its effect comes, then the interrupt state
-abbrev pub executed : Instr → ℕ → (ℕ → ℕ) → MachineState → Outcome
-executed i size input m =
-    with_interrupts_after i m.regs.interrupts (effect i input (with_pc m (wrapped (m.regs.pc + size))))
+abbrev pub instruction_outcome : Instr → ℕ → (ℕ → ℕ) → MachineState → Outcome
+instruction_outcome i size input m =
+    with_interrupts_after i m.regs.interrupts (effect i input (with_pc m (modulo_65536 (m.regs.pc + size))))
 
 -- the row of the opcode at PC, with its operand from the addresses after it; an undefined one changes nothing
 abbrev pub by_row : Row → (ℕ → ℕ) → MachineState → Outcome
 by_row Undefined input m =
     record { after = m; operation = None; answer = stepped.Undefined (byte_at m m.regs.pc) }
-by_row (Alone i) input m = executed i 1 input m
-by_row (Byte f) input m = executed (f (byte_at m (m.regs.pc + 1))) 2 input m
-by_row (Word f) input m = executed (f (word_at m (m.regs.pc + 1))) 3 input m
+by_row (Alone i) input m = instruction_outcome i 1 input m
+by_row (Byte f) input m = instruction_outcome (f (byte_at m (m.regs.pc + 1))) 2 input m
+by_row (Word f) input m = instruction_outcome (f (word_at m (m.regs.pc + 1))) 3 input m
 
 -- what an opcode does by the table of the machine's board
 abbrev pub by_opcode : ℕ → (ℕ → ℕ) → MachineState → Outcome
@@ -105,7 +105,7 @@ instruction input m = by_opcode (byte_at m m.regs.pc) input m
 -- An interrupt request for RST n is accepted only where interrupts are on: PC is pushed as it stands,
 -- PC is 8n, and interrupts are off.
 abbrev pub accepted_in : Interrupts → ℕ → MachineState → Option Outcome
-accepted_in On n m = Some (called (with_interrupts m Off) (8 * n))
+accepted_in On n m = Some (after_call (with_interrupts m Off) (8 * n))
 accepted_in Arming n m = None
 accepted_in Off n m = None
 

@@ -3,14 +3,15 @@ ghost use Rattle.std.specs.Prelude.{◌≡◌, ◌+◌, ◌*◌, ◌<◌, ◌≤
 ghost use Rattle.std.specs.Prelude.{IfSome, IfNone, Some, None, true, false};
 ghost use Rattle.i80_rows.specs.declared.arithmetic.AluResult.{AluResult};
 ghost use Rattle.i80_rows.specs.declared.instruction.Instr.TheVariants.{Xthl};
-ghost use Rattle.i80_exec.specs.State.{byte_at, stored, word_at, stored_word, get_pair, put_pair};
+ghost use Rattle.i80_exec.specs.State.{byte_at, with_byte, word_at, stored_word, get_pair, put_pair};
 ghost use Rattle.i80_exec.specs.State.{get_stack_pair, put_stack_pair, with_regs, with_board};
 ghost use Rattle.i80_exec.specs.State.{with_pc, with_a, with_flags, with_interrupts, power_on};
-ghost use Rattle.i80_exec.specs.Effect.{effect, to_a, operated, holds, added_to_hl, pushed};
-ghost use Rattle.i80_exec.specs.Effect.{popped, called, returned, exchanged};
+ghost use Rattle.i80_exec.specs.Effect.{effect, to_a, after_operation, holds, added_to_hl, after_push};
+ghost use Rattle.i80_exec.specs.Effect.{after_pop, after_call, after_return, after_exchange};
 ghost use Rattle.i80_exec.specs.Opcodes.{reg_at};
 ghost use Rattle.i80_exec.specs.Step.{instruction, acceptance, operation_list, state_after, answer_of};
-ghost use Rattle.i80_exec.specs.Step.{is_arming, settled, armed_again, devices_by, IsOutcome, Performs};
+ghost use Rattle.i80_exec.specs.Step.{is_arming, after_pending_ei, armed_again, devices_by, IsOutcome};
+ghost use Rattle.i80_exec.specs.Step.{Performs};
 ghost use Rattle.i80_exec.specs.Step.{IsStepOfKind, CanStepSettled};
 
 mod opcodes;
@@ -94,7 +95,7 @@ impl Machine {
     /// Sets the byte at an address.
     #[inline]
     pub fn poke(&mut self, address: u16, byte: u8)
-        ensures { self.new ≡ stored self.old address byte }
+        ensures { self.new ≡ with_byte self.old address byte }
     {
         self.memory[address as usize] = byte;
     }
@@ -246,7 +247,7 @@ impl Machine {
     // Turns interrupts on if EI was the last instruction, as the one after it does. Returns whether it was.
     #[inline(always)]
     fn settle(&mut self) -> bool
-        ensures settled { self.new ≡ settled self.old }
+        ensures settled { self.new ≡ after_pending_ei self.old }
         ensures was { result ≡ is_arming self.old.regs.interrupts }
     {
         let was_arming = self.is_arming();
@@ -355,7 +356,7 @@ impl Machine {
 
     #[inline]
     fn operate(&mut self, operation: Operation, byte: u8)
-        ensures { self.new ≡ operated operation self.old byte }
+        ensures { self.new ≡ after_operation operation self.old byte }
     {
         let a = self.regs.a;
         let carry = self.regs.flags.carry();
@@ -406,7 +407,7 @@ impl Machine {
 
     #[inline]
     fn push_word(&mut self, word: u16)
-        ensures { self.new ≡ pushed self.old word }
+        ensures { self.new ≡ after_push self.old word }
     {
         let [high, low] = word.to_be_bytes();
         let top = self.regs.sp;
@@ -417,7 +418,7 @@ impl Machine {
 
     #[inline]
     fn pop_word(&mut self) -> u16
-        ensures after { self.new ≡ popped self.old }
+        ensures after { self.new ≡ after_pop self.old }
         ensures word { result ≡ word_at self.old self.old.regs.sp }
     {
         let word = self.word_at(self.regs.sp);
@@ -427,8 +428,8 @@ impl Machine {
 
     #[inline]
     fn call(&mut self, target: u16) -> Kind
-        ensures after { self.new ≡ (called self.old target).after }
-        ensures answer { answer_of result self.new ≡ (called self.old target).answer }
+        ensures after { self.new ≡ (after_call self.old target).after }
+        ensures answer { answer_of result self.new ≡ (after_call self.old target).answer }
     {
         self.push_word(self.regs.pc);
         self.jump(target);
@@ -437,8 +438,8 @@ impl Machine {
 
     #[inline]
     fn ret(&mut self) -> Kind
-        ensures after { self.new ≡ (returned self.old).after }
-        ensures answer { answer_of result self.new ≡ (returned self.old).answer }
+        ensures after { self.new ≡ (after_return self.old).after }
+        ensures answer { answer_of result self.new ≡ (after_return self.old).answer }
     {
         // It is read so that the proof knows it to be an address: two below SP after the pop.
         let _slot = self.regs.sp;
@@ -460,7 +461,7 @@ impl Machine {
     #[inline]
     fn exchange_with_de(&mut self)
         requires settled { is_arming self.old.regs.interrupts ≡ false }
-        ensures { self.new ≡ exchanged self.old }
+        ensures { self.new ≡ after_exchange self.old }
     {
         // The compiler doesn't know that these are 0, so it sees no exchange. If it sees one among a loop's
         // variables, it moves two or more of them on every step, in every arm: D and E, or H and L, by the

@@ -8,8 +8,9 @@ use Rattle.std.proofs.lemmas.Bool.Decides.{nat_tests}
 use Rattle.i80_rows.specs.declared.instruction.Rotation.TheVariants.{Rlc, Rrc, Ral, Rar}
 use Rattle.i80_rows.specs.declared.arithmetic.AluResult.{AluResult}
 use Rattle.i80_rows.specs.FlagValues.{FlagValues, is_set}
-use Rattle.i80_rows.specs.Arithmetic.{by_digits, with_flags, sum, increment, decrement, adjusted, rotated}
-use Rattle.i80_rows.specs.Arithmetic.{turned}
+use Rattle.i80_rows.specs.Arithmetic.{by_digits, with_flags, sum, increment, decrement, decimal_adjustment}
+use Rattle.i80_rows.specs.Arithmetic.{rotation_of}
+use Rattle.i80_rows.specs.Arithmetic.{value_and_carry}
 use Rattle.i80_rows.proofs.Tables.{agree, table}
 
 pub carry_by_mask : (x : ℕ) → x < 512 → not (nat_eq (bit_and x 256) 0) ≡ nat_lt 255 x
@@ -101,7 +102,7 @@ daa_code a ac cy = with_flags (daa_value a ac cy)
     (not (nat_eq (bit_and (bit_xor a (daa_value a ac cy)) 16) 0)) (cy || nat_lt 153 a)
 
 abbrev pub daa_spec : ℕ → Bool → Bool → AluResult
-daa_spec a ac cy = adjusted a (record { s = false; z = false; ac = ac; p = false; cy = cy })
+daa_spec a ac cy = decimal_adjustment a (record { s = false; z = false; ac = ac; p = false; cy = cy })
 
 daa_each : (ac cy : Bool) → table (λ a. daa_code a ac cy) 256 ≡ table (λ a. daa_spec a ac cy) 256
 daa_each true true = refl
@@ -109,7 +110,7 @@ daa_each true false = refl
 daa_each false true = refl
 daa_each false false = refl
 
-pub adjusted_by_bits : (a : ℕ) (f : FlagValues) → a < 256 → daa_code a f.ac f.cy ≡ adjusted a f
+pub adjusted_by_bits : (a : ℕ) (f : FlagValues) → a < 256 → daa_code a f.ac f.cy ≡ decimal_adjustment a f
 adjusted_by_bits a f h =
     agree (λ a. daa_code a f.ac f.cy) (λ a. daa_spec a f.ac f.cy) 256 (daa_each f.ac f.cy) a h
 
@@ -119,35 +120,42 @@ or_by_digits x y hx hy =
     ∙ of_two max (λ a b. a + b - a * b) refl (bit_at x k) (bit_at y k) (bit_at-lt x k) (bit_at-lt y k))
 
 pub rlc_by_bits : (a : ℕ) (f : FlagValues) → a < 256
-    → turned (bit_or (a * 2 % 256) (a / 128)) (not (nat_eq (bit_and a 128) 0)) f ≡ rotated Rlc a f
-rlc_by_bits a f h = agree (λ a. turned (bit_or (a * 2 % 256) (a / 128)) (not (nat_eq (bit_and a 128) 0)) f)
-    (λ a. rotated Rlc a f) 256 refl a h
+    → value_and_carry (bit_or (a * 2 % 256) (a / 128)) (not (nat_eq (bit_and a 128) 0)) f
+    ≡ rotation_of Rlc a f
+rlc_by_bits a f h = agree (λ a. value_and_carry (bit_or (a * 2 % 256) (a / 128)) (not (nat_eq (bit_and a
+    128) 0)) f)
+    (λ a. rotation_of Rlc a f) 256 refl a h
 
 pub rrc_by_bits : (a : ℕ) (f : FlagValues) → a < 256
-    → turned (bit_or (a / 2) (a * 128 % 256)) (not (nat_eq (bit_and a 1) 0)) f ≡ rotated Rrc a f
-rrc_by_bits a f h = agree (λ a. turned (bit_or (a / 2) (a * 128 % 256)) (not (nat_eq (bit_and a 1) 0)) f)
-    (λ a. rotated Rrc a f) 256 refl a h
+    → value_and_carry (bit_or (a / 2) (a * 128 % 256)) (not (nat_eq (bit_and a 1) 0)) f ≡ rotation_of Rrc a f
+rrc_by_bits a f h = agree (λ a. value_and_carry (bit_or (a / 2) (a * 128 % 256)) (not (nat_eq (bit_and a 1)
+    0)) f)
+    (λ a. rotation_of Rrc a f) 256 refl a h
 
 ral_each : (cy : Bool) (f : FlagValues)
-    → table (λ a. turned (bit_or (a * 2 % 256) (from_bool cy)) (not (nat_eq (bit_and a 128) 0)) f) 256
-    ≡ table (λ a. turned (a * 2 % 256 + from_bool cy) (a / 128 == 1) f) 256
+    → table (λ a. value_and_carry (bit_or (a * 2 % 256) (from_bool cy)) (not (nat_eq (bit_and a 128) 0)) f)
+    256
+    ≡ table (λ a. value_and_carry (a * 2 % 256 + from_bool cy) (a / 128 == 1) f) 256
 ral_each true f = refl
 ral_each false f = refl
 
 pub ral_by_bits : (a : ℕ) (f : FlagValues) → a < 256
-    → turned (bit_or (a * 2 % 256) (from_bool f.cy)) (not (nat_eq (bit_and a 128) 0)) f ≡ rotated Ral a f
+    → value_and_carry (bit_or (a * 2 % 256) (from_bool f.cy)) (not (nat_eq (bit_and a 128) 0)) f
+    ≡ rotation_of Ral a f
 ral_by_bits a f h = agree
-    (λ a. turned (bit_or (a * 2 % 256) (from_bool f.cy)) (not (nat_eq (bit_and a 128) 0)) f)
-    (λ a. rotated Ral a f) 256 (ral_each f.cy f) a h
+    (λ a. value_and_carry (bit_or (a * 2 % 256) (from_bool f.cy)) (not (nat_eq (bit_and a 128) 0)) f)
+    (λ a. rotation_of Ral a f) 256 (ral_each f.cy f) a h
 
 rar_each : (cy : Bool) (f : FlagValues)
-    → table (λ a. turned (bit_or (a / 2) (from_bool cy * 128 % 256)) (not (nat_eq (bit_and a 1) 0)) f) 256
-    ≡ table (λ a. turned (a / 2 + 128 * from_bool cy) (a % 2 == 1) f) 256
+    → table (λ a. value_and_carry (bit_or (a / 2) (from_bool cy * 128 % 256)) (not (nat_eq (bit_and a 1)
+    0)) f) 256
+    ≡ table (λ a. value_and_carry (a / 2 + 128 * from_bool cy) (a % 2 == 1) f) 256
 rar_each true f = refl
 rar_each false f = refl
 
 pub rar_by_bits : (a : ℕ) (f : FlagValues) → a < 256
-    → turned (bit_or (a / 2) (from_bool f.cy * 128 % 256)) (not (nat_eq (bit_and a 1) 0)) f ≡ rotated Rar a f
+    → value_and_carry (bit_or (a / 2) (from_bool f.cy * 128 % 256)) (not (nat_eq (bit_and a 1) 0)) f
+    ≡ rotation_of Rar a f
 rar_by_bits a f h = agree
-    (λ a. turned (bit_or (a / 2) (from_bool f.cy * 128 % 256)) (not (nat_eq (bit_and a 1) 0)) f)
-    (λ a. rotated Rar a f) 256 (rar_each f.cy f) a h
+    (λ a. value_and_carry (bit_or (a / 2) (from_bool f.cy * 128 % 256)) (not (nat_eq (bit_and a 1) 0)) f)
+    (λ a. rotation_of Rar a f) 256 (rar_each f.cy f) a h

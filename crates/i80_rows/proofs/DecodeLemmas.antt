@@ -19,7 +19,7 @@ use Rattle.std.proofs.Common.{
   subst,
 }
 use Rattle.i80_rows.specs.declared.instruction.Instr.{Instr}
-use Rattle.i80_rows.specs.Rows.{Row, Alone, Byte, Word, read, read_row, row}
+use Rattle.i80_rows.specs.Rows.{Row, Alone, Byte, Word, first_instruction, read_row, row}
 use Rattle.i80_rows.specs.Encoding.{Encodes, IsOperand}
 
 -- what a row reads after its opcode, the row encodes
@@ -31,7 +31,7 @@ row_found (Word f) opcode (low ∷ (high ∷ rest)) e =
     subst (λ (w : Row). IsOperand w (f (low + 256 * high)) (low ∷ (high ∷ []))) (sym e) refl
 row_found _ opcode _ e = tt
 
-pub read_found : (bytes : List ℕ) → IfOk (read bytes) (λ p. Encodes p.0 (take p.1 bytes))
+pub read_found : (bytes : List ℕ) → IfOk (first_instruction bytes) (λ p. Encodes p.0 (take p.1 bytes))
 read_found [] = tt
 read_found (opcode ∷ rest) = row_found (row opcode) opcode rest refl
 
@@ -44,6 +44,6 @@ operand_read (Word f) i (low ∷ (high ∷ [])) rest h = ap (λ (k : Instr). Ok 
 operand_read _ i _ rest h = absurd h
 
 pub encoded_read : (i : Instr) (code rest : List ℕ) → Encodes i code
-    → read (code ++ rest) ≡ Ok (i, length code)
+    → first_instruction (code ++ rest) ≡ Ok (i, length code)
 encoded_read i [] rest h = absurd h
 encoded_read i (opcode ∷ operand) rest h = operand_read (row opcode) i operand rest h

@@ -18,12 +18,12 @@ aliases =
     (237, Word Call) ∷ (253, Word Call) ∷ []
 
 -- the row that a list names for an opcode
-abbrev pub listed : List (ℕ × Row) → ℕ → Row
-listed [] opcode = Undefined
-listed ((alias, r) ∷ rest) opcode = if opcode == alias then r else listed rest opcode
+abbrev pub row_in : List (ℕ × Row) → ℕ → Row
+row_in [] opcode = Undefined
+row_in ((alias, r) ∷ rest) opcode = if opcode == alias then r else row_in rest opcode
 
 unfoldable pub alias_row : ℕ → Row
-alias_row opcode = listed aliases opcode
+alias_row opcode = row_in aliases opcode
 
 -- whether the twelve act on a board
 abbrev pub acts : Board → Bool

@@ -57,8 +57,8 @@ decrement x cy = with_carry cy (difference x 1 false)
 
 -- DAA: 6 is added if the low digit is above 9 or AC is set, and 60h if A is above 99h or CY is set;
 -- CY is set if it was set before or A was above 99h
-abbrev pub adjusted : ℕ → FlagValues → AluResult
-adjusted a f =
+abbrev pub decimal_adjustment : ℕ → FlagValues → AluResult
+decimal_adjustment a f =
     let low = if (nat_lt 9 (a % 16) || f.ac) then 6 else 0 in
     let cy = (f.cy || nat_lt 0x99 a) in
     let high = if cy then 0x60 else 0 in
@@ -83,13 +83,13 @@ abbrev pub inclusive : ℕ → ℕ → AluResult
 inclusive x y = with_flags (by_digits (λ a b. a + b - a * b) x y) false false
 
 -- of the flags only the carry changes
-abbrev pub turned : ℕ → Bool → FlagValues → AluResult
-turned value carry f = record { value = value; flags = record f { cy = carry } }
+abbrev pub value_and_carry : ℕ → Bool → FlagValues → AluResult
+value_and_carry value carry f = record { value = value; flags = record f { cy = carry } }
 
 -- RLC and RRC: the bit that leaves comes in at the other end; RAL and RAR: the carry comes in.
 -- The carry is the bit that left.
-abbrev pub rotated : Rotation → ℕ → FlagValues → AluResult
-rotated Rlc a f = turned (a * 2 % 256 + a / 128) (a / 128 == 1) f
-rotated Rrc a f = turned (a / 2 + 128 * (a % 2)) (a % 2 == 1) f
-rotated Ral a f = turned (a * 2 % 256 + from_bool f.cy) (a / 128 == 1) f
-rotated Rar a f = turned (a / 2 + 128 * from_bool f.cy) (a % 2 == 1) f
+abbrev pub rotation_of : Rotation → ℕ → FlagValues → AluResult
+rotation_of Rlc a f = value_and_carry (a * 2 % 256 + a / 128) (a / 128 == 1) f
+rotation_of Rrc a f = value_and_carry (a / 2 + 128 * (a % 2)) (a % 2 == 1) f
+rotation_of Ral a f = value_and_carry (a * 2 % 256 + from_bool f.cy) (a / 128 == 1) f
+rotation_of Rar a f = value_and_carry (a / 2 + 128 * from_bool f.cy) (a % 2 == 1) f

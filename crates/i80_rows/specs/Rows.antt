@@ -230,6 +230,6 @@ read_row (Word f) (low ∷ []) = Err (fault.Short 3)
 read_row (Word f) (low ∷ (high ∷ rest)) = Ok (f (low + 256 * high), 3)
 
 -- what bytes begin with
-abbrev pub read : List ℕ → Result (Instr × ℕ) DecodeFault
-read [] = Err (fault.Short 1)
-read (opcode ∷ rest) = read_row (row opcode) rest
+abbrev pub first_instruction : List ℕ → Result (Instr × ℕ) DecodeFault
+first_instruction [] = Err (fault.Short 1)
+first_instruction (opcode ∷ rest) = read_row (row opcode) rest

@@ -1,8 +1,9 @@
 //! The arithmetic and logic of the accumulator, with the flags that each operation sets
 //! (8080 User's Manual, chapter 4, "Arithmetic Group" and "Logical Group").
 ghost use Rattle.std.specs.Prelude.{◌≡◌};
-ghost use Rattle.i80_rows.specs.Arithmetic.{with_flags, sum, difference, increment, decrement, adjusted};
-ghost use Rattle.i80_rows.specs.Arithmetic.{conjunction, exclusive, inclusive, rotated, turned};
+ghost use Rattle.i80_rows.specs.Arithmetic.{with_flags, sum, difference, increment, decrement};
+ghost use Rattle.i80_rows.specs.Arithmetic.{decimal_adjustment};
+ghost use Rattle.i80_rows.specs.Arithmetic.{conjunction, exclusive, inclusive, rotation_of, value_and_carry};
 
 use crate::flags::Flags;
 use crate::instruction::Rotation;
@@ -93,7 +94,7 @@ pub fn dcr(x: u8, carry: bool) -> AluResult
 /// A adjusted to two decimal digits after a sum of two such bytes: DAA.
 #[inline]
 pub fn daa(a: u8, flags: Flags) -> AluResult
-    ensures { result ≡ adjusted a flags }
+    ensures { result ≡ decimal_adjustment a flags }
 {
     let low = 6 * ((a & 0x0f > 9) | flags.auxiliary_carry()) as u8;
     let carry = flags.carry() | (a > 0x99);
@@ -105,7 +106,7 @@ pub fn daa(a: u8, flags: Flags) -> AluResult
 /// A rotated by one bit. Of the flags, only CY changes.
 #[inline]
 pub fn rotate(rotation: Rotation, a: u8, flags: Flags) -> AluResult
-    ensures { result ≡ rotated rotation a flags }
+    ensures { result ≡ rotation_of rotation a flags }
 {
     match rotation {
         Rotation::Rlc => with_turned(a << 1 | a >> 7, a & 0x80 != 0, flags),
@@ -117,7 +118,7 @@ pub fn rotate(rotation: Rotation, a: u8, flags: Flags) -> AluResult
 
 #[inline]
 fn with_turned(value: u8, carry: bool, flags: Flags) -> AluResult
-    ensures { result ≡ turned value carry flags }
+    ensures { result ≡ value_and_carry value carry flags }
 {
     AluResult {
         value,

@@ -1,6 +1,6 @@
 //! Reading an instruction from bytes, by the table of 256 rows and the board's list of aliases.
 ghost use Rattle.std.specs.Prelude.{◌≡◌, take, IfOk};
-ghost use Rattle.i80_rows.specs.Rows.{Byte, Word, read, read_row};
+ghost use Rattle.i80_rows.specs.Rows.{Byte, Word, first_instruction, read_row};
 ghost use Rattle.i80_rows.specs.AliasRows.{read_on};
 ghost use Rattle.i80_rows.specs.Instructions.{byte_instruction, word_instruction};
 ghost use Rattle.i80_rows.specs.Encoding.{Encodes, ReadsEncoded};
@@ -17,7 +17,7 @@ pub fn decode(bytes: &[u8]) -> Result<(Instr, u8), DecodeFault>
     ensures found { IfOk result (λ p. Encodes p.0 (take p.1 bytes.now)) }
     ensures only { ReadsEncoded bytes.now result }
     // The opcode table gives the result, and the error for undefined opcodes and missing operands.
-    ensures table { result ≡ read bytes.now }
+    ensures table { result ≡ first_instruction bytes.now }
 {
     decode_on(bytes, Board::Strict)
 }
@@ -27,7 +27,7 @@ pub fn decode(bytes: &[u8]) -> Result<(Instr, u8), DecodeFault>
 pub fn decode_on(bytes: &[u8], board: Board) -> Result<(Instr, u8), DecodeFault>
     ensures table { result ≡ read_on board bytes.now }
     // On a strict board it is what `decode` returns.
-    ensures strict { board ≡ Board.Strict → result ≡ read bytes.now }
+    ensures strict { board ≡ Board.Strict → result ≡ first_instruction bytes.now }
 {
     read_instruction(bytes, board)
 }

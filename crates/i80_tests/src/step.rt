@@ -286,7 +286,8 @@ const CALLED: Stepped = Stepped::Called {
     target: 0x1234,
 };
 
-// The twelve opcodes of which MAME's 8080 makes something, and what a step answers there, with SP and PC after it.
+// The twelve opcodes of which MAME's 8080 makes something, and what a step answers there, with SP and PC
+// after it.
 // It is made at 0200 with 34 and 12 behind the opcode, SP=0 and zeros on the stack.
 const UNDEFINED: [(u8, Stepped, u16, u16); 12] = [
     (0x08, Stepped::Done, 0, 0x0201),

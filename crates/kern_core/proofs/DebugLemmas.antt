@@ -12,10 +12,10 @@ use Rattle.dap_answers.specs.declared.answer.Outcome.TheVariants.{Success, Refus
 use Rattle.lab_core.specs.declared.fault.EventFault.{EventFault}
 use Rattle.lab_core.specs.declared.fault.EventFault.TheVariants.{OutOfMemory}
 use Rattle.lab_core.specs.Board.{Board}
-use Rattle.lab_core.specs.Labs.{LabState, StandsFor as LabStandsFor, Did, Does}
+use Rattle.lab_core.specs.Labs.{LabState, RepresentsBoard, Did, Does}
 use Rattle.dap_board.specs.Names.{event_after}
 use Rattle.kern_post.specs.declared.post.Letter.{Letter}
-use Rattle.kern_post.specs.Posts.{StoreState, Keeps, posted}
+use Rattle.kern_post.specs.Posts.{StoreState, Keeps, with_posts}
 use Rattle.kern_request.specs.declared.request.Request.{Request}
 use Rattle.dap_board.specs.Commands.{command_result}
 use Rattle.kern_exec.specs.Letters.{between_busy_and_idle}
@@ -24,7 +24,7 @@ use Rattle.kern_core.specs.declared.call.Reply.TheVariants.{Arrived}
 use Rattle.kern_core.specs.States.{KernelState, Turn, after, posting}
 use Rattle.kern_core.specs.Requests.{is_reset, cut_letters, cut_work, with_board, debug_reply}
 use Rattle.kern_core.specs.Requests.{after_letter, performed_letters, refusing, answering, performing}
-use Rattle.kern_core.specs.Stands.{KernelFields, StandsFor}
+use Rattle.kern_core.specs.Stands.{KernelFields, RepresentsKernel}
 
 abbrev request_with : ℕ → DapCommand → DapRequest
 request_with seq c = record { seq = seq; command = c }
@@ -49,18 +49,19 @@ by_reset n r d unix_seconds s is = by_command n r d.seq d.command unix_seconds s
 -- ---- the other commands
 
 abbrev pub HasArrived : Turn → KernelFields → Type 0
-HasArrived t new = (Ok Arrived ≡ t.answer) × StandsFor new (after t)
+HasArrived t new = (Ok Arrived ≡ t.answer) × RepresentsKernel new (after t)
 
--- the fields stand for a state with this board, and these letters are posted
+-- the fields represent a state with this board, and these letters are posted
 told_stands : (n : ℕ) (r : Request) (d : DapRequest) (unix_seconds : ℕ) (s : KernelState) (old : KernelFields)
     (lab : LabState) (store : StoreState) (b : Board) (told letters : List Letter)
-    → StandsFor old s → LabStandsFor lab b → letters ≡ between_busy_and_idle s.connections r.header told
-    → Keeps (posted unix_seconds letters s.posts) store
+    → RepresentsKernel old s → RepresentsBoard lab b
+    → letters ≡ between_busy_and_idle s.connections r.header told
+    → Keeps (with_posts unix_seconds letters s.posts) store
     → HasArrived (posting Arrived unix_seconds (between_busy_and_idle s.connections r.header told)
     (with_board b s.work s))
     (record old { lab = lab; store = store })
 told_stands n r d unix_seconds s old lab store b told letters stands board are kept =
-    let P : List Letter → Type 0 = λ ls. Keeps (posted unix_seconds ls s.posts) store in (
+    let P : List Letter → Type 0 = λ ls. Keeps (with_posts unix_seconds ls s.posts) store in (
       refl,
       record {
         board = board;
@@ -73,9 +74,9 @@ told_stands n r d unix_seconds s old lab store b told letters stands board are k
 
 pub refused_stands : (n : ℕ) (r : Request) (d : DapRequest) (unix_seconds : ℕ) (s : KernelState)
     (old : KernelFields) (store : StoreState) (message : List ℕ) (letters : List Letter)
-    → StandsFor old s
+    → RepresentsKernel old s
     → letters ≡ between_busy_and_idle s.connections r.header (debug_reply n r d (Refused message) ∷ [])
-    → Keeps (posted unix_seconds letters s.posts) store
+    → Keeps (with_posts unix_seconds letters s.posts) store
     → HasArrived (refusing n r d message unix_seconds s) (record old { store = store })
 refused_stands n r d unix_seconds s old store message letters stands are kept =
     told_stands n r d unix_seconds s old old.lab store s.board (debug_reply n r d (Refused message) ∷ [])
@@ -84,10 +85,10 @@ refused_stands n r d unix_seconds s old store message letters stands are kept =
 by_performed : (g : Result (Body × Board) EventFault) (n : ℕ) (r : Request) (d : DapRequest)
     (unix_seconds : ℕ) (s : KernelState) (old : KernelFields) (lab : LabState) (store : StoreState)
     (res : Result Body EventFault) (letters : List Letter)
-    → StandsFor old s → is_reset d.command ≡ false → Did s.board g res lab
+    → RepresentsKernel old s → is_reset d.command ≡ false → Did s.board g res lab
     → letters ≡ between_busy_and_idle s.connections r.header
     (performed_letters res (after_letter (event_after d.command) r s) n r d)
-    → Keeps (posted unix_seconds letters s.posts) store
+    → Keeps (with_posts unix_seconds letters s.posts) store
     → HasArrived (answering n r d unix_seconds s g) (record old { lab = lab; store = store })
 by_performed (Ok (body, b)) n r d unix_seconds s old lab store res letters stands other did are kept =
     let after = after_letter (event_after d.command) r s in
@@ -105,11 +106,11 @@ by_performed (Err fault) n r d unix_seconds s old lab store res letters stands o
 pub performed_stands : (n : ℕ) (r : Request) (d : DapRequest) (unix_seconds : ℕ) (s : KernelState)
     (old : KernelFields) (lab : LabState) (store : StoreState) (res : Result Body EventFault)
     (letters : List Letter)
-    → StandsFor old s → is_reset d.command ≡ false → Does (command_result d.command) old.lab res lab
+    → RepresentsKernel old s → is_reset d.command ≡ false → Does (command_result d.command) old.lab res lab
     → res ≢ Err OutOfMemory
     → letters ≡ between_busy_and_idle s.connections r.header
     (performed_letters res (after_letter (event_after d.command) r s) n r d)
-    → Keeps (posted unix_seconds letters s.posts) store
+    → Keeps (with_posts unix_seconds letters s.posts) store
     → HasArrived (performing n r d unix_seconds s) (record old { lab = lab; store = store })
 performed_stands n r d unix_seconds s old lab store res letters stands other does want are kept =
     by_performed (command_result d.command s.board) n r d unix_seconds s old lab store res letters stands

@@ -1,4 +1,4 @@
--- A kernel's fields stand for its entries again after one more.
+-- A kernel's fields represent its entries again after one more.
 use Rattle.std.proofs.Common.{◌≡◌, ◌≢◌, ◌∙◌, ℕ, ◌<◌, true, false, List, [], ◌∷◌, ◌++◌}
 use Rattle.std.proofs.Common.{length, Result, Err, sym, ap, subst, arith, length-append}
 use Rattle.std.proofs.lemmas.Bool.{false≢true}
@@ -9,7 +9,7 @@ use Rattle.kern_core.specs.declared.fault.KernelFault.{KernelFault}
 use Rattle.kern_core.specs.declared.fault.KernelFault.TheVariants.{OutOfMemory}
 use Rattle.kern_core.specs.States.{kernel_before_calls, after}
 use Rattle.kern_core.specs.Turns.{turn, next, state_after}
-use Rattle.kern_core.specs.Stands.{KernelFields, StandsFor, TakesTurn}
+use Rattle.kern_core.specs.Stands.{KernelFields, RepresentsKernel, TakesTurn}
 use Rattle.kern_core.specs.Kernels.{IsKept, is_entry}
 
 state_after-more : (calls : List Call) (call : Call)
@@ -35,7 +35,7 @@ kept_more old new calls limit call answer kept room takes entry =
     let fewer_peers = takes.1.0.peers in
     let smaller_count = takes.1.0.count in
     record {
-      stands = subst (StandsFor new) (sym (state_after-more calls call)) made.1;
+      stands = subst (RepresentsKernel new) (sym (state_after-more calls call)) made.1;
       posts = omega (arith, more);
       peers = omega (arith, more);
       count = omega (arith, more);

@@ -1,8 +1,8 @@
 -- Loading the next cell: its letters, and the fields after it.
 use Rattle.std.proofs.Common.{◌≡◌, ◌∙◌, ℕ, ◌+◌, ◌≤◌, Bool, true, false, List, ◌∷◌, not, ◌&&◌, Ok}
 use Rattle.std.proofs.Common.{refl, sym, ap, subst, arith, if◌then◌else◌}
-use Rattle.lab_core.specs.Labs.{LabState, StandsFor as LabStandsFor}
-use Rattle.kern_post.specs.Posts.{Keeps, posted}
+use Rattle.lab_core.specs.Labs.{LabState, RepresentsBoard}
+use Rattle.kern_post.specs.Posts.{Keeps, with_posts}
 use Rattle.kern_peers.specs.Connections.{Connections}
 use Rattle.kern_exec.specs.declared.execution.Execution.{Execution}
 use Rattle.kern_exec.specs.declared.execution.Current.{Current}
@@ -13,7 +13,7 @@ use Rattle.kern_exec.specs.Boards.{cell_given, loading_of, board_after}
 use Rattle.kern_core.specs.declared.call.Reply.TheVariants.{More}
 use Rattle.kern_core.specs.States.{KernelState, after}
 use Rattle.kern_core.specs.Slices.{loading}
-use Rattle.kern_core.specs.Stands.{KernelFields, StandsFor, Grows}
+use Rattle.kern_core.specs.Stands.{KernelFields, RepresentsKernel, Grows}
 
 one_more : (b : Bool) (n : ℕ) → (if b then n + 1 else n) ≤ n + 1
 one_more true n = omega arith
@@ -43,24 +43,24 @@ load_grows old new lab x rest l loaded work made =
 
 pub load_stands : (unix_seconds : ℕ) (s : KernelState) (old new : KernelFields) (lab : LabState)
     (x : Execution) (rest : List Execution) (c : Current) (l : Loading)
-    → StandsFor old s → old.work.queue ≡ x ∷ rest → c ≡ current_of x old.work.count
+    → RepresentsKernel old s → old.work.queue ≡ x ∷ rest → c ≡ current_of x old.work.count
     → l ≡ loading_of (cell_given x.request.code s.board)
-    → LabStandsFor lab (board_after s.board (cell_given x.request.code s.board))
+    → RepresentsBoard lab (board_after s.board (cell_given x.request.code s.board))
     → IsLoaded old lab new → new.work ≡ load_first x rest l old.work
-    → Keeps (posted unix_seconds (loading_letters old.connections c l) s.posts) new.store
+    → Keeps (with_posts unix_seconds (loading_letters old.connections c l) s.posts) new.store
     → (Ok More ≡ (loading unix_seconds s.work.queue s).answer)
-    × StandsFor new (after (loading unix_seconds s.work.queue s))
+    × RepresentsKernel new (after (loading unix_seconds s.work.queue s))
 load_stands unix_seconds s old new lab x rest c l stands queue current is_loading board loaded work kept =
     let g = cell_given x.request.code s.board in
     let waits : s.work.queue ≡ x ∷ rest = ap (λ (w : Work). w.queue) (sym stands.work) ∙ queue in
     let it : c ≡ current_of x s.work.count = current ∙ ap (λ (w : Work). current_of x w.count) stands.work in
-    let B : LabState → Type 0 = λ v. LabStandsFor v (board_after s.board g) in
+    let B : LabState → Type 0 = λ v. RepresentsBoard v (board_after s.board g) in
     let P : Connections → Type 0 =
-    λ w. Keeps (posted unix_seconds (loading_letters w c l) s.posts) new.store in
+    λ w. Keeps (with_posts unix_seconds (loading_letters w c l) s.posts) new.store in
     let Q : Current → Type 0 =
-    λ k. Keeps (posted unix_seconds (loading_letters s.connections k l) s.posts) new.store in
+    λ k. Keeps (with_posts unix_seconds (loading_letters s.connections k l) s.posts) new.store in
     let R : Loading → Type 0 =
-    λ k. Keeps (posted unix_seconds (loading_letters s.connections (current_of x s.work.count) k) s.posts)
+    λ k. Keeps (with_posts unix_seconds (loading_letters s.connections (current_of x s.work.count) k) s.posts)
     new.store in
     let W : Loading → Type 0 = λ k. new.work ≡ load_first x rest k s.work in
     rw waits (

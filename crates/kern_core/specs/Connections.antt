@@ -10,7 +10,7 @@ use Rattle.kern_post.specs.declared.content.ExecutionState.{ExecutionState}
 use Rattle.kern_post.specs.declared.content.ExecutionState.TheVariants.{Busy, Idle}
 use Rattle.kern_post.specs.declared.post.Head.TheVariants.{Topic}
 use Rattle.kern_post.specs.declared.post.Letter.{Letter}
-use Rattle.kern_post.specs.Posts.{fetched as posts_to, first_kept, next_from}
+use Rattle.kern_post.specs.Posts.{posts_between as posts_to, first_kept, next_from}
 use Rattle.kern_peers.specs.declared.peer.Peer.{Peer}
 use Rattle.kern_peers.specs.Connections.{has_no_place, joined_by, peer_at, without, is_on, is_full}
 use Rattle.kern_peers.specs.Connections.{subscribed_by, without_subscription}

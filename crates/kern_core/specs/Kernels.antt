@@ -1,4 +1,4 @@
--- What contracts see of a kernel, what a call does to it, and when its fields stand for its entries.
+-- What contracts see of a kernel, what a call does to it, and when its fields represent its entries.
 use Rattle.std.specs.Prelude.{◌≡◌, ℕ, ◌*◌, ◌<◌, ◌≤◌, Bool, true, false, List, [], ◌∷◌, ◌++◌, length}
 use Rattle.std.specs.Prelude.{Result, Err}
 use Rattle.kern_core.specs.declared.call.Call.{Call}
@@ -6,7 +6,7 @@ use Rattle.kern_core.specs.declared.call.Reply.{Reply}
 use Rattle.kern_core.specs.declared.fault.KernelFault.{KernelFault}
 use Rattle.kern_core.specs.declared.fault.KernelFault.TheVariants.{OutOfMemory, JournalFull}
 use Rattle.kern_core.specs.Turns.{answer_after, state_after}
-use Rattle.kern_core.specs.Stands.{KernelFields, StandsFor}
+use Rattle.kern_core.specs.Stands.{KernelFields, RepresentsKernel}
 
 pub record JournalState : Type 0 where
   pub entries : List Call
@@ -34,9 +34,9 @@ pub record MakesCall (call : Call) (old : JournalState) (answer : Result Reply K
   pub full : is_full answer ≡ true → (is_entry answer ≡ false) × (length old.entries ≡ old.limit)
   pub limited : length old.entries ≡ old.limit → answer ≡ Err JournalFull
 
--- the fields stand for the entries, of which there are no more than the limit
+-- the fields represent the entries, of which there are no more than the limit
 pub record IsKept (state : KernelFields) (entries : List Call) (limit : ℕ) : Type 0 where
-  pub stands : StandsFor state (state_after entries)
+  pub stands : RepresentsKernel state (state_after entries)
   pub posts : state.store.made ≤ 8 * length entries
   pub peers : state.connections.joined ≤ length entries
   pub count : state.work.count ≤ length entries

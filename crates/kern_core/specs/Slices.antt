@@ -5,7 +5,7 @@ use Rattle.lab_core.specs.declared.run_state.RunState.TheVariants.{NoRun, Runnin
 use Rattle.lab_core.specs.declared.answer.SliceOutcome.{SliceOutcome}
 use Rattle.lab_core.specs.declared.answer.SliceOutcome.TheVariants as outcome
 use Rattle.lab_core.specs.Slices.{traffic_of}
-use Rattle.lab_core.specs.Events.{Given, started}
+use Rattle.lab_core.specs.Events.{EventResult, after_start}
 use Rattle.i80_exec.specs.declared.ports.PortOperation.{PortOperation}
 use Rattle.kern_post.specs.declared.post.Letter.{Letter}
 use Rattle.kern_peers.specs.Connections.{Connections}
@@ -46,11 +46,11 @@ running unix_seconds s = running_to (slice_end s.board) unix_seconds s
 
 abbrev pub beginning : ℕ → KernelState → Turn
 beginning address s = turn_without_posts More
-    (record s { board = started address s.board; work = clear_pending s.work })
+    (record s { board = after_start address s.board; work = clear_pending s.work })
 
 -- ---- the next cell
 
-abbrev pub loading_as : ℕ → Execution → List Execution → Given → KernelState → Turn
+abbrev pub loading_as : ℕ → Execution → List Execution → EventResult → KernelState → Turn
 loading_as unix_seconds x rest g s = posting More unix_seconds
     (loading_letters s.connections (current_of x s.work.count) (loading_of g))
     (record s { board = board_after s.board g; work = load_first x rest (loading_of g) s.work })

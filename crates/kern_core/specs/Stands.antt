@@ -1,6 +1,6 @@
--- Which states of the kernel its fields stand for.
+-- Which states of the kernel its fields represent.
 use Rattle.std.specs.Prelude.{◌≡◌, ◌≢◌, ◌+◌, ◌<◌, ◌≤◌, ◌^◌, Bool, Result, Err, OnErr}
-use Rattle.lab_core.specs.Labs.{LabState, StandsFor as LabStandsFor}
+use Rattle.lab_core.specs.Labs.{LabState, RepresentsBoard}
 use Rattle.lab_core.specs.declared.run_state.RunState.{RunState}
 use Rattle.kern_post.specs.Posts.{StoreState, Keeps}
 use Rattle.kern_peers.specs.Connections.{Connections}
@@ -18,28 +18,28 @@ pub record KernelFields : Type 0 where
   pub store : StoreState
   pub is_shut : Bool
 
-pub record StandsFor (v : KernelFields) (s : KernelState) : Type 0 where
-  pub board : LabStandsFor v.lab s.board
+pub record RepresentsKernel (v : KernelFields) (s : KernelState) : Type 0 where
+  pub board : RepresentsBoard v.lab s.board
   pub connections : v.connections ≡ s.connections
   pub work : v.work ≡ s.work
   pub posts : Keeps s.posts v.store
   pub is_shut : v.is_shut ≡ s.is_shut
 
 -- the same, with the run in this state
-abbrev pub StandsIn : RunState → KernelFields → KernelState → Type 0
-StandsIn run v s = StandsFor v s × (s.board.run ≡ run)
+abbrev pub RepresentsInRun : RunState → KernelFields → KernelState → Type 0
+RepresentsInRun run v s = RepresentsKernel v s × (s.board.run ≡ run)
 
--- whatever state held before, the answer is the turn's, and the fields stand for the state after the turn;
+-- whatever state held before, the answer is the turn's, and the fields represent the state after the turn;
 -- or memory ran out
 abbrev pub MakesTurnFrom : (KernelState → Type 0) → (KernelState → Turn) → Result Reply KernelFault
     → KernelFields → Type 0
 MakesTurnFrom holds f answer new =
     (s : KernelState) → holds s → answer ≢ Err OutOfMemory
-    → (answer ≡ (f s).answer) × StandsFor new (after (f s))
+    → (answer ≡ (f s).answer) × RepresentsKernel new (after (f s))
 
--- the fields stand for some state
-abbrev pub Stands : KernelFields → Type 0
-Stands v = (s : KernelState) × StandsFor v s
+-- the fields represent some state
+abbrev pub RepresentsSomeState : KernelFields → Type 0
+RepresentsSomeState v = (s : KernelState) × RepresentsKernel v s
 
 -- the counts are so small that one more call can't make them overflow
 pub record HasRoom (v : KernelFields) : Type 0 where
@@ -57,9 +57,9 @@ pub record Grows (old new : KernelFields) : Type 0 where
 abbrev pub IsOneCall : KernelFields → Result Reply KernelFault → KernelFields → Type 0
 IsOneCall old answer new = Grows old new × OnErr answer (new ≡ old)
 
--- from whatever state the fields stood for
+-- from whatever state the fields represented
 abbrev pub MakesTurn : (KernelState → Turn) → KernelFields → Result Reply KernelFault → KernelFields → Type 0
-MakesTurn f old answer new = MakesTurnFrom (StandsFor old) f answer new
+MakesTurn f old answer new = MakesTurnFrom (RepresentsKernel old) f answer new
 
 -- and the turn is that of one call
 abbrev pub TakesTurn : (KernelState → Turn) → KernelFields → Result Reply KernelFault → KernelFields → Type 0
@@ -68,4 +68,5 @@ TakesTurn f old answer new = MakesTurn f old answer new × IsOneCall old answer 
 -- the same, with the run in this state before
 abbrev pub TakesTurnIn : RunState → (KernelState → Turn) → KernelFields → Result Reply KernelFault
     → KernelFields → Type 0
-TakesTurnIn run f old answer new = MakesTurnFrom (StandsIn run old) f answer new × IsOneCall old answer new
+TakesTurnIn run f old answer new = MakesTurnFrom (RepresentsInRun run old) f answer new
+    × IsOneCall old answer new

@@ -3,7 +3,7 @@ use Rattle.std.specs.Prelude.{ℕ, List, [], Bool, false, Result, Ok, Err}
 use Rattle.lab_core.specs.Board.{Board, opening}
 use Rattle.kern_post.specs.declared.post.Letter.{Letter}
 use Rattle.kern_post.specs.declared.post.Post.{Post}
-use Rattle.kern_post.specs.Posts.{posted}
+use Rattle.kern_post.specs.Posts.{with_posts}
 use Rattle.kern_peers.specs.Connections.{Connections, no_connections}
 use Rattle.kern_exec.specs.Executions.{Work, nothing}
 use Rattle.kern_core.specs.declared.call.Reply.{Reply}
@@ -36,7 +36,7 @@ pub record Turn : Type 0 where
   pub letters : List Letter
 
 abbrev pub after : Turn → KernelState
-after t = record t.state { posts = posted t.unix_seconds t.letters t.state.posts }
+after t = record t.state { posts = with_posts t.unix_seconds t.letters t.state.posts }
 
 abbrev pub refuse_turn : KernelFault → KernelState → Turn
 refuse_turn fault s = record { answer = Err fault; state = s; unix_seconds = 0; letters = [] }

@@ -9,7 +9,7 @@ use Rattle.lab_core.specs.declared.answer.Answer.TheVariants.{Loaded}
 use Rattle.lab_core.specs.declared.fault.EventFault.{EventFault}
 use Rattle.lab_core.specs.declared.fault.EventFault.TheVariants as fault
 use Rattle.lab_core.specs.Board.{Board}
-use Rattle.lab_core.specs.Events.{Given, given, ended as run_ended}
+use Rattle.lab_core.specs.Events.{EventResult, result_of, after_end as run_ended}
 use Rattle.dap_answers.specs.Murmur.{cell_path}
 use Rattle.kern_post.specs.declared.content.Cause.{Cause}
 use Rattle.kern_post.specs.declared.content.Cause.TheVariants as cause
@@ -22,15 +22,15 @@ is_run NoRun = false
 is_run Running = true
 is_run Stopped = true
 
-abbrev pub board_after : Board → Given → Board
+abbrev pub board_after : Board → EventResult → Board
 board_after b (Ok (a, b')) = b'
 board_after b (Err f) = b
 
 -- ---- a cell
 
 -- a cell is loaded and kept under the path that frontends know
-abbrev pub cell_given : Text → Board → Given
-cell_given text b = given (Load (cell_path text) text) b
+abbrev pub cell_given : Text → Board → EventResult
+cell_given text b = result_of (Load (cell_path text) text) b
 
 -- without a run there are no other refusals
 abbrev pub cause_of : EventFault → Cause
@@ -42,7 +42,7 @@ abbrev pub loading_by : Answer → Loading
 loading_by (Loaded (Some address)) = Starts address
 loading_by _ = Ends Done
 
-abbrev pub loading_of : Given → Loading
+abbrev pub loading_of : EventResult → Loading
 loading_of (Ok (a, b)) = loading_by a
 loading_of (Err f) = Ends (Failed (cause_of f))
 

@@ -2,7 +2,7 @@
 ghost use Rattle.std.specs.Prelude.{◌≡◌, ◌≢◌, ◌<◌, ◌≤◌, ◌+◌, ◌++◌, length, IfOk, OnErr};
 ghost use Rattle.dap_answers.specs.Murmur.{cell_path};
 ghost use Rattle.lab_core.specs.Board.{Board};
-ghost use Rattle.lab_core.specs.Labs.{StandsFor};
+ghost use Rattle.lab_core.specs.Labs.{RepresentsBoard};
 ghost use Rattle.kern_peers.specs.Connections.{Connections};
 ghost use Rattle.kern_exec.specs.declared.execution.Current.{Current};
 ghost use Rattle.kern_post.specs.declared.content.Ending.TheVariants.{Failed};
@@ -130,9 +130,9 @@ fn load_event(alloc: Global, code: &Text) -> Result<Event, AllocError>
 
 /// Loads a cell into the board under its path. If memory runs out, the board is unchanged.
 pub fn load(alloc: Global, lab: &mut Lab, code: &Text) -> Result<Loading, AllocError>
-    ensures loaded { (b : Board) → StandsFor lab.old b → IfOk result (λ loading.
+    ensures loaded { (b : Board) → RepresentsBoard lab.old b → IfOk result (λ loading.
         (loading ≡ loading_of (cell_given code.now b))
-        × StandsFor lab.new (board_after b (cell_given code.now b))) }
+        × RepresentsBoard lab.new (board_after b (cell_given code.now b))) }
     ensures err { OnErr result (lab.new ≡ lab.old) }
 {
     let event = load_event(alloc, code)?;

@@ -12,13 +12,13 @@ use crate::execution::Current;
 use crate::letters::{address, published_under};
 use base_text::sequence::Bytes;
 use dap_answers::answer::{Event as DebugEvent, StopReason};
+use i80_devs::console::{is_line_requested, print_all};
 use i80_exec::ports::PortOperation;
 use kern_peers::peers::Peers;
 use kern_post::content::{Cause, Content, Ending};
 use kern_post::letters::Letters;
 use kern_post::post::{Envelope, Letter};
 use lab_core::answer::{End, SliceOutcome, Stop};
-use i80_devs::console::{is_line_requested, print_all};
 use lab_core::run_slice::STEPS;
 use std::alloc::{AllocError, Global};
 

@@ -10,7 +10,7 @@ use Rattle.std.proofs.lemmas.Bool.{ltb-false}
 use Rattle.std.proofs.lemmas.List.{length-take, length-drop}
 use Rattle.lab_turn.specs.History.{PassState}
 use Rattle.kern_post.specs.declared.post.Post.{Post}
-use Rattle.kern_post.specs.Posts.{is_to, first_kept, fetched as posts_to, next_from}
+use Rattle.kern_post.specs.Posts.{is_to, first_kept, posts_between as posts_to, next_from}
 use Rattle.kern_peers.specs.declared.peer.Peer.{Peer}
 use Rattle.kern_core.specs.declared.call.Call.{Call}
 use Rattle.kern_core.specs.declared.call.Call.TheVariants.{Fetch}

@@ -6,7 +6,7 @@ use Rattle.std.proofs.lemmas.List.{map-append}
 use Rattle.std.proofs.lemmas.List.Sums.{fold-append}
 use mathlib.Core.List.{IsPrefix}
 use Rattle.kern_post.specs.declared.post.Post.{Post}
-use Rattle.kern_post.specs.Posts.{numbered}
+use Rattle.kern_post.specs.Posts.{as_posts}
 use Rattle.kern_core.specs.declared.call.Call.{Call}
 use Rattle.kern_core.specs.States.{KernelState, kernel_before_calls}
 use Rattle.kern_core.specs.Turns.{turn, next, state_after}
@@ -27,8 +27,8 @@ step_grows s call =
     let t = turn call s in
     let kept = turn_leaves_posts call s in
     record {
-      more = numbered (length t.state.posts) t.unix_seconds t.letters;
-      whole = ap (λ (p : List Post). p ++ numbered (length t.state.posts) t.unix_seconds t.letters) kept;
+      more = as_posts (length t.state.posts) t.unix_seconds t.letters;
+      whole = ap (λ (p : List Post). p ++ as_posts (length t.state.posts) t.unix_seconds t.letters) kept;
     }
 
 calls_grow : (s : KernelState) (calls : List Call) → Grows s.posts (fold next s calls).posts

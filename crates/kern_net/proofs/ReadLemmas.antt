@@ -4,7 +4,7 @@ use Rattle.std.proofs.Common.{◌∷◌, ◌++◌, refl, sym, ap, subst, append_
 use Rattle.base_streams.specs.States.{InletState, IsReadable}
 use Rattle.base_streams.specs.Told.{Gave, WasRead}
 use Rattle.base_streams.proofs.TellLemmas.{told_on, counts_on, counts_none}
-use Rattle.zmtp_wire.specs.Stream.{DecoderState, StandsFor, Completes}
+use Rattle.zmtp_wire.specs.Stream.{DecoderState, HasReadMessages, Completes}
 use Rattle.zmtp_wire.specs.declared.handshake.Peer.{Peer}
 use Rattle.zmtp_wire.proofs.EchoLemmas.{completes_none}
 use Rattle.zmtp_wire.proofs.ReceivingLemmas.{told_none, most_at, most_below, most_is}
@@ -62,8 +62,8 @@ completes_on : (s t u : DecoderState) (x y : List ℕ) (m n : List (List (List �
 completes_on s t u x y m n p q = record {
   role = q.role ∙ p.role;
   stands = λ stream messages k.
-      let P : List ℕ → Type 0 = λ l. StandsFor u l (messages ++ (m ++ n)) in
-      let Q : List (List (List ℕ)) → Type 0 = λ l. StandsFor u ((stream ++ x) ++ y) l in
+      let P : List ℕ → Type 0 = λ l. HasReadMessages u l (messages ++ (m ++ n)) in
+      let Q : List (List (List ℕ)) → Type 0 = λ l. HasReadMessages u ((stream ++ x) ++ y) l in
       subst P (append_assoc stream x y) (subst Q (append_assoc messages m n)
       (q.stands (stream ++ x) (messages ++ m) (p.stands stream messages k)));
 }

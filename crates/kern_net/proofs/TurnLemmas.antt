@@ -21,7 +21,7 @@ use Rattle.kern_request.specs.declared.request.Request.{Request}
 use Rattle.kern_peers.specs.declared.peer.Peer.{Peer}
 use Rattle.kern_peers.specs.Connections.{has_no_place, joined_by, peer_at, without, is_on, is_full}
 use Rattle.kern_post.specs.declared.content.Content.{Content}
-use Rattle.kern_post.specs.Posts.{fetched as posts_to, first_kept, next_from}
+use Rattle.kern_post.specs.Posts.{posts_between as posts_to, first_kept, next_from}
 use Rattle.kern_exec.specs.declared.execution.Execution.{Execution}
 use Rattle.kern_exec.specs.Executions.{execution_of, enqueue}
 use Rattle.lab_core.specs.SliceEnds.{slice_end}

@@ -7,15 +7,16 @@ use Rattle.std.proofs.lemmas.Bool.{cases_lt}
 use Rattle.std.specs.List.{filter}
 use Rattle.kern_post.specs.declared.post.Letter.{Letter}
 use Rattle.kern_post.specs.declared.post.Post.{Post}
-use Rattle.kern_post.specs.Posts.{numbered, posted}
+use Rattle.kern_post.specs.Posts.{as_posts, with_posts}
 
 -- posting the first letter, and then the others after it
 pub posted-cons : (unix_seconds : ℕ) (l : Letter) (ls : List Letter) (posts : List Post)
-    → posted unix_seconds ls (posted unix_seconds (l ∷ []) posts) ≡ posted unix_seconds (l ∷ ls) posts
+    → with_posts unix_seconds ls (with_posts unix_seconds (l ∷ []) posts)
+    ≡ with_posts unix_seconds (l ∷ ls) posts
 posted-cons unix_seconds l ls posts =
     let p : Post = record { number = length posts + 1; unix_seconds = unix_seconds; letter = l } in
     rw (length-append posts (p ∷ []))
-    (append_assoc posts (p ∷ []) (numbered (length posts + 1) unix_seconds ls))
+    (append_assoc posts (p ∷ []) (as_posts (length posts + 1) unix_seconds ls))
 
 -- one item more
 pub filter_more : {A : Type 0} (p : A → Bool) (xs : List A) (i : ℕ) (x : A) → i < length xs

@@ -5,15 +5,15 @@ use Rattle.kern_post.specs.declared.post.Letter.{Letter}
 use Rattle.kern_post.specs.declared.post.Post.{Post}
 
 -- the letters as posts of one moment, after the post with this number
-abbrev pub numbered : ℕ → ℕ → List Letter → List Post
-numbered last unix_seconds [] = []
-numbered last unix_seconds (l ∷ ls) =
+abbrev pub as_posts : ℕ → ℕ → List Letter → List Post
+as_posts last unix_seconds [] = []
+as_posts last unix_seconds (l ∷ ls) =
     record { number = last + 1; unix_seconds = unix_seconds; letter = l } ∷
-    numbered (last + 1) unix_seconds ls
+    as_posts (last + 1) unix_seconds ls
 
 -- all posts after these letters were posted
-abbrev pub posted : ℕ → List Letter → List Post → List Post
-posted unix_seconds letters posts = posts ++ numbered (length posts) unix_seconds letters
+abbrev pub with_posts : ℕ → List Letter → List Post → List Post
+with_posts unix_seconds letters posts = posts ++ as_posts (length posts) unix_seconds letters
 
 abbrev pub is_to : ℕ → Post → Bool
 is_to connection p = list_any (λ k. k == connection) p.letter.envelope.to
@@ -23,8 +23,8 @@ abbrev pub first_kept : ℕ → ℕ
 first_kept n = max 1 (n - 4095)
 
 -- those to the connection, of the posts with the numbers from, from + 1, .. from + 63
-abbrev pub fetched : ℕ → ℕ → List Post → List Post
-fetched connection from posts = filter (is_to connection) (take 64 (drop (from - 1) posts))
+abbrev pub posts_between : ℕ → ℕ → List Post → List Post
+posts_between connection from posts = filter (is_to connection) (take 64 (drop (from - 1) posts))
 
 -- the number from which to fetch next, if the last post is n
 abbrev pub next_from : ℕ → ℕ → ℕ

@@ -4,7 +4,7 @@ ghost use Rattle.std.specs.Prelude.{IfOk, OnOk};
 ghost use Rattle.std.specs.VecDeque.{deque_capacity};
 ghost use Rattle.std.specs.List.{filter};
 ghost use Rattle.kern_post.specs.declared.post.Post.{Post};
-ghost use Rattle.kern_post.specs.Posts.{Keeps, posted, first_kept, fetched, next_from, is_to};
+ghost use Rattle.kern_post.specs.Posts.{Keeps, with_posts, first_kept, posts_between, next_from, is_to};
 
 use crate::letters::Letters;
 use crate::post::{Letter, Post, Posts};
@@ -109,7 +109,7 @@ impl Store {
         requires { self.old.made + 1 < 2 ^ 63 }
         ensures made { self.new.made ≡ self.old.made + 1 }
         ensures keeps { (posts : List Post) → Keeps posts self.old
-            → Keeps (posted unix_seconds (letter ∷ []) posts) self.new }
+            → Keeps (with_posts unix_seconds (letter ∷ []) posts) self.new }
     {
         self.made += 1;
         let post = Post {
@@ -126,7 +126,7 @@ impl Store {
         requires { self.old.made + length letters < 2 ^ 63 }
         ensures made { self.new.made ≡ self.old.made + length letters }
         ensures keeps { (posts : List Post) → Keeps posts self.old
-            → Keeps (posted unix_seconds letters posts) self.new }
+            → Keeps (with_posts unix_seconds letters posts) self.new }
     {
         while let Some(letter) = letters.pop() {
             self.push(unix_seconds, letter);
@@ -153,7 +153,7 @@ impl Store {
     pub fn fetch(&self, alloc: Global, connection: u32, from: u64) -> Result<Posts, AllocError>
         requires { self.now.made < from + length self.now.kept }
         ensures { (posts : List Post) → Keeps posts self.now
-            → IfOk result (λ found. found ≡ fetched connection from posts) }
+            → IfOk result (λ found. found ≡ posts_between connection from posts) }
     {
         let start = self.skip_count(from).min(self.len());
         let count = (self.len() - start).min(FETCHED_AT_ONCE);

@@ -9,10 +9,11 @@ use Rattle.i80_exec.specs.State.{MachineState}
 use Rattle.i80_exec.specs.Step.{operation_list}
 use Rattle.lab_core.specs.declared.answer.SliceOutcome.{SliceOutcome}
 use Rattle.lab_core.specs.declared.lab.Context.{Context}
-use Rattle.lab_core.specs.Board.{Board, next_change, stepped}
+use Rattle.lab_core.specs.Board.{Board, next_change, after_next_step}
 use Rattle.lab_core.specs.Slices.{after_steps, traffic_of, reason, reason_before_fetch, reason_after_step}
-use Rattle.lab_core.specs.Slices.{waiting, undefined}
-use Rattle.lab_core.specs.Labs.{LabState, StandsAmid, Makes, MakesAtMost, AdvancesIn, FindsIn, KeepsIn, amid}
+use Rattle.lab_core.specs.Slices.{waiting, end_by_undefined}
+use Rattle.lab_core.specs.Labs.{LabState, RepresentsDuringSlice, Makes, MakesAtMost, OneStepOnIn, ComputesIn}
+use Rattle.lab_core.specs.Labs.{SameBoardIn, amid}
 use Rattle.lab_core.specs.Labs.{KeepsAsked, Watches}
 use Rattle.lab_core.proofs.QuietLemmas.{or_or}
 
@@ -20,7 +21,7 @@ pub after_more : (j k : ℕ) (b : Board) → after_steps (j + k) b ≡ after_ste
 after_more zero k b = let none : 0 + k ≡ k = omega arith in rw none refl
 after_more (suc j) k b =
     let more : suc j + k ≡ suc (j + k) = omega arith in
-    rw more (ap stepped (after_more j k b))
+    rw more (ap after_next_step (after_more j k b))
 
 pub traffic_more : (j k : ℕ) (b : Board)
     → traffic_of k b ++ traffic_of j (after_steps k b) ≡ traffic_of (j + k) b
@@ -32,13 +33,14 @@ traffic_more (suc j) k b =
     ∙ rw (traffic_more j k b, ← after_more j k b, more) refl
 
 -- a reason is one known before the fetch, or an undefined opcode
-pub reason_parts : (b : Board) → reason b ≡ option_or (reason_before_fetch b) (undefined b)
-reason_parts b = or_or (reason_after_step b) (waiting b) (undefined b)
+pub reason_parts : (b : Board) → reason b ≡ option_or (reason_before_fetch b) (end_by_undefined b)
+reason_parts b = or_or (reason_after_step b) (waiting b) (end_by_undefined b)
 
-pub no_reason : (b : Board) → None ≡ reason_before_fetch b → None ≡ undefined b → reason b ≡ None
+pub no_reason : (b : Board) → None ≡ reason_before_fetch b → None ≡ end_by_undefined b → reason b ≡ None
 no_reason b apart none = reason_parts b ∙ rw (← apart, ← none) refl
 
-pub reason_undefined : (b : Board) (o : SliceOutcome) → None ≡ reason_before_fetch b → Some o ≡ undefined b
+pub reason_undefined : (b : Board) (o : SliceOutcome) → None ≡ reason_before_fetch b
+    → Some o ≡ end_by_undefined b
     → reason b ≡ Some o
 reason_undefined b o apart is = reason_parts b ∙ rw (← apart, ← is) refl
 
@@ -54,10 +56,11 @@ before made b j earlier last below = elim (cases_lt j made) [
 ]
 
 -- no step
-pub makes_none : (lab : LabState) (b : Board) (traffic : List PortOperation) → StandsAmid lab b traffic
+pub makes_none : (lab : LabState) (b : Board) (traffic : List PortOperation)
+    → RepresentsDuringSlice lab b traffic
     → Makes 0 None b traffic lab
 makes_none lab b traffic s =
-    let T : List PortOperation → Type 0 = λ all. StandsAmid lab b all in
+    let T : List PortOperation → Type 0 = λ all. RepresentsDuringSlice lab b all in
     record {
       stands = subst T (sym (append-nil traffic)) s;
       none_before = λ j below. absurd (omega arith);
@@ -68,14 +71,14 @@ makes_none lab b traffic s =
 pub makes_more : (made : ℕ) (b : Board) (traffic : List PortOperation) (lab : LabState)
     (machine : MachineState) (context : Context) (machine' : MachineState) (context' : Context)
     → Makes made None b traffic (amid lab machine context)
-    → FindsIn reason_before_fetch None machine context → FindsIn undefined None machine context
-    → AdvancesIn machine context machine' context'
+    → ComputesIn reason_before_fetch None machine context → ComputesIn end_by_undefined None machine context
+    → OneStepOnIn machine context machine' context'
     → Makes (made + 1) None b traffic (amid lab machine' context')
 makes_more made b traffic lab machine context machine' context' m free defined advances =
     let now = after_steps made b in
     let all = traffic ++ traffic_of made b in
     let T : List PortOperation → Type 0 =
-    λ all. StandsAmid (amid lab machine' context') (after_steps (suc made) b) all in
+    λ all. RepresentsDuringSlice (amid lab machine' context') (after_steps (suc made) b) all in
     let joined = append_assoc traffic (traffic_of made b) (operation_list (next_change now).operation) in
     let none = no_reason now (free lab now all m.stands) (defined lab now all m.stands) in
     let one : made + 1 ≡ suc made = omega arith in
@@ -89,8 +92,9 @@ makes_more made b traffic lab machine context machine' context' m free defined a
 pub makes_end : (made : ℕ) (o : SliceOutcome) (b : Board) (traffic : List PortOperation) (lab : LabState)
     (machine : MachineState) (context : Context) (machine' : MachineState) (context' : Context)
     → Makes made None b traffic (amid lab machine context)
-    → FindsIn reason_before_fetch None machine context → FindsIn undefined (Some o) machine context
-    → KeepsIn machine context machine' context'
+    → ComputesIn reason_before_fetch None machine context
+    → ComputesIn end_by_undefined (Some o) machine context
+    → SameBoardIn machine context machine' context'
     → Makes made (Some o) b traffic (amid lab machine' context')
 makes_end made o b traffic lab machine context machine' context' m free undefined keeps =
     let now = after_steps made b in
@@ -103,7 +107,7 @@ makes_end made o b traffic lab machine context machine' context' m free undefine
 
 -- or because there is another reason
 pub makes_found : (o : SliceOutcome) (b : Board) (traffic : List PortOperation) (lab : LabState)
-    → StandsAmid lab b traffic → Some o ≡ reason_before_fetch b → Makes 0 (Some o) b traffic lab
+    → RepresentsDuringSlice lab b traffic → Some o ≡ reason_before_fetch b → Makes 0 (Some o) b traffic lab
 makes_found o b traffic lab s is =
     let m = makes_none lab b traffic s in
     record { stands = m.stands; none_before = m.none_before; found_is = reason_stands b o is }
@@ -115,8 +119,9 @@ pub makes_on : (k made : ℕ) (found : Option SliceOutcome) (b : Board) (lab : L
     → Makes (k + made) found b [] lab
 makes_on k made found b lab earlier m =
     let swap : k + made ≡ made + k = omega arith in
-    let S : Board → Type 0 = λ board. StandsAmid lab board (traffic_of (made + k) b) in
-    let T : List PortOperation → Type 0 = λ all. StandsAmid lab (after_steps made (after_steps k b)) all in
+    let S : Board → Type 0 = λ board. RepresentsDuringSlice lab board (traffic_of (made + k) b) in
+    let T : List PortOperation → Type 0 =
+    λ all. RepresentsDuringSlice lab (after_steps made (after_steps k b)) all in
     let F : Board → Type 0 = λ board. IfSome found (λ o. reason board ≡ Some o) in
     rw swap (record {
       stands = subst S (sym (after_more made k b)) (subst T (traffic_more made k b) m.stands);

@@ -7,7 +7,7 @@ use Rattle.std.proofs.lemmas.List.Sums.{fold-append}
 use Rattle.std.specs.Option.{IsSome, unwrap_or}
 use Rattle.std.specs.List.{filter}
 use Rattle.i80_exec.specs.declared.registers.Registers.{Registers}
-use Rattle.i80_exec.specs.State.{MachineState, stored, with_regs}
+use Rattle.i80_exec.specs.State.{MachineState, with_byte, with_regs}
 use Rattle.lab_frames.specs.declared.frame.Frame.{Frame}
 use Rattle.lab_frames.specs.Live.{Entry, Poke, ends, live, stays}
 use Rattle.lab_frames.specs.Frames.{AtLeast}
@@ -18,7 +18,7 @@ use Rattle.lab_core.specs.Stops.{earlier, since, has_step, innermost, is_gone}
 use Rattle.lab_core.specs.Slices.{ends_in_halt, halts}
 use Rattle.lab_core.specs.Events.{changed_to}
 use Rattle.lab_core.specs.Changes.{with_bytes, after_write, after_registers}
-use Rattle.lab_core.specs.Labs.{LabState, StandsFor, Follows}
+use Rattle.lab_core.specs.Labs.{LabState, RepresentsBoard, Follows}
 use Rattle.lab_core.proofs.StandsLemmas.{step-none}
 
 -- ---- bytes
@@ -30,14 +30,14 @@ bytes-wrapped address [] m = refl
 bytes-wrapped address (byte ∷ bytes) m =
     let again : address % 65536 % 65536 ≡ address % 65536 = omega arith in
     let next : (address % 65536 + 1) % 65536 ≡ (address + 1) % 65536 = omega arith in
-    rw again (sym (bytes-wrapped (address % 65536 + 1) bytes (stored m address byte))
-    ∙ ap (λ a. with_bytes a bytes (stored m address byte)) next
-    ∙ bytes-wrapped (address + 1) bytes (stored m address byte))
+    rw again (sym (bytes-wrapped (address % 65536 + 1) bytes (with_byte m address byte))
+    ∙ ap (λ a. with_bytes a bytes (with_byte m address byte)) next
+    ∙ bytes-wrapped (address + 1) bytes (with_byte m address byte))
 
 pub bytes-regs : (address : ℕ) (bytes : List ℕ) (m : MachineState)
     → (with_bytes address bytes m).regs ≡ m.regs
 bytes-regs address [] m = refl
-bytes-regs address (byte ∷ bytes) m = bytes-regs (address + 1) bytes (stored m address byte)
+bytes-regs address (byte ∷ bytes) m = bytes-regs (address + 1) bytes (with_byte m address byte)
 
 -- ---- a change by hand ends no frame
 
@@ -55,9 +55,9 @@ gone-poke (Some f) entries m m' = ap not (stays-poke entries f)
     stays-poke (e ∷ entries) f = ap (λ rest. not (ends e f) && rest) (stays-poke entries f)
 
 -- The lab after a change by hand, if no Step is pending or SP is unchanged.
-pub stands_changed : (old : LabState) (b : Board) (machine : MachineState) → StandsFor old b
+pub stands_changed : (old : LabState) (b : Board) (machine : MachineState) → RepresentsBoard old b
     → (IsSome b.request → machine.regs.sp ≡ b.machine.regs.sp)
-    → StandsFor (record old { machine = machine }) (changed_to machine b)
+    → RepresentsBoard (record old { machine = machine }) (changed_to machine b)
 stands_changed old b machine s same =
     let entry : Entry = Poke b.machine machine in
     let new : Board = changed_to machine b in
@@ -91,28 +91,28 @@ stands_changed old b machine s same =
     search rules
 
 pub stands_written : (old : LabState) (b : Board) (address : ℕ) (bytes : List ℕ) (machine : MachineState)
-    → StandsFor old b → machine ≡ with_bytes address bytes old.machine
-    → StandsFor (record old { machine = machine }) (after_write address bytes b)
+    → RepresentsBoard old b → machine ≡ with_bytes address bytes old.machine
+    → RepresentsBoard (record old { machine = machine }) (after_write address bytes b)
 stands_written old b address bytes machine s is =
     let machine-is : machine ≡ with_bytes address bytes b.machine =
     is ∙ ap (λ m. with_bytes address bytes m) s.machine in
     let M : MachineState → Type 0 =
-    λ m. StandsFor (record old { machine = m }) (after_write address bytes b) in
+    λ m. RepresentsBoard (record old { machine = m }) (after_write address bytes b) in
     subst M (sym machine-is) (stands_changed old b (with_bytes address bytes b.machine) s
     (λ asked. ap (λ (r : Registers). r.sp) (bytes-regs address bytes b.machine)))
 
-dropped : (old : LabState) (b : Board) → StandsFor old b
-    → StandsFor (record old { request = None }) (record b { request = None })
+dropped : (old : LabState) (b : Board) → RepresentsBoard old b
+    → RepresentsBoard (record old { request = None }) (record b { request = None })
 dropped old b s = search rules
 
 pub stands_registers : (old : LabState) (b : Board) (registers : Registers) (machine : MachineState)
-    → StandsFor old b → machine ≡ with_regs old.machine registers
-    → StandsFor (record old { machine = machine; request = None }) (after_registers registers b)
+    → RepresentsBoard old b → machine ≡ with_regs old.machine registers
+    → RepresentsBoard (record old { machine = machine; request = None }) (after_registers registers b)
 stands_registers old b registers machine s is =
     let machine-is : machine ≡ with_regs b.machine registers =
     is ∙ ap (λ (m : MachineState). with_regs m registers) s.machine in
     let M : MachineState → Type 0 =
-    λ m. StandsFor (record old { machine = m; request = None }) (after_registers registers b) in
-    let d : StandsFor (record old { request = None }) (record b { request = None }) = dropped old b s in
+    λ m. RepresentsBoard (record old { machine = m; request = None }) (after_registers registers b) in
+    let d : RepresentsBoard (record old { request = None }) (record b { request = None }) = dropped old b s in
     subst M (sym machine-is) (stands_changed _ (record b { request = None }) (with_regs b.machine registers) d
     (λ asked. cc))

@@ -12,20 +12,21 @@ use Rattle.lab_frames.specs.Steps.{IsBoardStep}
 use Rattle.lab_core.specs.declared.lab.Context.{Context}
 use Rattle.lab_core.specs.declared.lab.burst.BurstStep.{BurstStep}
 use Rattle.lab_core.specs.declared.lab.burst.BurstStep.TheVariants.{Within, Last, Ended}
-use Rattle.lab_core.specs.Board.{Board, next_change, stepped}
-use Rattle.lab_core.specs.Slices.{undefined}
-use Rattle.lab_core.specs.Labs.{LabState, StandsAmid, IsInBurst, GoesOn, IsMade, Owed, amid, ending_of}
+use Rattle.lab_core.specs.Board.{Board, next_change, after_next_step}
+use Rattle.lab_core.specs.Slices.{end_by_undefined}
+use Rattle.lab_core.specs.Labs.{LabState, RepresentsDuringSlice, IsInBurst, GoesOn, IsMade, Owed, amid}
+use Rattle.lab_core.specs.Labs.{ending_of}
 use Rattle.lab_core.proofs.StandsLemmas.{finds_undefined, finds_no_undefined, stands_undefined}
 use Rattle.lab_core.proofs.QuietLemmas.{stands_followed, no_halt, no_arming}
 
 module _ (lab : LabState) (b : Board) (traffic : List PortOperation) (machine machine' : MachineState)
     (old : Context) (devices : DeviceState) (answer : Stepped)
-    (s : StandsAmid (amid lab machine old) b traffic)
+    (s : RepresentsDuringSlice (amid lab machine old) b traffic)
     (did : IsBoardStep b.past machine old.devices machine' devices answer) where
   pub finds_owed : (site : ℕ) (new : Context) (result : BurstStep) → site ≡ machine.regs.pc
       → Owed answer site machine'.regs.sp (record old { devices = devices }) new result
-      → ending_of result ≡ undefined b
-  finds_owed site new (Within reach) is made =
+      → ending_of result ≡ end_by_undefined b
+  finds_owed site new (Within frame_floor) is made =
       finds_no_undefined (amid lab machine old) b traffic machine' devices answer s did made.defined
   finds_owed site new Last is made =
       finds_no_undefined (amid lab machine old) b traffic machine' devices answer s did made.defined
@@ -36,21 +37,22 @@ module _ (lab : LabState) (b : Board) (traffic : List PortOperation) (machine ma
 
   pub keeps_owed : (site : ℕ) (new : Context) (result : BurstStep)
       → Owed answer site machine'.regs.sp (record old { devices = devices }) new result
-      → IsSome (ending_of result) → StandsAmid (amid lab machine' new) b traffic
-  keeps_owed site new (Within reach) made some = cc
+      → IsSome (ending_of result) → RepresentsDuringSlice (amid lab machine' new) b traffic
+  keeps_owed site new (Within frame_floor) made some = cc
   keeps_owed site new Last made some = cc
   keeps_owed site new (Ended outcome) none some =
       let step = subst (IsBoardStep b.past machine old.devices machine' devices) none.answer_is did in
-      let S : Context → Type 0 = λ c. StandsAmid (amid lab machine' c) b traffic in
+      let S : Context → Type 0 = λ c. RepresentsDuringSlice (amid lab machine' c) b traffic in
       subst S (sym none.kept)
       (stands_undefined (amid lab machine old) b traffic machine' devices none.opcode s step)
 
   made_advances : (site : ℕ) (new : Context) → site ≡ machine.regs.pc
       → TellsSp answer machine.regs.sp machine'.regs.sp → old.has_moved ≡ true
       → IsMade answer site machine'.regs.sp (record old { devices = devices }) new
-      → StandsAmid (amid lab machine' new) (stepped b) (traffic ++ operation_list (next_change b).operation)
+      → RepresentsDuringSlice (amid lab machine' new) (after_next_step b) (traffic
+      ++ operation_list (next_change b).operation)
   made_advances site new is tells has_moved made =
-      let S : Context → Type 0 = λ c. StandsAmid (amid lab machine' c) (stepped b)
+      let S : Context → Type 0 = λ c. RepresentsDuringSlice (amid lab machine' c) (after_next_step b)
       (traffic ++ operation_list (next_change b).operation) in
       subst S (sym made.rest)
       (stands_followed (amid lab machine old) b traffic machine' devices new.frames new.older new.is_gone
@@ -61,19 +63,20 @@ module _ (lab : LabState) (b : Board) (traffic : List PortOperation) (machine ma
       → TellsSp answer machine.regs.sp machine'.regs.sp → old.has_moved ≡ true
       → Owed answer site machine'.regs.sp (record old { devices = devices }) new result
       → ending_of result ≡ None
-      → StandsAmid (amid lab machine' new) (stepped b) (traffic ++ operation_list (next_change b).operation)
-  advances_owed site new (Within reach) is tells has_moved made none =
+      → RepresentsDuringSlice (amid lab machine' new) (after_next_step b) (traffic
+      ++ operation_list (next_change b).operation)
+  advances_owed site new (Within frame_floor) is tells has_moved made none =
       made_advances site new is tells has_moved made
   advances_owed site new Last is tells has_moved made none =
       made_advances site new is tells has_moved made
   advances_owed site new (Ended outcome) is tells has_moved made none = cc
 
 made_in_burst : (kind : Kind) (machine machine' : MachineState) (old new : Context) (devices : DeviceState)
-    (site was reach : ℕ) → IsInBurst was machine old → devices.panel.latched ≡ None
+    (site was frame_floor : ℕ) → IsInBurst was machine old → devices.panel.latched ≡ None
     → Settles kind machine machine'
     → IsMade (answer_of kind machine') site machine'.regs.sp (record old { devices = devices }) new
-    → GoesOn kind machine'.regs.sp reach new → IsInBurst reach machine' new
-made_in_burst kind machine machine' old new devices site was reach ready unlatched settles made on =
+    → GoesOn kind machine'.regs.sp frame_floor new → IsInBurst frame_floor machine' new
+made_in_burst kind machine machine' old new devices site was frame_floor ready unlatched settles made on =
     let H : Context → Type 0 = λ c. c.is_halted ≡ false in
     let M : Context → Type 0 = λ c. c.has_moved ≡ true in
     let L : Context → Type 0 = λ c. c.devices.panel.latched ≡ None in
@@ -91,16 +94,16 @@ made_in_burst kind machine machine' old new devices site was reach ready unlatch
 
 -- the burst continues if the step's result says so
 pub owed_in_burst : (kind : Kind) (machine machine' : MachineState) (old new : Context)
-    (devices : DeviceState) (site was reach : ℕ) (result : BurstStep)
+    (devices : DeviceState) (site was frame_floor : ℕ) (result : BurstStep)
     → IsInBurst was machine old → devices.panel.latched ≡ None → Settles kind machine machine'
     → Owed (answer_of kind machine') site machine'.regs.sp (record old { devices = devices }) new result
     → ((now : ℕ) → result ≡ Within now → GoesOn kind machine'.regs.sp now new)
-    → result ≡ Within reach → IsInBurst reach machine' new
-owed_in_burst kind machine machine' old new devices site was reach (Within now) ready unlatched settles
+    → result ≡ Within frame_floor → IsInBurst frame_floor machine' new
+owed_in_burst kind machine machine' old new devices site was frame_floor (Within now) ready unlatched settles
     made on is =
-    made_in_burst kind machine machine' old new devices site was reach ready unlatched settles made
-    (on reach is)
-owed_in_burst kind machine machine' old new devices site was reach Last ready unlatched settles
+    made_in_burst kind machine machine' old new devices site was frame_floor ready unlatched settles made
+    (on frame_floor is)
+owed_in_burst kind machine machine' old new devices site was frame_floor Last ready unlatched settles
     made on is = cc
-owed_in_burst kind machine machine' old new devices site was reach (Ended outcome) ready unlatched
+owed_in_burst kind machine machine' old new devices site was frame_floor (Ended outcome) ready unlatched
     settles none on is = cc

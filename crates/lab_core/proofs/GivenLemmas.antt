@@ -12,32 +12,34 @@ use Rattle.lab_core.specs.declared.fault.EventFault.{EventFault}
 use Rattle.lab_core.specs.declared.fault.EventFault.TheVariants.{OutOfMemory}
 use Rattle.lab_core.specs.Board.{Board, next_change}
 use Rattle.lab_core.specs.Slices.{traffic_of, after_steps}
-use Rattle.lab_core.specs.Events.{Given, Gives, while_running, given}
+use Rattle.lab_core.specs.Events.{EventResult, Gives, while_running, result_of}
 use Rattle.lab_core.specs.SliceEnds.{slice_from, sliced_at, traffic_in}
-use Rattle.lab_core.specs.Labs.{LabState, StandsFor, AppliesTo, Did, Does}
+use Rattle.lab_core.specs.Labs.{LabState, RepresentsBoard, AppliesTo, Did, Does}
 use Rattle.lab_core.proofs.LawLemmas.{applies-given, given-applies, slice_within}
 
-did : (b new : Board) (g : Given) (reply : Result Answer EventFault) (lab : LabState) → Gives b g reply new
-    → StandsFor lab new → Did b g reply lab
-did b new (Ok (a, b')) reply lab h stands = (h.0, subst (StandsFor lab) h.1 stands)
-did b new (Err fault) reply lab h stands = (h.0, subst (StandsFor lab) h.1 stands)
+did : (b new : Board) (g : EventResult) (reply : Result Answer EventFault) (lab : LabState)
+    → Gives b g reply new
+    → RepresentsBoard lab new → Did b g reply lab
+did b new (Ok (a, b')) reply lab h stands = (h.0, subst (RepresentsBoard lab) h.1 stands)
+did b new (Err fault) reply lab h stands = (h.0, subst (RepresentsBoard lab) h.1 stands)
 
 pub does_given : (old new : LabState) (e : Event) (reply : Result Answer EventFault)
-    → AppliesTo old e reply new → Does (given e) old reply new
+    → AppliesTo old e reply new → Does (result_of e) old reply new
 does_given old new e reply applies = λ b stands no_want.
     let a = applies b stands no_want in
-    did b a.0 (given e b) reply new (applies-given b a.0 e reply a.1) a.2
+    did b a.0 (result_of e b) reply new (applies-given b a.0 e reply a.1) a.2
 
 -- and conversely
-applied-by : (b : Board) (g : Given) (reply : Result Answer EventFault) (lab : LabState) → Did b g reply lab
-    → (new : Board) × Gives b g reply new × StandsFor lab new
+applied-by : (b : Board) (g : EventResult) (reply : Result Answer EventFault) (lab : LabState)
+    → Did b g reply lab
+    → (new : Board) × Gives b g reply new × RepresentsBoard lab new
 applied-by b (Ok (a, b')) reply lab h = (b', (h.0, refl), h.1)
 applied-by b (Err fault) reply lab h = (b, (h.0, refl), h.1)
 
 pub applied-given : (old new : LabState) (e : Event) (reply : Result Answer EventFault)
-    → Does (given e) old reply new → AppliesTo old e reply new
+    → Does (result_of e) old reply new → AppliesTo old e reply new
 applied-given old new e reply does = λ b stands no_want.
-    let a = applied-by b (given e b) reply new (does b stands no_want) in
+    let a = applied-by b (result_of e b) reply new (does b stands no_want) in
     (a.0, given-applies b a.0 e reply a.1, a.2)
 
 -- ---- a slice performs at most one port operation for each step
@@ -73,14 +75,15 @@ done a = Ok a
 no_want : (a : Answer) → done a ≢ Err OutOfMemory
 no_want a e = cc
 
-few_of : (n : ℕ) (b : Board) (old new : LabState) (reply : Result Answer EventFault) → StandsFor old b
-    → Does (given (event.Slice n)) old reply new → IfOk reply (λ a. length (traffic_in a) ≤ n)
+few_of : (n : ℕ) (b : Board) (old new : LabState) (reply : Result Answer EventFault) → RepresentsBoard old b
+    → Does (result_of (event.Slice n)) old reply new → IfOk reply (λ a. length (traffic_in a) ≤ n)
 few_of n b old new (Err fault) stands does = tt
 few_of n b old new (Ok a) stands does = few_by b.run n b (Ok a) new (does b stands (no_want a))
 
 pub few_operations : (old new : LabState) (e : Event) (reply : Result Answer EventFault)
     → AppliesTo old e reply new
-    → (n : ℕ) (b : Board) → e ≡ event.Slice n → StandsFor old b → IfOk reply (λ a. length (traffic_in a) ≤ n)
+    → (n : ℕ) (b : Board) → e ≡ event.Slice n → RepresentsBoard old b
+    → IfOk reply (λ a. length (traffic_in a) ≤ n)
 few_operations old new e reply applies n b is stands =
-    few_of n b old new reply stands (subst (λ x. Does (given x) old reply new) is
+    few_of n b old new reply stands (subst (λ x. Does (result_of x) old reply new) is
     (does_given old new e reply applies))

@@ -24,8 +24,9 @@ use Rattle.asm_build.proofs.CellFaults.{judged}
 use Rattle.lab_image.specs.declared.sources.Source.{Source}
 use Rattle.lab_core.specs.Cells.{TextGives}
 use Rattle.lab_core.specs.SliceEnds.{or_goes_on, slice_from, sliced_at}
-use Rattle.lab_core.specs.Events.{Given, Gives, SlicesRun, Loads, Applies, Runs, while_running, without_run}
-use Rattle.lab_core.specs.Events.{assembled, loaded_as, given}
+use Rattle.lab_core.specs.Events.{EventResult, Gives, SlicesRun, Loads, Applies, Runs, while_running}
+use Rattle.lab_core.specs.Events.{without_run}
+use Rattle.lab_core.specs.Events.{cell_meaning, loaded_as, result_of}
 
 -- ---- a slice ends where the function says
 
@@ -88,7 +89,7 @@ slice_within n b = (ends n b n 0 (omega arith) (λ i below. absurd (omega arith)
 
 -- ---- a text assembles to the same by its readings and by the function
 
-text-gives : (kept : Entries) (text : List ℕ) → TextGives kept text (assembled kept text)
+text-gives : (kept : Entries) (text : List ℕ) → TextGives kept text (cell_meaning kept text)
 text-gives kept text = by (statements_of text) refl
   where
     by : (said : Result (List Statement) CellFault) → statements_of text ≡ said
@@ -97,7 +98,7 @@ text-gives kept text = by (statements_of text) refl
     by (Err fault) is = inr (fault, (text_faulted text fault).0 is, refl)
 
 so-assembled : (kept : Entries) (text : List ℕ) (cell : Result Meaning CellFault) → TextGives kept text cell
-    → assembled kept text ≡ cell
+    → cell_meaning kept text ≡ cell
 so-assembled kept text cell (inl x) =
     let said : statements_of text ≡ Ok x.0 = (text_says text x.0).1 x.1 in
     rw said ((judged kept x.0 cell).1 x.2)
@@ -108,16 +109,16 @@ so-assembled kept text cell (inr x) =
 -- ---- an event
 
 loads-given : (s : Source) (b new : Board) (reply : Result Answer EventFault) → Loads s b reply new
-    → Gives b (without_run b.run (loaded_as (assembled b.symbols s.text) s b)) reply new
+    → Gives b (without_run b.run (loaded_as (cell_meaning b.symbols s.text) s b)) reply new
 loads-given s b new reply h =
     let P : Result Meaning CellFault → Type 0 =
     λ cell. Gives b (without_run b.run (loaded_as cell s b)) reply new in
     subst P (sym (so-assembled b.symbols s.text h.0 h.1)) h.2
 
 given-loads : (s : Source) (b new : Board) (reply : Result Answer EventFault)
-    → Gives b (without_run b.run (loaded_as (assembled b.symbols s.text) s b)) reply new
+    → Gives b (without_run b.run (loaded_as (cell_meaning b.symbols s.text) s b)) reply new
     → Loads s b reply new
-given-loads s b new reply h = (assembled b.symbols s.text, text-gives b.symbols s.text, h)
+given-loads s b new reply h = (cell_meaning b.symbols s.text, text-gives b.symbols s.text, h)
 
 slices-given : (run : RunState) (n : ℕ) (b new : Board) (reply : Result Answer EventFault)
     → SlicesRun run n b reply new
@@ -143,8 +144,8 @@ given-slices Running n b new reply h = record {
 
 -- the relation and the function agree
 alike : (b new : Board) (e : Event) (reply : Result Answer EventFault)
-    → (Applies b e reply new → Gives b (given e b) reply new)
-    × (Gives b (given e b) reply new → Applies b e reply new)
+    → (Applies b e reply new → Gives b (result_of e b) reply new)
+    × (Gives b (result_of e b) reply new → Applies b e reply new)
 alike b new (event.Slice n) reply = (slices-given b.run n b new reply, given-slices b.run n b new reply)
 alike b new (event.Load path text) reply =
     let s : Source = record { path = path; text = text } in
@@ -152,16 +153,16 @@ alike b new (event.Load path text) reply =
 alike b new _ reply = (λ h. h, λ h. h)
 
 pub applies-given : (b new : Board) (e : Event) (reply : Result Answer EventFault) → Applies b e reply new
-    → Gives b (given e b) reply new
+    → Gives b (result_of e b) reply new
 applies-given b new e reply = (alike b new e reply).0
 
 pub given-applies : (b new : Board) (e : Event) (reply : Result Answer EventFault)
-    → Gives b (given e b) reply new → Applies b e reply new
+    → Gives b (result_of e b) reply new → Applies b e reply new
 given-applies b new e reply = (alike b new e reply).1
 
 -- ---- lists of events
 
-gives-once : (b new new' : Board) (g : Given) (r r' : Result Answer EventFault) → Gives b g r new
+gives-once : (b new new' : Board) (g : EventResult) (r r' : Result Answer EventFault) → Gives b g r new
     → Gives b g r' new' → (r ≡ r') × (new ≡ new')
 gives-once b new new' (Ok (a, after)) r r' h h' = (h.0 ∙ sym h'.0, h.1 ∙ sym h'.1)
 gives-once b new new' (Err e) r r' h h' = (h.0 ∙ sym h'.0, h.1 ∙ sym h'.1)
@@ -172,7 +173,7 @@ pub runs_once : (b : Board) (events : List Event) (rs rs' : List (Result Answer 
 runs_once b [] [] [] new new' g g' = (refl, g ∙ sym g')
 runs_once b (e ∷ es) (r ∷ rs) (r' ∷ rs') new new' g g' =
     let first =
-    gives-once b g.0 g'.0 (given e b) r r' (applies-given b g.0 e r g.1)
+    gives-once b g.0 g'.0 (result_of e b) r r' (applies-given b g.0 e r g.1)
     (applies-given b g'.0 e r' g'.1) in
     let P : Board → Type 0 = λ mid. Runs mid es rs' new' in
     let rest = runs_once g.0 es rs rs' new new' g.2 (subst P (sym first.1) g'.2) in

@@ -1,4 +1,4 @@
--- The board a lab stands for after its run was put back.
+-- The board a lab represents after its run was put back.
 use Rattle.std.proofs.Common.{◌≡◌, ◌≤◌, List, [], true, false, None, length, ap, sym, ◌∙◌}
 use Rattle.std.proofs.Common.{rules, arith}
 use Rattle.std.proofs.lemmas.List.{drop_all}
@@ -8,15 +8,15 @@ use Rattle.lab_frames.specs.declared.frame.Frame.{Frame}
 use Rattle.lab_core.specs.declared.run_state.RunState.TheVariants.{Running, Stopped}
 use Rattle.lab_core.specs.Board.{Board}
 use Rattle.lab_core.specs.Stops.{since, has_step}
-use Rattle.lab_core.specs.Labs.{LabState, StandsFor}
-use Rattle.lab_core.specs.Moments.{MomentState, IsMomentOf, put_back, held}
+use Rattle.lab_core.specs.Labs.{LabState, RepresentsBoard}
+use Rattle.lab_core.specs.Moments.{MomentState, IsMomentOf, put_back, after_hold}
 
 pub stands_put_back : (old : LabState) (was now : Board) (m : MomentState) (machine : MachineState)
     (panel : devices.DeviceState) (frames : List Frame)
-    → IsMomentOf m was → StandsFor old now
+    → IsMomentOf m was → RepresentsBoard old now
     → machine ≡ m.machine → panel ≡ record { panel = m.devices.panel; operations = []; spare = 0 }
     → frames ≡ m.frames
-    → StandsFor (record old {
+    → RepresentsBoard (record old {
       machine = machine;
       devices = panel;
       frames = frames;
@@ -38,16 +38,16 @@ stands_put_back old was now m machine panel frames i s machine-is panel-is frame
     let within : length was.trace ≤ length was.trace = omega arith in
     search rules
 
-pub stands_held : (old : LabState) (b : Board) → StandsFor old b
-    → StandsFor (record old {
+pub stands_held : (old : LabState) (b : Board) → RepresentsBoard old b
+    → RepresentsBoard (record old {
       is_attached = true;
       is_resumed = true;
       has_moved = false;
       request = None;
       run = Stopped;
-    }) (held b)
+    }) (after_hold b)
 stands_held old b s =
-    let moved : false ≡ has_step (since (held b)) =
+    let moved : false ≡ has_step (since (after_hold b)) =
     sym (ap has_step (drop_all (length b.trace) b.trace (omega arith))) in
     let within : length b.trace ≤ length b.trace = omega arith in
     search rules

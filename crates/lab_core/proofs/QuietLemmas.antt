@@ -20,18 +20,18 @@ use Rattle.i80_devs.specs.Past.{Operation, Port, Typed, Switches, Press, PanelSt
 use Rattle.lab_image.specs.Breakpoints.{is_set, is_met}
 use Rattle.lab_frames.specs.declared.frame.Frame.{Frame}
 use Rattle.lab_frames.specs.Live.{Entry, ended_by, live, stays}
-use Rattle.lab_frames.specs.Frames.{Advances, AtLeast, LeavesOldest, TellsSp, reach_of}
+use Rattle.lab_frames.specs.Frames.{Advances, AtLeast, LeavesOldest, TellsSp, frame_floor_of}
 use Rattle.lab_frames.specs.Steps.{IsBoardStep}
 use Rattle.lab_frames.proofs.FrameLemmas.{quiet-advances, quiet-oldest}
 use Rattle.lab_core.specs.declared.lab.Context.{Context}
 use Rattle.lab_core.specs.declared.event.StepKind.{StepKind}
 use Rattle.lab_core.specs.declared.event.StepKind.TheVariants.{In, Over, Out as StepOut}
 use Rattle.lab_core.specs.declared.event.StepRequest.{StepRequest}
-use Rattle.lab_core.specs.Board.{Board, next_change, stepped}
+use Rattle.lab_core.specs.Board.{Board, next_change, after_next_step}
 use Rattle.lab_core.specs.Stops.{at_breakpoint, completes, earlier, has_step, innermost, is_done, is_gone}
 use Rattle.lab_core.specs.Stops.{is_gone_after, meets_breakpoint, since}
 use Rattle.lab_core.specs.Slices.{ends_in_halt, reason_before_fetch}
-use Rattle.lab_core.specs.Labs.{LabState, StandsAmid, Follows, OnlyFetchCanStop, IsLast, LooksUp}
+use Rattle.lab_core.specs.Labs.{LabState, RepresentsDuringSlice, Follows, OnlyFetchCanStop, IsLast, LooksUp}
 use Rattle.lab_core.specs.Labs.{KeepsAsked, amid}
 use Rattle.lab_core.specs.Labs.{is_done_in, is_step_done}
 use Rattle.lab_core.proofs.StandsLemmas.{stands_step, over_done, parts-live}
@@ -109,7 +109,7 @@ completes-undone (Some request) context b frames-are follows undone =
 
 -- if only what is fetched next can end the slice, a breakpoint is the only reason before the fetch
 pub only_breakpoint_stops : (lab : LabState) (machine : MachineState) (context : Context) (b : Board)
-    (traffic : List PortOperation) → StandsAmid (amid lab machine context) b traffic
+    (traffic : List PortOperation) → RepresentsDuringSlice (amid lab machine context) b traffic
     → OnlyFetchCanStop context → reason_before_fetch b ≡ at_breakpoint b
 only_breakpoint_stops lab machine context b traffic s only_fetch =
     let no_halt : ends_in_halt b.trace ≡ false = sym s.is_halted ∙ only_fetch.goes_on in
@@ -124,7 +124,7 @@ only_breakpoint_stops lab machine context b traffic s only_fetch =
 
 -- if breakpoints aren't checked for, none is met
 pub meets_none : (lab : LabState) (machine : MachineState) (context : Context) (b : Board)
-    (traffic : List PortOperation) → StandsAmid (amid lab machine context) b traffic
+    (traffic : List PortOperation) → RepresentsDuringSlice (amid lab machine context) b traffic
     → LooksUp false context → machine.regs.pc < 65536 → meets_breakpoint b ≡ false
 meets_none lab machine context b traffic s (inl off) within =
     let detached : b.is_attached ≡ false = sym s.attached ∙ off in
@@ -189,7 +189,7 @@ record StaysFollowed (old : LabState) (sp : ℕ) : Type 0 where
   pub gone : old.is_gone ≡ is_gone_after old.is_gone old.innermost Done sp
 
 stays_followed : (old : LabState) (b : Board) (traffic : List PortOperation) (sp : ℕ)
-    → StandsAmid old b traffic → IsSome b.request → AtLeast sp old.frames → StaysFollowed old sp
+    → RepresentsDuringSlice old b traffic → IsSome b.request → AtLeast sp old.frames → StaysFollowed old sp
 stays_followed old b traffic sp s asked above =
     let f = s.follows asked in
     let survived : List Frame = filter (stays (since b)) (live (earlier b)) in
@@ -208,11 +208,11 @@ stays_followed old b traffic sp s asked above =
 
 pub stands_quiet : (old : LabState) (b : Board) (traffic : List PortOperation) (machine : MachineState)
     (devices : DeviceState) (answer : Stepped)
-    → StandsAmid old b traffic → IsBoardStep b.past old.machine old.devices machine devices answer
+    → RepresentsDuringSlice old b traffic → IsBoardStep b.past old.machine old.devices machine devices answer
     → TellsSp answer old.machine.regs.sp machine.regs.sp
     → old.is_halted ≡ false → old.has_moved ≡ true → answer ≡ Done
     → AtLeast machine.regs.sp old.frames
-    → StandsAmid (record old { machine = machine; devices = devices }) (stepped b)
+    → RepresentsDuringSlice (record old { machine = machine; devices = devices }) (after_next_step b)
     (traffic ++ operation_list (next_change b).operation)
 stands_quiet old b traffic machine devices answer s did tells goes_on has_moved done above =
     let new : LabState = record old { machine = machine; devices = devices } in
@@ -239,13 +239,13 @@ stands_quiet old b traffic machine devices answer s did tells goes_on has_moved 
 
 pub stands_followed : (old : LabState) (b : Board) (traffic : List PortOperation) (machine : MachineState)
     (devices : DeviceState) (frames : List Frame) (older : ℕ) (gone : Bool) (answer : Stepped) (left : ℕ)
-    → StandsAmid old b traffic → IsBoardStep b.past old.machine old.devices machine devices answer
+    → RepresentsDuringSlice old b traffic → IsBoardStep b.past old.machine old.devices machine devices answer
     → TellsSp answer old.machine.regs.sp machine.regs.sp → old.has_moved ≡ true
     → Advances answer old.machine.regs.pc machine.regs.sp old.frames frames
     → LeavesOldest answer machine.regs.sp old.frames left
     → (IsSome old.request → older ≡ min old.older left)
     → (IsSome old.request → gone ≡ is_gone_after old.is_gone old.innermost answer machine.regs.sp)
-    → StandsAmid
+    → RepresentsDuringSlice
     (record old {
       machine = machine;
       devices = devices;
@@ -254,7 +254,7 @@ pub stands_followed : (old : LabState) (b : Board) (traffic : List PortOperation
       older = older;
       is_gone = gone;
     })
-    (stepped b) (traffic ++ operation_list (next_change b).operation)
+    (after_next_step b) (traffic ++ operation_list (next_change b).operation)
 stands_followed old b traffic machine devices frames older gone answer left s did tells has_moved advances
     oldest older-is gone-is =
     let M : Bool → LabState = λ moved. record old {
@@ -314,7 +314,7 @@ no_arming kind.Returned m m' on settles = settles
 no_arming kind.Halted m m' on settles = settles
 no_arming kind.Undefined m m' on settles = settles
 
--- ---- if no slot is below SP, SP is below the reach
+-- ---- if no slot is below SP, SP is below the frame floor
 
 at_least-append : (low : ℕ) (fs gs : List Frame) → AtLeast low fs → AtLeast low gs → AtLeast low (fs ++ gs)
 at_least-append low [] gs above rest = rest
@@ -327,11 +327,11 @@ at_least-reverse low (f ∷ fs) above =
     subst A (sym (reverse-append (f ∷ []) fs))
     (at_least-append low (reverse fs) (f ∷ []) (at_least-reverse low fs above.1) (above.0, tt))
 
-within-first : (sp : ℕ) (fs : List Frame) → sp < 65536 → AtLeast sp fs → sp < reach_of (slice_get fs 0)
+within-first : (sp : ℕ) (fs : List Frame) → sp < 65536 → AtLeast sp fs → sp < frame_floor_of (slice_get fs 0)
 within-first sp [] small above = small
 within-first sp (f ∷ fs) small above = let low : sp ≤ f.slot = above.0 in omega arith
 
-pub within_reach : (sp reach : ℕ) (fs : List Frame) → sp < 65536 → AtLeast sp fs
-    → reach ≡ reach_of (slice_get (reverse fs) 0) → sp < reach
-within_reach sp reach fs small above is =
+pub below_frame_floor : (sp frame_floor : ℕ) (fs : List Frame) → sp < 65536 → AtLeast sp fs
+    → frame_floor ≡ frame_floor_of (slice_get (reverse fs) 0) → sp < frame_floor
+below_frame_floor sp frame_floor fs small above is =
     rw is (within-first sp (reverse fs) small (at_least-reverse sp fs above))

@@ -1,4 +1,4 @@
--- The board a lab stands for after a step, a Resume and a Step.
+-- The board a lab represents after a step, a Resume and a Step.
 use Rattle.std.proofs.Common.{◌≡◌, ℕ, ◌+◌, ◌≤◌, List, [], ◌∷◌, ◌++◌, Bool, true, false, not, ◌||◌, ◌&&◌, ◌==◌}
 use Rattle.std.proofs.Common.{Option, Some, None, length, min, refl, sym, ap, ◌∙◌, subst, rules, arith}
 use Rattle.std.proofs.Common.{length-append, append-nil}
@@ -13,7 +13,7 @@ use Rattle.i80_exec.specs.State.{MachineState}
 use Rattle.i80_exec.specs.Effect.{Outcome}
 use Rattle.i80_exec.specs.Step.{is_halt, operation_list}
 use Rattle.i80_exec.specs.declared.registers.Stepped.TheVariants as stepped
-use Rattle.i80_devs.specs.Past.{Operation, DeviceState, StandsFor as DevicesStandFor}
+use Rattle.i80_devs.specs.Past.{Operation, DeviceState, RepresentsPast as DevicesStandFor}
 use Rattle.lab_frames.specs.declared.frame.Frame.{Frame}
 use Rattle.lab_frames.specs.Live.{BoardStep, Change, Entry, Step, Poke, change_of, ends, live, stays}
 use Rattle.lab_frames.specs.Frames.{Advances, AtLeast, LeavesOldest, IsStep, TellsSp, survivors}
@@ -23,15 +23,15 @@ use Rattle.lab_frames.proofs.LiveLemmas.{live-append, live-poke, stays-step, fil
 use Rattle.lab_frames.proofs.LiveLemmas.{filter-stays-none}
 use Rattle.lab_core.specs.declared.event.StepRequest.{StepRequest}
 use Rattle.lab_core.specs.declared.run_state.RunState.TheVariants.{Running, Stopped}
-use Rattle.lab_frames.specs.Steps.{accepted, operations, outcome as outcome_of}
-use Rattle.lab_core.specs.Board.{Board, as_step, next_change, next_step, stepped as stepped_board}
+use Rattle.lab_frames.specs.Steps.{acceptance_due, operations, outcome as outcome_of}
+use Rattle.lab_core.specs.Board.{Board, as_step, next_change, next_step, after_next_step as stepped_board}
 use Rattle.lab_core.specs.Stops.{earlier, since, has_step, innermost, is_any, is_gone, is_gone_after}
 use Rattle.lab_core.specs.declared.answer.SliceOutcome.TheVariants as outcome
 use Rattle.lab_core.specs.declared.answer.End.TheVariants as end
-use Rattle.lab_core.specs.Slices.{ends_in_halt, halts, undefined}
+use Rattle.lab_core.specs.Slices.{ends_in_halt, halts, end_by_undefined}
 use Rattle.lab_core.specs.Events.{going_on, changed_to}
 use Rattle.lab_frames.specs.Steps.{IsBoardStep}
-use Rattle.lab_core.specs.Labs.{LabState, StandsAmid, StandsFor, Follows}
+use Rattle.lab_core.specs.Labs.{LabState, RepresentsDuringSlice, RepresentsBoard, Follows}
 use Rattle.i80_exec.proofs.UndefinedLemmas.{IsDefined}
 use Rattle.lab_core.proofs.UndefinedLemmas.{defined, no_step, some_step}
 
@@ -130,15 +130,17 @@ follows_step old new b answer left m answer-is sp-is within frames above asked f
 
 pub stands_step : (old new : LabState) (b : Board) (traffic : List PortOperation) (answer : Stepped)
     (left : ℕ)
-    → StandsAmid old b traffic → IsBoardStep b.past old.machine old.devices new.machine new.devices answer
+    → RepresentsDuringSlice old b traffic
+    → IsBoardStep b.past old.machine old.devices new.machine new.devices answer
     → Moves old new answer left
-    → StandsAmid new (stepped_board b) (traffic ++ operation_list (next_change b).operation)
+    → RepresentsDuringSlice new (stepped_board b) (traffic ++ operation_list (next_change b).operation)
 stands_step old new b traffic answer left s did m =
     let x = next_step b in
     let P : MachineState → Type 0 =
     λ machine. IsBoardStep b.past machine old.devices new.machine new.devices answer in
     let step = subst P s.machine did in
-    let change : change_of x ≡ next_change b = as_step-change (accepted b.machine b.past) (next_change b) in
+    let change : change_of x ≡ next_change b =
+    as_step-change (acceptance_due b.machine b.past) (next_change b) in
     let answer-is : (change_of x).answer ≡ answer = rw change (sym step.answer_is) in
     let sp-is : (change_of x).after.regs.sp ≡ new.machine.regs.sp =
     rw change (ap (λ (n : MachineState). n.regs.sp) (sym step.after_is)) in
@@ -175,7 +177,7 @@ stands_step old new b traffic answer left s did m =
     (rw s.request asked)
     (s.follows asked) in
     let Q : LabState → Type 0 = λ lab.
-    StandsAmid lab (stepped_board b) (traffic ++ operation_list (next_change b).operation) in
+    RepresentsDuringSlice lab (stepped_board b) (traffic ++ operation_list (next_change b).operation) in
     subst Q (sym m.rest) (search rules)
 
 -- ---- no step
@@ -192,9 +194,9 @@ no_operations devices past done none stands =
 -- the opcode is undefined exactly if the step answers Undefined
 pub finds_undefined : (old : LabState) (b : Board) (traffic : List PortOperation) (machine : MachineState)
     (devices : DeviceState) (opcode pc : ℕ)
-    → StandsAmid old b traffic
+    → RepresentsDuringSlice old b traffic
     → IsBoardStep b.past old.machine old.devices machine devices (stepped.Undefined opcode)
-    → pc ≡ old.machine.regs.pc → Some (outcome.End (end.Undefined opcode pc)) ≡ undefined b
+    → pc ≡ old.machine.regs.pc → Some (outcome.End (end.Undefined opcode pc)) ≡ end_by_undefined b
 finds_undefined old b traffic machine devices opcode pc s did at_pc =
     let P : MachineState → Type 0 =
     λ m. IsBoardStep b.past m old.devices machine devices (stepped.Undefined opcode) in
@@ -203,8 +205,8 @@ finds_undefined old b traffic machine devices opcode pc s did at_pc =
 
 pub finds_no_undefined : (old : LabState) (b : Board) (traffic : List PortOperation) (machine : MachineState)
     (devices : DeviceState) (answer : Stepped)
-    → StandsAmid old b traffic → IsBoardStep b.past old.machine old.devices machine devices answer
-    → ((opcode : ℕ) → answer ≡ stepped.Undefined opcode → ⊥) → None ≡ undefined b
+    → RepresentsDuringSlice old b traffic → IsBoardStep b.past old.machine old.devices machine devices answer
+    → ((opcode : ℕ) → answer ≡ stepped.Undefined opcode → ⊥) → None ≡ end_by_undefined b
 finds_no_undefined old b traffic machine devices answer s did other =
     let P : MachineState → Type 0 = λ m. IsBoardStep b.past m old.devices machine devices answer in
     let is = (subst P s.machine did).answer_is in
@@ -214,9 +216,9 @@ finds_no_undefined old b traffic machine devices answer s did other =
 -- it leaves the lab unchanged
 pub stands_undefined : (old : LabState) (b : Board) (traffic : List PortOperation) (machine : MachineState)
     (devices : DeviceState) (opcode : ℕ)
-    → StandsAmid old b traffic
+    → RepresentsDuringSlice old b traffic
     → IsBoardStep b.past old.machine old.devices machine devices (stepped.Undefined opcode)
-    → StandsAmid (record old { machine = machine; devices = devices }) b traffic
+    → RepresentsDuringSlice (record old { machine = machine; devices = devices }) b traffic
 stands_undefined old b traffic machine devices opcode s did =
     let P : MachineState → Type 0 =
     λ m. IsBoardStep b.past m old.devices machine devices (stepped.Undefined opcode) in
@@ -236,8 +238,8 @@ none_gone None = refl
 none_gone (Some f) = refl
 
 pub stands_on : (old : LabState) (b : Board) (request : Option StepRequest) (older : ℕ) (frame : Option Frame)
-    → older ≡ length old.frames → frame ≡ innermost old.frames → StandsFor old b
-    → StandsFor (record old {
+    → older ≡ length old.frames → frame ≡ innermost old.frames → RepresentsBoard old b
+    → RepresentsBoard (record old {
       run = Running;
       is_resumed = true;
       has_moved = false;
@@ -289,9 +291,10 @@ step-none [] m m' = refl
 step-none (Step s ∷ entries) m m' = refl
 step-none (Poke n n' ∷ entries) m m' = step-none entries m m'
 
--- the lab of a stopped run stands for the board whose machine was changed
-pub stands_poked : (old : LabState) (b : Board) (machine : MachineState) → StandsFor old b → b.run ≡ Stopped
-    → StandsFor (record old { machine = machine }) (changed_to machine b)
+-- the lab of a stopped run represents the board whose machine was changed
+pub stands_poked : (old : LabState) (b : Board) (machine : MachineState) → RepresentsBoard old b
+    → b.run ≡ Stopped
+    → RepresentsBoard (record old { machine = machine }) (changed_to machine b)
 stands_poked old b machine s is =
     let entry : Entry = Poke b.machine machine in
     let new : Board = changed_to machine b in

@@ -13,7 +13,7 @@ use Rattle.i80_exec.specs.Effect.{Outcome}
 use Rattle.i80_exec.specs.Step.{accepted_in}
 use Rattle.i80_exec.proofs.UndefinedLemmas.{IsDefined, Defines, not_defined, row-nothing, row-some}
 use Rattle.i80_devs.specs.Past.{Operation, answer, panel_after}
-use Rattle.lab_frames.specs.Steps.{accepted, acceptance_of, or_instruction, outcome, operations}
+use Rattle.lab_frames.specs.Steps.{acceptance_due, acceptance_of, or_instruction, outcome, operations}
 use Rattle.lab_frames.specs.Steps.{taken_or_done}
 
 pub defined : (answer : Stepped) → ((opcode : ℕ) → answer ≡ stepped.Undefined opcode → ⊥) → IsDefined answer
@@ -34,14 +34,14 @@ acceptance-defined (Some n) m = accepted-defined m.regs.interrupts n m
 
 -- no step is made: no request is accepted, and the opcode at PC is undefined
 pub record NoStep (past : List Operation) (m : MachineState) (opcode : ℕ) : Type 0 where
-  pub finds : (is_undefined (row_on m.board (byte_at m m.regs.pc)) && is_none (accepted m past)) ≡ true
+  pub finds : (is_undefined (row_on m.board (byte_at m m.regs.pc)) && is_none (acceptance_due m past)) ≡ true
   pub opcode_is : opcode ≡ byte_at m m.regs.pc
   pub after_is : (outcome m past).after ≡ m
   pub operation_is : (outcome m past).operation ≡ None
   pub operations_are : operations m past ≡ []
 
 no_step_by : (a : Option Outcome) (past : List Operation) (m : MachineState) (opcode : ℕ)
-    → accepted m past ≡ a → IfSome a Defines
+    → acceptance_due m past ≡ a → IfSome a Defines
     → stepped.Undefined opcode ≡ (or_instruction a past m).answer → NoStep past m opcode
 no_step_by (Some o) past m opcode is-a defined is = absurd (not_defined o opcode is defined)
 no_step_by None past m opcode is-a defined is =
@@ -61,7 +61,7 @@ pub no_step : (past : List Operation) (m : MachineState) (opcode : ℕ)
     → stepped.Undefined opcode ≡ (outcome m past).answer
     → NoStep past m opcode
 no_step past m opcode is =
-    no_step_by (accepted m past) past m opcode refl (acceptance-defined (panel_after past).latched m) is
+    no_step_by (acceptance_due m past) past m opcode refl (acceptance-defined (panel_after past).latched m) is
 
 -- ---- if the answer is another
 
@@ -76,5 +76,5 @@ step_by None past m defined =
     rw (row-some (row_on m.board (byte_at m m.regs.pc)) (answer (panel_after past)) m defined) refl
 
 pub some_step : (past : List Operation) (m : MachineState) → IsDefined (outcome m past).answer
-    → (is_undefined (row_on m.board (byte_at m m.regs.pc)) && is_none (accepted m past)) ≡ false
-some_step past m defined = step_by (accepted m past) past m defined
+    → (is_undefined (row_on m.board (byte_at m m.regs.pc)) && is_none (acceptance_due m past)) ≡ false
+some_step past m defined = step_by (acceptance_due m past) past m defined

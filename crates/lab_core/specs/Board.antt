@@ -5,7 +5,7 @@ use Rattle.i80_exec.specs.Effect.{Outcome}
 use Rattle.i80_devs.specs.Past.{Operation}
 use Rattle.asm_build.specs.Reading.{Entries}
 use Rattle.lab_frames.specs.Live.{BoardStep, Instruction, Acceptance, Change, Entry, Step}
-use Rattle.lab_frames.specs.Steps.{accepted, outcome, operations}
+use Rattle.lab_frames.specs.Steps.{acceptance_due, outcome, operations}
 use Rattle.lab_image.specs.Loads.{Load}
 use Rattle.lab_image.specs.declared.lists.BreakpointList.{BreakpointList}
 use Rattle.lab_core.specs.declared.run_state.RunState.{RunState}
@@ -62,11 +62,11 @@ as_step None change = Instruction change
 
 -- the next step
 abbrev pub next_step : Board → BoardStep
-next_step b = as_step (accepted b.machine b.past) (next_change b)
+next_step b = as_step (acceptance_due b.machine b.past) (next_change b)
 
 -- the board after the next step
-abbrev pub stepped : Board → Board
-stepped b = record b {
+abbrev pub after_next_step : Board → Board
+after_next_step b = record b {
   machine = (next_change b).after;
   past = b.past ++ operations b.machine b.past;
   trace = b.trace ++ Step (next_step b) ∷ [];

@@ -1,14 +1,14 @@
 -- Changes of the machine by hand, in any state of the run.
 use Rattle.std.specs.Prelude.{ℕ, ◌+◌, List, [], ◌∷◌, None}
 use Rattle.i80_exec.specs.declared.registers.Registers.{Registers}
-use Rattle.i80_exec.specs.State.{MachineState, stored, with_regs}
+use Rattle.i80_exec.specs.State.{MachineState, with_byte, with_regs}
 use Rattle.lab_core.specs.Board.{Board}
 use Rattle.lab_core.specs.Events.{changed_to}
 
 -- the machine with these bytes from an address on, wrapping from FFFFH to 0000H
 abbrev pub with_bytes : ℕ → List ℕ → MachineState → MachineState
 with_bytes address [] m = m
-with_bytes address (byte ∷ bytes) m = with_bytes (address + 1) bytes (stored m address byte)
+with_bytes address (byte ∷ bytes) m = with_bytes (address + 1) bytes (with_byte m address byte)
 
 abbrev pub after_write : ℕ → List ℕ → Board → Board
 after_write address bytes b = changed_to (with_bytes address bytes b.machine) b

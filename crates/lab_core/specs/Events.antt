@@ -2,7 +2,7 @@
 use Rattle.std.specs.Prelude.{◌≡◌, ℕ, ◌≤◌, List, [], ◌∷◌, ◌++◌, length, map, Bool, true, false, ◌&&◌, Option}
 use Rattle.std.specs.Prelude.{Some, None, Result, Ok, Err, is_some, nat_lt, nat_le, if◌then◌else◌}
 use Rattle.i80_rows.specs.declared.board.Board.{Board as BoardOption}
-use Rattle.i80_exec.specs.State.{MachineState, with_board, with_pc, power_on, loaded as with_image}
+use Rattle.i80_exec.specs.State.{MachineState, with_board, with_pc, power_on, with_image_bytes as with_image}
 use Rattle.i80_devs.specs.Past.{Operation, Typed, Switches, Press, panel_after}
 use Rattle.asm_syntax.specs.declared.fault.AsmFault.TheVariants.{At}
 use Rattle.asm_syntax.specs.Outcome.{CellFault, ◌>>=◌}
@@ -41,32 +41,32 @@ use Rattle.lab_core.specs.Slices.{IsSlice, after_steps, traffic_of, left_by}
 use Rattle.lab_core.specs.SliceEnds.{slice_from, sliced_at}
 
 -- the answer to an event and the board after it, or the error
-abbrev pub Given : Type 0
-Given = Result (Answer × Board) EventFault
+abbrev pub EventResult : Type 0
+EventResult = Result (Answer × Board) EventFault
 
 -- ---- states of the run
 
-abbrev pub without_run : RunState → Given → Given
+abbrev pub without_run : RunState → EventResult → EventResult
 without_run NoRun given = given
 without_run Running given = Err Busy
 without_run Stopped given = Err Busy
 
-abbrev pub with_run : RunState → Given → Given
+abbrev pub with_run : RunState → EventResult → EventResult
 with_run NoRun given = Err NotRunning
 with_run Running given = given
 with_run Stopped given = given
 
-abbrev pub while_running : RunState → Given → Given
+abbrev pub while_running : RunState → EventResult → EventResult
 while_running NoRun given = Err NotRunning
 while_running Running given = given
 while_running Stopped given = Err NotRunning
 
-abbrev pub while_stopped : RunState → Given → Given
+abbrev pub while_stopped : RunState → EventResult → EventResult
 while_stopped NoRun given = Err NotStopped
 while_stopped Running given = Err NotStopped
 while_stopped Stopped given = given
 
-abbrev pub while_attached : Bool → Given → Given
+abbrev pub while_attached : Bool → EventResult → EventResult
 while_attached true given = given
 while_attached false given = Err NotAttached
 
@@ -91,8 +91,8 @@ with_cell s place m b =
     record loaded { sources = kept_at place s b.sources }
 
 -- what a text assembles to with the symbols of earlier cells
-abbrev pub assembled : Entries → List ℕ → Result Meaning CellFault
-assembled kept text = do
+abbrev pub cell_meaning : Entries → List ℕ → Result Meaning CellFault
+cell_meaning kept text = do
   statements ← statements_of text
   built_of kept statements
 
@@ -101,21 +101,21 @@ or_source (Ok x) = Ok x
 or_source (Err fault) = Err (refused_source fault)
 
 -- the load of a cell that assembles to this, or has this fault
-abbrev pub loaded_as : Result Meaning CellFault → Source → Board → Given
+abbrev pub loaded_as : Result Meaning CellFault → Source → Board → EventResult
 loaded_as cell s b = do
   place ← or_source (place_of s b.sources)
   meaning ← or_assembly cell
   Ok (answer.Loaded meaning.output.start, with_cell s place meaning b)
 
 -- a text stored under its path and not assembled
-abbrev pub dumped : Source → Board → Given
-dumped s b = do
+abbrev pub dump_result : Source → Board → EventResult
+dump_result s b = do
   place ← or_source (place_of s b.sources)
   Ok (answer.Dumped, record b { sources = kept_at place s b.sources })
 
 -- a run from this address, with no live frame
-abbrev pub started : ℕ → Board → Board
-started address b = record b {
+abbrev pub after_start : ℕ → Board → Board
+after_start address b = record b {
   machine = with_pc b.machine address;
   run = Running;
   trace = [];
@@ -123,8 +123,8 @@ started address b = record b {
   request = None;
 }
 
-abbrev pub stopped : Board → Board
-stopped b = record b { run = Stopped; request = None }
+abbrev pub after_stop : Board → Board
+after_stop b = record b { run = Stopped; request = None }
 
 -- after a Resume, or with a request after a Step
 abbrev pub going_on : Option StepRequest → Board → Board
@@ -140,14 +140,14 @@ changed_to machine b = record b { machine = machine; trace = b.trace ++ Poke b.m
 
 -- The named place of a scope gets the value spelled by the text. The answer is the value as the scope
 -- shows it.
-abbrev pub poked : ℕ → List ℕ → List ℕ → Board → Given
-poked reference name value b = do
+abbrev pub poke_result : ℕ → List ℕ → List ℕ → Board → EventResult
+poke_result reference name value b = do
   place ← or_poke (place_named reference name)
   n ← or_poke (value_spelled place value)
   Ok (answer.Poked (text_at place n), changed_to (machine_with place n b.machine) b)
 
-abbrev pub ended : Board → Board
-ended b = record b { run = NoRun; request = None }
+abbrev pub after_end : Board → Board
+after_end b = record b { run = NoRun; request = None }
 
 -- a reset machine keeps its treatment of undefined opcodes
 abbrev pub machine_reset : MachineState → MachineState
@@ -175,33 +175,33 @@ with_option option b = record b { machine = with_board b.machine option }
 abbrev pub is_line : List ℕ → ℕ → Bool
 is_line text line = nat_le 1 line && nat_le line (line_count text)
 
-abbrev pub verified : List ℕ → ℕ → Breakpoint
-verified text line = record { line = line; is_verified = is_line text line }
+abbrev pub breakpoint_at : List ℕ → ℕ → Breakpoint
+breakpoint_at text line = record { line = line; is_verified = is_line text line }
 
-abbrev pub with_source : Option (ℕ × List ℕ) → (ℕ → List ℕ → Given) → Given
+abbrev pub with_source : Option (ℕ × List ℕ) → (ℕ → List ℕ → EventResult) → EventResult
 with_source None given = Err NoSource
 with_source (Some (number, text)) given = given number text
 
-abbrev pub with_breakpoints : List ℕ → List ℕ → Board → Given
+abbrev pub with_breakpoints : List ℕ → List ℕ → Board → EventResult
 with_breakpoints path lines b =
     with_source (source_at b.sources path) (λ number text.
     Ok (
-      answer.Breakpoints (map (verified text) lines),
+      answer.Breakpoints (map (breakpoint_at text) lines),
       record b { breakpoints = with_lines number lines b.breakpoints },
     ))
 
-abbrev pub attached : Board → Board
-attached b = record b { is_attached = true }
+abbrev pub after_attach : Board → Board
+after_attach b = record b { is_attached = true }
 
 -- a stopped run continues
-abbrev pub unstopped : RunState → RunState
-unstopped NoRun = NoRun
-unstopped Running = Running
-unstopped Stopped = Running
+abbrev pub resumed_run : RunState → RunState
+resumed_run NoRun = NoRun
+resumed_run Running = Running
+resumed_run Stopped = Running
 
 -- A Detach doesn't count as a Resume.
-abbrev pub detached : Board → Board
-detached b = record b { is_attached = false; breakpoints = []; request = None; run = unstopped b.run }
+abbrev pub after_detach : Board → Board
+after_detach b = record b { is_attached = false; breakpoints = []; request = None; run = resumed_run b.run }
 
 abbrev pub is_stopped : RunState → Bool
 is_stopped NoRun = false
@@ -222,7 +222,7 @@ parts_of b = record {
   is_stopped = is_stopped b.run;
 }
 
-abbrev pub as_answer : Result Shown ViewFault → Board → Given
+abbrev pub as_answer : Result Shown ViewFault → Board → EventResult
 as_answer (Ok s) b = Ok (answer.Shown s, b)
 as_answer (Err fault) b = Err (refused_view fault)
 
@@ -230,39 +230,40 @@ abbrev pub with_operation : Operation → Board → Board
 with_operation o b = record b { past = b.past ++ o ∷ [] }
 
 -- the buttons are 0 to 7, and at most one request is latched
-abbrev pub pressed : ℕ → Board → Given
-pressed n b =
+abbrev pub press_result : ℕ → Board → EventResult
+press_result n b =
     if nat_lt 7 n then Err Vector else
     if is_some (panel_after b.past).latched then Err Latched else
     Ok (answer.Accepted, with_operation (Press n) b)
 
 -- ---- the answer to each event, and the board after it
 
-abbrev pub given : Event → Board → Given
-given (event.Load path text) b =
-    without_run b.run (loaded_as (assembled b.symbols text) (record { path = path; text = text }) b)
-given (event.Dump path text) b = dumped (record { path = path; text = text }) b
-given (event.Start address) b = without_run b.run (Ok (answer.Started, started address b))
-given (event.Slice n) b = while_running b.run (Ok (sliced_at b (slice_from n 0 b)))
-given event.Pause b = while_attached b.is_attached (while_running b.run (Ok (answer.Accepted, stopped b)))
-given event.Resume b = while_stopped b.run (Ok (answer.Accepted, going_on None b))
-given (event.Step request) b = while_stopped b.run (Ok (answer.Accepted, going_on (Some request) b))
-given (event.Poke reference name value) b = while_stopped b.run (poked reference name value b)
-given event.Interrupt b = with_run b.run (Ok (answer.Interrupted, ended b))
-given event.Reset b = Ok (answer.Reset, reset b)
-given (event.SetBoard option) b = without_run b.run (Ok (answer.BoardSet, with_option option b))
-given (event.SetBreakpoints path lines) b = with_breakpoints path lines b
-given event.Attach b = Ok (answer.Accepted, attached b)
-given event.Detach b = Ok (answer.Accepted, detached b)
-given (event.Typed bytes) b = Ok (answer.Accepted, with_operation (Typed bytes) b)
-given (event.Switches byte) b = Ok (answer.Accepted, with_operation (Switches byte) b)
-given (event.Press n) b = pressed n b
-given (event.Show view) b = as_answer (view_of view (parts_of b)) b
+abbrev pub result_of : Event → Board → EventResult
+result_of (event.Load path text) b =
+    without_run b.run (loaded_as (cell_meaning b.symbols text) (record { path = path; text = text }) b)
+result_of (event.Dump path text) b = dump_result (record { path = path; text = text }) b
+result_of (event.Start address) b = without_run b.run (Ok (answer.Started, after_start address b))
+result_of (event.Slice n) b = while_running b.run (Ok (sliced_at b (slice_from n 0 b)))
+result_of event.Pause b =
+    while_attached b.is_attached (while_running b.run (Ok (answer.Accepted, after_stop b)))
+result_of event.Resume b = while_stopped b.run (Ok (answer.Accepted, going_on None b))
+result_of (event.Step request) b = while_stopped b.run (Ok (answer.Accepted, going_on (Some request) b))
+result_of (event.Poke reference name value) b = while_stopped b.run (poke_result reference name value b)
+result_of event.Interrupt b = with_run b.run (Ok (answer.Interrupted, after_end b))
+result_of event.Reset b = Ok (answer.Reset, reset b)
+result_of (event.SetBoard option) b = without_run b.run (Ok (answer.BoardSet, with_option option b))
+result_of (event.SetBreakpoints path lines) b = with_breakpoints path lines b
+result_of event.Attach b = Ok (answer.Accepted, after_attach b)
+result_of event.Detach b = Ok (answer.Accepted, after_detach b)
+result_of (event.Typed bytes) b = Ok (answer.Accepted, with_operation (Typed bytes) b)
+result_of (event.Switches byte) b = Ok (answer.Accepted, with_operation (Switches byte) b)
+result_of (event.Press n) b = press_result n b
+result_of (event.Show view) b = as_answer (view_of view (parts_of b)) b
 
 -- ---- events as a relation
 
 -- a refused event leaves the board unchanged
-abbrev pub Gives : Board → Given → Result Answer EventFault → Board → Type 0
+abbrev pub Gives : Board → EventResult → Result Answer EventFault → Board → Type 0
 Gives b (Ok (a, b')) reply new = (reply ≡ Ok a) × (new ≡ b')
 Gives b (Err r) reply new = (reply ≡ Err r) × (new ≡ b)
 
@@ -290,7 +291,7 @@ Loads s b reply new =
 abbrev pub Applies : Board → Event → Result Answer EventFault → Board → Type 0
 Applies b (event.Load path text) reply new = Loads (record { path = path; text = text }) b reply new
 Applies b (event.Slice n) reply new = SlicesRun b.run n b reply new
-Applies b event reply new = Gives b (given event b) reply new
+Applies b event reply new = Gives b (result_of event b) reply new
 
 -- the events, in order, have these replies
 abbrev pub Runs : Board → List Event → List (Result Answer EventFault) → Board → Type 0

@@ -1,4 +1,4 @@
--- Which boards a lab stands for.
+-- Which boards a lab represents.
 use Rattle.std.specs.Prelude.{◌≡◌, ◌≢◌, ◌<◌, ◌≤◌, ◌+◌, ◌==◌, ℕ, List, [], ◌++◌, length, min, Bool, true}
 use Rattle.std.specs.Prelude.{false, Option, Some, None, IsSome, is_some, unwrap_or, Result, Ok, Err, ◌⊎◌}
 use Rattle.std.specs.List.{filter}
@@ -31,7 +31,7 @@ use Rattle.lab_core.specs.declared.event.Event.{Event}
 use Rattle.lab_core.specs.declared.answer.Answer.{Answer}
 use Rattle.lab_core.specs.declared.fault.EventFault.{EventFault}
 use Rattle.lab_core.specs.declared.fault.EventFault.TheVariants.{OutOfMemory}
-use Rattle.lab_core.specs.Board.{Board, next_change, stepped}
+use Rattle.lab_core.specs.Board.{Board, next_change, after_next_step}
 use Rattle.lab_core.specs.Stops.{since, earlier, has_step, innermost, is_gone, is_gone_after}
 use Rattle.lab_core.specs.Slices.{ends_in_halt, reason, reason_before_fetch, after_steps, traffic_of}
 use Rattle.lab_core.specs.declared.answer.SliceOutcome.{SliceOutcome}
@@ -69,16 +69,16 @@ pub record Follows (older : ℕ) (frame : Option Frame) (gone : Bool)
   pub gone_is : gone ≡ is_gone (innermost (live before)) later
 
 -- The lab represents the board, and `traffic` lists the port operations that haven't been taken yet.
-pub record StandsAmid (lab : LabState) (b : Board) (traffic : List PortOperation) : Type 0 where
+pub record RepresentsDuringSlice (lab : LabState) (b : Board) (traffic : List PortOperation) : Type 0 where
   pub machine : lab.machine ≡ b.machine
-  pub devices : devices.StandsFor lab.devices b.past
+  pub devices : devices.RepresentsPast lab.devices b.past
   pub traffic_is : lab.devices.operations ≡ traffic
   pub frames : lab.frames ≡ live b.trace
-  pub origins : origins.StandsFor lab.origins b.loads
+  pub origins : origins.GivesOrigins lab.origins b.loads
   pub symbols : lab.symbols ≡ b.symbols
   pub sources : lab.sources ≡ b.sources
   pub lists : lab.breakpoints.lists ≡ b.breakpoints
-  pub met : breakpoints.StandsFor lab.breakpoints b.loads
+  pub met : breakpoints.MarksBreakpoints lab.breakpoints b.loads
   pub attached : lab.is_attached ≡ b.is_attached
   pub run : lab.run ≡ b.run
   pub is_halted : lab.is_halted ≡ ends_in_halt b.trace
@@ -93,20 +93,22 @@ pub record StandsAmid (lab : LabState) (b : Board) (traffic : List PortOperation
 
 -- ---- what steps and queries do to a lab
 
--- for every board the old lab stands for, the new lab stands for it one step later
-abbrev pub Advances : LabState → LabState → Type 0
-Advances old new =
-    (b : Board) (traffic : List PortOperation) → StandsAmid old b traffic
-    → StandsAmid new (stepped b) (traffic ++ operation_list (next_change b).operation)
+-- for every board the old lab represents, the new lab represents it one step later
+abbrev pub OneStepOn : LabState → LabState → Type 0
+OneStepOn old new =
+    (b : Board) (traffic : List PortOperation) → RepresentsDuringSlice old b traffic
+    → RepresentsDuringSlice new (after_next_step b) (traffic ++ operation_list (next_change b).operation)
 
--- the new lab stands for every board the old one did
-abbrev pub Keeps : LabState → LabState → Type 0
-Keeps old new =
-    (b : Board) (traffic : List PortOperation) → StandsAmid old b traffic → StandsAmid new b traffic
+-- the new lab represents every board the old one did
+abbrev pub SameBoard : LabState → LabState → Type 0
+SameBoard old new =
+    (b : Board) (traffic : List PortOperation) → RepresentsDuringSlice old b traffic
+    → RepresentsDuringSlice new b traffic
 
--- `found` is the value of `f` on every board the lab stands for
-abbrev pub Finds : {A : Type 0} → (Board → A) → A → LabState → Type 0
-Finds f found lab = (b : Board) (traffic : List PortOperation) → StandsAmid lab b traffic → found ≡ f b
+-- `found` is the value of `f` on every board the lab represents
+abbrev pub Computes : {A : Type 0} → (Board → A) → A → LabState → Type 0
+Computes f found lab = (b : Board) (traffic : List PortOperation) → RepresentsDuringSlice lab b traffic
+    → found ≡ f b
 
 -- if not watched, there is neither a debugger nor a pending Step
 abbrev pub Watches : Bool → Bool → Option StepRequest → Type 0
@@ -132,16 +134,16 @@ amid lab machine context = record lab {
 }
 
 -- the three above, for every lab with this machine and context
-abbrev pub AdvancesIn : MachineState → Context → MachineState → Context → Type 0
-AdvancesIn machine context machine' context' =
-    (lab : LabState) → Advances (amid lab machine context) (amid lab machine' context')
+abbrev pub OneStepOnIn : MachineState → Context → MachineState → Context → Type 0
+OneStepOnIn machine context machine' context' =
+    (lab : LabState) → OneStepOn (amid lab machine context) (amid lab machine' context')
 
-abbrev pub KeepsIn : MachineState → Context → MachineState → Context → Type 0
-KeepsIn machine context machine' context' =
-    (lab : LabState) → Keeps (amid lab machine context) (amid lab machine' context')
+abbrev pub SameBoardIn : MachineState → Context → MachineState → Context → Type 0
+SameBoardIn machine context machine' context' =
+    (lab : LabState) → SameBoard (amid lab machine context) (amid lab machine' context')
 
-abbrev pub FindsIn : {A : Type 0} → (Board → A) → A → MachineState → Context → Type 0
-FindsIn f found machine context = (lab : LabState) → Finds f found (amid lab machine context)
+abbrev pub ComputesIn : {A : Type 0} → (Board → A) → A → MachineState → Context → Type 0
+ComputesIn f found machine context = (lab : LabState) → Computes f found (amid lab machine context)
 
 -- steps don't change what the debugger requested
 pub record KeepsAsked (old new : Context) : Type 0 where
@@ -178,17 +180,17 @@ LooksUp true context = context.is_attached ≡ true
 LooksUp false context = (context.is_attached ≡ false) ⊎ CanBeMet false context.breakpoints
 
 -- A burst is in progress: only what is fetched next can end the slice, the last instruction wasn't EI, and SP
--- is below the reach of the live frames. A step that answers Done and leaves SP there is quiet: it changes
+-- is below the frame floor. A step that answers Done and leaves SP there is quiet: it changes
 -- nothing but the machine and the devices.
-pub record IsInBurst (reach : ℕ) (machine : MachineState) (context : Context) : Type 0 where
+pub record IsInBurst (frame_floor : ℕ) (machine : MachineState) (context : Context) : Type 0 where
   pub only_fetch : OnlyFetchCanStop context
   pub settled : is_arming machine.regs.interrupts ≡ false
-  pub within : machine.regs.sp < reach
-  pub above : (sp : ℕ) → sp < reach → AtLeast sp context.frames
+  pub within : machine.regs.sp < frame_floor
+  pub above : (sp : ℕ) → sp < frame_floor → AtLeast sp context.frames
 
 -- how a step of a burst ended the run, if it did
 abbrev pub ending_of : BurstStep → Option SliceOutcome
-ending_of (Within reach) = None
+ending_of (Within frame_floor) = None
 ending_of Last = None
 ending_of (Ended outcome) = Some outcome
 
@@ -197,12 +199,12 @@ abbrev pub IsLast : Kind → Type 0
 IsLast kind = (kind ≡ Armed) ⊎ (kind ≡ Halted)
 
 -- A burst continues after a step of this kind that left SP at `sp`: it was neither EI nor HLT, no pending
--- Step is done, and SP is below the reach of the live frames.
-pub record GoesOn (kind : Kind) (sp reach : ℕ) (context : Context) : Type 0 where
+-- Step is done, and SP is below the frame floor.
+pub record GoesOn (kind : Kind) (sp frame_floor : ℕ) (context : Context) : Type 0 where
   pub not_last : IsLast kind → ⊥
   pub undone : is_step_done context.request context ≡ false
-  pub within : sp < reach
-  pub above : (low : ℕ) → low < reach → AtLeast low context.frames
+  pub within : sp < frame_floor
+  pub above : (low : ℕ) → low < frame_floor → AtLeast low context.frames
 
 -- A step with this answer was made, with PC at `site` before and SP at `sp` after it: the context's frames
 -- and what a pending Step is decided by are updated.
@@ -229,32 +231,32 @@ pub record IsNotMade (answer : Stepped) (site : ℕ) (outcome : SliceOutcome) (o
 
 -- the update of the context after a step of a burst with this answer
 abbrev pub Owed : Stepped → ℕ → ℕ → Context → Context → BurstStep → Type 0
-Owed answer site sp old new (Within reach) = IsMade answer site sp old new
+Owed answer site sp old new (Within frame_floor) = IsMade answer site sp old new
 Owed answer site sp old new Last = IsMade answer site sp old new
 Owed answer site sp old new (Ended outcome) = IsNotMade answer site outcome old new
 
--- The lab stands for the board after `made` steps. There was no reason to stop before any of them, and
+-- The lab represents the board after `made` steps. There was no reason to stop before any of them, and
 -- `found`, if there is one, is the first reason after them.
 pub record Makes (made : ℕ) (found : Option SliceOutcome) (b : Board) (traffic : List PortOperation)
     (lab : LabState) : Type 0 where
-  pub stands : StandsAmid lab (after_steps made b) (traffic ++ traffic_of made b)
+  pub stands : RepresentsDuringSlice lab (after_steps made b) (traffic ++ traffic_of made b)
   pub none_before : (j : ℕ) → j < made → reason (after_steps j b) ≡ None
   pub found_is : IfSome found (λ outcome. reason (after_steps made b) ≡ Some outcome)
 
--- the same from every board that the old lab stood for
+-- the same from every board that the old lab represented
 abbrev pub MakesIn : ℕ → Option SliceOutcome → MachineState → Context → MachineState → Context → Type 0
 MakesIn made found machine context machine' context' =
     (lab : LabState) (b : Board) (traffic : List PortOperation)
-    → StandsAmid (amid lab machine context) b traffic
+    → RepresentsDuringSlice (amid lab machine context) b traffic
     → Makes made found b traffic (amid lab machine' context')
 
 -- A burst of at most `most` steps may begin: there is space for their port operations, and there is no
 -- reason to stop but an undefined opcode. `is_asked` says whether a Step is pending.
-pub record BurstMayBegin (most reach : ℕ) (is_asked : Bool) (machine : MachineState) (context : Context)
+pub record BurstMayBegin (most frame_floor : ℕ) (is_asked : Bool) (machine : MachineState) (context : Context)
     : Type 0 where
   pub room : most ≤ context.devices.spare
-  pub ready : IsInBurst reach machine context
-  pub free : FindsIn reason_before_fetch None machine context
+  pub ready : IsInBurst frame_floor machine context
+  pub free : ComputesIn reason_before_fetch None machine context
   pub asked : is_some context.request ≡ is_asked
 
 -- The result of at most `most` steps, from an old machine and context to new ones: how many were made, and
@@ -272,29 +274,30 @@ pub record MakesAtMost (most : ℕ) (result : ℕ × Option SliceOutcome) (old n
 -- ---- events
 
 -- the same between events, when every port operation has been taken
-abbrev pub StandsFor : LabState → Board → Type 0
-StandsFor lab b = StandsAmid lab b []
+abbrev pub RepresentsBoard : LabState → Board → Type 0
+RepresentsBoard lab b = RepresentsDuringSlice lab b []
 
--- From every board the old lab stands for, the event gives this reply and a board the new lab stands for,
+-- From every board the old lab represents, the event gives this reply and a board the new lab represents,
 -- unless it ran out of memory.
 abbrev pub AppliesTo : LabState → Event → Result Answer EventFault → LabState → Type 0
 AppliesTo old event reply new =
-    (b : Board) → StandsFor old b → reply ≢ Err OutOfMemory
-    → (b' : Board) × Applies b event reply b' × StandsFor new b'
+    (b : Board) → RepresentsBoard old b → reply ≢ Err OutOfMemory
+    → (b' : Board) × Applies b event reply b' × RepresentsBoard new b'
 
 -- the same for a list of events
 abbrev pub RunsOn : LabState → List Event → List (Result Answer EventFault) → LabState → Type 0
 RunsOn old events replies new =
-    (b : Board) → StandsFor old b → (b' : Board) × Runs b events replies b' × StandsFor new b'
+    (b : Board) → RepresentsBoard old b → (b' : Board) × Runs b events replies b' × RepresentsBoard new b'
 
--- The result is the function's, and the lab stands for the board it returns, or, if it refuses, for the
+-- The result is the function's, and the lab represents the board it returns, or, if it refuses, for the
 -- old one.
 abbrev pub Did : {A : Type 0} → Board → Result (A × Board) EventFault → Result A EventFault → LabState
     → Type 0
-Did b (Ok (x, b')) result new = (result ≡ Ok x) × StandsFor new b'
-Did b (Err fault) result new = (result ≡ Err fault) × StandsFor new b
+Did b (Ok (x, b')) result new = (result ≡ Ok x) × RepresentsBoard new b'
+Did b (Err fault) result new = (result ≡ Err fault) × RepresentsBoard new b
 
--- the same for every board the old lab stands for, unless memory ran out
+-- the same for every board the old lab represents, unless memory ran out
 abbrev pub Does : {A : Type 0} → (Board → Result (A × Board) EventFault) → LabState → Result A EventFault
     → LabState → Type 0
-Does f old result new = (b : Board) → StandsFor old b → result ≢ Err OutOfMemory → Did b (f b) result new
+Does f old result new = (b : Board) → RepresentsBoard old b → result ≢ Err OutOfMemory
+    → Did b (f b) result new

@@ -20,7 +20,7 @@ use Rattle.lab_core.specs.Board.{Board}
 use Rattle.lab_core.specs.Slices.{after_steps}
 use Rattle.lab_core.specs.Events.{Applies}
 use Rattle.lab_core.specs.SliceEnds.{traffic_in}
-use Rattle.lab_core.specs.Labs.{LabState, StandsAmid, StandsFor, amid}
+use Rattle.lab_core.specs.Labs.{LabState, RepresentsDuringSlice, RepresentsBoard, amid}
 
 -- what a contract sees of marks: whether each address is marked, the watched places, and whether the last
 -- slice ended at a mark
@@ -89,11 +89,11 @@ abbrev pub steps_in : Answer → ℕ
 steps_in (answer.Sliced k traffic ending) = k
 steps_in _ = 0
 
--- From every board the old lab stands for, this is the slice of as many steps as reach the first mark.
+-- From every board the old lab represents, this is the slice of as many steps as reach the first mark.
 abbrev pub SlicesTo : MarksState → ℕ → LabState → Result Answer EventFault → LabState → Type 0
 SlicesTo marks n old reply new =
-    (b : Board) → StandsFor old b → reply ≢ Err OutOfMemory
-    → (b' : Board) × Applies b (Slice (first_mark marks n b)) reply b' × StandsFor new b'
+    (b : Board) → RepresentsBoard old b → reply ≢ Err OutOfMemory
+    → (b' : Board) × Applies b (Slice (first_mark marks n b)) reply b' × RepresentsBoard new b'
 
 -- a watched place, with its values in two machines
 abbrev pub watch_of : MachineState → MachineState → Watch → Watch
@@ -109,7 +109,7 @@ marks_after k b marks = record marks {
 -- From every board, the slice leaves these marks, and its answer has at most n port operations.
 abbrev pub Leaves : ℕ → LabState → Result Answer EventFault → MarksState → MarksState → Type 0
 Leaves n old reply marks marks' =
-    (b : Board) → StandsFor old b → IfOk reply
+    (b : Board) → RepresentsBoard old b → IfOk reply
     (λ answer. (marks' ≡ marks_after (steps_in answer) b marks) × (length (traffic_in answer) ≤ n))
 
 -- ---- during a slice
@@ -143,8 +143,8 @@ pub record Passes (marks : MarksState) (made : ℕ) (b : Board) : Type 0 where
   pub none : (j : ℕ) → 1 ≤ j → j < made → marked_at marks b j ≡ false
   pub kept : IsKept (after_steps (made - 1) b).machine marks
 
--- the same from every board that the lab stands for
+-- the same from every board that the lab represents
 abbrev pub PassesIn : MarksState → ℕ → MachineState → Context → Type 0
 PassesIn marks made machine context =
     (lab : LabState) (b : Board) (traffic : List PortOperation)
-    → StandsAmid (amid lab machine context) b traffic → Passes marks made b
+    → RepresentsDuringSlice (amid lab machine context) b traffic → Passes marks made b

@@ -6,8 +6,8 @@ use Rattle.lab_core.specs.declared.run_state.RunState.TheVariants.{NoRun, Runnin
 use Rattle.lab_core.specs.declared.event.Event.{Event}
 use Rattle.lab_core.specs.declared.event.Event.TheVariants as event
 use Rattle.lab_core.specs.Board.{Board}
-use Rattle.lab_core.specs.Events.{parts_of, poked, while_stopped}
-use Rattle.lab_core.specs.Labs.{LabState, StandsFor}
+use Rattle.lab_core.specs.Events.{parts_of, poke_result, while_stopped}
+use Rattle.lab_core.specs.Labs.{LabState, RepresentsBoard}
 
 -- Only if the board doesn't refuse the event; a Load may also fail so before its text's faults are known.
 abbrev pub Takes : Event → Board → Type 0
@@ -19,8 +19,8 @@ Takes (event.Slice n) b = b.run ≡ Running
 Takes (event.Show view) b = IsOk (view_of view (parts_of b))
 Takes event.Reset b = Unit {0}
 Takes (event.Typed bytes) b = Unit {0}
-Takes (event.Poke reference name value) b = IsOk (while_stopped b.run (poked reference name value b))
+Takes (event.Poke reference name value) b = IsOk (while_stopped b.run (poke_result reference name value b))
 Takes _ b = ⊥
 
 abbrev pub MayLackMemory : Event → LabState → Type 0
-MayLackMemory event lab = (b : Board) → StandsFor lab b → Takes event b
+MayLackMemory event lab = (b : Board) → RepresentsBoard lab b → Takes event b

@@ -16,8 +16,8 @@ use Rattle.lab_core.specs.declared.answer.SliceOutcome.{SliceOutcome}
 use Rattle.lab_core.specs.declared.answer.SliceOutcome.TheVariants as outcome
 use Rattle.lab_core.specs.declared.answer.End.TheVariants as end
 use Rattle.lab_core.specs.declared.run_state.RunState.TheVariants.{NoRun, Stopped}
-use Rattle.lab_frames.specs.Steps.{accepted}
-use Rattle.lab_core.specs.Board.{Board, next_change, stepped}
+use Rattle.lab_frames.specs.Steps.{acceptance_due}
+use Rattle.lab_core.specs.Board.{Board, next_change, after_next_step}
 use Rattle.lab_core.specs.Stops.{at_breakpoint, complete}
 
 -- ---- the reasons to stop
@@ -42,8 +42,8 @@ is_on Arming = false
 is_on On = true
 
 -- after HLT with interrupts off, the run ends
-abbrev pub halted : Board → Option SliceOutcome
-halted b =
+abbrev pub end_by_halt : Board → Option SliceOutcome
+end_by_halt b =
     if ends_in_halt b.trace && is_off b.machine.regs.interrupts
     then Some (outcome.End end.Halted) else None
 
@@ -54,15 +54,15 @@ waiting b =
     then Some outcome.Waiting else None
 
 -- if the opcode at PC is undefined on this board and no request is accepted before it, the run ends
-abbrev pub undefined : Board → Option SliceOutcome
-undefined b =
+abbrev pub end_by_undefined : Board → Option SliceOutcome
+end_by_undefined b =
     let opcode = byte_at b.machine b.machine.regs.pc in
-    if is_undefined (row_on b.machine.board opcode) && is_none (accepted b.machine b.past)
+    if is_undefined (row_on b.machine.board opcode) && is_none (acceptance_due b.machine b.past)
     then Some (outcome.End (end.Undefined opcode b.machine.regs.pc)) else None
 
 -- the first reason of those that are checked after a slice's last step too
 abbrev pub reason_after_step : Board → Option SliceOutcome
-reason_after_step b = option_or (halted b) (option_or (at_breakpoint b) (complete b))
+reason_after_step b = option_or (end_by_halt b) (option_or (at_breakpoint b) (complete b))
 
 -- the first reason of those that are known before the opcode at PC is fetched
 abbrev pub reason_before_fetch : Board → Option SliceOutcome
@@ -70,13 +70,13 @@ reason_before_fetch b = option_or (reason_after_step b) (waiting b)
 
 -- the first reason of all to make no further step
 abbrev pub reason : Board → Option SliceOutcome
-reason b = option_or (reason_after_step b) (option_or (waiting b) (undefined b))
+reason b = option_or (reason_after_step b) (option_or (waiting b) (end_by_undefined b))
 
 -- ---- the slice
 
 abbrev pub after_steps : ℕ → Board → Board
 after_steps zero b = b
-after_steps (suc k) b = stepped (after_steps k b)
+after_steps (suc k) b = after_next_step (after_steps k b)
 
 -- the port operations of the first k steps
 abbrev pub traffic_of : ℕ → Board → List PortOperation

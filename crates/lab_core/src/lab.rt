@@ -33,7 +33,7 @@ use std::marker::Model;
 pub struct Lab {
     machine: Machine,
     /// Takes the machine's place while a burst works on the machine as a local value.
-    spare: Option<Machine>,
+    scratch: Option<Machine>,
     context: Context,
     symbols: Symbols,
     sources: Sources,
@@ -46,7 +46,7 @@ impl Drop for Lab {
     fn drop(self) {
         let Self {
             machine: _,
-            spare: _,
+            scratch: _,
             context: _,
             symbols: _,
             sources: _,
@@ -104,7 +104,7 @@ impl Model for Lab {
       is_gone = l.context.is_gone;
     } };
 
-    ghost invariant = { λ l. IsSome l.spare };
+    ghost invariant = { λ l. IsSome l.scratch };
 }
 
 impl Lab {
@@ -114,21 +114,21 @@ impl Lab {
     ghost use Rattle.lab_image.specs.Loads.{origin_of};
     ghost use Rattle.lab_views.specs.Code.{after_instructions};
     ghost use Rattle.lab_core.specs.Board.{Board, opening};
-    ghost use Rattle.lab_core.specs.Labs.{StandsFor};
+    ghost use Rattle.lab_core.specs.Labs.{RepresentsBoard};
 
     /// A board after power-on, with nothing loaded. Allocates everything that has a fixed size: two
     /// machines, the live frames, the list of texts and the breakpoint table.
     pub fn new(alloc: Global) -> Result<Lab, AllocError>
-        ensures { IfOk result (λ lab. StandsFor lab opening) }
+        ensures { IfOk result (λ lab. RepresentsBoard lab opening) }
     {
         let machine = Machine::new(alloc)?;
-        let spare = Machine::new(alloc)?;
+        let scratch = Machine::new(alloc)?;
         let frames = Frames::new(alloc)?;
         let sources = Sources::new(alloc)?;
         let breakpoints = Breakpoints::new(alloc)?;
         Ok(Lab {
             machine,
-            spare: Some(spare),
+            scratch: Some(scratch),
             context: Context {
                 devices: Devices::new(alloc),
                 frames,
@@ -152,56 +152,57 @@ impl Lab {
 
     /// The registers, flags and interrupt state.
     pub fn regs(&self) -> Registers
-        ensures { (b : Board) → StandsFor self.now b → result ≡ b.machine.regs }
+        ensures { (b : Board) → RepresentsBoard self.now b → result ≡ b.machine.regs }
     {
         self.machine.regs()
     }
 
     /// The byte at an address.
     pub fn peek(&self, address: u16) -> u8
-        ensures { (b : Board) → StandsFor self.now b → result ≡ byte_at b.machine address }
+        ensures { (b : Board) → RepresentsBoard self.now b → result ≡ byte_at b.machine address }
     {
         self.machine.peek(address)
     }
 
     /// The state of the run.
     pub fn run_state(&self) -> RunState
-        ensures { (b : Board) → StandsFor self.now b → result ≡ b.run }
+        ensures { (b : Board) → RepresentsBoard self.now b → result ≡ b.run }
     {
         self.run_state
     }
 
     /// The live frames of the last run.
     pub fn frames(&self) -> &Frames
-        ensures { (b : Board) → StandsFor self.now b → result.now ≡ live b.trace }
+        ensures { (b : Board) → RepresentsBoard self.now b → result.now ≡ live b.trace }
     {
         &self.context.frames
     }
 
     /// The console and the front panel.
     pub fn devices(&self) -> &Devices
-        ensures { (b : Board) → StandsFor self.now b → devices.StandsFor result.now b.past }
+        ensures { (b : Board) → RepresentsBoard self.now b → devices.RepresentsPast result.now b.past }
     {
         &self.context.devices
     }
 
     /// The symbols of the cells loaded so far.
     pub fn symbols(&self) -> &Symbols
-        ensures { (b : Board) → StandsFor self.now b → result.now ≡ b.symbols }
+        ensures { (b : Board) → RepresentsBoard self.now b → result.now ≡ b.symbols }
     {
         &self.symbols
     }
 
     /// The address `count` instructions after `address`, decoded as the code view does. Addresses wrap.
     pub fn after_instructions(&self, address: u16, count: u16) -> u16
-        ensures { (b : Board) → StandsFor self.now b → result ≡ after_instructions b.machine address count }
+        ensures { (b : Board) → RepresentsBoard self.now b
+            → result ≡ after_instructions b.machine address count }
     {
         after_instructions(&self.machine, address, count)
     }
 
     /// The source line that the byte at an address was loaded from.
     pub fn origin_at(&self, address: u16) -> Option<Origin>
-        ensures { (b : Board) → StandsFor self.now b → result ≡ origin_of b.loads address }
+        ensures { (b : Board) → RepresentsBoard self.now b → result ≡ origin_of b.loads address }
     {
         self.context.origins.at(address)
     }

@@ -4,15 +4,15 @@ ghost use Rattle.lab_core.specs.declared.event.Event.{Event};
 ghost use Rattle.lab_core.specs.declared.answer.Answer.{Answer};
 ghost use Rattle.lab_core.specs.declared.fault.EventFault.{EventFault};
 ghost use Rattle.lab_core.specs.Board.{Board};
-ghost use Rattle.lab_core.specs.Events.{Applies, Gives, Runs, given};
+ghost use Rattle.lab_core.specs.Events.{Applies, Gives, Runs, result_of};
 ghost use Rattle.lab_core.specs.Marks.{MarksState, IsFirstMark, first_mark};
 
 /// `Applies` and the function `given` agree, so every event on every board has exactly one answer.
 pub fn applies_as_given()
     ensures only { (b new : Board) (event : Event) (reply : Result Answer EventFault)
-        → Applies b event reply new → Gives b (given event b) reply new }
+        → Applies b event reply new → Gives b (result_of event b) reply new }
     ensures all { (b new : Board) (event : Event) (reply : Result Answer EventFault)
-        → Gives b (given event b) reply new → Applies b event reply new }
+        → Gives b (result_of event b) reply new → Applies b event reply new }
 {}
 
 /// A list of events has at most one list of answers on a board, and leaves one board.

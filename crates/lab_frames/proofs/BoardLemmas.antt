@@ -8,10 +8,10 @@ use Rattle.i80_exec.specs.declared.ports.PortOperation.TheVariants.{In, Out}
 use Rattle.i80_exec.specs.State.{MachineState}
 use Rattle.i80_exec.specs.Effect.{Outcome}
 use Rattle.i80_exec.specs.Step.{instruction, operation_list, state_after, IsOutcome, Performs}
-use Rattle.i80_devs.specs.Past.{Operation, Port, PanelState, DeviceState, StandsFor, answer, after}
+use Rattle.i80_devs.specs.Past.{Operation, Port, PanelState, DeviceState, RepresentsPast, answer, after}
 use Rattle.i80_devs.specs.Past.{panel_after, panel_next}
 use Rattle.lab_frames.specs.BoardSteps.{at_ports}
-use Rattle.lab_frames.specs.Steps.{accepted, acceptance_of, or_instruction, taken_or_done, IsBoardStep}
+use Rattle.lab_frames.specs.Steps.{acceptance_due, acceptance_of, or_instruction, taken_or_done, IsBoardStep}
 
 -- a step does one port operation at most
 pub few_operations : (o : Option PortOperation) → length (operation_list o) ≤ 1
@@ -32,7 +32,7 @@ panel_ported law past (Some p) = sym (law past (Port p))
 -- where no request is accepted, the instruction at PC is the step
 pub by_instruction : PanelLaw
     → (past : List Operation) (old new : MachineState) (devices devices' : DeviceState) (did : Stepped)
-    → accepted old past ≡ None → StandsFor devices past
+    → acceptance_due old past ≡ None → RepresentsPast devices past
     → IsOutcome (instruction (answer devices.panel) old) new did
     → Performs (instruction (answer devices.panel) old) (at_ports devices) (at_ports devices')
     → IsBoardStep past old devices new devices' did
@@ -59,8 +59,9 @@ stays_unlatched p (Some (Out port byte)) =
     cond_both (port == 2) (record p { lamps = byte }) p (λ q. q.latched ≡ p.latched) (λ _. refl) (λ _. refl)
 
 -- where none is latched none is accepted
-pub unlatched_accepts_none : (m : MachineState) (d : DeviceState) (past : List Operation) → StandsFor d past
-    → d.panel.latched ≡ None → accepted m past ≡ None
+pub unlatched_accepts_none : (m : MachineState) (d : DeviceState) (past : List Operation)
+    → RepresentsPast d past
+    → d.panel.latched ≡ None → acceptance_due m past ≡ None
 unlatched_accepts_none m d past stands unlatched =
     let latched : (panel_after past).latched ≡ None =
     ap (λ (p : PanelState). p.latched) (sym stands) ∙ unlatched in

@@ -336,7 +336,7 @@ at_least-newest sp bound (f ∷ rest) top falls low =
     let under : top.slot < f.slot = falls-last f.slot rest top falls.1 in
     (omega arith, at_least-newest sp f.slot rest top falls.1 low)
 
--- no slot is below an SP in reach of the newest
+-- no slot is below an SP below the frame floor
 pub last-above : (bound sp : ℕ) (inside fs : List Frame) (top : Frame)
     → slice_get inside (length inside - 1) ≡ Some top → inside ≡ fs → Falls bound inside → sp < top.slot + 1
     → AtLeast sp fs

@@ -7,7 +7,8 @@ use Rattle.std.specs.List.{filter}
 use Rattle.i80_exec.specs.declared.registers.Stepped.{Stepped}
 use Rattle.i80_exec.specs.State.{MachineState}
 use Rattle.lab_frames.specs.declared.frame.Frame.{Frame}
-use Rattle.lab_frames.specs.Live.{BoardStep, Entry, Step, Poke, change_of, ends, made, made_by, stays, live}
+use Rattle.lab_frames.specs.Live.{BoardStep, Entry, Step, Poke, change_of, ends, frames_by_entry, made_by}
+use Rattle.lab_frames.specs.Live.{stays, live}
 use Rattle.lab_frames.specs.Frames.{survivors, Advances}
 
 -- those of the frames that one more entry leaves
@@ -38,21 +39,22 @@ filter-stays-none (f ∷ fs) = ap (λ r. f ∷ r) (filter-stays-none fs)
 
 -- one more entry: the live frames that it leaves, and the one that it makes
 live-entry : (trace : List Entry) (entry : Entry)
-    → live (trace ++ entry ∷ []) ≡ spared entry (live trace) ++ made entry
-live-entry [] entry = rw (filter-stays-none (made entry)) (grind (arith, common_steps))
+    → live (trace ++ entry ∷ []) ≡ spared entry (live trace) ++ frames_by_entry entry
+live-entry [] entry = rw (filter-stays-none (frames_by_entry entry)) (grind (arith, common_steps))
 live-entry (first ∷ later) entry =
     rw (
-      filter-stays-entry later entry (made first),
+      filter-stays-entry later entry (frames_by_entry first),
       live-entry later entry,
-      filter-append (λ f. not (ends entry f)) (filter (stays later) (made first)) (live later),
+      filter-append (λ f. not (ends entry f)) (filter (stays later) (frames_by_entry first)) (live later),
     )
-    (sym (append_assoc (spared entry (filter (stays later) (made first))) (spared entry (live later))
-    (made entry)))
+    (sym (append_assoc (spared entry (filter (stays later) (frames_by_entry first))) (spared entry (live
+    later))
+    (frames_by_entry entry)))
 
 -- one more step
 pub live-step : (trace : List Entry) (step : BoardStep)
     → live (trace ++ Step step ∷ []) ≡ survivors (change_of step).answer (change_of step).after.regs.sp
-    (live trace) ++ made (Step step)
+    (live trace) ++ frames_by_entry (Step step)
 live-step trace step = live-entry trace (Step step)
 
 spared-poke : (before after : MachineState) (fs : List Frame) → spared (Poke before after) fs ≡ fs
@@ -83,11 +85,11 @@ pub live-append : (first later : List Entry)
 live-append [] later = refl
 live-append (x ∷ first) later =
     rw (
-      filter-stays-append first later (made x),
+      filter-stays-append first later (frames_by_entry x),
       live-append first later,
-      filter-append (stays later) (filter (stays first) (made x)) (live first),
+      filter-append (stays later) (filter (stays first) (frames_by_entry x)) (live first),
     )
-    (sym (append_assoc (filter (stays later) (filter (stays first) (made x)))
+    (sym (append_assoc (filter (stays later) (filter (stays first) (frames_by_entry x)))
     (filter (stays later) (live first)) (live later)))
 
 -- what the code makes of the frames is what the filter over one step more gives

@@ -4,14 +4,14 @@ use Rattle.i80_exec.specs.declared.registers.Kind.{Kind}
 use Rattle.i80_exec.specs.declared.registers.Stepped.{Stepped}
 use Rattle.i80_exec.specs.State.{MachineState}
 use Rattle.i80_exec.specs.Step.{answer_of, Settles, PortDevices, devices_by}
-use Rattle.i80_devs.specs.Past.{Operation, PanelState, DeviceState, StandsFor, after}
+use Rattle.i80_devs.specs.Past.{Operation, PanelState, DeviceState, RepresentsPast, after}
 use Rattle.i80_devs.specs.Past.{answer as port_answer}
 use Rattle.lab_frames.specs.Frames.{TellsSp}
 use Rattle.lab_frames.specs.Steps.{IsBoardStep}
 
 -- a step that reported this answer, from the one machine and devices to the other
 abbrev pub StepsBoard : MachineState × MachineState → DeviceState × DeviceState → Stepped → Type 0
-StepsBoard machine devices answer = (past : List Operation) → StandsFor devices.0 past
+StepsBoard machine devices answer = (past : List Operation) → RepresentsPast devices.0 past
     → IsBoardStep past machine.0 devices.0 machine.1 devices.1 answer
 
 -- A step of this kind without a request: SP is as its answer tells, there is room for at most one port

@@ -35,9 +35,9 @@ AtLeast low (f ∷ fs) = (low ≤ f.slot) × AtLeast low fs
 
 -- One above the slot of the newest frame, or 65536 if there is none: no slot is below an SP that is below
 -- this.
-abbrev pub reach_of : Option Frame → ℕ
-reach_of None = 65536
-reach_of (Some newest) = newest.slot + 1
+abbrev pub frame_floor_of : Option Frame → ℕ
+frame_floor_of None = 65536
+frame_floor_of (Some newest) = newest.slot + 1
 
 -- a return is from a slot at or below those of the frames
 abbrev pub ReturnsBelow : Stepped → List Frame → Type 0

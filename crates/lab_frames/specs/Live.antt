@@ -37,9 +37,9 @@ made_by (Called slot target) site = record { slot = slot; target = target; site 
 made_by answer site = []
 
 -- PC before the step is the site: the call instruction's address, or the PC that an acceptance pushes
-abbrev pub made : Entry → List Frame
-made (Step step) = made_by (change_of step).answer (change_of step).before.regs.pc
-made (Poke before after) = []
+abbrev pub frames_by_entry : Entry → List Frame
+frames_by_entry (Step step) = made_by (change_of step).answer (change_of step).before.regs.pc
+frames_by_entry (Poke before after) = []
 
 -- by a taken return from the slot, or by a call with a slot at or above it
 abbrev pub returned_or_covered : Stepped → ℕ → Bool
@@ -64,4 +64,4 @@ stays (entry ∷ later) frame = not (ends entry frame) && stays later frame
 -- the frames that these entries make and that no later one of them ends, oldest first
 abbrev pub live : List Entry → List Frame
 live [] = []
-live (entry ∷ later) = filter (stays later) (made entry) ++ live later
+live (entry ∷ later) = filter (stays later) (frames_by_entry entry) ++ live later

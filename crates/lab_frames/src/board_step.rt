@@ -1,9 +1,9 @@
 //! One step of the board.
 ghost use Rattle.std.specs.Prelude.{◌≡◌, ◌+◌, ◌≤◌, List, IfSome, IfNone, None, false};
 ghost use Rattle.i80_exec.specs.Step.{is_arming};
-ghost use Rattle.i80_devs.specs.Past.{Operation, StandsFor, Taken, Appends, SamePorts};
+ghost use Rattle.i80_devs.specs.Past.{Operation, RepresentsPast, Taken, Appends, SamePorts};
 ghost use Rattle.lab_frames.specs.Frames.{TellsSp};
-ghost use Rattle.lab_frames.specs.Steps.{accepted, IsBoardStep};
+ghost use Rattle.lab_frames.specs.Steps.{acceptance_due, IsBoardStep};
 ghost use Rattle.lab_frames.specs.BoardSteps.{StepsBoard, StepsWithoutRequest};
 
 use i80_devs::devices::Devices;
@@ -41,11 +41,11 @@ pub fn settled_step(machine: &mut Machine, devices: &mut Devices) -> Kind
 /// Accepts the latched request, if there is one and interrupts are on.
 #[inline]
 fn accept(machine: &mut Machine, devices: &mut Devices) -> Option<Stepped>
-    ensures taken { IfSome result (λ answer. (past : List Operation) → StandsFor devices.old past
+    ensures taken { IfSome result (λ answer. (past : List Operation) → RepresentsPast devices.old past
         → IsBoardStep past machine.old devices.old machine.new devices.new answer) }
     ensures sp { IfSome result (λ answer. TellsSp answer machine.old.regs.sp machine.new.regs.sp) }
-    ensures none { IfNone result ((past : List Operation) → StandsFor devices.old past
-        → accepted machine.old past ≡ None) }
+    ensures none { IfNone result ((past : List Operation) → RepresentsPast devices.old past
+        → acceptance_due machine.old past ≡ None) }
     ensures unchanged { IfNone result ((machine.new ≡ machine.old) × (devices.new ≡ devices.old)) }
     ensures spare { devices.new.spare ≡ devices.old.spare }
 {

@@ -3,7 +3,7 @@ ghost use Rattle.std.specs.Prelude.{◌≡◌, ℕ, ◌+◌, ◌<◌, ◌≤◌,
 ghost use Rattle.std.specs.Prelude.{slice_get, vec_len, vec_capacity};
 ghost use Rattle.lab_frames.specs.Live.{made_by, ended_by};
 ghost use Rattle.lab_frames.specs.Frames.{survivors, FollowsStep, Falls, AtLeast};
-ghost use Rattle.lab_frames.specs.Frames.{CallsAt, is_from_above, reach_of};
+ghost use Rattle.lab_frames.specs.Frames.{CallsAt, is_from_above, frame_floor_of};
 
 use crate::frame::Frame;
 use i80_exec::registers::Stepped;
@@ -93,8 +93,8 @@ impl Frames {
     /// One above the newest slot, or 65536 if no frame is live. A step that neither calls nor returns and
     /// leaves SP below this ends no frame.
     #[inline]
-    pub fn reach(&self) -> u32
-        ensures reach { result ≡ reach_of (slice_get (reverse self.now) 0) }
+    pub fn frame_floor(&self) -> u32
+        ensures frame_floor { result ≡ frame_floor_of (slice_get (reverse self.now) 0) }
         ensures above { (sp : ℕ) → sp < result → AtLeast sp self.now }
     {
         match self.frames.last() {

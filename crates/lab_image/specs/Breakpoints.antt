@@ -58,6 +58,6 @@ is_met_among lists all address =
     list_any (λ m. m.address == address && has_breakpoint lists m.source m.line) all
 
 -- after these loads, those addresses are set at which a breakpoint is met
-abbrev pub StandsFor : BreakpointState → List Load → Type 0
-StandsFor state loads =
+abbrev pub MarksBreakpoints : BreakpointState → List Load → Type 0
+MarksBreakpoints state loads =
     (address : ℕ) → address < 65536 → is_set state address ≡ is_met state.lists loads address

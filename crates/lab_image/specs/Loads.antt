@@ -55,10 +55,10 @@ pub record Fronts (source : ℕ) (rows later : List Row) (old new : List Span) :
   pub fewer : 0 < length later → length later < length rows
 
 -- the spans give each address the origin that these loads give it
-abbrev pub StandsFor : List Span → List Load → Type 0
-StandsFor spans loads =
+abbrev pub GivesOrigins : List Span → List Load → Type 0
+GivesOrigins spans loads =
     (address : ℕ) → address < 65536 → origin_in spans address ≡ origin_of loads address
 
 -- whatever was loaded before, this load comes after it
 abbrev pub Appends : Load → List Span → List Span → Type 0
-Appends load old new = (loads : List Load) → StandsFor old loads → StandsFor new (loads ++ load ∷ [])
+Appends load old new = (loads : List Load) → GivesOrigins old loads → GivesOrigins new (loads ++ load ∷ [])

@@ -32,12 +32,12 @@ impl Model for Breakpoints {
 }
 
 impl Breakpoints {
-    ghost use Rattle.lab_image.specs.Breakpoints.{with_lines, is_set, CanBeMet, StandsFor};
+    ghost use Rattle.lab_image.specs.Breakpoints.{with_lines, is_set, CanBeMet, MarksBreakpoints};
 
     /// No breakpoints. Allocates the room that the addresses need.
     pub fn new(alloc: Global) -> Result<Breakpoints, AllocError>
         ensures lists { IfOk result (λ b. b.lists ≡ []) }
-        ensures stands { IfOk result (λ b. (loads : List Load) → StandsFor b loads) }
+        ensures stands { IfOk result (λ b. (loads : List Load) → MarksBreakpoints b loads) }
     {
         let addresses = AddressSet::new(alloc)?;
         Ok(Breakpoints {
@@ -59,7 +59,7 @@ impl Breakpoints {
     #[inline]
     pub fn is_at(&self, address: u16) -> bool
         ensures set { result ≡ is_set self.now address }
-        ensures met { (loads : List Load) → StandsFor self.now loads
+        ensures met { (loads : List Load) → MarksBreakpoints self.now loads
             → result ≡ is_met self.now.lists loads address }
     {
         self.addresses.contains(address)
@@ -76,8 +76,8 @@ impl Breakpoints {
     /// Replaces the lines of a source by these, which may be none.
     pub fn set(&mut self, source: u32, lines: &[u32], origins: &Origins) -> Result<(), AllocError>
         ensures lists { OnOk result (self.new.lists ≡ with_lines source lines.now self.old.lists) }
-        ensures stands { OnOk result ((loads : List Load) → image.StandsFor origins.now loads
-            → StandsFor self.new loads) }
+        ensures stands { OnOk result ((loads : List Load) → image.GivesOrigins origins.now loads
+            → MarksBreakpoints self.new loads) }
         ensures err { OnErr result (self.new ≡ self.old) }
     {
         lists::set_lines(self.alloc, &mut self.lists, source, lines)?;
@@ -88,8 +88,8 @@ impl Breakpoints {
     /// Finds out again where breakpoints are met, after a load.
     pub fn refresh(&mut self, origins: &Origins)
         ensures lists { self.new.lists ≡ self.old.lists }
-        ensures stands { (loads : List Load) → image.StandsFor origins.now loads
-            → StandsFor self.new loads }
+        ensures stands { (loads : List Load) → image.GivesOrigins origins.now loads
+            → MarksBreakpoints self.new loads }
     {
         mark(&mut self.addresses, &self.lists, origins);
     }
@@ -97,7 +97,7 @@ impl Breakpoints {
     /// Removes all breakpoints.
     pub fn clear(&mut self)
         ensures lists { self.new.lists ≡ [] }
-        ensures stands { (loads : List Load) → StandsFor self.new loads }
+        ensures stands { (loads : List Load) → MarksBreakpoints self.new loads }
     {
         self.lists.clear();
         self.addresses.clear();
@@ -106,7 +106,7 @@ impl Breakpoints {
 
 // Makes the set of the addresses at which a breakpoint of these lists is met.
 fn mark(addresses: &mut AddressSet, lists: &[BreakpointList], origins: &Origins)
-    ensures { (loads : List Load) → image.StandsFor origins.now loads
+    ensures { (loads : List Load) → image.GivesOrigins origins.now loads
         → (a : ℕ) → a < 65536 → has addresses.new a ≡ is_met lists.now loads a }
 {
     addresses.clear();

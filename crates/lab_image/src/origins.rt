@@ -1,6 +1,6 @@
 //! Loads into the machine, and the origins that they leave.
 ghost use Rattle.std.specs.Prelude.{◌≡◌, [], List, OnOk, OnErr};
-ghost use Rattle.i80_exec.specs.State.{loaded};
+ghost use Rattle.i80_exec.specs.State.{with_image_bytes};
 
 use crate::mapped::MappedAddresses;
 use crate::origin::Origin;
@@ -30,12 +30,12 @@ impl Model for Origins {
 }
 
 impl Origins {
-    ghost use Rattle.lab_image.specs.Loads.{Load, load_of, origin_of, StandsFor, Appends};
+    ghost use Rattle.lab_image.specs.Loads.{Load, load_of, origin_of, GivesOrigins, Appends};
     ghost use Rattle.lab_image.specs.Mapped.{AreMapped};
 
     /// The origins before any load: no address has one.
     pub fn new(alloc: Global) -> Origins
-        ensures { StandsFor result [] }
+        ensures { GivesOrigins result [] }
     {
         Origins {
             spans: Vec::new(alloc),
@@ -53,7 +53,7 @@ impl Origins {
         source: u32,
         built: &Built,
     ) -> Result<(), AllocError>
-        ensures machine { OnOk result (machine.new ≡ loaded machine.old built.now.image.items) }
+        ensures machine { OnOk result (machine.new ≡ with_image_bytes machine.old built.now.image.items) }
         ensures past { OnOk result (Appends (load_of source built.now) self.old self.new) }
         ensures machine_err { OnErr result (machine.new ≡ machine.old) }
         ensures err { OnErr result (self.new ≡ self.old) }
@@ -68,7 +68,7 @@ impl Origins {
     /// The origin of an address: that of the last row that covers it, among those of all loads
     /// since the last `clear`, or since `new`.
     pub fn at(&self, address: u16) -> Option<Origin>
-        ensures { (loads : List Load) → StandsFor self.now loads
+        ensures { (loads : List Load) → GivesOrigins self.now loads
             → result ≡ origin_of loads address }
     {
         spans::origin_in(&self.spans, address)
@@ -76,14 +76,14 @@ impl Origins {
 
     /// The mapped addresses: those whose byte is the first of its statement.
     pub fn mapped_addresses(&self) -> MappedAddresses<'_>
-        ensures { (loads : List Load) → StandsFor self.now loads → AreMapped loads result }
+        ensures { (loads : List Load) → GivesOrigins self.now loads → AreMapped loads result }
     {
         MappedAddresses::new(&self.spans)
     }
 
     /// Forgets all loads. The bytes in the machine stay.
     pub fn clear(&mut self)
-        ensures { StandsFor self.new [] }
+        ensures { GivesOrigins self.new [] }
     {
         self.spans.clear();
     }
@@ -91,7 +91,7 @@ impl Origins {
 
 // Puts each byte at its address, in order.
 fn store_all(machine: &mut Machine, image: &[(u16, u8)])
-    ensures { machine.new ≡ loaded machine.old image.now }
+    ensures { machine.new ≡ with_image_bytes machine.old image.now }
 {
     for (address, byte) in image {
         machine.poke(*address, *byte);

@@ -12,7 +12,7 @@ use Rattle.lab_term.specs.declared.fault.WireCause.TheVariants.{Message}
 use Rattle.lab_term.specs.declared.follow.Course.{Course}
 use Rattle.lab_term.specs.Events.{Notice, IsNotice, IsUnopened, AreNotices, NoNotice, is_of, is_error}
 use Rattle.lab_term.specs.Events.{is_idle, is_status, text_of, text_shown, text_printed, has_error, ends}
-use Rattle.zmtp_wire.specs.Stream.{DecoderState, StandsFor, Completes}
+use Rattle.zmtp_wire.specs.Stream.{DecoderState, HasReadMessages, Completes}
 use Rattle.zmtp_wire.specs.Writing.{message_bytes}
 use Rattle.zmtp_wire.specs.declared.role.Role.TheVariants.{Dealer, Sub}
 use Rattle.zmtp_wire.specs.Sending.{WroteWhole}
@@ -393,7 +393,7 @@ pub holds_first : (before given : InletState) (p : Peer) (out : List (List (List
     → Completes p.decoder [] out t.decoder → t.queue.items ≡ p.messages ++ out → t.broken ≡ t.decoder.fault
     → t.reads ≡ p.reads → Received before given p → Holds before given t []
 holds_first before given p out t r q b n h =
-    let P : List ℕ → Type 0 = λ l. StandsFor t.decoder l (p.messages ++ out) in
+    let P : List ℕ → Type 0 = λ l. HasReadMessages t.decoder l (p.messages ++ out) in
     let R : ℕ → Type 0 = λ (k : ℕ).
     Received before given (record { decoder = t.decoder; messages = p.messages ++ out; reads = k }) in
     record {

@@ -5,7 +5,7 @@ use Rattle.base_streams.specs.States.{InletState, OutletState}
 use Rattle.base_streams.specs.Told.{Gave, Took, TookFront}
 use Rattle.zmtp_wire.specs.declared.role.Role.{Role}
 use Rattle.zmtp_wire.specs.declared.role.Role.TheVariants.{Dealer, Sub}
-use Rattle.zmtp_wire.specs.Stream.{DecoderState, StandsFor}
+use Rattle.zmtp_wire.specs.Stream.{DecoderState, HasReadMessages}
 use Rattle.zmtp_wire.specs.Writing.{message_bytes}
 use Rattle.zmtp_wire.specs.Receiving.{Received}
 use Rattle.zmtp_wire.specs.declared.handshake.Peer.{Peer}
@@ -60,7 +60,7 @@ pub record FollowedFront (parent : Parent) (passed : Messages) (old new : Ports)
   pub unreceived : Bytes
   pub gave : Gave old.from new.from (received ++ unreceived)
   pub all : (unreceived ≡ []) ⊎ (fault ≡ OutOfMemory)
-  pub stands : StandsFor decoder received messages
+  pub stands : HasReadMessages decoder received messages
   pub taken : Messages
   pub others : Messages
   pub messages_are : messages ≡ (passed ++ taken) ++ others

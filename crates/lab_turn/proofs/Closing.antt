@@ -17,7 +17,7 @@ use Rattle.lab_turn.specs.declared.view.Left.{Left}
 use Rattle.lab_turn.specs.History.{calls_of, IsLegal, TurnstileState, PassState, IsHistoryOf}
 use Rattle.lab_turn.specs.Tickets.{AtHome, Away}
 use Rattle.lab_turn.specs.Seen.{spent_view}
-use Rattle.lab_turn.specs.Turns.{taker, Ruled, pass_of, left_of, ReclaimsPasses, StandsFor}
+use Rattle.lab_turn.specs.Turns.{taker, Ruled, pass_of, left_of, ReclaimsPasses, IsIdleTokenOf}
 use Rattle.lab_turn.proofs.HistoryLemmas.{inside, at_end, le_or_lt, of_all, all_of, all_made}
 use Rattle.lab_turn.proofs.AllSeats.{pigeon}
 
@@ -250,5 +250,5 @@ module _ {A : Type 0} (R : A → Type 0) where
 
 -- the token of a pass is of the pass's table
 pub token_table : {J C : Type 0} (table : TableId) (p : PassState C) (token : Seat (Option J) (View C))
-    → StandsFor p token → p.turnstile.table ≡ table → token.table_id ≡ table
+    → IsIdleTokenOf p token → p.turnstile.table ≡ table → token.table_id ≡ table
 token_table {J} {C} table p token s is = ap (λ (p : PassState C). p.turnstile.table) s.pass ∙ is

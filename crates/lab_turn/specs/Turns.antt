@@ -98,7 +98,7 @@ module _ {J C : Type 0} where
     pub bare : m.1 ≡ []
 
   -- an idle token of this pass
-  pub record StandsFor (p : PassState C) (token : Seat (Option J) (View C)) : Type 0 where
+  pub record IsIdleTokenOf (p : PassState C) (token : Seat (Option J) (View C)) : Type 0 where
     pub pass : pass_of token.table_id token.me.0 ≡ p
     pub idle : IsIdle token.me
 

@@ -1,5 +1,5 @@
 //! The passes of a turnstile.
-ghost use Rattle.lab_turn.specs.Turns.{StandsFor};
+ghost use Rattle.lab_turn.specs.Turns.{IsIdleTokenOf};
 
 use crate::journaled::Journaled;
 use crate::rule::Token;
@@ -43,7 +43,7 @@ impl<J: Journaled> fmt::Debug for Pass<J> {
 
 impl<J: Journaled> Pass<J> {
     pub(crate) fn into_token(self) -> Token<J>
-        ensures { StandsFor self result }
+        ensures { IsIdleTokenOf self result }
     {
         let Self { seat: _, token } = self;
         token

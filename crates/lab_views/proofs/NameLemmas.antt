@@ -9,7 +9,7 @@ use Rattle.std.specs.List.{find, list_all}
 use Rattle.std.specs.Char.{to_ascii_uppercase}
 use Rattle.std.specs.Str.{bytes_eq}
 use Rattle.base_text.specs.Hexadecimal.{digit_value, number_from, word_spelled, upper_digit, upper_word}
-use Rattle.i80_dis.proofs.Numerals.{at_below}
+use Rattle.asm_lex.proofs.HexNumerals.{at_below}
 use Rattle.lab_views.specs.declared.place.Place.{Place}
 use Rattle.lab_views.specs.declared.place.Place.TheVariants as place
 use Rattle.lab_views.specs.declared.poke_fault.PokeFault.TheVariants.{BadReference}

@@ -9,7 +9,7 @@ use Rattle.std.proofs.lemmas.Bool.Decides.{not_from_Decides}
 use Rattle.std.specs.List.{range_with_len, Contains}
 use Rattle.std.specs.Str.{bytes_eq}
 use Rattle.base_text.specs.Hexadecimal.{upper_word}
-use Rattle.i80_exec.specs.State.{MachineState, byte_at, stored}
+use Rattle.i80_exec.specs.State.{MachineState, byte_at, with_byte}
 use Rattle.asm_syntax.specs.Numerals.{byte_text}
 use Rattle.lab_views.specs.Paging.{asked_for}
 use Rattle.lab_views.specs.Parts.{Parts}
@@ -47,27 +47,27 @@ has_register (place.Memory address) value m h = absurd cc
 -- ---- memory
 
 row_same : (m : MachineState) (address value : ℕ) → IsWhole m → address < 65536
-    → byte_at (stored m address value) address ≡ value
+    → byte_at (with_byte m address value) address ≡ value
 row_same m address value whole lt =
     let inside : address % 65536 < length m.memory = omega (arith, whole) in
     get_or-set_same m.memory (address % 65536) value 0 inside
 
 row_other : (m : MachineState) (address value x : ℕ) → address < 65536 → x < 65536 → x ≢ address
-    → byte_at (stored m address value) x ≡ byte_at m x
+    → byte_at (with_byte m address value) x ≡ byte_at m x
 row_other m address value x lt x_lt other =
     let apart : x % 65536 ≢ address % 65536 = omega (arith, other) in
     get_or-set_other m.memory (address % 65536) (x % 65536) value 0 apart
 
 row_changed : (m : MachineState) (address value x : ℕ) (same : Bool)
     → bytes_eq (upper_word x) (upper_word address) ≡ same → IsWhole m → address < 65536 → x < 65536
-    → memory_variable (stored m address value) x
+    → memory_variable (with_byte m address value) x
     ≡ cond same (variable (upper_word x) (byte_text value)) (memory_variable m x)
 row_changed m address value x true is whole lt x_lt =
     let names : upper_word x ≡ upper_word address =
     (bytes_eq-Decides (upper_word x) (upper_word address)).0 is in
     let one : x ≡ address = same_address x address x_lt lt names in
     ap (λ byte. variable (upper_word x) (byte_text byte))
-    (ap (byte_at (stored m address value)) one ∙ row_same m address value whole lt)
+    (ap (byte_at (with_byte m address value)) one ∙ row_same m address value whole lt)
 row_changed m address value x false is whole lt x_lt =
     let other : x ≢ address =
     (λ e. not_from_Decides _ (bytes_eq-Decides (upper_word x) (upper_word address)) is (ap upper_word e)) in
@@ -75,7 +75,7 @@ row_changed m address value x false is whole lt x_lt =
 
 memory_rows : (m : MachineState) (address value start n : ℕ) → IsWhole m → address < 65536
     → n ≤ 65536 - start
-    → map (memory_variable (stored m address value)) (range_with_len start n)
+    → map (memory_variable (with_byte m address value)) (range_with_len start n)
     ≡ map (row_with (upper_word address) (byte_text value)) (map (memory_variable m) (range_with_len start n))
 memory_rows m address value start zero whole lt few = refl
 memory_rows m address value start (suc n) whole lt few =
@@ -85,10 +85,10 @@ memory_rows m address value start (suc n) whole lt few =
 
 has_byte : (m : MachineState) (address value start n : ℕ) → IsWhole m → address < 65536 → start ≤ address
     → address < start + n
-    → Contains (map (memory_variable (stored m address value)) (range_with_len start n))
+    → Contains (map (memory_variable (with_byte m address value)) (range_with_len start n))
     (variable (upper_word address) (byte_text value))
 has_byte m address value start n whole lt from to =
-    let shown = memory_variable (stored m address value) in
+    let shown = memory_variable (with_byte m address value) in
     let row = variable (upper_word address) (byte_text value) in
     let inside : address - start < n = omega arith in
     let whole_place : start + (address - start) ≡ address = omega arith in

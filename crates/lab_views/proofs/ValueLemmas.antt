@@ -6,7 +6,7 @@ use Rattle.std.specs.Char.{is_ascii_digit}
 use Rattle.asm_lex.specs.Numbers.{number_of}
 use Rattle.asm_lex.specs.Spelling.{Begins}
 use Rattle.asm_syntax.specs.Numerals.{byte_text, word_text}
-use Rattle.i80_dis.proofs.Numerals.{IsNumeral, byte_numeral, word_numeral}
+use Rattle.asm_lex.proofs.HexNumerals.{IsNumeral, byte_numeral, word_numeral}
 use Rattle.lab_views.specs.declared.place.Place.{Place}
 use Rattle.lab_views.specs.declared.place.Place.TheVariants as place
 use Rattle.lab_views.specs.Values.{largest_at, number_spelled, at_most, value_spelled, text_at}

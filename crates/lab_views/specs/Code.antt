@@ -1,6 +1,6 @@
 -- Memory as lines of disassembly. Addresses wrap, so that no instruction is cut off.
 use Rattle.std.specs.Prelude.{ℕ, zero, suc, ◌+◌, List, [], ◌∷◌, take}
-use Rattle.i80_exec.specs.State.{MachineState, byte_at, wrapped}
+use Rattle.i80_exec.specs.State.{MachineState, byte_at, modulo_65536}
 use Rattle.i80_dis.specs.Shown.{first_shown}
 use Rattle.i80_dis.specs.Text.{text_of}
 use Rattle.lab_shown.specs.declared.shown.CodeLine.{CodeLine}
@@ -21,7 +21,7 @@ line_at m address = record {
 }
 
 abbrev pub next_address : MachineState → ℕ → ℕ
-next_address m address = wrapped (address + line_length m address)
+next_address m address = modulo_65536 (address + line_length m address)
 
 -- that many lines from an address on
 unfoldable pub lines_from : MachineState → ℕ → ℕ → List CodeLine

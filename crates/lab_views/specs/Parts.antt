@@ -42,7 +42,7 @@ parts_with seen past loads = record {
 }
 
 -- what the code sees is what these parts make of it
-pub record StandsFor (seen : PartsSeen) (p : Parts) : Type 0 where
-  pub devices : devices.StandsFor seen.devices.now p.past
-  pub origins : origins.StandsFor seen.origins.now p.loads
+pub record RepresentsParts (seen : PartsSeen) (p : Parts) : Type 0 where
+  pub devices : devices.RepresentsPast seen.devices.now p.past
+  pub origins : origins.GivesOrigins seen.origins.now p.loads
   pub others : p ≡ parts_with seen p.past p.loads

@@ -3,7 +3,7 @@ ghost use Rattle.std.specs.Prelude.{◌≡◌, ◌<◌, ◌≤◌, ◌+◌, ◌�
 ghost use Rattle.std.specs.Prelude.{option_map, unwrap_or, slice_get, IfOk, Some, codes};
 ghost use Rattle.base_text.specs.Hexadecimal.{upper_word};
 ghost use Rattle.i80_devs.specs.Past.{Operation};
-ghost use Rattle.lab_image.specs.Loads.{Load, StandsFor};
+ghost use Rattle.lab_image.specs.Loads.{Load, GivesOrigins};
 ghost use Rattle.lab_views.specs.Paging.{asked_for, page};
 ghost use Rattle.lab_views.specs.Parts.{parts_with};
 ghost use Rattle.lab_views.specs.Frames as frames;
@@ -103,7 +103,7 @@ fn frame_at(
     name: Text,
     address: u16,
 ) -> Result<StackFrame, AllocError>
-    ensures { (past : List Operation) (loads : List Load) → StandsFor parts.now.origins.now loads
+    ensures { (past : List Operation) (loads : List Load) → GivesOrigins parts.now.origins.now loads
         → IfOk result (λ frame. frame
         ≡ frames.frame_at (parts_with parts.now past loads) id name address) }
 {
@@ -158,7 +158,7 @@ fn name_of(alloc: Global, parts: &Parts, index: usize) -> Result<Text, AllocErro
 fn frame(alloc: Global, parts: &Parts, index: usize) -> Result<StackFrame, AllocError>
     requires inside { index ≤ length parts.now.frames.now }
     requires few { index ≤ 65536 }
-    ensures { (past : List Operation) (loads : List Load) → StandsFor parts.now.origins.now loads
+    ensures { (past : List Operation) (loads : List Load) → GivesOrigins parts.now.origins.now loads
         → IfOk result (λ frame. slice_get
         (frames.all_frames (parts_with parts.now past loads)) index ≡ Some frame) }
 {
@@ -182,7 +182,7 @@ pub(crate) fn frames(
     start: u32,
     levels: u32,
 ) -> Result<Sequence<StackFrame>, AllocError>
-    ensures { (past : List Operation) (loads : List Load) → StandsFor parts.now.origins.now loads
+    ensures { (past : List Operation) (loads : List Load) → GivesOrigins parts.now.origins.now loads
         → IfOk result (λ shown. shown ≡ page start (asked_for 64 64 levels)
         (frames.all_frames (parts_with parts.now past loads))) }
 {

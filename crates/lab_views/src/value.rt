@@ -7,8 +7,8 @@ ghost use Rattle.lab_views.specs.Values.{largest_at, number_spelled, value_spell
 use crate::place::Place;
 use crate::poke_fault::PokeFault;
 use asm_lex::number::number_of;
-use base_text::text::Text;
 use asm_syntax::numeral::{push_byte, push_word};
+use base_text::text::Text;
 use std::alloc::{AllocError, Global};
 
 /// The number that the assembler reads from a text. It must begin with a digit.

@@ -2,18 +2,18 @@
 ghost use Rattle.std.specs.Prelude.{◌≡◌, ◌∷◌, ◌++◌, [], List, IfOk, OnOk};
 ghost use Rattle.std.specs.Fmt.{decimal};
 ghost use Rattle.asm_syntax.specs.Numerals.{byte_text, word_text};
-ghost use Rattle.i80_devs.specs.Past.{Operation, StandsFor, panel_after};
+ghost use Rattle.i80_devs.specs.Past.{Operation, RepresentsPast, panel_after};
 ghost use Rattle.lab_views.specs.Paging.{asked_for, page};
 ghost use Rattle.lab_views.specs.Variables as variables;
 
 use crate::frames::symbol_at;
 use crate::paging::{asked_for, end_of};
 use asm_build::symbols::Symbols;
+use asm_syntax::numeral;
 use base_text::hexadecimal;
 use base_text::sequence::Sequence;
 use base_text::text::Text;
 use i80_devs::devices::Devices;
-use asm_syntax::numeral;
 use i80_exec::machine::Machine;
 use i80_exec::registers::{Interrupts, Registers};
 use i80_rows::memory::MEMORY_SIZE;
@@ -193,7 +193,7 @@ fn push_devices(
     devices: &Devices,
 ) -> Result<(), AllocError>
     requires { shown.old ≡ [] }
-    ensures { (past : List Operation) → StandsFor devices.now past
+    ensures { (past : List Operation) → RepresentsPast devices.now past
         → OnOk result (shown.new ≡ variables.device_variables (panel_after past)) }
 {
     push_byte(alloc, shown, "switches", devices.switches())?;
@@ -205,7 +205,7 @@ fn push_devices(
 }
 
 pub(crate) fn devices(alloc: Global, devices: &Devices) -> Result<Sequence<Variable>, AllocError>
-    ensures { (past : List Operation) → StandsFor devices.now past
+    ensures { (past : List Operation) → RepresentsPast devices.now past
         → IfOk result (λ shown. shown ≡ variables.device_variables (panel_after past)) }
 {
     let mut shown = Sequence::new(alloc);

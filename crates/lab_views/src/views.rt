@@ -4,7 +4,7 @@ ghost use Rattle.i80_devs.specs.Past.{Operation};
 ghost use Rattle.i80_devs.specs.Past as devices;
 ghost use Rattle.lab_image.specs.Loads.{Load};
 ghost use Rattle.lab_image.specs.Loads as origins;
-ghost use Rattle.lab_views.specs.Parts.{Parts as BoardParts, StandsFor, parts_with};
+ghost use Rattle.lab_views.specs.Parts.{Parts as BoardParts, RepresentsParts, parts_with};
 ghost use Rattle.lab_views.specs.Code as code;
 ghost use Rattle.lab_views.specs.Views.{Answers, frames_shown, scopes_shown, variables_shown};
 ghost use Rattle.lab_views.specs.Views.{code_shown, source_shown, info_shown, view_of};
@@ -29,7 +29,7 @@ const MOST_LINES: u32 = 256;
 /// `Frames` and `Scopes` fail with `NotStopped` if no run is stopped, and then `Scopes` with `BadFrame` if
 /// there is no such frame. `Variables` fails with `BadReference`, and `Source` with `NoSource`.
 pub fn show(alloc: Global, parts: &Parts, view: &View) -> Result<Shown, ViewFault>
-    ensures { (p : BoardParts) → StandsFor parts.now p → Answers result (view_of view.now p) }
+    ensures { (p : BoardParts) → RepresentsParts parts.now p → Answers result (view_of view.now p) }
 {
     match view {
         View::Frames { start, levels } => show_frames(alloc, parts, *start, *levels),
@@ -65,7 +65,7 @@ fn as_shown(variables: Result<Sequence<Variable>, AllocError>) -> Result<Shown, 
 }
 
 fn show_frames(alloc: Global, parts: &Parts, start: u32, levels: u32) -> Result<Shown, ViewFault>
-    ensures { (past : List Operation) (loads : List Load) → origins.StandsFor parts.now.origins.now loads
+    ensures { (past : List Operation) (loads : List Load) → origins.GivesOrigins parts.now.origins.now loads
         → Answers result (frames_shown (parts_with parts.now past loads) start levels) }
 {
     if !parts.is_stopped {
@@ -101,7 +101,7 @@ fn show_variables(
     start: u32,
     count: u32,
 ) -> Result<Shown, ViewFault>
-    ensures { (past : List Operation) (loads : List Load) → devices.StandsFor parts.now.devices.now past
+    ensures { (past : List Operation) (loads : List Load) → devices.RepresentsPast parts.now.devices.now past
         → Answers result (variables_shown (parts_with parts.now past loads) reference start count) }
 {
     match reference {

@@ -6,7 +6,7 @@ use Rattle.std.proofs.lemmas.List.{take_more, take-append-drop}
 use Rattle.std.proofs.lemmas.Grind.{flat_map-append}
 use Rattle.zmtp_wire.specs.declared.fault.StreamFault.{StreamFault}
 use Rattle.zmtp_wire.specs.declared.role.Role.TheVariants.{Rep}
-use Rattle.zmtp_wire.specs.Stream.{DecoderState, StandsFor, Completes}
+use Rattle.zmtp_wire.specs.Stream.{DecoderState, HasReadMessages, Completes}
 use Rattle.zmtp_wire.specs.Writing.{message_bytes}
 use Rattle.base_streams.specs.States.{InletState, OutletState, IsReadable}
 use Rattle.base_streams.specs.Told.{Told, ToldFront, Gave, Took, TookFront, WasRead}
@@ -63,8 +63,8 @@ pub completes_none : (s : DecoderState) → Completes s [] [] s
 completes_none s = record {
   role = refl;
   stands = λ stream messages k.
-      let P : List ℕ → Type 0 = λ l. StandsFor s l (messages ++ []) in
-      let Q : List (List (List ℕ)) → Type 0 = λ l. StandsFor s stream l in
+      let P : List ℕ → Type 0 = λ l. HasReadMessages s l (messages ++ []) in
+      let Q : List (List (List ℕ)) → Type 0 = λ l. HasReadMessages s stream l in
       subst P (sym (append-nil stream)) (subst Q (sym (append-nil messages)) k);
 }
 

@@ -10,7 +10,8 @@ use Rattle.zmtp_wire.specs.declared.progress.Progress.{Progress}
 use Rattle.zmtp_wire.specs.Framing.{IsAllowed}
 use Rattle.zmtp_wire.specs.Stream.{Got, opening, Step, Greets as Greeted, Readies, Skips}
 use Rattle.zmtp_wire.specs.Stream.{TakesFrame, Reads, Stays, Fault, InGreeting, InFlag, InSize}
-use Rattle.zmtp_wire.specs.Stream.{InCommand, IsPartial, DecoderState, got_by, EndsIn, StandsFor, Completes}
+use Rattle.zmtp_wire.specs.Stream.{InCommand, IsPartial, DecoderState, got_by, EndsIn, HasReadMessages}
+use Rattle.zmtp_wire.specs.Stream.{Completes}
 use Rattle.zmtp_wire.specs.Progress.{got_in, identity_from, WhateverBefore, EndsAt}
 use Rattle.zmtp_wire.proofs.ReadingLemmas.{reads_preceded, reads_more, reads_cut, fault_more}
 use Rattle.zmtp_wire.proofs.ReadingLemmas.{partial_wants, Ends, one_reading_lem}
@@ -56,7 +57,7 @@ partial_empty : (role : Role) → IsPartial role opening []
 partial_empty role = partial_wants role opening [] refl
 
 pub stands_new : (s : DecoderState) → s.stage ≡ Greeting → s.identity ≡ None → s.frames ≡ [] → s.rest ≡ []
-    → s.fault ≡ None → StandsFor s [] []
+    → s.fault ≡ None → HasReadMessages s [] []
 stands_new s a b d e f =
     let g : opening ≡ got_by s [] = cc in
     record {
@@ -167,9 +168,9 @@ abbrev state_of : Role → Stage → Option (List ℕ) → List (List ℕ) → L
 state_of role stage identity frames rest fault =
     record { role = role; stage = stage; identity = identity; frames = frames; rest = rest; fault = fault }
 
--- two sides that stand for one stream are the same, and have read the same messages
+-- two sides that represent one stream are the same, and have read the same messages
 pub one_state : (s t : DecoderState) (stream : List ℕ) (m n : List (List (List ℕ))) → s.role ≡ t.role
-    → StandsFor s stream m → StandsFor t stream n → (m ≡ n) × (s ≡ t)
+    → HasReadMessages s stream m → HasReadMessages t stream n → (m ≡ n) × (s ≡ t)
 one_state s t stream m n r a b =
     let o = one_reading_lem s.role opening (got_by s m) (got_by t n) stream a.rest b.rest s.fault t.fault
     a.reads (ends_of s (got_by s m) a.rest s.fault a.ends) (rw r b.reads)

@@ -9,7 +9,7 @@ use Rattle.zmtp_wire.specs.declared.role.Role.{Role}
 use Rattle.zmtp_wire.specs.Framing.{refusal}
 use Rattle.zmtp_wire.specs.Stream.{Got, with_frame, Step, Greets, Readies, Skips, TakesFrame, Reads, Stays}
 use Rattle.zmtp_wire.specs.Stream.{Goes}
-use Rattle.zmtp_wire.specs.Stream.{DecoderState, StandsFor, got_by, opening}
+use Rattle.zmtp_wire.specs.Stream.{DecoderState, HasReadMessages, got_by, opening}
 
 frame_stage : (g : Got) (position : Position) (body : List ℕ) → (with_frame g position body).stage ≡ g.stage
 frame_stage g More body = refl
@@ -53,6 +53,6 @@ reads_quiet role g i bytes rest (Goes g1 h i1 b1 raw others r1 s e reads) n m =
 
 -- a side that has accepted no READY has read no messages
 pub decoder_quiet : (s : DecoderState) (stream : List ℕ) (messages : List (List (List ℕ)))
-    → (s.stage ≡ Traffic → ⊥) → StandsFor s stream messages → messages ≡ []
+    → (s.stage ≡ Traffic → ⊥) → HasReadMessages s stream messages → messages ≡ []
 decoder_quiet s stream messages n k =
     reads_quiet s.role opening (got_by s messages) stream k.rest k.reads n refl

@@ -4,7 +4,7 @@ use Rattle.std.proofs.Common.{true, Option, Some, None, refl, sym, ap, subst, ar
 use Rattle.zmtp_wire.specs.declared.fault.StreamFault.{StreamFault}
 use Rattle.zmtp_wire.specs.declared.role.Role.{Role}
 use Rattle.zmtp_wire.specs.declared.head.Stage.TheVariants.{Traffic}
-use Rattle.zmtp_wire.specs.Stream.{DecoderState, StandsFor, Completes}
+use Rattle.zmtp_wire.specs.Stream.{DecoderState, HasReadMessages, Completes}
 use Rattle.base_streams.specs.States.{InletState, OutletState, IsWritable}
 use Rattle.base_streams.specs.Told.{Told, Gave, WasRead}
 use Rattle.base_streams.proofs.TellLemmas.{told_on, counts_on, counts_none}
@@ -25,11 +25,11 @@ abbrev pub peer_of : DecoderState → List (List (List ℕ)) → ℕ → Peer
 peer_of decoder messages reads = record { decoder = decoder; messages = messages; reads = reads }
 
 -- nothing has been received yet
-pub received_first : (inlet : InletState) (p : Peer) → StandsFor p.decoder [] [] → p.messages ≡ []
+pub received_first : (inlet : InletState) (p : Peer) → HasReadMessages p.decoder [] [] → p.messages ≡ []
     → p.reads ≡ 0 → Received inlet inlet p
 unfolding most_reads
 received_first inlet p k e z =
-    let P : List (List (List ℕ)) → Type 0 = λ l. StandsFor p.decoder [] l in
+    let P : List (List (List ℕ)) → Type 0 = λ l. HasReadMessages p.decoder [] l in
     let R : ℕ → Type 0 = λ n. WasRead inlet inlet n in
     record {
       stream = [];
@@ -48,7 +48,7 @@ pub received_on : (g h k : InletState) (s : Peer) (t : DecoderState) (x : List �
     → (s.decoder.stage ≡ Traffic → ⊥) → s.reads < 4294967295 → Completes s.decoder x out t → Gave h k x
     → WasRead h k 1 → Received g h s → Received g k (peer_of t out (s.reads + 1))
 received_on g h k s t x out unready left r o w p =
-    let P : List (List (List ℕ)) → Type 0 = λ l. StandsFor t (p.stream ++ x) (l ++ out) in
+    let P : List (List (List ℕ)) → Type 0 = λ l. HasReadMessages t (p.stream ++ x) (l ++ out) in
     record {
       stream = p.stream ++ x;
       gave = told_on g.given h.given k.given p.stream x p.gave o;

@@ -2,7 +2,7 @@
 use Rattle.std.specs.Prelude.{◌≡◌, ℕ, ◌≤◌, ◌⊎◌, true, false, [], ◌++◌, Some}
 use Rattle.zmtp_wire.specs.declared.role.Role.{Role}
 use Rattle.zmtp_wire.specs.declared.head.Stage.TheVariants.{Traffic}
-use Rattle.zmtp_wire.specs.Stream.{DecoderState, StandsFor}
+use Rattle.zmtp_wire.specs.Stream.{DecoderState, HasReadMessages}
 use Rattle.zmtp_wire.specs.Wire.{Bytes, Messages}
 use Rattle.base_streams.specs.States.{InletState, OutletState, IsReadable, IsWritable}
 use Rattle.base_streams.specs.Told.{Gave, WasRead}
@@ -40,7 +40,7 @@ pub record Ends (role : Role) (old new : InletState) (fault : PeerFault) (decode
   pub unreceived : Bytes
   pub gave : Gave old new (received ++ unreceived)
   pub role_is : decoder.role ≡ role
-  pub stands : StandsFor decoder received messages
+  pub stands : HasReadMessages decoder received messages
   pub explains : Explains fault decoder unreceived
   pub reads : ℕ
   pub was_read : WasRead old new reads

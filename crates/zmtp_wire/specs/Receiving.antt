@@ -1,7 +1,7 @@
 -- What was received from a peer.
 use Rattle.std.specs.Prelude.{ℕ, ◌≤◌}
 use Rattle.zmtp_wire.specs.Wire.{Bytes}
-use Rattle.zmtp_wire.specs.Stream.{StandsFor}
+use Rattle.zmtp_wire.specs.Stream.{HasReadMessages}
 use Rattle.base_streams.specs.States.{InletState}
 use Rattle.base_streams.specs.Told.{Gave, WasRead}
 use Rattle.zmtp_wire.specs.declared.handshake.Peer.{Peer}
@@ -14,6 +14,6 @@ most_reads = 4294967295
 pub record Received (old new : InletState) (peer : Peer) : Type 0 where
   pub stream : Bytes
   pub gave : Gave old new stream
-  pub stands : StandsFor peer.decoder stream peer.messages
+  pub stands : HasReadMessages peer.decoder stream peer.messages
   pub was_read : WasRead old new peer.reads
   pub within : peer.reads ≤ most_reads

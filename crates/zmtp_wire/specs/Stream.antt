@@ -86,7 +86,7 @@ EndsIn s g rest None = (rest ≡ s.rest) × IsPartial s.role g rest
 EndsIn s g rest (Some c) = (s.rest ≡ []) × Fault s.role g rest c
 
 -- the side has read this stream, and these are all the messages in it
-pub record StandsFor (s : DecoderState) (stream : Bytes) (messages : Messages) : Type 0 where
+pub record HasReadMessages (s : DecoderState) (stream : Bytes) (messages : Messages) : Type 0 where
   pub rest : Bytes
   pub reads : Reads s.role opening stream (got_by s messages) rest
   pub ends : EndsIn s (got_by s messages) rest s.fault
@@ -95,5 +95,5 @@ pub record StandsFor (s : DecoderState) (stream : Bytes) (messages : Messages) :
 pub record Completes (old : DecoderState) (piece : Bytes) (out : Messages) (new : DecoderState)
     : Type 0 where
   pub role : new.role ≡ old.role
-  pub stands : (stream : Bytes) (messages : Messages) → StandsFor old stream messages
-      → StandsFor new (stream ++ piece) (messages ++ out)
+  pub stands : (stream : Bytes) (messages : Messages) → HasReadMessages old stream messages
+      → HasReadMessages new (stream ++ piece) (messages ++ out)

@@ -53,14 +53,14 @@ fn keep_from(bytes: &mut Vec<u8>, from: usize)
 
 impl Decoder {
     ghost use Rattle.zmtp_wire.specs.declared.head.Stage.TheVariants.{Traffic};
-    ghost use Rattle.zmtp_wire.specs.Stream.{StandsFor};
+    ghost use Rattle.zmtp_wire.specs.Stream.{HasReadMessages};
     ghost use Rattle.zmtp_wire.specs.Progress.{identity_from};
     ghost use Rattle.zmtp_wire.specs.Feeding.{TakesPiece};
 
     /// A decoder for a side of this role, at the beginning of the stream.
     pub fn new(alloc: Global, role: Role) -> Decoder
         ensures role { result.role ≡ role }
-        ensures stands { StandsFor result [] [] }
+        ensures stands { HasReadMessages result [] [] }
         ensures fault { result.fault ≡ None }
     {
         Decoder {

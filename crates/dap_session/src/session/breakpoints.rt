@@ -5,7 +5,7 @@ ghost use Rattle.dap_session.specs.Breakpoints.{lines_set, setting_lines, settin
 ghost use Rattle.dap_session.specs.States.{SessionState, with_points};
 ghost use Rattle.dap_points.specs.Points.{number_of, has_place, with_lines};
 ghost use Rattle.dap_points.specs.Placed.{line_points};
-ghost use Rattle.dap_session.specs.Stands.{StandsFor, RepliesAs, LabelsPlaced};
+ghost use Rattle.dap_session.specs.Stands.{RepresentsSession, RepliesAs, LabelsPlaced};
 
 use crate::reply::{Reply, succeed};
 use crate::session::Session;
@@ -94,7 +94,7 @@ impl Session {
         lines: &Sequence<u32>,
     ) -> Result<Sequence<PlacedBreakpoint>, AllocError>
         requires { length lines.now ≤ 256 }
-        ensures { (s : SessionState) → StandsFor self.now s → IfOk result (λ points. points
+        ensures { (s : SessionState) → RepresentsSession self.now s → IfOk result (λ points. points
             ≡ line_points (number_of path.now s.settings.points.lists)
             (line_count_of (program_at path.now s.settings.program)) 0 lines.now) }
     {
@@ -113,8 +113,8 @@ impl Session {
         path: &Text,
         lines: &Sequence<u32>,
     ) -> Result<(), AllocError>
-        ensures ok { (s : SessionState) → StandsFor self.old s
-            → OnOk result (StandsFor self.new (lines_armed path.now lines.now s)) }
+        ensures ok { (s : SessionState) → RepresentsSession self.old s
+            → OnOk result (RepresentsSession self.new (lines_armed path.now lines.now s)) }
         ensures rest { self.new ≡ record self.old { lab = self.new.lab } }
         ensures err { OnErr result (self.new ≡ self.old) }
     {
@@ -132,8 +132,8 @@ impl Session {
 
     fn keep_lines(&mut self, path: Text, lines: Sequence<u32>)
         requires { has_place path self.old.settings.points.lists ≡ true }
-        ensures { (s : SessionState) → StandsFor self.old s
-            → StandsFor self.new (with_points (with_lines path lines s.settings.points) s) }
+        ensures { (s : SessionState) → RepresentsSession self.old s
+            → RepresentsSession self.new (with_points (with_lines path lines s.settings.points) s) }
     {
         self.settings.points.set_lines(path, lines);
     }
@@ -160,7 +160,7 @@ impl Session {
         names: &[Text],
     ) -> Result<Sequence<PlacedBreakpoint>, AllocError>
         requires { length names.now ≤ 256 }
-        ensures ok { (s : SessionState) → StandsFor self.old s
+        ensures ok { (s : SessionState) → RepresentsSession self.old s
             → IfOk result (λ points. LabelsPlaced names.now s points self.new) }
         ensures err { OnErr result (self.new ≡ self.old) }
     {

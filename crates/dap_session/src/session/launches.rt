@@ -1,15 +1,15 @@
 //! How a program comes to the board, and begins.
 ghost use Rattle.std.specs.Prelude.{◌≡◌, Some, OnErr, IfOk};
 ghost use Rattle.lab_core.specs.Board.{Board};
-ghost use Rattle.lab_core.specs.Labs.{StandsFor as LabStandsFor};
+ghost use Rattle.lab_core.specs.Labs.{RepresentsBoard};
 ghost use Rattle.dap_launch.specs.declared.program.Program.{Program as ProgramOf};
-ghost use Rattle.dap_program.specs.Boards.{Stands};
+ghost use Rattle.dap_program.specs.Boards.{RepresentsSomeBoard};
 ghost use Rattle.dap_session.specs.Launches as launches;
 ghost use Rattle.dap_session.specs.Launches.{beginning_where, started_follow, installing, loading, launching};
 ghost use Rattle.dap_session.specs.Launches.{restarting};
 ghost use Rattle.dap_session.specs.Slices.{told_by, told_in};
 ghost use Rattle.dap_session.specs.States.{SessionState, with_board, with_program};
-ghost use Rattle.dap_session.specs.Stands.{StandsFor, Replies, Tells, TellsAs};
+ghost use Rattle.dap_session.specs.Stands.{RepresentsSession, Replies, Tells, TellsAs};
 
 use crate::reply::{Reply, accept};
 use crate::session::Session;
@@ -31,7 +31,7 @@ use std::alloc::{AllocError, Global};
 impl Session {
     // Begins the program, if one is loaded that hasn't begun.
     pub(super) fn begin_where_loaded(&mut self) -> Reply
-        ensures { (s : SessionState) → StandsFor self.old s
+        ensures { (s : SessionState) → RepresentsSession self.old s
             → Replies (beginning_where s.settings.program s) result self.new }
     {
         match &mut self.settings.program {
@@ -117,7 +117,8 @@ impl Session {
     }
 
     fn started_follow(&self, occasion: Occasion, program: &Program) -> Follow
-        ensures { (s : SessionState) → StandsFor self.now s → result ≡ started_follow occasion program.now s }
+        ensures { (s : SessionState) → RepresentsSession self.now s
+            → result ≡ started_follow occasion program.now s }
     {
         if self.settings.is_configured {
             begun_follow(occasion, &program.launch)
@@ -133,7 +134,8 @@ impl Session {
         opening: Opening,
         loaded: &LoadedProgram,
     ) -> Result<Sequence<Message>, AllocError>
-        ensures { (s : SessionState) (b : Board) → StandsFor self.now s → LabStandsFor loaded.now.lab b
+        ensures { (s : SessionState) (b : Board) → RepresentsSession self.now s
+            → RepresentsBoard loaded.now.lab b
             → IfOk result (λ messages. messages
             ≡ told_by opening.caller (installing opening.occasion loaded.now.program b s)) }
     {
@@ -143,9 +145,9 @@ impl Session {
 
     // Puts a loaded program in the place of what was on the board.
     fn put(&mut self, loaded: LoadedProgram)
-        requires { Stands loaded.lab }
-        ensures { (s : SessionState) (b : Board) → StandsFor self.old s → LabStandsFor loaded.lab b
-            → StandsFor self.new (with_board b (with_program (Some loaded.program) s)) }
+        requires { RepresentsSomeBoard loaded.lab }
+        ensures { (s : SessionState) (b : Board) → RepresentsSession self.old s → RepresentsBoard loaded.lab b
+            → RepresentsSession self.new (with_board b (with_program (Some loaded.program) s)) }
     {
         let LoadedProgram { program, lab } = loaded;
         self.lab = lab;
@@ -154,8 +156,9 @@ impl Session {
 
     // Begins a program that hasn't begun, if the configuration is done.
     fn start(&mut self)
-        ensures { (s : SessionState) (p : ProgramOf) → StandsFor self.old s → s.settings.program ≡ Some p
-            → p.phase ≡ Phase.Loaded → StandsFor self.new (launches.begin_if_configured p s) }
+        ensures { (s : SessionState) (p : ProgramOf) → RepresentsSession self.old s
+            → s.settings.program ≡ Some p
+            → p.phase ≡ Phase.Loaded → RepresentsSession self.new (launches.begin_if_configured p s) }
     {
         if self.settings.is_configured {
             drop(self.begin_where_loaded());
@@ -170,8 +173,9 @@ impl Session {
         opening: Opening,
         mut loaded: LoadedProgram,
     ) -> Result<Sequence<Message>, AllocError>
-        requires { Stands loaded.lab }
-        ensures installed { (s : SessionState) (b : Board) → StandsFor self.old s → LabStandsFor loaded.lab b
+        requires { RepresentsSomeBoard loaded.lab }
+        ensures installed { (s : SessionState) (b : Board) → RepresentsSession self.old s
+            → RepresentsBoard loaded.lab b
             → loaded.program.phase ≡ Phase.Loaded
             → IfOk result (λ messages. Tells
             (told_in opening.caller (installing opening.occasion loaded.program b s)) messages self.new) }

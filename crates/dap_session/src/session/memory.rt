@@ -8,7 +8,7 @@ ghost use Rattle.dap_session.specs.Requests.{reading, disassembling};
 ghost use Rattle.dap_session.specs.States.{SessionState, with_board};
 ghost use Rattle.dap_session.specs.Turns.{turn_of};
 ghost use Rattle.dap_session.specs.Slices.{told_in};
-ghost use Rattle.dap_session.specs.Stands.{StandsFor, RepliesAs, Tells, TellsFor, WritesFirst};
+ghost use Rattle.dap_session.specs.Stands.{RepresentsSession, RepliesAs, Tells, TellsFor, WritesFirst};
 
 use crate::reply::{Reply, succeed};
 use crate::session::Session;
@@ -81,7 +81,7 @@ impl Session {
         address: u16,
         count: u32,
     ) -> Result<EditorBody, AllocError>
-        ensures { (s : SessionState) → StandsFor self.now s
+        ensures { (s : SessionState) → RepresentsSession self.now s
             → IfOk result (λ body. body ≡ memory_at start address count s.board.machine) }
     {
         match start {
@@ -118,7 +118,8 @@ impl Session {
     // The address of the line of code that is so many instructions from an address.
     fn first_line(&self, address: u16, offset: Shift) -> u16
         requires { requests.is_near offset ≡ true }
-        ensures { (s : SessionState) → StandsFor self.now s → result ≡ first_line address offset s.board }
+        ensures { (s : SessionState) → RepresentsSession self.now s
+            → result ≡ first_line address offset s.board }
     {
         match offset {
             Shift::Forward(n) => self.lab.after_instructions(address, n as u16),
@@ -144,7 +145,7 @@ impl Session {
     }
 
     fn is_stopped(&self) -> bool
-        ensures { (s : SessionState) → StandsFor self.now s → result ≡ is_stopped s.board.run }
+        ensures { (s : SessionState) → RepresentsSession self.now s → result ≡ is_stopped s.board.run }
     {
         match self.lab.run_state() {
             RunState::Stopped => true,
@@ -155,9 +156,10 @@ impl Session {
     // Writes bytes from an address on.
     fn write_from(&mut self, alloc: Global, start: u16, bytes: &[u8]) -> Result<(), AllocError>
         requires { start + length bytes.now ≤ 65536 }
-        ensures ok { (s : SessionState) → StandsFor self.old s
-            → OnOk result (StandsFor self.new (with_board (with_bytes_at start bytes.now s.board) s)) }
-        ensures err { (s : SessionState) → StandsFor self.old s
+        ensures ok { (s : SessionState) → RepresentsSession self.old s
+            → OnOk result (RepresentsSession self.new (with_board (with_bytes_at start bytes.now s.board)
+            s)) }
+        ensures err { (s : SessionState) → RepresentsSession self.old s
             → OnErr result (WritesFirst start bytes.now s self.new) }
     {
         write_bytes(alloc, &mut self.lab, start, bytes)
@@ -171,9 +173,9 @@ impl Session {
         start: u16,
         bytes: &Bytes,
     ) -> Result<Sequence<Message>, AllocError>
-        ensures made { (s : SessionState) → StandsFor self.old s → IfOk result (λ messages.
+        ensures made { (s : SessionState) → RepresentsSession self.old s → IfOk result (λ messages.
             Tells (told_in caller (turn_of (writing_from (Some start) bytes.now s))) messages self.new) }
-        ensures err { (s : SessionState) → StandsFor self.old s
+        ensures err { (s : SessionState) → RepresentsSession self.old s
             → OnErr result (WritesFirst start (take (65536 - start) bytes.now) s self.new) }
     {
         let messages = Messages::new(alloc)?;

@@ -8,7 +8,7 @@ ghost use Rattle.dap_session.specs.Requests as requests;
 ghost use Rattle.dap_session.specs.Requests.{objection, opens, is_bounded, follow_of, performing, resetting};
 ghost use Rattle.dap_session.specs.Requests.{terminating, initializing, configuring, disconnecting};
 ghost use Rattle.dap_session.specs.Requests.{commanding, editing, replying, end_follow};
-ghost use Rattle.dap_session.specs.Stands.{StandsFor, RepliesAs, Replies};
+ghost use Rattle.dap_session.specs.Stands.{RepresentsSession, RepliesAs, Replies};
 
 use crate::reply::{Reply, accept, refuse, succeed};
 use crate::session::Session;
@@ -140,7 +140,7 @@ pub(super) fn end_program(program: &mut Option<Program>)
 impl Session {
     // What there is to object to a request, whatever it asks for.
     pub(super) fn objection(&self, asked: &Asked) -> Option<&'static str>
-        ensures objection { (s : SessionState) → StandsFor self.now s
+        ensures objection { (s : SessionState) → RepresentsSession self.now s
             → option_map (λ text. text.now) result ≡ objection asked.now s }
         ensures fits { result ≡ None → is_bounded asked.now ≡ true }
     {
@@ -249,14 +249,16 @@ impl Session {
     }
 
     fn disconnect(&mut self) -> Reply
-        ensures { (s : SessionState) → StandsFor self.old s → Replies (disconnecting s) result self.new }
+        ensures { (s : SessionState) → RepresentsSession self.old s
+            → Replies (disconnecting s) result self.new }
     {
         self.settings.has_ended = true;
         accept(Follow::Nothing)
     }
 
     fn configure(&mut self) -> Reply
-        ensures { (s : SessionState) → StandsFor self.old s → Replies (configuring s) result self.new }
+        ensures { (s : SessionState) → RepresentsSession self.old s
+            → Replies (configuring s) result self.new }
     {
         self.settings.is_configured = true;
         self.begin_where_loaded()
@@ -264,7 +266,7 @@ impl Session {
 
     // The event behind the response to a request that ends the program.
     fn end_follow(&self) -> Follow
-        ensures { (s : SessionState) → StandsFor self.now s → result ≡ end_follow s }
+        ensures { (s : SessionState) → RepresentsSession self.now s → result ≡ end_follow s }
     {
         if is_live(&self.settings.program) {
             Follow::Ended
@@ -283,7 +285,8 @@ impl Session {
     }
 
     fn terminate(&mut self) -> Reply
-        ensures { (s : SessionState) → StandsFor self.old s → Replies (terminating s) result self.new }
+        ensures { (s : SessionState) → RepresentsSession self.old s
+            → Replies (terminating s) result self.new }
     {
         let follow = self.end_follow();
         change_surely(&mut self.lab, Event::Interrupt);

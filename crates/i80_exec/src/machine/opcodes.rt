@@ -5,9 +5,9 @@ ghost use Rattle.i80_rows.specs.AliasRows.{acts, alias_row};
 ghost use Rattle.i80_rows.specs.declared.instruction.Instr.TheVariants.{Nop, Lxi, Inx, Dcx, Dad, Inr, Dcr};
 ghost use Rattle.i80_rows.specs.declared.instruction.Instr.TheVariants.{Mvi, Rotate, AluImmediate, JumpIf};
 ghost use Rattle.i80_rows.specs.declared.instruction.Instr.TheVariants.{CallIf, RetIf, Push, Pop};
-ghost use Rattle.i80_exec.specs.State.{wrapped, byte_at, word_at, stored, get, put, get_pair};
+ghost use Rattle.i80_exec.specs.State.{modulo_65536, byte_at, word_at, with_byte, get, with_reg, get_pair};
 ghost use Rattle.i80_exec.specs.State.{with_pc, with_interrupts};
-ghost use Rattle.i80_exec.specs.Effect.{operated, to_reg};
+ghost use Rattle.i80_exec.specs.Effect.{after_operation, to_reg};
 ghost use Rattle.i80_exec.specs.Opcodes.{reg_at, operation_at};
 ghost use Rattle.i80_exec.specs.Step.{by_row, by_opcode, interrupts_after, answer_of, is_arming};
 ghost use Rattle.i80_exec.specs.Step.{devices_by, IsOutcome, IsStepOfKind, IsAtOpcode, Executes};
@@ -309,7 +309,7 @@ impl Machine {
     #[inline(always)]
     fn advance(&mut self, size: u8)
         requires settled { is_arming self.old.regs.interrupts ≡ false }
-        ensures { self.new ≡ with_interrupts (with_pc self.old (wrapped (self.old.regs.pc + size)))
+        ensures { self.new ≡ with_interrupts (with_pc self.old (modulo_65536 (self.old.regs.pc + size)))
             (interrupts_after Nop self.old.regs.interrupts) }
     {
         self.regs.pc = self.regs.pc.wrapping_add(size as u16);
@@ -324,7 +324,7 @@ impl Machine {
 
     #[inline(always)]
     fn store_at_hl(&mut self, byte: u8)
-        ensures { self.new ≡ stored self.old (get_pair self.old Pair.H) byte }
+        ensures { self.new ≡ with_byte self.old (get_pair self.old Pair.H) byte }
     {
         let address = self.get_pair(Pair::H);
         self.poke(address, byte);
@@ -352,7 +352,7 @@ impl Machine {
     /// Sets a register, or the byte in memory at HL.
     #[inline]
     fn put(&mut self, reg: Reg, byte: u8)
-        ensures { self.new ≡ put self.old reg byte }
+        ensures { self.new ≡ with_reg self.old reg byte }
     {
         match reg {
             Reg::B => self.regs.b = byte,
@@ -624,7 +624,7 @@ impl Machine {
     #[inline]
     fn operate_by(&mut self, code: u8, byte: u8)
         requires { code < 8 }
-        ensures { self.new ≡ operated (operation_at code) self.old byte }
+        ensures { self.new ≡ after_operation (operation_at code) self.old byte }
     {
         let operation = match code {
             0 => Operation::Add,
@@ -644,7 +644,7 @@ impl Machine {
     /// stands by itself.
     #[inline]
     fn sbb_a(&mut self)
-        ensures { self.new ≡ operated Operation.Sbb self.old self.old.regs.a }
+        ensures { self.new ≡ after_operation Operation.Sbb self.old self.old.regs.a }
     {
         self.operate(Operation::Sbb, self.regs.a);
     }

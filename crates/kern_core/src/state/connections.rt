@@ -5,7 +5,7 @@ ghost use Rattle.kern_core.specs.Connections.{join_turn, leave_turn, subscribing
 ghost use Rattle.kern_core.specs.Connections.{fetching, fetch_turn};
 ghost use Rattle.kern_core.specs.Connections.{status_to, first_status, is_busy, state_of};
 ghost use Rattle.kern_peers.specs.Connections.{same_channel};
-ghost use Rattle.kern_core.specs.Stands.{StandsFor, MakesTurn, TakesTurn, HasRoom};
+ghost use Rattle.kern_core.specs.Stands.{RepresentsKernel, MakesTurn, TakesTurn, HasRoom};
 ghost use Rattle.kern_core.specs.States.{KernelState as KernelStateOf};
 
 use crate::call::Reply;
@@ -83,7 +83,7 @@ impl KernelState {
 
     /// Whether a run exists, a start is pending or executions wait.
     fn is_busy(&self) -> bool
-        ensures { (s : KernelStateOf) → StandsFor self.now s → result ≡ is_busy s }
+        ensures { (s : KernelStateOf) → RepresentsKernel self.now s → result ≡ is_busy s }
     {
         self.has_run()
             || self.executions.pending_start().is_some()
@@ -91,7 +91,7 @@ impl KernelState {
     }
 
     fn state(&self) -> ExecutionState
-        ensures { (s : KernelStateOf) → StandsFor self.now s → result ≡ state_of s }
+        ensures { (s : KernelStateOf) → RepresentsKernel self.now s → result ≡ state_of s }
     {
         if self.is_busy() {
             ExecutionState::Busy
@@ -102,7 +102,7 @@ impl KernelState {
 
     // A status letter to this connection alone.
     fn status_to(&self, connection: u32) -> Result<Letter, AllocError>
-        ensures { (s : KernelStateOf) → StandsFor self.now s
+        ensures { (s : KernelStateOf) → RepresentsKernel self.now s
             → IfOk result (λ letter. letter ≡ status_to connection s) }
     {
         let to = Sequence::from(vec![in self.alloc; connection]?);
@@ -119,7 +119,7 @@ impl KernelState {
     }
 
     fn first_status(&self, connection: u32, prefix: &[u8]) -> Result<Letters, AllocError>
-        ensures { (s : KernelStateOf) → StandsFor self.now s
+        ensures { (s : KernelStateOf) → RepresentsKernel self.now s
             → IfOk result (λ letters. letters ≡ first_status connection prefix.now s) }
     {
         let mut letters = Letters::new(self.alloc)?;

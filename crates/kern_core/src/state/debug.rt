@@ -7,7 +7,7 @@ ghost use Rattle.kern_core.specs.Requests.{is_reset, after_letter, is_bounded, r
 ghost use Rattle.kern_core.specs.Requests.{debugging, debug_reply, performed_letters};
 ghost use Rattle.kern_core.specs.Debugging.{IsPreparedDebugReply, AnswersWith};
 ghost use Rattle.kern_core.specs.States.{KernelState as KernelStateOf};
-ghost use Rattle.kern_core.specs.Stands.{StandsFor, TakesTurn, HasRoom};
+ghost use Rattle.kern_core.specs.Stands.{RepresentsKernel, TakesTurn, HasRoom};
 
 use crate::call::Reply;
 use crate::fault::KernelFault;
@@ -182,7 +182,7 @@ impl KernelState {
         request: &Request,
         command: &DapCommand,
     ) -> Result<Option<Letter>, AllocError>
-        ensures { (s : KernelStateOf) → StandsFor self.now s → IfOk result (λ letter.
+        ensures { (s : KernelStateOf) → RepresentsKernel self.now s → IfOk result (λ letter.
             letter ≡ after_letter (event_after command.now) request.now s) }
     {
         match event_after(command) {
@@ -203,7 +203,7 @@ impl KernelState {
     ) -> Result<(PreparedDebugReply, Option<Letter>), AllocError>
         ensures prepared { IfOk result (λ made.
             IsPreparedDebugReply self.now.connections connection request.now debug.now made.0) }
-        ensures after { (s : KernelStateOf) → StandsFor self.now s → IfOk result (λ made.
+        ensures after { (s : KernelStateOf) → RepresentsKernel self.now s → IfOk result (λ made.
             made.1 ≡ after_letter (event_after debug.now.command) request.now s) }
     {
         let after = self.after_letter(request, &debug.command)?;

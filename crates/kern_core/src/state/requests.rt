@@ -12,7 +12,7 @@ ghost use Rattle.kern_core.specs.Requests.{interrupting, shutting, typing, closi
 ghost use Rattle.kern_core.specs.Requests.{other, arriving, with_board, cut_work};
 ghost use Rattle.lab_core.specs.Events.{reset as reset_of};
 ghost use Rattle.kern_core.specs.States.{KernelState as KernelStateOf, after, posting};
-ghost use Rattle.kern_core.specs.Stands.{StandsFor, TakesTurn, HasRoom, Grows};
+ghost use Rattle.kern_core.specs.Stands.{RepresentsKernel, TakesTurn, HasRoom, Grows};
 
 use crate::call::Reply;
 use crate::fault::KernelFault;
@@ -35,7 +35,7 @@ use std::alloc::AllocError;
 impl KernelState {
     /// Whether there is a run.
     pub(super) fn has_run(&self) -> bool
-        ensures { (s : KernelStateOf) → StandsFor self.now s → result ≡ is_run s.board.run }
+        ensures { (s : KernelStateOf) → RepresentsKernel self.now s → result ≡ is_run s.board.run }
     {
         match self.lab.run_state() {
             RunState::NoRun => false,
@@ -305,7 +305,7 @@ impl KernelState {
 
     // The envelopes for the end of the current execution, if there is a run.
     fn prepare_end_of_run(&self) -> Result<Option<PreparedEnd>, AllocError>
-        ensures { (s : KernelStateOf) → StandsFor self.now s → IfOk result (λ end.
+        ensures { (s : KernelStateOf) → RepresentsKernel self.now s → IfOk result (λ end.
             end ≡ option_map (prepared_end s.connections) (cut_of s)) }
     {
         if !self.has_run() {
@@ -328,7 +328,7 @@ impl KernelState {
         cause: Cause,
         content: Content,
     ) -> Result<Letters, AllocError>
-        ensures { (s : KernelStateOf) → StandsFor self.now s → IfOk result (λ letters.
+        ensures { (s : KernelStateOf) → RepresentsKernel self.now s → IfOk result (λ letters.
             letters ≡ between_busy_and_idle s.connections request.now.header
             (cut_letters cause s ++ reply_to connection request.now content ∷ [])) }
     {
@@ -345,7 +345,7 @@ impl KernelState {
     // Busy and idle, and the envelopes for the end of the run between them.
     fn prepare_cut(&self, header: &Bytes) -> Result<(BusyIdle, Option<PreparedEnd>), AllocError>
         ensures busy_idle { IfOk result (λ made. IsBusyIdle self.now.connections header.now made.0) }
-        ensures end { (s : KernelStateOf) → StandsFor self.now s → IfOk result (λ made.
+        ensures end { (s : KernelStateOf) → RepresentsKernel self.now s → IfOk result (λ made.
             made.1 ≡ option_map (prepared_end s.connections) (cut_of s)) }
     {
         let end = self.prepare_end_of_run()?;
@@ -399,7 +399,8 @@ impl KernelState {
         unix_seconds: u64,
     ) -> Result<(), AllocError>
         requires { HasRoom self.old }
-        ensures ok { (s : KernelStateOf) → StandsFor self.old s → OnOk result (StandsFor self.new
+        ensures ok { (s : KernelStateOf) → RepresentsKernel self.old s
+            → OnOk result (RepresentsKernel self.new
             (after (posting Reply.Arrived unix_seconds letters
             (with_board (reset_of s.board) (cut_work s) s)))) }
         ensures grows { Grows self.old self.new }

@@ -2,7 +2,7 @@
 ghost use Rattle.std.specs.Prelude.{◌≡◌, ◌<◌, ◌≤◌, ◌+◌, [], ◌∷◌, List, length, vec_capacity, IfOk};
 ghost use Rattle.std.specs.Prelude.{IfSome, Ok};
 ghost use Rattle.lab_core.specs.declared.run_state.RunState.TheVariants.{NoRun, Running};
-ghost use Rattle.kern_post.specs.Posts.{Keeps, posted};
+ghost use Rattle.kern_post.specs.Posts.{Keeps, with_posts};
 ghost use Rattle.kern_post.specs.declared.post.Post.{Post};
 ghost use Rattle.kern_exec.specs.declared.execution.Current.{Current};
 ghost use Rattle.kern_exec.specs.declared.execution.Execution.{Execution};
@@ -13,7 +13,7 @@ ghost use Rattle.kern_core.specs.Slices.{letters_of as slice_letters_of, work_af
 ghost use Rattle.kern_core.specs.Slices.{beginning, by_start, loading, slicing};
 ghost use Rattle.kern_core.specs.Running.{IsPreparedFor};
 ghost use Rattle.kern_core.specs.States.{KernelState as KernelStateOf};
-ghost use Rattle.kern_core.specs.Stands.{Stands, TakesTurn, TakesTurnIn, HasRoom};
+ghost use Rattle.kern_core.specs.Stands.{RepresentsSomeState, TakesTurn, TakesTurnIn, HasRoom};
 
 use crate::call::Reply;
 use crate::fault::KernelFault;
@@ -25,14 +25,14 @@ use kern_exec::loading::Loading;
 use kern_exec::runs::start;
 use kern_exec::slices::{PreparedSlice, letters_of, prepare_slice};
 use lab_core::answer::SliceOutcome;
-use lab_core::run_state::RunState;
 use lab_core::run_slice::run_slice;
+use lab_core::run_state::RunState;
 use std::alloc::AllocError;
 
 impl KernelState {
     pub(super) fn slice(&mut self, unix_seconds: u64) -> Result<Reply, KernelFault>
         requires room { HasRoom self.old }
-        requires stands { Stands self.old }
+        requires stands { RepresentsSomeState self.old }
         ensures { TakesTurn (slicing unix_seconds) self.old result self.new }
     {
         if self.is_shut {
@@ -91,7 +91,7 @@ impl KernelState {
         requires nonempty { 0 < length self.old.work.queue }
         ensures posts { (c : Current) → IsPreparedLoading self.old.connections c prepared
             → (posts : List Post) → Keeps posts self.old.store
-            → Keeps (posted unix_seconds (loading_letters_of self.old.connections c loading) posts)
+            → Keeps (with_posts unix_seconds (loading_letters_of self.old.connections c loading) posts)
             self.new.store }
         ensures rest { self.new ≡ record self.old { work = self.new.work; store = self.new.store } }
         ensures work { (x : Execution) (rest : List Execution) → self.old.work.queue ≡ x ∷ rest
@@ -118,7 +118,7 @@ impl KernelState {
 
     fn run(&mut self, unix_seconds: u64) -> Result<Reply, KernelFault>
         requires room { HasRoom self.old }
-        requires stands { Stands self.old }
+        requires stands { RepresentsSomeState self.old }
         ensures { TakesTurnIn Running (running unix_seconds) self.old result self.new }
     {
         let prepared = self.prepare_current_slice()?;
@@ -146,7 +146,7 @@ impl KernelState {
         requires empty { IfSome prepared (λ k. (k.text.items ≡ []) × (k.letters ≡ [])) }
         ensures posts { (s : KernelStateOf) → IsPreparedFor s.connections s.work.current prepared
             → Keeps s.posts self.old.store
-            → Keeps (posted unix_seconds
+            → Keeps (with_posts unix_seconds
             (slice_letters_of s.connections s.work.current traffic.now outcome) s.posts) self.new.store }
         ensures rest { self.new ≡ record self.old { store = self.new.store } }
         ensures made { self.new.store.made ≤ self.old.store.made + 8 }

@@ -7,8 +7,9 @@ ghost use Rattle.std.specs.Prelude.{◌≡◌, ◌+◌, ◌<◌, ◌≤◌, ◌�
 ghost use Rattle.i80_exec.specs.declared.registers.Kind.TheVariants.{Quiet, Moved};
 ghost use Rattle.i80_exec.specs.Step.{answer_of};
 ghost use Rattle.lab_frames.specs.Frames.{AtLeast, CallsAt};
-ghost use Rattle.lab_core.specs.Slices.{undefined};
-ghost use Rattle.lab_core.specs.Labs.{FindsIn, AdvancesIn, KeepsIn, KeepsAsked, IsInBurst, BurstMayBegin};
+ghost use Rattle.lab_core.specs.Slices.{end_by_undefined};
+ghost use Rattle.lab_core.specs.Labs.{ComputesIn, OneStepOnIn, SameBoardIn, KeepsAsked, IsInBurst};
+ghost use Rattle.lab_core.specs.Labs.{BurstMayBegin};
 ghost use Rattle.lab_core.specs.Labs.{MakesAtMost, LooksUp, GoesOn, IsLast, Owed, ending_of, is_step_done};
 
 use crate::answer::{End, SliceOutcome};
@@ -22,7 +23,7 @@ use std::mem;
 
 /// The result of one step of a burst.
 pub(super) enum BurstStep {
-    /// The burst continues, with this reach of the live frames.
+    /// The burst continues, with this frame floor.
     Within(u32),
     /// The step was HLT or EI, or the Step is done: the burst ends after it.
     Last,
@@ -30,17 +31,17 @@ pub(super) enum BurstStep {
     Ended(SliceOutcome),
 }
 
-// Whether a step of this kind is quiet. One that may have moved SP is so only if SP is below `reach`.
+// Whether a step of this kind is quiet. One that may have moved SP is so only if SP is below the frame floor.
 #[inline(always)]
-fn is_quiet(kind: Kind, sp: u16, reach: u32) -> bool
-    requires within { kind ≡ Quiet → sp < reach }
+fn is_quiet(kind: Kind, sp: u16, frame_floor: u32) -> bool
+    requires within { kind ≡ Quiet → sp < frame_floor }
     ensures quiet { result ≡ true → (kind ≡ Quiet) ⊎ (kind ≡ Moved) }
-    ensures within { result ≡ true → sp < reach }
-    ensures sure { (kind ≡ Quiet) ⊎ (kind ≡ Moved) → sp < reach → result ≡ true }
+    ensures within { result ≡ true → sp < frame_floor }
+    ensures sure { (kind ≡ Quiet) ⊎ (kind ≡ Moved) → sp < frame_floor → result ≡ true }
 {
     match kind {
         Kind::Quiet => true,
-        Kind::Moved => (sp as u32) < reach,
+        Kind::Moved => (sp as u32) < frame_floor,
         _ => false,
     }
 }
@@ -48,36 +49,36 @@ fn is_quiet(kind: Kind, sp: u16, reach: u32) -> bool
 impl Context {
     /// Whether a burst can begin.
     #[inline(always)]
-    pub(super) fn is_ready(&self, machine: &Machine, reach: u32) -> bool
-        requires above { (sp : ℕ) → sp < reach → AtLeast sp self.now.frames }
-        ensures ready { result ≡ true → IsInBurst reach machine.now self.now }
-        ensures sure { IsInBurst reach machine.now self.now → result ≡ true }
+    pub(super) fn is_ready(&self, machine: &Machine, frame_floor: u32) -> bool
+        requires above { (sp : ℕ) → sp < frame_floor → AtLeast sp self.now.frames }
+        ensures ready { result ≡ true → IsInBurst frame_floor machine.now self.now }
+        ensures sure { IsInBurst frame_floor machine.now self.now → result ≡ true }
     {
-        self.only_fetch_can_stop() && !machine.is_arming() && (machine.sp() as u32) < reach
+        self.only_fetch_can_stop() && !machine.is_arming() && (machine.sp() as u32) < frame_floor
     }
 
     /// Makes a burst of at most `most` steps, on a local copy of the machine: nothing else refers to it,
-    /// so its fields can stay in registers. The spare machine takes its place meanwhile. Each combination
+    /// so its fields can stay in registers. The scratch machine takes its place meanwhile. Each combination
     /// of the two constants is compiled separately, so that runs without a debugger or a Step don't pay
     /// for them.
     #[inline(never)]
     pub(super) fn burst_apart<const LOOKS_UP: bool, const IS_ASKED: bool>(
         &mut self,
         machine: &mut Machine,
-        spare: &mut Option<Machine>,
+        scratch: &mut Option<Machine>,
         most: u16,
-        reach: u32,
+        frame_floor: u32,
     ) -> (u16, Option<SliceOutcome>)
-        requires spare { IsSome spare.old }
+        requires scratch { IsSome scratch.old }
         requires looks { LooksUp LOOKS_UP self.old }
-        requires may { BurstMayBegin most reach IS_ASKED machine.old self.old }
+        requires may { BurstMayBegin most frame_floor IS_ASKED machine.old self.old }
         ensures made { MakesAtMost most result (machine.old, self.old) (machine.new, self.new) }
-        ensures spare { IsSome spare.new }
+        ensures scratch { IsSome scratch.new }
     {
-        let given = spare.take().unwrap();
+        let given = scratch.take().unwrap();
         let mut local = mem::replace(machine, given);
-        let made = self.burst(&mut local, most, LOOKS_UP, IS_ASKED, reach);
-        *spare = Some(mem::replace(machine, local));
+        let made = self.burst(&mut local, most, LOOKS_UP, IS_ASKED, frame_floor);
+        *scratch = Some(mem::replace(machine, local));
         made
     }
 
@@ -89,17 +90,17 @@ impl Context {
         most: u16,
         looks_up: bool,
         is_asked: bool,
-        reach: u32,
+        frame_floor: u32,
     ) -> (u16, Option<SliceOutcome>)
         requires looks { LooksUp looks_up self.old }
-        requires may { BurstMayBegin most reach is_asked machine.old self.old }
+        requires may { BurstMayBegin most frame_floor is_asked machine.old self.old }
         ensures { MakesAtMost most result (machine.old, self.old) (machine.new, self.new) }
     {
         let mut left = most;
-        let mut reach = reach;
+        let mut frame_floor = frame_floor;
         while left > 0 {
-            match self.burst_step(machine, is_asked, reach) {
-                BurstStep::Within(now) => reach = now,
+            match self.burst_step(machine, is_asked, frame_floor) {
+                BurstStep::Within(now) => frame_floor = now,
                 BurstStep::Last => return (most - left + 1, None),
                 BurstStep::Ended(outcome) => {
                     cold_path();
@@ -120,14 +121,14 @@ impl Context {
         &mut self,
         machine: &mut Machine,
         is_asked: bool,
-        reach: u32,
+        frame_floor: u32,
     ) -> BurstStep
         requires room { 1 ≤ self.old.devices.spare }
-        requires ready { IsInBurst reach machine.old self.old }
+        requires ready { IsInBurst frame_floor machine.old self.old }
         requires asked { is_some self.old.request ≡ is_asked }
-        ensures undefined { FindsIn undefined (ending_of result) machine.old self.old }
-        ensures ended { IsSome (ending_of result) → KeepsIn machine.old self.old machine.new self.new }
-        ensures made { ending_of result ≡ None → AdvancesIn machine.old self.old machine.new self.new }
+        ensures undefined { ComputesIn end_by_undefined (ending_of result) machine.old self.old }
+        ensures ended { IsSome (ending_of result) → SameBoardIn machine.old self.old machine.new self.new }
+        ensures made { ending_of result ≡ None → OneStepOnIn machine.old self.old machine.new self.new }
         ensures on { (now : ℕ) → result ≡ BurstStep.Within now → IsInBurst now machine.new self.new }
         ensures spare { self.old.devices.spare ≤ self.new.devices.spare + 1 }
         ensures kept { KeepsAsked self.old self.new }
@@ -135,8 +136,8 @@ impl Context {
         let pc = machine.pc();
         let kind = settled_step(machine, &mut self.devices);
         let sp = machine.sp();
-        if is_quiet(kind, sp, reach) {
-            return BurstStep::Within(reach);
+        if is_quiet(kind, sp, frame_floor) {
+            return BurstStep::Within(frame_floor);
         }
         // A constant kind in each arm lets the compiler specialize what `advance` does to the frames.
         match kind {
@@ -153,8 +154,8 @@ impl Context {
         requires calls { CallsAt (answer_of kind machine.now) machine.now.regs.sp }
         requires asked { is_some self.old.request ≡ is_asked }
         ensures owed { Owed (answer_of kind machine.now) site machine.now.regs.sp self.old self.new result }
-        ensures on { (reach : ℕ) → result ≡ BurstStep.Within reach
-            → GoesOn kind machine.now.regs.sp reach self.new }
+        ensures on { (frame_floor : ℕ) → result ≡ BurstStep.Within frame_floor
+            → GoesOn kind machine.now.regs.sp frame_floor self.new }
         ensures last { result ≡ BurstStep.Last
             → IsLast kind ⊎ (is_step_done self.new.request self.new ≡ true) }
     {
@@ -169,7 +170,7 @@ impl Context {
         if self.is_last(kind, is_asked) {
             return BurstStep::Last;
         }
-        BurstStep::Within(self.frames.reach())
+        BurstStep::Within(self.frames.frame_floor())
     }
 
     // Whether the burst ends after a step of this kind: EI, HLT, or one after which the Step is done.

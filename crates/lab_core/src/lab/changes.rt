@@ -2,7 +2,7 @@
 ghost use Rattle.std.specs.Prelude.{◌≡◌};
 ghost use Rattle.lab_core.specs.Board.{Board};
 ghost use Rattle.lab_core.specs.Changes.{with_bytes, after_write, after_registers};
-ghost use Rattle.lab_core.specs.Labs.{StandsFor};
+ghost use Rattle.lab_core.specs.Labs.{RepresentsBoard};
 
 use crate::lab::Lab;
 use i80_exec::machine::Machine;
@@ -11,7 +11,8 @@ use i80_exec::registers::Registers;
 impl Lab {
     /// Writes bytes to memory from an address on, wrapping from FFFFH to 0000H. This isn't a step of the run.
     pub fn write(&mut self, address: u16, bytes: &[u8])
-        ensures { (b : Board) → StandsFor self.old b → StandsFor self.new (after_write address bytes.now b) }
+        ensures { (b : Board) → RepresentsBoard self.old b
+            → RepresentsBoard self.new (after_write address bytes.now b) }
     {
         store(&mut self.machine, address, bytes);
     }
@@ -19,7 +20,8 @@ impl Lab {
     /// Sets the registers, flags and interrupt state, and cancels a pending Step. This isn't a step of the
     /// run.
     pub fn set_registers(&mut self, registers: Registers)
-        ensures { (b : Board) → StandsFor self.old b → StandsFor self.new (after_registers registers b) }
+        ensures { (b : Board) → RepresentsBoard self.old b
+            → RepresentsBoard self.new (after_registers registers b) }
     {
         self.machine.set_regs(registers);
         self.context.request = None;

@@ -1,8 +1,8 @@
 //! The debugger's events: pausing and continuing a run, breakpoints, views.
 ghost use Rattle.std.specs.Prelude.{◌≡◌, Err, map, IfOk, OnErr};
 ghost use Rattle.lab_core.specs.Board.{Board};
-ghost use Rattle.lab_core.specs.Events.{going_on, is_stopped, verified, parts_of};
-ghost use Rattle.lab_core.specs.Labs.{StandsFor, AppliesTo};
+ghost use Rattle.lab_core.specs.Events.{going_on, is_stopped, breakpoint_at, parts_of};
+ghost use Rattle.lab_core.specs.Labs.{RepresentsBoard, AppliesTo};
 ghost use Rattle.lab_core.specs.Memory.{MayLackMemory};
 ghost use Rattle.lab_views.specs.Parts as views;
 
@@ -21,7 +21,7 @@ use std::alloc::{AllocError, Global};
 
 // A breakpoint for each line. It is verified if the text has that line.
 fn verify(alloc: Global, text: &str, lines: &[u32]) -> Result<Sequence<Breakpoint>, AllocError>
-    ensures { IfOk result (λ breakpoints. breakpoints ≡ map (verified text.now) lines.now) }
+    ensures { IfOk result (λ breakpoints. breakpoints ≡ map (breakpoint_at text.now) lines.now) }
 {
     let count = line_count(text);
     let mut breakpoints = Sequence::new(alloc);
@@ -89,7 +89,7 @@ impl Lab {
 
     // Continues the run, and resets what a Step counts by.
     fn go_on(&mut self, request: Option<StepRequest>)
-        ensures { (b : Board) → StandsFor self.old b → StandsFor self.new (going_on request b) }
+        ensures { (b : Board) → RepresentsBoard self.old b → RepresentsBoard self.new (going_on request b) }
     {
         self.run_state = RunState::Running;
         self.context.is_resumed = true;
@@ -157,7 +157,7 @@ impl Lab {
     }
 
     fn parts(&self) -> Parts<'_>
-        ensures { (b : Board) → StandsFor self.now b → views.StandsFor result (parts_of b) }
+        ensures { (b : Board) → RepresentsBoard self.now b → views.RepresentsParts result (parts_of b) }
     {
         Parts {
             machine: &self.machine,

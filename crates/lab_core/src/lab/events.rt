@@ -1,9 +1,9 @@
 //! Applying events to a board, one or a list.
 ghost use Rattle.std.specs.Prelude.{◌≡◌, [], All, false, None, OnErr, IfOk, IsTrue, ◌↔◌, Err};
 ghost use Rattle.lab_core.specs.Board.{Board};
-ghost use Rattle.lab_core.specs.Events.{Fits, ended, machine_reset};
+ghost use Rattle.lab_core.specs.Events.{Fits, after_end, machine_reset};
 ghost use Rattle.lab_core.specs.Memory.{MayLackMemory};
-ghost use Rattle.lab_core.specs.Labs.{StandsFor, AppliesTo};
+ghost use Rattle.lab_core.specs.Labs.{RepresentsBoard, AppliesTo};
 ghost use Rattle.lab_core.specs.Replies.{RepliesTo, RepliesInOrder};
 
 use crate::answer::{Answer, Answers, EventsFault, Wanted};
@@ -131,7 +131,7 @@ impl Lab {
 
     fn end_run(&mut self) -> Answer
         ensures answer { result ≡ Answer.Interrupted }
-        ensures stands { (b : Board) → StandsFor self.old b → StandsFor self.new (ended b) }
+        ensures stands { (b : Board) → RepresentsBoard self.old b → RepresentsBoard self.new (after_end b) }
     {
         self.run_state = RunState::NoRun;
         self.context.request = None;

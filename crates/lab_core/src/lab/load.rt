@@ -4,8 +4,8 @@ ghost use Rattle.asm_syntax.specs.Outcome.{Gives};
 ghost use Rattle.asm_build.specs.Meaning.{meaning_in};
 ghost use Rattle.lab_core.specs.Board.{Board};
 ghost use Rattle.lab_image.specs.Sources.{number_at};
-ghost use Rattle.lab_core.specs.Events.{assembled, with_built, with_cell, given};
-ghost use Rattle.lab_core.specs.Labs.{StandsFor, AppliesTo, Does};
+ghost use Rattle.lab_core.specs.Events.{cell_meaning, with_built, with_cell, result_of};
+ghost use Rattle.lab_core.specs.Labs.{RepresentsBoard, AppliesTo, Does};
 ghost use Rattle.lab_core.specs.Memory.{MayLackMemory};
 
 use crate::answer::Answer;
@@ -22,7 +22,7 @@ use std::alloc::AllocError;
 
 impl Lab {
     pub(super) fn load(&mut self, path: &str, text: &str) -> Result<Answer, EventFault>
-        ensures given { Does (given (Event.Load path.now text.now)) self.old result self.new }
+        ensures given { Does (result_of (Event.Load path.now text.now)) self.old result self.new }
         ensures err { OnErr result (self.new ≡ self.old) }
         ensures memory { result ≡ Err EventFault.OutOfMemory
             → MayLackMemory (Event.Load path.now text.now) self.old }
@@ -56,7 +56,7 @@ impl Lab {
     }
 
     fn assemble(&self, text: &str) -> Result<Built, AsmFault>
-        ensures { Gives meaning_in result (assembled self.now.symbols text.now) }
+        ensures { Gives meaning_in result (cell_meaning self.now.symbols text.now) }
     {
         let statements = statements(self.alloc, text)?;
         let built = build(self.alloc, &statements, &self.symbols);
@@ -73,7 +73,7 @@ impl Lab {
         built: Built,
     ) -> Result<(), AllocError>
         requires { number_at place self.old.sources < 1024 }
-        ensures ok { OnOk result ((b : Board) → StandsFor self.old b → StandsFor self.new
+        ensures ok { OnOk result ((b : Board) → RepresentsBoard self.old b → RepresentsBoard self.new
             (with_cell (record { path = path.now; text = text.now }) place (meaning_in built) b)) }
         ensures err { OnErr result (self.new ≡ self.old) }
     {
@@ -91,8 +91,8 @@ impl Lab {
 
     // Writes an assembled cell to memory as the source of this number, and keeps its symbols.
     fn put(&mut self, number: u32, built: Built) -> Result<(), AllocError>
-        ensures ok { OnOk result ((b : Board) → StandsFor self.old b
-            → StandsFor self.new (with_built number (meaning_in built) b)) }
+        ensures ok { OnOk result ((b : Board) → RepresentsBoard self.old b
+            → RepresentsBoard self.new (with_built number (meaning_in built) b)) }
         ensures sources { self.new.sources ≡ self.old.sources }
         ensures err { OnErr result (self.new ≡ self.old) }
     {

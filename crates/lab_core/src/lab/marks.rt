@@ -2,7 +2,8 @@
 ghost use Rattle.std.specs.Prelude.{◌≡◌, ◌+◌, ◌-◌, ◌<◌, ◌≤◌, None, Err, IsSome, is_some, OnErr};
 ghost use Rattle.lab_core.specs.Board.{Board};
 ghost use Rattle.lab_core.specs.Slices.{IsSlice, after_steps, traffic_of, left_by};
-ghost use Rattle.lab_core.specs.Labs.{LabState, StandsFor, StandsAmid, amid, Watches, BurstMayBegin};
+ghost use Rattle.lab_core.specs.Labs.{LabState, RepresentsBoard, RepresentsDuringSlice, amid, Watches};
+ghost use Rattle.lab_core.specs.Labs.{BurstMayBegin};
 ghost use Rattle.lab_core.specs.Labs.{MakesAtMost};
 ghost use Rattle.lab_core.specs.Marks.{SlicesTo, Leaves, first_mark, marks_after, IsKept, PassesIn};
 
@@ -45,11 +46,13 @@ impl Lab {
     // The slice's steps.
     fn run_to(&mut self, n: u16, marks: &mut Marks) -> (u16, SliceOutcome)
         requires { n ≤ self.old.devices.spare }
-        ensures slice { (b : Board) → StandsFor self.old b
+        ensures slice { (b : Board) → RepresentsBoard self.old b
             → IsSlice (first_mark marks.old n b) b result.0 result.1 }
-        ensures stands { (b : Board) → StandsFor self.old b
-            → StandsAmid self.new (left_by result.1 (after_steps result.0 b)) (traffic_of result.0 b) }
-        ensures marks { (b : Board) → StandsFor self.old b → marks.new ≡ marks_after result.0 b marks.old }
+        ensures stands { (b : Board) → RepresentsBoard self.old b
+            → RepresentsDuringSlice self.new (left_by result.1 (after_steps result.0 b)) (traffic_of
+            result.0 b) }
+        ensures marks { (b : Board) → RepresentsBoard self.old b
+            → marks.new ≡ marks_after result.0 b marks.old }
     {
         marks.begin(&self.machine);
         let (executed, outcome) = self.steps_to(n, marks);
@@ -61,16 +64,16 @@ impl Lab {
     fn steps_to(&mut self, n: u16, marks: &Marks) -> (u16, SliceOutcome)
         requires room { n ≤ self.old.devices.spare }
         requires kept { IsKept self.old.machine marks.now }
-        ensures slice { (b : Board) → StandsFor self.old b
+        ensures slice { (b : Board) → RepresentsBoard self.old b
             → IsSlice (first_mark marks.now n b) b result.0 result.1 }
-        ensures stands { (b : Board) → StandsFor self.old b
-            → StandsAmid self.new (after_steps result.0 b) (traffic_of result.0 b) }
-        ensures kept { (b : Board) → StandsFor self.old b
+        ensures stands { (b : Board) → RepresentsBoard self.old b
+            → RepresentsDuringSlice self.new (after_steps result.0 b) (traffic_of result.0 b) }
+        ensures kept { (b : Board) → RepresentsBoard self.old b
             → IsKept (after_steps (result.0 - 1) b).machine marks.now }
     {
         let is_watched = self.is_watched();
         self.context
-            .steps_to(&mut self.machine, &mut self.spare, n, is_watched, marks)
+            .steps_to(&mut self.machine, &mut self.scratch, n, is_watched, marks)
     }
 }
 
@@ -79,26 +82,27 @@ impl Context {
     fn steps_to(
         &mut self,
         machine: &mut Machine,
-        spare: &mut Option<Machine>,
+        scratch: &mut Option<Machine>,
         n: u16,
         is_watched: bool,
         marks: &Marks,
     ) -> (u16, SliceOutcome)
-        requires spare { IsSome spare.old }
+        requires scratch { IsSome scratch.old }
         requires room { n ≤ self.old.devices.spare }
         requires watched { Watches is_watched self.old.is_attached self.old.request }
         requires kept { IsKept machine.old marks.now }
-        ensures slice { (lab : LabState) (b : Board) → StandsFor (amid lab machine.old self.old) b
+        ensures slice { (lab : LabState) (b : Board) → RepresentsBoard (amid lab machine.old self.old) b
             → IsSlice (first_mark marks.now n b) b result.0 result.1 }
-        ensures stands { (lab : LabState) (b : Board) → StandsFor (amid lab machine.old self.old) b
-            → StandsAmid (amid lab machine.new self.new) (after_steps result.0 b) (traffic_of result.0 b) }
-        ensures kept { (lab : LabState) (b : Board) → StandsFor (amid lab machine.old self.old) b
+        ensures stands { (lab : LabState) (b : Board) → RepresentsBoard (amid lab machine.old self.old) b
+            → RepresentsDuringSlice (amid lab machine.new self.new) (after_steps result.0 b) (traffic_of
+            result.0 b) }
+        ensures kept { (lab : LabState) (b : Board) → RepresentsBoard (amid lab machine.old self.old) b
             → IsKept (after_steps (result.0 - 1) b).machine marks.now }
-        ensures spare { IsSome spare.new }
+        ensures scratch { IsSome scratch.new }
     {
         let mut k = 0u16;
         while k < n {
-            let (made, found) = self.round_to(machine, spare, n - k, is_watched, marks);
+            let (made, found) = self.round_to(machine, scratch, n - k, is_watched, marks);
             k += made;
             if let Some(outcome) = found {
                 cold_path();
@@ -119,12 +123,12 @@ impl Context {
     fn round_to(
         &mut self,
         machine: &mut Machine,
-        spare: &mut Option<Machine>,
+        scratch: &mut Option<Machine>,
         most: u16,
         is_watched: bool,
         marks: &Marks,
     ) -> (u16, Option<SliceOutcome>)
-        requires spare { IsSome spare.old }
+        requires scratch { IsSome scratch.old }
         requires room { most ≤ self.old.devices.spare }
         requires some { 1 ≤ most }
         requires watched { Watches is_watched self.old.is_attached self.old.request }
@@ -132,17 +136,17 @@ impl Context {
         ensures made { MakesAtMost most result (machine.old, self.old) (machine.new, self.new) }
         ensures passes { PassesIn marks.now result.0 machine.old self.old }
         ensures unmarked { IsSome result.1 → PassesIn marks.now (result.0 + 1) machine.old self.old }
-        ensures spare { IsSome spare.new }
+        ensures scratch { IsSome scratch.new }
     {
         if let Some(outcome) = self.reason_before(machine, is_watched) {
             cold_path();
             return (0, Some(outcome));
         }
-        let reach = self.frames.reach();
-        if !self.is_ready(machine, reach) {
+        let frame_floor = self.frames.frame_floor();
+        if !self.is_ready(machine, frame_floor) {
             return self.single(machine);
         }
-        self.burst_to_apart(machine, spare, most, reach, marks)
+        self.burst_to_apart(machine, scratch, most, frame_floor, marks)
     }
 
     // Such a burst, on a local machine as in `burst_apart`.
@@ -150,24 +154,24 @@ impl Context {
     fn burst_to_apart(
         &mut self,
         machine: &mut Machine,
-        spare: &mut Option<Machine>,
+        scratch: &mut Option<Machine>,
         most: u16,
-        reach: u32,
+        frame_floor: u32,
         marks: &Marks,
     ) -> (u16, Option<SliceOutcome>)
-        requires spare { IsSome spare.old }
+        requires scratch { IsSome scratch.old }
         requires some { 1 ≤ most }
-        requires may { BurstMayBegin most reach (is_some self.old.request) machine.old self.old }
+        requires may { BurstMayBegin most frame_floor (is_some self.old.request) machine.old self.old }
         requires kept { IsKept machine.old marks.now }
         ensures made { MakesAtMost most result (machine.old, self.old) (machine.new, self.new) }
         ensures passes { PassesIn marks.now result.0 machine.old self.old }
         ensures unmarked { IsSome result.1 → PassesIn marks.now (result.0 + 1) machine.old self.old }
-        ensures spare { IsSome spare.new }
+        ensures scratch { IsSome scratch.new }
     {
-        let given = spare.take().unwrap();
+        let given = scratch.take().unwrap();
         let mut local = mem::replace(machine, given);
-        let made = self.burst_to(&mut local, most, reach, marks);
-        *spare = Some(mem::replace(machine, local));
+        let made = self.burst_to(&mut local, most, frame_floor, marks);
+        *scratch = Some(mem::replace(machine, local));
         made
     }
 
@@ -177,11 +181,11 @@ impl Context {
         &mut self,
         machine: &mut Machine,
         most: u16,
-        reach: u32,
+        frame_floor: u32,
         marks: &Marks,
     ) -> (u16, Option<SliceOutcome>)
         requires some { 1 ≤ most }
-        requires may { BurstMayBegin most reach (is_some self.old.request) machine.old self.old }
+        requires may { BurstMayBegin most frame_floor (is_some self.old.request) machine.old self.old }
         requires kept { IsKept machine.old marks.now }
         ensures made { MakesAtMost most result (machine.old, self.old) (machine.new, self.new) }
         ensures passes { PassesIn marks.now result.0 machine.old self.old }
@@ -190,10 +194,10 @@ impl Context {
         let looks_up = self.looks_up();
         let is_asked = self.request.is_some();
         let mut left = most;
-        let mut reach = reach;
+        let mut frame_floor = frame_floor;
         while left > 0 {
-            match self.burst_step(machine, is_asked, reach) {
-                BurstStep::Within(now) => reach = now,
+            match self.burst_step(machine, is_asked, frame_floor) {
+                BurstStep::Within(now) => frame_floor = now,
                 BurstStep::Last => return (most - left + 1, None),
                 BurstStep::Ended(outcome) => {
                     cold_path();

@@ -1,8 +1,8 @@
 //! Snapshots of a run.
 ghost use Rattle.std.specs.Prelude.{◌≡◌, IfOk, OnOk, OnErr};
 ghost use Rattle.lab_core.specs.Board.{Board};
-ghost use Rattle.lab_core.specs.Labs.{StandsFor};
-ghost use Rattle.lab_core.specs.Moments.{IsMomentOf, put_back, held};
+ghost use Rattle.lab_core.specs.Labs.{RepresentsBoard};
+ghost use Rattle.lab_core.specs.Moments.{IsMomentOf, put_back, after_hold};
 
 use crate::lab::Lab;
 use crate::run_state::RunState;
@@ -37,7 +37,7 @@ impl Model for Moment {
 impl Lab {
     /// Takes a snapshot of the run.
     pub fn moment(&self) -> Result<Moment, AllocError>
-        ensures { (b : Board) → StandsFor self.now b → IfOk result (λ moment. IsMomentOf moment b) }
+        ensures { (b : Board) → RepresentsBoard self.now b → IfOk result (λ moment. IsMomentOf moment b) }
     {
         let machine = self.machine.copy()?;
         let devices = self.context.devices.copy()?;
@@ -53,8 +53,8 @@ impl Lab {
     /// Puts the run back to a moment, running and without a debugger. Breakpoints, texts and symbols keep
     /// their present values. On error nothing changes.
     pub fn put_back(&mut self, moment: &Moment) -> Result<(), AllocError>
-        ensures ok { (was now : Board) → IsMomentOf moment.now was → StandsFor self.old now
-            → OnOk result (StandsFor self.new (put_back was now)) }
+        ensures ok { (was now : Board) → IsMomentOf moment.now was → RepresentsBoard self.old now
+            → OnOk result (RepresentsBoard self.new (put_back was now)) }
         ensures err { OnErr result (self.new ≡ self.old) }
     {
         // Every allocation comes before the first change.
@@ -75,7 +75,7 @@ impl Lab {
 
     /// Attaches a debugger and stops the run where it is.
     pub fn hold(&mut self)
-        ensures { (b : Board) → StandsFor self.old b → StandsFor self.new (held b) }
+        ensures { (b : Board) → RepresentsBoard self.old b → RepresentsBoard self.new (after_hold b) }
     {
         self.context.is_attached = true;
         self.context.is_resumed = true;

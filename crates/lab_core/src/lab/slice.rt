@@ -3,7 +3,7 @@ ghost use Rattle.std.specs.Prelude.{◌≡◌, ◌≤◌, List, Err, OnErr};
 ghost use Rattle.i80_exec.specs.declared.ports.PortOperation.{PortOperation};
 ghost use Rattle.lab_core.specs.Board.{Board};
 ghost use Rattle.lab_core.specs.Slices.{IsSlice, after_steps, traffic_of, left_by};
-ghost use Rattle.lab_core.specs.Labs.{StandsFor, StandsAmid, AppliesTo, Watches};
+ghost use Rattle.lab_core.specs.Labs.{RepresentsBoard, RepresentsDuringSlice, AppliesTo, Watches};
 ghost use Rattle.lab_core.specs.Memory.{MayLackMemory};
 
 use crate::answer::{Answer, SliceOutcome};
@@ -37,9 +37,10 @@ impl Lab {
     // The slice's steps. Without a debugger and a Step, neither breakpoints nor Steps are checked for.
     fn run_on(&mut self, n: u16) -> (u16, SliceOutcome)
         requires { n ≤ self.old.devices.spare }
-        ensures slice { (b : Board) → StandsFor self.old b → IsSlice n b result.0 result.1 }
-        ensures stands { (b : Board) → StandsFor self.old b
-            → StandsAmid self.new (left_by result.1 (after_steps result.0 b)) (traffic_of result.0 b) }
+        ensures slice { (b : Board) → RepresentsBoard self.old b → IsSlice n b result.0 result.1 }
+        ensures stands { (b : Board) → RepresentsBoard self.old b
+            → RepresentsDuringSlice self.new (left_by result.1 (after_steps result.0 b)) (traffic_of
+            result.0 b) }
     {
         let (executed, outcome) = self.steps(n, self.is_watched());
         self.leave(outcome);
@@ -56,18 +57,18 @@ impl Lab {
     fn steps(&mut self, n: u16, is_watched: bool) -> (u16, SliceOutcome)
         requires room { n ≤ self.old.devices.spare }
         requires watched { Watches is_watched self.old.is_attached self.old.request }
-        ensures slice { (b : Board) → StandsFor self.old b → IsSlice n b result.0 result.1 }
-        ensures stands { (b : Board) → StandsFor self.old b
-            → StandsAmid self.new (after_steps result.0 b) (traffic_of result.0 b) }
+        ensures slice { (b : Board) → RepresentsBoard self.old b → IsSlice n b result.0 result.1 }
+        ensures stands { (b : Board) → RepresentsBoard self.old b
+            → RepresentsDuringSlice self.new (after_steps result.0 b) (traffic_of result.0 b) }
     {
         self.context
-            .steps(&mut self.machine, &mut self.spare, n, is_watched)
+            .steps(&mut self.machine, &mut self.scratch, n, is_watched)
     }
 
     /// Stops or ends the run if the slice did.
     pub(super) fn leave(&mut self, outcome: SliceOutcome)
-        ensures { (b : Board) (traffic : List PortOperation) → StandsAmid self.old b traffic
-            → StandsAmid self.new (left_by outcome b) traffic }
+        ensures { (b : Board) (traffic : List PortOperation) → RepresentsDuringSlice self.old b traffic
+            → RepresentsDuringSlice self.new (left_by outcome b) traffic }
     {
         match outcome {
             SliceOutcome::More => {}

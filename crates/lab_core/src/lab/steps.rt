@@ -3,8 +3,10 @@ ghost use Rattle.std.specs.Prelude.{◌≡◌, ◌+◌, ◌≤◌, min, true, No
 ghost use Rattle.i80_exec.specs.Step.{is_halt};
 ghost use Rattle.lab_core.specs.Board.{Board};
 ghost use Rattle.lab_core.specs.Stops.{is_gone_after};
-ghost use Rattle.lab_core.specs.Slices.{undefined, reason_before_fetch, IsSlice, after_steps, traffic_of};
-ghost use Rattle.lab_core.specs.Labs.{LabState, StandsFor, StandsAmid, amid, FindsIn, AdvancesIn, KeepsIn};
+ghost use Rattle.lab_core.specs.Slices.{end_by_undefined, reason_before_fetch, IsSlice, after_steps};
+ghost use Rattle.lab_core.specs.Slices.{traffic_of};
+ghost use Rattle.lab_core.specs.Labs.{LabState, RepresentsBoard, RepresentsDuringSlice, amid, ComputesIn};
+ghost use Rattle.lab_core.specs.Labs.{OneStepOnIn, SameBoardIn};
 ghost use Rattle.lab_core.specs.Labs.{Watches, KeepsAsked, OnlyFetchCanStop, MakesAtMost};
 
 use crate::answer::{End, SliceOutcome};
@@ -40,22 +42,23 @@ impl Context {
     pub(super) fn steps(
         &mut self,
         machine: &mut Machine,
-        spare: &mut Option<Machine>,
+        scratch: &mut Option<Machine>,
         n: u16,
         is_watched: bool,
     ) -> (u16, SliceOutcome)
-        requires spare { IsSome spare.old }
+        requires scratch { IsSome scratch.old }
         requires room { n ≤ self.old.devices.spare }
         requires watched { Watches is_watched self.old.is_attached self.old.request }
-        ensures slice { (lab : LabState) (b : Board) → StandsFor (amid lab machine.old self.old) b
+        ensures slice { (lab : LabState) (b : Board) → RepresentsBoard (amid lab machine.old self.old) b
             → IsSlice n b result.0 result.1 }
-        ensures stands { (lab : LabState) (b : Board) → StandsFor (amid lab machine.old self.old) b
-            → StandsAmid (amid lab machine.new self.new) (after_steps result.0 b) (traffic_of result.0 b) }
-        ensures spare { IsSome spare.new }
+        ensures stands { (lab : LabState) (b : Board) → RepresentsBoard (amid lab machine.old self.old) b
+            → RepresentsDuringSlice (amid lab machine.new self.new) (after_steps result.0 b) (traffic_of
+            result.0 b) }
+        ensures scratch { IsSome scratch.new }
     {
         let mut k = 0u16;
         while k < n {
-            let (made, found) = self.round(machine, spare, n - k, is_watched);
+            let (made, found) = self.round(machine, scratch, n - k, is_watched);
             k += made;
             if let Some(outcome) = found {
                 cold_path();
@@ -71,43 +74,43 @@ impl Context {
     fn round(
         &mut self,
         machine: &mut Machine,
-        spare: &mut Option<Machine>,
+        scratch: &mut Option<Machine>,
         most: u16,
         is_watched: bool,
     ) -> (u16, Option<SliceOutcome>)
-        requires spare { IsSome spare.old }
+        requires scratch { IsSome scratch.old }
         requires room { most ≤ self.old.devices.spare }
         requires some { 1 ≤ most }
         requires watched { Watches is_watched self.old.is_attached self.old.request }
         ensures made { MakesAtMost most result (machine.old, self.old) (machine.new, self.new) }
-        ensures spare { IsSome spare.new }
+        ensures scratch { IsSome scratch.new }
     {
         if let Some(outcome) = self.reason_before(machine, is_watched) {
             cold_path();
             return (0, Some(outcome));
         }
-        let reach = self.frames.reach();
-        if !self.is_ready(machine, reach) {
+        let frame_floor = self.frames.frame_floor();
+        if !self.is_ready(machine, frame_floor) {
             return self.single(machine);
         }
         let looks_up = self.looks_up();
         if self.request.is_some() {
             if looks_up {
-                return self.burst_apart::<true, true>(machine, spare, most, reach);
+                return self.burst_apart::<true, true>(machine, scratch, most, frame_floor);
             }
-            return self.burst_apart::<false, true>(machine, spare, most, reach);
+            return self.burst_apart::<false, true>(machine, scratch, most, frame_floor);
         }
         if looks_up {
-            return self.burst_apart::<true, false>(machine, spare, most, reach);
+            return self.burst_apart::<true, false>(machine, scratch, most, frame_floor);
         }
-        self.burst_apart::<false, false>(machine, spare, most, reach)
+        self.burst_apart::<false, false>(machine, scratch, most, frame_floor)
     }
 
     /// Makes at most one step. Not inlined, since each copy would carry the code of all opcodes.
     #[inline(never)]
     pub(super) fn single(&mut self, machine: &mut Machine) -> (u16, Option<SliceOutcome>)
         requires room { 1 ≤ self.old.devices.spare }
-        requires free { FindsIn reason_before_fetch None machine.old self.old }
+        requires free { ComputesIn reason_before_fetch None machine.old self.old }
         ensures { MakesAtMost 1 result (machine.old, self.old) (machine.new, self.new) }
     {
         match self.step(machine) {
@@ -120,9 +123,9 @@ impl Context {
     #[inline(always)]
     fn step(&mut self, machine: &mut Machine) -> Option<SliceOutcome>
         requires room { 1 ≤ self.old.devices.spare }
-        ensures undefined { FindsIn undefined result machine.old self.old }
-        ensures some { IsSome result → KeepsIn machine.old self.old machine.new self.new }
-        ensures none { IfNone result (AdvancesIn machine.old self.old machine.new self.new) }
+        ensures undefined { ComputesIn end_by_undefined result machine.old self.old }
+        ensures some { IsSome result → SameBoardIn machine.old self.old machine.new self.new }
+        ensures none { IfNone result (OneStepOnIn machine.old self.old machine.new self.new) }
         ensures spare { self.old.devices.spare ≤ self.new.devices.spare + 1 }
         ensures kept { KeepsAsked self.old self.new }
     {

@@ -3,9 +3,10 @@ ghost use Rattle.std.specs.Prelude.{◌≡◌, ◌&&◌, true, if◌then◌else�
 ghost use Rattle.std.specs.Option.{option_or};
 ghost use Rattle.lab_core.specs.Stops.{at_breakpoint, meets_breakpoint, complete, completes, is_reached};
 ghost use Rattle.lab_core.specs.Stops.{is_first, is_there};
-ghost use Rattle.lab_core.specs.Slices.{is_off, is_on, halted, waiting};
+ghost use Rattle.lab_core.specs.Slices.{is_off, is_on, end_by_halt, waiting};
 ghost use Rattle.lab_core.specs.Slices.{reason_after_step, reason_before_fetch};
-ghost use Rattle.lab_core.specs.Labs.{FindsIn, Watches, OnlyFetchCanStop, LooksUp, is_done_in, is_step_done};
+ghost use Rattle.lab_core.specs.Labs.{ComputesIn, Watches, OnlyFetchCanStop, LooksUp, is_done_in};
+ghost use Rattle.lab_core.specs.Labs.{is_step_done};
 
 use crate::answer::{End, SliceOutcome, Stop};
 use crate::event::{Granularity, StepKind, StepRequest};
@@ -70,7 +71,7 @@ impl Context {
     pub(super) fn met(&self, machine: &Machine, looks_up: bool) -> Option<SliceOutcome>
         requires looks { LooksUp looks_up self.now }
         requires only_fetch { OnlyFetchCanStop self.now }
-        ensures { FindsIn reason_before_fetch result machine.now self.now }
+        ensures { ComputesIn reason_before_fetch result machine.now self.now }
     {
         if self.is_met(machine, looks_up) {
             Some(SliceOutcome::Stop(Stop::Breakpoint))
@@ -83,7 +84,7 @@ impl Context {
     fn is_met(&self, machine: &Machine, looks_up: bool) -> bool
         requires looks { LooksUp looks_up self.now }
         requires moved { self.now.has_moved ≡ true }
-        ensures { FindsIn meets_breakpoint result machine.now self.now }
+        ensures { ComputesIn meets_breakpoint result machine.now self.now }
     {
         let pc = machine.pc();
         looks_up && self.breakpoints.is_at(pc)
@@ -93,7 +94,7 @@ impl Context {
     #[inline(always)]
     pub(super) fn reason_before(&self, machine: &Machine, is_watched: bool) -> Option<SliceOutcome>
         requires { Watches is_watched self.now.is_attached self.now.request }
-        ensures { FindsIn reason_before_fetch result machine.now self.now }
+        ensures { ComputesIn reason_before_fetch result machine.now self.now }
     {
         match self.reason_after(machine, is_watched) {
             Some(outcome) => Some(outcome),
@@ -105,7 +106,7 @@ impl Context {
     #[inline(always)]
     pub(super) fn reason_after(&self, machine: &Machine, is_watched: bool) -> Option<SliceOutcome>
         requires { Watches is_watched self.now.is_attached self.now.request }
-        ensures { FindsIn reason_after_step result machine.now self.now }
+        ensures { ComputesIn reason_after_step result machine.now self.now }
     {
         match self.halt_end(machine) {
             Some(outcome) => Some(outcome),
@@ -121,7 +122,7 @@ impl Context {
 
     #[inline(always)]
     fn halt_end(&self, machine: &Machine) -> Option<SliceOutcome>
-        ensures { FindsIn halted result machine.now self.now }
+        ensures { ComputesIn end_by_halt result machine.now self.now }
     {
         if self.is_halted {
             end_after_halt(machine.regs().interrupts)
@@ -133,7 +134,7 @@ impl Context {
     // A breakpoint or a complete Step.
     #[inline(always)]
     fn debug_stop(&self, machine: &Machine) -> Option<SliceOutcome>
-        ensures { FindsIn (λ b. option_or (at_breakpoint b) (complete b)) result machine.now self.now }
+        ensures { ComputesIn (λ b. option_or (at_breakpoint b) (complete b)) result machine.now self.now }
     {
         if self.is_at_breakpoint(machine) {
             Some(SliceOutcome::Stop(Stop::Breakpoint))
@@ -146,7 +147,7 @@ impl Context {
 
     #[inline(always)]
     fn is_at_breakpoint(&self, machine: &Machine) -> bool
-        ensures { FindsIn meets_breakpoint result machine.now self.now }
+        ensures { ComputesIn meets_breakpoint result machine.now self.now }
     {
         self.is_attached
             && (self.has_moved || !self.is_resumed)
@@ -155,7 +156,7 @@ impl Context {
 
     #[inline(always)]
     fn is_complete(&self, machine: &Machine) -> bool
-        ensures { FindsIn (λ b. completes b.request b) result machine.now self.now }
+        ensures { ComputesIn (λ b. completes b.request b) result machine.now self.now }
     {
         match self.request {
             None => false,
@@ -166,7 +167,7 @@ impl Context {
     #[inline(always)]
     fn is_reached(&self, machine: &Machine, request: StepRequest) -> bool
         requires { IsSome self.now.request }
-        ensures { FindsIn (is_reached request) result machine.now self.now }
+        ensures { ComputesIn (is_reached request) result machine.now self.now }
     {
         self.is_done(request.kind) && self.is_there(machine, request.granularity)
     }
@@ -195,7 +196,7 @@ impl Context {
 
     #[inline(always)]
     fn is_there(&self, machine: &Machine, granularity: Granularity) -> bool
-        ensures { FindsIn (is_there granularity) result machine.now self.now }
+        ensures { ComputesIn (is_there granularity) result machine.now self.now }
     {
         match granularity {
             Granularity::Line => is_first(self.origins.at(machine.pc())),
@@ -206,7 +207,7 @@ impl Context {
     /// Whether the run waits: the last step was HLT with interrupts on, and no request is latched.
     #[inline(always)]
     pub(super) fn find_wait(&self, machine: &Machine) -> Option<SliceOutcome>
-        ensures { FindsIn waiting result machine.now self.now }
+        ensures { ComputesIn waiting result machine.now self.now }
     {
         if self.is_halted {
             wait_after_halt(machine.regs().interrupts, self.devices.request())

@@ -1,5 +1,5 @@
 use Rattle.std.proofs.Common.{ℕ, take, get_or, sym, subst, arith}
-use Rattle.lab_core.specs.Labs.{StandsFor}
+use Rattle.lab_core.specs.Labs.{RepresentsBoard}
 use Rattle.dap_program.specs.Boards.{after}
 use Rattle.dap_program.specs.Memory.{poke_of, with_bytes_at}
 use Rattle.dap_program.proofs.MemoryLemmas.{written_more}
@@ -15,9 +15,9 @@ loop-byte-preserved c =
     record {
       stands = λ b stands.
           let P : ℕ → Type 0 =
-          λ address. StandsFor lab (after (poke_of address (get_or bytes i 0))
+          λ address. RepresentsBoard lab (after (poke_of address (get_or bytes i 0))
           (with_bytes_at start (take i bytes) b)) in
-          subst (λ w. StandsFor lab w) (sym (written_more start bytes i 0 b c.loop-byte-test.true))
+          subst (λ w. RepresentsBoard lab w) (sym (written_more start bytes i 0 b c.loop-byte-test.true))
           (subst P inv.place (c.in_ok-write_byte.ensures.ok _ (inv.stands b stands)));
       place = let p = inv.place in omega (arith, p);
     }

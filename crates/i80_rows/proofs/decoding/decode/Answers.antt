@@ -1,5 +1,5 @@
 use Rattle.std.proofs.Common.{refl, ap, ◌∙◌}
-use Rattle.i80_rows.specs.Rows.{read}
+use Rattle.i80_rows.specs.Rows.{first_instruction}
 use Rattle.i80_rows.proofs.DecodeLemmas.{read_found, encoded_read}
 use Rattle.i80_rows.proofs.decoding.decode.Goals as goal
 
@@ -7,7 +7,7 @@ pub returns-clause-found : goal.returns-clause-found
 returns-clause-found c = rw (c.decode_on.ensures.strict refl) (read_found c.args.bytes.now)
 
 pub returns-clause-only : goal.returns-clause-only
-returns-clause-only c i code rest encodes split = c.decode_on.ensures.strict refl ∙ ap read split
+returns-clause-only c i code rest encodes split = c.decode_on.ensures.strict refl ∙ ap first_instruction split
     ∙ encoded_read i code rest encodes
 
 pub returns-clause-table : goal.returns-clause-table

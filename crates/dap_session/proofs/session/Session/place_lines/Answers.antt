@@ -6,7 +6,7 @@ use Rattle.dap_points.specs.Points.{has_place, with_lines}
 use Rattle.dap_session.specs.declared.reply.Reply.{Reply}
 use Rattle.dap_session.specs.States.{with_points}
 use Rattle.dap_session.specs.Breakpoints.{lines_armed}
-use Rattle.dap_session.specs.Stands.{SessionFields, StandsFor}
+use Rattle.dap_session.specs.Stands.{SessionFields, RepresentsSession}
 use Rattle.dap_session.proofs.session.Session.place_lines.Goals as goal
 
 pub returns : goal.returns
@@ -16,7 +16,7 @@ returns c = (
       let lines : c.in_ok-kept_lines.kept_lines ≡ c.args.lines.now = c.in_ok-kept_lines.ensures in
       let armed = c.in_ok-arm_lines.ensures.ok s stands in
       let P : List ℕ → List ℕ → Type 0 =
-      λ p l. StandsFor c.keep_lines.new.self
+      λ p l. RepresentsSession c.keep_lines.new.self
       (with_points (with_lines p l s.settings.points) (lines_armed c.args.path.now c.args.lines.now s)) in
       record {
         outcome =

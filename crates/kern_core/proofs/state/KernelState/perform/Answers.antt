@@ -5,14 +5,14 @@ use Rattle.kern_post.specs.declared.post.Letter.{Letter}
 use Rattle.kern_exec.specs.Letters.{between_busy_and_idle}
 use Rattle.kern_core.specs.Requests.{performed_letters}
 use Rattle.kern_core.specs.Debugging.{IsPreparedDebugReply}
-use Rattle.kern_core.specs.Stands.{StandsFor}
+use Rattle.kern_core.specs.Stands.{RepresentsKernel}
 use Rattle.kern_core.proofs.DebugLemmas.{performed_stands}
 use Rattle.kern_core.proofs.state.KernelState.perform.Goals as goal
 
 pub returns : goal.returns
 returns c = (
   λ s stands ne.
-      let viewed : StandsFor _ s = subst (λ v. StandsFor v s) (sym c.self.view_is) stands in
+      let viewed : RepresentsKernel _ s = subst (λ v. RepresentsKernel v s) (sym c.self.view_is) stands in
       let n = c.args.connection in
       let r = c.args.request.now in
       let d = c.args.debug.now in

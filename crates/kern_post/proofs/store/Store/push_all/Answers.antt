@@ -1,6 +1,6 @@
 use Rattle.std.proofs.Common.{◌≡◌, ◌∙◌, [], ◌∷◌, ap, sym, length, arith, subst, List, append-nil}
 use Rattle.kern_post.specs.declared.post.Post.{Post}
-use Rattle.kern_post.specs.Posts.{Keeps, posted}
+use Rattle.kern_post.specs.Posts.{Keeps, with_posts}
 use Rattle.kern_post.proofs.PostLemmas.{posted-cons}
 use Rattle.kern_post.proofs.store.Store.push_all.Goals as goal
 
@@ -12,10 +12,10 @@ loop-letter-preserved c =
       made = let m = inv.made in let p = c.push.ensures.made in omega (arith, ap length falls);
       keeps = λ posts k.
           let so_far = inv.keeps posts k in (
-            posted c.args.unix_seconds (c.in-Some.letter ∷ []) so_far.0,
+            with_posts c.args.unix_seconds (c.in-Some.letter ∷ []) so_far.0,
             c.push.ensures.keeps so_far.0 so_far.1,
             posted-cons c.args.unix_seconds c.in-Some.letter c.pop.new.self so_far.0
-                ∙ (ap (λ ls. posted c.args.unix_seconds ls so_far.0) (sym falls) ∙ so_far.2),
+                ∙ (ap (λ ls. with_posts c.args.unix_seconds ls so_far.0) (sym falls) ∙ so_far.2),
           );
     }
 
@@ -31,5 +31,5 @@ returns-clause-keeps c = λ posts k.
     let so_far = c.loop-letter.invariant.keeps posts k in
     let P : List Post → Type 0 = λ ps. Keeps ps c.loop-letter.self in
     let empty : c.loop-letter.letters ≡ [] = c.in_default.ensures in
-    let all = ap (λ ls. posted c.args.unix_seconds ls so_far.0) (sym empty) ∙ so_far.2 in
+    let all = ap (λ ls. with_posts c.args.unix_seconds ls so_far.0) (sym empty) ∙ so_far.2 in
     subst P (sym (append-nil so_far.0) ∙ all) so_far.1

@@ -1,6 +1,6 @@
 use Rattle.std.proofs.Common.{◌≡◌, ◌<◌, ◌∙◌, ap, refl, arith}
 use Rattle.lab_core.specs.declared.lab.Context.{Context}
-use Rattle.lab_core.proofs.QuietLemmas.{within_reach}
+use Rattle.lab_core.proofs.QuietLemmas.{below_frame_floor}
 use Rattle.lab_core.proofs.lab.Context.advance.Goals as goal
 
 pub returns-then-is_last : goal.returns-then-is_last
@@ -17,7 +17,7 @@ returns-then-is_last c =
         gone = c.follow.ensures.gone;
         rest = c.follow.ensures.rest ∙ rw (left, c.is_halt-self.ensures) refl;
       });
-      on = λ reach is. cc;
+      on = λ frame_floor is. cc;
       last = λ is. c.is_last.ensures.last c.if-is_last.true;
     }
 
@@ -36,15 +36,15 @@ returns c =
         gone = c.follow.ensures.gone;
         rest = c.follow.ensures.rest ∙ rw (left, c.is_halt-self.ensures) refl;
       });
-      on = λ reach is.
-          (let same : reach ≡ c.reach.result = cc in
+      on = λ frame_floor is.
+          (let same : frame_floor ≡ c.frame_floor.result = cc in
           rw (same, ← c.sp-sp.ensures) (record {
             not_last = c.is_last.ensures.on c.if-is_last.false;
             undone = c.is_last.ensures.undone c.if-is_last.false;
             within =
-                within_reach c.sp-sp.result c.reach.result c.follow.new.self.frames small
-                (rw left c.advance-left.ensures.above) c.reach.ensures.reach;
-            above = c.reach.ensures.above;
+                below_frame_floor c.sp-sp.result c.frame_floor.result c.follow.new.self.frames small
+                (rw left c.advance-left.ensures.above) c.frame_floor.ensures.frame_floor;
+            above = c.frame_floor.ensures.above;
           }));
       last = λ is. cc;
     }

@@ -31,7 +31,7 @@ returns-then-is_quiet-clause-made c = λ none lab b traffic s.
 
 pub returns-then-is_quiet-clause-on : goal.returns-then-is_quiet-clause-on
 returns-then-is_quiet-clause-on c = λ now is.
-    let same : now ≡ c.args.reach = cc in
+    let same : now ≡ c.args.frame_floor = cc in
     let quiet = c.is_quiet.ensures.quiet c.if-is_quiet.true in
     let only_fetch = c.requires.ready.only_fetch in
     rw same (record {

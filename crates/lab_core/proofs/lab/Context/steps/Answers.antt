@@ -26,7 +26,7 @@ loop-k-preserved c =
           (let m = makes_on k made.result.0 made.result.1 b _ (inv.none_before lab b s)
           (did.makes lab (after_steps k b) (traffic_of k b) (inv.stands lab b s)) in m.none_before);
       room = omega arith;
-      spare = made.ensures.spare;
+      scratch = made.ensures.scratch;
       watches = watches_kept c.args.is_watched did.kept inv.watches;
     }
 

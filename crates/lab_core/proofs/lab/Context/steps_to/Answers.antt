@@ -45,7 +45,7 @@ loop-k-preserved c =
           (made.ensures.passes lab (after_steps k b) (traffic_of k b) (inv.stands lab b s));
       kept = not_at _ marks (sym c.is_at.ensures ∙ c.if-is_at.false);
       room = omega arith;
-      spare = made.ensures.spare;
+      scratch = made.ensures.scratch;
       watches = watches_kept c.args.is_watched did.kept inv.watches;
     }
 

@@ -2,7 +2,7 @@ use Rattle.std.proofs.Common.{◌≡◌, ◌∙◌, List, [], ◌∷◌, ◌++�
 use Rattle.lab_image.specs.declared.sources.Source.{Source}
 use Rattle.asm_build.specs.Meaning.{meaning_in}
 use Rattle.lab_core.specs.Events.{with_cell}
-use Rattle.lab_core.specs.Labs.{LabState, StandsFor}
+use Rattle.lab_core.specs.Labs.{LabState, RepresentsBoard}
 use Rattle.lab_core.proofs.LabLemmas.{stands_kept}
 use Rattle.lab_core.proofs.lab.Lab.keep.Goals as goal
 
@@ -14,7 +14,7 @@ returns-in_ok-put-in-None-clause-ok c = λ b s.
     let source : Source = record { path = c.args.path.now; text = c.args.text.now } in
     let m = meaning_in c.args.built in
     let P : LabState → Type 0 = λ lab.
-    StandsFor (record lab { sources = c.add.new.self }) (with_cell source c.args.place m b) in
+    RepresentsBoard (record lab { sources = c.add.new.self }) (with_cell source c.args.place m b) in
     let old : c.self.inside.sources ≡ b.sources =
     ap (λ (l : LabState). l.sources) c.self.view_is ∙ s.sources in
     let number : c.len-number.result ≡ length b.sources = c.len-number.ensures ∙ ap length old in

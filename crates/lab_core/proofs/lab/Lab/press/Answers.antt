@@ -1,8 +1,8 @@
 use Rattle.std.proofs.Common.{◌∙◌, ◌<◌, ◌≤◌, ap, rules, arith}
 use Rattle.std.specs.Option.{IsSome}
-use Rattle.i80_devs.specs.Past.{StandsFor as DevicesStandFor, panel_after, Press}
+use Rattle.i80_devs.specs.Past.{RepresentsPast as DevicesStandFor, panel_after, Press}
 use Rattle.lab_core.specs.declared.answer.Answer.TheVariants.{Accepted}
-use Rattle.lab_core.specs.Events.{pressed, with_operation}
+use Rattle.lab_core.specs.Events.{press_result, with_operation}
 use Rattle.lab_core.specs.Labs.{LabState}
 use Rattle.lab_core.proofs.EventLemmas.{pressed_is, gives}
 use Rattle.lab_core.proofs.lab.Lab.press.Goals as goal
@@ -17,4 +17,4 @@ returns-clause-applied c = λ b s ne.
     let free : IsSome (panel_after b.past).latched → ⊥ =
     λ some. (let e = (answer.latched b.past stands).1 (few, some) in cc) in
     let new = with_operation (Press c.args.n) b in
-    (new, gives b new (pressed c.args.n b) Accepted (pressed_is c.args.n b few free), search rules)
+    (new, gives b new (press_result c.args.n b) Accepted (pressed_is c.args.n b few free), search rules)

@@ -1,7 +1,7 @@
 use Rattle.std.proofs.Common.{◌∙◌, [], refl, sym, ap, subst}
 use Rattle.lab_core.specs.declared.run_state.RunState.TheVariants.{NoRun}
 use Rattle.lab_core.specs.Events.{reset}
-use Rattle.lab_core.specs.Labs.{LabState, StandsFor}
+use Rattle.lab_core.specs.Labs.{LabState, RepresentsBoard}
 use Rattle.lab_core.proofs.LabLemmas.{stands_reset}
 use Rattle.lab_core.proofs.lab.Lab.reset.Goals as goal
 
@@ -9,7 +9,7 @@ pub returns-clause-applied : goal.returns-clause-applied
 returns-clause-applied c = λ b s ne.
     let after = c.self.view_is ∙ c.forget_steps.ensures in
     let lists = c.refresh.ensures.lists ∙ ap (λ (l : LabState). l.breakpoints.lists) after in
-    let P : LabState → Type 0 = λ lab. StandsFor (record lab {
+    let P : LabState → Type 0 = λ lab. RepresentsBoard (record lab {
       machine = c.in_ok-machine.machine;
       devices = c.clear.new.self;
       origins = c.clear-2.new.self;

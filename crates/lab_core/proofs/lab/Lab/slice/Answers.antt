@@ -2,14 +2,14 @@ use Rattle.std.proofs.Common.{◌≡◌, ◌∙◌, Ok, refl, sym, ap, subst}
 use Rattle.lab_core.specs.declared.run_state.RunState.TheVariants.{Running}
 use Rattle.lab_core.specs.declared.answer.Answer.TheVariants.{Sliced}
 use Rattle.lab_core.specs.Slices.{after_steps, traffic_of, left_by}
-use Rattle.lab_core.specs.Labs.{LabState, StandsAmid, StandsFor}
+use Rattle.lab_core.specs.Labs.{LabState, RepresentsDuringSlice, RepresentsBoard}
 use Rattle.lab_core.proofs.LabLemmas.{stands_reserved, stands_taken, slices_running}
 use Rattle.lab_core.proofs.lab.Lab.slice.Goals as goal
 
 pub returns-in_ok-reserve_out-in-Running-clause-applied
     : goal.returns-in_ok-reserve_out-in-Running-clause-applied
 returns-in_ok-reserve_out-in-Running-clause-applied c = λ b s-now ne.
-    let P : LabState → Type 0 = λ lab. StandsFor lab b in
+    let P : LabState → Type 0 = λ lab. RepresentsBoard lab b in
     let s = subst P (sym c.self.view_is) s-now in
     let running : b.run ≡ Running = sym s.run ∙ c.in-Running.is in
     let k = c.run_on-executed.result.0 in
@@ -17,7 +17,7 @@ returns-in_ok-reserve_out-in-Running-clause-applied c = λ b s-now ne.
     let new = left_by ending (after_steps k b) in
     let room = c.in_ok-reserve_out-in-Running.ensures in
     let reserved = stands_reserved _ b _ s room.panel room.operations in
-    let A : LabState → Type 0 = λ lab. StandsAmid lab new (traffic_of k b) in
+    let A : LabState → Type 0 = λ lab. RepresentsDuringSlice lab new (traffic_of k b) in
     let amid = subst A (sym c.self-in-Running.view_is) (c.run_on-executed.ensures.stands b reserved) in (
       new,
       slices_running b.run c.args.n b new _ running (record {

@@ -1,6 +1,6 @@
 use Rattle.std.proofs.Common.{sym}
 use Rattle.lab_frames.proofs.FrameLemmas.{last-above}
-use Rattle.lab_frames.proofs.frames.Frames.reach.Goals as goal
+use Rattle.lab_frames.proofs.frames.Frames.frame_floor.Goals as goal
 
 pub returns-in-Some-clause-above : goal.returns-in-Some-clause-above
 returns-in-Some-clause-above c = λ sp low.
