@@ -6,7 +6,7 @@ use crate::gates::{InGate, OutGate};
 use crate::host::Host;
 use crate::listeners::Listeners;
 use crate::slots::Slots;
-use crate::socket::{close, meet};
+use crate::socket::meet;
 use base_streams::std_io::{StdInlet, StdOutlet};
 use base_text::boxed::Boxed;
 use base_text::sequence::Bytes;
@@ -22,6 +22,7 @@ use kern_net::pump_out::pump_out;
 use kern_net::routes::{IncomingRoute, OutgoingRoute};
 use kern_net::runtime::Runtime;
 use kern_waits::event_count::EventCount;
+use kern_waits::sockets::close;
 use kern_waits::throttles::Throttles;
 use kern_waits::unsigned::{FREE_BYTES, UnsignedStream};
 use kern_waits::wakeups::{Slot, Wakeups};
@@ -206,22 +207,14 @@ fn pump<R: Host>(
 {
     let PassPair { first, second } = passes;
     let (rt, alloc) = (runtime.rt, runtime.alloc);
-    // The reader's thread takes the peer out of here.
-    let mut peer = Some(peer);
+    // The peer, until the reader's thread takes it.
+    let mut met = Some(peer);
     let (first, second) = thread::join(
         rt,
         || -> Pass
             requires { first.turnstile ≡ shared.now.desk }
             ensures { result.turnstile ≡ shared.entry.now.desk }
-        {
-            read_on(
-                &Runtime { rt, alloc },
-                shared,
-                first,
-                &mut peer,
-                &connection,
-            )
-        },
+        { read_on(&Runtime { rt, alloc }, shared, first, &mut met, &connection) },
         || -> Pass
             requires { second.turnstile ≡ shared.now.desk }
             ensures { result.turnstile ≡ shared.entry.now.desk }

@@ -2,7 +2,6 @@
 ghost use Rattle.std.specs.Prelude.{◌≡◌, ◌≤◌, ◌+◌, ◌<◌, ◌↔◌, IsTrue};
 
 use crate::slots::Slots;
-use crate::system::unix_seconds;
 use jup_wire::channel::Channel;
 use kern_desk::seated::Pass;
 use kern_net::gate::{ReaderGate, WorkerGate, WriterGate};
@@ -12,6 +11,7 @@ use kern_pace::pace::{
     Look, SHORTEST_GAP, free_slices, is_free_subscription, is_full, is_nearly_full, lag_pause,
     next_gap, slice_pause, subscription_pause,
 };
+use kern_waits::clock::unix_seconds;
 use kern_waits::event_count::EventCount;
 use kern_waits::wakeups::{Readers, Slot, Wakeups};
 use std::rt::Clock;

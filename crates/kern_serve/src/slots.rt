@@ -2,10 +2,9 @@
 //! closed that has been there for a minute without a message that opened, so that its peer hasn't shown the
 //! key.
 use crate::listeners::Listeners;
-use crate::socket::close;
 use jup_wire::channel::Channel;
 use kern_waits::event_count::EventCount;
-use kern_waits::sockets::await_connection;
+use kern_waits::sockets::{await_connection, close};
 use kern_waits::stopwatch::Stopwatch;
 use kern_waits::wakeups::{SLOTS, Slot};
 use std::alloc::{AllocError, Global};

@@ -7,7 +7,7 @@ use kern_waits::unsigned::UnsignedStream;
 use std::alloc::Global;
 use std::io;
 use std::io::Read;
-use std::net::{Shutdown, TcpStream};
+use std::net::TcpStream;
 use std::rt::Clock;
 use std::sync::Wait;
 use std::time::{Duration, Instant};
@@ -20,11 +20,6 @@ const PATIENCE_SECONDS: u64 = 10;
 
 // The size of a greeting, in bytes.
 const GREETING_SIZE: usize = 64;
-
-/// Ends all reads and writes on a socket, in whatever thread.
-pub fn close(stream: &TcpStream) {
-    let _ = stream.shutdown(Shutdown::Both);
-}
 
 fn role_of(channel: Channel) -> Role {
     match channel {

@@ -1,7 +1,7 @@
-//! System calls on sockets that the standard library lacks.
+//! Closing sockets, and system calls on them that the standard library lacks.
 use libc::net as c;
 use libc::types::pollfd;
-use std::net::{TcpListener, TcpStream};
+use std::net::{Shutdown, TcpListener, TcpStream};
 use std::os::fd::AsRawFd;
 
 // How long a connection may be silent before it is probed, the time between two probes, and their number. So
@@ -47,4 +47,9 @@ pub fn await_connection(listener: &TcpListener) {
         revents: 0,
     }];
     let _ = c::poll(&mut fds, -1);
+}
+
+/// Ends all reads and writes on a socket, in whatever thread.
+pub fn close(stream: &TcpStream) {
+    let _ = stream.shutdown(Shutdown::Both);
 }
