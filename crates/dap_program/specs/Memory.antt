@@ -21,3 +21,7 @@ with_bytes_at start (byte ∷ bytes) b = with_bytes_at (start + 1) bytes (after 
 -- some of them are written, from the first on
 abbrev pub WritesSome : ℕ → Bytes → Board → LabState → Type 0
 WritesSome start bytes b lab = (k : ℕ) × RepresentsBoard lab (with_bytes_at start (take k bytes) b)
+
+-- it holds of every board that the lab represents
+abbrev pub OfEachBoard : LabState → (Board → Type 0) → Type 0
+OfEachBoard lab P = (b : Board) → RepresentsBoard lab b → P b

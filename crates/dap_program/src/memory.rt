@@ -3,7 +3,7 @@ ghost use Rattle.std.specs.Prelude.{◌≡◌, ◌≤◌, ◌+◌, length, IfOk,
 ghost use Rattle.lab_core.specs.Board.{Board};
 ghost use Rattle.lab_core.specs.Labs.{RepresentsBoard};
 ghost use Rattle.dap_program.specs.Boards.{after};
-ghost use Rattle.dap_program.specs.Memory.{poke_of, with_bytes_at, WritesSome};
+ghost use Rattle.dap_program.specs.Memory.{OfEachBoard, poke_of, with_bytes_at, WritesSome};
 
 use crate::change::change;
 use asm_syntax::numeral::push_byte;
@@ -45,8 +45,7 @@ pub fn write_bytes(alloc: Global, lab: &mut Lab, start: u16, bytes: &[u8]) -> Re
     requires { start + length bytes.now ≤ 65536 }
     ensures ok { (b : Board) → RepresentsBoard lab.old b
         → OnOk result (RepresentsBoard lab.new (with_bytes_at start bytes.now b)) }
-    ensures err { (b : Board) → RepresentsBoard lab.old b
-        → OnErr result (WritesSome start bytes.now b lab.new) }
+    ensures err { OfEachBoard lab.old (λ b. OnErr result (WritesSome start bytes.now b lab.new)) }
 {
     let mut address = u32::from(start);
     for byte in bytes {

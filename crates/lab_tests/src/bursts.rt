@@ -34,14 +34,20 @@ const PROGRAMS: [Program; 10] = [
     },
     Program {
         about: "EI and DI in a loop, with requests",
-        text: "ORG 38H\nINR C\nEI\nRET\nORG 0\nJMP 100H\nORG 100H\nX: LXI SP,4000H\nEI\nNOP\nDI\nINR B\nEI\nEI\nNOP\nJMP X\n",
+        text: concat!(
+            "ORG 38H\nINR C\nEI\nRET\nORG 0\nJMP 100H\nORG 100H\nX: LXI SP,4000H\nEI\nNOP\n",
+            "DI\nINR B\nEI\nEI\nNOP\nJMP X\n",
+        ),
         lines: &[],
         tops: &[],
         stretch: 42,
     },
     Program {
         about: "HLT with interrupts on at a slice's end",
-        text: "ORG 38H\nINR C\nEI\nRET\nORG 0\nJMP 100H\nORG 100H\nX: LXI SP,4000H\nEI\nNOP\nNOP\nHLT\nINR B\nJMP X\n",
+        text: concat!(
+            "ORG 38H\nINR C\nEI\nRET\nORG 0\nJMP 100H\nORG 100H\nX: LXI SP,4000H\nEI\nNOP\n",
+            "NOP\nHLT\nINR B\nJMP X\n",
+        ),
         lines: &[],
         tops: &[],
         stretch: 42,
@@ -62,14 +68,21 @@ const PROGRAMS: [Program; 10] = [
     },
     Program {
         about: "SP that wraps",
-        text: "X: LXI SP,2\nCALL Y\nPUSH H\nPUSH D\nINX SP\nINX SP\nPOP B\nPOP B\nLXI SP,0FFFEH\nCALL Y\nPOP D\nDCX SP\nJMP X\nORG 100H\nY: PUSH B\nINX SP\nINX SP\nPUSH PSW\nPOP PSW\nRET\n",
+        text: concat!(
+            "X: LXI SP,2\nCALL Y\nPUSH H\nPUSH D\nINX SP\nINX SP\nPOP B\nPOP B\n",
+            "LXI SP,0FFFEH\nCALL Y\nPOP D\nDCX SP\nJMP X\nORG 100H\nY: PUSH B\nINX SP\n",
+            "INX SP\nPUSH PSW\nPOP PSW\nRET\n",
+        ),
         lines: &[],
         tops: &[],
         stretch: 126,
     },
     Program {
         about: "calls that are left by LXI SP and by POP",
-        text: "LXI SP,4000H\nX: CALL Y\nCALL Z\nJMP X\nY: CALL Z\nPUSH B\nPOP B\nRET\nZ: POP H\nPUSH H\nPOP H\nINR A\nJPO W\nLXI SP,4000H\nW: PCHL\n",
+        text: concat!(
+            "LXI SP,4000H\nX: CALL Y\nCALL Z\nJMP X\nY: CALL Z\nPUSH B\nPOP B\nRET\n",
+            "Z: POP H\nPUSH H\nPOP H\nINR A\nJPO W\nLXI SP,4000H\nW: PCHL\n",
+        ),
         lines: &[],
         tops: &[],
         stretch: 126,
