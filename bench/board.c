@@ -1,6 +1,6 @@
-/* Runs the plain interpreter with a board's duties, as lab80's slices have them: slices of 4,096 with room
- * for their port operations made before, acceptance of a latched request, live frames, and attached a bit for
- * each address that is looked at before each step. Usage: board plain|attached WORKLOAD COUNT */
+/* Runs the plain interpreter with a board's duties, like lab80's slices: slices of 4,096 with preallocated room
+ * for their port operations, acceptance of a latched request, live frames, and, attached, a bit for
+ * each address, checked before each step. Usage: board plain|attached WORKLOAD COUNT */
 #include "machine.h"
 
 typedef struct { uint16_t slot, target, site; } Frame;
@@ -28,7 +28,7 @@ static inline int is_at_breakpoint(const Board *b, uint16_t pc) {
     return (b->moved || !b->resumed) && (b->bits[pc >> 3] >> (pc & 7) & 1);
 }
 
-/* At most n steps; answers how many were made. The machine is a local value while they are. */
+/* Makes at most n steps, and returns how many. The machine is a local value meanwhile. */
 static inline unsigned steps(Board *b, unsigned n, int attached, int *outcome) {
     Machine m = b->machine;
     Slot s = { 0 };

@@ -1,4 +1,4 @@
-/* A plain switch interpreter of the 8080 in C, written to be compared with lab80's step: the same
+/* A plain switch interpreter for the 8080 in C, to compare with lab80's step: the same
  * duties for each step (a slot for one port operation, what the step did, the interrupt state), flags in
  * one byte, S, Z and P from a table; and three endless workloads. core.c and board.c run them. */
 #include <stdint.h>
@@ -140,7 +140,7 @@ static const uint8_t *workload(const char *name, size_t *size) {
     return NULL;
 }
 
-/* A machine after power-on with a workload at address 0; memory is NULL where there is none. */
+/* A machine after power-on with a workload at address 0; memory is NULL if there is no such workload. */
 static Machine started(const char *name) {
     for (int i = 0; i < 256; i++) shown[i] = (i & 0x80) | (i == 0) << 6 | (__builtin_popcount(i) % 2 == 0) << 2 | 2;
     Machine m = { 0 };

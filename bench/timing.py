@@ -1,4 +1,4 @@
-"""Times programs from outside, for the scripts beside this file, and holds what was measured to its goals."""
+"""Times programs from the outside, for the scripts in this folder, and compares the results with goals."""
 import os
 import subprocess
 import tempfile
@@ -16,7 +16,7 @@ def build():
 
 
 class Goals:
-    """What was measured, each as a part of its goal: 1 is the goal, more is better."""
+    """The results, each as a ratio to its goal: 1 is the goal, more is better."""
 
     def __init__(self):
         self.parts = []
@@ -28,12 +28,12 @@ class Goals:
         self.parts.append(goal / max(figure, 1e-9))
 
     def print_ratio(self):
-        """Prints the least part, as a script's last line."""
+        """Prints the lowest ratio, as a script's last line."""
         print(f"ratio {min(self.parts):.2f}")
 
 
 def seconds(*words):
-    """The seconds of the fastest of a few runs with these words."""
+    """The seconds of the fastest of a few runs with these arguments."""
     taken = []
     for _ in range(ROUNDS):
         began = time.perf_counter()
@@ -43,15 +43,15 @@ def seconds(*words):
 
 
 def unit_seconds(word, size, count, without=None):
-    """The seconds of each of so many units of a work, without those of a run that only prepares them: one of no units,
-    where no other is named."""
+    """The seconds of each of this many units of a work, without those of a run that only prepares them: by default a run
+    of no units."""
     whole = seconds(word, size, count) - seconds(*(without or (word, size, 0)))
     return max(whole, 1e-9) / count
 
 
 def first_and_last(word, units, count, part):
-    """The seconds of a unit of a work in the first and in the last few of so many rounds of so many units on one kernel,
-    each in the fastest of a few runs."""
+    """The seconds of a unit of a work in the first and in the last few rounds on one kernel, for a number of rounds of a
+    number of units, each in the fastest of a few runs."""
     first, last = [], []
     for _ in range(ROUNDS):
         words = [PROGRAM, "rounds", word, str(units), str(count)]
@@ -63,15 +63,15 @@ def first_and_last(word, units, count, part):
 
 
 def rate(word, size, count, without=None):
-    """How many units of a work are done a second."""
+    """Units of a work a second."""
     return 1 / unit_seconds(word, size, count, without)
 
 
-# ---- programs that are compared with one another
+# ---- comparing programs
 
 @contextmanager
 def compiled(source):
-    """A program in C of this folder, compiled by gcc -O2."""
+    """A C program of this folder, compiled by gcc -O2."""
     with tempfile.TemporaryDirectory() as folder:
         program = Path(folder) / "plain"
         subprocess.run(["gcc", "-O2", "-o", program, TOP / "bench" / source], check=True)
@@ -79,7 +79,7 @@ def compiled(source):
 
 
 def processor_seconds(words):
-    """The processor's seconds of one run, in the program itself."""
+    """The processor seconds of one run, in the program itself."""
     with subprocess.Popen([*map(str, words)], stdout=subprocess.DEVNULL) as process:
         _, status, usage = os.wait4(process.pid, 0)
         process.returncode = os.waitstatus_to_exitcode(status)
@@ -89,8 +89,8 @@ def processor_seconds(words):
 
 
 def best_by_turns(commands, rounds):
-    """The processor's seconds of the best run of each command. They run by turns, so that other work on the machine
-    burdens none alone."""
+    """The processor seconds of the best run of each command. The commands alternate, so that other work on the machine
+    affects all of them."""
     best = [float("inf")] * len(commands)
     for _ in range(rounds):
         best = [min(least, processor_seconds(words)) for least, words in zip(best, commands)]
@@ -98,7 +98,7 @@ def best_by_turns(commands, rounds):
 
 
 def require_same(*commands):
-    """Ends where the programs don't print the same."""
+    """Exits if the outputs of the programs differ."""
     texts = {subprocess.run([*map(str, words)], stdout=subprocess.PIPE, check=True).stdout for words in commands}
     if len(texts) != 1:
         raise SystemExit(f"these differ: {commands}")

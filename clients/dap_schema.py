@@ -6,21 +6,21 @@ import jsonschema
 from _pydevd_bundle._debug_adapter import pydevd_base_schema as registry
 from _pydevd_bundle._debug_adapter import pydevd_schema  # which fills the registry
 
-# What Jupyter and this board add to the protocol: such a message is checked, but not what it carries.
+# Jupyter's and this board's additions to the protocol: such a message is checked, but not its arguments or body.
 ADDED = {"debugInfo", "dumpCell", "inspectVariables", "boardSwitches", "boardPress", "boardType", "boardReset", "boardAliases"}
 
 PLAIN_TYPES = {"array", "boolean", "integer", "null", "number", "object", "string"}
 
 
 def faults(message):
-    """What in a request, a response or an event isn't as the schema has it."""
+    """The violations of the schema in a request, a response or an event."""
     whole = {"$ref": "#/definitions/" + name_of(message), "definitions": definitions()}
     found = jsonschema.Draft4Validator(whole).iter_errors(message)
     return [f"{'.'.join(map(str, fault.absolute_path)) or 'message'}: {fault.message}" for fault in found]
 
 
 def name_of(message):
-    """The schema's name of a message; a refusal carries nothing that one could check."""
+    """The schema's name for a message; a refusal has no body to check."""
     kind, command = message["type"], message.get("command")
     if kind == "event":
         return registry._event_to_types[message["event"]].__name__
@@ -32,14 +32,14 @@ def name_of(message):
 
 @functools.lru_cache(maxsize=1)
 def definitions():
-    """All of the schema, which debugpy has as classes, in the words of JSON Schema."""
+    """The whole schema, which debugpy has as classes, as JSON Schema."""
     return {name: definition(schema) for name, schema in registry._all_messages.items()}
 
 
 def definition(schema):
     parameters = inspect.signature(schema.__init__).parameters.values()
     needed = {one.name for one in parameters if one.default is one.empty} - {"self", "kwargs"}
-    # In the class of a message these two have a default.
+    # These two have a default in the class of a message.
     always = {"seq", "type"}
     if always <= set(schema.__props__):
         needed |= always
@@ -48,7 +48,7 @@ def definition(schema):
 
 
 def rules(value):
-    """A rule with each name of a class as a reference to its definition."""
+    """A rule with each class name replaced by a reference to its definition."""
     if isinstance(value, list):
         return [rules(item) for item in value]
     if not isinstance(value, dict):

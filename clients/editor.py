@@ -1,4 +1,4 @@
-"""An editor's end of a debugging session: it asks lab80's debugger, and looks at each message that comes back."""
+"""An editor's end of a debugging session: it sends requests to lab80's debugger, and checks each message that it receives."""
 import collections
 import json
 import os
@@ -12,16 +12,16 @@ import unittest
 import dap_schema
 from dap_wire import CLIENT, debugger, example, framed, request, split, written
 
-# How long a test waits for a message, in seconds.
+# The most seconds that a test waits for a message.
 PATIENCE = 10
 
 
 class Ended(Exception):
-    """The debugger said no more."""
+    """The debugger closed its output."""
 
 
 class Editor:
-    """A debugger of its own, and what was said to it and heard from it. It ends with a `with`."""
+    """A debugger of its own, and the messages sent to it and received from it. It ends with a `with`."""
 
     def __init__(self, *words):
         self.process = subprocess.Popen([debugger(), *words], stdin=subprocess.PIPE, stdout=subprocess.PIPE,
@@ -42,7 +42,7 @@ class Editor:
     # ---- bytes
 
     def say(self, data):
-        """Says these bytes, and meanwhile hears what comes."""
+        """Sends these bytes, and reads at the same time."""
         until = time.monotonic() + PATIENCE
         while data:
             readable, writable, _ = select.select([self.out], [self.into], [], max(until - time.monotonic(), 0))
@@ -61,8 +61,8 @@ class Editor:
         self.messages.extend(self.checked(body) for body in bodies)
 
     def checked(self, body):
-        """A message, which must be as the debugger writes all: numbered without a gap, and as the protocol's schema has it; a
-        response must be that to the first request which has none."""
+        """A message, checked: it must be written as the debugger writes all, numbered without a gap, and match the protocol's schema;
+        a response must belong to the first request that has none."""
         message = json.loads(body)
         self.last_heard += 1
         faults = dap_schema.faults(message)
@@ -81,7 +81,7 @@ class Editor:
     # ---- messages
 
     def wait(self, seconds=PATIENCE):
-        """Waits until something is said."""
+        """Waits until something is received."""
         if not select.select([self.out], [], [], max(seconds, 0))[0]:
             raise TimeoutError("nothing is said")
 
@@ -94,7 +94,7 @@ class Editor:
         return self.messages.popleft()
 
     def is_quiet(self, seconds=0.2):
-        """Whether nothing more is said for a while."""
+        """Whether no more messages come for a while."""
         try:
             self.messages.appendleft(self.next(seconds))
         except TimeoutError:
@@ -102,50 +102,50 @@ class Editor:
         return False
 
     def request(self, command, arguments=None):
-        """A request's bytes; its response is expected from now on."""
+        """A request's bytes. Its response is expected from now on."""
         self.last_asked += 1
         self.asked.append((self.last_asked, command))
         return framed(request(self.last_asked, command, arguments))
 
     def send(self, command, arguments=None):
-        """Sends a request, and waits for nothing."""
+        """Sends a request without waiting."""
         self.say(self.request(command, arguments))
 
     def ask(self, command, **arguments):
-        """Sends a request: its response, which must be the next message. Events that came before are dropped."""
+        """Sends a request, and returns its response, which must be the next message. Events that came before are dropped."""
         self.messages.clear()
         self.send(command, arguments)
         return self.response()
 
     def response(self):
-        """The next response; what is said before it belongs to a run that was under way."""
+        """The next response. Messages before it belong to a run in progress."""
         while (message := self.next())["type"] != "response":
             pass
         return message
 
     def do(self, command, **arguments):
-        """Sends a request that must succeed: its body."""
+        """Sends a request that must succeed, and returns the body of its response."""
         response = self.ask(command, **arguments)
         if not response["success"]:
             raise AssertionError(response)
         return response["body"]
 
     def refusal(self, command, **arguments):
-        """Sends a request that must be refused: the message."""
+        """Sends a request that must be refused, and returns the message."""
         response = self.ask(command, **arguments)
         if response["success"] or "body" in response:
             raise AssertionError(response)
         return response["message"]
 
     def event(self):
-        """The next message's name and body, which must be an event."""
+        """The name and the body of the next message, which must be an event."""
         message = self.next()
         if message["type"] != "event":
             raise AssertionError(message)
         return message["event"], message.get("body")
 
     def events_to(self, name):
-        """All events up to the next one of this name, which is the last."""
+        """All events up to the next one of this name, inclusive."""
         events = [self.event()]
         while events[-1][0] != name:
             events.append(self.event())
@@ -157,54 +157,54 @@ class Editor:
         return self.do("initialize", **CLIENT)
 
     def launch(self, path, **options):
-        """Begins as editors do, up to where breakpoints are set."""
+        """Begins as editors do, up to the point at which breakpoints are set."""
         self.initialize()
         self.do("launch", program=path, **options)
         if self.event() != ("initialized", None):
             raise AssertionError("initialized expected")
 
     def set_breakpoints(self, path, lines):
-        """Sets a source's breakpoints: what is answered for each, its line and whether it is verified."""
+        """Sets a source's breakpoints. Returns for each its line and whether it is verified."""
         wanted = {"source": {"path": path}, "breakpoints": [{"line": line} for line in lines]}
         shown = self.do("setBreakpoints", **wanted)["breakpoints"]
         return [(it["line"], it["verified"]) for it in shown]
 
     def run_to(self, path, *lines, **options):
-        """Launches a program with breakpoints on these lines, and runs it to the first stop: why it stopped."""
+        """Launches a program with breakpoints on these lines, and runs it to the first stop. Returns the reason."""
         self.launch(path, **options)
         self.set_breakpoints(path, lines)
         self.do("configurationDone")
         return self.stop()
 
     def stop(self):
-        """Runs to the next stop: why."""
+        """Runs to the next stop. Returns the reason."""
         return self.events_to("stopped")[-1][1]["reason"]
 
     def step(self, command, **arguments):
-        """Makes a step, which must come to a stop: the routine and the line."""
+        """Makes a step, which must end in a stop. Returns the routine and the line."""
         self.do(command, threadId=1, **arguments)
         if self.event()[0] != "continued" or self.stop() != "step":
             raise AssertionError(f"{command} expected")
         return self.place()
 
     def frames(self):
-        """The routines that are live, innermost first, with their lines."""
+        """The live routines, innermost first, with their lines."""
         return [(it["name"], it["line"]) for it in self.do("stackTrace", threadId=1)["stackFrames"]]
 
     def place(self):
         return self.frames()[0]
 
     def shown(self, scope):
-        """The variables of a scope, by its number."""
+        """The variables of a scope, given by its number."""
         return {it["name"]: it["value"] for it in self.do("variables", variablesReference=scope)["variables"]}
 
     def evaluate(self, expression, context="hover"):
-        """What an expression gives, or why it is refused."""
+        """The value of an expression, or why it is refused."""
         response = self.ask("evaluate", expression=expression, context=context)
         return response["body"]["result"] if response["success"] else response["message"]
 
     def output_to_end(self):
-        """Hears a run to its end: what the program printed, and the exit code."""
+        """Receives a run to its end. Returns the program's output, and the exit code."""
         events = self.events_to("terminated")
         codes = [body["exitCode"] for name, body in events if name == "exited"]
         if codes == [] or codes[1:] or events[-2][0] != "exited":
@@ -212,12 +212,12 @@ class Editor:
         return printed(events), codes[0]
 
     def end(self, seconds=5):
-        """Says no more: the exit status, and what stands on standard error."""
+        """Closes the debugger's input. Returns the exit status, and the text on standard error."""
         self.process.stdin.close()
         return self.ended(seconds)
 
     def ended(self, seconds=5):
-        """The same of a debugger that ends by itself. The messages up to its end are kept."""
+        """The same for a debugger that ends by itself. The messages up to its end are kept."""
         until = time.monotonic() + seconds
         try:
             while True:

@@ -1,8 +1,8 @@
-"""The streams that no good editor sends to a debugger: each is a function of a seed and of its number alone.
+"""Streams that no good editor sends to a debugger. Each is a function of a seed and its number alone.
 
     editor_streams.py FOLDER SEED NUMBER | ../lab80-dap
 
-writes one again; FOLDER is where its programs lie.
+writes one again; FOLDER is the folder of its programs.
 """
 import json
 import os
@@ -11,7 +11,7 @@ import sys
 
 from dap_wire import example, framed
 
-# Programs by the names of their files. The last three can't be debugged.
+# Programs by file name. The last three can't be debugged.
 PROGRAMS = {
     "count.asm": example("count.asm"),
     "endless.asm": "START: JMP START\n END START\n",
@@ -38,14 +38,14 @@ EXPRESSIONS = (
     "\x00", "type hello", "type ", "press 1", "press 9", "switches 255", "switches 1000", "A" * 200,
 )
 
-# Values in the place of any argument.
+# Values to replace any argument.
 VALUES = (
     None, True, False, 0, 1, 5, 255, 256, 65535, 65536, 4294967295, 4294967296, -1, -65536, -65537, 1.0, 0.5, 1e300, 10**30,
     "", "0x0000", "0xffff", "0x010B", "0xfffff", "x", "\ud83d\ude00", "AAAA", "A", "=", "repl", "hover",
     "A" * 87_380, "(" * 100_000, [], {}, [[]], [None], {"a": {}},
 )
 
-# Bodies and headers that are none.
+# Malformed bodies and headers.
 BODIES = (
     b"", b"x", b"nul", b"[", b"[" * 200, b"{" * 5000, b"[" * 127 + b"]" * 127, b'{"a":' * 128 + b"1" + b"}" * 128,
     b"\xff", b'"\xed\xa0\x80"', b"1e999", b"\x00", b'{"type":"request","seq":1e0,"command":"threads"}',
@@ -63,7 +63,7 @@ def program_path(folder, chance):
 
 
 def likely(folder, chance):
-    """An argument of each kind, as editors give it."""
+    """An argument of each kind, as editors send it."""
     path = program_path(folder, chance)
     return {
         "program": path, "stopOnEntry": chance.random() < 0.5, "noDebug": chance.random() < 0.2, "aliases": chance.random() < 0.3,
@@ -81,7 +81,7 @@ def likely(folder, chance):
 
 
 def request(folder, number, chance):
-    """A request's body, mostly one that could be carried out."""
+    """A request's body, mostly a valid one."""
     arguments = likely(folder, chance)
     for name in chance.sample(sorted(arguments), chance.choice((0, 0, 0, 1, 2, 20))):
         arguments[name] = chance.choice(VALUES)
@@ -90,7 +90,7 @@ def request(folder, number, chance):
 
 
 def opening(folder, chance):
-    """How a session begins."""
+    """The beginning of a session."""
     path = program_path(folder, chance)
     asked = (("initialize", {}), ("launch", {"program": path, "stopOnEntry": chance.random() < 0.5}), ("configurationDone", None))
     return [json.dumps({"seq": number, "type": "request", "command": command, "arguments": arguments}).encode()
@@ -98,7 +98,7 @@ def opening(folder, chance):
 
 
 def bodies(folder, chance):
-    """A session of some requests, one after the other."""
+    """A session of several requests, one after the other."""
     first = opening(folder, chance) if chance.random() < 0.8 else []
     return first + [request(folder, number, chance) for number in range(4, 4 + chance.randrange(60))]
 
@@ -108,7 +108,7 @@ def asked(folder, chance):
 
 
 def with_faults(folder, chance):
-    """Bodies that are no request among the others."""
+    """A session with bodies among the others that aren't requests."""
     some = bodies(folder, chance)
     for body in chance.sample(BODIES, 3):
         some.insert(chance.randrange(len(some) + 1), body or b" ")
@@ -128,12 +128,12 @@ def cut(folder, chance):
 
 
 def broken(folder, chance):
-    """A header that is none between messages."""
+    """A malformed header between messages."""
     return asked(folder, chance) + chance.choice(HEADERS) + asked(folder, chance)
 
 
 def shifted(folder, chance):
-    """A length that is wrong by some bytes."""
+    """A length that is off by some bytes."""
     body = request(folder, 9, chance)
     length = max(len(body) + chance.choice((-3, -1, 1, 3)), 1)
     return asked(folder, chance) + b"Content-Length: %d\r\n\r\n%b" % (length, body) + asked(folder, chance)
@@ -143,13 +143,13 @@ def noise(_, chance):
     return chance.randbytes(chance.randrange(3_000))
 
 
-# Kinds of streams; those of the first ones are framed as they must be.
+# Kinds of streams; the first ones are framed correctly.
 FRAMED = (asked, with_faults)
 KINDS = (*FRAMED, changed, cut, broken, shifted, noise)
 
 
 def made(folder, seed, number):
-    """The kind of a stream, its bytes, and after which of them it rests for a moment."""
+    """The kind of a stream, its bytes, and the number of bytes after which it pauses."""
     chance = random.Random(f"{seed} {number}")
     kind = KINDS[number % len(KINDS)]
     data = kind(folder, chance)

@@ -1,4 +1,4 @@
-"""Kate on a screen that nobody sees, with lab80's debugger, and what they say to each other."""
+"""Kate on a virtual screen, with lab80's debugger, and the messages between the two."""
 import json
 import os
 import re
@@ -9,19 +9,19 @@ import time
 
 from dap_wire import TOP, debugger
 
-# The programs that this takes.
+# The programs that this needs.
 PROGRAMS = ("kate", "Xvfb", "xdotool", "dbus-run-session")
 
 WIDTH, HEIGHT = 1000, 700
 
-# Keeps what is said on both sides, and is found as lab80-dap.
+# Records the messages of both sides, and is found as lab80-dap.
 BETWEEN = """\
 #!/bin/sh
 exec 2>"{folder}/told"
 tee "{folder}/asked" | "{program}" | tee "{folder}/said"
 """
 
-# A session in which the debugger's plugin is on, and one target chosen, as its settings page does.
+# A session in which the debugger's plugin is on and a target is chosen, as its settings page does.
 SESSION = """\
 [Kate Plugins]
 kategdbplugin=true
@@ -66,7 +66,7 @@ def wait_for(what, is_so, seconds=30):
 
 
 class Kate:
-    """A window with a program, the cursor on a line. It ends with a `with`."""
+    """A window with a program and the cursor on a line. It ends with a `with`."""
 
     def __init__(self, folder, path, line):
         self.folder = folder
@@ -94,7 +94,7 @@ class Kate:
         self.screen.communicate()
 
     def prepare(self, path):
-        """A home with the debugger's configuration, as docs/EDITORS.md has it placed."""
+        """Makes a home folder with the debugger's configuration, placed as in docs/EDITORS.md."""
         home, programs, runtime = (os.path.join(self.folder, name) for name in ("home", "programs", "runtime"))
         configuration = os.path.join(home, ".config/kate/gdbplugin")
         colours = os.path.join(home, ".local/share/org.kde.syntax-highlighting/syntax")
@@ -120,13 +120,13 @@ class Kate:
         wait_for("Kate at rest", self.is_still)
 
     def is_still(self):
-        """Whether Kate, with all that it has started, takes hardly any time."""
+        """Whether Kate and the processes that it has started take hardly any processor time."""
         before = self.processor_seconds()
         time.sleep(0.5)
         return self.processor_seconds() - before < 0.1
 
     def processes(self):
-        """What Kate has started that still runs: the name of each, and the time that it has taken in seconds."""
+        """The running processes that Kate has started: the name of each, and its processor time in seconds."""
         for number in filter(str.isdigit, os.listdir("/proc")):
             try:
                 with open(f"/proc/{number}/stat", encoding="utf-8", errors="replace") as file:
@@ -158,10 +158,10 @@ class Kate:
     def picture(self, path):
         subprocess.run(["scrot", "-o", path], env=self.environment, timeout=30, check=True)
 
-    # ---- what is said
+    # ---- messages
 
     def bodies(self, name):
-        """The messages of one side, as far as they are whole."""
+        """The complete messages of one side."""
         try:
             with open(os.path.join(self.folder, name), "rb") as file:
                 heard = file.read()
@@ -184,7 +184,7 @@ class Kate:
         return [it.get("body") for it in self.said() if it.get("event") == name]
 
     def do(self, letter, what, is_so):
-        """Chooses from the menu, and waits until something was said. Kate asks for the frames and variables of a stop
+        """Chooses from the menu, and waits until something was sent. Kate asks for the frames and variables of a stop
         before it can do more."""
         self.choose(letter)
         found = wait_for(what, is_so)

@@ -1,10 +1,10 @@
-"""Cells, each alone: the bytes that `asm` prints, or the place and the name of the first fault, worked out by
+"""Single cells: the bytes that `asm` prints, or the place and the name of the first fault, worked out by
 hand from the manual."""
 import unittest
 
 from lab80_client import Lab, run
 
-# Cells, and their first fault: first those that a cell's text has, in the order in which it is read.
+# Cells, and their first fault: first faults of the text, in the order in which it is read.
 FAULTS = (
     ("MVI A", "1:1 Operands"),
     ("L: NOP", "1:1 Name"),
@@ -12,7 +12,7 @@ FAULTS = (
     ("X1 EQ 5", "1:1 Mnemonic"),
     ("IF 0\n FOO\nENDIF", "2:2 Mnemonic"),
     ("IF 1\nNOP", "1:1 Conditional"),
-    # Words where an atom must stand.
+    # Words in place of an atom.
     ("DB MOD", "1:4 Name"),
     ("DB 1+AND 2", "1:6 Name"),
     ("MVI A,NOP", "1:7 Name"),
@@ -59,7 +59,7 @@ FAULTS = (
     ("ELSE 1", "1:1 Operands"),
     ("END 1,2", "1:1 Operands"),
     ("RET 5", "1:1 Operands"),
-    # Where an operation must begin.
+    # At the beginning of an operation.
     ("X: Y: NOP", "1:4 Mnemonic"),
     ("5 NOP", "1:1 Mnemonic"),
     ("'A'", "1:1 Mnemonic"),
@@ -173,8 +173,8 @@ IMAGES = (
     ("DB 1 XOR 3,3 XOR 3,40 XOR 2", "0000: 02 00 2A\n"),
 )
 
-# A beginning, a piece and how often it stands, a middle, and a piece that stands as often; the exit status,
-# and what is printed. A megabyte of one character after DB is refused at its place, without deep recursion.
+# A beginning, a piece and how often it is repeated, a middle, and a piece repeated as often; the exit status,
+# and the output. A megabyte of one character after DB is refused at its place, without deep recursion.
 LONG = (
     ("", "\n", 65_537, "", "", 0, ""),
     ("", "\n", 65_537, "\n", "", 1, "1:1 TooLong\n"),
@@ -189,11 +189,11 @@ LONG = (
     ("DB 1", "+1", 63, "", "", 0, "0000: 40\n"),
     ("DB 1", "+1", 64, "", "", 1, "1:4 Nesting\n"),
     ("DB 1,", "(", 65, "1", ")", 1, "1:6 Nesting\n"),
-    # As many bytes as memory has are MVI's; one more doesn't fit.
+    # MVIs fill all bytes of memory; one more doesn't fit.
     ("", "MVI A,0\n", 32_769, "", "", 1, "32769:1 PastEnd\n"),
 )
 
-# Cells whose IFs don't match: more text can mend those alone in which one is open at the end.
+# Cells whose IFs don't match: more text can fix only those with an open IF at the end.
 IFS = (
     ("IF 1\nNOP", "incomplete"),
     ("ELSE", "invalid"),
@@ -205,7 +205,7 @@ IFS = (
 
 
 def assembled(cell):
-    """The exit status of `asm`, given a cell, and what it prints."""
+    """The exit status of `asm` for a cell, and its output."""
     done = run(["asm"], cell.encode())
     return done.returncode, done.stdout.decode("ascii")
 

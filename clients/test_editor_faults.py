@@ -1,4 +1,4 @@
-"""What editors' debuggers must not ask, files that can't be debugged, and streams that break off."""
+"""Requests that editors must not send, files that can't be debugged, and streams that break off."""
 import json
 import os
 import socket
@@ -13,16 +13,16 @@ from editor import Editor, Session, free_port
 
 USAGE = "usage: lab80_dap [--port N]\n"
 
-# The most bytes that a text may have, and a body.
+# The most bytes of a text, and of a body.
 MOST = 1_048_576
 
-# The most memory that a debugger takes that doesn't get rid of its answers, in bytes.
+# The most memory of a debugger that can't deliver its answers, in bytes.
 MOST_MEMORY = 32 << 20
 
-# A program of so many bytes.
+# A program to pad to a number of bytes.
 START = "START: HLT\n END START\n"
 
-# What a program's file holds, and how a launch is refused for it; no file where there is nothing.
+# The content of a program's file, and how its launch is refused; None is no file.
 FILES = (
     (None, "no file"),
     (b"\xff", "the file is not UTF-8 text"),
@@ -33,7 +33,7 @@ FILES = (
     (b"HLT\n", "the program has no start: END names none"),
 )
 
-# Texts with a slip, and where it is.
+# Texts with a mistake, and its place.
 SLIPS = (
     ("START: FOO\n", 1, 8, "Mnemonic"),
     (" NOP\n\tJMP NOWHERE\n END 0\n", 2, 6, "Undefined"),
@@ -44,7 +44,7 @@ SLIPS = (
     ("\n" * 65_537 + " NOP\n", 1, 1, "TooLong"),
 )
 
-# Requests whose arguments aren't as they must be.
+# Requests with invalid arguments.
 WRONG_ARGUMENTS = (
     ("launch", {}), ("launch", {"program": 1}), ("launch", {"program": None}), ("launch", []), ("launch", "x"),
     ("launch", {"program": "x", "stopOnEntry": 1}), ("launch", {"program": "x", "noDebug": "true"}),
@@ -76,7 +76,7 @@ WRONG_ARGUMENTS = (
     ("boardSwitches", {"value": 256}), ("boardAliases", {"aliases": 1}), ("stackTrace", 1),
 )
 
-# Bodies that are no request, and none that has a number.
+# Bodies that aren't requests, or have no number.
 NO_REQUESTS = (
     b"", b"x", b"{", b"nul", b"{}", b"[]", b"1", b'"x"', b"\xff", b"{} {}", b'{"type":"request","seq":1}',
     b'{"type":"event","seq":1,"command":"threads"}', b'{"type":"request","seq":-1,"command":"threads"}',
@@ -85,7 +85,7 @@ NO_REQUESTS = (
     b"[" * 1000, b"[" * 128 + b"]" * 128, b'{"type":"request","seq":1,"command":"threads"',
 )
 
-# Streams that break off, and what is told of each.
+# Streams that break off, and the error for each.
 HEADER_LINE, HEADER_SIZE = "a malformed header line", "a header that is too long"
 NO_LENGTH, SECOND_LENGTH = "no Content-Length", "a second Content-Length"
 LENGTH_VALUE, BODY_SIZE = "a Content-Length that is no number", "a body that is too long"
@@ -112,7 +112,7 @@ BROKEN = (
     (b"X: x\r\n" * 171, HEADER_SIZE),
 )
 
-# What the same is written as by others, and must be read.
+# Other ways to write the same message, which must be read.
 WRITTEN_OTHERWISE = (
     b"content-length:%d\r\n\r\n%b",
     b"CONTENT-LENGTH: \t %d\r\n\r\n%b",
@@ -122,8 +122,7 @@ WRITTEN_OTHERWISE = (
 
 
 def heard(data, seconds=10):
-    """What is said on a debugger's standard streams to this input: the messages, the exit status, and what is on standard
-    error."""
+    """The output of a debugger for this input: the messages, the exit status, and the text on standard error."""
     done = subprocess.run([debugger()], input=data, capture_output=True, timeout=seconds, check=False)
     bodies, cut = split(done.stdout)
     if cut:
@@ -307,10 +306,10 @@ class Streams(Session):
         self.assertEqual(editor.end(), (0, ""))
 
 
-# Prints without end.
+# Prints forever.
 FLOOD = "START: OUT 1\n JMP START\n END START\n"
 
-# Starts a debugger on a program without end, tells its number, and goes on.
+# Starts a debugger on an endless program, prints its process id, and goes on.
 PARENT = """\
 import sys, time
 sys.path.insert(0, sys.argv[1])
@@ -325,7 +324,7 @@ time.sleep(60)
 
 class Threads(unittest.TestCase):
     def test_too_little_memory_for_its_reader(self):
-        """It ends, and doesn't wait for what nobody reads: the thread has eight million bytes for its stack."""
+        """It ends, and doesn't wait for a reader that doesn't read: the thread has eight million bytes for its stack."""
         words = ["sh", "-c", 'ulimit -v 8000; exec "$0"', debugger()]
         with subprocess.Popen(words, stdin=subprocess.PIPE, stdout=subprocess.PIPE, stderr=subprocess.PIPE) as done:
             try:
@@ -381,7 +380,7 @@ def write_all(stream, data):
 
 
 def memory(process):
-    """How many bytes of memory are its own."""
+    """The bytes of a process's own memory."""
     with open(f"/proc/{process.pid}/statm", encoding="ascii") as file:
         return int(file.read().split()[1]) * os.sysconf("SC_PAGE_SIZE")
 

@@ -8,12 +8,12 @@ import unittest
 from dap_wire import CLIENT, framed
 from editor import Editor, Session, printed
 
-# The lines of examples/count.asm: CALL SHOW, and what follows it, and the routine's.
+# Lines of examples/count.asm: CALL SHOW, the line after it, and the routine's lines.
 CALL, AFTER_CALL, SHOW, ADD, RETURN = 5, 6, 10, 11, 13
 
 ENDLESS = "START: JMP START\n       END START\n"
 
-# Prints the line that it asks for, to its end.
+# Prints the whole line that it asks for.
 ECHOES = """\
 START:  OUT 3
 NEXT:   IN 0
@@ -28,7 +28,7 @@ DONE:   HLT
         END START
 """
 
-# Waits for buttons, and prints a letter for each of RST 1, until that of RST 2.
+# Waits for buttons, and prints a letter for each RST 1, until RST 2.
 BUTTONS = """\
         ORG 8
         JMP ONE
@@ -47,7 +47,7 @@ AGAIN:  EI
         END START
 """
 
-# Prints all 256 bytes in turn, so many times.
+# Prints all 256 bytes in order, a number of times.
 BYTES = """\
 START:  MVI C,{times}
         XRA A
@@ -75,7 +75,7 @@ CAPABILITIES = dict.fromkeys((
     "supportsFunctionBreakpoints", "supportsLoadedSourcesRequest", "supportsReadMemoryRequest", "supportsRestartRequest",
     "supportsSetVariable", "supportsSteppingGranularity", "supportsTerminateRequest", "supportsWriteMemoryRequest"), True)
 
-# A session of examples/count.asm: what is asked, and what is said to it. PATH stands for the program's path.
+# A session with examples/count.asm: the requests and the answers. PATH is the program's path.
 CONVERSATION = (
     ('{"seq":1,"type":"request","command":"initialize","arguments":{"adapterID":"lab80"}}',
      '{"body":{"supportsConfigurationDoneRequest":true,"supportsDisassembleRequest":true,"supportsEvaluateForHovers":true,'
@@ -305,7 +305,7 @@ class Runs(Session):
             self.assertEqual(editor.place(), ("main", 1))
             editor.do("continue", threadId=1)
             self.assertEqual(editor.event()[0], "continued")
-        # What else the machine does is in this too; bench/dap has the rate of a machine with nothing else to do.
+        # This includes the machine's other work; bench/dap has the rate of an idle machine.
         self.assertLess(statistics.median(taken), 0.1)
 
     def test_without_debugging_nothing_stops(self):
@@ -519,7 +519,7 @@ class Ends(Session):
             file.seek(0)
             file.write(text)
         editor.do("restart")
-        # The run that was stopped is there no more.
+        # The stopped run is gone.
         self.assertEqual([name for name, _ in editor.events_to("continued")], ["breakpoint", "continued"])
         self.assertEqual(editor.stop(), "breakpoint")
         self.assertEqual((editor.place(), editor.evaluate("B")), (("SHOW", SHOW), "002H"))

@@ -1,4 +1,4 @@
-"""A thousand streams that no good editor sends, to a debugger each."""
+"""A thousand streams that no good editor sends, each to a debugger of its own."""
 import concurrent.futures
 import json
 import os
@@ -13,7 +13,7 @@ from editor_streams import FRAMED, made, write_programs
 SEED = 1
 STREAMS = int(os.environ.get("LAB80_STREAMS", "1000"))
 
-# How long one may take, in seconds, and how long it rests.
+# The most seconds that one may take, and the seconds that it pauses.
 PATIENCE, REST = 10, 0.02
 
 
@@ -44,7 +44,7 @@ def check(folder, number):
 
 
 def say(process, data):
-    """Says the first part, as far as the debugger takes it: how many bytes."""
+    """Sends the first part, as far as the debugger reads it. Returns the number of bytes."""
     os.set_blocking(process.stdin.fileno(), False)
     try:
         return os.write(process.stdin.fileno(), data)
@@ -55,13 +55,13 @@ def say(process, data):
 
 
 def faults_of_end(kind, status, told):
-    """A broken stream is told in a line; a stream that is framed as it must be isn't broken."""
+    """A broken stream is reported in a line; a correctly framed stream isn't broken."""
     if (status, told) != (0, "") and (status != 1 or kind in FRAMED or told.count("\n") != 1 or not told.endswith("\n")):
         yield f"status {status}, {told!r}"
 
 
 def faults_of_messages(said):
-    """All that is said is whole messages, numbered from 1, none of which is said after `terminated` but answers."""
+    """All output is complete messages, numbered from 1; after `terminated` only answers follow."""
     bodies, cut = split(said)
     if cut:
         yield f"no message: {cut[:200]!r}"

@@ -1,4 +1,4 @@
-"""Editors that debug a program with lab80's debugger, and what editors/ has for them."""
+"""Editors that debug a program with lab80's debugger, and their files in editors/."""
 import json
 import os
 import re
@@ -14,7 +14,7 @@ from editor import Session
 
 EDITORS = os.path.join(TOP, "editors")
 
-# What is seen in Emacs (emacs_session.el).
+# The expected display in Emacs (emacs_session.el).
 SEEN_IN_EMACS = """\
 lab80-dap-run: SHOW, line 10, cursor in line 10
 dap-next: SHOW, line 11, cursor in line 11
@@ -38,14 +38,14 @@ ended: terminated
 output: "39"
 """
 
-# What Kate asks in its session, but for what it shows.
+# Kate's requests in its session, except those for its display.
 ASKED_BY_KATE = ["initialize", "launch", "setBreakpoints", "configurationDone", "evaluate", "next", "stepOut", "stepIn", "continue",
                  "setBreakpoints", "continue", "disconnect"]
 SHOWING = ("threads", "stackTrace", "scopes", "variables")
 
 
 def words_of_the_assembler():
-    """The one list of words that mean something by themselves, by their kinds."""
+    """The one list of reserved words, by kind."""
     with open(os.path.join(TOP, "kernelspec/shared.js"), encoding="utf-8") as file:
         listed = re.search(r"const WORDS = \{(.*?)\};", file.read(), re.S)[1]
     return {kind: words.split() for kind, words in re.findall(r'(\w+): "([^"]*)"', listed)}
@@ -118,7 +118,7 @@ class Kate(Session):
 
 
 class VisualStudioCode(unittest.TestCase):
-    """The extension as far as it can be read; it wasn't tried in Visual Studio Code."""
+    """The extension, checked by reading its files; it wasn't tried in Visual Studio Code."""
 
     manifest = read_json("vscode", "package.json")
 
@@ -169,7 +169,7 @@ class VisualStudioCode(unittest.TestCase):
         read_json("vscode", contributes["languages"][0]["configuration"])
 
 
-# What is written, and how each word of it is coloured.
+# A text, and the colour of each word.
 COLOURED = (
     ("START:  LXI H,TEXT ; A",
      [("START", "label"), ("LXI", "transfer"), ("H", "register"), ("TEXT", "other"), ("; A", "semicolon")]),
@@ -186,7 +186,7 @@ COLOURED = (
 
 
 class Grammar(unittest.TestCase):
-    """The colours of the language, as a grammar for TextMate."""
+    """The language's colours, as a TextMate grammar."""
 
     patterns = read_json("vscode", "syntaxes", "i8080.tmLanguage.json")["patterns"]
 
@@ -216,7 +216,7 @@ class Grammar(unittest.TestCase):
 
 
 class Configurations(unittest.TestCase):
-    """What editors/ has for other editors can be read, and names the debugger."""
+    """The files in editors/ for other editors are readable, and name the debugger."""
 
     def test_vim(self):
         read = read_json("vim", "vimspector.json")

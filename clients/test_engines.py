@@ -1,4 +1,4 @@
-"""What the words answer to tables of whole inputs, each row worked out by hand from the manual."""
+"""The commands' answers to tables of whole inputs, each row worked out by hand from the manual."""
 import unittest
 
 from lab80_client import run
@@ -30,7 +30,7 @@ PC=0003 A=05 F=02 B=00 C=00 D=00 E=00 H=00 L=00 SP=0000
 halted
 """
 
-# Two steps a round: of 100,000 steps 50,000 are C350h rounds.
+# Two steps a round: 100,000 steps are 50,000 rounds, C350h.
 COUNTS = """\
 0000: 03 C3 00 00
 start 0000
@@ -89,7 +89,7 @@ DB 008H
 RST 1
 """
 
-# Words, an input, and the whole text that they answer with success.
+# Arguments, an input, and the whole output of a success.
 ANSWERS = (
     (STEP, "3E 6C 06 2E 80 76", SUM),
     (STEP, "3 E6c\t06 2e\r\n80\n76\n", SUM),
@@ -119,7 +119,7 @@ ANSWERS = (
     (DIS, " \n", ""),
 )
 
-# Words, an input that they refuse, and the line that says why.
+# Arguments, an input that is refused, and the line that says why.
 REFUSALS = (
     (STEP, "3G", "bad hex\n"),
     (STEP, "3", "bad hex\n"),
@@ -147,11 +147,11 @@ REFUSALS = (
     (DIS, "3", "bad hex\n"),
 )
 
-# Input of `asm` that is no text.
+# Input of `asm` that isn't text.
 NO_UTF8 = (b"\xff", b"\x80", b"\xc3")
 
-# Words, a piece of input and how often it comes, what follows; the answer's status, how many lines it has, and how
-# it ends.
+# Arguments, a piece of input and how often it is repeated, and what follows; the status of the answer, its number of lines,
+# and its end.
 LONG = (
     (STEP, b"", 0, b"", SUCCESS, 1001, "PC=03E8 A=00 F=02 B=00 C=00 D=00 E=00 H=00 L=00 SP=0000\nlimit\n"),
     (STEP, b"00", 999, b"7608", SUCCESS, 1001, "PC=03E8 A=00 F=02 B=00 C=00 D=00 E=00 H=00 L=00 SP=0000\nhalted\n"),
@@ -163,7 +163,7 @@ LONG = (
     (ASM, b";", 1_048_576, b"", SUCCESS, 0, ""),
     (ASM, b";", 1_048_577, b"", REFUSED, 1, "1:1 TooLong\n"),
     (ASM, b";", 1_048_577, b"\xff", REFUSED, 1, "bad text\n"),
-    # Characters of three bytes, which pieces cut.
+    # Characters of three bytes, which are cut by the pieces.
     (ASM, b"\xe2\x82\xac", 349_526, b"", REFUSED, 1, "1:1 TooLong\n"),
     (ASM, b"\xe2\x82\xac", 349_526, b"\xe2\x82", REFUSED, 1, "bad text\n"),
     (ASM, b"\xe2\x82\xac", 349_526, b"\xed\xa0\x80", REFUSED, 1, "bad text\n"),

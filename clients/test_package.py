@@ -1,4 +1,4 @@
-"""The Debian package: what it says of itself, and lab80 as it is installed from there."""
+"""The Debian package: its metadata, and lab80 as installed from it."""
 import filecmp
 import glob
 import os
@@ -18,8 +18,8 @@ TOP = os.path.dirname(os.path.dirname(os.path.abspath(__file__)))
 KERNELSPEC = "/usr/share/jupyter/kernels/lab80"
 DOCUMENTS = "/usr/share/doc/lab80"
 
-# Runs the cell on standard input on a kernel of its own, found as a frontend finds it. It prints where the kernelspec lies,
-# what the cell prints, and the number of the kernel's version.
+# Runs the cell on standard input on a kernel of its own, found as a frontend finds it. It prints the kernelspec's folder,
+# the cell's output, and the kernel's version.
 CLIENT = """\
 import sys
 from jupyter_client.kernelspec import get_kernel_spec
@@ -30,16 +30,16 @@ with run_kernel(kernel_name="lab80") as client:
     print(client.kernel_info(reply=True, timeout=10)["content"]["implementation_version"])
 """
 
-# An editor's first words to the debugger, and its last ones.
+# An editor's first and last messages to the debugger.
 GREETING = {"seq": 1, "type": "request", "command": "initialize"}
 FAREWELL = {"seq": 2, "type": "request", "command": "disconnect"}
 
-# Runs words where the files of a root lie over the machine's. Nothing but these words sees that.
+# Runs a command with the files of a root laid over the machine's. Only this command sees them.
 OVERLAY = 'mount -t overlay lab80 -o ro,lowerdir="$0/usr":/usr /usr && exec "$@"'
 
 
 def call(*words, text="", environment=None):
-    """Runs words, which must end well: what they print."""
+    """Runs a command, which must succeed, and returns its output."""
     done = subprocess.run(words, input=text, capture_output=True, text=True, timeout=60, check=False, env=environment)
     if done.returncode != 0:
         raise AssertionError(f"{words} ended with {done.returncode}: {done.stdout}{done.stderr}")
@@ -47,7 +47,8 @@ def call(*words, text="", environment=None):
 
 
 def dpkg(*words):
-    """The words name a root or change nothing, so that they need no rights. dpkg wants the system's programs at hand."""
+    """Runs dpkg. The arguments name a root or change nothing, so that they need no privileges. dpkg needs the system's programs
+    on PATH."""
     path = os.environ["PATH"] + ":/usr/sbin:/sbin"
     return call("dpkg", "--log=/dev/null", *words, environment=os.environ | {"PATH": path})
 
@@ -65,19 +66,19 @@ def manual_page():
 
 
 def synopsis():
-    """The words that the manual page says can be given, as the usage text has them."""
+    """The synopsis of the manual page, in the form of the usage text."""
     section = re.search(r"(?ms)^\.Sh SYNOPSIS\n(.*?)^\.Sh", manual_page())[1]
     return " | ".join(" ".join(re.findall(r"\.(?:Cm|Ar) (\w+)", words)) for words in section.split(".Nm\n")[1:])
 
 
 def examples():
-    """The manual page's examples of one command, each with what it prints."""
+    """The manual page's examples of one command, each with its output."""
     blocks = re.findall(r"(?ms)^\.Bd -literal[^\n]*\n(.*?)^\.Ed", manual_page())
     return [block[2:].split("\n", 1) for block in blocks if block.count("$ ") == 1]
 
 
 class Root:
-    """A folder that dpkg takes for a machine on which nothing is installed."""
+    """A folder that dpkg takes for a machine with nothing installed."""
 
     def __init__(self, folder):
         self.folder = folder
@@ -88,20 +89,20 @@ class Root:
             pass
 
     def install(self, path):
-        """What a package depends on isn't there."""
+        """Installs a package without its dependencies."""
         dpkg(*self.words, "--force-depends", "--install", path)
 
     def remove(self):
         dpkg(*self.words, "--purge", "lab80")
 
     def names(self):
-        """All that lies there, but for dpkg's own notes."""
+        """All files there, except dpkg's own."""
         return [name for name in glob.glob("**", root_dir=self.folder, recursive=True) if not name.startswith("var")]
 
 
 class Place:
-    """Where lab80 is run as it is installed. Its files lie over the machine's for what runs here, so that every name
-    holds; where the machine doesn't let a process have mounts of its own, the files that name others name the root."""
+    """Runs the installed lab80. Its files are laid over the machine's for commands run here, so that every path
+    is right; if the machine doesn't let a process have mounts of its own, the files that name others name the root."""
 
     def __init__(self, root, folder):
         own = [] if os.geteuid() == 0 else ["--map-root-user"]
@@ -221,7 +222,7 @@ class Installed(unittest.TestCase):
 
 
 class Words(test_words.Words):
-    """The words of the command line, where lab80 is installed from the package."""
+    """The command line of lab80 as installed from the package."""
 
     def setUp(self):
         self.enterContext(mock.patch("lab80_client.program", lambda: place.program))

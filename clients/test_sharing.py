@@ -1,4 +1,4 @@
-"""A board that many share: how fast a cell runs while others look, what a look costs, and what peers without the key can take."""
+"""A shared board: how fast a cell runs while others look, the cost of a look, and the limits for peers without the key."""
 import datetime
 import os
 import tempfile
@@ -29,19 +29,19 @@ NEXT:   DCX B
         END START
 """
 
-# How long a cell takes its first thousand million instructions at full speed, at most, in seconds, and how long its pace is measured.
+# The most seconds that a cell takes at full speed for its first billion instructions, and the seconds over which its rate is measured.
 FULL_SPEED, MEASURED = 12, 5
 
 LOOK = {"type": "request", "seq": 1, "command": "variables", "arguments": {"variablesReference": 3}}
 
 
 def ask(session, kind, content=None):
-    """A signed request, as it goes over the wire."""
+    """A signed request, as sent over the wire."""
     return message(*session.serialize(session.msg(kind, content or {})))
 
 
 class Panels:
-    """Front panels: each follows the lamps, two looks a second, and hears iopub."""
+    """Front panels: each follows the lamps, with two looks a second, and receives iopub."""
 
     def __init__(self, connection, count):
         self.is_over, self.wrong, self.looks = threading.Event(), None, 0
@@ -92,7 +92,7 @@ class Pace(Lab):
         return found["D"] * 256 + found["E"], time.monotonic()
 
     def rate(self):
-        """How far it counts in a second."""
+        """Its counts a second."""
         first, began = self.count()
         time.sleep(MEASURED)
         last, ended = self.count()
@@ -160,7 +160,7 @@ class Pace(Lab):
             self.assertEqual(self.reply(number)["content"]["status"], "ok")
 
     def test_a_reply_comes_though_output_is_read_slowly(self):
-        """Of posts to others none makes a connection lag behind."""
+        """Posts to others don't make a connection lag behind."""
         number = self.client.execute("START: OUT 1\nJMP START\nEND START\n")
         for _ in range(300):
             self.client.get_iopub_msg(timeout=PATIENCE)
@@ -177,7 +177,7 @@ class Pace(Lab):
 
 
 class Strangers(unittest.TestCase):
-    """Peers without the key, of a kernel of their own."""
+    """Peers without the key, on a kernel of their own."""
 
     seconds = 150
 
@@ -189,16 +189,16 @@ class Strangers(unittest.TestCase):
         self.addCleanup(self.kernel.kill)
 
     def program(self):
-        """The number of the kernel's own process."""
+        """The process id of the kernel."""
         return self.kernel.pid
 
     def memory(self, name="VmRSS"):
-        """What the kernel takes, or the most that it took (VmHWM), in bytes."""
+        """The kernel's memory, or its peak (VmHWM), in bytes."""
         with open(f"/proc/{self.program()}/status", encoding="ascii") as file:
             return next(int(line.split()[1]) * 1024 for line in file if line.startswith(name + ":"))
 
     def flood(self, channel, said, until):
-        """One peer after another that says this without an end."""
+        """Runs one peer after another that sends this endlessly."""
         while time.monotonic() < until:
             try:
                 with Peer(self.connection, channel) as peer:
@@ -209,8 +209,8 @@ class Strangers(unittest.TestCase):
                 pass
 
     def test_memory_of_peers_without_the_key(self):
-        """A hundred peers subscribe by a mebibyte each, or say that it is their identity, for eight seconds; a client with the key is
-        answered meanwhile, and its first cell, which is long, too."""
+        """A hundred peers subscribe with a mebibyte each, or send it as their identity, for eight seconds; a client with the key is
+        answered meanwhile, including its first cell, which is long."""
         shake = greeting() + ready(b"SUB")
         topic = message(b"\x01" + bytes(1_000_000))
         named = greeting() + ready(b"DEALER", (b"Identity", b"i" * 1_000_000))
@@ -247,7 +247,7 @@ class Strangers(unittest.TestCase):
                     peer.stream.shutdown(1)
                     peer.is_ended(PATIENCE)
 
-        # As many as are served at the same time: on their own channel the last of them waits 0.8 seconds for its turn.
+        # As many as are served at once: on their own channel the last of them waits 0.8 seconds for its turn.
         threads = [threading.Thread(target=come, daemon=True) for _ in range(PLACES)]
         for thread in threads:
             thread.start()
@@ -256,7 +256,7 @@ class Strangers(unittest.TestCase):
             began = time.monotonic()
             with Peer(self.connection, "shell") as shell:
                 self.assertTrue(shell.greet().is_served())
-            # Those that came before it made two strangers of shell at the most.
+            # The peers before it were at most two strangers on shell.
             self.assertLess(time.monotonic() - began, 0.5)
             time.sleep(0.2)
         for thread in threads:

@@ -1,5 +1,5 @@
-"""A flood of strangers, peers that make their handshake and have no key: they spend little of the journal, and hold nobody up who
-has one."""
+"""A flood of strangers, peers that make their handshake and have no key: they use little of the journal, and delay nobody with a
+key."""
 import glob
 import os
 import tempfile
@@ -13,25 +13,25 @@ from jupyter_client.session import Session
 from lab80_client import PATIENCE, start_alone
 from zmtp import SOCKET_TYPES, Peer, greeting, message, ready
 
-# On each of these channels so many strangers come at once, one after the other.
+# The channels, and the number of strangers at once on each, one after the other.
 CHANNELS, AT_ONCE = ("shell", "iopub", "stdin", "control"), 5
 
-# How long they come, and how often the client with the key asks meanwhile, in seconds.
+# The seconds of the flood, and the seconds between requests of the client with the key.
 FLOOD, PAUSE = 5, 0.02
 
-# Of a channel's strangers eight are served as they come, and so are those that it serves by then; then one each 50 milliseconds.
+# A channel serves the first eight strangers as they come, and those that it serves by then; then one each 50 milliseconds.
 FIRST, A_SECOND = 8 + AT_ONCE, 20
 
 
 def strange(channel):
-    """What a stranger says: a handshake, and a request that is signed with another key; on iopub that is no subscription."""
+    """A stranger's bytes: a handshake, and a request signed with another key; on iopub this isn't a subscription."""
     session = Session(key=b"another")
     asked = message(*session.serialize(session.msg("kernel_info_request")))
     return greeting() + ready(SOCKET_TYPES[channel]) + asked
 
 
 class Flood:
-    """Strangers on each channel, from a thread for each of those that come at once."""
+    """Strangers on each channel, with a thread for each of those at once."""
 
     def __init__(self, connection):
         self.connection, self.is_over, self.served, self.wrong = connection, threading.Event(), dict.fromkeys(CHANNELS, 0), None
@@ -76,7 +76,7 @@ class Strangers(unittest.TestCase):
         self.addCleanup(self.kernel.kill)
 
     def ask_until(self, peer, until):
-        """How long each answer takes to a client that asks on and on, in seconds."""
+        """The seconds of each answer to a client that asks continuously."""
         while time.monotonic() < until:
             began = time.monotonic()
             self.assertTrue(peer.is_served())
@@ -84,7 +84,7 @@ class Strangers(unittest.TestCase):
             time.sleep(PAUSE)
 
     def come_new(self):
-        """How long it takes a client that comes with the key to hear what the kernel is, in seconds."""
+        """The seconds until a new client with the key gets its kernel_info."""
         client = BlockingKernelClient(connection_file=self.path)
         client.load_connection_file()
         began = time.monotonic()
@@ -108,7 +108,7 @@ class Strangers(unittest.TestCase):
         answers.sort()
         told = (f"{flood.served} strangers in {flood.took:.1f} seconds, {len(answers)} answers in {answers[len(answers) // 2]:.4f} "
                 f"to {answers[-1]:.3f} seconds, a new client's in {late:.3f}")
-        # On a machine with other work one answer in a hundred may wait for a processor.
+        # On a busy machine one answer in a hundred may wait for a processor.
         self.assertLess(answers[-1 - len(answers) // 100], 0.1, told)
         self.assertLess(answers[-1], 1, told)
         self.assertLess(late, 2, told)
@@ -118,7 +118,7 @@ class Strangers(unittest.TestCase):
         self.assertIsNone(self.kernel.poll())
 
     def test_subscriptions_without_an_end(self):
-        # The first 65,536 are taken as they come, further ones a few hundred a second.
+        # The first 65,536 are accepted as they come, further ones are throttled to a few hundred a second.
         with Peer(self.connection, "iopub") as subscriber, Peer(self.connection, "shell") as shell:
             subscriber.greet()
             shell.greet()
@@ -131,7 +131,7 @@ class Strangers(unittest.TestCase):
             self.assertGreater(time.monotonic() - began, 1)
 
     def naps(self):
-        """How often threads of the kernel, which has its shell's number, went to sleep."""
+        """How often threads of the kernel, which has its shell's process id, went to sleep."""
         naps = 0
         for path in glob.glob(f"/proc/{self.kernel.pid}/task/*/status"):
             with open(path, encoding="ascii") as file:

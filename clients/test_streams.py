@@ -1,4 +1,4 @@
-"""Streams that no good peer sends, 120,000 of them, by `hostile`: the kernel stands, and a kernel that doesn't is found."""
+"""120,000 streams that no good peer sends, by `hostile`: the kernel survives, and one that doesn't is detected."""
 import contextlib
 import os
 import re
@@ -13,19 +13,19 @@ from streams import KINDS, made
 
 PROGRAM = os.path.join(os.path.dirname(os.path.abspath(__file__)), "hostile")
 
-# At the most half a minute on a machine with nothing else to do, a minute on slower ones.
+# At most half a minute on an idle machine, a minute on slower ones.
 STREAMS = 120_000
 
 
 class Streams(unittest.TestCase):
-    # The longest that one of these may take.
+    # The most seconds that one of these may take.
     seconds = 180
 
     def setUp(self):
         self.folder = self.enterContext(tempfile.TemporaryDirectory())
 
     def start(self, *words):
-        """Starts it. Its kernel's connection file is in a folder of this test's."""
+        """Starts `hostile`. Its kernel's connection file is in a folder of this test's own."""
         hostile = subprocess.Popen([PROGRAM, *map(str, words)], stdout=subprocess.PIPE, stderr=subprocess.STDOUT, text=True,
                                    env=os.environ | {"TMPDIR": self.folder})
         self.addCleanup(hostile.stdout.close)
@@ -34,7 +34,7 @@ class Streams(unittest.TestCase):
         return hostile
 
     def kernels(self):
-        """Its kernel's process, without the watcher."""
+        """The process of its kernel, without the watcher."""
         found = []
         for process in processes(self.folder):
             with contextlib.suppress(OSError):
@@ -43,7 +43,7 @@ class Streams(unittest.TestCase):
         return found
 
     def finds(self, number, pattern):
-        """Sends its kernel a signal amid the streams. It must find that, and name the streams of that moment."""
+        """Sends its kernel a signal during the streams. `hostile` must detect that, and name the streams of that moment."""
         hostile = self.start("--seed", 7, "--streams", 10 * STREAMS)
         until = time.monotonic() + 30
         while not self.kernels():

@@ -1,4 +1,4 @@
-"""Messages at the border of what is taken, by libzmq."""
+"""Messages at the limits of what is accepted, sent with libzmq."""
 import contextlib
 import time
 
@@ -11,7 +11,7 @@ from zmtp import Peer, message
 
 class Wire(Lab):
     def socket(self, kind, channel):
-        """A socket of libzmq, connected to a channel."""
+        """A libzmq socket, connected to a channel."""
         made = zmq.Context.instance().socket(kind)
         made.linger = 0
         self.addCleanup(made.close)

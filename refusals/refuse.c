@@ -1,7 +1,7 @@
-/* What is preloaded to a program, and refuses it what it is told to: allocations, reads and writes. COUNTS names a file
-   of three rows of four 64-bit numbers, one row for each of these, which it maps: how many were asked for, the first
-   and the last number that is refused, from 1, and how many were. Who started the process may read and write them while
-   it runs. The kit's compiler builds it, which has no headers. The numbers of system calls are x86-64's. */
+/* A preloaded library that fails chosen allocations, reads and writes of a program. COUNTS names a file of three rows of
+   four 64-bit numbers, one row for each of these kinds, which it maps: the number of calls, the first and the last call
+   to fail, counted from 1, and the number of failed calls. The process's parent may read and write them while it runs.
+   It is built with the kit's compiler, which has no headers. The system call numbers are those of x86-64. */
 typedef __SIZE_TYPE__ size_t;
 extern void *__libc_malloc(size_t), *__libc_realloc(void *, size_t), *__libc_calloc(size_t, size_t);
 extern void *__libc_memalign(size_t, size_t);

@@ -1,4 +1,4 @@
-"""Runs programs to which some allocations, reads or writes are refused, for the scripts beside this file."""
+"""Runs programs with failing allocations, reads or writes, for the scripts in this folder."""
 import mmap
 import os
 import struct
@@ -13,11 +13,11 @@ sys.path.insert(0, str(TOP))
 
 from workspace import KIT, folder
 
-# The longest that a program may take, in seconds. It takes some milliseconds.
+# The most seconds that a program may take. It takes some milliseconds.
 SECONDS = 30
-# What is refused, in the order of the rows that refuse.c counts them in.
+# The kinds of calls, in the order of the rows of refuse.c.
 ALLOCATIONS, READS, WRITES = KINDS = ("allocations", "reads", "writes")
-# A number that none of these reaches.
+# A number above any count.
 ALL = 2**62
 
 
@@ -32,7 +32,7 @@ def build(*crates):
 
 @contextmanager
 def refuser():
-    """What refuses, as a library that can be preloaded."""
+    """The library to preload, built from refuse.c."""
     tools = KIT / "toolchain/bin"
     with tempfile.TemporaryDirectory() as place:
         library = Path(place) / "refuse.so"
@@ -42,7 +42,7 @@ def refuser():
 
 
 class Refused:
-    """Which calls of a kind are refused, from a first number to a last one."""
+    """The calls of a kind that fail, from a first number to a last one."""
 
     def __init__(self, kind=ALLOCATIONS, first=0, last=0):
         self.kind, self.first, self.last = kind, first, last
@@ -56,7 +56,7 @@ NOTHING = Refused()
 
 
 class Counts:
-    """What is refused to a process, and how much of each kind it asked for."""
+    """The calls of a process that fail, and the number of its calls of each kind."""
 
     def __init__(self, library, refused=NOTHING):
         descriptor, self.path = tempfile.mkstemp(dir="/dev/shm")
@@ -74,7 +74,7 @@ class Counts:
         os.unlink(self.path)
 
     def row(self, kind):
-        """How many calls of a kind there were, the first and the last that is refused, and how many were."""
+        """The number of calls of a kind, the first and the last call to fail, and the number of failed calls."""
         at = 32 * KINDS.index(kind)
         return struct.unpack("4q", self.shared[at:at + 32])
 
@@ -82,13 +82,13 @@ class Counts:
         return {kind: self.row(kind)[0] for kind in KINDS}
 
     def refuse(self, refused):
-        """From now on these are refused, and no others of their kind."""
+        """From now on these calls fail, and no others of their kind."""
         at = 32 * KINDS.index(refused.kind)
         self.shared[at + 8:at + 24] = struct.pack("2q", refused.first, refused.last)
 
 
 class Made:
-    """A run of a program: its status, what it printed, how much it asked for, and how often it was refused that."""
+    """A run of a program: its status, its output, the number of its calls, and the number of failed ones."""
 
     def __init__(self, library, words, text=b"", refused=NOTHING):
         with Counts(library, refused) as counts:

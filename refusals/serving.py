@@ -1,4 +1,4 @@
-"""Starts kernels of connection files of their own, to which allocations, reads or writes may be refused."""
+"""Starts kernels with connection files of their own, and optionally with failing allocations, reads or writes."""
 import json
 import os
 import random
@@ -11,12 +11,12 @@ from refusing import NOTHING, Counts, program
 KEY = "a kernel's key"
 PORTS = ("shell", "iopub", "stdin", "control", "hb")
 FIRST_PORT = 5001
-# How long a kernel may take to begin, in seconds.
+# The most seconds that a kernel may take to start.
 SECONDS = 10
 
 
 class Kernel:
-    """A kernel at an address of its own. With a library that refuses, this is refused to it."""
+    """A kernel at an address of its own. With a library to preload, its calls may fail."""
 
     def __init__(self, library=None, refused=NOTHING):
         parts = (random.randrange(1, 255) for _ in range(3))
@@ -45,7 +45,7 @@ class Kernel:
             self.counts.__exit__()
 
     def status(self, seconds):
-        """The status with which it ends within this time, if it does."""
+        """The status with which it ends within this time, or None."""
         try:
             return self.process.wait(seconds)
         except subprocess.TimeoutExpired:

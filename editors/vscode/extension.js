@@ -1,4 +1,4 @@
-// Tells Visual Studio Code where lab80's debugger is, and lets F5 debug the file that is open.
+// Tells Visual Studio Code where lab80's debugger is, and lets F5 debug the open file.
 "use strict";
 
 const vscode = require("vscode");
@@ -10,7 +10,7 @@ const programs = {
     },
 };
 
-/** Where there is no launch.json, the file that is open is debugged. */
+/** Without a launch.json, the open file is debugged. */
 const configurations = {
     resolveDebugConfiguration(folder, configuration) {
         const editor = vscode.window.activeTextEditor;

@@ -1,17 +1,17 @@
-// Small helpers: elements, numbers as texts, and work done in turn.
+// Small helpers: elements, numbers as texts, and work in sequence.
 
 export const byId = id => document.getElementById(id);
 
 export const hexadecimal = (number, digits) => number.toString(16).toUpperCase().padStart(digits, "0");
 
-/** The number that the kernel writes as the assembler does: 05AH, 0FFFEH. */
+/** The value of a number in the kernel's and the assembler's notation: 05AH, 0FFFEH. */
 export const numberOf = text => parseInt(text, 16);
 
 export const addressText = number => hexadecimal(number, 4) + "H";
 
 export const character = byte => byte > 31 && byte < 127 ? String.fromCharCode(byte) : "\u00B7";
 
-/** An element with members and attributes. What it holds is put in as text or as elements, never as HTML. */
+/** An element with members and attributes. Its content is inserted as text or as elements, never as HTML. */
 export function make(tag, members = {}, ...children) {
     const made = document.createElement(tag);
     for (const [name, value] of Object.entries(members)) {
@@ -22,13 +22,13 @@ export function make(tag, members = {}, ...children) {
     return made;
 }
 
-/** Returns a function that does its work one after the other, so that no two of them read and write at once. */
+/** Returns a function that runs tasks one after the other, so that no two of them read and write at once. */
 export function turns() {
     let last = Promise.resolve();
     return work => (last = last.then(work, work));
 }
 
-/** Asks a question with two answers. Returns whether it was answered by yes. */
+/** Asks a question with two answers. Returns whether the answer was yes. */
 export function ask(text, yes) {
     const question = byId("question");
     byId("question-text").textContent = text;
@@ -40,7 +40,7 @@ export function ask(text, yes) {
     });
 }
 
-/** What the browser keeps for this page, as JSON; nothing where it keeps nothing. */
+/** A value that the browser keeps for this page, as JSON; nothing if it keeps none. */
 export function readSetting(name, storage = () => localStorage) {
     try {
         return JSON.parse(storage().getItem("lab80 " + name));
