@@ -16,7 +16,7 @@ abbrev pub leaving : ℕ → Result (Unit {0}) LeaveFault → List Call
 leaving connection (Ok _) = Leave connection ∷ []
 leaving connection (Err fault) = []
 
--- what the answer to a Leave comes to: it was made, but for want of memory, or in a full journal
+-- how a Leave ended: it was made, unless memory ran out or the journal was full
 abbrev pub left_by : Result Reply KernelFault → Option (Result (Unit {0}) LeaveFault)
 left_by (Err fault.OutOfMemory) = None
 left_by (Err fault.JournalFull) = Some (Err JournalFull)
@@ -35,7 +35,7 @@ pub record HasLeft (connection : ℕ) (old new : PassState Call) (left : Result
   pub calls : new.calls ≡ old.calls ++ leaving connection left
   pub cause : KeepsFrom left new
 
--- the same where it was tried once, or memory was wanting
+-- the same of one attempt, which may run out of memory
 abbrev pub TriedToLeave : ℕ → PassState Call → PassState Call → Option (Result (Unit {0}) LeaveFault) → Type 0
 TriedToLeave connection old new (Some left) = HasLeft connection old new left
 TriedToLeave connection old new None = Sees old new

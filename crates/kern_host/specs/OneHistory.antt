@@ -47,7 +47,7 @@ pub record Place : Type 0 where
 abbrev pub place_of : PassState Call → History → Place
 place_of pass history = record { history = history; seat = pass.seat; limit = pass.turnstile.limit }
 
--- a call of the seat stands in the history, and this is the stated kernel's answer there
+-- a call of the seat is in the history, and this is the specified kernel's answer there
 pub record Stands (place : Place) (call : Call) (answer : Result Reply KernelFault) : Type 0 where
   pub before : History
   pub here : IsPrefix (before ++ (place.seat, call) ∷ []) place.history
@@ -68,7 +68,7 @@ InletEnds inlet decoder reads (end.Wire cause) = IsReadable inlet × (decoder.fa
 InletEnds inlet decoder reads _ = IsReadable inlet
 
 -- What the reader gave from one state to another, up to this end, and the calls that the messages ask for,
--- those that the peer held first. They are all, but where a call was refused or memory was wanting.
+-- those that the peer held first. All of them, unless a call was refused or memory ran out.
 pub record Asks (source : Source) (peer : Peer) (old new : InletState) (asked : List Call) (e : PumpEnd)
     : Type 0 where
   pub taken : Bytes
@@ -118,8 +118,8 @@ abbrev pub OutletEnds : OutletState → PumpEnd → Type 0
 OutletEnds outlet end.WriteFailed = outlet.failed ≡ true
 OutletEnds outlet _ = IsWritable outlet
 
--- What the writer took from one state to another, up to this end: the messages of these posts, or a front of
--- them where it failed or memory was wanting.
+-- What the writer took from one state to another, up to this end: the messages of these posts, or a prefix
+-- of them if it failed or memory ran out.
 pub record Sends (target : Target) (old new : OutletState) (posts : List Post) (e : PumpEnd) : Type 0 where
   pub front : WroteFront target old new posts
   pub whole : is_whole e ≡ true → WroteAll target old new posts

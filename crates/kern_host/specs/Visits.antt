@@ -127,7 +127,7 @@ pub record IsTurnedAway (s : Seats) (old new : Line) (history : History)
   pub cause : TurnsAway s history (Join old.channel (identity_of peer)) fault
   pub silent : Adds s.writing history []
 
--- where a Leave is wanting, the journal was full, or no turn was had
+-- if there is no Leave, the journal was full, or no turn was to be had
 abbrev pub LeaveEnds : Place → Result (Unit {0}) LeaveFault → Type 0
 LeaveEnds place (Err leave.JournalFull) = IsFull place
 LeaveEnds place _ = Unit {0}

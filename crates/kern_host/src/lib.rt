@@ -1,6 +1,6 @@
 // A kernel with all its connections. `host` runs it from the first call to the last, and its contract is the
 // project's main theorem: there is one history of all calls; each connection asked for what its bytes ask
-// for, and was sent the posts that the stated kernel makes for it there, none left out; the worker's calls
+// for, and was sent the posts that the specified kernel makes for it, none left out; the worker's calls
 // are Slices; and each thread ended for a stated cause. `visit` serves one connection, from its handshake to
 // its Leave, whatever other threads do at the desk. `laws` say the same of each pump alone.
 #![tactic(auto)]

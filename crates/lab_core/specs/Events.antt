@@ -287,7 +287,7 @@ Loads s b reply new =
     × Gives b (without_run b.run (loaded_as cell s b)) reply new
 
 -- On this board the event has this reply and leaves that board: a Load and a Slice by conditions, all
--- others by the function `given`.
+-- others by the function `result_of`.
 abbrev pub Applies : Board → Event → Result Answer EventFault → Board → Type 0
 Applies b (event.Load path text) reply new = Loads (record { path = path; text = text }) b reply new
 Applies b (event.Slice n) reply new = SlicesRun b.run n b reply new

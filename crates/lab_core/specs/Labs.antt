@@ -289,8 +289,8 @@ abbrev pub RunsOn : LabState → List Event → List (Result Answer EventFault) 
 RunsOn old events replies new =
     (b : Board) → RepresentsBoard old b → (b' : Board) × Runs b events replies b' × RepresentsBoard new b'
 
--- The result is the function's, and the lab represents the board it returns, or, if it refuses, for the
--- old one.
+-- The result is the function's, and the lab represents the board it returns, or the old one if it
+-- refuses.
 abbrev pub Did : {A : Type 0} → Board → Result (A × Board) EventFault → Result A EventFault → LabState
     → Type 0
 Did b (Ok (x, b')) result new = (result ≡ Ok x) × RepresentsBoard new b'

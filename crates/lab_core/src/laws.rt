@@ -7,7 +7,7 @@ ghost use Rattle.lab_core.specs.Board.{Board};
 ghost use Rattle.lab_core.specs.Events.{Applies, Gives, Runs, result_of};
 ghost use Rattle.lab_core.specs.Marks.{MarksState, IsFirstMark, first_mark};
 
-/// `Applies` and the function `given` agree, so every event on every board has exactly one answer.
+/// `Applies` and the function `result_of` agree, so every event on every board has exactly one answer.
 pub fn applies_as_given()
     ensures only { (b new : Board) (event : Event) (reply : Result Answer EventFault)
         → Applies b event reply new → Gives b (result_of event b) reply new }
