@@ -1,21 +1,17 @@
-use Rattle.std.proofs.Common.{◌≡◌, ℕ, ◌+◌, ◌<◌, ◌≤◌, ◌⊎◌, inl, inr, Option, Some, None, List, [], ◌∷◌}
-use Rattle.std.proofs.Common.{◌++◌, length}
-use Rattle.std.proofs.Common.{take, drop, refl, arith, sym, ◌∙◌, ap, subst, append_assoc, length-append}
+use Rattle.std.proofs.Common.{◌≡◌, ℕ, ◌<◌, ◌≤◌, ◌⊎◌, inl, inr, Option, Some, None, List, [], ◌∷◌, ◌++◌}
+use Rattle.std.proofs.Common.{length, take, drop, refl, arith, sym, ◌∙◌, ap, subst, append_assoc}
+use Rattle.std.proofs.Common.{length-append}
 use Rattle.std.proofs.lemmas.Bool.{cases_lt, cases_order}
-use Rattle.std.proofs.lemmas.List.{append-nil, append_cancel_left, take-take, take-append-drop}
-use Rattle.std.proofs.lemmas.List.{take-append-le}
-use Rattle.std.proofs.Math.Seq.{take-append_seam, take-length}
+use Rattle.std.proofs.lemmas.List.{append-nil, append_cancel_left, take-append-drop, take-append-le, drop_all}
+use Rattle.std.proofs.Math.Seq.{take-append_seam}
 use Rattle.dap_stream.specs.declared.fault.StreamFault.{StreamFault}
-use Rattle.dap_stream.specs.declared.fault.StreamFault.TheVariants as fault
-use Rattle.dap_stream.specs.Header.{line_end, Field, IsHeader, IsLength, IsAllowed, SaysOnce, IsHeaderOf}
-use Rattle.dap_stream.specs.Header.{lengths}
+use Rattle.dap_stream.specs.Header.{line_end, IsHeader, IsLength, IsAllowed, SaysOnce, IsHeaderOf, lengths}
 use Rattle.dap_stream.specs.Faults.{CanBe, Any, AtMostOne, Single, IsNumber, Numbered, Small, Sized, Begins}
 use Rattle.dap_stream.specs.Faults.{Lacks, NoHeader, Twice, NoNumber, TooLarge, Missing}
 use Rattle.dap_stream.specs.Stream.{IsMessage, Reads, Stays, Goes, IsPartial, InHeader, InBody, IsFault}
 use Rattle.dap_stream.specs.Stream.{InLine, InSize, DecoderState, HasReadBodies, EndsIn}
-use Rattle.dap_stream.specs.Reading.{EndsAt}
-use Rattle.dap_stream.proofs.HeaderLemmas.{at_empty, after_lines}
-use Rattle.dap_stream.proofs.LengthLemmas.{all_digits, digits_stop}
+use Rattle.dap_stream.proofs.HeaderLemmas.{opening, at_empty, after_lines}
+use Rattle.dap_stream.proofs.LengthLemmas.{same_size}
 
 -- DEMANDS
 
@@ -75,15 +71,6 @@ same_lack a c d (Missing k x n) (NoNumber l y m) = absurd (m (to_numbered a x))
 same_lack a c d (Missing k x n) (TooLarge l y m) = absurd (m x)
 same_lack a c d (Missing k x n) (Missing l y m) = k ∙ sym l
 
--- a header lacks nothing, and so do its fronts
-sized_front : (a b : List ℕ) (size : ℕ) → IsHeaderOf (a ++ b) size → CanBe Sized a
-sized_front a b size h = record {
-  more = b;
-  fields = h.fields;
-  header = h.header;
-  met = (size, h.length_is);
-}
-
 nothing_lacks : (a : List ℕ) (c : StreamFault) → Lacks a c → CanBe Sized a → ⊥
 nothing_lacks a c (NoHeader k n) s = n (to_any a (to_single a (to_numbered a (to_small a s))))
 nothing_lacks a c (Twice k x n) s = n (to_single a (to_numbered a (to_small a s)))
@@ -91,276 +78,199 @@ nothing_lacks a c (NoNumber k x n) s = n (to_numbered a (to_small a s))
 nothing_lacks a c (TooLarge k x n) s = n (to_small a s)
 nothing_lacks a c (Missing k x n) s = n s
 
-begins_sized : (a b : List ℕ) → Begins (a ++ b) → CanBe Sized a
-begins_sized a b h =
-    sized_front a (b ++ h.more) h.size (subst (λ l. IsHeaderOf l h.size) (append_assoc a b h.more) h.whole)
+-- TWO FRONTS OF THE SAME BYTES
+
+-- the longer begins with the shorter
+front_in : (a s b t : List ℕ) → length a ≤ length b → a ++ s ≡ b ++ t → b ≡ a ++ drop (length a) b
+front_in a s b t few e =
+    sym (take-append-drop (length a) b) ∙ ap (λ l. l ++ drop (length a) b)
+    (sym (take-append-le (length a) b t few) ∙ (ap (take (length a)) (sym e) ∙ take-append_seam a s))
+
+same_parts : (a s b t : List ℕ) → length a ≡ length b → a ++ s ≡ b ++ t → (a ≡ b) × (s ≡ t)
+same_parts a s b t n e =
+    let k : a ≡ b = front_in b t a s (omega arith) (sym e)
+    ∙ (ap (λ l. b ++ l) (drop_all (length b) a (omega arith)) ∙ append-nil b) in
+    (k, append_cancel_left a s t (e ∙ ap (λ l. l ++ t) (sym k)))
 
 -- HEADERS
 
--- what follows a header, where it is a header with it too: nothing
-record IsAlone (m : List ℕ) (fs gs : List Field) : Type 0 where
-  pub none : m ≡ []
-  pub fields : gs ≡ fs
+-- a header that says a size begins with each front of it
+opens_front : (a b : List ℕ) → CanBe Sized (a ++ b) → CanBe Sized a
+opens_front a b c =
+    record { more = b ++ c.more; fields = c.fields; header = rw append_assoc at c.header; met = c.met }
 
-header_alone : (h m : List ℕ) (fs gs : List Field) → IsHeader h fs → IsHeader (h ++ m) gs → IsAlone m fs gs
-header_alone h m fs gs a b =
-    let e : h ++ m ≡ a.lines ++ 13 ∷ 10 ∷ m = ap (λ l. l ++ m) a.spelled ∙ append_assoc a.lines line_end m in
-    let r = after_lines a.lines (13 ∷ 10 ∷ m) fs gs a.are (subst (λ l. IsHeader l gs) e b) in
-    let empty = at_empty (10 ∷ m) 13 r.others refl r.header in
-    let feed = empty.feed in
-    record { none = cc; fields = r.fields_are ∙ (ap (λ l. fs ++ l) empty.none ∙ append-nil fs) }
+header_opens : {h : List ℕ} {size : ℕ} → IsHeaderOf h size → CanBe Sized h
+header_opens {h} {size} a =
+    record { more = []; fields = a.fields; header = rw (append-nil h) a.header; met = (size, a.length_is) }
 
-same_size : (value : List ℕ) (m n : ℕ) → IsLength value m → IsLength value n → m ≡ n
-same_size value m n a b =
-    let all = all_digits a.blanks a.digits n a.blanks_are (digits_stop a.digits a.digits_are)
-    (subst (λ l. IsLength l n) a.spelled b) in
-    a.size_is ∙ sym all.size_is
+begun_opens : {a : List ℕ} → Begins a → CanBe Sized a
+begun_opens b =
+    let h = b.whole in
+    record { more = b.more; fields = h.fields; header = h.header; met = (b.size, h.length_is) }
 
-same_once : (values : List (List ℕ)) (m n : ℕ) → SaysOnce values m → SaysOnce values n → m ≡ n
-same_once values m n a b =
+-- no header has a byte with which none goes on
+never_opens : (front others whole more : List ℕ) (byte : ℕ) (c : StreamFault) → length front < length whole
+    → front ++ byte ∷ others ≡ whole ++ more → Lacks (front ++ byte ∷ []) c → CanBe Sized whole → ⊥
+never_opens front others whole more byte c less e l s =
+    let next = front ++ byte ∷ [] in
+    let k = front_in next others whole more (omega (arith, length-append front (byte ∷ [])))
+    (append_assoc front (byte ∷ []) others ∙ e) in
+    nothing_lacks next c l (opens_front next (drop (length next) whole) (subst (CanBe Sized) k s))
+
+same_once : {values : List (List ℕ)} {m n : ℕ} → SaysOnce values m → SaysOnce values n → m ≡ n
+same_once {n = n} a b =
     let e : a.value ∷ [] ≡ b.value ∷ [] = sym a.one ∙ b.one in
-    let v : a.value ≡ b.value = cc in
-    same_size a.value m n a.allowed.length_is (subst (λ l. IsLength l n) (sym v) b.allowed.length_is)
+    let v : b.value ≡ a.value = cc in
+    same_size a.allowed.length_is (subst (λ l. IsLength l n) v b.allowed.length_is)
 
-record IsSame (m : List ℕ) (i j : ℕ) : Type 0 where
-  pub none : m ≡ []
-  pub size : i ≡ j
+-- what follows a header, where it is a header with it too: nothing
+header_alone : (h m : List ℕ) (i j : ℕ) → IsHeaderOf h i → IsHeaderOf (h ++ m) j → (m ≡ []) × (i ≡ j)
+header_alone h m i j a b =
+    let lines = a.header.lines in
+    let e = ap (λ l. l ++ m) a.header.spelled ∙ append_assoc lines line_end m in
+    let r = after_lines (13 ∷ 10 ∷ m) a.header.are
+    (subst (λ l. IsHeader l b.fields) e b.header) in
+    let empty = at_empty (10 ∷ m) 13 r.0 refl (opening r.2) in
+    let feed = empty.1 in
+    let same = r.1 ∙ (ap (λ l. a.fields ++ l) empty.2 ∙ append-nil a.fields) in
+    (cc, same_once a.length_is (subst (λ f. SaysOnce (lengths f) j) same b.length_is))
 
-sized_alone : (h m : List ℕ) (i j : ℕ) → IsHeaderOf h i → IsHeaderOf (h ++ m) j → IsSame m i j
-sized_alone h m i j a b =
-    let r = header_alone h m a.fields b.fields a.header b.header in
-    record {
-      none = r.none;
-      size = same_once (lengths a.fields) i j a.length_is
-          (subst (λ f. SaysOnce (lengths f) j) r.fields b.length_is);
-    }
-
--- a header that says a size stands at the front in one way only
-record SameSized (s t : List ℕ) (i j : ℕ) : Type 0 where
-  pub others : s ≡ t
-  pub size : i ≡ j
-
-same_sized : (h k s t : List ℕ) (i j : ℕ) → IsHeaderOf h i → IsHeaderOf k j → h ++ s ≡ k ++ t
-    → SameSized s t i j
-same_sized h k s t i j a b e = by_order (cases_lt (length h) (length k))
+-- bytes begin with a header in one way only
+same_header : (h k s t : List ℕ) (i j : ℕ) → IsHeaderOf h i → IsHeaderOf k j → h ++ s ≡ k ++ t
+    → (s ≡ t) × (i ≡ j)
+same_header h k s t i j a b e = by_order (cases_lt (length h) (length k))
   where
-    -- the first isn't longer
     ordered : (h k s t : List ℕ) (i j : ℕ) → length h ≤ length k → IsHeaderOf h i → IsHeaderOf k j
-        → h ++ s ≡ k ++ t → SameSized s t i j
+        → h ++ s ≡ k ++ t → (s ≡ t) × (i ≡ j)
     ordered h k s t i j few a b e =
-        let front : take (length h) k ≡ h =
-        sym (take-append-le (length h) k t few) ∙ (ap (take (length h)) (sym e) ∙ take-append_seam h s) in
         let m = drop (length h) k in
-        let whole : k ≡ h ++ m = sym (take-append-drop (length h) k) ∙ ap (λ l. l ++ m) front in
-        let r = sized_alone h m i j a (subst (λ l. IsHeaderOf l j) whole b) in
-        let same : k ≡ h = whole ∙ (ap (λ l. h ++ l) r.none ∙ append-nil h) in
-        record { others = append_cancel_left h s t (e ∙ ap (λ l. l ++ t) same); size = r.size }
+        let whole = front_in h s k t few e in
+        let r = header_alone h m i j a (subst (λ l. IsHeaderOf l j) whole b) in
+        let same = whole ∙ (ap (λ l. h ++ l) r.0 ∙ append-nil h) in
+        (append_cancel_left h s t (e ∙ ap (λ l. l ++ t) same), r.1)
 
-    by_order : (length h < length k) ⊎ (length k ≤ length h) → SameSized s t i j
+    by_order : (length h < length k) ⊎ (length k ≤ length h) → (s ≡ t) × (i ≡ j)
     by_order (inl less) = ordered h k s t i j (omega arith) a b e
-    by_order (inr few) =
-        let r = ordered k h t s j i few b a (sym e) in record { others = sym r.others; size = sym r.size }
-
--- FRONTS OF A STREAM, BY THEIR LENGTHS
-
-front_is : (bytes front others : List ℕ) → bytes ≡ front ++ others → front ≡ take (length front) bytes
-front_is bytes front others e = sym (ap (take (length front)) e ∙ take-append_seam front others)
-
-header_front : (bytes h others : List ℕ) (size : ℕ) → bytes ≡ h ++ others → IsHeaderOf h size
-    → IsHeaderOf (take (length h) bytes) size
-header_front bytes h others size e = subst (λ l. IsHeaderOf l size) (front_is bytes h others e)
-
-longer : (bytes : List ℕ) (m n : ℕ) → m ≤ n → take n bytes ≡ take m bytes ++ drop m (take n bytes)
-longer bytes m n h =
-    sym (ap (λ l. l ++ drop m (take n bytes)) (sym (take-take m n bytes h)) ∙ take-append-drop m
-    (take n bytes))
+    by_order (inr few) = let r = ordered k h t s j i few b a (sym e) in (sym r.0, sym r.1)
 
 -- no header begins with a whole header
-none_begins : (bytes : List ℕ) (m n size : ℕ) → m ≤ n → IsHeaderOf (take m bytes) size
-    → Begins (take n bytes) → ⊥
-none_begins bytes m n size h a b =
-    let part = drop m (take n bytes) in
-    let c = subst Begins (longer bytes m n h) b in
-    let r = sized_alone (take m bytes) (part ++ c.more) size c.size a
-    (subst (λ l. IsHeaderOf l c.size) (append_assoc (take m bytes) part c.more) c.whole) in
-    let none = ap length r.none in
-    let some = c.some in
-    omega (arith, none, some, length-append part c.more)
-
--- what a header, or the beginning of one, doesn't lack
-whole_lacks : (bytes : List ℕ) (m n size : ℕ) (c : StreamFault) → m ≤ n → IsHeaderOf (take n bytes) size
-    → Lacks (take m bytes) c → ⊥
-whole_lacks bytes m n size c h a l =
-    nothing_lacks (take m bytes) c l
-    (sized_front (take m bytes) (drop m (take n bytes)) size (subst (λ l. IsHeaderOf l size)
-    (longer bytes m n h) a))
-
-begun_lacks : (bytes : List ℕ) (m n : ℕ) (c : StreamFault) → m ≤ n → Begins (take n bytes)
-    → Lacks (take m bytes) c → ⊥
-begun_lacks bytes m n c h b l =
-    nothing_lacks (take m bytes) c l
-    (begins_sized (take m bytes) (drop m (take n bytes)) (subst Begins (longer bytes m n h) b))
+none_begins : (h s whole t : List ℕ) (size : ℕ) → length h ≤ length whole → h ++ s ≡ whole ++ t
+    → IsHeaderOf h size → Begins whole → ⊥
+none_begins h s whole t size few e a b =
+    let m = drop (length h) whole in
+    let k = ap (λ l. l ++ b.more) (front_in h s whole t few e) ∙ append_assoc h m b.more in
+    let r = header_alone h (m ++ b.more) size b.size a (subst (λ l. IsHeaderOf l b.size) k b.whole) in
+    omega (arith, ap length r.0, b.some, length-append m b.more)
 
 -- FAULTS
 
--- a fault is at the byte of this number, or at the limit
-data FaultAt (bytes : List ℕ) (c : StreamFault) : Type 0 where
-  AtByte : (n : ℕ) → n < 1024 → n < length bytes → Begins (take n bytes) → Lacks (take (n + 1) bytes) c
-      → FaultAt bytes c
-  AtLimit : 1024 ≤ length bytes → Begins (take 1024 bytes) → c ≡ fault.HeaderSize → FaultAt bytes c
-
-fault_at : (bytes : List ℕ) (c : StreamFault) → IsFault bytes c → FaultAt bytes c
-fault_at bytes c (InLine front others byte e less b) =
-    let n : length (front ++ byte ∷ []) ≡ length front + 1 = omega (arith, length-append front (byte ∷ [])) in
-    let all = ap length e in
-    let next : front ++ byte ∷ [] ≡ take (length front + 1) bytes =
-    front_is bytes (front ++ byte ∷ []) others (e ∙ sym (append_assoc front (byte ∷ []) others))
-    ∙ ap (λ k. take k bytes) n in
-    AtByte (length front) less (omega (arith, all, length-append front (byte ∷ others)))
-    (subst Begins (front_is bytes front (byte ∷ others) e) b.begins) (subst (λ l. Lacks l c) next b.lacks)
-fault_at bytes c (InSize front others e n b is) =
-    let all = ap length e in
-    AtLimit (omega (arith, all, n, length-append front others))
-    (subst Begins (front_is bytes front others e ∙ ap (λ k. take k bytes) n) b) is
-
-same_fault : (bytes : List ℕ) (c d : StreamFault) → FaultAt bytes c → FaultAt bytes d → c ≡ d
-same_fault bytes c d (AtByte n few fits b l) (AtByte n' few' fits' b' l') = by_order (cases_order n n')
+header_fault : (bytes h others : List ℕ) (size : ℕ) (c : StreamFault) → IsHeaderOf h size → length h ≤ 1024
+    → bytes ≡ h ++ others → IsFault bytes c → ⊥
+header_fault bytes h others size c a few e (InLine front rest byte k less b) =
+    by_order (cases_lt (length front) (length h))
   where
-    by_order : (n ≡ n') ⊎ ((n < n') ⊎ (n' < n)) → c ≡ d
-    by_order (inl e) =
-        same_lack (take (n + 1) bytes) c d l (subst (λ k. Lacks (take (k + 1) bytes) d) (sym e) l')
-    by_order (inr (inl h)) = absurd (begun_lacks bytes (n + 1) n' c (omega arith) b' l)
-    by_order (inr (inr h)) = absurd (begun_lacks bytes (n' + 1) n d (omega arith) b l')
-same_fault bytes c d (AtByte n few fits b l) (AtLimit long b' is) =
-    absurd (begun_lacks bytes (n + 1) 1024 c (omega arith) b' l)
-same_fault bytes c d (AtLimit long b is) (AtByte n few fits b' l) =
-    absurd (begun_lacks bytes (n + 1) 1024 d (omega arith) b l)
-same_fault bytes c d (AtLimit long b is) (AtLimit long' b' is') = is ∙ sym is'
+    by_order : (length front < length h) ⊎ (length h ≤ length front) → ⊥
+    by_order (inl in_it) = never_opens front rest h others byte c in_it (sym k ∙ e) b.lacks (header_opens a)
+    by_order (inr after) = none_begins h others front (byte ∷ rest) size after (sym e ∙ k) a b.begins
+header_fault bytes h others size c a few e (InSize front rest k n b is) =
+    none_begins h others front rest size (omega arith) (sym e ∙ k) a b
 
-header_fault : (bytes : List ℕ) (m size : ℕ) (c : StreamFault) → m ≤ 1024 → IsHeaderOf (take m bytes) size
-    → FaultAt bytes c → ⊥
-header_fault bytes m size c few a (AtByte n less fits b l) = by_order (cases_lt n m)
+same_fault : (bytes : List ℕ) (c d : StreamFault) → IsFault bytes c → IsFault bytes d → c ≡ d
+same_fault bytes c d (InLine f s x e few b) (InLine f' s' x' e' few' b') =
+    by_order (cases_order (length f) (length f'))
   where
-    by_order : (n < m) ⊎ (m ≤ n) → ⊥
-    by_order (inl h) = whole_lacks bytes (n + 1) m size c (omega arith) a l
-    by_order (inr h) = none_begins bytes m n size h a b
-header_fault bytes m size c few a (AtLimit long b is) = none_begins bytes m 1024 size few a b
+    by_order : (length f ≡ length f') ⊎ ((length f < length f') ⊎ (length f' < length f)) → c ≡ d
+    by_order (inl n) =
+        let p = same_parts f (x ∷ s) f' (x' ∷ s') n (sym e ∙ e') in
+        let bytes_are = p.1 in
+        let x_is : x ≡ x' = cc in
+        let same = ap (λ l. l ++ x' ∷ []) (sym p.0) ∙ ap (λ y. f ++ y ∷ []) (sym x_is) in
+        same_lack (f ++ x ∷ []) c d b.lacks (subst (λ l. Lacks l d) same b'.lacks)
+    by_order (inr (inl h)) =
+        absurd (never_opens f s f' (x' ∷ s') x c h (sym e ∙ e') b.lacks (begun_opens b'.begins))
+    by_order (inr (inr h)) =
+        absurd (never_opens f' s' f (x ∷ s) x' d h (sym e' ∙ e) b'.lacks (begun_opens b.begins))
+same_fault bytes c d (InLine f s x e few b) (InSize f' s' e' n b' is) =
+    absurd (never_opens f s f' s' x c (omega arith) (sym e ∙ e') b.lacks (begun_opens b'))
+same_fault bytes c d (InSize f s e n b is) (InLine f' s' x' e' few b') =
+    absurd (never_opens f' s' f s x' d (omega arith) (sym e' ∙ e) b'.lacks (begun_opens b))
+same_fault bytes c d (InSize f s e n b is) (InSize f' s' e' n' b' is') = is ∙ sym is'
 
-partial_fault : (bytes : List ℕ) (c : StreamFault) → IsPartial bytes → FaultAt bytes c → ⊥
-partial_fault bytes c (InHeader b less) (AtByte n few fits b' l) =
-    begun_lacks bytes (n + 1) (length bytes) c (omega arith) (subst Begins (sym (take-length bytes)) b) l
-partial_fault bytes c (InHeader b less) (AtLimit long b' is) = omega arith
-partial_fault bytes c (InBody h others size a few e less) f =
-    header_fault bytes (length h) size c few (header_front bytes h others size e a) f
+partial_fault : (bytes : List ℕ) (c : StreamFault) → IsPartial bytes → IsFault bytes c → ⊥
+partial_fault bytes c (InHeader b less) (InLine f s x e few l) =
+    never_opens f s bytes [] x c (omega (arith, ap length e, length-append f (x ∷ s)))
+    (sym (append-nil bytes ∙ e)) l.lacks (begun_opens b)
+partial_fault bytes c (InHeader b less) (InSize f s e n b' is) = omega (arith, ap length e, length-append f s)
+partial_fault bytes c (InBody h others size a few e less) f = header_fault bytes h others size c a few e f
 
 -- MESSAGES
 
 -- a message's header, and what follows it
 spelled_out : (raw body others bytes : List ℕ) (m : IsMessage raw body) → bytes ≡ raw ++ others
     → bytes ≡ m.header ++ (body ++ others)
-spelled_out raw body others bytes m e = e ∙ (ap (λ l. l ++ others) m.spelled
-    ∙ append_assoc m.header body others)
+spelled_out raw body others bytes m e =
+    e ∙ (ap (λ l. l ++ others) m.spelled ∙ append_assoc m.header body others)
 
-message_fault : (raw body others bytes : List ℕ) (c : StreamFault) → IsMessage raw body
-    → bytes ≡ raw ++ others
-    → IsFault bytes c → ⊥
-message_fault raw body others bytes c m e f =
-    header_fault bytes (length m.header) (length body) c m.few
-    (header_front bytes m.header (body ++ others) (length body)
-    (spelled_out raw body others bytes m e) m.header_is)
-    (fault_at bytes c f)
+-- no message follows where the messages end
+never_on : (raw body others bytes : List ℕ) (s : DecoderState) (o : Option StreamFault) → EndsIn s bytes o
+    → IsMessage raw body → bytes ≡ raw ++ others → ⊥
+never_on raw body others bytes s o end m e = by_end o end
+  where
+    spelled : bytes ≡ m.header ++ (body ++ others)
+    spelled = spelled_out raw body others bytes m e
 
-message_partial : (raw body others bytes : List ℕ) → IsMessage raw body → bytes ≡ raw ++ others
-    → IsPartial bytes → ⊥
-message_partial raw body others bytes m e (InHeader b less) =
-    let k = spelled_out raw body others bytes m e in
-    let all = ap length k in
-    none_begins bytes (length m.header) (length bytes) (length body)
-    (omega (arith, all, length-append m.header (body ++ others)))
-    (header_front bytes m.header (body ++ others) (length body) k m.header_is)
-    (subst Begins (sym (take-length bytes)) b)
-message_partial raw body others bytes m e (InBody h part size a few k less) =
-    let s = same_sized m.header h (body ++ others) part (length body) size m.header_is a
-    (sym (spelled_out raw body others bytes m e) ∙ k) in
-    let n = ap length s.others in
-    let size_is = s.size in
-    omega (arith, n, size_is, less, length-append body others)
+    by_part : IsPartial bytes → ⊥
+    by_part (InHeader b less) =
+        none_begins m.header (body ++ others) bytes [] (length body)
+        (omega (arith, ap length spelled, length-append m.header (body ++ others)))
+        (sym (append-nil bytes ∙ spelled)) m.header_is b
+    by_part (InBody h part size a few k less) =
+        let s = same_header m.header h (body ++ others) part (length body) size m.header_is a
+        (sym spelled ∙ k) in
+        omega (arith, ap length s.0, s.1, length-append body others)
 
-record SameMessage (body body' others others' : List ℕ) : Type 0 where
-  pub body_is : body ≡ body'
-  pub others_are : others ≡ others'
+    by_end : (o : Option StreamFault) → EndsIn s bytes o → ⊥
+    by_end None p = by_part p.1
+    by_end (Some c) f =
+        header_fault bytes m.header (body ++ others) (length body) c m.header_is m.few spelled f.1
 
 same_message : (raw raw' body body' others others' : List ℕ) → IsMessage raw body → IsMessage raw' body'
-    → raw ++ others ≡ raw' ++ others' → SameMessage body body' others others'
+    → raw ++ others ≡ raw' ++ others' → (body ≡ body') × (others ≡ others')
 same_message raw raw' body body' others others' m m' e =
-    let s = same_sized m.header m'.header (body ++ others) (body' ++ others') (length body) (length body')
+    let s = same_header m.header m'.header (body ++ others) (body' ++ others') (length body) (length body')
     m.header_is m'.header_is (sym (spelled_out raw body others (raw ++ others) m refl)
     ∙ spelled_out raw' body' others' (raw ++ others) m' e) in
-    let body_is : body ≡ body' =
-    sym (take-append_seam body others) ∙ (ap (take (length body)) s.others
-    ∙ (ap (λ k. take k (body' ++ others')) s.size ∙ take-append_seam body' others')) in
-    record {
-      body_is = body_is;
-      others_are = append_cancel_left body others others' (s.others ∙ ap (λ l. l ++ others') (sym body_is));
-    }
+    same_parts body others body' others' s.1 s.0
 
 -- READINGS
-
-never_on : (raw body others bytes : List ℕ) (o : Option StreamFault) → EndsAt bytes o → IsMessage raw body
-    → bytes ≡ raw ++ others → ⊥
-never_on raw body others bytes None p m e = message_partial raw body others bytes m e p
-never_on raw body others bytes (Some c) f m e = message_fault raw body others bytes c m e f
-
-same_end : (bytes : List ℕ) (o p : Option StreamFault) → EndsAt bytes o → EndsAt bytes p → o ≡ p
-same_end bytes None None a b = refl
-same_end bytes None (Some d) a b = absurd (partial_fault bytes d a (fault_at bytes d b))
-same_end bytes (Some c) None a b = absurd (partial_fault bytes c b (fault_at bytes c a))
-same_end bytes (Some c) (Some d) a b = ap Some (same_fault bytes c d (fault_at bytes c a)
-    (fault_at bytes d b))
-
--- two readings of one stream are one
-record OneReading (m n : List (List ℕ)) (r s : List ℕ) (o p : Option StreamFault) : Type 0 where
-  pub bodies_are : m ≡ n
-  pub rest_is : r ≡ s
-  pub fault_is : o ≡ p
-
-one_reading_lem : (bytes r s : List ℕ) (m n : List (List ℕ)) (o p : Option StreamFault) → Reads bytes m r
-    → EndsAt r o → Reads bytes n s → EndsAt s p → OneReading m n r s o p
-one_reading_lem _ _ _ _ _ o p (Stays bytes) a (Stays _) b =
-    record { bodies_are = refl; rest_is = refl; fault_is = same_end bytes o p a b }
-one_reading_lem _ _ _ _ _ o p (Stays bytes) a (Goes _ raw others body rest bodies is e rs) b =
-    absurd (never_on raw body others bytes o a is e)
-one_reading_lem _ _ _ _ _ o p (Goes bytes raw others body rest bodies is e rs) a (Stays _) b =
-    absurd (never_on raw body others bytes p b is e)
-one_reading_lem _ _ _ _ _ o p (Goes bytes raw others body rest bodies is e rs) a
-    (Goes _ raw' others' body' rest' bodies' is' e' rs') b =
-    let x = same_message raw raw' body body' others others' is is' (sym e ∙ e') in
-    let next = one_reading_lem others rest rest' bodies bodies' o p rs a
-    (subst (λ l. Reads l bodies' rest') (sym x.others_are) rs') b in
-    let body_is = x.body_is in
-    let bodies_are = next.bodies_are in
-    record { bodies_are = cc; rest_is = next.rest_is; fault_is = next.fault_is }
-
-ends_of : (s : DecoderState) (rest : List ℕ) (o : Option StreamFault) → EndsIn s rest o → EndsAt rest o
-ends_of s rest None e = e.1
-ends_of s rest (Some c) e = e.1
-
-rest_of : (s t : DecoderState) (rest : List ℕ) (o : Option StreamFault) → EndsIn s rest o → EndsIn t rest o
-    → s.rest ≡ t.rest
-rest_of s t rest None e f = sym e.0 ∙ f.0
-rest_of s t rest (Some c) e f = e.0 ∙ sym f.0
 
 abbrev state_of : List ℕ → Option StreamFault → DecoderState
 state_of rest fault = record { rest = rest; fault = fault }
 
+same_end : (bytes r s : List ℕ) (o p : Option StreamFault) → EndsIn (state_of r o) bytes o
+    → EndsIn (state_of s p) bytes p → state_of r o ≡ state_of s p
+same_end bytes r s None None a b = ap (λ r. state_of r None) (sym a.0 ∙ b.0)
+same_end bytes r s None (Some d) a b = absurd (partial_fault bytes d a.1 b.1)
+same_end bytes r s (Some c) None a b = absurd (partial_fault bytes c b.1 a.1)
+same_end bytes r s (Some c) (Some d) a b =
+    let rest = a.0 ∙ sym b.0 in let fault = same_fault bytes c d a.1 b.1 in cc
+
+-- two readings of one stream are one
+same_reading : {bytes r q : List ℕ} {m n : List (List ℕ)} (s t : DecoderState) → Reads bytes m r
+    → EndsIn s r s.fault → Reads bytes n q → EndsIn t q t.fault → (m ≡ n) × (s ≡ t)
+same_reading s t (Stays bytes) a (Stays _) b = (refl, same_end bytes s.rest t.rest s.fault t.fault a b)
+same_reading s t (Stays bytes) a (Goes _ raw others body rest bodies is e rs) b =
+    absurd (never_on raw body others bytes s s.fault a is e)
+same_reading s t (Goes bytes raw others body rest bodies is e rs) a (Stays _) b =
+    absurd (never_on raw body others bytes t t.fault b is e)
+same_reading s t (Goes bytes raw others body rest bodies is e rs) a
+    (Goes _ raw' others' body' rest' bodies' is' e' rs') b =
+    let x = same_message raw raw' body body' others others' is is' (sym e ∙ e') in
+    let next = same_reading s t rs a (subst (λ l. Reads l bodies' rest') (sym x.1) rs') b in
+    let body_is = x.0 in
+    let bodies_are = next.0 in
+    (cc, next.1)
+
 pub one_state : (s t : DecoderState) (stream : List ℕ) (m n : List (List ℕ)) → HasReadBodies s stream m
     → HasReadBodies t stream n → (m ≡ n) × (s ≡ t)
-one_state s t stream m n a b =
-    let o = one_reading_lem stream a.rest b.rest m n s.fault t.fault a.reads
-    (ends_of s a.rest s.fault a.ends) b.reads
-    (ends_of t b.rest t.fault b.ends) in
-    let rest : s.rest ≡ t.rest = rest_of s t a.rest s.fault a.ends
-    (subst (λ r. EndsIn t r s.fault) (sym o.rest_is) (subst (EndsIn t b.rest) (sym o.fault_is) b.ends)) in
-    let fault = o.fault_is in
-    let same : state_of s.rest s.fault ≡ state_of t.rest t.fault = cc in
-    (o.bodies_are, same)
+one_state s t stream m n a b = same_reading s t a.reads a.ends b.reads b.ends

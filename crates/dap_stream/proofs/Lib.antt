@@ -1,6 +1,5 @@
 pub mod SpanLemmas
 pub mod HeaderLemmas
-pub mod FrontLemmas
 pub mod LengthLemmas
 pub mod LineLemmas
 pub mod LawLemmas

@@ -1,71 +1,43 @@
 use Rattle.std.proofs.Common.{◌≡◌, ℕ, Bool, true, false, List, [], ◌∷◌, ◌++◌, take, refl, sym, ◌∙◌, ap, subst}
 use Rattle.std.proofs.Common.{◌≤◌, length}
 use Rattle.std.specs.List.{list_all}
-use Rattle.std.proofs.lemmas.Bool.{and_parts, and_from}
+use Rattle.std.proofs.lemmas.Bool.{and_parts, and_from, both_ways}
 use Rattle.std.proofs.lemmas.List.{take_all, append-nil}
 use Rattle.std.proofs.lemmas.List.Folds.{list_all-append}
 use Rattle.dap_stream.specs.Spans.{StopsAt, IsSplit}
 
-pub both : (b : Bool) → b ≡ true → b ≡ false → ⊥
-both b e f = let k = sym e ∙ f in cc
-
 -- two splits of the same bytes, each before the first byte that doesn't pass
-same_cut : (p : ℕ → Bool) (a b s t : List ℕ) → list_all p a ≡ true → list_all p b ≡ true → StopsAt p s
+pub same_cut : (p : ℕ → Bool) (a b s t : List ℕ) → list_all p a ≡ true → list_all p b ≡ true → StopsAt p s
     → StopsAt p t → a ++ s ≡ b ++ t → (a ≡ b) × (s ≡ t)
 same_cut p [] [] s t pa pb ps pt e = (refl, e)
 same_cut p [] (z ∷ b) s t pa pb ps pt e =
-    absurd (both (p z) (and_parts (p z) (list_all p b) pb).0 (subst (StopsAt p) e ps))
+    absurd (both_ways (p z) (subst (StopsAt p) e ps) (and_parts (p z) (list_all p b) pb).0)
 same_cut p (z ∷ a) [] s t pa pb ps pt e =
-    absurd (both (p z) (and_parts (p z) (list_all p a) pa).0 (subst (StopsAt p) (sym e) pt))
+    absurd (both_ways (p z) (subst (StopsAt p) (sym e) pt) (and_parts (p z) (list_all p a) pa).0)
 same_cut p (z ∷ a) (w ∷ b) s t pa pb ps pt e =
-    let k : z ≡ w = cc in
     let i : a ++ s ≡ b ++ t = cc in
-    let n = same_cut p a b s t (and_parts (p z) (list_all p a) pa).1 (and_parts (p w)
-    (list_all p b) pb).1 ps pt i in
+    let pa' = (and_parts (p z) (list_all p a) pa).1 in
+    let n = same_cut p a b s t pa' (and_parts (p w) (list_all p b) pb).1 ps pt i in
     let f = n.0 in
     (cc, n.1)
 
-pub same_rest : (p : ℕ → Bool) (a b s t : List ℕ) → list_all p a ≡ true → list_all p b ≡ true → StopsAt p s
-    → StopsAt p t → a ++ s ≡ b ++ t → s ≡ t
-same_rest p a b s t pa pb ps pt e = (same_cut p a b s t pa pb ps pt e).1
-
-pub record SameSplit (a b s t : List ℕ) (x y : ℕ) : Type 0 where
-  pub front : a ≡ b
-  pub byte : x ≡ y
-  pub others : s ≡ t
-
-pub same_split : (p : ℕ → Bool) (a b s t : List ℕ) (x y : ℕ) → list_all p a ≡ true → list_all p b ≡ true
-    → p x ≡ false → p y ≡ false → a ++ x ∷ s ≡ b ++ y ∷ t → SameSplit a b s t x y
-same_split p a b s t x y pa pb px py e =
-    let k = same_cut p a b (x ∷ s) (y ∷ t) pa pb px py e in
-    let others = k.1 in
-    record { front = k.0; byte = cc; others = cc }
-
 -- bytes that pass are a front of all those that do
-pub record Inside (a b : List ℕ) : Type 0 where
-  pub more : List ℕ
-  pub whole : b ≡ a ++ more
-
 pub inside : (p : ℕ → Bool) (a s b t : List ℕ) (y : ℕ) → list_all p a ≡ true → p y ≡ false
-    → a ++ s ≡ b ++ y ∷ t → Inside a b
-inside p [] s b t y pa py e = record { more = b; whole = refl }
+    → a ++ s ≡ b ++ y ∷ t → (more : List ℕ) × (b ≡ a ++ more)
+inside p [] s b t y pa py e = (b, refl)
 inside p (x ∷ a) s [] t y pa py e =
-    let k : x ≡ y = cc in
-    absurd (both (p x) (and_parts (p x) (list_all p a) pa).0 (ap p k ∙ py))
+    let k : y ≡ x = cc in
+    absurd (both_ways (p x) (ap p (sym k) ∙ py) (and_parts (p x) (list_all p a) pa).0)
 inside p (x ∷ a) s (z ∷ b) t y pa py e =
-    let k : x ≡ z = cc in
     let i : a ++ s ≡ b ++ y ∷ t = cc in
     let n = inside p a s b t y (and_parts (p x) (list_all p a) pa).1 py i in
-    let w = n.whole in
-    record { more = n.more; whole = cc }
+    let w = n.1 in
+    (n.0, cc)
 
 pub split_none : (p : ℕ → Bool) (bytes : List ℕ) (n : ℕ) → list_all p (take n bytes) ≡ true → length bytes ≤ n
     → IsSplit p bytes bytes []
-split_none p bytes n pass h = record {
-  spelled = sym (append-nil bytes);
-  front_is = rw (take_all n bytes h) at pass;
-  stops = tt;
-}
+split_none p bytes n pass h =
+    record { spelled = sym (append-nil bytes); front_is = rw (take_all n bytes h) at pass; stops = tt }
 
 pub passes_on : (p : ℕ → Bool) (a b : List ℕ) → list_all p a ≡ true → list_all p b ≡ true
     → list_all p (a ++ b) ≡ true

@@ -7,14 +7,14 @@ use Rattle.dap_stream.specs.declared.fault.StreamFault.TheVariants as fault
 use Rattle.dap_stream.specs.declared.fault.FeedFault.{FeedFault}
 use Rattle.dap_stream.specs.declared.fault.FeedFault.TheVariants.{OutOfMemory, Broken}
 use Rattle.dap_stream.specs.declared.header.Header.TheVariants as header
-use Rattle.dap_stream.specs.Header.{line_end, Ends as NoLines, IsHeaderOf}
+use Rattle.dap_stream.specs.Header.{line_end, IsHeaderOf}
 use Rattle.dap_stream.specs.Faults.{Begins}
 use Rattle.dap_stream.specs.Lines.{IsFront, Passes, Ends, IsBroken, LinesSay}
-use Rattle.dap_stream.specs.Stream.{Reads, Stays, Goes, IsPartial, InHeader, InBody, IsFault, InLine}
-use Rattle.dap_stream.specs.Stream.{InSize, DecoderState, HasReadBodies, Completes, EndsIn}
+use Rattle.dap_stream.specs.Stream.{Reads, Stays, Goes, IsPartial, InHeader, InBody, IsFault, InLine, InSize}
+use Rattle.dap_stream.specs.Stream.{DecoderState, HasReadBodies, Completes, EndsIn}
 use Rattle.dap_stream.specs.Reading.{HeaderSays, Parts, EndsAt, IsReading}
 use Rattle.dap_stream.specs.Feeding.{Feeds, Leads}
-use Rattle.dap_stream.proofs.FrontLemmas.{begins_after}
+use Rattle.dap_stream.proofs.HeaderLemmas.{no_lines, begins}
 
 -- THE LINES OF A HEADER
 
@@ -25,11 +25,7 @@ pub record HasRead (bytes rest : List ℕ) (size : Option ℕ) : Type 0 where
   pub front : IsFront lines size
 
 pub read_none : (bytes : List ℕ) → HasRead bytes bytes None
-read_none bytes = record {
-  lines = [];
-  spelled = refl;
-  front = record { fields = []; are = NoLines [] refl; says = refl };
-}
+read_none bytes = record { lines = []; spelled = refl; front = no_lines }
 
 pub read_more : (bytes rest others : List ℕ) (size next : Option ℕ) (r : HasRead bytes rest size)
     → Passes r.lines rest others next → HasRead bytes others next
@@ -192,16 +188,10 @@ feed_completes old new piece rest bodies f reads ends stream before st =
       ends = ends;
     }
 
-pub stands_new : (s : DecoderState) → s.rest ≡ [] → s.fault ≡ None → HasReadBodies s [] []
-stands_new s r f = record {
-  rest = [];
-  reads = Stays [];
-  ends = subst (EndsIn s []) (sym f) (
-    sym r,
-    InHeader
-        (begins_after [] None (record { fields = []; are = NoLines [] refl; says = refl })) (omega arith),
-  );
-}
+pub reads_none : (s : DecoderState) → s.rest ≡ [] → s.fault ≡ None → HasReadBodies s [] []
+reads_none s r f =
+    let begun = InHeader (begins [] [] [] None no_lines refl) (omega arith) in
+    record { rest = []; reads = Stays []; ends = subst (EndsIn s []) (sym f) (sym r, begun) }
 
 -- a decoder that is broken, one that is out of memory, and one that goes on
 pub feeds_broken : (s : DecoderState) (piece : List ℕ) (c : StreamFault) → s.fault ≡ Some c

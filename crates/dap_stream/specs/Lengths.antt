@@ -1,10 +1,8 @@
 -- What the bytes of a Content-Length's value say so far.
 use Rattle.std.specs.Prelude.{◌≡◌, ℕ, ◌+◌, ◌-◌, ◌*◌, ◌==◌, ◌&&◌, ◌||◌, nat_lt, if◌then◌else◌, not, true}
-use Rattle.std.specs.Prelude.{Option}
-use Rattle.std.specs.Prelude.{Some, None, Result, Ok, Err, MatchResult, [], ◌∷◌, ◌++◌, length}
+use Rattle.std.specs.Prelude.{Option, Some, None, Result, Ok, Err, MatchResult, [], ◌∷◌, ◌++◌}
 use Rattle.std.specs.List.{list_all}
 use Rattle.std.specs.Char.{is_ascii_digit}
-use Rattle.std.specs.Str.Parse.{digits_value}
 use Rattle.dap_stream.specs.Wire.{Bytes}
 use Rattle.dap_stream.specs.Header.{is_blank, IsLength, IsAllowed}
 use Rattle.dap_stream.specs.declared.fault.StreamFault.{StreamFault}

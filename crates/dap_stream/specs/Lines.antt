@@ -1,10 +1,7 @@
 -- What the bytes after whole lines of a header say.
-use Rattle.std.specs.Prelude.{◌≡◌, ℕ, ◌<◌, ◌≤◌, true, Option, Some, None, List, [], ◌∷◌, ◌++◌, length, take}
-use Rattle.std.specs.List.{list_all}
+use Rattle.std.specs.Prelude.{◌≡◌, ℕ, ◌<◌, ◌≤◌, Option, Some, None, List, [], ◌∷◌, ◌++◌, length, take}
 use Rattle.dap_stream.specs.Wire.{Bytes}
-use Rattle.dap_stream.specs.Header.{is_value_byte, colon, line_end, Field, IsLines}
-use Rattle.dap_stream.specs.Header.{lengths, SaysOnce, IsHeaderOf}
-use Rattle.dap_stream.specs.Spans.{IsName}
+use Rattle.dap_stream.specs.Header.{line_end, Field, IsLines, lengths, SaysOnce, IsHeaderOf}
 use Rattle.dap_stream.specs.Faults.{Begins, BreaksHeader}
 use Rattle.dap_stream.specs.declared.fault.StreamFault.{StreamFault}
 use Rattle.dap_stream.specs.Parsing.{Parse, Partial, Field as AField, Last, Broken}
@@ -21,14 +18,6 @@ pub record IsFront (lines : Bytes) (size : Option ℕ) : Type 0 where
   pub fields : List Field
   pub are : IsLines lines fields
   pub says : SaysSoFar (lengths fields) size
-
--- after whole lines, a field up to its line's end, and what all of them say
-pub record EndsLine (lines name value : Bytes) (size : Option ℕ) : Type 0 where
-  pub before : Option ℕ
-  pub front : IsFront lines before
-  pub name_is : IsName name
-  pub value_is : list_all is_value_byte value ≡ true
-  pub after : IsFront (lines ++ (name ++ colon ∷ (value ++ line_end))) size
 
 -- no header can go on with one of the bytes
 pub record IsBroken (bytes : Bytes) (c : StreamFault) : Type 0 where

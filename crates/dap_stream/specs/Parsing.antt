@@ -1,5 +1,5 @@
 -- What a line of a header is read as, part by part.
-use Rattle.std.specs.Prelude.{◌≡◌, ℕ, ◌==◌, if◌then◌else◌, Option, Some, None, Result, Ok, Err, [], ◌∷◌}
+use Rattle.std.specs.Prelude.{ℕ, ◌==◌, if◌then◌else◌, Option, Some, None, Result, Ok, Err, [], ◌∷◌}
 use Rattle.dap_stream.specs.Wire.{Bytes}
 use Rattle.dap_stream.specs.Header.{is_length_name}
 use Rattle.dap_stream.specs.Lengths.{value_from}

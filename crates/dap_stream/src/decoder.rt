@@ -41,7 +41,7 @@ impl Decoder {
 
     /// A decoder at the beginning of a stream.
     pub fn new(alloc: Global) -> Decoder
-        ensures stands { HasReadBodies result [] [] }
+        ensures reads { HasReadBodies result [] [] }
         ensures fault { result.fault ≡ None }
     {
         Decoder {

@@ -1,6 +1,6 @@
 use Rattle.std.proofs.Common.{◌∙◌, ap, ◌++◌, ◌≡◌, ◌<◌, [], arith, length}
 use Rattle.std.proofs.lemmas.List.{append-nil, nil_from_length}
-use Rattle.dap_stream.proofs.FrontLemmas.{begins_name}
+use Rattle.dap_stream.proofs.HeaderLemmas.{begins_name}
 use Rattle.dap_stream.proofs.LineLemmas.{nameless_line, other_line, field_line}
 use Rattle.dap_stream.proofs.line.read_line.Goals as goal
 
