@@ -60,7 +60,7 @@ impl Machine {
             e: 0,
             h: 0,
             l: 0,
-            flags: Flags::new(false, false, false, false, false),
+            flags: Flags::all_clear(),
             sp: 0,
             pc: 0,
             interrupts: Interrupts::Off,

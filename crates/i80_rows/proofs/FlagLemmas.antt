@@ -1,7 +1,6 @@
 -- What the flag byte is, by computation over its 256 values and over the 32 flags.
 use Rattle.std.proofs.Common.{◌≡◌, ℕ, ◌*◌, ◌%◌, ◌<◌, ◌≤◌, Bool, true, false, refl, bit_and, bit_or, arith}
 use Rattle.std.specs.Int.{from_bool}
-use mir.Val.{bool_byte}
 use Rattle.i80_rows.specs.FlagValues.{flag_byte, flags_of}
 use Rattle.i80_rows.proofs.Tables.{agree}
 
@@ -12,80 +11,6 @@ pub masked_byte : (x : ℕ) → x < 256 → flag_byte (flags_of (bit_or (bit_and
     ≡ bit_or (bit_and x 215) 2
 masked_byte = agree (λ x. flag_byte (flags_of (bit_or (bit_and x 215) 2))) (λ x. bit_or (bit_and x 215) 2)
     256 refl
-
-abbrev pub packed : Bool → Bool → Bool → Bool → Bool → ℕ
-packed s z ac p cy = bit_or
-    (bit_or (bit_or (bit_or (bit_or (bool_byte s * 128 % 256) (bool_byte z * 64 % 256))
-    (bool_byte ac * 16 % 256)) (bool_byte p * 4 % 256)) 2) (bool_byte cy)
-
-pub packed_flags : (s z ac p cy : Bool) → flags_of (packed s z ac p cy)
-    ≡ record { s = s; z = z; ac = ac; p = p; cy = cy }
-packed_flags true true true true true = refl
-packed_flags true true true true false = refl
-packed_flags true true true false true = refl
-packed_flags true true true false false = refl
-packed_flags true true false true true = refl
-packed_flags true true false true false = refl
-packed_flags true true false false true = refl
-packed_flags true true false false false = refl
-packed_flags true false true true true = refl
-packed_flags true false true true false = refl
-packed_flags true false true false true = refl
-packed_flags true false true false false = refl
-packed_flags true false false true true = refl
-packed_flags true false false true false = refl
-packed_flags true false false false true = refl
-packed_flags true false false false false = refl
-packed_flags false true true true true = refl
-packed_flags false true true true false = refl
-packed_flags false true true false true = refl
-packed_flags false true true false false = refl
-packed_flags false true false true true = refl
-packed_flags false true false true false = refl
-packed_flags false true false false true = refl
-packed_flags false true false false false = refl
-packed_flags false false true true true = refl
-packed_flags false false true true false = refl
-packed_flags false false true false true = refl
-packed_flags false false true false false = refl
-packed_flags false false false true true = refl
-packed_flags false false false true false = refl
-packed_flags false false false false true = refl
-packed_flags false false false false false = refl
-
-pub packed_byte : (s z ac p cy : Bool) → flag_byte (flags_of (packed s z ac p cy)) ≡ packed s z ac p cy
-packed_byte true true true true true = refl
-packed_byte true true true true false = refl
-packed_byte true true true false true = refl
-packed_byte true true true false false = refl
-packed_byte true true false true true = refl
-packed_byte true true false true false = refl
-packed_byte true true false false true = refl
-packed_byte true true false false false = refl
-packed_byte true false true true true = refl
-packed_byte true false true true false = refl
-packed_byte true false true false true = refl
-packed_byte true false true false false = refl
-packed_byte true false false true true = refl
-packed_byte true false false true false = refl
-packed_byte true false false false true = refl
-packed_byte true false false false false = refl
-packed_byte false true true true true = refl
-packed_byte false true true true false = refl
-packed_byte false true true false true = refl
-packed_byte false true true false false = refl
-packed_byte false true false true true = refl
-packed_byte false true false true false = refl
-packed_byte false true false false true = refl
-packed_byte false true false false false = refl
-packed_byte false false true true true = refl
-packed_byte false false true true false = refl
-packed_byte false false true false true = refl
-packed_byte false false true false false = refl
-packed_byte false false false true true = refl
-packed_byte false false false true false = refl
-packed_byte false false false false true = refl
-packed_byte false false false false false = refl
 
 from_bool-le : (b : Bool) → from_bool b ≤ 1
 from_bool-le true = omega arith

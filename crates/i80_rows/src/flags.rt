@@ -1,5 +1,5 @@
 //! The five condition flags (8080 User's Manual, "Condition Bits").
-ghost use Rattle.std.specs.Prelude.{◌≡◌};
+ghost use Rattle.std.specs.Prelude.{◌≡◌, false};
 ghost use Rattle.i80_rows.specs.FlagValues.{flag_byte, flags_of};
 ghost use Rattle.i80_rows.specs.Arithmetic.{shown_by};
 
@@ -48,17 +48,11 @@ static SHOWN: [u8; 256] = [
 ];
 
 impl Flags {
-    /// The flags with these values, in the order of the flag byte.
-    pub fn new(sign: bool, zero: bool, auxiliary_carry: bool, parity: bool, carry: bool) -> Flags
-        ensures { result ≡ record { s = sign; z = zero; ac = auxiliary_carry; p = parity; cy = carry } }
+    /// All five flags clear.
+    pub fn all_clear() -> Flags
+        ensures { result ≡ record { s = false; z = false; ac = false; p = false; cy = false } }
     {
-        let byte = (sign as u8) << 7
-            | (zero as u8) << 6
-            | (auxiliary_carry as u8) << 4
-            | (parity as u8) << 2
-            | 2
-            | carry as u8;
-        Flags { byte }
+        Flags { byte: 2 }
     }
 
     /// The flags of a result: sign, zero and parity from the table, with these carries.

@@ -55,7 +55,8 @@ fn the_flag_byte_has_three_fixed_bits(rt: HostRuntime) {
     let flags = [
         (Flags::from_byte(0xff), 0xd7),
         (Flags::from_byte(0x00), 0x02),
-        (Flags::new(true, false, false, true, false), 0x86),
+        (Flags::all_clear(), 0x02),
+        (Flags::from_byte(0xae), 0x86),
     ];
     for (flags, byte) in flags {
         assert_eq!(rt; flags.to_byte(), byte);

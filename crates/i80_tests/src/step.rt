@@ -436,14 +436,14 @@ const STATES: u16 = 1024;
 /// The registers in a state. S, Z and P are as the last bits of A.
 fn registers_numbered(number: u16) -> Registers {
     let a = (number % 256) as u8;
-    let auxiliary_carry = number & 256 != 0;
-    let carry = number & 512 != 0;
+    let carries = (number >> 4 & 0x10 | number >> 9) as u8;
+    let flag_byte = (a & 6) << 5 | carries | (a & 1) << 2;
     Registers {
         b: 0x20,
         c: (number.wrapping_mul(41) % 256) as u8,
         d: 0x30,
         e: 0xfe,
-        flags: Flags::new(a & 4 != 0, a & 2 != 0, auxiliary_carry, a & 1 != 0, carry),
+        flags: Flags::from_byte(flag_byte),
         interrupts: match number % 3 {
             0 => Interrupts::Off,
             1 => Interrupts::Arming,

@@ -81,7 +81,7 @@ fn registers(pc: u16, sp: u16, interrupts: Interrupts) -> Registers {
         e: 5,
         h: 6,
         l: 7,
-        flags: Flags::new(true, false, false, false, true),
+        flags: Flags::from_byte(0x83),
         sp,
         pc,
         interrupts,

@@ -152,7 +152,7 @@ fn registers(interrupts: Interrupts) -> Registers {
         e: 4,
         h: 5,
         l: 0xff,
-        flags: Flags::new(true, false, true, false, true),
+        flags: Flags::from_byte(0x93),
         sp: 0xfffe,
         pc: 0x0a1b,
         interrupts,

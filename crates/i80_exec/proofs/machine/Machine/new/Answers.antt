@@ -6,4 +6,4 @@ pub invariant_of-result : goal.invariant_of-result
 invariant_of-result c = ap length (c.in_ok-memory.ensures ∙ zeros_are) ∙ length-zeros
 
 pub returns : goal.returns
-returns c = let cleared = c.in_ok-memory.ensures ∙ zeros_are in rw (c.new.ensures, cleared) refl
+returns c = let cleared = c.in_ok-memory.ensures ∙ zeros_are in rw (c.all_clear.ensures, cleared) refl
