@@ -6,7 +6,6 @@
 #![tactic(auto)]
 
 mod counting;
-pub mod fakes;
 pub mod memory;
 pub mod ports;
 pub mod std_io;

@@ -1,11 +1,11 @@
 //! Short reads and writes, and failures at each call.
 ghost use Rattle.std.specs.Prelude.{◌≡◌, ◌<◌, ◌++◌, length, take, IfOk, OnOk};
 
-use base_streams::fakes::Slow;
 use base_streams::memory::{Sink, Source};
 use base_streams::ports::{Inlet, IoFault};
 use base_streams::std_io::{StdInlet, StdOutlet};
 use base_streams::writing::write_all;
+use base_test_kit::fakes::Slow;
 use std::alloc::{AllocError, Global};
 
 // How reading ended, if it did.

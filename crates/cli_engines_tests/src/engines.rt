@@ -1,7 +1,7 @@
 //! The engines over readers and writers that give and take little at a time, and that fail. What they answer
 //! to whole inputs is a table of the clients.
 use crate::words::Word;
-use base_streams::fakes::{Narrow, Slow};
+use base_test_kit::fakes::{Narrow, Slow};
 use cli_io::status::Status;
 use std::alloc::{AllocError, Global};
 

@@ -1,7 +1,7 @@
 //! Input and reports over readers and writers that give and take little at a time, and that fail.
-use base_streams::fakes::{Narrow, Slow};
 use base_streams::memory::Sink;
 use base_streams::std_io::{StdInlet, StdOutlet};
+use base_test_kit::fakes::{Narrow, Slow};
 use cli_io::reading::{HexFault, TextFault, read_all, read_hex, read_text};
 use cli_io::report::{Report, deliver, hex_refusal, refusal, text_refusal};
 use cli_io::status::Status;

@@ -3,8 +3,8 @@
 
 use crate::framing::{DEALER, GREETING, OUR_GREETING, bytes_of};
 use crate::peers::{PING, REP, REQ, ROUTER};
-use base_streams::fakes::Slow;
 use base_streams::std_io::{StdInlet, StdOutlet};
+use base_test_kit::fakes::Slow;
 use std::alloc::Global;
 use std::io;
 use std::io::{ErrorKind, Write};
