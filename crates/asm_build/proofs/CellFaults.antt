@@ -45,8 +45,9 @@ into : (after : Lines) (kept : Entries) (all : Lines) (p : Statement × Laid) (e
     (f : CellFault) → f.0 ≡ length earlier + 1 → StandsOn kept all earlier p part (f.1, f.2)
     → Among kept all (after ++ (p ∷ earlier)) part f
 unfolding Among
-into [] kept all p earlier part f at stands = inl (at, stands)
-into (q ∷ after) kept all p earlier part f at stands = inr (into after kept all p earlier part f at stands)
+into [] kept all p earlier part f at represents = inl (at, represents)
+into (q ∷ after) kept all p earlier part f at represents =
+    inr (into after kept all p earlier part f at represents)
 
 among_line : (ps : Lines) (kept : Entries) (all : Lines) (part : Part) (f : CellFault)
     → Among kept all ps part f → f.0 ≤ length ps
@@ -148,9 +149,10 @@ cell_judged kept ss = by (layout kept [] ss) (layout_judged kept ss)
 
 -- ---- the laws
 
-same_first : (stands : Part → CellFault → Type 0) (f g : CellFault) → IsFirst stands f → IsFirst stands g
+same_first : (represents : Part → CellFault → Type 0) (f g : CellFault) → IsFirst represents f
+    → IsFirst represents g
     → f ≡ g
-same_first stands f g a b =
+same_first represents f g a b =
     one_first f g (f.0 ∷ rank a.0 f.2) (g.0 ∷ rank b.0 g.2) (a.2 b.0 g b.1) (b.2 a.0 f a.1)
 
 one_fault : (kept : Entries) (ss : List Statement) (f g : CellFault) → IsFaultOf kept ss f

@@ -38,13 +38,13 @@ into : (before : List Statement) (kept : Entries) (earlier upto : Lines) (s : St
     → f.0 ≡ length upto + 1 → StandsAfter kept upto s part (f.1, f.2)
     → From kept earlier (before ++ (s ∷ after)) part f
 unfolding From
-into [] kept earlier upto s after part f h at stands =
+into [] kept earlier upto s after part f h at represents =
     inl (
       at ∙ ap (λ (ps : Lines). length ps + 1) h,
-      subst (λ (ps : Lines). StandsAfter kept ps s part (f.1, f.2)) h stands,
+      subst (λ (ps : Lines). StandsAfter kept ps s part (f.1, f.2)) h represents,
     )
-into (t ∷ before) kept earlier upto s after part f h at stands =
-    inr (h.0, h.1, into before kept ((t, h.0) ∷ earlier) upto s after part f h.2 at stands)
+into (t ∷ before) kept earlier upto s after part f h at represents =
+    inr (h.0, h.1, into before kept ((t, h.0) ∷ earlier) upto s after part f h.2 at represents)
 
 out_of : (ss : List Statement) (kept : Entries) (earlier : Lines) (part : Part) (f : CellFault)
     → From kept earlier ss part f → Split kept earlier ss part f

@@ -170,13 +170,13 @@ rank TheOperation _ = 2 ∷ 0 ∷ []
 
 -- no such fault stands
 abbrev pub NoneStands : (Part → CellFault → Type 0) → Type 0
-NoneStands stands = (part : Part) (f : CellFault) → stands part f → ⊥
+NoneStands represents = (part : Part) (f : CellFault) → represents part f → ⊥
 
 -- of such faults this is the first: statement by statement, then by the order in a statement
 abbrev pub IsFirst : (Part → CellFault → Type 0) → CellFault → Type 0
-IsFirst stands f =
-    (part : Part) × stands part f
-    × ((other : Part) (g : CellFault) → stands other g
+IsFirst represents f =
+    (part : Part) × represents part f
+    × ((other : Part) (g : CellFault) → represents other g
     → (g ≡ f) ⊎ ComesBefore (f.0 ∷ rank part f.2) (g.0 ∷ rank other g.2))
 
 -- a cell's fault: the first of its layout, and only where its layout has none the first of its values

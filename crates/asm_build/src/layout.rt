@@ -289,7 +289,7 @@ fn next_place(statement: &Statement, row: Laid) -> u32
 impl<'a> Layout<'a> {
     fn new(alloc: Global) -> Self
         ensures rows { result.rows.items ≡ [] }
-        ensures stands { IsLayoutAfter [] result }
+        ensures represents { IsLayoutAfter [] result }
     {
         Layout {
             own: Symbols::new(alloc),
@@ -469,7 +469,7 @@ impl<'a> Layout<'a> {
     ) -> Result<(), AsmFault>
         requires few { length statements.now ≤ MOST_LINES }
         requires rows { self.old.rows.items ≡ [] }
-        requires stands { IsLayoutAfter [] self.old }
+        requires represents { IsLayoutAfter [] self.old }
         ensures exact { Gives (λ _. lines_of [] statements.now self.new.rows.items) result
             (layout kept.now [] statements.now) }
         ensures own { OnOk result

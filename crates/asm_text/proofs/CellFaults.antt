@@ -348,12 +348,12 @@ last n os [] l ls s v w e = (last_says l ls s v e, none, last_only l ls s v e)
     none g x = by g (rest_of n os l ls s v g x)
 last n os (o ∷ ps) l ls s v w e = (
   fault_of n os l ls s v (o.line, o.column, kind.Conditional true)
-      stands,
+      represents,
   first,
 )
   where
-    stands : Rest n os l ls s (o.line, o.column, kind.Conditional true)
-    stands =
+    represents : Rest n os l ls s (o.line, o.column, kind.Conditional true)
+    represents =
         inr (inr (subst (After n os ls s (o.line, o.column, kind.Conditional true)) (sym e)
         (subst (λ (ps : List OpenIf). Unclosed ps (o.line, o.column, kind.Conditional true)) (sym w.0) refl)))
 
@@ -392,7 +392,7 @@ goes_on n os ps l ls s v w e (Ok ss) m =
         ∙ e in
         let more : ts ≡ ss = m.2 ts (subst (More ls ts) on h.1) in
         ap (λ (x : Statement). x ∷ ts) is ∙ ap (λ (x : List Statement). s ∷ x) more
-goes_on n os ps l ls s v w e (Err g) m = (fault_of n os l ls s v g (stands m.0), first)
+goes_on n os ps l ls s v w e (Err g) m = (fault_of n os l ls s v g (represents m.0), first)
   where
     no_end : EndsText l → ⊥
     no_end x =
@@ -400,9 +400,9 @@ goes_on n os ps l ls s v w e (Err g) m = (fault_of n os l ls s v g (stands m.0),
         ap (λ (t : Statement). is_end_action t.operation) (v.2 x.0 x.1) in
         false≢true (sym e ∙ sym is ∙ x.2)
 
-    stands : LinesFault (n + 1) ps ls g → Rest n os l ls s g
-    stands (inl x) = inl (no_end, x)
-    stands (inr x) =
+    represents : LinesFault (n + 1) ps ls g → Rest n os l ls s g
+    represents (inl x) = inl (no_end, x)
+    represents (inr x) =
         inr (inr (subst (After n os ls s g) (sym e)
         (subst (λ (qs : List OpenIf). IfFault (n + 1) qs ls g) (sym w.0) x)))
 

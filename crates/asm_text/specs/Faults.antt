@@ -114,9 +114,9 @@ order_in_line f = rank f.1 ∷ f.0 ∷ []
 
 -- what is so and comes before all others that are, in this order
 abbrev pub StandsFirst : {F : Type 0} → (F → List ℕ) → (F → Type 0) → F → Type 0
-StandsFirst {F} order stands f =
-    stands f × ((g : F) → stands g → (g ≡ f) ⊎ ComesBefore (order f) (order g))
+StandsFirst {F} order represents f =
+    represents f × ((g : F) → represents g → (g ≡ f) ⊎ ComesBefore (order f) (order g))
 
 -- a fault that stands and comes before each other one of its line
 abbrev pub IsFirst : (Fault → Type 0) → Fault → Type 0
-IsFirst stands f = StandsFirst order_in_line stands f
+IsFirst represents f = StandsFirst order_in_line represents f

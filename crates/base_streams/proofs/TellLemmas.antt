@@ -3,7 +3,7 @@ use Rattle.std.proofs.Common.{arith, sym, ◌∙◌, ap, append_assoc, subst, ze
 use Rattle.std.proofs.lemmas.Grind.{common_steps}
 use Rattle.std.proofs.lemmas.List.{take-append-drop, append-nil, length-take-le, drop-drop}
 use Rattle.std.proofs.Math.Seq.{take-append_seam}
-use Rattle.base_streams.specs.Told.{Told, ToldFront, CountsOn}
+use Rattle.base_streams.specs.Told.{Told, ToldPrefix, CountsOn}
 
 pub told_on : (a b c : Option (List ℕ)) (x y : List ℕ) → Told a b x → Told b c y → Told a c (x ++ y)
 told_on None b c x y p q = tt
@@ -11,7 +11,7 @@ told_on (Some v) None c x y p q = absurd (cc)
 told_on (Some v) (Some w) c x y p q =
     q ∙ ap Some (let e : w ≡ v ++ x = cc in (ap (λ l. l ++ y) e ∙ append_assoc v x y))
 
-pub front_at : (a b : Option (List ℕ)) (x : List ℕ) (n : ℕ) → Told a b (take n x) → ToldFront a b x
+pub front_at : (a b : Option (List ℕ)) (x : List ℕ) (n : ℕ) → Told a b (take n x) → ToldPrefix a b x
 front_at a b x n t =
     record { front = take n x; others = drop n x; told = t; whole = sym (take-append-drop n x) }
 
@@ -26,7 +26,7 @@ pub told_more : (a b c : Option (List ℕ)) (x : List ℕ) (i n : ℕ) → Told 
 told_more a b c x i n p q = rw (take-add i n x) (told_on a b c (take i x) (take n (drop i x)) p q)
 
 pub front_same : (a b c : Option (List ℕ)) (x : List ℕ) (i : ℕ) → Told a b (take i x) → Told b c []
-    → ToldFront a c x
+    → ToldPrefix a c x
 front_same a b c x i p q =
     let P : List ℕ → Type 0 = λ l. Told a c l in
     front_at a c x i (subst P (append-nil (take i x)) (told_on a b c (take i x) [] p q))

@@ -7,8 +7,8 @@ abbrev pub Told : Option (List ℕ) → Option (List ℕ) → List ℕ → Type 
 Told None after bytes = Unit {0}
 Told (Some before) after bytes = after ≡ Some (before ++ bytes)
 
--- the bytes after are those before, and a front of these
-pub record ToldFront (before after : Option (List ℕ)) (bytes : List ℕ) : Type 0 where
+-- the bytes after are those before, and a prefix of these
+pub record ToldPrefix (before after : Option (List ℕ)) (bytes : List ℕ) : Type 0 where
   pub front : List ℕ
   pub others : List ℕ
   pub told : Told before after front
@@ -22,9 +22,9 @@ Gave old new bytes = Told old.given new.given bytes
 abbrev pub Took : OutletState → OutletState → List ℕ → Type 0
 Took old new bytes = Told old.taken new.taken bytes
 
--- the writer took a front of these bytes
-abbrev pub TookFront : OutletState → OutletState → List ℕ → Type 0
-TookFront old new bytes = ToldFront old.taken new.taken bytes
+-- the writer took a prefix of these bytes
+abbrev pub TookPrefix : OutletState → OutletState → List ℕ → Type 0
+TookPrefix old new bytes = ToldPrefix old.taken new.taken bytes
 
 -- so many more, if they are still counted
 abbrev pub CountsOn : Option ℕ → Option ℕ → ℕ → Type 0

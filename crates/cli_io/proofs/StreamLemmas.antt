@@ -42,11 +42,11 @@ pub record HasRead {S : Type 0} (Stands : S → List ℕ → Type 0) (reads : �
     : Type 0 where
   pub bytes : List ℕ
   pub took : Took reads old.left now.left bytes
-  pub stands : Stands s bytes
+  pub represents : Stands s bytes
 
 pub read_nothing : {S : Type 0} (Stands : S → List ℕ → Type 0) (old : InletState) (s : S) → Stands s []
     → HasRead Stands 0 old old s
-read_nothing Stands old s h = record { bytes = []; took = took_nothing old.left; stands = h }
+read_nothing Stands old s h = record { bytes = []; took = took_nothing old.left; represents = h }
 
 pub read_piece : {S : Type 0} (Stands : S → List ℕ → Type 0) (reads : ℕ) (old now later : InletState)
     (s s' : S) (piece : List ℕ)
@@ -56,7 +56,7 @@ pub read_piece : {S : Type 0} (Stands : S → List ℕ → Type 0) (reads : ℕ)
 read_piece Stands reads old now later s s' piece r consumed some on = record {
   bytes = r.bytes ++ piece;
   took = took_piece reads old.left now.left later.left r.bytes piece r.took consumed some;
-  stands = on r.bytes r.stands;
+  represents = on r.bytes r.represents;
 }
 
 pub read_most : {S : Type 0} (Stands : S → List ℕ → Type 0) (reads : ℕ) (old now : InletState) (s : S)
@@ -75,4 +75,4 @@ read_bad {S} Stands Refuses reads old now later s piece r consumed bad =
     all : (old later : Option (List ℕ)) → Consumes old later (r.bytes ++ piece) → IfSome old Refuses
     all None later c = tt
     all (Some xs) None c = absurd c
-    all (Some xs) (Some ys) c = subst Refuses (sym c) (bad r.bytes ys r.stands)
+    all (Some xs) (Some ys) c = subst Refuses (sym c) (bad r.bytes ys r.represents)

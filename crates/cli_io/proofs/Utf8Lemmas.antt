@@ -101,7 +101,7 @@ fourth_rest : (c : ℕ) → 65536 ≤ c → c < 1114112 → Second (240 + c / 26
 fourth_rest c l h =
     (omega arith, omega arith, (λ i. omega arith), (λ i. omega arith), (λ i. omega arith), (λ i. omega arith))
 
--- a front of a character begins one
+-- a prefix of a character begins one
 front_of_two : (c n : ℕ) → 128 ≤ c → c < 2048 → 0 < n → n < 2 → Begun (take n ((192 + c / 64) ∷ next c ∷ []))
 front_of_two c n l h some few =
     let is : 1 ≡ n = omega arith in

@@ -1,7 +1,7 @@
 -- What every engine promises of what it writes.
 use Rattle.std.specs.Prelude.{◌≡◌, ◌⊎◌, ℕ, List, IfSome, Bool, true, if◌then◌else◌}
 use Rattle.base_streams.specs.States.{InletState, OutletState}
-use Rattle.base_streams.specs.Told.{Took, TookFront}
+use Rattle.base_streams.specs.Told.{Took, TookPrefix}
 use Rattle.cli_io.specs.declared.status.Status.{Status}
 use Rattle.cli_io.specs.declared.status.Status.TheVariants.{Success, Refused, Usage, OutOfMemory, Failed}
 use Rattle.cli_io.specs.Streams.{IsEndless}
@@ -12,8 +12,8 @@ abbrev pub WritesAnswer : Status → List ℕ → Status → OutletState → Out
 WritesAnswer status text Success old new = (status ≡ Success) × Took old new text
 WritesAnswer status text Refused old new = (status ≡ Refused) × Took old new text
 WritesAnswer status text Usage old new = ⊥
-WritesAnswer status text OutOfMemory old new = TookFront old new text
-WritesAnswer status text Failed old new = TookFront old new text
+WritesAnswer status text OutOfMemory old new = TookPrefix old new text
+WritesAnswer status text Failed old new = TookPrefix old new text
 
 -- the same with the status and the text of the input that the reader has left, if that is known
 abbrev pub AnswersInput : (List ℕ → Status) → (List ℕ → List ℕ) → Status → InletState → OutletState

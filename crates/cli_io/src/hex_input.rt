@@ -76,7 +76,7 @@ impl Intake for HexInput {
     ghost use Rattle.cli_io.specs.HexInput.{input_of, BadHex};
     ghost use Rattle.cli_io.specs.HexState.{HasReadHex};
 
-    ghost stands = { HasReadHex };
+    ghost represents = { HasReadHex };
 
     ghost refuses = { λ input. input_of input ≡ BadHex };
 

@@ -25,7 +25,7 @@ pub(crate) enum PourFault {
 /// What takes an input piece by piece.
 pub(crate) trait Intake: Drop {
     // The text so far that it represents, the inputs that it refuses, and its limit.
-    ghost stands: { Self → List ℕ → Type 0 };
+    ghost represents: { Self → List ℕ → Type 0 };
 
     ghost refuses: { List ℕ → Type 0 };
 
@@ -35,16 +35,16 @@ pub(crate) trait Intake: Drop {
     fn take(&mut self, piece: &[u8]) -> Result<(), IntakeFault>
         ensures limit { limit self.new ≡ limit self.old }
         ensures ok { OnOk result
-            ((text : List ℕ) → stands self.old text → stands self.new (text ++ piece.now)) }
+            ((text : List ℕ) → represents self.old text → represents self.new (text ++ piece.now)) }
         ensures bad { IsErrOf result IntakeFault.Bad →
-            (text more : List ℕ) → stands self.old text → refuses ((text ++ piece.now) ++ more) };
+            (text more : List ℕ) → represents self.old text → refuses ((text ++ piece.now) ++ more) };
 }
 
 // All bytes, as they are.
 impl Intake for Vec<u8> {
     ghost use Rattle.std.specs.Prelude.{◌≡◌};
 
-    ghost stands = { λ v bytes. v.items ≡ bytes };
+    ghost represents = { λ v bytes. v.items ≡ bytes };
 
     ghost refuses = { λ _. ⊥ };
 
@@ -65,9 +65,9 @@ pub(crate) fn pour<R: Inlet, I: Intake>(
     mut input: I,
 ) -> Result<I, PourFault>
     requires buffer { 0 < length buffer.old }
-    requires input { I.stands input [] }
+    requires input { I.represents input [] }
     ensures limit { IfOk result (λ read. I.limit read ≡ I.limit input) }
-    ensures read { IfSome (R.state reader.old).left (IsPoured I.stands I.refuses result) }
+    ensures read { IfSome (R.state reader.old).left (IsPoured I.represents I.refuses result) }
     ensures blame { BlamesReader IfPourFailed result (R.state reader.old) (R.state reader.new) }
 {
     for reads in 0..u32::MAX {

@@ -46,7 +46,7 @@ impl Intake for TextInput {
     ghost use Rattle.std.specs.Str.{is_utf8};
     ghost use Rattle.cli_io.specs.TextState.{HasReadText};
 
-    ghost stands = { HasReadText };
+    ghost represents = { HasReadText };
 
     ghost refuses = { λ input. is_utf8 input ≡ false };
 
@@ -64,7 +64,7 @@ impl Intake for TextInput {
 impl TextInput {
     /// No text yet.
     pub fn new(alloc: Global, limit: usize) -> TextInput
-        ensures stands { HasReadText result [] }
+        ensures represents { HasReadText result [] }
         ensures limit { result.limit ≡ limit }
     {
         TextInput {

@@ -12,7 +12,7 @@ use Rattle.cli_run.specs.RunText.{lines_of, word_of, end_line, run_text, run_end
 
 -- after k steps: the board, and no end before
 pub record IsAt (limit : ℕ) (start : Computer) (k : ℕ) (r : RunnerState) : Type 0 where
-  pub stands : RepresentsComputer r (after k start)
+  pub represents : RepresentsComputer r (after k start)
   pub least : least_from (end_at limit start) k (limit - k) ≡ run_length limit start
 
 -- and the lines of the steps are printed
@@ -25,7 +25,7 @@ pub at_start : (limit : ℕ) (start : Computer) (r : RunnerState) → Represents
     → IsAt limit start 0 r
 unfolding after
 at_start limit start r s =
-    record { stands = s; least = ap (λ n. least_from (end_at limit start) 0 n) (omega arith) }
+    record { represents = s; least = ap (λ n. least_from (end_at limit start) 0 n) (omega arith) }
 
 pub printed_start : (limit : ℕ) (start : Computer) (r : RunnerState) (text : List ℕ)
     → RepresentsComputer r start
@@ -61,10 +61,10 @@ at_next limit start k r r' lt here no-end s =
     let one : suc k ≡ k + 1 = omega arith in
     let left : limit - k ≡ suc (limit - (k + 1)) = omega arith in
     let goes_on : end_at limit start k ≡ None =
-    end_seen limit start k r here.stands ∙ ap (λ (b : Bool). end_of b r.last r.machine)
+    end_seen limit start k r here.represents ∙ ap (λ (b : Bool). end_of b r.last r.machine)
     (not_last k limit lt) ∙ no-end in
     record {
-      stands = subst (λ (j : ℕ). RepresentsComputer r' (after j start)) one s;
+      represents = subst (λ (j : ℕ). RepresentsComputer r' (after j start)) one s;
       least =
           sym (least_later (end_at limit start) k (limit - (k + 1)) goes_on)
           ∙ ap (λ (n : ℕ). least_from (end_at limit start) k n) (sym left) ∙ here.least;
@@ -92,7 +92,8 @@ printed_next limit start k r r' before text text' lt here no-end s added =
 end_before : (limit : ℕ) (start : Computer) (k : ℕ) (r : RunnerState) (e : Ending) → k < limit
     → IsAt limit start k r → end_of false r.last r.machine ≡ Some e → end_at limit start k ≡ Some e
 end_before limit start k r e lt here ends =
-    end_seen limit start k r here.stands ∙ ap (λ (b : Bool). end_of b r.last r.machine) (not_last k limit lt)
+    end_seen limit start k r here.represents
+    ∙ ap (λ (b : Bool). end_of b r.last r.machine) (not_last k limit lt)
     ∙ ends
 
 is_last : (limit : ℕ) → (limit == limit) ≡ true
@@ -103,7 +104,7 @@ end_behind : (limit : ℕ) (start : Computer) (k : ℕ) (r : RunnerState) → k 
     → IsAt limit start k r → end_at limit start k ≡ end_of true r.last r.machine
 end_behind limit start k r same here =
     let last : (k == limit) ≡ true = ap (λ (j : ℕ). j == limit) same ∙ is_last limit in
-    end_seen limit start k r here.stands ∙ ap (λ (b : Bool). end_of b r.last r.machine) last
+    end_seen limit start k r here.represents ∙ ap (λ (b : Bool). end_of b r.last r.machine) last
 
 stops : (limit : ℕ) (start : Computer) (k : ℕ) (r : RunnerState) (e : Ending) → IsAt limit start k r
     → end_at limit start k ≡ Some e → k ≡ run_length limit start
@@ -116,7 +117,7 @@ has_run_before limit start k r e lt here ends =
     let end : end_at limit start k ≡ Some e = end_before limit start k r e lt here ends in
     let steps : k ≡ run_length limit start = stops limit start k r e here end in
     record {
-      stands = subst (λ (j : ℕ). RepresentsComputer r (after j start)) steps here.stands;
+      represents = subst (λ (j : ℕ). RepresentsComputer r (after j start)) steps here.represents;
       ending_is = sym end ∙ ap (end_at limit start) steps;
     }
 
@@ -129,7 +130,7 @@ has_run_all limit start k r e same here ends =
     let steps : k ≡ run_length limit start =
     ap (λ (n : ℕ). least_from (end_at limit start) k n) (sym none) ∙ here.least in
     record {
-      stands = subst (λ (j : ℕ). RepresentsComputer r (after j start)) steps here.stands;
+      represents = subst (λ (j : ℕ). RepresentsComputer r (after j start)) steps here.represents;
       ending_is = ends ∙ sym (end_behind limit start k r same here) ∙ ap (end_at limit start) steps;
     }
 
@@ -171,6 +172,6 @@ pub end_printed : (limit : ℕ) (start : Computer) (r : RunnerState) (e : Option
     → text ++ register_line r.machine.regs ++ end_line e ≡ text ++ run_end_text limit start
 unfolding run_end_text
 end_printed limit start r e text ran =
-    rw (ran.ending_is, ran.stands.machine) (append_assoc text
+    rw (ran.ending_is, ran.represents.machine) (append_assoc text
     (register_line (after (run_length limit start) start).machine.regs)
     (end_line (end_at limit start (run_length limit start))))

@@ -23,5 +23,5 @@ Steps old new = (b : Computer) → RepresentsComputer old b → RepresentsComput
 
 -- the runner has done a run of at most limit steps from this computer, which ended so
 pub record HasRun (limit : ℕ) (start : Computer) (r : RunnerState) (ending : Option Ending) : Type 0 where
-  pub stands : RepresentsComputer r (after (run_length limit start) start)
+  pub represents : RepresentsComputer r (after (run_length limit start) start)
   pub ending_is : ending ≡ end_at limit start (run_length limit start)

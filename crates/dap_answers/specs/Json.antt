@@ -29,8 +29,9 @@ use Rattle.dap_answers.specs.declared.answer.Body.TheVariants as body
 use Rattle.dap_answers.specs.declared.answer.Outcome.{Outcome}
 use Rattle.dap_answers.specs.declared.answer.Outcome.TheVariants.{Success, Refused}
 use Rattle.dap_answers.specs.declared.answer.Response.{Response}
-use Rattle.dap_answers.specs.declared.bodies.Scope.{Scope}
-use Rattle.dap_answers.specs.declared.bodies.Scope.TheVariants as scope
+use Rattle.lab_shown.specs.declared.scope.Scope.{Scope}
+use Rattle.lab_shown.specs.declared.scope.Scope.TheVariants as scope
+use Rattle.lab_shown.specs.Scopes.{reference_of, every_scope}
 use Rattle.dap_answers.specs.declared.answer.StopReason.{StopReason}
 use Rattle.dap_answers.specs.declared.answer.StopReason.TheVariants as stop
 use Rattle.dap_answers.specs.declared.answer.Event.{Event}
@@ -114,22 +115,18 @@ thread_json = object_of (
     (codes "id", whole_number 1) ∷
     (codes "name", string (codes "8080")) ∷ [])
 
-abbrev pub scope_json : Text → ℕ → Bool → Data
-scope_json name reference expensive = object_of (
+abbrev pub scope_json : Text → Scope → Bool → Data
+scope_json name scope expensive = object_of (
     (codes "expensive", boolean expensive) ∷
     (codes "name", string name) ∷
-    (codes "variablesReference", whole_number reference) ∷ [])
+    (codes "variablesReference", whole_number (reference_of scope)) ∷ [])
 
 abbrev pub scope_of : Scope → Data
-scope_of scope.Registers = scope_json (codes "Registers") 1 false
-scope_of scope.Flags = scope_json (codes "Flags") 2 false
-scope_of scope.Devices = scope_json (codes "Devices") 3 false
-scope_of scope.Symbols = scope_json (codes "Symbols") 4 false
-scope_of scope.Memory = scope_json (codes "Memory") 5 true
-
-abbrev pub every_scope : List Scope
-every_scope =
-    scope.Registers ∷ scope.Flags ∷ scope.Devices ∷ scope.Symbols ∷ scope.Memory ∷ []
+scope_of scope.Registers = scope_json (codes "Registers") scope.Registers false
+scope_of scope.Flags = scope_json (codes "Flags") scope.Flags false
+scope_of scope.Devices = scope_json (codes "Devices") scope.Devices false
+scope_of scope.Symbols = scope_json (codes "Symbols") scope.Symbols false
+scope_of scope.Memory = scope_json (codes "Memory") scope.Memory true
 
 abbrev pub stopped_threads : Bool → Data
 stopped_threads true = list_of whole_number (1 ∷ [])

@@ -10,6 +10,7 @@ use crate::answer::{Body, DebugState};
 use crate::cell::{PREFIX, SUFFIX};
 use crate::json::{ToJson, array_of};
 use crate::object::Object;
+use lab_shown::scope::Scope;
 use lab_shown::shown::StackFrame;
 use serde_json::Value;
 use std::alloc::{AllocError, Global};
@@ -49,29 +50,14 @@ fn threads(alloc: Global) -> Result<Value, AllocError>
     Object::new(alloc).value("threads", threads).finish()
 }
 
-fn scope_json(
-    alloc: Global,
-    name: &str,
-    reference: u32,
-    expensive: bool,
-) -> Result<Value, AllocError>
-    ensures { IfOk result (λ v. view v ≡ scope_json name.now reference expensive) }
+fn scope_json(alloc: Global, name: &str, scope: Scope, expensive: bool) -> Result<Value, AllocError>
+    ensures { IfOk result (λ v. view v ≡ scope_json name.now scope expensive) }
 {
     Object::new(alloc)
         .text("name", name)
-        .number("variablesReference", u64::from(reference))
+        .number("variablesReference", u64::from(scope.reference()))
         .flag("expensive", expensive)
         .finish()
-}
-
-// The scopes of each frame.
-#[derive(Clone, Copy)]
-enum Scope {
-    Registers,
-    Flags,
-    Devices,
-    Symbols,
-    Memory,
 }
 
 const EVERY_SCOPE: [Scope; 5] = [
@@ -87,11 +73,11 @@ impl ToJson for Scope {
 
     fn to_json(&self, alloc: Global) -> Result<Value, AllocError> {
         match self {
-            Scope::Registers => scope_json(alloc, "Registers", 1, false),
-            Scope::Flags => scope_json(alloc, "Flags", 2, false),
-            Scope::Devices => scope_json(alloc, "Devices", 3, false),
-            Scope::Symbols => scope_json(alloc, "Symbols", 4, false),
-            Scope::Memory => scope_json(alloc, "Memory", 5, true),
+            Scope::Registers => scope_json(alloc, "Registers", *self, false),
+            Scope::Flags => scope_json(alloc, "Flags", *self, false),
+            Scope::Devices => scope_json(alloc, "Devices", *self, false),
+            Scope::Symbols => scope_json(alloc, "Symbols", *self, false),
+            Scope::Memory => scope_json(alloc, "Memory", *self, true),
         }
     }
 }

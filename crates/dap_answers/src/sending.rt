@@ -1,5 +1,5 @@
 //! The JSON of responses and events.
-ghost use Rattle.std.specs.Prelude.{◌≡◌, IfOk};
+ghost use Rattle.std.specs.Prelude.{◌≡◌, true, IfOk};
 ghost use Rattle.serde_json.specs.View.{view};
 ghost use Rattle.dap_answers.specs.Object.{HasMembers};
 ghost use Rattle.dap_answers.specs.Json.{members_from, stopped_json, continued_json, bare_event};
@@ -12,8 +12,8 @@ use crate::object::Object;
 use serde_json::Value;
 use std::alloc::{AllocError, Global};
 
-/// The members of every response, without its command and its body or message.
-pub fn bare_response(alloc: Global, seq: u64, request_seq: u32, is_success: bool) -> Object
+// The members of every response, without its command and its body or message.
+fn bare_response(alloc: Global, seq: u64, request_seq: u32, is_success: bool) -> Object
     ensures { HasMembers result (members_from (bare_response seq request_seq is_success)) }
 {
     Object::new(alloc)
@@ -21,6 +21,13 @@ pub fn bare_response(alloc: Global, seq: u64, request_seq: u32, is_success: bool
         .text("type", "response")
         .number("request_seq", u64::from(request_seq))
         .flag("success", is_success)
+}
+
+/// The members of every response that grants its request, without its command and its body.
+pub fn bare_success(alloc: Global, seq: u64, request_seq: u32) -> Object
+    ensures { HasMembers result (members_from (bare_response seq request_seq true)) }
+{
+    bare_response(alloc, seq, request_seq, true)
 }
 
 fn success(
@@ -33,7 +40,7 @@ fn success(
     ensures { IfOk result (λ v. view v ≡ success_json seq request_seq command.now body.now) }
 {
     let body = body_json(alloc, body)?;
-    bare_response(alloc, seq, request_seq, true)
+    bare_success(alloc, seq, request_seq)
         .text("command", command)
         .value("body", body)
         .finish()

@@ -5,7 +5,7 @@ use Rattle.lab_core.specs.declared.event.Event.{Event}
 use Rattle.lab_core.specs.declared.fault.EventFault.{EventFault}
 use Rattle.lab_core.specs.Board.{Board}
 use Rattle.lab_core.specs.Events.{EventResult, result_of}
-use Rattle.lab_core.specs.Labs.{LabState, Did, Does}
+use Rattle.lab_core.specs.Labs.{LabState, MatchesResult, CarriesOut}
 use Rattle.dap_answers.specs.declared.answer.Body.{Body}
 use Rattle.dap_board.specs.Commands.{with_body}
 
@@ -15,13 +15,13 @@ reply_with to_body (Err fault) = Err fault
 
 did_with : (to_body : Answer → Body) (b : Board) (g : EventResult) (reply : Result Answer EventFault)
     (lab : LabState)
-    → Did b g reply lab → Did b (with_body to_body g) (reply_with to_body reply) lab
+    → MatchesResult b g reply lab → MatchesResult b (with_body to_body g) (reply_with to_body reply) lab
 did_with to_body b (Ok (answer, b')) reply lab did = (ap (reply_with to_body) did.0, did.1)
 did_with to_body b (Err fault) reply lab did = (ap (reply_with to_body) did.0, did.1)
 
 pub does_with : (to_body : Answer → Body) (e : Event) (old new : LabState) (reply : Result Answer EventFault)
-    → Does (result_of e) old reply new
-    → Does (λ b. with_body to_body (result_of e b)) old (reply_with to_body reply) new
-does_with to_body e old new reply does = λ b stands no_want.
-    did_with to_body b (result_of e b) reply new (does b stands (λ want. no_want (ap (reply_with to_body)
+    → CarriesOut (result_of e) old reply new
+    → CarriesOut (λ b. with_body to_body (result_of e b)) old (reply_with to_body reply) new
+does_with to_body e old new reply does = λ b represents no_want.
+    did_with to_body b (result_of e b) reply new (does b represents (λ want. no_want (ap (reply_with to_body)
     want)))

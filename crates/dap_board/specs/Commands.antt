@@ -11,22 +11,16 @@ use Rattle.lab_views.specs.Code.{after_instructions}
 use Rattle.lab_core.specs.declared.answer.Answer.{Answer}
 use Rattle.lab_core.specs.declared.event.Event.{Event}
 use Rattle.lab_core.specs.declared.event.Event.TheVariants as event
-use Rattle.lab_core.specs.declared.event.StepKind.{StepKind as BoardStepKind}
-use Rattle.lab_core.specs.declared.event.StepKind.TheVariants as board_kind
-use Rattle.lab_core.specs.declared.event.Granularity.{Granularity as BoardGranularity}
-use Rattle.lab_core.specs.declared.event.Granularity.TheVariants as board_granularity
 use Rattle.lab_core.specs.declared.event.StepRequest.{StepRequest}
 use Rattle.lab_core.specs.declared.fault.EventFault.{EventFault}
 use Rattle.lab_core.specs.Board.{Board}
 use Rattle.lab_core.specs.Events.{EventResult, result_of}
-use Rattle.lab_core.specs.Labs.{LabState, Does}
+use Rattle.lab_core.specs.Labs.{LabState, CarriesOut}
 use Rattle.dap_answers.specs.declared.answer.Body.{Body}
 use Rattle.dap_answers.specs.declared.answer.Body.TheVariants as body
 use Rattle.dap_answers.specs.Murmur.{cell_path}
-use Rattle.dap_talk.specs.declared.command.StepKind.{StepKind}
-use Rattle.dap_talk.specs.declared.command.StepKind.TheVariants.{Over, In, Out}
-use Rattle.dap_talk.specs.declared.command.Granularity.{Granularity}
-use Rattle.dap_talk.specs.declared.command.Granularity.TheVariants.{Line, Instruction}
+use Rattle.lab_shown.specs.declared.step.StepKind.{StepKind}
+use Rattle.lab_shown.specs.declared.step.Granularity.{Granularity}
 use Rattle.dap_talk.specs.declared.command.DapCommand.{DapCommand}
 use Rattle.dap_talk.specs.declared.command.DapCommand.TheVariants as command
 use Rattle.dap_board.specs.Bodies.{body_of}
@@ -36,7 +30,7 @@ Performed = Result (Body × Board) EventFault
 
 -- The lab does what the definition says of its board, and on an `Err` it is as it was.
 abbrev pub Performs : (Board → Performed) → LabState → Result Body EventFault → LabState → Type 0
-Performs f old result new = Does f old result new × OnErr result (new ≡ old)
+Performs f old result new = CarriesOut f old result new × OnErr result (new ≡ old)
 
 -- the result of an event, with a body in place of the answer
 abbrev pub with_body : (Answer → Body) → EventResult → Performed
@@ -51,20 +45,8 @@ event_result event b = with_body body_of (result_of event b)
 abbrev pub event_with_body : Event → Body → Board → Performed
 event_with_body event body b = with_body (λ _. body) (result_of event b)
 
-abbrev pub step_kind : StepKind → BoardStepKind
-step_kind Over = board_kind.Over
-step_kind In = board_kind.In
-step_kind Out = board_kind.Out
-
-abbrev pub step_granularity : Granularity → BoardGranularity
-step_granularity Line = board_granularity.Line
-step_granularity Instruction = board_granularity.Instruction
-
 abbrev pub step_request : StepKind → Granularity → StepRequest
-step_request kind granularity = record {
-  kind = step_kind kind;
-  granularity = step_granularity granularity;
-}
+step_request kind granularity = record { kind = kind; granularity = granularity }
 
 -- The address of a disassembly's first line: a number of bytes, and then of instructions, after an address.
 -- Addresses wrap, and the count of instructions does not.

@@ -1,11 +1,14 @@
 -- The names of refusals, and the events that follow commands.
 use Rattle.std.specs.Prelude.{Option, Some, None, codes}
 use Rattle.base_text.specs.Bytes.{Text}
+use Rattle.lab_core.specs.declared.answer.Stop.{Stop}
+use Rattle.lab_core.specs.declared.answer.Stop.TheVariants as stop
 use Rattle.lab_core.specs.declared.fault.EventFault.{EventFault}
 use Rattle.lab_core.specs.declared.fault.EventFault.TheVariants as fault
 use Rattle.dap_answers.specs.declared.answer.Event.{Event}
 use Rattle.dap_answers.specs.declared.answer.Event.TheVariants as event
-use Rattle.dap_answers.specs.declared.answer.StopReason.TheVariants as stop
+use Rattle.dap_answers.specs.declared.answer.StopReason.{StopReason}
+use Rattle.dap_answers.specs.declared.answer.StopReason.TheVariants as reason
 use Rattle.dap_talk.specs.declared.command.DapCommand.{DapCommand}
 use Rattle.dap_talk.specs.declared.command.DapCommand.TheVariants as command
 
@@ -32,5 +35,10 @@ abbrev pub event_after : DapCommand → Option Event
 event_after command.Initialize = Some event.Initialized
 event_after command.Continue = Some event.Continued
 event_after (command.Step kind granularity) = Some event.Continued
-event_after command.Pause = Some (event.Stopped stop.Pause)
+event_after command.Pause = Some (event.Stopped reason.Pause)
 event_after other = None
+
+-- the reason of a `stopped` event for a stop of the board
+abbrev pub reason_of : Stop → StopReason
+reason_of stop.Breakpoint = reason.Breakpoint
+reason_of stop.Step = reason.Step

@@ -11,4 +11,3 @@ mod far;
 mod look;
 pub mod names;
 pub mod perform;
-mod step;

@@ -1,10 +1,11 @@
-//! The names of refusals, and the events that follow commands.
+//! The names of refusals, the events that follow commands, and why a run stopped.
 ghost use Rattle.std.specs.Prelude.{◌≡◌, IfOk};
-ghost use Rattle.dap_board.specs.Names.{refusal_name, event_after};
+ghost use Rattle.dap_board.specs.Names.{refusal_name, event_after, reason_of};
 
 use base_text::text::Text;
 use dap_answers::answer::{Event, Outcome, StopReason};
 use dap_talk::command::DapCommand;
+use lab_core::answer::Stop;
 use lab_core::fault::EventFault;
 use std::alloc::{AllocError, Global};
 
@@ -49,5 +50,15 @@ pub fn event_after(command: &DapCommand) -> Option<Event>
         DapCommand::Step { .. } => Some(Event::Continued),
         DapCommand::Pause => Some(Event::Stopped(StopReason::Pause)),
         _ => None,
+    }
+}
+
+/// The reason of a `stopped` event for a stop of the board.
+pub fn reason_of(stop: Stop) -> StopReason
+    ensures { result ≡ reason_of stop }
+{
+    match stop {
+        Stop::Breakpoint => StopReason::Breakpoint,
+        Stop::Step => StopReason::Step,
     }
 }

@@ -7,17 +7,17 @@ ghost use Rattle.dap_board.specs.Commands.{Performs, IsPerformable};
 
 use crate::event::{answer_to, apply_for};
 use crate::look::look;
-use crate::step::step_request;
 use base_text::latin::to_bytes;
 use base_text::sequence::Sequence;
 use base_text::text::Text;
 use dap_answers::answer::Body;
 use dap_answers::cell::cell_path;
-use dap_talk::command::{DapCommand, Granularity, StepKind};
+use dap_talk::command::DapCommand;
 use i80_rows::board::Board;
-use lab_core::event::Event;
+use lab_core::event::{Event, StepRequest};
 use lab_core::fault::EventFault;
 use lab_core::lab::Lab;
+use lab_shown::step::{Granularity, StepKind};
 use std::alloc::Global;
 
 fn set_breakpoints(lab: &mut Lab, path: &Text, lines: &Sequence<u32>) -> Result<Body, EventFault>
@@ -33,7 +33,7 @@ fn step(lab: &mut Lab, kind: StepKind, granularity: Granularity) -> Result<Body,
     ensures { Performs (event_with_body (Event.Step
         (step_request kind granularity)) Body.Empty) lab.old result lab.new }
 {
-    let request = step_request(kind, granularity);
+    let request = StepRequest { kind, granularity };
     apply_for(lab, &Event::Step(request), Body::Empty)
 }
 

@@ -4,7 +4,7 @@ use Rattle.std.proofs.lemmas.List.{append-nil}
 use Rattle.dap_editor.specs.declared.message.Message.{Message}
 use Rattle.dap_session.specs.States.{SessionState, session_before_requests}
 use Rattle.dap_session.specs.Slices.{Input, step, play_all}
-use Rattle.dap_session.specs.Stands.{RepresentsSession, Tells}
+use Rattle.dap_session.specs.Represents.{RepresentsSession, Tells}
 use Rattle.dap_debugger.specs.Sending.{sent_bytes, concat_messages}
 use Rattle.dap_debugger.specs.Debuggers.{DebuggerState, Past}
 use Rattle.dap_debugger.proofs.SendingLemmas.{sent_bytes-append}

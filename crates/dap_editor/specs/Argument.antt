@@ -29,8 +29,8 @@ use Rattle.base64.specs.GeneralPurpose.{decoded_of}
 use Rattle.serde_json.specs.Data.{Data, Items, no_items, item}
 use Rattle.serde_json.specs.Find.{get, as_number, as_i64, as_str, as_array}
 use Rattle.dap_talk.specs.Argument.{argument_at, at_most_256, address_of, text_at, when_between}
-use Rattle.dap_editor.specs.declared.request.Shift.{Shift}
-use Rattle.dap_editor.specs.declared.request.Shift.TheVariants.{Forward, Back}
+use Rattle.dap_editor.specs.declared.request.SignedOffset.{SignedOffset}
+use Rattle.dap_editor.specs.declared.request.SignedOffset.TheVariants.{Forward, Back}
 use Rattle.dap_editor.specs.declared.request.EvaluateContext.{EvaluateContext}
 use Rattle.dap_editor.specs.declared.request.EvaluateContext.TheVariants.{Repl, Other}
 
@@ -55,16 +55,16 @@ abbrev pub address : Data → Option ℕ
 address d = option_and_then address_of (as_str d)
 
 -- forward up to 4,294,967,295, and back up to a limit
-abbrev pub shift_within : ℕ → ℤ → Option Shift
+abbrev pub shift_within : ℕ → ℤ → Option SignedOffset
 shift_within limit (pos n) = option_map Forward (when_between 0 4294967295 n)
 shift_within limit (negsuc n) = option_map Back (when_between 1 limit (n + 1))
 
 -- a whole number, written without fraction and exponent, and not `-0`
-abbrev pub shift : ℕ → Data → Option Shift
+abbrev pub shift : ℕ → Data → Option SignedOffset
 shift limit d = option_and_then (shift_within limit) (option_and_then as_i64 (as_number d))
 
 -- not back beyond a limit
-abbrev pub IsBackWithin : ℕ → Shift → Type 0
+abbrev pub IsBackWithin : ℕ → SignedOffset → Type 0
 IsBackWithin limit (Forward n) = Unit {0}
 IsBackWithin limit (Back n) = n ≤ limit
 

@@ -25,8 +25,8 @@ use Rattle.dap_editor.specs.declared.name.EditorName.{EditorName}
 use Rattle.dap_editor.specs.declared.request.EditorCommand.{EditorCommand}
 use Rattle.dap_editor.specs.declared.request.EditorCommand.TheVariants as command
 use Rattle.dap_editor.specs.declared.request.RequestFault.TheVariants.{NotRequest, UnknownCommand, Arguments}
-use Rattle.dap_editor.specs.declared.request.Asked.{Asked}
-use Rattle.dap_editor.specs.declared.request.Asked.TheVariants.{Board, Editor, Faulty}
+use Rattle.dap_editor.specs.declared.request.RequestContent.{RequestContent}
+use Rattle.dap_editor.specs.declared.request.RequestContent.TheVariants.{Board, Editor, Faulty}
 use Rattle.dap_editor.specs.declared.request.EditorRequest.{EditorRequest}
 use Rattle.dap_editor.specs.Argument.{IsBackWithin}
 use Rattle.dap_editor.specs.Table.{command_named, command_asked}
@@ -50,18 +50,18 @@ without_null e d = if has_null_arguments d then bare_request e else d
 -- ---- what is asked for
 
 -- by a command that the kernel has too
-abbrev pub asked_of_board : Reading → Asked
+abbrev pub asked_of_board : Reading → RequestContent
 asked_of_board not_request = Faulty NotRequest
 asked_of_board (unknown_command seq command) = Faulty UnknownCommand
 asked_of_board (bad_arguments seq command) = Faulty Arguments
 asked_of_board (request seq command) = Board command
 
 -- by a command of editors
-abbrev pub asked_of_editor : Option EditorCommand → Asked
+abbrev pub asked_of_editor : Option EditorCommand → RequestContent
 asked_of_editor None = Faulty Arguments
 asked_of_editor (Some c) = Editor c
 
-abbrev pub asked_by : Option EditorName → Data → Asked
+abbrev pub asked_by : Option EditorName → Data → RequestContent
 asked_by (Some name) d = asked_of_editor (command_asked name d)
 asked_by None d = asked_of_board (reading d)
 
@@ -91,7 +91,7 @@ IsCommandBounded (command.Disassemble from offset instructions count) =
     (1 ≤ count) × (count ≤ 1024) × IsBackWithin 65536 instructions
 IsCommandBounded other = Unit {0}
 
-abbrev pub IsBounded : Asked → Type 0
+abbrev pub IsBounded : RequestContent → Type 0
 IsBounded (Board c) = table.IsBounded c
 IsBounded (Editor c) = IsCommandBounded c
 IsBounded (Faulty fault) = Unit {0}

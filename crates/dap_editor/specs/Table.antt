@@ -26,8 +26,8 @@ use Rattle.dap_talk.specs.Argument.{whole_between}
 use Rattle.dap_editor.specs.declared.name.EditorName.{EditorName}
 use Rattle.dap_editor.specs.declared.name.EditorName.TheVariants as name
 use Rattle.dap_editor.specs.declared.request.Launch.{Launch}
-use Rattle.dap_editor.specs.declared.request.Shift.{Shift}
-use Rattle.dap_editor.specs.declared.request.Shift.TheVariants.{Forward, Back}
+use Rattle.dap_editor.specs.declared.request.SignedOffset.{SignedOffset}
+use Rattle.dap_editor.specs.declared.request.SignedOffset.TheVariants.{Forward, Back}
 use Rattle.dap_editor.specs.declared.request.EvaluateContext.TheVariants.{Other}
 use Rattle.dap_editor.specs.declared.request.EditorCommand.{EditorCommand}
 use Rattle.dap_editor.specs.declared.request.EditorCommand.TheVariants as command
@@ -59,7 +59,7 @@ abbrev pub any_number : Data → Option ℕ
 any_number = whole_between 0 4294967295
 
 -- a number of bytes after a place, or before it
-abbrev pub offset : Data → Option Shift
+abbrev pub offset : Data → Option SignedOffset
 offset = optional (codes "offset") (shift 4294967295) (Forward 0)
 
 abbrev pub memory_reference : Data → Option ℕ

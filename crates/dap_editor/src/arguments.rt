@@ -10,7 +10,7 @@ ghost use Rattle.dap_editor.specs.Argument.{context, is_unconditional, function_
 ghost use Rattle.dap_editor.specs.Argument.{breakpoints, functions, bytes_of, base64};
 ghost use Rattle.dap_editor.specs.Table.{byte, any_number, offset, memory_reference};
 
-use crate::request::{EvaluateContext, Shift};
+use crate::request::{EvaluateContext, SignedOffset};
 use base_text::sequence::{Bytes, Sequence};
 use base_text::text::Text;
 use base64::DecodeAllocError;
@@ -72,7 +72,7 @@ pub fn memory_reference(request: &Value) -> Option<u16>
 }
 
 // How far an `i64` is from 0, if that is within the bounds.
-fn shift_by(n: i64, limit: u32) -> Option<Shift>
+fn shift_by(n: i64, limit: u32) -> Option<SignedOffset>
     ensures value { result ≡ shift_within limit n }
     ensures within { IfSome result (λ shift. IsBackWithin limit shift) }
 {
@@ -81,25 +81,25 @@ fn shift_by(n: i64, limit: u32) -> Option<Shift>
         if back > limit {
             return None;
         }
-        return Some(Shift::Back(back));
+        return Some(SignedOffset::Back(back));
     }
     let forward = u32::try_from(n).ok()?;
-    Some(Shift::Forward(forward))
+    Some(SignedOffset::Forward(forward))
 }
 
 /// A whole number that may be negative, down to this limit; 0 if it is absent.
-pub fn shift_or_0(request: &Value, key: &str, limit: u32) -> Option<Shift>
-    ensures value { result ≡ optional key.now (shift limit) (Shift.Forward 0) (view request.now) }
+pub fn shift_or_0(request: &Value, key: &str, limit: u32) -> Option<SignedOffset>
+    ensures value { result ≡ optional key.now (shift limit) (SignedOffset.Forward 0) (view request.now) }
     ensures within { IfSome result (λ shift. IsBackWithin limit shift) }
 {
     match argument_at(request, key)? {
-        None => Some(Shift::Forward(0)),
+        None => Some(SignedOffset::Forward(0)),
         Some(value) => shift_by(value.as_i64()?, limit),
     }
 }
 
 /// A number of bytes after a place or before it; 0 if it is absent.
-pub fn offset(request: &Value) -> Option<Shift>
+pub fn offset(request: &Value) -> Option<SignedOffset>
     ensures { result ≡ offset (view request.now) }
 {
     shift_or_0(request, "offset", u32::MAX)

@@ -6,7 +6,7 @@ ghost use Rattle.dap_editor.specs.Json.{success_json, response_json, message_jso
 use crate::bodies::editor_body_json;
 use crate::events::editor_event_json;
 use crate::message::{EditorOutcome, EditorResponse, Message};
-use dap_answers::sending::{bare_response, refusal};
+use dap_answers::sending::{bare_success, refusal};
 use serde_json::Value;
 use std::alloc::{AllocError, Global};
 
@@ -19,7 +19,7 @@ fn success(
 ) -> Result<Value, AllocError>
     ensures { IfOk result (λ v. view v ≡ success_json seq request_seq command.now (view body)) }
 {
-    bare_response(alloc, seq, request_seq, true)
+    bare_success(alloc, seq, request_seq)
         .text("command", command)
         .value("body", body)
         .finish()

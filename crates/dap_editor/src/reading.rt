@@ -14,7 +14,7 @@ use crate::arguments::{
     offset, shift_or_0, text_at, truth_or_false,
 };
 use crate::name::EditorName;
-use crate::request::{Asked, EditorCommand, EditorRequest, Launch, RequestFault};
+use crate::request::{EditorCommand, EditorRequest, Launch, RequestContent, RequestFault};
 use base_text::text::Text;
 use dap_answers::object::Object;
 use dap_talk::arguments::ArgumentFault;
@@ -136,31 +136,35 @@ fn read_command(
     }
 }
 
-fn read_for_editor(alloc: Global, name: EditorName, request: &Value) -> Result<Asked, AllocError>
+fn read_for_editor(
+    alloc: Global,
+    name: EditorName,
+    request: &Value,
+) -> Result<RequestContent, AllocError>
     ensures read { IfOk result (λ a. a ≡ asked_of_editor (command_asked name (view request.now))) }
     ensures bounded { IfOk result (λ a. IsBounded a) }
 {
     match read_command(alloc, name, request) {
-        Ok(command) => Ok(Asked::Editor(command)),
+        Ok(command) => Ok(RequestContent::Editor(command)),
         Err(ArgumentFault::OutOfMemory) => Err(AllocError),
-        Err(ArgumentFault::Arguments) => Ok(Asked::Faulty(RequestFault::Arguments)),
+        Err(ArgumentFault::Arguments) => Ok(RequestContent::Faulty(RequestFault::Arguments)),
     }
 }
 
-fn read_for_board(alloc: Global, request: &Value) -> Result<Asked, AllocError>
+fn read_for_board(alloc: Global, request: &Value) -> Result<RequestContent, AllocError>
     ensures read { IfOk result (λ a. a ≡ asked_of_board (reading (view request.now))) }
     ensures bounded { IfOk result (λ a. IsBounded a) }
 {
     match read_request(alloc, request) {
-        Ok(read) => Ok(Asked::Board(read.into_command())),
+        Ok(read) => Ok(RequestContent::Board(read.into_command())),
         Err(DapFault::OutOfMemory) => Err(AllocError),
-        Err(DapFault::NotRequest) => Ok(Asked::Faulty(RequestFault::NotRequest)),
-        Err(DapFault::Command { .. }) => Ok(Asked::Faulty(RequestFault::UnknownCommand)),
-        Err(DapFault::Arguments { .. }) => Ok(Asked::Faulty(RequestFault::Arguments)),
+        Err(DapFault::NotRequest) => Ok(RequestContent::Faulty(RequestFault::NotRequest)),
+        Err(DapFault::Command { .. }) => Ok(RequestContent::Faulty(RequestFault::UnknownCommand)),
+        Err(DapFault::Arguments { .. }) => Ok(RequestContent::Faulty(RequestFault::Arguments)),
     }
 }
 
-fn read_asked(alloc: Global, command: &str, request: &Value) -> Result<Asked, AllocError>
+fn read_asked(alloc: Global, command: &str, request: &Value) -> Result<RequestContent, AllocError>
     ensures read { IfOk result (λ a. a ≡ asked_by (command_named command.now) (view request.now)) }
     ensures bounded { IfOk result (λ a. IsBounded a) }
 {
@@ -194,7 +198,7 @@ impl EditorRequest {
         EditorRequest {
             seq: 0,
             command: Text::from(String::new(alloc)),
-            asked: Asked::Faulty(RequestFault::NotRequest),
+            asked: RequestContent::Faulty(RequestFault::NotRequest),
         }
     }
 }

@@ -5,7 +5,7 @@ use dap_talk::command::DapCommand;
 
 /// A signed offset, in bytes or in instructions.
 #[derive(Clone, Copy)]
-pub enum Shift {
+pub enum SignedOffset {
     Forward(u32),
     Back(u32),
 }
@@ -49,21 +49,21 @@ pub enum EditorCommand {
     /// At most `count` bytes, from `offset` bytes after or before an address.
     ReadMemory {
         address: u16,
-        offset: Shift,
+        offset: SignedOffset,
         count: u32,
     },
     /// At most 65,536 bytes.
     WriteMemory {
         address: u16,
-        offset: Shift,
+        offset: SignedOffset,
         bytes: Bytes,
     },
     /// 1 to 1,024 instructions. `offset` counts bytes, and `instruction_offset` instructions, at most 65,536
     /// of them backwards.
     Disassemble {
         address: u16,
-        offset: Shift,
-        instruction_offset: Shift,
+        offset: SignedOffset,
+        instruction_offset: SignedOffset,
         instruction_count: u16,
     },
     LoadedSources,
@@ -81,7 +81,7 @@ pub enum RequestFault {
 
 /// What a request asks for.
 #[derive(Drop)]
-pub enum Asked {
+pub enum RequestContent {
     /// A command that the kernel has too.
     Board(DapCommand),
     Editor(EditorCommand),
@@ -94,5 +94,5 @@ pub enum Asked {
 pub struct EditorRequest {
     pub seq: u32,
     pub command: Text,
-    pub asked: Asked,
+    pub asked: RequestContent,
 }

@@ -2,7 +2,8 @@
 use base_text::text::Text;
 use dap_editor::reading::read_editor_request;
 use dap_editor::request::{
-    Asked, EditorCommand, EditorRequest, EvaluateContext, Launch, RequestFault, Shift,
+    EditorCommand, EditorRequest, EvaluateContext, Launch, RequestContent, RequestFault,
+    SignedOffset,
 };
 use serde_json::Value;
 use std::alloc::{AllocError, Global};
@@ -12,10 +13,10 @@ fn truth_word(truth: bool) -> &'static str {
     if truth { "true" } else { "false" }
 }
 
-fn put_shift(told: &mut String, shift: Shift) -> Result<(), AllocError> {
+fn put_shift(told: &mut String, shift: SignedOffset) -> Result<(), AllocError> {
     match shift {
-        Shift::Forward(n) => write!(told, " +{n}")?,
-        Shift::Back(n) => write!(told, " -{n}")?,
+        SignedOffset::Forward(n) => write!(told, " +{n}")?,
+        SignedOffset::Back(n) => write!(told, " -{n}")?,
     }
     Ok(())
 }
@@ -42,7 +43,12 @@ fn put_names(told: &mut String, names: &[Text]) -> Result<(), AllocError> {
     Ok(())
 }
 
-fn put_place(told: &mut String, word: &str, address: u16, offset: Shift) -> Result<(), AllocError> {
+fn put_place(
+    told: &mut String,
+    word: &str,
+    address: u16,
+    offset: SignedOffset,
+) -> Result<(), AllocError> {
     write!(told, "{word} {address}")?;
     put_shift(told, offset)
 }
@@ -130,14 +136,14 @@ fn fault_word(fault: RequestFault) -> &'static str {
     }
 }
 
-fn put_asked(told: &mut String, asked: &Asked) -> Result<(), AllocError> {
+fn put_asked(told: &mut String, asked: &RequestContent) -> Result<(), AllocError> {
     match asked {
-        Asked::Board(command) => {
+        RequestContent::Board(command) => {
             told.push_str("board ")?;
             told.push_str(command.name().as_str())
         }
-        Asked::Editor(command) => put_command(told, command),
-        Asked::Faulty(fault) => told.push_str(fault_word(*fault)),
+        RequestContent::Editor(command) => put_command(told, command),
+        RequestContent::Faulty(fault) => told.push_str(fault_word(*fault)),
     }
 }
 

@@ -6,12 +6,12 @@ use Rattle.lab_image.specs.Sources.{line_count}
 use Rattle.dap_editor.specs.declared.message.EditorStop.TheVariants.{Entry}
 use Rattle.dap_editor.specs.declared.message.PlacedBreakpoint.{PlacedBreakpoint}
 use Rattle.dap_editor.specs.declared.request.Launch.{Launch as LaunchOf}
-use Rattle.dap_points.specs.Points.{PointsState, number_of, lines_at}
+use Rattle.dap_points.specs.Points.{WantedBreakpointsState, number_of, lines_at}
 use Rattle.dap_points.specs.Placed.{line_points}
-use Rattle.dap_program.specs.declared.messages.Follow.{Follow}
-use Rattle.dap_program.specs.declared.messages.Follow.TheVariants.{Nothing, Continued, Stopped}
-use Rattle.dap_program.specs.declared.opening.Occasion.{Occasion}
-use Rattle.dap_program.specs.declared.opening.Occasion.TheVariants.{Launch, Restart}
+use Rattle.dap_program.specs.declared.messages.FollowUp.{FollowUp}
+use Rattle.dap_program.specs.declared.messages.FollowUp.TheVariants.{Nothing, Continued, Stopped}
+use Rattle.dap_program.specs.declared.opening.LoadReason.{LoadReason}
+use Rattle.dap_program.specs.declared.opening.LoadReason.TheVariants.{Launch, Restart}
 use Rattle.dap_program.specs.Breakpoints.{board_armed_at, labels_behind}
 use Rattle.dap_launch.specs.declared.program.Phase.TheVariants as phase
 use Rattle.dap_launch.specs.declared.program.Program.{Program}
@@ -28,26 +28,26 @@ abbrev pub pauses : LaunchOf → Bool
 pauses l = l.stops_on_entry && l.is_debugged
 
 -- A restart may follow a stop, so it tells that the run goes on.
-abbrev pub going_follow : Occasion → Follow
+abbrev pub going_follow : LoadReason → FollowUp
 going_follow Launch = Nothing
 going_follow Restart = Continued
 
-abbrev pub begun_follow : Occasion → LaunchOf → Follow
-begun_follow occasion l = if pauses l then Stopped Entry else going_follow occasion
+abbrev pub begun_follow : LoadReason → LaunchOf → FollowUp
+begun_follow cause l = if pauses l then Stopped Entry else going_follow cause
 
 -- ---- its breakpoints
 
 -- on its lines
-abbrev pub program_lines : Program → PointsState → List PlacedBreakpoint
+abbrev pub program_lines : Program → WantedBreakpointsState → List PlacedBreakpoint
 program_lines p kept =
     let path = p.launch.program in
     line_points (number_of path kept.lists) p.line_count 0 (lines_at path kept.lists)
 
 -- at labels, on the board that it is loaded on
-abbrev pub program_labels : Program → PointsState → Board → List PlacedBreakpoint
+abbrev pub program_labels : Program → WantedBreakpointsState → Board → List PlacedBreakpoint
 program_labels p kept b = labels_behind (lines_at p.launch.program kept.lists) (take 256 kept.functions) b
 
 -- its board, which stops at them
-abbrev pub program_board : Program → PointsState → Board → Board
+abbrev pub program_board : Program → WantedBreakpointsState → Board → Board
 program_board p kept b =
     let path = p.launch.program in board_armed_at path (lines_at path kept.lists) (take 256 kept.functions) b

@@ -10,28 +10,28 @@ use crate::program::{LoadedProgram, pauses, program_labels, program_lines};
 use base_text::sequence::Sequence;
 use dap_editor::message::{EditorStop, Message};
 use dap_editor::request::Launch;
-use dap_points::points::Points;
-use dap_program::messages::{Caller, Follow};
-use dap_program::opening::{Occasion, opening_messages};
+use dap_points::points::WantedBreakpoints;
+use dap_program::messages::{FollowUp, RequestId};
+use dap_program::opening::{LoadReason, opening_messages};
 use std::alloc::{AllocError, Global};
 
 /// A launch or a restart, and the request that its response answers.
 #[derive(Drop)]
 pub struct Opening {
-    pub caller: Caller,
-    pub occasion: Occasion,
+    pub caller: RequestId,
+    pub cause: LoadReason,
 }
 
 /// What the editor is told of the run of a program that begins.
-pub fn begun_follow(occasion: Occasion, launch: &Launch) -> Follow
-    ensures { result ≡ begun_follow occasion launch.now }
+pub fn begun_follow(cause: LoadReason, launch: &Launch) -> FollowUp
+    ensures { result ≡ begun_follow cause launch.now }
 {
     if pauses(launch) {
-        return Follow::Stopped(EditorStop::Entry);
+        return FollowUp::Stopped(EditorStop::Entry);
     }
-    match occasion {
-        Occasion::Launch => Follow::Nothing,
-        Occasion::Restart => Follow::Continued,
+    match cause {
+        LoadReason::Launch => FollowUp::Nothing,
+        LoadReason::Restart => FollowUp::Continued,
     }
 }
 
@@ -40,21 +40,21 @@ pub fn loaded_messages(
     alloc: Global,
     opening: Opening,
     loaded: &LoadedProgram,
-    points: &Points,
-    follow: Follow,
+    points: &WantedBreakpoints,
+    follow: FollowUp,
 ) -> Result<Sequence<Message>, AllocError>
     ensures { (b : Board) → RepresentsBoard loaded.now.lab b → IfOk result (λ messages. messages
         ≡ turn_messages opening.caller accepted_outcome
-        (opening_events opening.occasion (program_lines loaded.now.program points.now)
+        (opening_events opening.cause (program_lines loaded.now.program points.now)
         (program_labels loaded.now.program points.now b) follow)) }
 {
     let lines = program_lines(alloc, &loaded.program, points)?;
     let labels = program_labels(alloc, &loaded.program, points, &loaded.lab)?;
-    let Opening { caller, occasion } = opening;
+    let Opening { caller, cause } = opening;
     opening_messages(
         alloc,
         caller,
-        occasion,
+        cause,
         lines.as_slice(),
         labels.as_slice(),
         follow,

@@ -2,14 +2,16 @@
 ghost use Rattle.std.specs.Prelude.{◌≡◌, OnOk, IfOk};
 ghost use Rattle.lab_core.specs.Board.{Board};
 ghost use Rattle.lab_core.specs.Labs.{RepresentsBoard};
+ghost use Rattle.dap_program.specs.Boards.{begin_run};
 ghost use Rattle.dap_launch.specs.Programs.{pauses, program_lines, program_labels, program_board};
 
 use base_text::sequence::Sequence;
 use dap_editor::message::PlacedBreakpoint;
 use dap_editor::request::Launch;
 use dap_points::placed::line_points;
-use dap_points::points::Points;
+use dap_points::points::WantedBreakpoints;
 use dap_program::breakpoints::{arm, labels_behind};
+use dap_program::change::{begin, begin_stopped};
 use lab_core::lab::Lab;
 use std::alloc::{AllocError, Global};
 
@@ -48,6 +50,18 @@ pub fn pauses(launch: &Launch) -> bool
     launch.stops_on_entry && launch.is_debugged
 }
 
+/// Begins a run of the program, stopped before its first step if it was launched so.
+pub fn begin_program(lab: &mut Lab, program: &Program)
+    ensures { (b : Board) → RepresentsBoard lab.old b → RepresentsBoard lab.new
+        (begin_run program.now.start (pauses program.now.launch) b) }
+{
+    if pauses(&program.launch) {
+        begin_stopped(lab, program.start);
+    } else {
+        begin(lab, program.start);
+    }
+}
+
 /// A copy of a launch.
 pub fn copy_launch(launch: &Launch) -> Result<Launch, AllocError>
     ensures { IfOk result (λ copy. copy ≡ launch.now) }
@@ -66,7 +80,7 @@ pub fn copy_launch(launch: &Launch) -> Result<Launch, AllocError>
 pub fn program_lines(
     alloc: Global,
     program: &Program,
-    points: &Points,
+    points: &WantedBreakpoints,
 ) -> Result<Sequence<PlacedBreakpoint>, AllocError>
     ensures { IfOk result (λ lines. lines ≡ program_lines program.now points.now) }
 {
@@ -83,7 +97,7 @@ pub fn program_lines(
 pub fn program_labels(
     alloc: Global,
     program: &Program,
-    points: &Points,
+    points: &WantedBreakpoints,
     lab: &Lab,
 ) -> Result<Sequence<PlacedBreakpoint>, AllocError>
     ensures { (b : Board) → RepresentsBoard lab.now b
@@ -98,7 +112,7 @@ pub fn arm_program(
     alloc: Global,
     lab: &mut Lab,
     program: &Program,
-    points: &Points,
+    points: &WantedBreakpoints,
 ) -> Result<(), AllocError>
     ensures { (b : Board) → RepresentsBoard lab.old b
         → OnOk result (RepresentsBoard lab.new (program_board program.now points.now b)) }

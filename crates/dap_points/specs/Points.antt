@@ -7,12 +7,12 @@ use Rattle.base_text.specs.Bytes.{Text}
 use Rattle.dap_points.specs.declared.points.SourceLines.{SourceLines}
 
 -- the view of a value of this type
-pub record PointsState : Type 0 where
+pub record WantedBreakpointsState : Type 0 where
   -- in the order in which the sources were added
   pub lists : List SourceLines
   pub functions : List Text
 
-abbrev pub no_points : PointsState
+abbrev pub no_points : WantedBreakpointsState
 no_points = record { lists = []; functions = [] }
 
 -- the place of a source, if it has one
@@ -53,6 +53,6 @@ kept_at (Some place) l lists = slice_set lists place l
 kept_at None l lists = lists ++ l ∷ []
 
 -- the source has these lines from now on
-abbrev pub with_lines : Text → List ℕ → PointsState → PointsState
+abbrev pub with_lines : Text → List ℕ → WantedBreakpointsState → WantedBreakpointsState
 with_lines path lines p =
     record p { lists = kept_at (place_of path p.lists) (record { path = path; lines = lines }) p.lists }

@@ -23,16 +23,16 @@ pub struct SourceLines {
 /// The breakpoints that an editor has set: the lines of each source, and labels. A source whose lines are
 /// removed keeps its place.
 #[derive(Drop)]
-pub struct Points {
+pub struct WantedBreakpoints {
     lists: Vec<SourceLines>,
     functions: Sequence<Text>,
 }
 
-impl Model for Points {
+impl Model for WantedBreakpoints {
     ghost use Rattle.std.specs.Prelude.{◌≤◌, length, vec_capacity};
-    ghost use Rattle.dap_points.specs.Points.{PointsState};
+    ghost use Rattle.dap_points.specs.Points.{WantedBreakpointsState};
 
-    ghost Value = { PointsState };
+    ghost Value = { WantedBreakpointsState };
 
     ghost view = { λ p. record { lists = p.lists.items; functions = p.functions } };
 
@@ -60,13 +60,13 @@ fn first<T>(items: &[T]) -> &[T]
     first
 }
 
-impl Points {
+impl WantedBreakpoints {
     /// No breakpoints, with room for the lines of 1,024 sources.
-    pub fn new(alloc: Global) -> Result<Points, AllocError>
+    pub fn new(alloc: Global) -> Result<WantedBreakpoints, AllocError>
         ensures { IfOk result (λ points. points ≡ no_points) }
     {
         let lists = Vec::with_capacity(alloc, MOST_SOURCES)?;
-        Ok(Points {
+        Ok(WantedBreakpoints {
             lists,
             functions: Sequence::new(alloc),
         })

@@ -5,7 +5,7 @@ use Rattle.lab_core.specs.declared.fault.EventFault.{EventFault}
 use Rattle.lab_core.specs.declared.fault.EventFault.TheVariants as refused
 use Rattle.lab_core.specs.Board.{Board}
 use Rattle.lab_core.specs.Events.{EventResult}
-use Rattle.lab_core.specs.Labs.{LabState, RepresentsBoard, Did}
+use Rattle.lab_core.specs.Labs.{LabState, RepresentsBoard, MatchesResult}
 use Rattle.dap_program.specs.declared.load.Loaded.{Loaded}
 use Rattle.dap_program.specs.declared.load.LoadFault.{LoadFault}
 use Rattle.dap_program.specs.declared.load.LoadFault.TheVariants.{NoStart, OutOfMemory}
@@ -45,10 +45,10 @@ bad f = Err f
 
 started_by : (o : Option ℕ) (b : Board) (lab : LabState) (start : ℕ) → o ≡ Some start → RepresentsBoard lab b
     → Loads (with_start o b) (good lab start)
-started_by (Some n) b lab start is stands = (stands, cc)
-started_by None b lab start is stands = absurd cc
+started_by (Some n) b lab start is represents = (represents, cc)
+started_by None b lab start is represents = absurd cc
 
-pub loads_start : (g : EventResult) (b : Board) (a : Answer) (lab : LabState) (start : ℕ) → Did b g (ok a) lab
+pub loads_start : (g : EventResult) (b : Board) (a : Answer) (lab : LabState) (start : ℕ) → MatchesResult b g (ok a) lab
     → start_of a ≡ Some start → Loads (loaded_by g) (good lab start)
 loads_start (Ok (a', b')) b a lab start did is =
     started_by (start_of a') b' lab start (sym (ap start_of (same_answer a a' did.0)) ∙ is) did.1
@@ -58,13 +58,13 @@ no_start_by : (o : Option ℕ) (b : Board) → o ≡ None → Loads (with_start 
 no_start_by None b is = refl
 no_start_by (Some n) b is = absurd cc
 
-pub loads_none : (g : EventResult) (b : Board) (a : Answer) (lab : LabState) → Did b g (ok a) lab
+pub loads_none : (g : EventResult) (b : Board) (a : Answer) (lab : LabState) → MatchesResult b g (ok a) lab
     → start_of a ≡ None → Loads (loaded_by g) (bad NoStart)
 loads_none (Ok (a', b')) b a lab did is =
     no_start_by (start_of a') b' (sym (ap start_of (same_answer a a' did.0)) ∙ is)
 loads_none (Err f) b a lab did is = absurd (apart a f did.0)
 
-pub loads_fault : (g : EventResult) (b : Board) (f : EventFault) (lab : LabState) → Did b g (err f) lab
+pub loads_fault : (g : EventResult) (b : Board) (f : EventFault) (lab : LabState) → MatchesResult b g (err f) lab
     → Loads (loaded_by g) (bad (fault_of f))
 loads_fault (Ok (a, b')) b f lab did = absurd (apart a f (sym did.0))
 loads_fault (Err f') b f lab did = ap fault_of (same_fault f f' did.0)

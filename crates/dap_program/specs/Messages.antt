@@ -6,20 +6,20 @@ use Rattle.dap_editor.specs.declared.message.EditorEvent.TheVariants as event
 use Rattle.dap_editor.specs.declared.message.EditorOutcome.{EditorOutcome}
 use Rattle.dap_editor.specs.declared.message.Message.{Message}
 use Rattle.dap_editor.specs.declared.message.Message.TheVariants as message
-use Rattle.dap_program.specs.declared.messages.Caller.{Caller}
-use Rattle.dap_program.specs.declared.messages.Follow.{Follow}
-use Rattle.dap_program.specs.declared.messages.Follow.TheVariants as follow
+use Rattle.dap_program.specs.declared.messages.RequestId.{RequestId}
+use Rattle.dap_program.specs.declared.messages.FollowUp.{FollowUp}
+use Rattle.dap_program.specs.declared.messages.FollowUp.TheVariants as follow
 
 abbrev pub as_messages : List EditorEvent → List Message
 as_messages events = map (λ e. message.Event e) events
 
 -- the response to the request with this number and command
-abbrev pub response : Caller → EditorOutcome → Message
+abbrev pub response : RequestId → EditorOutcome → Message
 response c outcome =
     message.Response (record { request_seq = c.seq; command = c.command; outcome = outcome })
 
 -- the response comes first, and then the events that the request causes
-abbrev pub turn_messages : Caller → EditorOutcome → List EditorEvent → List Message
+abbrev pub turn_messages : RequestId → EditorOutcome → List EditorEvent → List Message
 turn_messages c outcome events = response c outcome ∷ as_messages events
 
 -- The run has ended, and with it the program.
@@ -27,7 +27,7 @@ abbrev pub end_events : ℕ → List EditorEvent
 end_events code = event.Exited code ∷ event.Terminated ∷ []
 
 -- what follows a response
-abbrev pub events_of : Follow → List EditorEvent
+abbrev pub events_of : FollowUp → List EditorEvent
 events_of follow.Nothing = []
 events_of follow.Continued = event.Continued ∷ []
 events_of (follow.Stopped reason) = event.Stopped reason ∷ []

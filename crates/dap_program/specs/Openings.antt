@@ -8,9 +8,9 @@ use Rattle.dap_editor.specs.declared.message.EditorEvent.TheVariants as event
 use Rattle.dap_editor.specs.declared.message.EditorOutcome.{EditorOutcome}
 use Rattle.dap_editor.specs.declared.message.EditorOutcome.TheVariants.{Success}
 use Rattle.dap_editor.specs.declared.message.PlacedBreakpoint.{PlacedBreakpoint}
-use Rattle.dap_program.specs.declared.messages.Follow.{Follow}
-use Rattle.dap_program.specs.declared.opening.Occasion.{Occasion}
-use Rattle.dap_program.specs.declared.opening.Occasion.TheVariants.{Launch, Restart}
+use Rattle.dap_program.specs.declared.messages.FollowUp.{FollowUp}
+use Rattle.dap_program.specs.declared.opening.LoadReason.{LoadReason}
+use Rattle.dap_program.specs.declared.opening.LoadReason.TheVariants.{Launch, Restart}
 use Rattle.dap_program.specs.Messages.{events_of}
 
 -- done, with an empty body
@@ -25,11 +25,11 @@ abbrev pub changed_events : List PlacedBreakpoint → List EditorEvent
 changed_events points = filter_map verified_event points
 
 -- A launch asks for the configuration; a restart keeps it.
-abbrev pub first_events : Occasion → List EditorEvent
+abbrev pub first_events : LoadReason → List EditorEvent
 first_events Launch = event.Initialized ∷ []
 first_events Restart = []
 
-abbrev pub opening_events : Occasion → List PlacedBreakpoint → List PlacedBreakpoint → Follow
+abbrev pub opening_events : LoadReason → List PlacedBreakpoint → List PlacedBreakpoint → FollowUp
     → List EditorEvent
-opening_events occasion lines labels follow =
-    first_events occasion ++ (changed_events lines ++ (changed_events labels ++ events_of follow))
+opening_events cause lines labels follow =
+    first_events cause ++ (changed_events lines ++ (changed_events labels ++ events_of follow))

@@ -8,15 +8,12 @@ use Rattle.lab_core.specs.declared.answer.SliceOutcome.{SliceOutcome}
 use Rattle.lab_core.specs.declared.answer.SliceOutcome.TheVariants as outcome
 use Rattle.lab_core.specs.declared.answer.End.{End}
 use Rattle.lab_core.specs.declared.answer.End.TheVariants as end
-use Rattle.lab_core.specs.declared.answer.Stop.{Stop}
-use Rattle.lab_core.specs.declared.answer.Stop.TheVariants as stop
 use Rattle.lab_core.specs.Board.{Board}
 use Rattle.lab_core.specs.Slices.{traffic_of}
 use Rattle.lab_core.specs.Labs.{LabState, RepresentsBoard}
 use Rattle.lab_core.specs.SliceEnds.{slice_end, after_slice}
 use Rattle.i80_devs.specs.Console.{written_to_console, wants_line}
-use Rattle.dap_answers.specs.declared.answer.StopReason.{StopReason}
-use Rattle.dap_answers.specs.declared.answer.StopReason.TheVariants as reason
+use Rattle.dap_board.specs.Names.{reason_of}
 use Rattle.dap_editor.specs.declared.message.EditorEvent.{EditorEvent}
 use Rattle.dap_editor.specs.declared.message.EditorEvent.TheVariants as event
 use Rattle.dap_editor.specs.declared.message.EditorStop.TheVariants.{Board as AtBoard}
@@ -43,10 +40,6 @@ abbrev pub line_events : Bool → List EditorEvent
 line_events is_asked = if is_asked then output category.Console line_question ∷ [] else []
 
 -- ---- how the slice ends
-
-abbrev pub reason_of : Stop → StopReason
-reason_of stop.Breakpoint = reason.Breakpoint
-reason_of stop.Step = reason.Step
 
 -- the line about an undefined opcode and its address
 abbrev pub undefined_line : ℕ → ℕ → Bytes
@@ -75,4 +68,4 @@ slice_events traffic ending =
 pub record IsSliceOf (b : Board) (s : Slice) (lab : LabState) : Type 0 where
   pub messages : s.messages ≡ as_messages (slice_events (traffic_of (slice_end b).0 b) (slice_end b).1)
   pub outcome : s.outcome ≡ (slice_end b).1
-  pub stands : RepresentsBoard lab (after_slice b)
+  pub represents : RepresentsBoard lab (after_slice b)

@@ -1,5 +1,5 @@
 //! Applying events to a board.
-ghost use Rattle.std.specs.Prelude.{◌≡◌, true, Err, OnOk, OnErr};
+ghost use Rattle.std.specs.Prelude.{◌≡◌, true, false, Err, OnOk, OnErr};
 ghost use Rattle.lab_core.specs.Board.{Board};
 ghost use Rattle.lab_core.specs.Events.{Fits};
 ghost use Rattle.lab_core.specs.Labs.{RepresentsBoard};
@@ -45,12 +45,17 @@ pub fn change_surely(lab: &mut Lab, event: Event)
     drop(answer);
 }
 
-/// Begins a run at an address. If `pauses`, it is stopped before its first step.
-pub fn begin(lab: &mut Lab, start: u16, pauses: bool)
-    ensures { (b : Board) → RepresentsBoard lab.old b → RepresentsBoard lab.new (begin_run start pauses b) }
+/// Begins a run at an address.
+pub fn begin(lab: &mut Lab, start: u16)
+    ensures { (b : Board) → RepresentsBoard lab.old b → RepresentsBoard lab.new (begin_run start false b) }
 {
     change_surely(lab, Event::Start(start));
-    if pauses {
-        change_surely(lab, Event::Pause);
-    }
+}
+
+/// Begins a run at an address, and stops it before its first step.
+pub fn begin_stopped(lab: &mut Lab, start: u16)
+    ensures { (b : Board) → RepresentsBoard lab.old b → RepresentsBoard lab.new (begin_run start true b) }
+{
+    begin(lab, start);
+    change_surely(lab, Event::Pause);
 }

@@ -5,7 +5,7 @@ ghost use Rattle.dap_program.specs.Refusals.{assembly_refusal};
 ghost use Rattle.dap_program.specs.Failures.{load_refusal, told_number, load_event};
 
 use crate::load::LoadFault;
-use crate::messages::{Caller, Messages};
+use crate::messages::{Messages, RequestId};
 use crate::refusals::{assembly_refusal, board_refusal};
 use asm_syntax::fault::{AsmFault, FaultKind};
 use base_text::sequence::{Bytes, Sequence};
@@ -85,7 +85,7 @@ fn push_some(messages: &mut Messages, event: Option<EditorEvent>)
 /// The messages about a launch or a restart of the program at this path that fails.
 pub fn failure(
     alloc: Global,
-    caller: Caller,
+    caller: RequestId,
     path: &Text,
     fault: LoadFault,
 ) -> Result<Sequence<Message>, AllocError>

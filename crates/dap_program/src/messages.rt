@@ -13,14 +13,14 @@ pub const MOST_MESSAGES: usize = 8;
 
 /// The request that is answered: its number and its command.
 #[derive(Drop)]
-pub struct Caller {
+pub struct RequestId {
     pub seq: u32,
     pub command: Text,
 }
 
 /// What follows the response to a request.
 #[derive(Clone, Copy)]
-pub enum Follow {
+pub enum FollowUp {
     Nothing,
     /// That the run goes on.
     Continued,
@@ -63,11 +63,11 @@ impl Messages {
     }
 
     /// Adds the response to a request, without allocating.
-    pub fn push_response(&mut self, caller: Caller, outcome: EditorOutcome)
+    pub fn push_response(&mut self, caller: RequestId, outcome: EditorOutcome)
         requires { length self.old + 1 ≤ 8 }
         ensures { self.new ≡ self.old ++ response caller outcome ∷ [] }
     {
-        let Caller { seq, command } = caller;
+        let RequestId { seq, command } = caller;
         self.messages.push_reserved(Message::Response(EditorResponse {
             request_seq: seq,
             command,
@@ -93,24 +93,24 @@ impl Messages {
     }
 
     /// Adds what follows a response, without allocating.
-    pub fn push_follow(&mut self, follow: Follow)
+    pub fn push_follow(&mut self, follow: FollowUp)
         requires { length self.old + 2 ≤ 8 }
         ensures { self.new ≡ self.old ++ as_messages (events_of follow) }
     {
         match follow {
-            Follow::Nothing => {}
-            Follow::Continued => self.push_event(EditorEvent::Continued),
-            Follow::Stopped(reason) => self.push_event(EditorEvent::Stopped(reason)),
-            Follow::Ended => self.push_end(1),
+            FollowUp::Nothing => {}
+            FollowUp::Continued => self.push_event(EditorEvent::Continued),
+            FollowUp::Stopped(reason) => self.push_event(EditorEvent::Stopped(reason)),
+            FollowUp::Ended => self.push_end(1),
         }
     }
 
     /// The response to a request and what follows it, without allocating.
     pub fn turn(
         mut self,
-        caller: Caller,
+        caller: RequestId,
         outcome: EditorOutcome,
-        follow: Follow,
+        follow: FollowUp,
     ) -> Sequence<Message>
         requires { self ≡ [] }
         ensures { result ≡ turn_messages caller outcome (events_of follow) }

@@ -3,7 +3,7 @@ ghost use Rattle.std.specs.Prelude.{◌≡◌, ◌++◌, ◌∷◌, [], OnOk, If
 ghost use Rattle.dap_program.specs.Messages.{turn_messages, as_messages, response, events_of};
 ghost use Rattle.dap_program.specs.Openings.{accepted_outcome, changed_events, first_events, opening_events};
 
-use crate::messages::{Caller, Follow};
+use crate::messages::{FollowUp, RequestId};
 use base_text::sequence::Sequence;
 use dap_answers::answer::Body;
 use dap_editor::message::{
@@ -13,7 +13,7 @@ use std::alloc::{AllocError, Global};
 
 /// Why a program is loaded.
 #[derive(Clone, Copy)]
-pub enum Occasion {
+pub enum LoadReason {
     Launch,
     Restart,
 }
@@ -58,24 +58,24 @@ fn push_all_changed(
     Ok(())
 }
 
-fn push_first(messages: &mut Sequence<Message>, occasion: Occasion) -> Result<(), AllocError>
-    ensures { OnOk result (messages.new ≡ messages.old ++ as_messages (first_events occasion)) }
+fn push_first(messages: &mut Sequence<Message>, cause: LoadReason) -> Result<(), AllocError>
+    ensures { OnOk result (messages.new ≡ messages.old ++ as_messages (first_events cause)) }
 {
-    match occasion {
-        Occasion::Launch => push_message(messages, EditorEvent::Initialized),
-        Occasion::Restart => Ok(()),
+    match cause {
+        LoadReason::Launch => push_message(messages, EditorEvent::Initialized),
+        LoadReason::Restart => Ok(()),
     }
 }
 
 // Adds what follows: that the run is stopped or goes on, or that the program has ended.
-fn push_follow(messages: &mut Sequence<Message>, follow: Follow) -> Result<(), AllocError>
+fn push_follow(messages: &mut Sequence<Message>, follow: FollowUp) -> Result<(), AllocError>
     ensures { OnOk result (messages.new ≡ messages.old ++ as_messages (events_of follow)) }
 {
     match follow {
-        Follow::Nothing => Ok(()),
-        Follow::Continued => push_message(messages, EditorEvent::Continued),
-        Follow::Stopped(reason) => push_message(messages, EditorEvent::Stopped(reason)),
-        Follow::Ended => {
+        FollowUp::Nothing => Ok(()),
+        FollowUp::Continued => push_message(messages, EditorEvent::Continued),
+        FollowUp::Stopped(reason) => push_message(messages, EditorEvent::Stopped(reason)),
+        FollowUp::Ended => {
             push_message(messages, EditorEvent::Exited { code: 1 })?;
             push_message(messages, EditorEvent::Terminated)
         }
@@ -83,10 +83,10 @@ fn push_follow(messages: &mut Sequence<Message>, follow: Follow) -> Result<(), A
 }
 
 // The response to a launch or a restart.
-fn accepted(caller: Caller) -> Message
+fn accepted(caller: RequestId) -> Message
     ensures { result ≡ response caller (EditorOutcome.Success (EditorBody.Board Body.Empty)) }
 {
-    let Caller { seq, command } = caller;
+    let RequestId { seq, command } = caller;
     Message::Response(EditorResponse {
         request_seq: seq,
         command,
@@ -98,19 +98,19 @@ fn accepted(caller: Caller) -> Message
 /// configuration, then the breakpoints that are verified now, and what follows.
 pub fn opening_messages(
     alloc: Global,
-    caller: Caller,
-    occasion: Occasion,
+    caller: RequestId,
+    cause: LoadReason,
     lines: &[PlacedBreakpoint],
     labels: &[PlacedBreakpoint],
-    follow: Follow,
+    follow: FollowUp,
 ) -> Result<Sequence<Message>, AllocError>
     ensures { IfOk result (λ messages. messages
         ≡ turn_messages caller accepted_outcome
-        (opening_events occasion lines.now labels.now follow)) }
+        (opening_events cause lines.now labels.now follow)) }
 {
     let mut messages = Sequence::new(alloc);
     messages.push(accepted(caller))?;
-    push_first(&mut messages, occasion)?;
+    push_first(&mut messages, cause)?;
     push_all_changed(&mut messages, lines)?;
     push_all_changed(&mut messages, labels)?;
     push_follow(&mut messages, follow)?;

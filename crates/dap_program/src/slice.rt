@@ -14,11 +14,11 @@ ghost use Rattle.dap_program.specs.Kits.{IsSliceKit};
 
 use crate::messages::Messages;
 use base_text::sequence::{Bytes, Sequence};
-use dap_answers::answer::StopReason;
+use dap_board::names::reason_of;
 use dap_editor::message::{EditorEvent, EditorStop, Message, OutputCategory};
 use i80_devs::console::{is_line_requested, print_all};
 use i80_exec::ports::PortOperation;
-use lab_core::answer::{End, SliceOutcome, Stop};
+use lab_core::answer::{End, SliceOutcome};
 use lab_core::lab::Lab;
 use lab_core::run_slice::{STEPS, run_slice};
 use std::alloc::{AllocError, Global};
@@ -150,15 +150,6 @@ fn undefined_line(mut text: Vec<u8>, opcode: u8, pc: u16) -> Bytes
     push_byte(&mut text, (pc % 256) as u8);
     text.push_reserved(b'\n');
     Bytes::from(text)
-}
-
-fn reason_of(stop: Stop) -> StopReason
-    ensures { result ≡ slices.reason_of stop }
-{
-    match stop {
-        Stop::Breakpoint => StopReason::Breakpoint,
-        Stop::Step => StopReason::Step,
-    }
 }
 
 fn push_run_end(messages: &mut Messages, text: Vec<u8>, end: End)

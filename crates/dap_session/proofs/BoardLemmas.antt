@@ -32,7 +32,7 @@ use Rattle.dap_program.specs.Loading.{load_result}
 use Rattle.dap_program.specs.Memory.{poke_of, with_bytes_at}
 use Rattle.dap_launch.specs.declared.program.Program.{Program}
 use Rattle.dap_session.specs.Breakpoints.{armed_where, labels_armed}
-use Rattle.dap_points.specs.Points.{PointsState}
+use Rattle.dap_points.specs.Points.{WantedBreakpointsState}
 
 -- the run is the same, and so is the attachment
 pub record SameRun (b b' : Board) : Type 0 where
@@ -133,7 +133,7 @@ pub kept_where : (o : Option Program) (lines : List ℕ) (names : List Text) (b 
 kept_where None lines names b = same b
 kept_where (Some p) lines names b = kept_armed p.launch.program lines names b
 
-pub kept_labels : (o : Option Program) (names : List Text) (points : PointsState) (b : Board)
+pub kept_labels : (o : Option Program) (names : List Text) (points : WantedBreakpointsState) (b : Board)
     → SameRun b (labels_armed o names points b)
 kept_labels None names points b = same b
 kept_labels (Some p) names points b = kept_armed p.launch.program _ names b

@@ -18,8 +18,8 @@ use Rattle.lab_core.specs.Board.{Board}
 use Rattle.lab_core.specs.Slices.{traffic_of}
 use Rattle.dap_editor.specs.declared.message.EditorEvent.{EditorEvent}
 use Rattle.dap_editor.specs.declared.message.PlacedBreakpoint.{PlacedBreakpoint}
-use Rattle.dap_editor.specs.declared.request.Asked.{Asked}
-use Rattle.dap_editor.specs.declared.request.Asked.TheVariants as asked
+use Rattle.dap_editor.specs.declared.request.RequestContent.{RequestContent}
+use Rattle.dap_editor.specs.declared.request.RequestContent.TheVariants as asked
 use Rattle.dap_editor.specs.declared.request.EditorCommand.TheVariants as editor
 use Rattle.dap_editor.specs.declared.request.EvaluateContext.TheVariants as context
 use Rattle.dap_editor.specs.declared.request.Launch.{Launch as LaunchOf}
@@ -27,10 +27,10 @@ use Rattle.dap_inspect.specs.declared.fault.EvaluateFault.{EvaluateFault}
 use Rattle.dap_inspect.specs.Expressions.{expression_text}
 use Rattle.dap_program.specs.declared.load.LoadFault.{LoadFault}
 use Rattle.dap_program.specs.declared.load.LoadFault.TheVariants as fault
-use Rattle.dap_program.specs.declared.messages.Follow.{Follow}
-use Rattle.dap_program.specs.declared.messages.Follow.TheVariants as follow
-use Rattle.dap_program.specs.declared.opening.Occasion.{Occasion}
-use Rattle.dap_program.specs.declared.opening.Occasion.TheVariants.{Launch, Restart}
+use Rattle.dap_program.specs.declared.messages.FollowUp.{FollowUp}
+use Rattle.dap_program.specs.declared.messages.FollowUp.TheVariants as follow
+use Rattle.dap_program.specs.declared.opening.LoadReason.{LoadReason}
+use Rattle.dap_program.specs.declared.opening.LoadReason.TheVariants.{Launch, Restart}
 use Rattle.dap_program.specs.Failures.{load_event}
 use Rattle.dap_program.specs.Loading.{load_result}
 use Rattle.dap_program.specs.Openings.{changed_events, first_events, opening_events}
@@ -105,7 +105,7 @@ silent-append : (first second : List EditorEvent) → IsSilent first → IsSilen
 silent-append first second one two =
     shown-append first second ∙ (ap (λ xs. xs ++ shown second) one ∙ two)
 
-silent_follow : (f : Follow) → IsSilent (events_of f)
+silent_follow : (f : FollowUp) → IsSilent (events_of f)
 silent_follow follow.Nothing = refl
 silent_follow follow.Continued = refl
 silent_follow (follow.Stopped reason) = refl
@@ -118,11 +118,11 @@ silent_changed (p ∷ points) = elim (cases_Bool p.is_verified) [
   | inr other ↦ rw other (silent_changed points)
 ]
 
-silent_first : (o : Occasion) → IsSilent (first_events o)
+silent_first : (o : LoadReason) → IsSilent (first_events o)
 silent_first Launch = refl
 silent_first Restart = refl
 
-silent_opening : (o : Occasion) (lines labels : List PlacedBreakpoint) (f : Follow)
+silent_opening : (o : LoadReason) (lines labels : List PlacedBreakpoint) (f : FollowUp)
     → IsSilent (opening_events o lines labels f)
 silent_opening o lines labels f =
     silent-append (first_events o) (changed_events lines ++ (changed_events labels ++ events_of f))
@@ -141,7 +141,7 @@ silent_load path fault.OutOfMemory = refl
 silent_load path fault.NoStart = refl
 silent_load path (fault.Refused f) = silent_refused path f
 
-silent_loading : (r : Result (Board × ℕ) LoadFault) (o : Occasion) (l : LaunchOf) (text : Text)
+silent_loading : (r : Result (Board × ℕ) LoadFault) (o : LoadReason) (l : LaunchOf) (text : Text)
     (s : SessionState)
     → IsSilent (loading_as r o l text s).events
 silent_loading (Ok (b, start)) o l text s =
@@ -150,7 +150,7 @@ silent_loading (Ok (b, start)) o l text s =
     silent_opening o (program_lines p kept) (program_labels p kept b) (started_follow o p s)
 silent_loading (Err f) o l text s = silent_load l.program f
 
-silent_text : (t : Result Text Text) (o : Occasion) (l : LaunchOf) (s : SessionState)
+silent_text : (t : Result Text Text) (o : LoadReason) (l : LaunchOf) (s : SessionState)
     → IsSilent (by_text t s (λ text. loading o l text s)).events
 silent_text (Ok text) o l s = silent_loading (load_result l text) o l text s
 silent_text (Err message) o l s = refl
@@ -165,7 +165,7 @@ silent_restart : (p : Option Program) (found : Option FileText) (s : SessionStat
 silent_restart None found s = refl
 silent_restart (Some p) found s = silent_text (text_in found) Restart p.launch s
 
-silent_asking : (a : Asked) (found : Option FileText) (s : SessionState) → IsSilent (asking a found s).events
+silent_asking : (a : RequestContent) (found : Option FileText) (s : SessionState) → IsSilent (asking a found s).events
 silent_asking (asked.Editor (editor.Launch l)) found s = silent_launch s.settings.program l found s
 silent_asking (asked.Editor editor.Restart) found s = silent_restart s.settings.program found s
 silent_asking (asked.Editor (editor.WriteMemory address offset bytes)) found s =
@@ -174,12 +174,12 @@ silent_asking (asked.Board c) found s = silent_follow (replying (asked.Board c) 
 silent_asking (asked.Faulty f) found s = silent_follow (replying (asked.Faulty f) s).follow
 silent_asking other found s = silent_follow (replying other s).follow
 
-silent_unless : (o : Option Text) (a : Asked) (found : Option FileText) (s : SessionState)
+silent_unless : (o : Option Text) (a : RequestContent) (found : Option FileText) (s : SessionState)
     → IsSilent (asking_unless o a found s).events
 silent_unless (Some text) a found s = refl
 silent_unless None a found s = silent_asking a found s
 
-silent_turn : (a : Asked) (found : Option FileText) (s : SessionState) → IsSilent (turn a found s).events
+silent_turn : (a : RequestContent) (found : Option FileText) (s : SessionState) → IsSilent (turn a found s).events
 unfolding turn
 silent_turn a found s = silent_unless (objection a s) a found s
 

@@ -5,11 +5,11 @@ use Rattle.std.specs.declared.alloc.AllocError.{AllocError}
 use Rattle.base_text.specs.Bytes.{Bytes}
 use Rattle.lab_core.specs.declared.fault.EventFault.TheVariants.{NotStopped}
 use Rattle.dap_editor.specs.declared.message.Message.{Message}
-use Rattle.dap_editor.specs.declared.request.Asked.{Asked}
-use Rattle.dap_editor.specs.declared.request.Asked.TheVariants as asked
+use Rattle.dap_editor.specs.declared.request.RequestContent.{RequestContent}
+use Rattle.dap_editor.specs.declared.request.RequestContent.TheVariants as asked
 use Rattle.dap_editor.specs.declared.request.EditorCommand.TheVariants as editor
-use Rattle.dap_editor.specs.declared.request.Shift.{Shift}
-use Rattle.dap_program.specs.declared.messages.Caller.{Caller}
+use Rattle.dap_editor.specs.declared.request.SignedOffset.{SignedOffset}
+use Rattle.dap_program.specs.declared.messages.RequestId.{RequestId}
 use Rattle.dap_program.specs.Memory.{with_bytes_at}
 use Rattle.dap_program.specs.Refusals.{board_refusal}
 use Rattle.dap_launch.specs.declared.program.Phase.{Phase}
@@ -20,8 +20,8 @@ use Rattle.dap_session.specs.Turns.{Replied, turn_of, refusing}
 use Rattle.dap_session.specs.Memory.{is_stopped, address_at, writing_from, writing}
 use Rattle.dap_session.specs.Launches.{beginning, beginning_in, beginning_where, begin_if_configured}
 use Rattle.dap_session.specs.Slices.{Told, told_in}
-use Rattle.dap_session.specs.Stands.{SessionFields, RepresentsSession, Tells, TellsAs, TellsFor, IsLeft}
-use Rattle.dap_session.specs.Stands.{WritesFirst}
+use Rattle.dap_session.specs.Represents.{SessionFields, RepresentsSession, Tells, TellsAs, TellsFor, IsLeft}
+use Rattle.dap_session.specs.Represents.{WritesFirst}
 
 -- ---- want of memory
 
@@ -29,11 +29,11 @@ on_err : {A P Q : Type 0} (r : Result A AllocError) → (P → Q) → OnErr r P 
 on_err (Ok x) f p = p
 on_err (Err lack) f p = f p
 
-abbrev pub write_command : ℕ → Shift → Bytes → Asked
+abbrev pub write_command : ℕ → SignedOffset → Bytes → RequestContent
 write_command address offset bytes = asked.Editor (editor.WriteMemory address offset bytes)
 
 -- a write that is refused, and that would be so of no bytes too
-pub refused_write : (address : ℕ) (offset : Shift) (bytes text : Bytes) (c : Caller) (old new : SessionFields)
+pub refused_write : (address : ℕ) (offset : SignedOffset) (bytes text : Bytes) (c : RequestId) (old new : SessionFields)
     (r : Result (List Message) AllocError)
     → ((xs : Bytes) (s : SessionState) → RepresentsSession old s
     → writing address offset xs s ≡ refusing text s)
@@ -42,29 +42,29 @@ pub refused_write : (address : ℕ) (offset : Shift) (bytes text : Bytes) (c : C
     (λ s. told_in c (turn_of (writing address offset bytes s))) old r
     new
 refused_write address offset bytes text c old new r same takes = (
-  λ s stands.
+  λ s represents.
       let P : Replied → Type 0 = λ t. IfOk r (λ messages. Tells (told_in c (turn_of t)) messages new) in
-      subst P (sym (same bytes s stands)) (takes.0 s stands),
-  on_err r (λ kept s stands.
+      subst P (sym (same bytes s represents)) (takes.0 s represents),
+  on_err r (λ kept s represents.
       let P : Replied → Type 0 = λ t. RepresentsSession new t.state in (
         0,
-        subst P (sym (same (take 0 bytes) s stands))
-            (subst (λ v. RepresentsSession v s) (sym kept) stands),
+        subst P (sym (same (take 0 bytes) s represents))
+            (subst (λ v. RepresentsSession v s) (sym kept) represents),
       )) takes.1,
 )
 
-pub unstopped : (address : ℕ) (offset : Shift) (bytes : Bytes) (s : SessionState)
+pub unstopped : (address : ℕ) (offset : SignedOffset) (bytes : Bytes) (s : SessionState)
     → is_stopped s.board.run ≡ false
     → writing address offset bytes s ≡ refusing (board_refusal NotStopped) s
 unstopped address offset bytes s e = rw e refl
 
-pub nowhere : (address : ℕ) (offset : Shift) (bytes : Bytes) (s : SessionState)
+pub nowhere : (address : ℕ) (offset : SignedOffset) (bytes : Bytes) (s : SessionState)
     → is_stopped s.board.run ≡ true
     → address_at address offset ≡ None
     → writing address offset bytes s ≡ refusing (codes "there is no such address") s
 nowhere address offset bytes s e f = rw (e, f) refl
 
-pub somewhere : (address start : ℕ) (offset : Shift) (bytes : Bytes) (s : SessionState)
+pub somewhere : (address start : ℕ) (offset : SignedOffset) (bytes : Bytes) (s : SessionState)
     → is_stopped s.board.run ≡ true → address_at address offset ≡ Some start
     → writing address offset bytes s ≡ writing_from (Some start) bytes s
 somewhere address start offset bytes s e f = rw (e, f) refl
@@ -79,7 +79,7 @@ taken_twice (suc m) (suc n) [] = refl
 taken_twice (suc m) (suc n) (x ∷ xs) = ap (λ rest. x ∷ rest) (taken_twice m n xs)
 
 -- a write that is done, or of which some bytes are written
-pub done_write : (address start : ℕ) (offset : Shift) (bytes : Bytes) (c : Caller) (old new : SessionFields)
+pub done_write : (address start : ℕ) (offset : SignedOffset) (bytes : Bytes) (c : RequestId) (old new : SessionFields)
     (r : Result (List Message) AllocError)
     → ((s : SessionState) → RepresentsSession old s → is_stopped s.board.run ≡ true)
     → address_at address offset ≡ Some start
@@ -91,21 +91,21 @@ pub done_write : (address start : ℕ) (offset : Shift) (bytes : Bytes) (c : Cal
     (λ s. told_in c (turn_of (writing address offset bytes s))) old r
     new
 done_write address start offset bytes c old new (Ok messages) stopped at made err = (
-  λ s stands.
+  λ s represents.
       let P : Replied → Type 0 = λ t. Tells (told_in c (turn_of t)) messages new in
-      subst P (sym (somewhere address start offset bytes s (stopped s stands) at)) (made s stands),
+      subst P (sym (somewhere address start offset bytes s (stopped s represents) at)) (made s represents),
   tt,
 )
 done_write address start offset bytes c old new (Err lack) stopped at made err = (
-  λ s stands. tt,
-  λ s stands.
-      let some = err s stands in
+  λ s represents. tt,
+  λ s represents.
+      let some = err s represents in
       let k = some.0 in
       let P : Replied → Type 0 = λ t. RepresentsSession new t.state in
       let B : Bytes → Type 0 =
       λ xs. RepresentsSession new (with_board (with_bytes_at start xs s.board) s) in (
         k,
-        subst P (sym (somewhere address start offset (take k bytes) s (stopped s stands) at))
+        subst P (sym (somewhere address start offset (take k bytes) s (stopped s represents) at))
             (subst B (taken_twice k (65536 - start) bytes) some.1),
       ),
 )
@@ -129,18 +129,18 @@ unwritten : (b : Bool) (o : Option ℕ) (s : SessionState)
 unwritten true o s = unwritten_in o s
 unwritten false o s = refl
 
-pub left_same : (a : Asked) (old new : SessionFields) → new ≡ old → IsLeft a old new
-left_same (asked.Editor (editor.WriteMemory address offset bytes)) old new same = λ s stands. (
+pub left_same : (a : RequestContent) (old new : SessionFields) → new ≡ old → IsLeft a old new
+left_same (asked.Editor (editor.WriteMemory address offset bytes)) old new same = λ s represents. (
   0,
   subst (λ t. RepresentsSession new t) (sym (unwritten (is_stopped s.board.run) (address_at address offset)
       s))
-      (subst (λ v. RepresentsSession v s) (sym same) stands),
+      (subst (λ v. RepresentsSession v s) (sym same) represents),
 )
 left_same (asked.Board c) old new same = same
 left_same (asked.Faulty f) old new same = same
 left_same other old new same = same
 
-pub tells_for : (a : Asked) (f : SessionState → Told) (old new : SessionFields)
+pub tells_for : (a : RequestContent) (f : SessionState → Told) (old new : SessionFields)
     (r : Result (List Message) AllocError) → TellsAs f old r new → TellsFor a f old r new
 tells_for a f old new r takes = (takes.0, on_err r (left_same a old new) takes.1)
 

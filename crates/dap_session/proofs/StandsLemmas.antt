@@ -6,7 +6,7 @@ use Rattle.lab_core.specs.declared.fault.EventFault.TheVariants.{OutOfMemory}
 use Rattle.lab_core.specs.declared.run_state.RunState.{RunState}
 use Rattle.lab_core.specs.declared.run_state.RunState.TheVariants.{NoRun, Running, Stopped}
 use Rattle.lab_core.specs.Board.{Board}
-use Rattle.lab_core.specs.Labs.{LabState, RepresentsBoard, Did}
+use Rattle.lab_core.specs.Labs.{LabState, RepresentsBoard, MatchesResult}
 use Rattle.lab_core.specs.SliceEnds.{after_slice}
 use Rattle.dap_answers.specs.declared.answer.Body.{Body}
 use Rattle.dap_board.specs.Commands.{Performed, Performs}
@@ -14,15 +14,15 @@ use Rattle.dap_program.specs.Boards.{RepresentsSomeBoard}
 use Rattle.dap_program.specs.declared.slice.Slice.{Slice}
 use Rattle.dap_program.specs.Slices.{IsSliceOf}
 use Rattle.dap_session.specs.States.{SessionState, is_running, wants_slice}
-use Rattle.dap_session.specs.Stands.{SessionFields, RepresentsSession}
+use Rattle.dap_session.specs.Represents.{SessionFields, RepresentsSession}
 
 -- a command
 pub stands_performed : (f : Board → Performed) (old new : LabState) (r : Result Body EventFault)
     → Performs f old r new → RepresentsSomeBoard old → RepresentsSomeBoard new
-stands_performed f old new (Ok x) done (b, stands) =
-    by (f b) (done.0 b stands (λ (e : Ok x ≡ Err OutOfMemory). cc))
+stands_performed f old new (Ok x) done (b, represents) =
+    by (f b) (done.0 b represents (λ (e : Ok x ≡ Err OutOfMemory). cc))
   where
-    by : (p : Performed) → Did b p (Ok x) new → RepresentsSomeBoard new
+    by : (p : Performed) → MatchesResult b p (Ok x) new → RepresentsSomeBoard new
     by (Ok (x', b')) did = (b', did.1)
     by (Err fault) did = (b, did.1)
 stands_performed f old new (Err fault) done some = subst RepresentsSomeBoard (sym done.1) some
@@ -37,10 +37,10 @@ pub stands_sliced : (old : SessionFields) (lab new : LabState) (wants : Bool) (s
     → lab ≡ old.lab → ((s : SessionState) → RepresentsSession old s → wants ≡ wants_slice s) → wants ≡ true
     → ((b : Board) → RepresentsBoard lab b → b.run ≡ Running → IsSliceOf b slice new)
     → RepresentsSomeBoard lab → RepresentsSomeBoard new
-stands_sliced old lab new wants slice same is so made (b, stands) =
+stands_sliced old lab new wants slice same is so made (b, represents) =
     let s : SessionState = record { board = b; settings = old.settings } in
     let viewed : RepresentsSession old s =
-    record { board = subst (λ l. RepresentsBoard l b) same stands; settings = refl } in
+    record { board = subst (λ l. RepresentsBoard l b) same represents; settings = refl } in
     let running : b.run ≡ Running =
     running_is b.run (not old.settings.waits) (sym (is s viewed) ∙ so) in
-    (after_slice b, (made b stands running).stands)
+    (after_slice b, (made b represents running).represents)

@@ -16,10 +16,10 @@ use Rattle.dap_editor.specs.declared.message.PlacedBreakpoint.{PlacedBreakpoint}
 use Rattle.dap_editor.specs.declared.request.Launch.{Launch as LaunchOf}
 use Rattle.dap_program.specs.declared.load.LoadFault.{LoadFault}
 use Rattle.dap_program.specs.declared.load.LoadFault.TheVariants as fault
-use Rattle.dap_program.specs.declared.messages.Follow.{Follow}
-use Rattle.dap_program.specs.declared.messages.Follow.TheVariants as follow
-use Rattle.dap_program.specs.declared.opening.Occasion.{Occasion}
-use Rattle.dap_program.specs.declared.opening.Occasion.TheVariants.{Launch, Restart}
+use Rattle.dap_program.specs.declared.messages.FollowUp.{FollowUp}
+use Rattle.dap_program.specs.declared.messages.FollowUp.TheVariants as follow
+use Rattle.dap_program.specs.declared.opening.LoadReason.{LoadReason}
+use Rattle.dap_program.specs.declared.opening.LoadReason.TheVariants.{Launch, Restart}
 use Rattle.dap_program.specs.Boards.{begin_run}
 use Rattle.dap_program.specs.Failures.{load_event}
 use Rattle.dap_program.specs.Loading.{load_result}
@@ -61,22 +61,22 @@ begun_has true = refl
 begun_has false = refl
 
 -- this tells of a run that goes on, and of no end
-record GoesOn (d : Shown) (f : Follow) : Type 0 where
+record GoesOn (d : Shown) (f : FollowUp) : Type 0 where
   pub stops : fold shown_after d (as_messages (events_of f)) ≡ unstopped
   pub ends : ends_told (as_messages (events_of f)) ≡ 0
 
-begun_shown : (q : Bool) (f : Follow) (d : Shown) → GoesOn d f
+begun_shown : (q : Bool) (f : FollowUp) (d : Shown) → GoesOn d f
     → fold shown_after d (as_messages (events_of (if q then follow.Stopped Entry else f)))
     ≡ shown_for (run_started q)
 begun_shown true f d goes = refl
 begun_shown false f d goes = goes.stops
 
-begun_ends : (q : Bool) (f : Follow) (d : Shown) → GoesOn d f
+begun_ends : (q : Bool) (f : FollowUp) (d : Shown) → GoesOn d f
     → ends_told (as_messages (events_of (if q then follow.Stopped Entry else f))) ≡ 0
 begun_ends true f d goes = refl
 begun_ends false f d goes = goes.ends
 
-begins : (q : Bool) (f : Follow) (p : Program) (b : Board) (c : Bool) (v : Seen) → b.run ≡ NoRun
+begins : (q : Bool) (f : FollowUp) (p : Program) (b : Board) (c : Bool) (v : Seen) → b.run ≡ NoRun
     → b.is_attached ≡ p.launch.is_debugged → (q ≡ true → p.launch.is_debugged ≡ true) → c ≡ true
     → GoesOn (shown_for v.run) f
     → Follows v (as_messages (events_of (if q then follow.Stopped Entry else f)))
@@ -149,7 +149,7 @@ calm_changed (p ∷ points) = elim (cases_Bool p.is_verified) [
   | inr other ↦ rw other (calm_changed points)
 ]
 
-calm_first : (o : Occasion) → IsCalm (first_events o)
+calm_first : (o : LoadReason) → IsCalm (first_events o)
 calm_first Launch = record { stops = λ d. refl; ends = refl }
 calm_first Restart = calm_none
 
@@ -168,7 +168,7 @@ abbrev put : Program → Board → SessionState → SessionState
 put p b s = with_board b (with_program (Some p) s)
 
 -- and begins where the configuration is done
-follows_started : (c : Bool) (o : Occasion) (l : LaunchOf) (start : ℕ) (text : Text) (s : SessionState)
+follows_started : (c : Bool) (o : LoadReason) (l : LaunchOf) (start : ℕ) (text : Text) (s : SessionState)
     (b : Board)
     → s.settings.is_configured ≡ c → IsReached (seen s) → b.run ≡ NoRun → b.is_attached ≡ l.is_debugged
     → GoesOn (shown_for s.board.run) (going_follow o)
@@ -187,7 +187,7 @@ follows_started false o l start text s b done reached none attached goes = recor
 abbrev pub FollowsTurn : SessionState → Turn → Type 0
 FollowsTurn s t = Follows (seen s) (as_messages t.events) (seen t.state)
 
-follows_installing : (o : Occasion) (l : LaunchOf) (start : ℕ) (text : Text) (b : Board) (s : SessionState)
+follows_installing : (o : LoadReason) (l : LaunchOf) (start : ℕ) (text : Text) (b : Board) (s : SessionState)
     → IsReached (seen s) → b.run ≡ NoRun → b.is_attached ≡ l.is_debugged
     → GoesOn (shown_for s.board.run) (going_follow o)
     → FollowsTurn s (installing o (program_of l start text) b s)
@@ -205,7 +205,7 @@ follows_installing o l start text b s reached none attached goes =
     (follows_started s.settings.is_configured o l start text s board refl reached (run.run ∙ none)
     (run.is_attached ∙ attached) goes)))
 
-follows_loaded : (r : Result (Board × ℕ) LoadFault) (o : Occasion) (l : LaunchOf) (text : Text)
+follows_loaded : (r : Result (Board × ℕ) LoadFault) (o : LoadReason) (l : LaunchOf) (text : Text)
     (s : SessionState)
     → IsReached (seen s) → IsLoaded l r → GoesOn (shown_for s.board.run) (going_follow o)
     → FollowsTurn s (loading_as r o l text s)
@@ -214,7 +214,7 @@ follows_loaded (Ok (b, start)) o l text s reached is goes =
 follows_loaded (Err f) o l text s reached is goes =
     calm_still (option_to_list (load_event l.program f)) (seen s) reached (calm_load l.program f)
 
-follows_text : (t : Result Text Text) (o : Occasion) (l : LaunchOf) (s : SessionState) → IsReached (seen s)
+follows_text : (t : Result Text Text) (o : LoadReason) (l : LaunchOf) (s : SessionState) → IsReached (seen s)
     → GoesOn (shown_for s.board.run) (going_follow o)
     → FollowsTurn s (by_text t s (λ text. loading o l text s))
 follows_text (Ok text) o l s reached goes =

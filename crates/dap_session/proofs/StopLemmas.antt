@@ -26,8 +26,8 @@ use Rattle.dap_talk.specs.declared.command.DapCommand.{DapCommand}
 use Rattle.dap_talk.specs.declared.command.DapCommand.TheVariants as command
 use Rattle.dap_board.specs.Bodies.{body_of}
 use Rattle.dap_board.specs.Commands.{first_line, command_result, board_with, step_request}
-use Rattle.dap_editor.specs.declared.request.Asked.{Asked}
-use Rattle.dap_editor.specs.declared.request.Asked.TheVariants as asked
+use Rattle.dap_editor.specs.declared.request.RequestContent.{RequestContent}
+use Rattle.dap_editor.specs.declared.request.RequestContent.TheVariants as asked
 use Rattle.dap_editor.specs.declared.request.EditorCommand.{EditorCommand}
 use Rattle.dap_editor.specs.declared.request.EditorCommand.TheVariants as editor
 use Rattle.dap_program.specs.Messages.{as_messages}
@@ -102,7 +102,7 @@ goes_editing other s reached = still s s reached refl
 
 -- ---- all requests
 
-follows_asking : (a : Asked) (found : Option FileText) (s : SessionState) → IsReached (seen s)
+follows_asking : (a : RequestContent) (found : Option FileText) (s : SessionState) → IsReached (seen s)
     → FollowsTurn s (asking a found s)
 follows_asking (asked.Editor (editor.Launch l)) found s reached =
     follows_launch s.settings.program l found s refl reached
@@ -114,18 +114,18 @@ follows_asking (asked.Board c) found s reached = (goes_command c s reached).foll
 follows_asking (asked.Faulty f) found s reached = (still s s reached refl).follows
 follows_asking (asked.Editor c) found s reached = (goes_editing c s reached).follows
 
-follows_unless : (o : Option Text) (a : Asked) (found : Option FileText) (s : SessionState)
+follows_unless : (o : Option Text) (a : RequestContent) (found : Option FileText) (s : SessionState)
     → IsReached (seen s)
     → FollowsTurn s (asking_unless o a found s)
 follows_unless (Some text) a found s reached = (still s s reached refl).follows
 follows_unless None a found s reached = follows_asking a found s reached
 
-follows_turn : (a : Asked) (found : Option FileText) (s : SessionState) → IsReached (seen s)
+follows_turn : (a : RequestContent) (found : Option FileText) (s : SessionState) → IsReached (seen s)
     → FollowsTurn s (turn a found s)
 unfolding turn
 follows_turn a found s reached = follows_unless (objection a s) a found s reached
 
-quiet_asking : (a : Asked) (found : Option FileText) (s : SessionState) → IsReached (seen s)
+quiet_asking : (a : RequestContent) (found : Option FileText) (s : SessionState) → IsReached (seen s)
     → is_live s.settings.program ≡ false → asks_to_load a ≡ false → (asking a found s).events ≡ []
 quiet_asking (asked.Editor (editor.Launch l)) found s reached dead is = absurd (true≢false is)
 quiet_asking (asked.Editor editor.Restart) found s reached dead is = absurd (true≢false is)
@@ -135,12 +135,12 @@ quiet_asking (asked.Board c) found s reached dead is = (goes_command c s reached
 quiet_asking (asked.Faulty f) found s reached dead is = refl
 quiet_asking (asked.Editor c) found s reached dead is = (goes_editing c s reached).quiet dead
 
-quiet_unless : (o : Option Text) (a : Asked) (found : Option FileText) (s : SessionState) → IsReached (seen s)
+quiet_unless : (o : Option Text) (a : RequestContent) (found : Option FileText) (s : SessionState) → IsReached (seen s)
     → is_live s.settings.program ≡ false → asks_to_load a ≡ false → (asking_unless o a found s).events ≡ []
 quiet_unless (Some text) a found s reached dead is = refl
 quiet_unless None a found s reached dead is = quiet_asking a found s reached dead is
 
-quiet_turn : (a : Asked) (found : Option FileText) (s : SessionState) → IsReached (seen s)
+quiet_turn : (a : RequestContent) (found : Option FileText) (s : SessionState) → IsReached (seen s)
     → is_live s.settings.program ≡ false → asks_to_load a ≡ false → (turn a found s).events ≡ []
 unfolding turn
 quiet_turn a found s reached dead is = quiet_unless (objection a s) a found s reached dead is

@@ -22,11 +22,11 @@ use Rattle.dap_board.specs.Commands.{command_result, with_body}
 use Rattle.dap_editor.specs.declared.message.EditorStop.TheVariants.{Board as AtBoard}
 use Rattle.dap_editor.specs.declared.request.EvaluateContext.{EvaluateContext}
 use Rattle.dap_editor.specs.declared.request.EvaluateContext.TheVariants as context
-use Rattle.dap_editor.specs.declared.request.Shift.{Shift}
+use Rattle.dap_editor.specs.declared.request.SignedOffset.{SignedOffset}
 use Rattle.dap_inspect.specs.declared.fault.EvaluateFault.{EvaluateFault}
 use Rattle.dap_inspect.specs.Expressions.{expression_text}
 use Rattle.dap_points.specs.Points.{has_place}
-use Rattle.dap_program.specs.declared.messages.Follow.TheVariants as follow
+use Rattle.dap_program.specs.declared.messages.FollowUp.TheVariants as follow
 use Rattle.dap_program.specs.Boards.{after}
 use Rattle.dap_program.specs.Memory.{with_bytes_at}
 use Rattle.dap_program.specs.Messages.{events_of}
@@ -129,7 +129,7 @@ goes_written (Some start) bytes s reached =
     still s (with_board (with_bytes_at start all s.board) s) reached
     (seen_board _ s (kept_written all start s.board))
 
-pub goes_writing : (address : ℕ) (offset : Shift) (bytes : Bytes) (s : SessionState) → IsReached (seen s)
+pub goes_writing : (address : ℕ) (offset : SignedOffset) (bytes : Bytes) (s : SessionState) → IsReached (seen s)
     → GoesBy s (writing address offset bytes s)
 goes_writing address offset bytes s reached =
     goes_either (is_stopped s.board.run) s _ _ (goes_written (address_at address offset) bytes s reached)

@@ -4,9 +4,9 @@ use Rattle.std.specs.Str.{bytes_eq}
 use Rattle.base_text.specs.Bytes.{Text}
 use Rattle.lab_core.specs.Board.{Board}
 use Rattle.dap_editor.specs.declared.message.EditorBody.TheVariants.{Breakpoints}
-use Rattle.dap_points.specs.Points.{PointsState, number_of, has_place, lines_at, with_lines}
+use Rattle.dap_points.specs.Points.{WantedBreakpointsState, number_of, has_place, lines_at, with_lines}
 use Rattle.dap_points.specs.Placed.{line_points}
-use Rattle.dap_program.specs.declared.messages.Follow.TheVariants.{Nothing}
+use Rattle.dap_program.specs.declared.messages.FollowUp.TheVariants.{Nothing}
 use Rattle.dap_program.specs.Breakpoints.{labels_behind, board_armed_at}
 use Rattle.dap_launch.specs.declared.program.Program.{Program}
 use Rattle.dap_session.specs.States.{SessionState, with_board, with_points}
@@ -50,11 +50,11 @@ setting_lines path lines s =
 -- ---- labels
 
 -- the lines of the program that are to have breakpoints
-abbrev pub program_lines : Option Program → PointsState → List ℕ
+abbrev pub program_lines : Option Program → WantedBreakpointsState → List ℕ
 program_lines None p = []
 program_lines (Some program) p = lines_at program.launch.program p.lists
 
-abbrev pub labels_armed : Option Program → List Text → PointsState → Board → Board
+abbrev pub labels_armed : Option Program → List Text → WantedBreakpointsState → Board → Board
 labels_armed None names p b = b
 labels_armed (Some program) names p b =
     board_armed_at program.launch.program (lines_at program.launch.program p.lists) names b

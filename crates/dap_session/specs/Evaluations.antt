@@ -14,7 +14,7 @@ use Rattle.dap_editor.specs.declared.request.EvaluateContext.TheVariants.{Repl, 
 use Rattle.dap_editor.specs.declared.message.EditorBody.TheVariants.{Evaluation}
 use Rattle.dap_inspect.specs.declared.fault.EvaluateFault.{EvaluateFault}
 use Rattle.dap_inspect.specs.Expressions.{expression_text, message_of}
-use Rattle.dap_program.specs.declared.messages.Follow.TheVariants.{Nothing}
+use Rattle.dap_program.specs.declared.messages.FollowUp.TheVariants.{Nothing}
 use Rattle.dap_program.specs.Refusals.{board_refusal}
 use Rattle.dap_session.specs.declared.prompt.PromptCommand.{PromptCommand}
 use Rattle.dap_session.specs.declared.prompt.PromptCommand.TheVariants as prompt

@@ -11,10 +11,10 @@ use Rattle.dap_launch.specs.Files.{text_in}
 use Rattle.dap_launch.specs.Programs.{program_of, pauses, begun_follow, program_lines, program_labels}
 use Rattle.dap_launch.specs.Programs.{program_board}
 use Rattle.dap_program.specs.declared.load.LoadFault.{LoadFault}
-use Rattle.dap_program.specs.declared.messages.Follow.{Follow}
-use Rattle.dap_program.specs.declared.messages.Follow.TheVariants.{Nothing}
-use Rattle.dap_program.specs.declared.opening.Occasion.{Occasion}
-use Rattle.dap_program.specs.declared.opening.Occasion.TheVariants.{Launch, Restart}
+use Rattle.dap_program.specs.declared.messages.FollowUp.{FollowUp}
+use Rattle.dap_program.specs.declared.messages.FollowUp.TheVariants.{Nothing}
+use Rattle.dap_program.specs.declared.opening.LoadReason.{LoadReason}
+use Rattle.dap_program.specs.declared.opening.LoadReason.TheVariants.{Launch, Restart}
 use Rattle.dap_program.specs.Boards.{begin_run}
 use Rattle.dap_program.specs.Failures.{load_refusal, load_event}
 use Rattle.dap_program.specs.Loading.{load_result}
@@ -46,17 +46,17 @@ beginning_where (Some p) s = beginning_in p.phase p s
 abbrev pub begin_if_configured : Program → SessionState → SessionState
 begin_if_configured p s = if s.settings.is_configured then (beginning p s).state else s
 
-abbrev pub started_follow : Occasion → Program → SessionState → Follow
-started_follow occasion p s = if s.settings.is_configured then begun_follow occasion p.launch else Nothing
+abbrev pub started_follow : LoadReason → Program → SessionState → FollowUp
+started_follow cause p s = if s.settings.is_configured then begun_follow cause p.launch else Nothing
 
 -- a loaded program, on its board, takes the place of what was there
-abbrev pub installing : Occasion → Program → Board → SessionState → Turn
-installing occasion p b s =
+abbrev pub installing : LoadReason → Program → Board → SessionState → Turn
+installing cause p b s =
     let kept = s.settings.points in
-    let follow = started_follow occasion p s in
+    let follow = started_follow cause p s in
     record {
       outcome = accepted_outcome;
-      events = opening_events occasion (program_lines p kept) (program_labels p kept b) follow;
+      events = opening_events cause (program_lines p kept) (program_labels p kept b) follow;
       state = begin_if_configured p (with_board (program_board p kept b) (with_program (Some p) s));
     }
 
@@ -67,13 +67,13 @@ failing path f s = record (turn_of (refusing (load_refusal f) s)) {
       option_to_list (load_event path f);
 }
 
-abbrev pub loading_as : Result (Board × ℕ) LoadFault → Occasion → LaunchOf → Text → SessionState → Turn
-loading_as (Ok (b, start)) occasion l text s = installing occasion (program_of l start text) b s
-loading_as (Err f) occasion l text s = failing l.program f s
+abbrev pub loading_as : Result (Board × ℕ) LoadFault → LoadReason → LaunchOf → Text → SessionState → Turn
+loading_as (Ok (b, start)) cause l text s = installing cause (program_of l start text) b s
+loading_as (Err f) cause l text s = failing l.program f s
 
 -- a program's text is loaded
-abbrev pub loading : Occasion → LaunchOf → Text → SessionState → Turn
-loading occasion l text s = loading_as (load_result l text) occasion l text s
+abbrev pub loading : LoadReason → LaunchOf → Text → SessionState → Turn
+loading cause l text s = loading_as (load_result l text) cause l text s
 
 -- unless its file has no text
 abbrev pub by_text : Result Text Text → SessionState → (Text → Turn) → Turn

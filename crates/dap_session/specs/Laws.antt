@@ -13,10 +13,10 @@ use Rattle.dap_editor.specs.declared.message.EditorEvent.TheVariants as event
 use Rattle.dap_editor.specs.declared.message.Message.{Message}
 use Rattle.dap_editor.specs.declared.message.Message.TheVariants as message
 use Rattle.dap_editor.specs.declared.message.OutputCategory.TheVariants.{Stdout}
-use Rattle.dap_editor.specs.declared.request.Asked.{Asked}
-use Rattle.dap_editor.specs.declared.request.Asked.TheVariants as asked
+use Rattle.dap_editor.specs.declared.request.RequestContent.{RequestContent}
+use Rattle.dap_editor.specs.declared.request.RequestContent.TheVariants as asked
 use Rattle.dap_editor.specs.declared.request.EditorCommand.TheVariants as editor
-use Rattle.dap_program.specs.declared.messages.Caller.{Caller}
+use Rattle.dap_program.specs.declared.messages.RequestId.{RequestId}
 use Rattle.lab_core.specs.SliceEnds.{slice_end}
 use Rattle.i80_devs.specs.Console.{written_to_console}
 use Rattle.dap_launch.specs.declared.program.Phase.{Phase}
@@ -28,19 +28,19 @@ use Rattle.dap_session.specs.Slices.{Input, request, slice, caller_of, step}
 -- ---- responses
 
 -- the request that a message answers
-abbrev pub caller_in : Message → Option Caller
+abbrev pub caller_in : Message → Option RequestId
 caller_in (message.Response r) = Some (record { seq = r.request_seq; command = r.command })
 caller_in (message.Event e) = None
 
-abbrev pub callers_answered : List Message → List Caller
+abbrev pub callers_answered : List Message → List RequestId
 callers_answered messages = filter_map caller_in messages
 
 -- the request of an input
-abbrev pub request_in : Input → Option Caller
+abbrev pub request_in : Input → Option RequestId
 request_in (request r found) = Some (caller_of r)
 request_in slice = None
 
-abbrev pub callers_asking : List Input → List Caller
+abbrev pub callers_asking : List Input → List RequestId
 callers_asking inputs = filter_map request_in inputs
 
 -- ---- the console
@@ -129,7 +129,7 @@ abbrev pub events_in : List Message → List EditorEvent
 events_in messages = filter_map event_in messages
 
 -- a request that loads a program
-abbrev pub asks_to_load : Asked → Bool
+abbrev pub asks_to_load : RequestContent → Bool
 asks_to_load (asked.Editor (editor.Launch l)) = true
 asks_to_load (asked.Editor editor.Restart) = true
 asks_to_load other = false

@@ -6,5 +6,5 @@ pub mod Memory
 pub mod Launches
 pub mod Requests
 pub mod Slices
-pub mod Stands
+pub mod Represents
 pub mod Laws

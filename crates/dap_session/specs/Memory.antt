@@ -5,13 +5,13 @@ use Rattle.base_text.specs.Bytes.{Bytes}
 use Rattle.i80_exec.specs.State.{MachineState, modulo_65536}
 use Rattle.lab_views.specs.Code.{lines_from, after_instructions}
 use Rattle.dap_answers.specs.declared.answer.Body.TheVariants.{Instructions}
-use Rattle.dap_editor.specs.declared.request.Shift.{Shift}
-use Rattle.dap_editor.specs.declared.request.Shift.TheVariants.{Forward, Back}
+use Rattle.dap_editor.specs.declared.request.SignedOffset.{SignedOffset}
+use Rattle.dap_editor.specs.declared.request.SignedOffset.TheVariants.{Forward, Back}
 use Rattle.dap_editor.specs.declared.message.EditorBody.{EditorBody}
 use Rattle.dap_editor.specs.declared.message.EditorBody.TheVariants as body
 use Rattle.dap_inspect.specs.Memory.{bytes_from}
 use Rattle.dap_inspect.specs.Instructions.{before_instructions}
-use Rattle.dap_program.specs.declared.messages.Follow.TheVariants.{Nothing}
+use Rattle.dap_program.specs.declared.messages.FollowUp.TheVariants.{Nothing}
 use Rattle.dap_program.specs.Memory.{with_bytes_at}
 use Rattle.dap_program.specs.Refusals.{board_refusal}
 use Rattle.lab_core.specs.declared.fault.EventFault.TheVariants.{NotStopped}
@@ -24,7 +24,7 @@ use Rattle.dap_session.specs.Turns.{Replied, refusing, succeeding}
 -- ---- bytes
 
 -- the address at this distance from another, if there is one
-abbrev pub address_at : ℕ → Shift → Option ℕ
+abbrev pub address_at : ℕ → SignedOffset → Option ℕ
 address_at address (Forward n) = if nat_le (address + n) 65535 then Some (address + n) else None
 address_at address (Back n) = if nat_le n address then Some (address - n) else None
 
@@ -49,7 +49,7 @@ writing_from (Some start) bytes s =
     succeeding (body.Written (length all)) Nothing (with_board (with_bytes_at start all s.board) s)
 
 -- only while a run is stopped
-abbrev pub writing : ℕ → Shift → Bytes → SessionState → Replied
+abbrev pub writing : ℕ → SignedOffset → Bytes → SessionState → Replied
 writing address offset bytes s =
     if is_stopped s.board.run then writing_from (address_at address offset) bytes s
     else refusing (board_refusal NotStopped) s
@@ -57,12 +57,12 @@ writing address offset bytes s =
 -- ---- code
 
 -- the address at this distance from another; addresses wrap
-abbrev pub wrapped_at : ℕ → Shift → ℕ
+abbrev pub wrapped_at : ℕ → SignedOffset → ℕ
 wrapped_at address (Forward n) = modulo_65536 (address + n)
 wrapped_at address (Back n) = modulo_65536 (address + (65536 - n % 65536))
 
 -- the address of the line of code that is so many instructions from an address
-abbrev pub first_line : ℕ → Shift → Board → ℕ
+abbrev pub first_line : ℕ → SignedOffset → Board → ℕ
 first_line address (Forward n) b = after_instructions b.machine address n
 first_line address (Back n) b = before_instructions b address n
 

@@ -9,14 +9,14 @@ use Rattle.dap_talk.specs.declared.command.DapCommand.TheVariants as command
 use Rattle.dap_board.specs.Commands.{Performed, command_result}
 use Rattle.dap_editor.specs.declared.message.EditorBody.TheVariants as body
 use Rattle.dap_editor.specs.declared.message.EditorStop.TheVariants.{Board as AtBoard}
-use Rattle.dap_editor.specs.declared.request.Asked.{Asked}
-use Rattle.dap_editor.specs.declared.request.Asked.TheVariants as asked
+use Rattle.dap_editor.specs.declared.request.RequestContent.{RequestContent}
+use Rattle.dap_editor.specs.declared.request.RequestContent.TheVariants as asked
 use Rattle.dap_editor.specs.declared.request.EditorCommand.{EditorCommand}
 use Rattle.dap_editor.specs.declared.request.EditorCommand.TheVariants as editor
-use Rattle.dap_editor.specs.declared.request.Shift.{Shift}
-use Rattle.dap_editor.specs.declared.request.Shift.TheVariants.{Forward, Back}
-use Rattle.dap_program.specs.declared.messages.Follow.{Follow}
-use Rattle.dap_program.specs.declared.messages.Follow.TheVariants as follow
+use Rattle.dap_editor.specs.declared.request.SignedOffset.{SignedOffset}
+use Rattle.dap_editor.specs.declared.request.SignedOffset.TheVariants.{Forward, Back}
+use Rattle.dap_program.specs.declared.messages.FollowUp.{FollowUp}
+use Rattle.dap_program.specs.declared.messages.FollowUp.TheVariants as follow
 use Rattle.dap_program.specs.Boards.{after}
 use Rattle.dap_program.specs.Refusals.{board_refusal, request_refusal}
 use Rattle.dap_launch.specs.declared.file.FileText.{FileText}
@@ -31,23 +31,23 @@ use Rattle.dap_session.specs.Launches.{beginning_where, launching, restarting}
 -- ---- commands of a board
 
 -- the event behind the response to a command
-abbrev pub follow_of : DapCommand → Follow
+abbrev pub follow_of : DapCommand → FollowUp
 follow_of command.Continue = follow.Continued
 follow_of (command.Step kind granularity) = follow.Continued
 follow_of command.Pause = follow.Stopped (AtBoard ByPause)
 follow_of other = follow.Nothing
 
-abbrev pub board_done : Performed → Follow → SessionState → Replied
+abbrev pub board_done : Performed → FollowUp → SessionState → Replied
 board_done (Ok (b, board)) f s = succeeding (body.Board b) f (with_board board s)
 board_done (Err fault) f s = refusing (board_refusal fault) s
 
-abbrev pub performing : DapCommand → Follow → SessionState → Replied
+abbrev pub performing : DapCommand → FollowUp → SessionState → Replied
 performing c f s = board_done (command_result c s.board) f s
 
 -- ---- the end of a program
 
 -- the events behind the response to a request that ends it
-abbrev pub end_follow : SessionState → Follow
+abbrev pub end_follow : SessionState → FollowUp
 end_follow s = if is_live s.settings.program then follow.Ended else follow.Nothing
 
 abbrev pub and_ended : Replied → Replied
@@ -81,11 +81,11 @@ disconnecting s = accepting follow.Nothing (record s { settings = record s.setti
 
 -- ---- requests that change nothing
 
-abbrev pub reading : ℕ → Shift → ℕ → SessionState → Replied
+abbrev pub reading : ℕ → SignedOffset → ℕ → SessionState → Replied
 reading address offset count s =
     succeeding (memory_at (address_at address offset) address count s.board.machine) follow.Nothing s
 
-abbrev pub disassembling : ℕ → Shift → Shift → ℕ → SessionState → Replied
+abbrev pub disassembling : ℕ → SignedOffset → SignedOffset → ℕ → SessionState → Replied
 disassembling address offset instruction_offset count s =
     let start = first_line (wrapped_at address offset) instruction_offset s.board in
     succeeding (code_at start count s.board) follow.Nothing s
@@ -118,7 +118,7 @@ editing (editor.Disassemble address offset instruction_offset count) s =
 editing editor.LoadedSources s = succeeding (body.Sources (sources s.settings.program)) follow.Nothing s
 editing other s = refusing (codes "unknown command") s
 
-abbrev pub replying : Asked → SessionState → Replied
+abbrev pub replying : RequestContent → SessionState → Replied
 replying (asked.Board c) s = commanding c s
 replying (asked.Editor c) s = editing c s
 replying (asked.Faulty f) s = refusing (request_refusal f) s
@@ -126,7 +126,7 @@ replying (asked.Faulty f) s = refusing (request_refusal f) s
 -- ---- objections
 
 -- a request that may come before `initialize`
-abbrev pub opens : Asked → Bool
+abbrev pub opens : RequestContent → Bool
 opens (asked.Board command.Initialize) = true
 opens (asked.Board command.Disconnect) = true
 opens (asked.Faulty f) = true
@@ -136,7 +136,7 @@ opens other = false
 abbrev pub is_few : ℕ → Bool
 is_few count = nat_le 1 count && nat_le count 1024
 
-abbrev pub is_near : Shift → Bool
+abbrev pub is_near : SignedOffset → Bool
 is_near (Forward n) = nat_le n 65535
 is_near (Back n) = nat_le n 65536
 
@@ -145,28 +145,28 @@ is_command_bounded (command.SetBreakpoints path lines) = nat_le (length lines) 2
 is_command_bounded (command.Disassemble address offset instruction_offset count) = is_few count
 is_command_bounded other = true
 
-abbrev pub is_bounded : Asked → Bool
+abbrev pub is_bounded : RequestContent → Bool
 is_bounded (asked.Board c) = is_command_bounded c
 is_bounded (asked.Editor (editor.SetFunctionBreakpoints names)) = nat_le (length names) 256
 is_bounded (asked.Editor (editor.Disassemble address offset instruction_offset count)) =
     is_near instruction_offset && is_few count
 is_bounded other = true
 
-abbrev pub objection : Asked → SessionState → Option Text
+abbrev pub objection : RequestContent → SessionState → Option Text
 objection a s =
     if not (s.settings.is_initialized || opens a) then Some (codes "not initialized") else
     if not (is_bounded a) then Some (codes "bad arguments") else None
 
 -- ---- a request
 
-abbrev pub asking : Asked → Option FileText → SessionState → Turn
+abbrev pub asking : RequestContent → Option FileText → SessionState → Turn
 asking (asked.Editor (editor.Launch l)) found s = launching l found s
 asking (asked.Editor editor.Restart) found s = restarting found s
 asking (asked.Editor (editor.WriteMemory address offset bytes)) found s =
     turn_of (writing address offset bytes s)
 asking other found s = turn_of (replying other s)
 
-abbrev pub asking_unless : Option Text → Asked → Option FileText → SessionState → Turn
+abbrev pub asking_unless : Option Text → RequestContent → Option FileText → SessionState → Turn
 asking_unless (Some text) a found s = turn_of (refusing text s)
 asking_unless None a found s = asking a found s
 
@@ -175,12 +175,12 @@ abbrev pub and_tried : Turn → Turn
 and_tried t = record t { state = with_waits false t.state }
 
 -- a request; `found` is what was found at the path that it needs
-unfoldable pub turn : Asked → Option FileText → SessionState → Turn
+unfoldable pub turn : RequestContent → Option FileText → SessionState → Turn
 turn a found s = and_tried (asking_unless (objection a s) a found s)
 
 -- ---- the path whose text a request needs
 
-abbrev pub wanted_file : Asked → SessionState → Option Text
+abbrev pub wanted_file : RequestContent → SessionState → Option Text
 wanted_file (asked.Editor (editor.Launch l)) s = Some l.program
 wanted_file (asked.Editor editor.Restart) s = option_map path_of s.settings.program
 wanted_file other s = None

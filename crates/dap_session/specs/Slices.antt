@@ -5,7 +5,7 @@ use Rattle.lab_core.specs.declared.answer.SliceOutcome.TheVariants as outcome
 use Rattle.lab_core.specs.Slices.{traffic_of, after_steps, left_by}
 use Rattle.dap_editor.specs.declared.message.Message.{Message}
 use Rattle.dap_editor.specs.declared.request.EditorRequest.{EditorRequest}
-use Rattle.dap_program.specs.declared.messages.Caller.{Caller}
+use Rattle.dap_program.specs.declared.messages.RequestId.{RequestId}
 use Rattle.dap_program.specs.Messages.{as_messages, turn_messages}
 use Rattle.lab_core.specs.SliceEnds.{slice_end}
 use Rattle.dap_program.specs.Slices.{slice_events}
@@ -44,13 +44,13 @@ slice_told s = if wants_slice s then slicing (slice_end s.board) s else record {
 
 -- ---- a request
 
-abbrev pub caller_of : EditorRequest → Caller
+abbrev pub caller_of : EditorRequest → RequestId
 caller_of r = record { seq = r.seq; command = r.command }
 
-abbrev pub told_by : Caller → Turn → List Message
+abbrev pub told_by : RequestId → Turn → List Message
 told_by c t = turn_messages c t.outcome t.events
 
-abbrev pub told_in : Caller → Turn → Told
+abbrev pub told_in : RequestId → Turn → Told
 told_in c t = record { messages = told_by c t; state = t.state }
 
 abbrev pub request_told : EditorRequest → Option FileText → SessionState → Told

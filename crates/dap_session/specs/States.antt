@@ -3,7 +3,7 @@ use Rattle.std.specs.Prelude.{Bool, true, false, not, ◌&&◌, Option, Some, No
 use Rattle.lab_core.specs.declared.run_state.RunState.{RunState}
 use Rattle.lab_core.specs.declared.run_state.RunState.TheVariants.{NoRun, Running, Stopped}
 use Rattle.lab_core.specs.Board.{Board, opening}
-use Rattle.dap_points.specs.Points.{PointsState, no_points}
+use Rattle.dap_points.specs.Points.{WantedBreakpointsState, no_points}
 use Rattle.dap_launch.specs.declared.program.Phase.{Phase}
 use Rattle.dap_launch.specs.declared.program.Phase.TheVariants as phase
 use Rattle.dap_launch.specs.declared.program.Program.{Program}
@@ -33,7 +33,7 @@ with_board b s = record s { board = b }
 abbrev pub with_program : Option Program → SessionState → SessionState
 with_program p s = record s { settings = record s.settings { program = p } }
 
-abbrev pub with_points : PointsState → SessionState → SessionState
+abbrev pub with_points : WantedBreakpointsState → SessionState → SessionState
 with_points p s = record s { settings = record s.settings { points = p } }
 
 abbrev pub with_waits : Bool → SessionState → SessionState

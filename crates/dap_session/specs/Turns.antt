@@ -7,8 +7,8 @@ use Rattle.dap_editor.specs.declared.message.EditorBody.TheVariants as body
 use Rattle.dap_editor.specs.declared.message.EditorEvent.{EditorEvent}
 use Rattle.dap_editor.specs.declared.message.EditorOutcome.{EditorOutcome}
 use Rattle.dap_editor.specs.declared.message.EditorOutcome.TheVariants as outcome
-use Rattle.dap_program.specs.declared.messages.Follow.{Follow}
-use Rattle.dap_program.specs.declared.messages.Follow.TheVariants.{Nothing}
+use Rattle.dap_program.specs.declared.messages.FollowUp.{FollowUp}
+use Rattle.dap_program.specs.declared.messages.FollowUp.TheVariants.{Nothing}
 use Rattle.dap_program.specs.Messages.{events_of}
 use Rattle.dap_session.specs.States.{SessionState}
 
@@ -20,7 +20,7 @@ pub record Turn : Type 0 where
 -- for most requests: `follow` says which events come behind the response
 pub record Replied : Type 0 where
   pub outcome : EditorOutcome
-  pub follow : Follow
+  pub follow : FollowUp
   pub state : SessionState
 
 abbrev pub turn_of : Replied → Turn
@@ -29,9 +29,9 @@ turn_of r = record { outcome = r.outcome; events = events_of r.follow; state = r
 abbrev pub refusing : Text → SessionState → Replied
 refusing text s = record { outcome = outcome.Refused text; follow = Nothing; state = s }
 
-abbrev pub succeeding : EditorBody → Follow → SessionState → Replied
+abbrev pub succeeding : EditorBody → FollowUp → SessionState → Replied
 succeeding body follow s = record { outcome = outcome.Success body; follow = follow; state = s }
 
 -- a success with an empty body
-abbrev pub accepting : Follow → SessionState → Replied
+abbrev pub accepting : FollowUp → SessionState → Replied
 accepting follow s = succeeding (body.Board board.Empty) follow s

@@ -1,7 +1,7 @@
 //! Laws of the definitions: what holds of every session.
 ghost use Rattle.std.specs.Prelude.{◌≡◌, ◌∷◌, List, Option};
 ghost use Rattle.base_text.specs.Bytes.{Text};
-ghost use Rattle.dap_editor.specs.declared.request.Asked.TheVariants as asked;
+ghost use Rattle.dap_editor.specs.declared.request.RequestContent.TheVariants as asked;
 ghost use Rattle.dap_editor.specs.declared.request.EditorCommand.TheVariants as editor;
 ghost use Rattle.dap_editor.specs.declared.request.EditorRequest.{EditorRequest};
 ghost use Rattle.dap_editor.specs.declared.request.EvaluateContext.TheVariants as context;

@@ -3,7 +3,7 @@ ghost use Rattle.std.specs.Prelude.{◌≡◌, IfOk};
 
 use dap_answers::answer::Body;
 use dap_editor::message::{EditorBody, EditorOutcome};
-use dap_program::messages::Follow;
+use dap_program::messages::FollowUp;
 use dap_program::refusals::refused;
 use std::alloc::{AllocError, Global};
 
@@ -11,21 +11,21 @@ use std::alloc::{AllocError, Global};
 #[derive(Drop)]
 pub struct Reply {
     pub outcome: EditorOutcome,
-    pub follow: Follow,
+    pub follow: FollowUp,
 }
 
 pub(crate) fn refuse(alloc: Global, text: &str) -> Result<Reply, AllocError>
     ensures { IfOk result (λ reply. reply
-        ≡ record { outcome = EditorOutcome.Refused text.now; follow = Follow.Nothing }) }
+        ≡ record { outcome = EditorOutcome.Refused text.now; follow = FollowUp.Nothing }) }
 {
     let outcome = refused(alloc, text)?;
     Ok(Reply {
         outcome,
-        follow: Follow::Nothing,
+        follow: FollowUp::Nothing,
     })
 }
 
-pub(crate) fn succeed(body: EditorBody, follow: Follow) -> Reply
+pub(crate) fn succeed(body: EditorBody, follow: FollowUp) -> Reply
     ensures { result ≡ record { outcome = EditorOutcome.Success body; follow = follow } }
 {
     Reply {
@@ -35,7 +35,7 @@ pub(crate) fn succeed(body: EditorBody, follow: Follow) -> Reply
 }
 
 // A success with an empty body.
-pub(crate) fn accept(follow: Follow) -> Reply
+pub(crate) fn accept(follow: FollowUp) -> Reply
     ensures { result ≡ record {
       outcome = EditorOutcome.Success (EditorBody.Board Body.Empty);
       follow = follow;

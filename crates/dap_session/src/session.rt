@@ -6,7 +6,7 @@ ghost use Rattle.dap_session.specs.Turns.{turn_of, refusing};
 ghost use Rattle.dap_session.specs.Requests as requests;
 ghost use Rattle.dap_session.specs.Requests.{turn, asking, asking_unless, objection, is_bounded, replying};
 ghost use Rattle.dap_session.specs.Slices.{told_in, request_told};
-ghost use Rattle.dap_session.specs.Stands.{RepresentsSession, RepliesAs, TellsAs, TellsFor};
+ghost use Rattle.dap_session.specs.Represents.{RepresentsSession, RepliesAs, TellsAs, TellsFor};
 
 mod breakpoints;
 mod evaluations;
@@ -19,10 +19,10 @@ use crate::reply::{Reply, refuse};
 use crate::settings::SessionSettings;
 use base_text::sequence::Sequence;
 use dap_editor::message::Message;
-use dap_editor::request::{Asked, EditorCommand, EditorRequest};
+use dap_editor::request::{EditorCommand, EditorRequest, RequestContent};
 use dap_launch::file::FileText;
-use dap_points::points::Points;
-use dap_program::messages::{Caller, Messages};
+use dap_points::points::WantedBreakpoints;
+use dap_program::messages::{Messages, RequestId};
 use lab_core::lab::Lab;
 use lab_core::run_state::RunState;
 use std::alloc::{AllocError, Global};
@@ -46,7 +46,7 @@ impl Drop for Session {
 
 impl Model for Session {
     ghost use Rattle.dap_program.specs.Boards.{RepresentsSomeBoard};
-    ghost use Rattle.dap_session.specs.Stands.{SessionFields};
+    ghost use Rattle.dap_session.specs.Represents.{SessionFields};
 
     ghost Value = { SessionFields };
 
@@ -60,7 +60,7 @@ impl Session {
     pub fn new(alloc: Global) -> Result<Session, AllocError>
         ensures { IfOk result (λ session. RepresentsSession session session_before_requests) }
     {
-        let points = Points::new(alloc)?;
+        let points = WantedBreakpoints::new(alloc)?;
         let lab = Lab::new(alloc)?;
         Ok(Session {
             lab,
@@ -91,7 +91,7 @@ impl Session {
             command,
             asked,
         } = request;
-        let caller = Caller { seq, command };
+        let caller = RequestId { seq, command };
         let result = self.take_turn(alloc, caller, &asked, &file);
         drop(asked);
         drop(file);
@@ -103,8 +103,8 @@ impl Session {
     fn take_turn(
         &mut self,
         alloc: Global,
-        caller: Caller,
-        asked: &Asked,
+        caller: RequestId,
+        asked: &RequestContent,
         file: &Option<FileText>,
     ) -> Result<Sequence<Message>, AllocError>
         ensures { TellsFor asked.now (λ s. told_in caller
@@ -120,8 +120,8 @@ impl Session {
     fn answer_unless(
         &mut self,
         alloc: Global,
-        caller: Caller,
-        asked: &Asked,
+        caller: RequestId,
+        asked: &RequestContent,
         file: &Option<FileText>,
     ) -> Result<Sequence<Message>, AllocError>
         ensures { TellsFor asked.now (λ s. told_in caller
@@ -138,7 +138,7 @@ impl Session {
     fn refuse(
         &mut self,
         alloc: Global,
-        caller: Caller,
+        caller: RequestId,
         text: &str,
     ) -> Result<Sequence<Message>, AllocError>
         ensures { TellsAs (λ s. told_in caller (turn_of (refusing text.now s))) self.old result self.new }
@@ -161,8 +161,8 @@ impl Session {
     fn answer(
         &mut self,
         alloc: Global,
-        caller: Caller,
-        asked: &Asked,
+        caller: RequestId,
+        asked: &RequestContent,
         file: &Option<FileText>,
     ) -> Result<Sequence<Message>, AllocError>
         requires { is_bounded asked.now ≡ true }
@@ -170,11 +170,11 @@ impl Session {
             (asking asked.now file.now s)) self.old result self.new }
     {
         match asked {
-            Asked::Editor(EditorCommand::Launch(launch)) => self.launch(
+            RequestContent::Editor(EditorCommand::Launch(launch)) => self.launch(
                 alloc, caller, launch, file,
             ),
-            Asked::Editor(EditorCommand::Restart) => self.restart(alloc, caller, file),
-            Asked::Editor(
+            RequestContent::Editor(EditorCommand::Restart) => self.restart(alloc, caller, file),
+            RequestContent::Editor(
                 EditorCommand::WriteMemory {
                     address,
                     offset,
@@ -189,8 +189,8 @@ impl Session {
     fn reply_to(
         &mut self,
         alloc: Global,
-        caller: Caller,
-        asked: &Asked,
+        caller: RequestId,
+        asked: &RequestContent,
     ) -> Result<Sequence<Message>, AllocError>
         requires { is_bounded asked.now ≡ true }
         ensures { TellsAs (λ s. told_in caller (turn_of (replying asked.now s))) self.old result self.new }
@@ -217,8 +217,8 @@ impl Session {
             → option_map (λ path. path.now) result ≡ requests.wanted_file request.now.asked s }
     {
         match &request.asked {
-            Asked::Editor(EditorCommand::Launch(launch)) => Some(launch.program.as_str()),
-            Asked::Editor(EditorCommand::Restart) => {
+            RequestContent::Editor(EditorCommand::Launch(launch)) => Some(launch.program.as_str()),
+            RequestContent::Editor(EditorCommand::Restart) => {
                 let program = self.settings.program.as_ref()?;
                 Some(program.launch.program.as_str())
             }

@@ -1,14 +1,14 @@
 //! What an editor asked for so far.
 
 use dap_launch::program::Program;
-use dap_points::points::Points;
+use dap_points::points::WantedBreakpoints;
 
 /// What an editor asked for so far, and whether its run waits.
 pub struct SessionSettings {
     pub is_initialized: bool,
     pub is_configured: bool,
     pub program: Option<Program>,
-    pub points: Points,
+    pub points: WantedBreakpoints,
     /// The last slice ended where the run waits for a button, and no request has come since.
     pub waits: bool,
     /// A `disconnect` was answered.

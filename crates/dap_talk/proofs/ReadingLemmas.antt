@@ -4,8 +4,8 @@ use Rattle.serde_json.specs.Data.{Data}
 use Rattle.dap_talk.specs.declared.command.CommandName.{CommandName}
 use Rattle.dap_talk.specs.declared.command.DapCommand.{DapCommand}
 use Rattle.dap_talk.specs.declared.command.DapCommand.TheVariants.{Step}
-use Rattle.dap_talk.specs.declared.command.StepKind.{StepKind}
-use Rattle.dap_talk.specs.declared.command.StepKind.TheVariants.{Over, In, Out}
+use Rattle.lab_shown.specs.declared.step.StepKind.{StepKind}
+use Rattle.lab_shown.specs.declared.step.StepKind.TheVariants.{Over, In, Out}
 use Rattle.dap_talk.specs.Argument.{all_found}
 use Rattle.dap_talk.specs.Table.{granularity_or_line, granularity_in, nth, step_name, command_named}
 use Rattle.dap_talk.specs.Table.{command_asked}

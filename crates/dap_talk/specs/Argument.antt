@@ -22,8 +22,8 @@ use Rattle.base_text.specs.Hexadecimal.{word_spelled}
 use Rattle.serde_json.specs.Data.{Data, Items, no_items, item}
 use Rattle.serde_json.specs.Events.{items_len}
 use Rattle.serde_json.specs.Find.{get, get_member, as_number, as_u64, as_str, as_bool, as_array, as_object}
-use Rattle.dap_talk.specs.declared.command.Granularity.{Granularity}
-use Rattle.dap_talk.specs.declared.command.Granularity.TheVariants.{Line, Instruction}
+use Rattle.lab_shown.specs.declared.step.Granularity.{Granularity}
+use Rattle.lab_shown.specs.declared.step.Granularity.TheVariants.{Line, Instruction}
 
 -- what an argument must be
 pub data Kind : Type 0 where

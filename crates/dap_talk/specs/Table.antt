@@ -19,10 +19,10 @@ use Rattle.std.specs.Prelude.{
 use Rattle.std.specs.Str.{bytes_eq}
 use Rattle.base_text.specs.Bytes.{Text}
 use Rattle.serde_json.specs.Data.{Data}
-use Rattle.dap_talk.specs.declared.command.Granularity.{Granularity}
-use Rattle.dap_talk.specs.declared.command.Granularity.TheVariants.{Line}
-use Rattle.dap_talk.specs.declared.command.StepKind.{StepKind}
-use Rattle.dap_talk.specs.declared.command.StepKind.TheVariants.{Over, In, Out}
+use Rattle.lab_shown.specs.declared.step.Granularity.{Granularity}
+use Rattle.lab_shown.specs.declared.step.Granularity.TheVariants.{Line}
+use Rattle.lab_shown.specs.declared.step.StepKind.{StepKind}
+use Rattle.lab_shown.specs.declared.step.StepKind.TheVariants.{Over, In, Out}
 use Rattle.dap_talk.specs.declared.command.CommandName.{CommandName}
 use Rattle.dap_talk.specs.declared.command.CommandName.TheVariants as name
 use Rattle.dap_talk.specs.declared.command.DapCommand.{DapCommand}

@@ -10,10 +10,10 @@ ghost use Rattle.dap_talk.specs.Argument.{address_of, argument_at, argument_valu
 ghost use Rattle.dap_talk.specs.Table.{byte, count_to_256, number_or_0, breakpoints_or_none};
 ghost use Rattle.dap_talk.specs.Table.{granularity_or_line};
 
-use crate::command::Granularity;
 use crate::members::{self, member_at};
 use base_text::hexadecimal::read_word;
 use base_text::sequence::Sequence;
+use lab_shown::step::Granularity;
 use serde_json::Value;
 use std::alloc::{AllocError, Global};
 

@@ -1,9 +1,10 @@
 //! Typed requests.
 ghost use Rattle.std.specs.Prelude.{◌≡◌, IfSome};
-ghost use Rattle.dap_talk.specs.Table.{spelling_of, first_named};
+ghost use Rattle.dap_talk.specs.Table.{spelling_of, first_named, step_name};
 
 use base_text::sequence::Sequence;
 use base_text::text::Text;
+use lab_shown::step::{Granularity, StepKind};
 
 /// The commands of debug requests.
 #[derive(Clone, Copy, PartialEq, Eq)]
@@ -35,33 +36,14 @@ pub enum CommandName {
     BoardAliases,
 }
 
-/// The unit of a step: a line of a cell, or an instruction.
-#[derive(Clone, Copy)]
-pub enum Granularity {
-    Line,
-    Instruction,
-}
-
-/// How far a step goes.
-#[derive(Clone, Copy)]
-pub enum StepKind {
-    Over,
-    In,
-    Out,
-}
-
-impl StepKind {
-    ghost use Rattle.dap_talk.specs.Table.{step_name};
-
-    /// The name of the command for this kind of step.
-    pub fn name(self) -> CommandName
-        ensures { result ≡ step_name self }
-    {
-        match self {
-            StepKind::Over => CommandName::Next,
-            StepKind::In => CommandName::StepIn,
-            StepKind::Out => CommandName::StepOut,
-        }
+// The name of the command for this kind of step.
+fn step_name(kind: StepKind) -> CommandName
+    ensures { result ≡ step_name kind }
+{
+    match kind {
+        StepKind::Over => CommandName::Next,
+        StepKind::In => CommandName::StepIn,
+        StepKind::Out => CommandName::StepOut,
     }
 }
 
@@ -175,7 +157,7 @@ impl DapCommand {
             DapCommand::Variables { .. } => CommandName::Variables,
             DapCommand::SetVariable { .. } => CommandName::SetVariable,
             DapCommand::Continue => CommandName::Continue,
-            DapCommand::Step { kind, .. } => kind.name(),
+            DapCommand::Step { kind, .. } => step_name(*kind),
             DapCommand::Pause => CommandName::Pause,
             DapCommand::Disassemble { .. } => CommandName::Disassemble,
             DapCommand::Source { .. } => CommandName::Source,

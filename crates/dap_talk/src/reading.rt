@@ -9,10 +9,11 @@ use crate::arguments::{
     ArgumentFault, address_at, breakpoints_or_none, byte_at, count_at, granularity_or_line,
     lines_of, number_at, number_or_0, source_at, text_at, truth_at, whole_between,
 };
-use crate::command::{CommandName, DapCommand, DapRequest, StepKind};
+use crate::command::{CommandName, DapCommand, DapRequest};
 use crate::fault::DapFault;
 use crate::members;
 use base_text::text::Text;
+use lab_shown::step::StepKind;
 use serde_json::Value;
 use std::alloc::Global;
 

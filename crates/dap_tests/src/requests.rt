@@ -2,9 +2,10 @@
 use base_text::text::Text;
 use dap_answers::refusal;
 use dap_answers::sending::response;
-use dap_talk::command::{CommandName, DapCommand, DapRequest, Granularity};
+use dap_talk::command::{CommandName, DapCommand, DapRequest};
 use dap_talk::fault::DapFault;
 use dap_talk::reading::read_request;
+use lab_shown::step::Granularity;
 use serde_json::Value;
 use std::alloc::{AllocError, Global};
 use std::process::Abort;

@@ -91,5 +91,5 @@ panel_more past o = set_after past o ∙ set_next (panel_after past) o
 -- a panel that is the next one is what one more operation makes of the past
 pub next_after : (o : Operation) (old new : PanelState) (past : List Operation)
     → new ≡ panel_next old o → old ≡ panel_after past → new ≡ panel_after (past ++ o ∷ [])
-next_after o old new past next stands =
-    next ∙ ap (λ (p : PanelState). panel_next p o) stands ∙ sym (panel_more past o)
+next_after o old new past next represents =
+    next ∙ ap (λ (p : PanelState). panel_next p o) represents ∙ sym (panel_more past o)

@@ -12,7 +12,7 @@ use Rattle.dap_answers.specs.declared.answer.Outcome.TheVariants.{Success, Refus
 use Rattle.lab_core.specs.declared.fault.EventFault.{EventFault}
 use Rattle.lab_core.specs.declared.fault.EventFault.TheVariants.{OutOfMemory}
 use Rattle.lab_core.specs.Board.{Board}
-use Rattle.lab_core.specs.Labs.{LabState, RepresentsBoard, Did, Does}
+use Rattle.lab_core.specs.Labs.{LabState, RepresentsBoard, MatchesResult, CarriesOut}
 use Rattle.dap_board.specs.Names.{event_after}
 use Rattle.kern_post.specs.declared.post.Letter.{Letter}
 use Rattle.kern_post.specs.Posts.{StoreState, Keeps, with_posts}
@@ -24,7 +24,7 @@ use Rattle.kern_core.specs.declared.call.Reply.TheVariants.{Arrived}
 use Rattle.kern_core.specs.States.{KernelState, Turn, after, posting}
 use Rattle.kern_core.specs.Requests.{is_reset, cut_letters, cut_work, with_board, debug_reply}
 use Rattle.kern_core.specs.Requests.{after_letter, performed_letters, refusing, answering, performing}
-use Rattle.kern_core.specs.Stands.{KernelFields, RepresentsKernel}
+use Rattle.kern_core.specs.Represents.{KernelFields, RepresentsKernel}
 
 abbrev request_with : ℕ → DapCommand → DapRequest
 request_with seq c = record { seq = seq; command = c }
@@ -60,15 +60,15 @@ told_stands : (n : ℕ) (r : Request) (d : DapRequest) (unix_seconds : ℕ) (s :
     → HasArrived (posting Arrived unix_seconds (between_busy_and_idle s.connections r.header told)
     (with_board b s.work s))
     (record old { lab = lab; store = store })
-told_stands n r d unix_seconds s old lab store b told letters stands board are kept =
+told_stands n r d unix_seconds s old lab store b told letters represents board are kept =
     let P : List Letter → Type 0 = λ ls. Keeps (with_posts unix_seconds ls s.posts) store in (
       refl,
       record {
         board = board;
-        connections = stands.connections;
-        work = stands.work;
+        connections = represents.connections;
+        work = represents.work;
         posts = subst P are kept;
-        is_shut = stands.is_shut;
+        is_shut = represents.is_shut;
       },
     )
 
@@ -78,40 +78,40 @@ pub refused_stands : (n : ℕ) (r : Request) (d : DapRequest) (unix_seconds : �
     → letters ≡ between_busy_and_idle s.connections r.header (debug_reply n r d (Refused message) ∷ [])
     → Keeps (with_posts unix_seconds letters s.posts) store
     → HasArrived (refusing n r d message unix_seconds s) (record old { store = store })
-refused_stands n r d unix_seconds s old store message letters stands are kept =
+refused_stands n r d unix_seconds s old store message letters represents are kept =
     told_stands n r d unix_seconds s old old.lab store s.board (debug_reply n r d (Refused message) ∷ [])
-    letters stands stands.board are kept
+    letters represents represents.board are kept
 
 by_performed : (g : Result (Body × Board) EventFault) (n : ℕ) (r : Request) (d : DapRequest)
     (unix_seconds : ℕ) (s : KernelState) (old : KernelFields) (lab : LabState) (store : StoreState)
     (res : Result Body EventFault) (letters : List Letter)
-    → RepresentsKernel old s → is_reset d.command ≡ false → Did s.board g res lab
+    → RepresentsKernel old s → is_reset d.command ≡ false → MatchesResult s.board g res lab
     → letters ≡ between_busy_and_idle s.connections r.header
     (performed_letters res (after_letter (event_after d.command) r s) n r d)
     → Keeps (with_posts unix_seconds letters s.posts) store
     → HasArrived (answering n r d unix_seconds s g) (record old { lab = lab; store = store })
-by_performed (Ok (body, b)) n r d unix_seconds s old lab store res letters stands other did are kept =
+by_performed (Ok (body, b)) n r d unix_seconds s old lab store res letters represents other did are kept =
     let after = after_letter (event_after d.command) r s in
     let L : Result Body EventFault → List Letter =
     λ x. between_busy_and_idle s.connections r.header (performed_letters x after n r d) in
     rw other (told_stands n r d unix_seconds s old lab store b (performed_letters (Ok body) after n r d)
-    letters stands did.1 (are ∙ ap L did.0) kept)
-by_performed (Err fault) n r d unix_seconds s old lab store res letters stands other did are kept =
+    letters represents did.1 (are ∙ ap L did.0) kept)
+by_performed (Err fault) n r d unix_seconds s old lab store res letters represents other did are kept =
     let after = after_letter (event_after d.command) r s in
     let L : Result Body EventFault → List Letter =
     λ x. between_busy_and_idle s.connections r.header (performed_letters x after n r d) in
     told_stands n r d unix_seconds s old lab store s.board (performed_letters (Err fault) after n r d) letters
-    stands did.1 (are ∙ ap L did.0) kept
+    represents did.1 (are ∙ ap L did.0) kept
 
 pub performed_stands : (n : ℕ) (r : Request) (d : DapRequest) (unix_seconds : ℕ) (s : KernelState)
     (old : KernelFields) (lab : LabState) (store : StoreState) (res : Result Body EventFault)
     (letters : List Letter)
-    → RepresentsKernel old s → is_reset d.command ≡ false → Does (command_result d.command) old.lab res lab
+    → RepresentsKernel old s → is_reset d.command ≡ false → CarriesOut (command_result d.command) old.lab res lab
     → res ≢ Err OutOfMemory
     → letters ≡ between_busy_and_idle s.connections r.header
     (performed_letters res (after_letter (event_after d.command) r s) n r d)
     → Keeps (with_posts unix_seconds letters s.posts) store
     → HasArrived (performing n r d unix_seconds s) (record old { lab = lab; store = store })
-performed_stands n r d unix_seconds s old lab store res letters stands other does want are kept =
-    by_performed (command_result d.command s.board) n r d unix_seconds s old lab store res letters stands
-    other (does s.board stands.board want) are kept
+performed_stands n r d unix_seconds s old lab store res letters represents other does want are kept =
+    by_performed (command_result d.command s.board) n r d unix_seconds s old lab store res letters represents
+    other (does s.board represents.board want) are kept

@@ -9,7 +9,7 @@ use Rattle.kern_core.specs.declared.fault.KernelFault.{KernelFault}
 use Rattle.kern_core.specs.declared.fault.KernelFault.TheVariants.{OutOfMemory}
 use Rattle.kern_core.specs.States.{kernel_before_calls, after}
 use Rattle.kern_core.specs.Turns.{turn, next, state_after}
-use Rattle.kern_core.specs.Stands.{KernelFields, RepresentsKernel, TakesTurn}
+use Rattle.kern_core.specs.Represents.{KernelFields, RepresentsKernel, TakesTurn}
 use Rattle.kern_core.specs.Kernels.{IsKept, is_entry}
 
 state_after-more : (calls : List Call) (call : Call)
@@ -26,7 +26,7 @@ pub kept_more : (old new : KernelFields) (calls : List Call) (limit : ℕ) (call
     → is_entry answer ≡ true
     → IsKept new (calls ++ call ∷ []) limit
 kept_more old new calls limit call answer kept room takes entry =
-    let made = takes.0 (state_after calls) kept.stands (had_memory answer entry) in
+    let made = takes.0 (state_after calls) kept.represents (had_memory answer entry) in
     let more = length-append calls (call ∷ []) in
     let posts = kept.posts in
     let peers = kept.peers in
@@ -35,7 +35,7 @@ kept_more old new calls limit call answer kept room takes entry =
     let fewer_peers = takes.1.0.peers in
     let smaller_count = takes.1.0.count in
     record {
-      stands = subst (RepresentsKernel new) (sym (state_after-more calls call)) made.1;
+      represents = subst (RepresentsKernel new) (sym (state_after-more calls call)) made.1;
       posts = omega (arith, more);
       peers = omega (arith, more);
       count = omega (arith, more);

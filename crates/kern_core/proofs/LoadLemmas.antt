@@ -13,7 +13,7 @@ use Rattle.kern_exec.specs.Boards.{cell_given, loading_of, board_after}
 use Rattle.kern_core.specs.declared.call.Reply.TheVariants.{More}
 use Rattle.kern_core.specs.States.{KernelState, after}
 use Rattle.kern_core.specs.Slices.{loading}
-use Rattle.kern_core.specs.Stands.{KernelFields, RepresentsKernel, Grows}
+use Rattle.kern_core.specs.Represents.{KernelFields, RepresentsKernel, Grows}
 
 one_more : (b : Bool) (n : ℕ) → (if b then n + 1 else n) ≤ n + 1
 one_more true n = omega arith
@@ -50,10 +50,10 @@ pub load_stands : (unix_seconds : ℕ) (s : KernelState) (old new : KernelFields
     → Keeps (with_posts unix_seconds (loading_letters old.connections c l) s.posts) new.store
     → (Ok More ≡ (loading unix_seconds s.work.queue s).answer)
     × RepresentsKernel new (after (loading unix_seconds s.work.queue s))
-load_stands unix_seconds s old new lab x rest c l stands queue current is_loading board loaded work kept =
+load_stands unix_seconds s old new lab x rest c l represents queue current is_loading board loaded work kept =
     let g = cell_given x.request.code s.board in
-    let waits : s.work.queue ≡ x ∷ rest = ap (λ (w : Work). w.queue) (sym stands.work) ∙ queue in
-    let it : c ≡ current_of x s.work.count = current ∙ ap (λ (w : Work). current_of x w.count) stands.work in
+    let waits : s.work.queue ≡ x ∷ rest = ap (λ (w : Work). w.queue) (sym represents.work) ∙ queue in
+    let it : c ≡ current_of x s.work.count = current ∙ ap (λ (w : Work). current_of x w.count) represents.work in
     let B : LabState → Type 0 = λ v. RepresentsBoard v (board_after s.board g) in
     let P : Connections → Type 0 =
     λ w. Keeps (with_posts unix_seconds (loading_letters w c l) s.posts) new.store in
@@ -67,9 +67,9 @@ load_stands unix_seconds s old new lab x rest c l stands queue current is_loadin
       refl,
       record {
         board = subst B (sym (ap (λ (v : KernelFields). v.lab) loaded)) board;
-        connections = ap (λ (v : KernelFields). v.connections) loaded ∙ stands.connections;
-        work = subst W is_loading (work ∙ ap (load_first x rest l) stands.work);
-        posts = subst R is_loading (subst Q it (subst P stands.connections kept));
-        is_shut = ap (λ (v : KernelFields). v.is_shut) loaded ∙ stands.is_shut;
+        connections = ap (λ (v : KernelFields). v.connections) loaded ∙ represents.connections;
+        work = subst W is_loading (work ∙ ap (load_first x rest l) represents.work);
+        posts = subst R is_loading (subst Q it (subst P represents.connections kept));
+        is_shut = ap (λ (v : KernelFields). v.is_shut) loaded ∙ represents.is_shut;
       },
     )

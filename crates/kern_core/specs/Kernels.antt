@@ -6,7 +6,7 @@ use Rattle.kern_core.specs.declared.call.Reply.{Reply}
 use Rattle.kern_core.specs.declared.fault.KernelFault.{KernelFault}
 use Rattle.kern_core.specs.declared.fault.KernelFault.TheVariants.{OutOfMemory, JournalFull}
 use Rattle.kern_core.specs.Turns.{answer_after, state_after}
-use Rattle.kern_core.specs.Stands.{KernelFields, RepresentsKernel}
+use Rattle.kern_core.specs.Represents.{KernelFields, RepresentsKernel}
 
 pub record JournalState : Type 0 where
   pub entries : List Call
@@ -36,7 +36,7 @@ pub record MakesCall (call : Call) (old : JournalState) (answer : Result Reply K
 
 -- the fields represent the entries, of which there are no more than the limit
 pub record IsKept (state : KernelFields) (entries : List Call) (limit : ℕ) : Type 0 where
-  pub stands : RepresentsKernel state (state_after entries)
+  pub represents : RepresentsKernel state (state_after entries)
   pub posts : state.store.made ≤ 8 * length entries
   pub peers : state.connections.joined ≤ length entries
   pub count : state.work.count ≤ length entries

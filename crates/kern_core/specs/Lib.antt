@@ -4,6 +4,6 @@ pub mod Requests
 pub mod Debugging
 pub mod Slices
 pub mod Turns
-pub mod Stands
+pub mod Represents
 pub mod Kernels
 pub mod Running

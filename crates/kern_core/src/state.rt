@@ -2,7 +2,7 @@
 ghost use Rattle.std.specs.Prelude.{◌≡◌, IfOk};
 ghost use Rattle.kern_core.specs.States.{kernel_before_calls};
 ghost use Rattle.kern_core.specs.Turns.{turn};
-ghost use Rattle.kern_core.specs.Stands.{RepresentsKernel, RepresentsSomeState, TakesTurn, HasRoom};
+ghost use Rattle.kern_core.specs.Represents.{RepresentsKernel, RepresentsSomeState, TakesTurn, HasRoom};
 
 mod connections;
 mod debug;
@@ -30,7 +30,7 @@ pub struct KernelState {
 }
 
 impl Model for KernelState {
-    ghost use Rattle.kern_core.specs.Stands.{KernelFields};
+    ghost use Rattle.kern_core.specs.Represents.{KernelFields};
 
     ghost Value = { KernelFields };
 
@@ -47,7 +47,7 @@ impl KernelState {
     /// A kernel on which no call was made. Allocates room for all posts that are kept and all executions
     /// that can wait.
     pub fn new(alloc: Global) -> Result<KernelState, AllocError>
-        ensures stands { IfOk result (λ state. RepresentsKernel state kernel_before_calls) }
+        ensures represents { IfOk result (λ state. RepresentsKernel state kernel_before_calls) }
         ensures room { IfOk result (λ state. (state.store.made ≡ 0)
             × ((state.connections.joined ≡ 0) × (state.work.count ≡ 0))) }
     {
@@ -73,7 +73,7 @@ impl KernelState {
     #[tactic(auto, unfolding(crate::specs::Turns::turn))]
     pub fn make(&mut self, call: &Call) -> Result<Reply, KernelFault>
         requires room { HasRoom self.old }
-        requires stands { RepresentsSomeState self.old }
+        requires represents { RepresentsSomeState self.old }
         ensures { TakesTurn (turn call.now) self.old result self.new }
     {
         match call {

@@ -25,5 +25,5 @@ IsJoined old call new joined =
 pub data IsUnjoined (old : PassState Call) (call : Call) (new : PassState Call) : KernelFault → Type 0 where
   IsRefused : (fault : KernelFault) → Turned seated_answer is_entry is_full old call (Err fault) new
       → IsUnjoined old call new fault
-  IsWorn : (fault : KernelFault) → fault ≡ JournalFull → new ≡ record old { worn = true }
+  IsOutOfTickets : (fault : KernelFault) → fault ≡ JournalFull → new ≡ record old { out_of_tickets = true }
       → IsUnjoined old call new fault

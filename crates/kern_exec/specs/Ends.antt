@@ -8,11 +8,8 @@ use Rattle.lab_core.specs.declared.answer.SliceOutcome.{SliceOutcome}
 use Rattle.lab_core.specs.declared.answer.SliceOutcome.TheVariants as outcome
 use Rattle.lab_core.specs.declared.answer.End.{End}
 use Rattle.lab_core.specs.declared.answer.End.TheVariants as end
-use Rattle.lab_core.specs.declared.answer.Stop.{Stop}
-use Rattle.lab_core.specs.declared.answer.Stop.TheVariants as stop
 use Rattle.i80_devs.specs.Console.{written_to_console, wants_line}
-use Rattle.dap_answers.specs.declared.answer.StopReason.{StopReason}
-use Rattle.dap_answers.specs.declared.answer.StopReason.TheVariants as reason
+use Rattle.dap_board.specs.Names.{reason_of}
 use Rattle.dap_answers.specs.declared.answer.Event.TheVariants.{Stopped}
 use Rattle.kern_post.specs.declared.content.Content.TheVariants as content
 use Rattle.kern_post.specs.declared.content.ExecutionState.TheVariants.{Busy, Idle}
@@ -89,10 +86,6 @@ abbrev pub input_requests : Option Envelope → Bool → List Letter
 input_requests None wants_line = []
 input_requests (Some e) wants_line =
     if wants_line then record { envelope = e; content = content.InputRequest } ∷ [] else []
-
-abbrev pub reason_of : Stop → StopReason
-reason_of stop.Breakpoint = reason.Breakpoint
-reason_of stop.Step = reason.Step
 
 abbrev pub ending_of : End → Ending
 ending_of end.Halted = Done

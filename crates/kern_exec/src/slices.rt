@@ -2,7 +2,7 @@
 ghost use Rattle.std.specs.Prelude.{◌≡◌, ◌<◌, ◌≤◌, ◌+◌, ◌++◌, ◌∷◌, [], length, IfOk, vec_capacity, codes};
 ghost use Rattle.kern_peers.specs.Connections.{Connections};
 ghost use Rattle.kern_exec.specs.declared.execution.Current.{Current};
-ghost use Rattle.kern_exec.specs.Ends.{reason_of, ending_of, line_envelope, input_requests};
+ghost use Rattle.kern_exec.specs.Ends.{ending_of, line_envelope, input_requests};
 ghost use Rattle.kern_exec.specs.Ends.{stream_letters, outcome_letters, slice_letters};
 ghost use Rattle.kern_exec.specs.Letters.{published_under};
 ghost use Rattle.kern_exec.specs.Prepared.{IsPreparedSlice, prepared_end};
@@ -11,14 +11,15 @@ use crate::ends::{PreparedEnd, prepare_end, push_end};
 use crate::execution::Current;
 use crate::letters::{address, published_under};
 use base_text::sequence::Bytes;
-use dap_answers::answer::{Event as DebugEvent, StopReason};
+use dap_answers::answer::Event as DebugEvent;
+use dap_board::names::reason_of;
 use i80_devs::console::{is_line_requested, print_all};
 use i80_exec::ports::PortOperation;
 use kern_peers::peers::Peers;
 use kern_post::content::{Cause, Content, Ending};
 use kern_post::letters::Letters;
 use kern_post::post::{Envelope, Letter};
-use lab_core::answer::{End, SliceOutcome, Stop};
+use lab_core::answer::{End, SliceOutcome};
 use lab_core::run_slice::STEPS;
 use std::alloc::{AllocError, Global};
 
@@ -140,15 +141,6 @@ fn push_line(letters: &mut Letters, envelope: Option<Envelope>, wants_line: bool
         envelope,
         content: Content::InputRequest,
     });
-}
-
-fn reason_of(stop: Stop) -> StopReason
-    ensures { result ≡ reason_of stop }
-{
-    match stop {
-        Stop::Breakpoint => StopReason::Breakpoint,
-        Stop::Step => StopReason::Step,
-    }
 }
 
 fn ending_of(end: End) -> Ending

@@ -15,7 +15,7 @@ use Rattle.kern_net.specs.declared.end.PumpEnd.TheVariants as end
 use Rattle.kern_net.specs.Routes.{Source}
 use Rattle.kern_net.specs.ReadEnds.{Reader, EndsBy, LastAnswer}
 use Rattle.kern_net.specs.Reading.{ReadOut}
-use Rattle.kern_host.specs.OneHistory.{History, IsPartOf, Place, place_of, Asks, AsksIn, AskingEnds}
+use Rattle.kern_host.specs.OneHistory.{History, IsPartOf, SeatInHistory, seat_in, Asks, AsksIn, AskingEnds}
 use Rattle.kern_host.specs.OneHistory.{InletEnds, LastIsRefused, IsFull}
 
 pub is_part : (turnstile : TurnstileState) (passes : List (PassState Call)) (pass : PassState Call)
@@ -32,18 +32,18 @@ is_part turnstile passes pass history h c own =
 -- ---- a pass that stopped somewhere in a history
 
 -- all that the pass has seen is the beginning of the history that the place is in
-pub record IsAt (pass : PassState Call) (place : Place) : Type 0 where
+pub record IsAt (pass : PassState Call) (place : SeatInHistory) : Type 0 where
   pub seen : IsPrefix pass.seen place.history
   pub seat : pass.seat ≡ place.seat
   pub limit : pass.turnstile.limit ≡ place.limit
   pub fits : length place.history ≤ place.limit
 
 pub part_at : (pass : PassState Call) (history : History) → IsPartOf pass history
-    → IsAt pass (place_of pass history)
+    → IsAt pass (seat_in pass history)
 part_at pass history p = record { seen = p.seen; seat = refl; limit = refl; fits = p.fits }
 
 -- a journal that was full is still
-pub full_there : (pass : PassState Call) (place : Place) → IsAt pass place
+pub full_there : (pass : PassState Call) (place : SeatInHistory) → IsAt pass place
     → length pass.seen ≡ pass.turnstile.limit → IsFull place
 full_there pass place a full =
     let n = ap length a.seen.1 in let l = a.limit in let f = a.fits in
@@ -60,12 +60,12 @@ inlet_ends (end.Wire cause) old new decoder reads h = h
 inlet_ends end.OutOfMemory old new decoder reads h = h.0
 inlet_ends end.JournalFull old new decoder reads h = h.0
 inlet_ends (end.Refused fault) old new decoder reads h = h.0
-inlet_ends end.Worn old new decoder reads h = h.0
+inlet_ends end.OutOfTickets old new decoder reads h = h.0
 inlet_ends end.WriteFailed old new decoder reads h = absurd h.1
 inlet_ends end.Lagged old new decoder reads h = absurd h.1
 inlet_ends end.Ended old new decoder reads h = absurd h.1
 
-last_refused : (old : List Call) (asked : List Call) (pass : PassState Call) (place : Place)
+last_refused : (old : List Call) (asked : List Call) (pass : PassState Call) (place : SeatInHistory)
     (fault : KernelFault)
     → pass.calls ≡ old ++ asked → IsAt pass place → LastAnswer old pass (Err fault)
     → LastIsRefused place asked fault
@@ -76,7 +76,7 @@ last_refused old asked pass place fault calls a l =
       earlier = l.earlier;
       call = l.call;
       split = append_cancel_left old asked (l.earlier ++ l.call ∷ []) (sym calls ∙ l.own);
-      stands = record {
+      represents = record {
         before = l.before;
         here = subst Q a.seat (subst P l.history a.seen);
         answered = sym l.answered;
@@ -84,14 +84,14 @@ last_refused old asked pass place fault calls a l =
     }
 
 asking_ends : (e : PumpEnd) (old new : Reader) (decoder : DecoderState) (reads : ℕ) (asked : List Call)
-    (place : Place)
+    (place : SeatInHistory)
     → EndsBy e old new decoder reads → new.pass.calls ≡ old.pass.calls ++ asked → IsAt new.pass place
     → AskingEnds place asked e
 asking_ends end.PeerEnded old new decoder reads asked place h calls a = tt
 asking_ends end.ReadFailed old new decoder reads asked place h calls a = tt
 asking_ends (end.Wire cause) old new decoder reads asked place h calls a = tt
 asking_ends end.OutOfMemory old new decoder reads asked place h calls a = tt
-asking_ends end.Worn old new decoder reads asked place h calls a = tt
+asking_ends end.OutOfTickets old new decoder reads asked place h calls a = tt
 asking_ends end.JournalFull old new decoder reads asked place h calls a = full_there new.pass place a h.1
 asking_ends (end.Refused fault) old new decoder reads asked place h calls a =
     last_refused old.pass.calls asked new.pass place fault calls a h.1
@@ -126,7 +126,7 @@ module _ (source : Source) (peer : Peer) (old new : Reader) (e : PumpEnd)
         cause = inlet_ends e old new r.after r.reads r.cause;
       }
 
-  pub ends_asking : (place : Place) → IsAt new.pass place → AskingEnds place r.received.submitted.added e
+  pub ends_asking : (place : SeatInHistory) → IsAt new.pass place → AskingEnds place r.received.submitted.added e
   ends_asking place a =
       asking_ends e old new r.after r.reads r.received.submitted.added place r.cause
       r.received.submitted.calls a
@@ -136,5 +136,5 @@ module _ (source : Source) (peer : Peer) (old new : Reader) (e : PumpEnd)
     asked = r.received.submitted.added;
     asks = asks;
     calls = p.own ∙ r.received.submitted.calls;
-    cause = ends_asking (place_of new.pass history) (part_at new.pass history p);
+    cause = ends_asking (seat_in new.pass history) (part_at new.pass history p);
   }

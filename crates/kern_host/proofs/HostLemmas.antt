@@ -13,7 +13,7 @@ use Rattle.kern_net.specs.declared.end.PumpEnd.TheVariants as end
 use Rattle.kern_net.specs.declared.end.PumpEnd.{PumpEnd}
 use Rattle.kern_host.specs.declared.guest.Passes.{Passes}
 use Rattle.kern_host.specs.Guests.{GuestState, IsComing, IsSeated, AreOf, without_passes}
-use Rattle.kern_host.specs.OneHistory.{History, Place, SeesShutdown, WorkingEnds, Works}
+use Rattle.kern_host.specs.OneHistory.{History, SeatInHistory, SeesShutdown, WorkingEnds, Works}
 use Rattle.kern_host.specs.Visits.{House, VisitedWith, Visited}
 use Rattle.kern_host.specs.Hosting.{AtEach, HasBoth, Serves, ServesEach, seats_at}
 use Rattle.kern_host.specs.Hosting.{seated_at, worker_at}
@@ -81,7 +81,7 @@ serves_each house desk g0 g1 g2 g3 back working history s v t n m h = λ k d lt.
 
 -- ---- the worker
 
-saw_shutdown : (pass : PassState Call) (place : Place) → IsAt pass place → SawShutdown pass
+saw_shutdown : (pass : PassState Call) (place : SeatInHistory) → IsAt pass place → SawShutdown pass
     → SeesShutdown place
 saw_shutdown pass place a (unix_seconds, l) =
     let Q : ℕ → Type 0 = λ i. IsPrefix (l.before ++ (i, Slice unix_seconds) ∷ []) place.history in (
@@ -96,13 +96,13 @@ saw_shutdown pass place a (unix_seconds, l) =
       },
     )
 
-working_ends : (e : PumpEnd) (pass : PassState Call) (polls : WorkerPolls) (place : Place) → IsAt pass place
+working_ends : (e : PumpEnd) (pass : PassState Call) (polls : WorkerPolls) (place : SeatInHistory) → IsAt pass place
     → WorkEnds pass polls e → WorkingEnds place polls e
 working_ends end.Ended pass polls place a (inl closed) = inl closed
 working_ends end.Ended pass polls place a (inr h) = inr (h.0, saw_shutdown pass place a h.1)
 working_ends end.OutOfMemory pass polls place a h = h
 working_ends end.JournalFull pass polls place a h = (h.0, full_there pass place a h.1)
-working_ends end.Worn pass polls place a h = h.0
+working_ends end.OutOfTickets pass polls place a h = h.0
 working_ends _ pass polls place a h = absurd h
 
 pub works_in : (desk : TurnstileState) (seat guests : ℕ) (old new : PassState Call) (a b : WorkerPolls)

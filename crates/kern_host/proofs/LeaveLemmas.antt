@@ -12,7 +12,7 @@ use Rattle.kern_core.specs.Kernels.{is_entry}
 use Rattle.kern_net.specs.Calls.{TurnedBy}
 use Rattle.kern_net.proofs.CallLemmas.{turned_prefix, entry_calls, no_entry_calls}
 use Rattle.kern_host.specs.declared.end.LeaveFault.{LeaveFault}
-use Rattle.kern_host.specs.declared.end.LeaveFault.TheVariants.{JournalFull, Worn}
+use Rattle.kern_host.specs.declared.end.LeaveFault.TheVariants.{JournalFull, OutOfTickets}
 use Rattle.kern_host.specs.Leaves.{HasLeft, TriedToLeave, leaving, left_by}
 
 -- the call is an entry
@@ -53,11 +53,11 @@ tried c v w answer left is t =
     subst T (sym is) (left_if c v w answer t)
 
 -- no turn was had
-pub left_worn : (c : ℕ) (v w : PassState Call) → w ≡ record v { worn = true } → HasLeft c v w (Err Worn)
-left_worn c v w same = record {
+pub left_without_tickets : (c : ℕ) (v w : PassState Call) → w ≡ record v { out_of_tickets = true } → HasLeft c v w (Err OutOfTickets)
+left_without_tickets c v w same = record {
   onward = ([], append-nil v.seen ∙ ap (λ (x : PassState Call). x.seen) (sym same));
   calls = ap (λ (x : PassState Call). x.calls) same ∙ sym (append-nil v.calls);
-  cause = ap (λ (x : PassState Call). x.worn) same;
+  cause = ap (λ (x : PassState Call). x.out_of_tickets) same;
 }
 
 -- nothing was seen yet

@@ -19,12 +19,12 @@ use Rattle.kern_net.specs.Routes.{Target}
 use Rattle.kern_net.specs.Calls.{TurnedBy}
 use Rattle.kern_net.specs.Gates.{WriterPolls}
 use Rattle.kern_net.specs.Streams.{posts_in, window}
-use Rattle.kern_net.specs.Out.{Writer, FetchedOn, NoFetch, OneFetch, StopsFetching, WroteFront, WroteAll}
+use Rattle.kern_net.specs.Out.{Writer, FetchedOn, NoFetch, OneFetch, StopsFetching, WrotePrefix, WroteAll}
 use Rattle.kern_net.specs.Out.{WroteOut, OutEnds, EndsAll}
 use Rattle.kern_net.proofs.CallLemmas.{entry_calls, no_entry_calls}
 use Rattle.kern_net.proofs.GrowLemmas.{posts_grow}
 use Rattle.kern_net.proofs.OutLemmas.{window_kept}
-use Rattle.kern_host.specs.OneHistory.{History, IsPartOf, Place, place_of, Stands, Sends, SendsIn}
+use Rattle.kern_host.specs.OneHistory.{History, IsPartOf, SeatInHistory, seat_in, IsAnswered, Sends, SendsIn}
 use Rattle.kern_host.specs.OneHistory.{SendingEnds, OutletEnds, FetchesAll, IsFetchOf}
 use Rattle.kern_host.proofs.AskedLemmas.{IsAt, part_at, full_there}
 
@@ -92,7 +92,7 @@ stops_only c next mid new end.OutOfMemory (inr t) = turned c next mid new (Err f
 stops_only c next mid new end.JournalFull t = turned c next mid new (Err fault.JournalFull) t
 stops_only c next mid new end.Lagged t = turned c next mid new (Err (fault.Lagged t.0)) t.1
 stops_only c next mid new (end.Refused x) t = turned c next mid new (Err x) t.0
-stops_only c next mid new end.Worn s = no_fetches c mid new (ap (λ (p : PassState Call). p.calls) s)
+stops_only c next mid new end.OutOfTickets s = no_fetches c mid new (ap (λ (p : PassState Call). p.calls) s)
 stops_only c next mid new end.PeerEnded s = absurd s
 stops_only c next mid new end.ReadFailed s = absurd s
 stops_only c next mid new (end.Wire cause) s = absurd s
@@ -105,9 +105,9 @@ outlet_ends end.Ended c next x h = h.0
 outlet_ends _ c next x h = h.0
 
 -- a Fetch that was refused stands in the history, where its refusal is an entry
-fetch_stands : (c next : ℕ) (mid pass : PassState Call) (fault : KernelFault) (place : Place)
+fetch_stands : (c next : ℕ) (mid pass : PassState Call) (fault : KernelFault) (place : SeatInHistory)
     → is_entry (Err fault) ≡ true → TurnedBy mid (Fetch c next) (Err fault) pass → IsAt pass place
-    → Stands place (Fetch c next) (Err fault)
+    → IsAnswered place (Fetch c next) (Err fault)
 fetch_stands c next mid pass fault place h t a =
     let e = t.entered h in
     let P : History → Type 0 = λ l. IsPrefix l place.history in
@@ -118,7 +118,7 @@ fetch_stands c next mid pass fault place h t a =
       answered = e.answered;
     }
 
-fetches_all : (c next : ℕ) (pass : PassState Call) (polls : WriterPolls) (place : Place) → IsAt pass place
+fetches_all : (c next : ℕ) (pass : PassState Call) (polls : WriterPolls) (place : SeatInHistory) → IsAt pass place
     → EndsAll c next pass polls → FetchesAll place c next polls
 fetches_all c next pass polls place a (ended, all, cause) =
     let l = all.last in
@@ -139,7 +139,7 @@ fetches_all c next pass polls place a (ended, all, cause) =
       cause = cause;
     }
 
-sending_ends : (e : PumpEnd) (c next : ℕ) (mid : PassState Call) (x : Writer) (place : Place)
+sending_ends : (e : PumpEnd) (c next : ℕ) (mid : PassState Call) (x : Writer) (place : SeatInHistory)
     → StopsFetching c next mid x.pass e → OutEnds c next x e → IsAt x.pass place
     → SendingEnds place c next x.polls e
 sending_ends end.Ended c next mid x place s h a = fetches_all c next x.pass x.polls place a h.1
@@ -151,7 +151,7 @@ sending_ends end.Lagged c next mid x place s h a =
     (h.1, (s.0, fetch_stands c next mid x.pass (fault.Lagged s.0) place refl s.1 a))
 sending_ends (end.Refused f) c next mid x place s h a =
     (h.1, fetch_stands c next mid x.pass f place s.1 s.0 a)
-sending_ends end.Worn c next mid x place s h a = (h.1, tt)
+sending_ends end.OutOfTickets c next mid x place s h a = (h.1, tt)
 sending_ends end.PeerEnded c next mid x place s h a = absurd s
 sending_ends end.ReadFailed c next mid x place s h a = absurd s
 sending_ends (end.Wire cause) c next mid x place s h a = absurd s
@@ -163,7 +163,7 @@ module _ (target : Target) (from : ℕ) (old new : Writer) (e : PumpEnd)
   pub sends : (history : History) → IsPrefix new.pass.seen history
       → Sends target old.outlet new.outlet (window target.connection from w.next (posts_in history)) e
   sends history p =
-      let F : List Post → Type 0 = λ x. WroteFront target old.outlet new.outlet x in
+      let F : List Post → Type 0 = λ x. WrotePrefix target old.outlet new.outlet x in
       let A : List Post → Type 0 = λ x. WroteAll target old.outlet new.outlet x in
       let same : window target.connection from w.next (posts_in new.pass.seen)
       ≡ window target.connection from w.next (posts_in history) =
@@ -181,7 +181,7 @@ module _ (target : Target) (from : ℕ) (old new : Writer) (e : PumpEnd)
       fetches_on c old.pass w.mid new.pass (fetched_only c from old.pass w.mid w.next w.fetched)
       (stops_only c w.next w.mid new.pass e w.last)
 
-  pub ends_sending : (place : Place) → IsAt new.pass place
+  pub ends_sending : (place : SeatInHistory) → IsAt new.pass place
       → SendingEnds place target.connection w.next new.polls e
   ends_sending place a = sending_ends e target.connection w.next w.mid new place w.last w.cause a
 
@@ -193,5 +193,5 @@ module _ (target : Target) (from : ℕ) (old new : Writer) (e : PumpEnd)
     fetched = only_fetches.added;
     fetches = only_fetches.fetches;
     calls = p.own ∙ only_fetches.calls;
-    cause = ends_sending (place_of new.pass history) (part_at new.pass history p);
+    cause = ends_sending (seat_in new.pass history) (part_at new.pass history p);
   }

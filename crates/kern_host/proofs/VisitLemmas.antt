@@ -21,7 +21,7 @@ use Rattle.kern_core.specs.declared.fault.KernelFault.{KernelFault}
 use Rattle.kern_core.specs.declared.fault.KernelFault.TheVariants as fault
 use Rattle.kern_core.specs.Kernels.{is_entry}
 use Rattle.kern_desk.specs.declared.desks.Joined.{Joined}
-use Rattle.kern_desk.specs.Joins.{IsUnjoined, IsRefused, IsWorn}
+use Rattle.kern_desk.specs.Joins.{IsUnjoined, IsRefused, IsOutOfTickets}
 use Rattle.kern_net.specs.declared.end.PumpEnd.{PumpEnd}
 use Rattle.kern_net.specs.Routes.{Source}
 use Rattle.kern_net.specs.Calls.{TurnedBy}
@@ -35,7 +35,7 @@ use Rattle.kern_host.specs.declared.end.LeaveFault.TheVariants as leave
 use Rattle.kern_host.specs.declared.guest.Passes.{Passes}
 use Rattle.kern_host.specs.Guests.{GuestState, Line, line_of}
 use Rattle.kern_host.specs.Leaves.{leaving, HasLeft, KeepsFrom}
-use Rattle.kern_host.specs.OneHistory.{History, IsPartOf, Place, Stands}
+use Rattle.kern_host.specs.OneHistory.{History, IsPartOf, SeatInHistory, IsAnswered}
 use Rattle.kern_host.specs.Visits.{House, seats_of, reading_at, writing_at, role_on, identity_of, Meets}
 use Rattle.kern_host.specs.Visits.{TurnsAway, IsTurnedAway, IsVisit, Visited, VisitedWith}
 use Rattle.kern_host.specs.declared.end.VisitEnd.{VisitEnd}
@@ -54,10 +54,10 @@ not_taken v w channel held identity (Err f) e u =
     let U : Bytes → Type 0 = λ i. IsUnjoined v (Join channel i) w f in NotTaken f (subst U e u)
 
 -- a call that is an entry stands in each history that goes on from what was seen
-stands : (v w : PassState Call) (call : Call) (answer : Result Reply KernelFault) (place : Place)
+represents : (v w : PassState Call) (call : Call) (answer : Result Reply KernelFault) (place : SeatInHistory)
     → TurnedBy v call answer w → is_entry answer ≡ true → v.seat ≡ place.seat
-    → IsPrefix w.seen place.history → Stands place call answer
-stands v w call answer place t h s p =
+    → IsPrefix w.seen place.history → IsAnswered place call answer
+represents v w call answer place t h s p =
     let e = t.entered h in
     let P : History → Type 0 = λ l. IsPrefix l place.history in
     let Q : ℕ → Type 0 = λ i. IsPrefix (e.before ++ (i, call) ∷ []) place.history in
@@ -80,7 +80,7 @@ silent v w history same p =
 same_calls : (v w : PassState Call) (call : Call) (f : KernelFault) → is_entry (Err f) ≡ false
     → IsUnjoinedPeer v call w f → w.calls ≡ v.calls
 same_calls v w call f h (NoMemory f1 e same) = ap (λ (x : PassState Call). x.calls) same
-same_calls v w call f h (NotTaken f1 (IsWorn f2 e same)) = ap (λ (x : PassState Call). x.calls) same
+same_calls v w call f h (NotTaken f1 (IsOutOfTickets f2 e same)) = ap (λ (x : PassState Call). x.calls) same
 same_calls v w call f h (NotTaken f1 (IsRefused f2 t)) = no_entry_calls v w call (Err f) t h
 
 -- and else it was refused
@@ -88,7 +88,7 @@ refused : (v w : PassState Call) (call : Call) (f : KernelFault) → is_entry (E
     → IsUnjoinedPeer v call w f → TurnedBy v call (Err f) w
 refused v w call f h (NoMemory f1 e same) =
     let E : KernelFault → Type 0 = λ x. is_entry (Err x) ≡ true in absurd (false≢true (subst E e h))
-refused v w call f h (NotTaken f1 (IsWorn f2 e same)) =
+refused v w call f h (NotTaken f1 (IsOutOfTickets f2 e same)) =
     let E : KernelFault → Type 0 = λ x. is_entry (Err x) ≡ true in absurd (false≢true (subst E e h))
 refused v w call f h (NotTaken f1 (IsRefused f2 t)) = t
 
@@ -100,11 +100,11 @@ module _ (house : House) (before : Passes) (w : PassState Call) (call : Call) (h
 
   taken : (f : KernelFault) → is_entry (Err f) ≡ true → IsUnjoinedPeer before.reading call w f
       → Adds (seat_of before.reading) history (call ∷ [])
-      × Stands (reading_at (seats_of house before) history) call (Err f)
+      × IsAnswered (reading_at (seats_of house before) history) call (Err f)
   taken f h u =
       let t = refused before.reading w call f h u in (
         ap (λ (i : ℕ). calls_of i history) (sym s) ∙ p.own ∙ entry_calls before.reading w call (Err f) t h,
-        stands before.reading w call (Err f) (reading_at (seats_of house before) history) t h refl p.seen,
+        represents before.reading w call (Err f) (reading_at (seats_of house before) history) t h refl p.seen,
       )
 
   refusal : (f : KernelFault) → IsUnjoinedPeer before.reading call w f
@@ -133,11 +133,11 @@ read_onward source peer old new e r =
 
 -- ---- the Leave
 
-leave_ends : (left : Result (Unit {0}) LeaveFault) (pass : PassState Call) (place : Place) → IsAt pass place
+leave_ends : (left : Result (Unit {0}) LeaveFault) (pass : PassState Call) (place : SeatInHistory) → IsAt pass place
     → KeepsFrom left pass → LeaveEnds place left
 leave_ends (Ok _) pass place a k = tt
 leave_ends (Err leave.JournalFull) pass place a k = full_there pass place a k
-leave_ends (Err leave.Worn) pass place a k = tt
+leave_ends (Err leave.OutOfTickets) pass place a k = tt
 
 -- ---- the whole visit
 
@@ -215,7 +215,7 @@ module _ (house : House) (old new : Line) (before after : Passes) (ends : Ends)
         connection = k.connection;
         from = k.from;
         joins =
-            stands before.reading k.joined join answer (reading_at
+            represents before.reading k.joined join answer (reading_at
             (seats_of house before) history) k.joins refl refl
             onward;
         asked = k.reads.received.submitted.added;

@@ -12,7 +12,7 @@ use Rattle.kern_host.specs.declared.end.VisitEnd.{VisitEnd}
 use Rattle.kern_host.specs.declared.guest.Passes.{Passes}
 use Rattle.kern_host.specs.declared.host.Hosted.{Hosted}
 use Rattle.kern_host.specs.Guests.{GuestState, IsComing, line_of}
-use Rattle.kern_host.specs.OneHistory.{History, Place, Works}
+use Rattle.kern_host.specs.OneHistory.{History, SeatInHistory, Works}
 use Rattle.kern_host.specs.Visits.{House, Seats, IsVisit}
 
 -- both are among these
@@ -37,7 +37,7 @@ seated_at desk k g = record g {
 }
 
 -- the worker's place: the seat after those of this many guests
-abbrev pub worker_at : ℕ → ℕ → History → Place
+abbrev pub worker_at : ℕ → ℕ → History → SeatInHistory
 worker_at limit guests history = record { history = history; seat = 2 * guests; limit = limit }
 
 -- the seats of the guest at place k: 2 * k and 2 * k + 1, from which no call had been made

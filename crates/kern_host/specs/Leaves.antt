@@ -9,7 +9,7 @@ use Rattle.kern_core.specs.declared.fault.KernelFault.{KernelFault}
 use Rattle.kern_core.specs.declared.fault.KernelFault.TheVariants as fault
 use Rattle.kern_net.specs.Calls.{IsJournalFull}
 use Rattle.kern_host.specs.declared.end.LeaveFault.{LeaveFault}
-use Rattle.kern_host.specs.declared.end.LeaveFault.TheVariants.{JournalFull, Worn}
+use Rattle.kern_host.specs.declared.end.LeaveFault.TheVariants.{JournalFull, OutOfTickets}
 
 -- one Leave, or none
 abbrev pub leaving : ℕ → Result (Unit {0}) LeaveFault → List Call
@@ -26,7 +26,7 @@ left_by _ = Some (Ok tt)
 abbrev pub KeepsFrom : Result (Unit {0}) LeaveFault → PassState Call → Type 0
 KeepsFrom (Ok _) pass = Unit {0}
 KeepsFrom (Err JournalFull) pass = IsJournalFull pass
-KeepsFrom (Err Worn) pass = pass.worn ≡ true
+KeepsFrom (Err OutOfTickets) pass = pass.out_of_tickets ≡ true
 
 -- the Leave was made, or the kernel takes no more calls
 pub record HasLeft (connection : ℕ) (old new : PassState Call) (left : Result

@@ -25,7 +25,7 @@ use Rattle.kern_net.specs.Routes.{Source, Target}
 use Rattle.kern_net.specs.Streams.{posts_in, window}
 use Rattle.kern_net.specs.Submitting.{Submits}
 use Rattle.kern_net.specs.ReadEnds.{Reader, submits_all}
-use Rattle.kern_net.specs.Out.{Writer, WroteFront, WroteAll, is_whole}
+use Rattle.kern_net.specs.Out.{Writer, WrotePrefix, WroteAll, is_whole}
 
 -- calls in the order in which the kernel took them, each with the seat that made it
 abbrev pub History : Type 0
@@ -39,22 +39,22 @@ pub record IsPartOf (pass : PassState Call) (history : History) : Type 0 where
   pub fits : length history ≤ pass.turnstile.limit
 
 -- a seat in a history, and the most calls that the journal takes
-pub record Place : Type 0 where
+pub record SeatInHistory : Type 0 where
   pub history : History
   pub seat : ℕ
   pub limit : ℕ
 
-abbrev pub place_of : PassState Call → History → Place
-place_of pass history = record { history = history; seat = pass.seat; limit = pass.turnstile.limit }
+abbrev pub seat_in : PassState Call → History → SeatInHistory
+seat_in pass history = record { history = history; seat = pass.seat; limit = pass.turnstile.limit }
 
 -- a call of the seat is in the history, and this is the specified kernel's answer there
-pub record Stands (place : Place) (call : Call) (answer : Result Reply KernelFault) : Type 0 where
+pub record IsAnswered (place : SeatInHistory) (call : Call) (answer : Result Reply KernelFault) : Type 0 where
   pub before : History
   pub here : IsPrefix (before ++ (place.seat, call) ∷ []) place.history
   pub answered : answer ≡ seated_answer before call
 
 -- the journal takes no more calls
-abbrev pub IsFull : Place → Type 0
+abbrev pub IsFull : SeatInHistory → Type 0
 IsFull place = length place.history ≡ place.limit
 
 -- ---- what was asked
@@ -88,14 +88,14 @@ pub record Asks (source : Source) (peer : Peer) (old new : InletState) (asked : 
   pub cause : InletEnds new after count e
 
 -- the last of the calls was refused so
-pub record LastIsRefused (place : Place) (asked : List Call) (fault : KernelFault) : Type 0 where
+pub record LastIsRefused (place : SeatInHistory) (asked : List Call) (fault : KernelFault) : Type 0 where
   pub earlier : List Call
   pub call : Call
   pub split : asked ≡ earlier ++ call ∷ []
-  pub stands : Stands place call (Err fault)
+  pub represents : IsAnswered place call (Err fault)
 
 -- what an end of the reading says of the history
-abbrev pub AskingEnds : Place → List Call → PumpEnd → Type 0
+abbrev pub AskingEnds : SeatInHistory → List Call → PumpEnd → Type 0
 AskingEnds place asked end.JournalFull = IsFull place
 AskingEnds place asked (end.Refused fault) = LastIsRefused place asked fault
 AskingEnds place asked end.WriteFailed = ⊥
@@ -109,7 +109,7 @@ pub record AsksIn (source : Source) (peer : Peer) (old new : Reader) (history : 
   pub asked : List Call
   pub asks : Asks source peer old.inlet new.inlet asked e
   pub calls : calls_of new.pass.seat history ≡ old.pass.calls ++ asked
-  pub cause : AskingEnds (place_of new.pass history) asked e
+  pub cause : AskingEnds (seat_in new.pass history) asked e
 
 -- ---- what was sent
 
@@ -121,25 +121,25 @@ OutletEnds outlet _ = IsWritable outlet
 -- What the writer took from one state to another, up to this end: the messages of these posts, or a prefix
 -- of them if it failed or memory ran out.
 pub record Sends (target : Target) (old new : OutletState) (posts : List Post) (e : PumpEnd) : Type 0 where
-  pub front : WroteFront target old new posts
+  pub front : WrotePrefix target old new posts
   pub whole : is_whole e ≡ true → WroteAll target old new posts
   pub cause : OutletEnds new e
 
 -- A Fetch of the seat stands in the history, and all posts that there were at its place have numbers below
 -- this one. Then the gate has said no, once; or the Fetch was answered that a shutdown had come.
-pub record FetchesAll (place : Place) (connection next : ℕ) (polls : WriterPolls) : Type 0 where
+pub record FetchesAll (place : SeatInHistory) (connection next : ℕ) (polls : WriterPolls) : Type 0 where
   pub from : ℕ
   pub posts : List Post
   pub ended : Bool
-  pub last : Stands place (Fetch connection from) (Ok (Fetched posts next ended))
+  pub last : IsAnswered place (Fetch connection from) (Ok (Fetched posts next ended))
   pub all : length (posts_in last.before) < next
   pub cause : (polls.idle.no ≡ 1) ⊎ ((polls.idle.no ≡ 0) × (ended ≡ true))
 
 -- what the others say of a last Fetch
-abbrev pub FetchEnds : Place → Call → PumpEnd → Type 0
+abbrev pub FetchEnds : SeatInHistory → Call → PumpEnd → Type 0
 FetchEnds place fetch end.JournalFull = IsFull place
-FetchEnds place fetch end.Lagged = (first : ℕ) × Stands place fetch (Err (fault.Lagged first))
-FetchEnds place fetch (end.Refused fault) = Stands place fetch (Err fault)
+FetchEnds place fetch end.Lagged = (first : ℕ) × IsAnswered place fetch (Err (fault.Lagged first))
+FetchEnds place fetch (end.Refused fault) = IsAnswered place fetch (Err fault)
 FetchEnds place fetch end.PeerEnded = ⊥
 FetchEnds place fetch end.ReadFailed = ⊥
 FetchEnds place fetch (end.Wire cause) = ⊥
@@ -147,7 +147,7 @@ FetchEnds place fetch _ = Unit {0}
 
 -- what an end of the writing says of the history, and of what the gate was polled, where the posts below this
 -- number were to be sent
-abbrev pub SendingEnds : Place → ℕ → ℕ → WriterPolls → PumpEnd → Type 0
+abbrev pub SendingEnds : SeatInHistory → ℕ → ℕ → WriterPolls → PumpEnd → Type 0
 SendingEnds place connection next polls end.Ended = FetchesAll place connection next polls
 SendingEnds place connection next polls e =
     (polls.idle.no ≡ 0) × FetchEnds place (Fetch connection next) e
@@ -166,24 +166,24 @@ pub record SendsIn (target : Target) (from : ℕ) (old new : Writer) (history : 
   pub fetched : List Call
   pub fetches : All (IsFetchOf target.connection) fetched
   pub calls : calls_of new.pass.seat history ≡ old.pass.calls ++ fetched
-  pub cause : SendingEnds (place_of new.pass history) target.connection next new.polls e
+  pub cause : SendingEnds (seat_in new.pass history) target.connection next new.polls e
 
 -- ---- the worker
 
 -- a Slice of the seat stands in the history, and was answered that a shutdown had come
-abbrev pub SeesShutdown : Place → Type 0
-SeesShutdown place = (unix_seconds : ℕ) × Stands place (Slice unix_seconds) (Ok Ended)
+abbrev pub SeesShutdown : SeatInHistory → Type 0
+SeesShutdown place = (unix_seconds : ℕ) × IsAnswered place (Slice unix_seconds) (Ok Ended)
 
 -- what an end of the work says of the history, and of what the gate was polled
-abbrev pub WorkingEnds : Place → WorkerPolls → PumpEnd → Type 0
+abbrev pub WorkingEnds : SeatInHistory → WorkerPolls → PumpEnd → Type 0
 WorkingEnds place polls end.Ended = (noes polls ≡ 1) ⊎ (IsOpen polls × SeesShutdown place)
 WorkingEnds place polls end.OutOfMemory = IsOpen polls
 WorkingEnds place polls end.JournalFull = IsOpen polls × IsFull place
-WorkingEnds place polls end.Worn = IsOpen polls
+WorkingEnds place polls end.OutOfTickets = IsOpen polls
 WorkingEnds place polls _ = ⊥
 
 -- The calls of the seat are Slices, as many as the gate let through but for those that weren't taken, and the
 -- work ended for its cause.
-pub record Works (place : Place) (a b : WorkerPolls) (e : PumpEnd) : Type 0 where
+pub record Works (place : SeatInHistory) (a b : WorkerPolls) (e : PumpEnd) : Type 0 where
   pub sliced : Sliced [] (calls_of place.seat place.history) a b (untaken e)
   pub cause : WorkingEnds place b e

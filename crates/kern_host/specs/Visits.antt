@@ -29,7 +29,7 @@ use Rattle.kern_host.specs.declared.guest.Passes.{Passes}
 use Rattle.kern_host.specs.declared.server.Seal.{Seal}
 use Rattle.kern_host.specs.Guests.{GuestState, Line, line_of}
 use Rattle.kern_host.specs.Leaves.{leaving}
-use Rattle.kern_host.specs.OneHistory.{History, Place, Stands, IsFull, IsPartOf, Asks, AskingEnds, Sends}
+use Rattle.kern_host.specs.OneHistory.{History, SeatInHistory, IsAnswered, IsFull, IsPartOf, Asks, AskingEnds, Sends}
 use Rattle.kern_host.specs.OneHistory.{SendingEnds, IsFetchOf}
 
 -- what is the same for all connections: the key and the session of the messages, and the most calls that the
@@ -63,10 +63,10 @@ seats_of house passes = record {
   writing = seat_of passes.writing;
 }
 
-abbrev pub reading_at : Seats → History → Place
+abbrev pub reading_at : Seats → History → SeatInHistory
 reading_at s history = record { history = history; seat = s.reading.number; limit = s.house.limit }
 
-abbrev pub writing_at : Seats → History → Place
+abbrev pub writing_at : Seats → History → SeatInHistory
 writing_at s history = record { history = history; seat = s.writing.number; limit = s.house.limit }
 
 -- the calls of a seat in the history are those of before, and these
@@ -107,7 +107,7 @@ pub data IsUnjoinedPeer (old : PassState Call) (call : Call) (new : PassState Ca
 pub record MeetsNobody (s : Seats) (old new : Line) (history : History)
     (fault : PeerFault) : Type 0 where
   pub lost : NoPeer (role_on old.channel) old.inlet new.inlet fault
-  pub wrote : hello.WroteFront old.outlet new.outlet (role_on old.channel)
+  pub wrote : hello.WrotePrefix old.outlet new.outlet (role_on old.channel)
   pub blames : Blames fault new.inlet new.outlet
   pub silent : Adds s.reading history [] × Adds s.writing history []
 
@@ -117,7 +117,7 @@ abbrev pub TurnsAway : Seats → History → Call → KernelFault → Type 0
 TurnsAway s history join fault.OutOfMemory = Adds s.reading history []
 TurnsAway s history join fault.JournalFull = Adds s.reading history []
 TurnsAway s history join f =
-    Adds s.reading history (join ∷ []) × Stands (reading_at s history) join (Err f)
+    Adds s.reading history (join ∷ []) × IsAnswered (reading_at s history) join (Err f)
 
 -- a peer came, and the kernel took no Join of it
 pub record IsTurnedAway (s : Seats) (old new : Line) (history : History)
@@ -128,7 +128,7 @@ pub record IsTurnedAway (s : Seats) (old new : Line) (history : History)
   pub silent : Adds s.writing history []
 
 -- if there is no Leave, the journal was full, or no turn was to be had
-abbrev pub LeaveEnds : Place → Result (Unit {0}) LeaveFault → Type 0
+abbrev pub LeaveEnds : SeatInHistory → Result (Unit {0}) LeaveFault → Type 0
 LeaveEnds place (Err leave.JournalFull) = IsFull place
 LeaveEnds place _ = Unit {0}
 
@@ -142,7 +142,7 @@ pub record IsServed (s : Seats) (old new : Line) (history : History) (ends : End
   pub meets : Meets old inlet outlet peer
   pub connection : ℕ
   pub from : ℕ
-  pub joins : Stands (reading_at s history) (Join old.channel (identity_of peer)) (Ok
+  pub joins : IsAnswered (reading_at s history) (Join old.channel (identity_of peer)) (Ok
       (Joined connection from))
   pub asked : List Call
   pub calls : Adds s.reading history (Join old.channel (identity_of peer) ∷

@@ -10,7 +10,7 @@ pub enum LeaveFault {
     /// The journal takes no more calls.
     JournalFull,
     /// The desk has no more turns.
-    Worn,
+    OutOfTickets,
 }
 
 /// How a connection that had joined ended: how its reading and its writing ended, and whether it left.

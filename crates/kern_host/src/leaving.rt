@@ -28,7 +28,7 @@ fn left_by(answer: &Result<Reply, KernelFault>) -> Option<Result<(), LeaveFault>
 }
 
 // Tries to leave; None if there is no memory for the entry.
-#[tactic(auto, using(crate::proofs::LeaveLemmas::tried, crate::proofs::LeaveLemmas::left_worn))]
+#[tactic(auto, using(crate::proofs::LeaveLemmas::tried, crate::proofs::LeaveLemmas::left_without_tickets))]
 fn try_to_leave<R: Wait>(
     rt: &R,
     desk: &Desk,
@@ -40,7 +40,7 @@ fn try_to_leave<R: Wait>(
     ensures tried { TriedToLeave connection pass.old pass.new result }
 {
     let Ok(answer) = desk.turn(rt, pass, Call::Leave { connection }) else {
-        return Some(Err(LeaveFault::Worn));
+        return Some(Err(LeaveFault::OutOfTickets));
     };
     let left = left_by(&answer);
     drop(answer);

@@ -64,7 +64,7 @@ impl<'a, C: Clock> WorkerGate for WorkGate<'a, C> {
 #[derive(Drop)]
 pub struct InGate<'a> {
     wakes: u64,
-    tells: u64,
+    own_wakes: u64,
     signals: &'a Signals,
 }
 
@@ -73,23 +73,23 @@ impl<'a> InGate<'a> {
     pub fn new(signals: &'a Signals) -> InGate<'a> {
         InGate {
             wakes: 0,
-            tells: 0,
+            own_wakes: 0,
             signals,
         }
     }
 }
 
 impl<'a> ReaderGate for InGate<'a> {
-    ghost polls = { λ g. record { wakes = g.wakes; tells = g.tells } };
+    ghost polls = { λ g. record { wakes = g.wakes; own_wakes = g.own_wakes } };
 
     fn wake<R: Wait>(&mut self, rt: &R) {
         self.signals.heard.give(1);
         self.wakes = one_more(rt, self.wakes);
     }
 
-    fn tell<R: Wait>(&mut self, rt: &R) {
+    fn wake_own_writers<R: Wait>(&mut self, rt: &R) {
         self.signals.heard.give(1);
-        self.tells = one_more(rt, self.tells);
+        self.own_wakes = one_more(rt, self.own_wakes);
     }
 
     fn unix_seconds<R: Wait>(&mut self, _rt: &R) -> u64 {

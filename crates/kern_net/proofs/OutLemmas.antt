@@ -11,7 +11,7 @@ use Rattle.std.proofs.lemmas.List.{take-append-le, drop-append-le, drop-drop, le
 use Rattle.std.proofs.lemmas.List.Elements.{filter-append}
 use Rattle.lab_turn.specs.History.{PassState}
 use Rattle.base_streams.specs.States.{OutletState, IsWritable}
-use Rattle.base_streams.specs.Told.{TookFront}
+use Rattle.base_streams.specs.Told.{TookPrefix}
 use Rattle.base_streams.proofs.TellLemmas.{told_on}
 use Rattle.zmtp_wire.proofs.ReceivingLemmas.{told_none}
 use Rattle.zmtp_wire.proofs.SendingLemmas.{front_all, front_on}
@@ -34,9 +34,9 @@ use Rattle.kern_net.specs.declared.pump_out.Batch.{Batch}
 use Rattle.kern_net.specs.declared.pump_out.Cursor.{Cursor}
 use Rattle.kern_net.specs.Streams.{posts_in, window, IsStreamOf}
 use Rattle.kern_net.specs.Routes.{Target}
-use Rattle.kern_net.specs.Out.{FetchedOn, OneFetch, StopsFetching, Writer, is_whole, WroteFront, WroteAll}
+use Rattle.kern_net.specs.Out.{FetchedOn, OneFetch, StopsFetching, Writer, is_whole, WrotePrefix, WroteAll}
 use Rattle.kern_net.specs.Out.{WroteOut, OutEnds, writer_with}
-use Rattle.kern_net.specs.Rounds.{GivesBatch, FetchFails, IsWorn, IsRefused, WriteFails, IsUnfit, IsFailed}
+use Rattle.kern_net.specs.Rounds.{GivesBatch, FetchFails, IsOutOfTickets, IsRefused, WriteFails, IsUnfit, IsFailed}
 use Rattle.kern_net.specs.Rounds.{WritesBatch, RoundFails, IsDenied, IsCut, Sender}
 use Rattle.kern_net.proofs.StreamLemmas.{no_posts, stream-append}
 use Rattle.kern_net.proofs.GrowLemmas.{Grows, posts_grow}
@@ -114,7 +114,7 @@ all_on target a b d xs ys s t = record {
 }
 
 pub all_front : (target : Target) (a b d : OutletState) (xs ys : List Post)
-    → WroteAll target a b xs → WroteFront target b d ys → WroteFront target a d (xs ++ ys)
+    → WroteAll target a b xs → WrotePrefix target b d ys → WrotePrefix target a d (xs ++ ys)
 all_front target a b d xs ys s t = record {
   begun = xs ++ t.begun;
   others = t.others;
@@ -124,8 +124,8 @@ all_front target a b d xs ys s t = record {
   front = front_on a.taken b.taken d.taken s.bytes t.bytes s.took t.front;
 }
 
--- nothing is a front of all
-pub no_front : (target : Target) (a : OutletState) (xs : List Post) → WroteFront target a a xs
+-- nothing is a prefix of all
+pub no_front : (target : Target) (a : OutletState) (xs : List Post) → WrotePrefix target a a xs
 no_front target a xs = record {
   begun = [];
   others = xs;
@@ -136,7 +136,7 @@ no_front target a xs = record {
 }
 
 whole_front : (target : Target) (a b : OutletState) (xs : List Post) → WroteAll target a b xs
-    → WroteFront target a b xs
+    → WrotePrefix target a b xs
 whole_front target a b xs s = record {
   begun = xs;
   others = [];
@@ -147,10 +147,10 @@ whole_front target a b xs s = record {
 }
 
 pub front_of : (target : Target) (a b : OutletState) (posts : List Post) (bytes slice : List ℕ)
-    → IsStreamOf target.key target.session posts bytes → slice ≡ bytes → TookFront a b slice
-    → WroteFront target a b posts
+    → IsStreamOf target.key target.session posts bytes → slice ≡ bytes → TookPrefix a b slice
+    → WrotePrefix target a b posts
 front_of target a b posts bytes slice s e f =
-    let F : List ℕ → Type 0 = λ l. TookFront a b l in
+    let F : List ℕ → Type 0 = λ l. TookPrefix a b l in
     record {
       begun = posts;
       others = [];
@@ -228,10 +228,10 @@ joined target a b from f next history posts w g =
 
 window_on : (target : Target) (a b d : OutletState) (from f next : ℕ)
     (history : List (ℕ × Call)) (posts : List Post) → Written target a b from f history
-    → Gives target.connection f (posts_in history) posts next → WroteFront target b d posts
-    → WroteFront target a d (window target.connection from next (posts_in history))
+    → Gives target.connection f (posts_in history) posts next → WrotePrefix target b d posts
+    → WrotePrefix target a d (window target.connection from next (posts_in history))
 window_on target a b d from f next history posts w g t =
-    let F : List Post → Type 0 = λ l. WroteFront target a d l in
+    let F : List Post → Type 0 = λ l. WrotePrefix target a d l in
     subst F (joined target a b from f next history posts w g)
     (all_front target a b d (window target.connection from f (posts_in history)) posts w.all t)
 
@@ -341,7 +341,7 @@ refused_ends c next x fault.NoConnection n = n
 
 denied_ends : (c f next : ℕ) (v w : PassState Call) (x : Writer) (e : PumpEnd) → x.polls.idle.no ≡ 0
     → IsWritable x.outlet → FetchFails c v w f e → OutEnds c next x e
-denied_ends c f next v w x e o n (IsWorn e1 h k) = ends_as c next x e end.Worn h (n, o)
+denied_ends c f next v w x e o n (IsOutOfTickets e1 h k) = ends_as c next x e end.OutOfTickets h (n, o)
 denied_ends c f next v w x e o n (IsRefused e1 fault h t) =
     ends_as c next x e (end_by_kernel fault) h (refused_ends c next x fault (n, o))
 
@@ -469,10 +469,10 @@ module _ (target : Target) (a b d : OutletState) (p q : WriterPolls) (from f : �
 
   denied : (e : PumpEnd) → FetchFails target.connection v w f e → d ≡ b → IsWritable d
       → WroteOut target from (writer_with a o p) (writer_with d w q) e
-  denied e (IsWorn e1 h k) same good =
+  denied e (IsOutOfTickets e1 h k) same good =
       standing e ([], append-nil v.seen ∙ sym (ap (λ (x : PassState Call). x.seen) k))
-      (stops_as target.connection f v w e end.Worn h k) same
-      (denied_ends target.connection f f v w (writer_with d w q) e still good (IsWorn e1 h k))
+      (stops_as target.connection f v w e end.OutOfTickets h k) same
+      (denied_ends target.connection f f v w (writer_with d w q) e still good (IsOutOfTickets e1 h k))
   denied e (IsRefused e1 x h t) same good =
       standing e (turned_prefix v w (Fetch target.connection f) (Err x) t)
       (stops_as target.connection f v w e (end_by_kernel x) h
@@ -481,7 +481,7 @@ module _ (target : Target) (a b d : OutletState) (p q : WriterPolls) (from f : �
 
   cut_at : (e : PumpEnd) (posts : List Post) (next : ℕ) (ended : Bool) → is_whole e ≡ false
       → TurnedBy v (Fetch target.connection f) (Ok (reply.Fetched posts next ended)) w
-      → WroteFront target b d posts → OutEnds target.connection next (writer_with d w q) e
+      → WrotePrefix target b d posts → OutEnds target.connection next (writer_with d w q) e
       → WroteOut target from (writer_with a o p) (writer_with d w q) e
   cut_at e posts next ended n t front cause =
       let k = moved target.connection f v w posts next ended t in
@@ -502,7 +502,7 @@ module _ (target : Target) (a b d : OutletState) (p q : WriterPolls) (from f : �
       → TurnedBy v (Fetch target.connection f) (Ok (reply.Fetched posts next ended)) w
       → WriteFails target b d posts e → WroteOut target from (writer_with a o p) (writer_with d w q) e
   cut e posts next ended t (IsUnfit e1 h same x) =
-      let F : OutletState → Type 0 = λ y. WroteFront target b y posts in
+      let F : OutletState → Type 0 = λ y. WrotePrefix target b y posts in
       cut_at e posts next ended (ap is_whole h) t (subst F (sym same) (no_front target b posts))
       (cut_ends target b next (writer_with d w q) posts e still (IsUnfit e1 h same x))
   cut e posts next ended t (IsFailed e1 h front x) =
@@ -533,7 +533,7 @@ turned_calls v w c f r false h t = let k = ap length (t.refused h).counted in om
 
 denied_calls : (c f : ℕ) (v w : PassState Call) (e : PumpEnd) → FetchFails c v w f e
     → length v.calls ≤ length w.calls
-denied_calls c f v w e (IsWorn e1 h k) =
+denied_calls c f v w e (IsOutOfTickets e1 h k) =
     let l = ap (λ (x : PassState Call). length x.calls) k in omega (arith, l)
 denied_calls c f v w e (IsRefused e1 x h t) = turned_calls v w c f (Err x) (is_entry (Err x)) refl t
 

@@ -17,7 +17,7 @@ use Rattle.kern_net.specs.Submitting.{Submits, NoMore, Submitted, Dropped}
 use Rattle.kern_net.specs.Routes.{Source}
 use Rattle.kern_net.specs.ReadEnds.{Reader, IsRefusal, StopsBy, StopsPiece, EndsBy, submits_all}
 use Rattle.kern_net.specs.Reading.{TakesTurns, NoCall, OneMore, TakesTurnsUntil, SubmittedAll}
-use Rattle.kern_net.specs.Reading.{SubmittedFront, Receiver, ReceivedAll, ReceivedFront, ReadOut}
+use Rattle.kern_net.specs.Reading.{SubmittedPrefix, Receiver, ReceivedAll, ReceivedPrefix, ReadOut}
 use Rattle.kern_net.proofs.SubmitLemmas.{submitted_none, not_all}
 use Rattle.kern_net.proofs.CallLemmas.{calls_on}
 
@@ -61,11 +61,11 @@ completes_on : (s t u : DecoderState) (x y : List ℕ) (m n : List (List (List �
     → Completes s (x ++ y) (m ++ n) u
 completes_on s t u x y m n p q = record {
   role = q.role ∙ p.role;
-  stands = λ stream messages k.
+  represents = λ stream messages k.
       let P : List ℕ → Type 0 = λ l. HasReadMessages u l (messages ++ (m ++ n)) in
       let Q : List (List (List ℕ)) → Type 0 = λ l. HasReadMessages u ((stream ++ x) ++ y) l in
       subst P (append_assoc stream x y) (subst Q (append_assoc messages m n)
-      (q.stands (stream ++ x) (messages ++ m) (p.stands stream messages k)));
+      (q.represents (stream ++ x) (messages ++ m) (p.represents stream messages k)));
 }
 
 -- ---- calls
@@ -127,10 +127,10 @@ all_on source m n old mid new p q = record {
   turns = granted_on old mid new p.added q.added p.turns q.turns;
 }
 
--- or a front of those
+-- or a prefix of those
 front_on : (source : Source) (m n : List (List (List ℕ))) (old mid new : PassState Call) (e : PumpEnd)
-    → SubmittedAll source m old mid → SubmittedFront source n mid new e
-    → SubmittedFront source (m ++ n) old new e
+    → SubmittedAll source m old mid → SubmittedPrefix source n mid new e
+    → SubmittedPrefix source (m ++ n) old new e
 front_on source m n old mid new e p q = record {
   front = m ++ q.front;
   others = q.others;
@@ -143,9 +143,9 @@ front_on source m n old mid new e p q = record {
   all = q.all;
 }
 
--- a front of these messages is one of these and more
+-- a prefix of these messages is one of these and more
 front_before : (source : Source) (m n : List (List (List ℕ))) (old new : PassState Call) (e : PumpEnd)
-    → submits_all e ≡ false → SubmittedFront source m old new e → SubmittedFront source (m ++ n) old new e
+    → submits_all e ≡ false → SubmittedPrefix source m old new e → SubmittedPrefix source (m ++ n) old new e
 front_before source m n old new e no_all p = record {
   front = p.front;
   others = p.others ++ n;
@@ -158,7 +158,7 @@ front_before source m n old new e no_all p = record {
 }
 
 front_whole : (source : Source) (m : List (List (List ℕ))) (old new : PassState Call) (e : PumpEnd)
-    → SubmittedAll source m old new → SubmittedFront source m old new e
+    → SubmittedAll source m old new → SubmittedPrefix source m old new e
 front_whole source m old new e p = record {
   front = m;
   others = [];
@@ -195,13 +195,13 @@ coming_on source messages rest rest' frames old mid new p e q = record {
 pub coming_refused : (source : Source) (messages rest rest' : List (List (List ℕ)))
     (frames : List (List ℕ))
     (old mid new : PassState Call) (e : PumpEnd) → Coming source messages rest old mid → rest ≡ frames ∷ rest'
-    → StopsBy e mid.calls new → SubmittedFront source (frames ∷ []) mid new e
-    → SubmittedFront source messages old new e
+    → StopsBy e mid.calls new → SubmittedPrefix source (frames ∷ []) mid new e
+    → SubmittedPrefix source messages old new e
 coming_refused source messages rest rest' frames old mid new e p is stops q =
     let one = front_on source p.done (frames ∷ []) old mid new e p.submitted q in
     let no_all = not_all e mid.calls new stops in
     let all = front_before source (p.done ++ frames ∷ []) rest' old new e no_all one in
-    let C : List (List (List ℕ)) → Type 0 = λ l. SubmittedFront source l old new e in
+    let C : List (List (List ℕ)) → Type 0 = λ l. SubmittedPrefix source l old new e in
     subst C (append_assoc p.done (frames ∷ []) rest'
     ∙ sym (p.split ∙ ap (λ (l : List (List (List ℕ))). p.done ++ l) is)) all
 
@@ -230,7 +230,7 @@ receives_piece source s t bytes messages old new reads submitted =
     record { messages = messages; reads = reads; submitted = submitted }
 
 receives_whole : (source : Source) (held : List (List (List ℕ))) (bytes : List ℕ) (old new : Receiver)
-    (e : PumpEnd) → ReceivedAll source held bytes old new → ReceivedFront source held bytes old new e
+    (e : PumpEnd) → ReceivedAll source held bytes old new → ReceivedPrefix source held bytes old new e
 receives_whole source held bytes old new e h = record {
   taken = bytes;
   unread = [];
@@ -246,15 +246,15 @@ pub receives_broken : (source : Source) (s t : DecoderState) (bytes : List ℕ)
     (messages : List (List (List ℕ)))
     (old new : PassState Call) (e : PumpEnd) → Completes s bytes messages t
     → SubmittedAll source messages old new
-    → ReceivedFront source [] bytes (receiver s old) (receiver t new) e
+    → ReceivedPrefix source [] bytes (receiver s old) (receiver t new) e
 receives_broken source s t bytes messages old new e reads submitted =
     receives_whole source [] bytes (receiver s old) (receiver t new) e
     (receives_piece source s t bytes messages old new reads submitted)
 
 receives_front : (source : Source) (s t : DecoderState) (held : List (List (List ℕ))) (bytes : List ℕ)
     (messages : List (List (List ℕ))) (old new : PassState Call) (e : PumpEnd) → Completes s bytes messages t
-    → SubmittedFront source (held ++ messages) old new e
-    → ReceivedFront source held bytes (receiver s old) (receiver t new) e
+    → SubmittedPrefix source (held ++ messages) old new e
+    → ReceivedPrefix source held bytes (receiver s old) (receiver t new) e
 receives_front source s t held bytes messages old new e reads submitted = record {
   taken = bytes;
   unread = [];
@@ -268,15 +268,15 @@ receives_front source s t held bytes messages old new e reads submitted = record
 pub receives_refused : (source : Source) (s t : DecoderState) (bytes : List ℕ)
     (messages : List (List (List ℕ)))
     (old new : PassState Call) (e : PumpEnd) → Completes s bytes messages t
-    → SubmittedFront source messages old new e
-    → ReceivedFront source [] bytes (receiver s old) (receiver t new) e
+    → SubmittedPrefix source messages old new e
+    → ReceivedPrefix source [] bytes (receiver s old) (receiver t new) e
 receives_refused source s t bytes messages old new e reads submitted =
     receives_front source s t [] bytes messages old new e reads submitted
 
 -- the piece wasn't taken
 pub receives_not : (source : Source) (s t : DecoderState) (bytes : List ℕ) (old : PassState Call)
     → t ≡ s
-    → ReceivedFront source [] bytes (receiver s old) (receiver t old) pump.OutOfMemory
+    → ReceivedPrefix source [] bytes (receiver s old) (receiver t old) pump.OutOfMemory
 receives_not source s t bytes old decoder = record {
   taken = [];
   unread = bytes;
@@ -301,10 +301,10 @@ receives_held source s held old new submitted = record {
 
 front_held : (source : Source) (s : DecoderState) (held : List (List (List ℕ)))
     (old new : PassState Call)
-    (e : PumpEnd) → SubmittedFront source held old new e
-    → ReceivedFront source held [] (receiver s old) (receiver s new) e
+    (e : PumpEnd) → SubmittedPrefix source held old new e
+    → ReceivedPrefix source held [] (receiver s old) (receiver s new) e
 front_held source s held old new e submitted =
-    let A : List (List (List ℕ)) → Type 0 = λ l. SubmittedFront source l old new e in
+    let A : List (List (List ℕ)) → Type 0 = λ l. SubmittedPrefix source l old new e in
     receives_front source s s held [] [] old new e (completes_none s)
     (subst A (sym (append-nil held)) submitted)
 
@@ -322,10 +322,10 @@ receives_on source held x y old mid new p q =
     }
 
 stops_on : (source : Source) (held : List (List (List ℕ))) (x y : List ℕ) (old mid new : Receiver)
-    (e : PumpEnd) → ReceivedAll source held x old mid → ReceivedFront source [] y mid new e
-    → ReceivedFront source held (x ++ y) old new e
+    (e : PumpEnd) → ReceivedAll source held x old mid → ReceivedPrefix source [] y mid new e
+    → ReceivedPrefix source held (x ++ y) old new e
 stops_on source held x y old mid new e p q =
-    let A : List (List (List ℕ)) → Type 0 = λ l. SubmittedFront source l old.pass new.pass e in
+    let A : List (List (List ℕ)) → Type 0 = λ l. SubmittedPrefix source l old.pass new.pass e in
     record {
       taken = x ++ q.taken;
       unread = q.unread;
@@ -397,7 +397,7 @@ positive (suc count) some = omega arith
 -- refused in the messages that were held
 pub held_refused : (source : Source) (peer : Peer) (from : InletState) (old new : PassState Call)
     (e : PumpEnd)
-    → IsReadable from → StopsBy e old.calls new → SubmittedFront source peer.messages old new e
+    → IsReadable from → StopsBy e old.calls new → SubmittedPrefix source peer.messages old new e
     → ReadOut source peer (reader from old) (reader from new) e
 held_refused source peer from old new e good stops submitted = record {
   bytes = [];
@@ -415,7 +415,7 @@ held_refused source peer from old new e good stops submitted = record {
 -- stopped at a fault behind READY
 pub stopped_first : (source : Source) (peer : Peer) (from : InletState) (t : DecoderState)
     (old mid new : PassState Call) (e : PumpEnd) → IsReadable from → SubmittedAll source peer.messages old mid
-    → StopsPiece e mid.calls new t → ReceivedFront source [] [] (receiver peer.decoder mid) (receiver t new) e
+    → StopsPiece e mid.calls new t → ReceivedPrefix source [] [] (receiver peer.decoder mid) (receiver t new) e
     → ReadOut source peer (reader from old) (reader from new) e
 stopped_first source peer from t old mid new e good p stops q = record {
   bytes = [];
@@ -438,7 +438,7 @@ pub stopped : (source : Source) (peer : Peer) (g h k : InletState) (t u : Decode
     (x : List ℕ)
     (old mid new : PassState Call) (e : PumpEnd) → UnderWay source peer g h old (receiver t mid) reads
     → Gave h k x → WasRead h k 1 → reads < 4294967295 → IsReadable k → StopsPiece e mid.calls new u
-    → ReceivedFront source [] x (receiver t mid) (receiver u new) e
+    → ReceivedPrefix source [] x (receiver t mid) (receiver u new) e
     → ReadOut source peer (reader g old) (reader k new) e
 stopped source peer g h k t u reads x old mid new e p told was left good stops q = record {
   bytes = p.bytes ++ x;

@@ -63,14 +63,14 @@ pub call_granted : (old new : PassState Call) (call : Call) (answer : Result Rep
 call_granted old new call answer turned (reply, is) =
     let T : Result Reply KernelFault → Type 0 = λ a. TurnedBy old call a new in (reply, subst T is turned)
 
-pub worn_onward : (old new : PassState Call) → new ≡ record old { worn = true } → IsPrefix old.seen new.seen
-worn_onward old new is = ([], append-nil old.seen ∙ sym (ap (λ (x : PassState Call). x.seen) is))
+pub without_tickets_onward : (old new : PassState Call) → new ≡ record old { out_of_tickets = true } → IsPrefix old.seen new.seen
+without_tickets_onward old new is = ([], append-nil old.seen ∙ sym (ap (λ (x : PassState Call). x.seen) is))
 
 -- ---- whether the call stands in the journal
 
-pub refuses_worn : (old new : PassState Call) (call : Call) → new ≡ record old { worn = true }
-    → Refuses old call new pump.Worn
-refuses_worn old new call is = inl (ap (λ (x : PassState Call). x.calls) is)
+pub refuses_without_tickets : (old new : PassState Call) (call : Call) → new ≡ record old { out_of_tickets = true }
+    → Refuses old call new pump.OutOfTickets
+refuses_without_tickets old new call is = inl (ap (λ (x : PassState Call). x.calls) is)
 
 pub refuses_memory : (old new : PassState Call) (call : Call) (answer : Result Reply KernelFault)
     → Turned seated_answer is_entry is_full old call answer new → answer ≡ Err OutOfMemory
@@ -103,8 +103,8 @@ pub ruleset outcomes = (
   stops_journal_full,
   never_lagged,
   call_granted,
-  worn_onward,
-  refuses_worn,
+  without_tickets_onward,
+  refuses_without_tickets,
   refuses_memory,
   refuses_journal_full,
   refuses_full,

@@ -31,7 +31,7 @@ use Rattle.kern_net.specs.Submitting.{
 use Rattle.kern_net.specs.Submitting.{IsNoSubscription, IsDropped, IsDroppedOn, NoMore, Submitted, Dropped}
 use Rattle.kern_net.specs.Calls.{TurnedBy}
 use Rattle.kern_net.specs.ReadEnds.{IsRefusal, StopsBy, submits_all}
-use Rattle.kern_net.specs.Reading.{NoCall, OneMore, SubmittedAll, SubmittedFront}
+use Rattle.kern_net.specs.Reading.{NoCall, OneMore, SubmittedAll, SubmittedPrefix}
 
 -- a turn ends it before all was submitted
 pub not_all : (e : PumpEnd) (old : List Call) (pass : PassState Call) → StopsBy e old pass
@@ -39,7 +39,7 @@ pub not_all : (e : PumpEnd) (old : List Call) (pass : PassState Call) → StopsB
 not_all pump.OutOfMemory old pass stops = refl
 not_all pump.JournalFull old pass stops = refl
 not_all (pump.Refused fault) old pass stops = refl
-not_all pump.Worn old pass stops = refl
+not_all pump.OutOfTickets old pass stops = refl
 not_all _ old pass stops = absurd stops
 
 -- a call that was granted
@@ -73,7 +73,7 @@ dropped_one source frames old dropped = record {
 submitted_not : (source : Source) (messages : List (List (List ℕ))) (old new : PassState Call)
     (e : PumpEnd)
     → submits_all e ≡ false → IsPrefix old.seen new.seen → new.calls ≡ old.calls
-    → SubmittedFront source messages old new e
+    → SubmittedPrefix source messages old new e
 submitted_not source messages old new e no_all onward same = record {
   front = [];
   others = messages;
@@ -87,7 +87,7 @@ submitted_not source messages old new e no_all onward same = record {
 
 -- memory was wanting
 pub submitted_none : (source : Source) (messages : List (List (List ℕ))) (old : PassState Call)
-    → SubmittedFront source messages old old pump.OutOfMemory
+    → SubmittedPrefix source messages old old pump.OutOfMemory
 submitted_none source messages old =
     submitted_not source messages old old pump.OutOfMemory refl ([], append-nil old.seen) refl
 
@@ -96,7 +96,7 @@ submitted_refused : (source : Source) (frames : List (List ℕ)) (call : Call) (
     (e : PumpEnd)
     → IsSubmission source frames call → submits_all e ≡ false → IsPrefix old.seen new.seen
     → Refuses old call new e
-    → SubmittedFront source (frames ∷ []) old new e
+    → SubmittedPrefix source (frames ∷ []) old new e
 submitted_refused source frames call old new e submitted no_all onward (inl same) =
     submitted_not source (frames ∷ []) old new e no_all onward same
 submitted_refused source frames call old new e submitted no_all onward (inr (refusal, calls)) = record {
@@ -153,7 +153,7 @@ pub subscription_refused : (source : Source) (wants : Bool) (prefix : List ℕ) 
     → call ≡ Subscribe source.connection
     (record { wants = wants; prefix = prefix; unix_seconds = unix_seconds })
     → StopsBy e old.calls new → IsPrefix old.seen new.seen → Refuses old call new e
-    → SubmittedFront source (frames ∷ []) old new e
+    → SubmittedPrefix source (frames ∷ []) old new e
 subscription_refused source wants prefix unix_seconds frames call old new e iopub in_time frames_are call_is
     stops
     onward refused =
@@ -225,7 +225,7 @@ pub arrival_refused : (source : Source) (message : Message) (unix_seconds : ℕ)
     → call ≡ Arrive source.connection
     (record { request = request_of source.channel message; unix_seconds = unix_seconds })
     → StopsBy e old.calls new → IsPrefix old.seen new.seen → Refuses old call new e
-    → SubmittedFront source (frames ∷ []) old new e
+    → SubmittedPrefix source (frames ∷ []) old new e
 arrival_refused source message unix_seconds frames call old new e other in_time opens call_is stops onward
     refused =
     submitted_refused source frames call old new e

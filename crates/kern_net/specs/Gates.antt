@@ -31,7 +31,7 @@ pub record WorkerPolls : Type 0 where
 -- a reader's
 pub record ReaderPolls : Type 0 where
   pub wakes : ℕ
-  pub tells : ℕ
+  pub own_wakes : ℕ
 
 -- a writer's
 pub record WriterPolls : Type 0 where
@@ -47,10 +47,10 @@ idle_polled answer p = record p { idle = with_answer answer p.idle }
 abbrev pub with_wake : WorkerPolls → WorkerPolls
 with_wake p = record p { wakes = p.wakes + 1 }
 
--- `wake` was called once more, or `tell`, by whether the call concerns the worker
-abbrev pub rung : Bool → ReaderPolls → ReaderPolls
-rung true p = record p { wakes = p.wakes + 1 }
-rung false p = record p { tells = p.tells + 1 }
+-- `wake` was called once more, or `wake_own_writers`, by whether the call concerns the worker
+abbrev pub after_wake : Bool → ReaderPolls → ReaderPolls
+after_wake true p = record p { wakes = p.wakes + 1 }
+after_wake false p = record p { own_wakes = p.own_wakes + 1 }
 
 -- a gate that hasn't been polled yet, and has woken nobody
 abbrev pub no_polls : WorkerPolls
@@ -73,10 +73,10 @@ abbrev pub WokeForEach : PassState Call → PassState Call → ReaderPolls → R
 WokeForEach old new a b =
     b.wakes + count_by concerns_worker old.calls ≡ a.wakes + count_by concerns_worker new.calls
 
--- and `tell` once for each other call that was added
-abbrev pub ToldForEach : PassState Call → PassState Call → ReaderPolls → ReaderPolls → Type 0
-ToldForEach old new a b =
-    b.tells + count_by spares_worker old.calls ≡ a.tells + count_by spares_worker new.calls
+-- and `wake_own_writers` once for each other call that was added
+abbrev pub WokeOwnForEach : PassState Call → PassState Call → ReaderPolls → ReaderPolls → Type 0
+WokeOwnForEach old new a b =
+    b.own_wakes + count_by spares_worker old.calls ≡ a.own_wakes + count_by spares_worker new.calls
 
 -- The last call of the pass was a Fetch for this connection. It was answered with this number to go on at,
 -- after the last post that there was, and with whether a shutdown had come.

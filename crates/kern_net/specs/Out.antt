@@ -3,7 +3,7 @@ use Rattle.std.specs.Prelude.{◌≡◌, ℕ, ◌-◌, ◌≤◌, ◌⊎◌, Boo
 use Rattle.zmtp_wire.specs.Wire.{Bytes}
 use Rattle.lab_turn.specs.History.{PassState, TurnstileState}
 use Rattle.base_streams.specs.States.{OutletState, IsWritable}
-use Rattle.base_streams.specs.Told.{Took, TookFront}
+use Rattle.base_streams.specs.Told.{Took, TookPrefix}
 use Rattle.kern_post.specs.declared.post.Post.{Post}
 use Rattle.kern_core.specs.declared.call.Call.{Call}
 use Rattle.kern_core.specs.declared.call.Call.TheVariants.{Fetch}
@@ -55,7 +55,7 @@ StopsFetching connection next mid new end.Lagged =
     (first : ℕ) × TurnedBy mid (Fetch connection next) (Err (fault.Lagged first)) new
 StopsFetching connection next mid new (end.Refused fault) =
     TurnedBy mid (Fetch connection next) (Err fault) new × (is_entry (Err fault) ≡ true)
-StopsFetching connection next mid new end.Worn = new ≡ record mid { worn = true }
+StopsFetching connection next mid new end.OutOfTickets = new ≡ record mid { out_of_tickets = true }
 StopsFetching connection next mid new _ = ⊥
 
 -- no write failed, and memory didn't run out
@@ -64,14 +64,14 @@ is_whole end.OutOfMemory = false
 is_whole end.WriteFailed = false
 is_whole _ = true
 
--- what was written is a front of the messages of these posts
-pub record WroteFront (target : Target) (to to' : OutletState) (posts : List Post) : Type 0 where
+-- what was written is a prefix of the messages of these posts
+pub record WrotePrefix (target : Target) (to to' : OutletState) (posts : List Post) : Type 0 where
   pub begun : List Post
   pub others : List Post
   pub split : posts ≡ begun ++ others
   pub bytes : Bytes
   pub stream : IsStreamOf target.key target.session begun bytes
-  pub front : TookFront to to' bytes
+  pub front : TookPrefix to to' bytes
 
 -- what was written are the messages of these posts
 pub record WroteAll (target : Target) (to to' : OutletState) (posts : List Post) : Type 0 where
@@ -96,7 +96,7 @@ OutEnds connection next writer end.WriteFailed =
 OutEnds connection next writer _ = IsWritable writer.outlet × (writer.polls.idle.no ≡ 0)
 
 -- Only Fetches were called, up to the first that was refused. What was written are the posts to the
--- connection that they cover, in the history that the pass has seen, or a front of them.
+-- connection that they cover, in the history that the pass has seen, or a prefix of them.
 pub record WroteOut (target : Target) (from : ℕ) (old new : Writer) (e : PumpEnd) : Type 0 where
   pub mid : PassState Call
   pub next : ℕ
@@ -104,7 +104,7 @@ pub record WroteOut (target : Target) (from : ℕ) (old new : Writer) (e : PumpE
   pub within : next - from ≤ length (drop (from - 1) (posts_in new.pass.seen))
   pub fetched : FetchedOn target.connection from old.pass mid next
   pub last : StopsFetching target.connection next mid new.pass e
-  pub front : WroteFront target old.outlet new.outlet
+  pub front : WrotePrefix target old.outlet new.outlet
       (window target.connection from next (posts_in new.pass.seen))
   pub whole : is_whole e ≡ true → WroteAll target old.outlet new.outlet
       (window target.connection from next (posts_in new.pass.seen))

@@ -44,7 +44,7 @@ abbrev pub StopsBy : PumpEnd → List Call → PassState Call → Type 0
 StopsBy pump.OutOfMemory old pass = Unit {0}
 StopsBy pump.JournalFull old pass = length pass.seen ≡ pass.turnstile.limit
 StopsBy (pump.Refused fault) old pass = LastAnswer old pass (Err fault)
-StopsBy pump.Worn old pass = pass.worn ≡ true
+StopsBy pump.OutOfTickets old pass = pass.out_of_tickets ≡ true
 StopsBy _ old pass = ⊥
 
 -- or the stream broke

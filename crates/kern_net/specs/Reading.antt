@@ -15,7 +15,7 @@ use Rattle.kern_net.specs.declared.routes.IncomingRoute.{IncomingRoute}
 use Rattle.kern_net.specs.Routes.{Source, source_of}
 use Rattle.kern_net.specs.Submitting.{Submits}
 use Rattle.kern_net.specs.Calls.{TurnedBy}
-use Rattle.kern_net.specs.Gates.{ReaderPolls, WokeForEach, ToldForEach}
+use Rattle.kern_net.specs.Gates.{ReaderPolls, WokeForEach, WokeOwnForEach}
 use Rattle.kern_net.specs.ReadEnds.{Reader, IsRefusal, StopsBy, StopsPiece, EndsBy, submits_all}
 
 -- these calls were made, one turn after the other, and none was refused
@@ -40,8 +40,8 @@ pub record SubmittedAll (source : Source) (messages : Messages) (old new : PassS
   pub calls : new.calls ≡ old.calls ++ added
   pub turns : TakesTurns old new added
 
--- the calls that a front of these messages asks for were made, until this end
-pub record SubmittedFront (source : Source) (messages : Messages) (old new : PassState Call)
+-- the calls that a prefix of these messages asks for were made, until this end
+pub record SubmittedPrefix (source : Source) (messages : Messages) (old new : PassState Call)
     (e : PumpEnd) : Type 0 where
   pub front : Messages
   pub others : Messages
@@ -58,7 +58,7 @@ abbrev pub SubmittedFor : Source → Messages → PassState Call → PassState C
     → Result (Unit {0}) PumpEnd → Type 0
 SubmittedFor source messages old new result = MatchResult result
     (λ _. SubmittedAll source messages old new)
-    (λ e. SubmittedFront source messages old new e × StopsBy e old.calls new)
+    (λ e. SubmittedPrefix source messages old new e × StopsBy e old.calls new)
 
 -- the decoder of a peer's stream, and the pass of the calls that are made for it
 pub record Receiver : Type 0 where
@@ -73,16 +73,16 @@ pub record ReceivedAll (source : Source) (held : Messages) (bytes : Bytes) (old 
   pub reads : Completes old.decoder bytes messages new.decoder
   pub submitted : SubmittedAll source (held ++ messages) old.pass new.pass
 
--- the decoder read a front of the bytes, and the calls were made that a front of the messages asks for, until
+-- the decoder read a prefix of the bytes, and the calls were made that a prefix of the messages asks for, until
 -- this end
-pub record ReceivedFront (source : Source) (held : Messages) (bytes : Bytes) (old new : Receiver)
+pub record ReceivedPrefix (source : Source) (held : Messages) (bytes : Bytes) (old new : Receiver)
     (e : PumpEnd) : Type 0 where
   pub taken : Bytes
   pub unread : Bytes
   pub messages : Messages
   pub bytes_are : bytes ≡ taken ++ unread
   pub reads : Completes old.decoder taken messages new.decoder
-  pub submitted : SubmittedFront source (held ++ messages) old.pass new.pass e
+  pub submitted : SubmittedPrefix source (held ++ messages) old.pass new.pass e
   pub all : submits_all e ≡ true → unread ≡ []
 
 -- the decoder read this piece, and the calls that its messages ask for were made: on Ok all of them, else as
@@ -90,14 +90,14 @@ pub record ReceivedFront (source : Source) (held : Messages) (bytes : Bytes) (ol
 abbrev pub PieceSubmitted : Source → Bytes → Receiver → Receiver → Result (Unit {0}) PumpEnd → Type 0
 PieceSubmitted source piece old new result = MatchResult result
     (λ _. ReceivedAll source [] piece old new)
-    (λ e. ReceivedFront source [] piece old new e × StopsPiece e old.pass.calls new.pass new.decoder)
+    (λ e. ReceivedPrefix source [] piece old new e × StopsPiece e old.pass.calls new.pass new.decoder)
 
 -- a peer was read from to this end, beginning with the messages that came with its READY
 pub record ReadOut (source : Source) (peer : Peer) (old new : Reader) (e : PumpEnd) : Type 0 where
   pub bytes : Bytes
   pub after : DecoderState
   pub gave : Gave old.inlet new.inlet bytes
-  pub received : ReceivedFront source peer.messages bytes (record { decoder = peer.decoder; pass = old.pass })
+  pub received : ReceivedPrefix source peer.messages bytes (record { decoder = peer.decoder; pass = old.pass })
       (record { decoder = after; pass = new.pass }) e
   pub reads : ℕ
   pub was_read : WasRead old.inlet new.inlet reads
@@ -119,6 +119,6 @@ reader_with inlet pass polls = record { inlet = inlet; pass = pass; polls = poll
 pub record PumpsIn (route : IncomingRoute) (peer : Peer) (old new : GatedReader) (e : PumpEnd) : Type 0 where
   pub same : (new.pass.turnstile ≡ route.desk.now) × (new.pass.seat ≡ old.pass.seat)
   pub woke : WokeForEach old.pass new.pass old.polls new.polls
-  pub told : ToldForEach old.pass new.pass old.polls new.polls
+  pub told : WokeOwnForEach old.pass new.pass old.polls new.polls
   pub read : ReadOut (source_of route) peer (record { inlet = old.inlet; pass = old.pass })
       (record { inlet = new.inlet; pass = new.pass }) e

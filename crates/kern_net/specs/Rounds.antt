@@ -15,7 +15,7 @@ use Rattle.kern_net.specs.Calls.{TurnedBy}
 use Rattle.kern_net.specs.declared.pump_out.Batch.{Batch}
 use Rattle.kern_net.specs.declared.pump_out.Cursor.{Cursor}
 use Rattle.kern_net.specs.Routes.{Target}
-use Rattle.kern_net.specs.Out.{WroteFront, WroteAll}
+use Rattle.kern_net.specs.Out.{WrotePrefix, WroteAll}
 
 -- the answer is posts, or a refusal
 abbrev pub IsFetchAnswer : Result Reply KernelFault → Type 0
@@ -30,7 +30,7 @@ GivesBatch answer (Err e) = (fault : KernelFault) × (answer ≡ Err fault) × (
 
 -- there was no turn for the Fetch, or it was refused
 pub data FetchFails (connection : ℕ) (old new : PassState Call) (from : ℕ) : PumpEnd → Type 0 where
-  IsWorn : (e : PumpEnd) → e ≡ end.Worn → new ≡ record old { worn = true }
+  IsOutOfTickets : (e : PumpEnd) → e ≡ end.OutOfTickets → new ≡ record old { out_of_tickets = true }
       → FetchFails connection old new from e
   IsRefused : (e : PumpEnd) (fault : KernelFault) → e ≡ end_by_kernel fault
       → TurnedBy old (Fetch connection from) (Err fault) new → FetchFails connection old new from e
@@ -38,7 +38,7 @@ pub data FetchFails (connection : ℕ) (old new : PassState Call) (from : ℕ) :
 -- there was no memory for the posts' bytes, or a write failed
 pub data WriteFails (target : Target) (to to' : OutletState) (posts : List Post) : PumpEnd → Type 0 where
   IsUnfit : (e : PumpEnd) → e ≡ end.OutOfMemory → to' ≡ to → IsWritable to' → WriteFails target to to' posts e
-  IsFailed : (e : PumpEnd) → e ≡ end.WriteFailed → WroteFront target to to' posts → to'.failed ≡ true
+  IsFailed : (e : PumpEnd) → e ≡ end.WriteFailed → WrotePrefix target to to' posts → to'.failed ≡ true
       → WriteFails target to to' posts e
 
 -- what is written to, and the pass of the calls that fetch

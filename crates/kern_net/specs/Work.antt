@@ -34,7 +34,7 @@ progress_of _ = None
 abbrev pub untaken : PumpEnd → ℕ
 untaken end.OutOfMemory = 1
 untaken end.JournalFull = 1
-untaken end.Worn = 1
+untaken end.OutOfTickets = 1
 untaken _ = 0
 
 -- the last call was a Slice, and was answered that a shutdown has come
@@ -45,7 +45,7 @@ SawShutdown pass = (unix_seconds : ℕ) × LastCall pass (Slice unix_seconds) (O
 abbrev pub SliceEnds : PassState Call → PassState Call → PumpEnd → Type 0
 SliceEnds old new end.OutOfMemory = new.calls ≡ old.calls
 SliceEnds old new end.JournalFull = (new.calls ≡ old.calls) × IsJournalFull new
-SliceEnds old new end.Worn = (new.calls ≡ old.calls) × (new.worn ≡ true)
+SliceEnds old new end.OutOfTickets = (new.calls ≡ old.calls) × (new.out_of_tickets ≡ true)
 SliceEnds old new _ = ⊥
 
 -- Only Slices were added. `before` let them through, and this many more that weren't taken; `idle` was polled
@@ -64,7 +64,7 @@ abbrev pub WorkEnds : PassState Call → WorkerPolls → PumpEnd → Type 0
 WorkEnds pass polls end.Ended = (noes polls ≡ 1) ⊎ (IsOpen polls × SawShutdown pass)
 WorkEnds pass polls end.OutOfMemory = IsOpen polls
 WorkEnds pass polls end.JournalFull = IsOpen polls × IsJournalFull pass
-WorkEnds pass polls end.Worn = IsOpen polls × (pass.worn ≡ true)
+WorkEnds pass polls end.OutOfTickets = IsOpen polls × (pass.out_of_tickets ≡ true)
 WorkEnds pass polls _ = ⊥
 
 -- a worker's pass, and what its gate was polled

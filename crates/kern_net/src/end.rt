@@ -23,7 +23,7 @@ pub enum PumpEnd {
     /// A call was refused for another reason.
     Refused(KernelFault),
     /// The desk has no more turns.
-    Worn,
+    OutOfTickets,
 }
 
 impl From<PeerFault> for PumpEnd {

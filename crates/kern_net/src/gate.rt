@@ -2,7 +2,7 @@
 //! and wake the others. A gate isn't polled again once it has answered false.
 ghost use Rattle.std.specs.Prelude.{◌≡◌, ◌≤◌, true, false};
 ghost use Rattle.kern_net.specs.Gates.{WorkerPolls, ReaderPolls, WriterPolls, with_answer};
-ghost use Rattle.kern_net.specs.Gates.{before_polled, idle_polled, with_wake, rung, HasCaughtUp};
+ghost use Rattle.kern_net.specs.Gates.{before_polled, idle_polled, with_wake, after_wake, HasCaughtUp};
 
 use kern_desk::seated::Pass;
 use std::sync::Wait;
@@ -34,17 +34,17 @@ pub trait WorkerGate {
 
 /// How a reader wakes others.
 pub trait ReaderGate {
-    /// How often `wake` and `tell` were called.
+    /// How often `wake` and `wake_own_writers` were called.
     ghost polls: { Self → ReaderPolls };
 
     /// Wakes the worker and all writers, after a call that may have given the worker something to do.
     fn wake<R: Wait>(&mut self, rt: &R)
-        ensures { polls self.new ≡ rung true (polls self.old) };
+        ensures { polls self.new ≡ after_wake true (polls self.old) };
 
     /// Wakes only the writer of the reader's own connection and those of iopub, after a call that gave the
     /// worker nothing to do: it can only have posted to them.
-    fn tell<R: Wait>(&mut self, rt: &R)
-        ensures { polls self.new ≡ rung false (polls self.old) };
+    fn wake_own_writers<R: Wait>(&mut self, rt: &R)
+        ensures { polls self.new ≡ after_wake false (polls self.old) };
 
     /// Whole seconds since 1970-01-01T00:00:00Z. A time after 2100-01-01T00:00:00Z counts as that.
     fn unix_seconds<R: Wait>(&mut self, rt: &R) -> u64

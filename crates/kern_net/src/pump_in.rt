@@ -3,7 +3,7 @@ ghost use Rattle.std.specs.Prelude.{◌≡◌};
 ghost use Rattle.base_streams.specs.States.{IsReadable};
 ghost use Rattle.zmtp_wire.specs.declared.fault.StreamFault.{StreamFault};
 ghost use Rattle.kern_net.specs.declared.end.PumpEnd.TheVariants as pump;
-ghost use Rattle.kern_net.specs.Gates.{WokeForEach, ToldForEach};
+ghost use Rattle.kern_net.specs.Gates.{WokeForEach, WokeOwnForEach};
 ghost use Rattle.kern_net.specs.Reading.{SubmittedFor, PieceSubmitted, PumpsIn, reader_with};
 ghost use Rattle.kern_net.specs.Routes.{source_of};
 
@@ -32,7 +32,7 @@ fn submit_all<R: Wait, G: ReaderGate>(
     requires { pass.old.turnstile ≡ route.now.desk.now }
     ensures same { (pass.new.turnstile ≡ route.now.desk.now) × (pass.new.seat ≡ pass.old.seat) }
     ensures woke { WokeForEach pass.old pass.new (G.polls gate.old) (G.polls gate.new) }
-    ensures told { ToldForEach pass.old pass.new (G.polls gate.old) (G.polls gate.new) }
+    ensures told { WokeOwnForEach pass.old pass.new (G.polls gate.old) (G.polls gate.new) }
     ensures submitted { SubmittedFor (source_of route.now) messages pass.old pass.new result }
 {
     for frames in messages.into_vec() {
@@ -57,7 +57,7 @@ fn take_piece<R: Wait, G: ReaderGate>(
     requires { pass.old.turnstile ≡ route.now.desk.now }
     ensures same { (pass.new.turnstile ≡ route.now.desk.now) × (pass.new.seat ≡ pass.old.seat) }
     ensures woke { WokeForEach pass.old pass.new (G.polls gate.old) (G.polls gate.new) }
-    ensures told { ToldForEach pass.old pass.new (G.polls gate.old) (G.polls gate.new) }
+    ensures told { WokeOwnForEach pass.old pass.new (G.polls gate.old) (G.polls gate.new) }
     ensures submitted { PieceSubmitted (source_of route.now) piece.now
         (record { decoder = decoder.old; pass = pass.old })
         (record { decoder = decoder.new; pass = pass.new }) result }

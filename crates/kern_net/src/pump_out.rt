@@ -70,11 +70,11 @@ fn fetch<R: Wait>(
     let connection = route.connection;
     match route.desk.turn(rt, pass, Call::Fetch { connection, from }) {
         Ok(answer) => batch_of(answer),
-        Err(_) => Err(PumpEnd::Worn),
+        Err(_) => Err(PumpEnd::OutOfTickets),
     }
 }
 
-// Writes the messages of posts. On an error a front of them is written.
+// Writes the messages of posts. On an error a prefix of them is written.
 fn write_posts<W: Outlet>(
     alloc: Global,
     to: &mut W,

@@ -10,7 +10,7 @@ ghost use Rattle.kern_request.specs.Requests.{request_of as request_in};
 ghost use Rattle.kern_core.specs.declared.call.Call.TheVariants.{Arrive, Subscribe};
 ghost use Rattle.kern_core.specs.declared.call.Reply.{Reply};
 ghost use Rattle.kern_net.specs.Calls.{TurnedBy};
-ghost use Rattle.kern_net.specs.Gates.{rung, WokeForEach, ToldForEach};
+ghost use Rattle.kern_net.specs.Gates.{after_wake, WokeForEach, WokeOwnForEach};
 ghost use Rattle.kern_net.specs.Submitting.{subscription_frames, IsUnopened, IsNoSubscription};
 ghost use Rattle.kern_net.specs.ReadEnds.{IsReaderCall, IsRefusal, StopsBy};
 ghost use Rattle.kern_net.specs.Reading.{SubmittedFor};
@@ -46,12 +46,12 @@ fn refusal(answer: Result<Reply, KernelFault>) -> Result<(), KernelFault>
 
 // Wakes everybody if the worker may have something to do, else those whom the call may have posted to.
 fn ring<R: Wait, G: ReaderGate>(rt: &R, gate: &mut G, has_work: bool)
-    ensures { G.polls gate.new ≡ rung has_work (G.polls gate.old) }
+    ensures { G.polls gate.new ≡ after_wake has_work (G.polls gate.old) }
 {
     if has_work {
         gate.wake(rt);
     } else {
-        gate.tell(rt);
+        gate.wake_own_writers(rt);
     }
 }
 
@@ -68,7 +68,7 @@ fn make_call<R: Wait, G: ReaderGate>(
     requires read { IsReaderCall call }
     ensures same { (pass.new.turnstile ≡ desk.now) × (pass.new.seat ≡ pass.old.seat) }
     ensures woke { WokeForEach pass.old pass.new (G.polls gate.old) (G.polls gate.new) }
-    ensures told { ToldForEach pass.old pass.new (G.polls gate.old) (G.polls gate.new) }
+    ensures told { WokeOwnForEach pass.old pass.new (G.polls gate.old) (G.polls gate.new) }
     ensures ok { OnOk result ((reply : Reply) × TurnedBy pass.old call (Ok reply) pass.new) }
     ensures err { IfErr result (λ e. StopsBy e pass.old.calls pass.new) }
     ensures onward { OnErr result (IsPrefix pass.old.seen pass.new.seen) }
@@ -77,7 +77,7 @@ fn make_call<R: Wait, G: ReaderGate>(
 {
     let has_work = concerns_worker(&call);
     let Ok(answer) = desk.turn(rt, pass, call) else {
-        return Err(PumpEnd::Worn);
+        return Err(PumpEnd::OutOfTickets);
     };
     match refusal(answer) {
         Ok(()) => {
@@ -206,7 +206,7 @@ fn subscribe<R: Wait, G: ReaderGate>(
     requires iopub { route.now.channel ≡ Iopub }
     ensures same { (pass.new.turnstile ≡ route.now.desk.now) × (pass.new.seat ≡ pass.old.seat) }
     ensures woke { WokeForEach pass.old pass.new (G.polls gate.old) (G.polls gate.new) }
-    ensures told { ToldForEach pass.old pass.new (G.polls gate.old) (G.polls gate.new) }
+    ensures told { WokeOwnForEach pass.old pass.new (G.polls gate.old) (G.polls gate.new) }
     ensures submitted { SubmittedFor (source_of route.now) (frames.now ∷ []) pass.old pass.new result }
 {
     let Some(Wish { wants, prefix }) = wish_in(frames) else {
@@ -234,7 +234,7 @@ fn arrive<R: Wait, G: ReaderGate>(
     requires other { route.now.channel ≡ Iopub → ⊥ }
     ensures same { (pass.new.turnstile ≡ route.now.desk.now) × (pass.new.seat ≡ pass.old.seat) }
     ensures woke { WokeForEach pass.old pass.new (G.polls gate.old) (G.polls gate.new) }
-    ensures told { ToldForEach pass.old pass.new (G.polls gate.old) (G.polls gate.new) }
+    ensures told { WokeOwnForEach pass.old pass.new (G.polls gate.old) (G.polls gate.new) }
     ensures submitted { SubmittedFor (source_of route.now) (frames ∷ []) pass.old pass.new result }
 {
     match message_in(runtime.alloc, frames, route.key) {
@@ -264,7 +264,7 @@ pub(crate) fn submit<R: Wait, G: ReaderGate>(
     requires { pass.old.turnstile ≡ route.now.desk.now }
     ensures same { (pass.new.turnstile ≡ route.now.desk.now) × (pass.new.seat ≡ pass.old.seat) }
     ensures woke { WokeForEach pass.old pass.new (G.polls gate.old) (G.polls gate.new) }
-    ensures told { ToldForEach pass.old pass.new (G.polls gate.old) (G.polls gate.new) }
+    ensures told { WokeOwnForEach pass.old pass.new (G.polls gate.old) (G.polls gate.new) }
     ensures submitted { SubmittedFor (source_of route.now) (frames ∷ []) pass.old pass.new result }
 {
     if route.channel == Channel::Iopub {

@@ -66,7 +66,7 @@ fn slice<R: Wait, G: WorkerGate>(
 {
     let unix_seconds = gate.unix_seconds(rt);
     let Ok(answer) = desk.turn(rt, pass, Call::Slice { unix_seconds }) else {
-        return Err(PumpEnd::Worn);
+        return Err(PumpEnd::OutOfTickets);
     };
     match progress_of(answer) {
         Ok(progress) => {

@@ -183,7 +183,7 @@ fn no_connection(rt: HostRuntime) {
     expect_at(&rt, wrote.bytes == 0, "bytes", 0, wrote.bytes as u64);
     expect_at(&rt, has_ended(end, REFUSED), "another end of reading", 0, 0);
     expect_at(&rt, gate.wakes == 0, "wakes", 0, gate.wakes);
-    expect_at(&rt, gate.tells == 1, "tells", 0, gate.tells);
+    expect_at(&rt, gate.own_wakes == 1, "own_wakes", 0, gate.own_wakes);
     expect_at(&rt, is_called, "other calls", 0, 0);
 }
 

@@ -209,12 +209,12 @@ pub fn bytes_of<R: Abort>(rt: &R, alloc: Global, parts: &[Part]) -> Vec<u8> {
     bytes
 }
 
-// Whether bytes begin with a part, or are a front of the part.
+// Whether bytes begin with a part, or are a prefix of the part.
 fn is_met(bytes: &[u8], part: &[u8]) -> bool {
     bytes.starts_with(part) || part.starts_with(bytes)
 }
 
-/// Whether bytes are a front of some parts, one after the other.
+/// Whether bytes are a prefix of some parts, one after the other.
 pub fn is_front(bytes: &[u8], parts: &[Part]) -> bool {
     let mut rest = bytes;
     for part in parts {

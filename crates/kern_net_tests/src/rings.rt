@@ -18,7 +18,7 @@ use std::alloc::Global;
 use std::process::Abort;
 use std::sync::Wait;
 
-// A channel, what is written on it, and how often `wake` and `tell` are called.
+// A channel, what is written on it, and how often `wake` and `wake_own_writers` are called.
 type Row = (Channel, &'static [Part], u64, u64);
 
 const ROWS: [Row; 11] = [
@@ -41,7 +41,7 @@ const ROWS: [Row; 11] = [
 ];
 
 fn check_row<R: Wait + Abort>(rt: &R, alloc: Global, row: Row, place: usize) {
-    let (channel, given, wakes, tells) = row;
+    let (channel, given, wakes, own_wakes) = row;
     let mut table = open_table(rt, alloc, MOST_ENTRIES);
     let connection = table.join(rt, alloc, channel);
     let mut gate = InGate::new();
@@ -50,7 +50,13 @@ fn check_row<R: Wait + Abort>(rt: &R, alloc: Global, row: Row, place: usize) {
     let has_ended = has_ended(read, PumpEnd::PeerEnded);
     expect_at(rt, has_ended, "another end", place, 0);
     expect_at(rt, gate.wakes == wakes, "wakes", place, gate.wakes);
-    expect_at(rt, gate.tells == tells, "tells", place, gate.tells);
+    expect_at(
+        rt,
+        gate.own_wakes == own_wakes,
+        "own_wakes",
+        place,
+        gate.own_wakes,
+    );
     drop(table.close(rt, alloc));
 }
 

@@ -101,7 +101,7 @@ const CLOSED: &[Part] = &[
 
 const SUBSCRIBED: &[Part] = &[Part::Pub, Part::Status];
 
-/// How a conversation ended, how many bytes were written, and whether they are a front of the expected ones.
+/// How a conversation ended, how many bytes were written, and whether they are a prefix of the expected ones.
 #[derive(Clone, Copy)]
 pub struct Told {
     pub course: Course,

@@ -13,6 +13,6 @@ abbrev pub server_end : Bool → PumpEnd → Result ServerEnd ServerFault
 server_end false pump.Ended = Ok ShutDown
 server_end true pump.Ended = Ok JournalFull
 server_end closed pump.JournalFull = Ok JournalFull
-server_end closed pump.Worn = Ok JournalFull
+server_end closed pump.OutOfTickets = Ok JournalFull
 server_end closed pump.OutOfMemory = Err OutOfMemory
 server_end closed _ = Err System

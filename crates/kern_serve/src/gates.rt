@@ -32,7 +32,7 @@ pub struct InGate<'a, C: Clock> {
     // How many entries the journal had at its last subscription.
     entries: u64,
     wakes: u64,
-    tells: u64,
+    own_wakes: u64,
 }
 
 impl<'a, C: Clock> InGate<'a, C> {
@@ -46,20 +46,20 @@ impl<'a, C: Clock> InGate<'a, C> {
             slot,
             entries: wakeups.entries(),
             wakes: 0,
-            tells: 0,
+            own_wakes: 0,
         }
     }
 
     /// Whether the connection has made a call: a message of it opened, or on iopub it subscribed.
     pub fn was_used(&self) -> bool
-        ensures { IsTrue result ↔ (0 < self.now.wakes + self.now.tells) }
+        ensures { IsTrue result ↔ (0 < self.now.wakes + self.now.own_wakes) }
     {
-        self.wakes > 0 || self.tells > 0
+        self.wakes > 0 || self.own_wakes > 0
     }
 
     // Waits after a subscription, if there were many.
     fn hold(&mut self)
-        ensures { (self.new.wakes ≡ self.old.wakes) × (self.new.tells ≡ self.old.tells) }
+        ensures { (self.new.wakes ≡ self.old.wakes) × (self.new.own_wakes ≡ self.old.own_wakes) }
     {
         let entries = self.wakeups.entries();
         let micros = subscription_pause(entries, self.entries);
@@ -79,7 +79,7 @@ impl<'a, C: Clock> InGate<'a, C> {
 }
 
 impl<'a, C: Clock> ReaderGate for InGate<'a, C> {
-    ghost polls = { λ g. record { wakes = g.wakes; tells = g.tells } };
+    ghost polls = { λ g. record { wakes = g.wakes; own_wakes = g.own_wakes } };
 
     fn wake<R: Wait>(&mut self, rt: &R) {
         self.count(rt);
@@ -87,7 +87,7 @@ impl<'a, C: Clock> ReaderGate for InGate<'a, C> {
         self.wakes = one_more(rt, self.wakes);
     }
 
-    fn tell<R: Wait>(&mut self, rt: &R) {
+    fn wake_own_writers<R: Wait>(&mut self, rt: &R) {
         self.count(rt);
         match self.slot.channel {
             Channel::Iopub => {
@@ -98,7 +98,7 @@ impl<'a, C: Clock> ReaderGate for InGate<'a, C> {
             Channel::Control => self.wakeups.after_look(self.clock, self.own),
             Channel::Shell | Channel::Stdin => self.wakeups.after_request(self.own),
         }
-        self.tells = one_more(rt, self.tells);
+        self.own_wakes = one_more(rt, self.own_wakes);
     }
 
     fn unix_seconds<R: Wait>(&mut self, _rt: &R) -> u64 {

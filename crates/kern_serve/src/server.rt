@@ -174,7 +174,7 @@ fn end_of(end: PumpEnd, is_closed: bool) -> Result<ServerEnd, ServerFault>
 {
     match end {
         PumpEnd::Ended if !is_closed => Ok(ServerEnd::ShutDown),
-        PumpEnd::Ended | PumpEnd::JournalFull | PumpEnd::Worn => Ok(ServerEnd::JournalFull),
+        PumpEnd::Ended | PumpEnd::JournalFull | PumpEnd::OutOfTickets => Ok(ServerEnd::JournalFull),
         PumpEnd::OutOfMemory => Err(ServerFault::OutOfMemory),
         PumpEnd::PeerEnded
         | PumpEnd::ReadFailed

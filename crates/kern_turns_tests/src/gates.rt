@@ -84,18 +84,18 @@ impl<'a, C: Clock> WorkerGate for WorkGate<'a, C> {
 #[derive(Drop)]
 pub struct InGate {
     pub wakes: u64,
-    pub tells: u64,
+    pub own_wakes: u64,
 }
 
 impl ReaderGate for InGate {
-    ghost polls = { λ g. record { wakes = g.wakes; tells = g.tells } };
+    ghost polls = { λ g. record { wakes = g.wakes; own_wakes = g.own_wakes } };
 
     fn wake<R: Wait>(&mut self, rt: &R) {
         self.wakes = one_more(rt, self.wakes);
     }
 
-    fn tell<R: Wait>(&mut self, rt: &R) {
-        self.tells = one_more(rt, self.tells);
+    fn wake_own_writers<R: Wait>(&mut self, rt: &R) {
+        self.own_wakes = one_more(rt, self.own_wakes);
     }
 
     fn unix_seconds<R: Wait>(&mut self, _rt: &R) -> u64 {

@@ -108,7 +108,10 @@ fn read<R: Wait + Clock>(
         signals,
         clock: rt,
     };
-    let mut gate = InGate { wakes: 0, tells: 0 };
+    let mut gate = InGate {
+        wakes: 0,
+        own_wakes: 0,
+    };
     let route = IncomingRoute {
         desk,
         connection: CONTROL,

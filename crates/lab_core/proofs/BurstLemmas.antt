@@ -13,7 +13,7 @@ use Rattle.lab_core.specs.Board.{Board, next_change, after_next_step}
 use Rattle.lab_core.specs.Slices.{after_steps, traffic_of, reason, reason_before_fetch, reason_after_step}
 use Rattle.lab_core.specs.Slices.{waiting, end_by_undefined}
 use Rattle.lab_core.specs.Labs.{LabState, RepresentsDuringSlice, Makes, MakesAtMost, OneStepOnIn, ComputesIn}
-use Rattle.lab_core.specs.Labs.{SameBoardIn, amid}
+use Rattle.lab_core.specs.Labs.{SameBoardIn, in_slice}
 use Rattle.lab_core.specs.Labs.{KeepsAsked, Watches}
 use Rattle.lab_core.proofs.QuietLemmas.{or_or}
 
@@ -62,7 +62,7 @@ pub makes_none : (lab : LabState) (b : Board) (traffic : List PortOperation)
 makes_none lab b traffic s =
     let T : List PortOperation → Type 0 = λ all. RepresentsDuringSlice lab b all in
     record {
-      stands = subst T (sym (append-nil traffic)) s;
+      represents = subst T (sym (append-nil traffic)) s;
       none_before = λ j below. absurd (omega arith);
       found_is = tt;
     }
@@ -70,20 +70,20 @@ makes_none lab b traffic s =
 -- one more step, with no reason before it
 pub makes_more : (made : ℕ) (b : Board) (traffic : List PortOperation) (lab : LabState)
     (machine : MachineState) (context : Context) (machine' : MachineState) (context' : Context)
-    → Makes made None b traffic (amid lab machine context)
+    → Makes made None b traffic (in_slice lab machine context)
     → ComputesIn reason_before_fetch None machine context → ComputesIn end_by_undefined None machine context
     → OneStepOnIn machine context machine' context'
-    → Makes (made + 1) None b traffic (amid lab machine' context')
+    → Makes (made + 1) None b traffic (in_slice lab machine' context')
 makes_more made b traffic lab machine context machine' context' m free defined advances =
     let now = after_steps made b in
     let all = traffic ++ traffic_of made b in
     let T : List PortOperation → Type 0 =
-    λ all. RepresentsDuringSlice (amid lab machine' context') (after_steps (suc made) b) all in
+    λ all. RepresentsDuringSlice (in_slice lab machine' context') (after_steps (suc made) b) all in
     let joined = append_assoc traffic (traffic_of made b) (operation_list (next_change now).operation) in
-    let none = no_reason now (free lab now all m.stands) (defined lab now all m.stands) in
+    let none = no_reason now (free lab now all m.represents) (defined lab now all m.represents) in
     let one : made + 1 ≡ suc made = omega arith in
     rw one (record {
-      stands = subst T joined (advances lab now all m.stands);
+      represents = subst T joined (advances lab now all m.represents);
       none_before = λ j below. before made b j (m.none_before j) none below;
       found_is = tt;
     })
@@ -91,18 +91,18 @@ makes_more made b traffic lab machine context machine' context' m free defined a
 -- no further step, because the opcode at PC is undefined
 pub makes_end : (made : ℕ) (o : SliceOutcome) (b : Board) (traffic : List PortOperation) (lab : LabState)
     (machine : MachineState) (context : Context) (machine' : MachineState) (context' : Context)
-    → Makes made None b traffic (amid lab machine context)
+    → Makes made None b traffic (in_slice lab machine context)
     → ComputesIn reason_before_fetch None machine context
     → ComputesIn end_by_undefined (Some o) machine context
     → SameBoardIn machine context machine' context'
-    → Makes made (Some o) b traffic (amid lab machine' context')
+    → Makes made (Some o) b traffic (in_slice lab machine' context')
 makes_end made o b traffic lab machine context machine' context' m free undefined keeps =
     let now = after_steps made b in
     let all = traffic ++ traffic_of made b in
     record {
-      stands = keeps lab now all m.stands;
+      represents = keeps lab now all m.represents;
       none_before = m.none_before;
-      found_is = reason_undefined now o (free lab now all m.stands) (undefined lab now all m.stands);
+      found_is = reason_undefined now o (free lab now all m.represents) (undefined lab now all m.represents);
     }
 
 -- or because there is another reason
@@ -110,7 +110,7 @@ pub makes_found : (o : SliceOutcome) (b : Board) (traffic : List PortOperation) 
     → RepresentsDuringSlice lab b traffic → Some o ≡ reason_before_fetch b → Makes 0 (Some o) b traffic lab
 makes_found o b traffic lab s is =
     let m = makes_none lab b traffic s in
-    record { stands = m.stands; none_before = m.none_before; found_is = reason_stands b o is }
+    record { represents = m.represents; none_before = m.none_before; found_is = reason_stands b o is }
 
 -- further steps after the first k
 pub makes_on : (k made : ℕ) (found : Option SliceOutcome) (b : Board) (lab : LabState)
@@ -124,7 +124,7 @@ makes_on k made found b lab earlier m =
     λ all. RepresentsDuringSlice lab (after_steps made (after_steps k b)) all in
     let F : Board → Type 0 = λ board. IfSome found (λ o. reason board ≡ Some o) in
     rw swap (record {
-      stands = subst S (sym (after_more made k b)) (subst T (traffic_more made k b) m.stands);
+      represents = subst S (sym (after_more made k b)) (subst T (traffic_more made k b) m.represents);
       none_before = λ j below. (elim (cases_lt j k) [
         | inl less ↦ earlier j less
         | inr more ↦ (let at : j - k + k ≡ j = omega arith in

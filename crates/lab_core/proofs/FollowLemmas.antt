@@ -14,56 +14,57 @@ use Rattle.lab_core.specs.declared.lab.burst.BurstStep.{BurstStep}
 use Rattle.lab_core.specs.declared.lab.burst.BurstStep.TheVariants.{Within, Last, Ended}
 use Rattle.lab_core.specs.Board.{Board, next_change, after_next_step}
 use Rattle.lab_core.specs.Slices.{end_by_undefined}
-use Rattle.lab_core.specs.Labs.{LabState, RepresentsDuringSlice, IsInBurst, GoesOn, IsMade, Owed, amid}
+use Rattle.lab_core.specs.Labs.{LabState, RepresentsDuringSlice, IsInBurst, GoesOn, IsMade}
+use Rattle.lab_core.specs.Labs.{FollowsBurstStep, in_slice}
 use Rattle.lab_core.specs.Labs.{ending_of}
 use Rattle.lab_core.proofs.StandsLemmas.{finds_undefined, finds_no_undefined, stands_undefined}
 use Rattle.lab_core.proofs.QuietLemmas.{stands_followed, no_halt, no_arming}
 
 module _ (lab : LabState) (b : Board) (traffic : List PortOperation) (machine machine' : MachineState)
     (old : Context) (devices : DeviceState) (answer : Stepped)
-    (s : RepresentsDuringSlice (amid lab machine old) b traffic)
+    (s : RepresentsDuringSlice (in_slice lab machine old) b traffic)
     (did : IsBoardStep b.past machine old.devices machine' devices answer) where
   pub finds_owed : (site : ℕ) (new : Context) (result : BurstStep) → site ≡ machine.regs.pc
-      → Owed answer site machine'.regs.sp (record old { devices = devices }) new result
+      → FollowsBurstStep answer site machine'.regs.sp (record old { devices = devices }) new result
       → ending_of result ≡ end_by_undefined b
   finds_owed site new (Within frame_floor) is made =
-      finds_no_undefined (amid lab machine old) b traffic machine' devices answer s did made.defined
+      finds_no_undefined (in_slice lab machine old) b traffic machine' devices answer s did made.defined
   finds_owed site new Last is made =
-      finds_no_undefined (amid lab machine old) b traffic machine' devices answer s did made.defined
+      finds_no_undefined (in_slice lab machine old) b traffic machine' devices answer s did made.defined
   finds_owed site new (Ended outcome) is none =
       let step = subst (IsBoardStep b.past machine old.devices machine' devices) none.answer_is did in
       ap Some none.outcome_is
-      ∙ finds_undefined (amid lab machine old) b traffic machine' devices none.opcode site s step is
+      ∙ finds_undefined (in_slice lab machine old) b traffic machine' devices none.opcode site s step is
 
   pub keeps_owed : (site : ℕ) (new : Context) (result : BurstStep)
-      → Owed answer site machine'.regs.sp (record old { devices = devices }) new result
-      → IsSome (ending_of result) → RepresentsDuringSlice (amid lab machine' new) b traffic
+      → FollowsBurstStep answer site machine'.regs.sp (record old { devices = devices }) new result
+      → IsSome (ending_of result) → RepresentsDuringSlice (in_slice lab machine' new) b traffic
   keeps_owed site new (Within frame_floor) made some = cc
   keeps_owed site new Last made some = cc
   keeps_owed site new (Ended outcome) none some =
       let step = subst (IsBoardStep b.past machine old.devices machine' devices) none.answer_is did in
-      let S : Context → Type 0 = λ c. RepresentsDuringSlice (amid lab machine' c) b traffic in
+      let S : Context → Type 0 = λ c. RepresentsDuringSlice (in_slice lab machine' c) b traffic in
       subst S (sym none.kept)
-      (stands_undefined (amid lab machine old) b traffic machine' devices none.opcode s step)
+      (stands_undefined (in_slice lab machine old) b traffic machine' devices none.opcode s step)
 
   made_advances : (site : ℕ) (new : Context) → site ≡ machine.regs.pc
       → TellsSp answer machine.regs.sp machine'.regs.sp → old.has_moved ≡ true
       → IsMade answer site machine'.regs.sp (record old { devices = devices }) new
-      → RepresentsDuringSlice (amid lab machine' new) (after_next_step b) (traffic
+      → RepresentsDuringSlice (in_slice lab machine' new) (after_next_step b) (traffic
       ++ operation_list (next_change b).operation)
   made_advances site new is tells has_moved made =
-      let S : Context → Type 0 = λ c. RepresentsDuringSlice (amid lab machine' c) (after_next_step b)
+      let S : Context → Type 0 = λ c. RepresentsDuringSlice (in_slice lab machine' c) (after_next_step b)
       (traffic ++ operation_list (next_change b).operation) in
       subst S (sym made.rest)
-      (stands_followed (amid lab machine old) b traffic machine' devices new.frames new.older new.is_gone
+      (stands_followed (in_slice lab machine old) b traffic machine' devices new.frames new.older new.is_gone
       answer
       made.left s did tells has_moved (rw is at made.frames) made.oldest made.older made.gone)
 
   pub advances_owed : (site : ℕ) (new : Context) (result : BurstStep) → site ≡ machine.regs.pc
       → TellsSp answer machine.regs.sp machine'.regs.sp → old.has_moved ≡ true
-      → Owed answer site machine'.regs.sp (record old { devices = devices }) new result
+      → FollowsBurstStep answer site machine'.regs.sp (record old { devices = devices }) new result
       → ending_of result ≡ None
-      → RepresentsDuringSlice (amid lab machine' new) (after_next_step b) (traffic
+      → RepresentsDuringSlice (in_slice lab machine' new) (after_next_step b) (traffic
       ++ operation_list (next_change b).operation)
   advances_owed site new (Within frame_floor) is tells has_moved made none =
       made_advances site new is tells has_moved made
@@ -96,7 +97,10 @@ made_in_burst kind machine machine' old new devices site was frame_floor ready u
 pub owed_in_burst : (kind : Kind) (machine machine' : MachineState) (old new : Context)
     (devices : DeviceState) (site was frame_floor : ℕ) (result : BurstStep)
     → IsInBurst was machine old → devices.panel.latched ≡ None → Settles kind machine machine'
-    → Owed (answer_of kind machine') site machine'.regs.sp (record old { devices = devices }) new result
+    → FollowsBurstStep (answer_of kind machine') site machine'.regs.sp (record old {
+      devices =
+          devices;
+    }) new result
     → ((now : ℕ) → result ≡ Within now → GoesOn kind machine'.regs.sp now new)
     → result ≡ Within frame_floor → IsInBurst frame_floor machine' new
 owed_in_burst kind machine machine' old new devices site was frame_floor (Within now) ready unlatched settles

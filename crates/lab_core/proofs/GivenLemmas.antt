@@ -14,32 +14,32 @@ use Rattle.lab_core.specs.Board.{Board, next_change}
 use Rattle.lab_core.specs.Slices.{traffic_of, after_steps}
 use Rattle.lab_core.specs.Events.{EventResult, Gives, while_running, result_of}
 use Rattle.lab_core.specs.SliceEnds.{slice_from, sliced_at, traffic_in}
-use Rattle.lab_core.specs.Labs.{LabState, RepresentsBoard, AppliesTo, Did, Does}
+use Rattle.lab_core.specs.Labs.{LabState, RepresentsBoard, AppliesTo, MatchesResult, CarriesOut}
 use Rattle.lab_core.proofs.LawLemmas.{applies-given, given-applies, slice_within}
 
 did : (b new : Board) (g : EventResult) (reply : Result Answer EventFault) (lab : LabState)
     → Gives b g reply new
-    → RepresentsBoard lab new → Did b g reply lab
-did b new (Ok (a, b')) reply lab h stands = (h.0, subst (RepresentsBoard lab) h.1 stands)
-did b new (Err fault) reply lab h stands = (h.0, subst (RepresentsBoard lab) h.1 stands)
+    → RepresentsBoard lab new → MatchesResult b g reply lab
+did b new (Ok (a, b')) reply lab h represents = (h.0, subst (RepresentsBoard lab) h.1 represents)
+did b new (Err fault) reply lab h represents = (h.0, subst (RepresentsBoard lab) h.1 represents)
 
 pub does_given : (old new : LabState) (e : Event) (reply : Result Answer EventFault)
-    → AppliesTo old e reply new → Does (result_of e) old reply new
-does_given old new e reply applies = λ b stands no_want.
-    let a = applies b stands no_want in
+    → AppliesTo old e reply new → CarriesOut (result_of e) old reply new
+does_given old new e reply applies = λ b represents no_want.
+    let a = applies b represents no_want in
     did b a.0 (result_of e b) reply new (applies-given b a.0 e reply a.1) a.2
 
 -- and conversely
 applied-by : (b : Board) (g : EventResult) (reply : Result Answer EventFault) (lab : LabState)
-    → Did b g reply lab
+    → MatchesResult b g reply lab
     → (new : Board) × Gives b g reply new × RepresentsBoard lab new
 applied-by b (Ok (a, b')) reply lab h = (b', (h.0, refl), h.1)
 applied-by b (Err fault) reply lab h = (b, (h.0, refl), h.1)
 
 pub applied-given : (old new : LabState) (e : Event) (reply : Result Answer EventFault)
-    → Does (result_of e) old reply new → AppliesTo old e reply new
-applied-given old new e reply does = λ b stands no_want.
-    let a = applied-by b (result_of e b) reply new (does b stands no_want) in
+    → CarriesOut (result_of e) old reply new → AppliesTo old e reply new
+applied-given old new e reply does = λ b represents no_want.
+    let a = applied-by b (result_of e b) reply new (does b represents no_want) in
     (a.0, given-applies b a.0 e reply a.1, a.2)
 
 -- ---- a slice performs at most one port operation for each step
@@ -60,7 +60,7 @@ pub slice_traffic_within : (n : ℕ) (b : Board) → length (traffic_of (slice_f
 slice_traffic_within n b = omega (arith, traffic_within (slice_from n 0 b).0 b, slice_within n b)
 
 few_by : (run : RunState) (n : ℕ) (b : Board) (reply : Result Answer EventFault) (lab : LabState)
-    → Did b (while_running run (Ok (sliced_at b (slice_from n 0 b)))) reply lab
+    → MatchesResult b (while_running run (Ok (sliced_at b (slice_from n 0 b)))) reply lab
     → IfOk reply (λ a. length (traffic_in a) ≤ n)
 few_by NoRun n b reply lab h = rw h.0 tt
 few_by Stopped n b reply lab h = rw h.0 tt
@@ -76,14 +76,14 @@ no_want : (a : Answer) → done a ≢ Err OutOfMemory
 no_want a e = cc
 
 few_of : (n : ℕ) (b : Board) (old new : LabState) (reply : Result Answer EventFault) → RepresentsBoard old b
-    → Does (result_of (event.Slice n)) old reply new → IfOk reply (λ a. length (traffic_in a) ≤ n)
-few_of n b old new (Err fault) stands does = tt
-few_of n b old new (Ok a) stands does = few_by b.run n b (Ok a) new (does b stands (no_want a))
+    → CarriesOut (result_of (event.Slice n)) old reply new → IfOk reply (λ a. length (traffic_in a) ≤ n)
+few_of n b old new (Err fault) represents does = tt
+few_of n b old new (Ok a) represents does = few_by b.run n b (Ok a) new (does b represents (no_want a))
 
 pub few_operations : (old new : LabState) (e : Event) (reply : Result Answer EventFault)
     → AppliesTo old e reply new
     → (n : ℕ) (b : Board) → e ≡ event.Slice n → RepresentsBoard old b
     → IfOk reply (λ a. length (traffic_in a) ≤ n)
-few_operations old new e reply applies n b is stands =
-    few_of n b old new reply stands (subst (λ x. Does (result_of x) old reply new) is
+few_operations old new e reply applies n b is represents =
+    few_of n b old new reply represents (subst (λ x. CarriesOut (result_of x) old reply new) is
     (does_given old new e reply applies))

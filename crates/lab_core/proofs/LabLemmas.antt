@@ -145,8 +145,8 @@ pub stands_kept : (lab : LabState) (b : Board) (s : Source) (place : Option ℕ)
     → place ≡ None → n ≡ length b.sources → RepresentsBoard lab (with_built n m b)
     → sources ≡ b.sources ++ s ∷ []
     → RepresentsBoard (record lab { sources = sources }) (with_cell s place m b)
-stands_kept lab b s place n m sources none number stands same =
-    rw (none, ← number) (stands_dumped lab (with_built n m b) sources (b.sources ++ s ∷ []) stands same)
+stands_kept lab b s place n m sources none number represents same =
+    rw (none, ← number) (stands_dumped lab (with_built n m b) sources (b.sources ++ s ∷ []) represents same)
 
 pub gives_breakpoints : (b : Board) (path lines : List ℕ) (number : ℕ) (text : List ℕ)
     (answers : List Breakpoint)

@@ -24,15 +24,15 @@ use Rattle.lab_frames.specs.Frames.{Advances, AtLeast, LeavesOldest, TellsSp, fr
 use Rattle.lab_frames.specs.Steps.{IsBoardStep}
 use Rattle.lab_frames.proofs.FrameLemmas.{quiet-advances, quiet-oldest}
 use Rattle.lab_core.specs.declared.lab.Context.{Context}
-use Rattle.lab_core.specs.declared.event.StepKind.{StepKind}
-use Rattle.lab_core.specs.declared.event.StepKind.TheVariants.{In, Over, Out as StepOut}
+use Rattle.lab_shown.specs.declared.step.StepKind.{StepKind}
+use Rattle.lab_shown.specs.declared.step.StepKind.TheVariants.{In, Over, Out as StepOut}
 use Rattle.lab_core.specs.declared.event.StepRequest.{StepRequest}
 use Rattle.lab_core.specs.Board.{Board, next_change, after_next_step}
 use Rattle.lab_core.specs.Stops.{at_breakpoint, completes, earlier, has_step, innermost, is_done, is_gone}
 use Rattle.lab_core.specs.Stops.{is_gone_after, meets_breakpoint, since}
 use Rattle.lab_core.specs.Slices.{ends_in_halt, reason_before_fetch}
 use Rattle.lab_core.specs.Labs.{LabState, RepresentsDuringSlice, Follows, OnlyFetchCanStop, IsLast, LooksUp}
-use Rattle.lab_core.specs.Labs.{KeepsAsked, amid}
+use Rattle.lab_core.specs.Labs.{KeepsAsked, in_slice}
 use Rattle.lab_core.specs.Labs.{is_done_in, is_step_done}
 use Rattle.lab_core.proofs.StandsLemmas.{stands_step, over_done, parts-live}
 
@@ -109,7 +109,7 @@ completes-undone (Some request) context b frames-are follows undone =
 
 -- if only what is fetched next can end the slice, a breakpoint is the only reason before the fetch
 pub only_breakpoint_stops : (lab : LabState) (machine : MachineState) (context : Context) (b : Board)
-    (traffic : List PortOperation) → RepresentsDuringSlice (amid lab machine context) b traffic
+    (traffic : List PortOperation) → RepresentsDuringSlice (in_slice lab machine context) b traffic
     → OnlyFetchCanStop context → reason_before_fetch b ≡ at_breakpoint b
 only_breakpoint_stops lab machine context b traffic s only_fetch =
     let no_halt : ends_in_halt b.trace ≡ false = sym s.is_halted ∙ only_fetch.goes_on in
@@ -124,7 +124,7 @@ only_breakpoint_stops lab machine context b traffic s only_fetch =
 
 -- if breakpoints aren't checked for, none is met
 pub meets_none : (lab : LabState) (machine : MachineState) (context : Context) (b : Board)
-    (traffic : List PortOperation) → RepresentsDuringSlice (amid lab machine context) b traffic
+    (traffic : List PortOperation) → RepresentsDuringSlice (in_slice lab machine context) b traffic
     → LooksUp false context → machine.regs.pc < 65536 → meets_breakpoint b ≡ false
 meets_none lab machine context b traffic s (inl off) within =
     let detached : b.is_attached ≡ false = sym s.attached ∙ off in

@@ -149,7 +149,7 @@ stands_step old new b traffic answer left s did m =
     let is : IsStep x answer old.machine.regs.pc new.machine.regs.sp =
     record { answer_is = answer-is; site_is = site-is; sp_is = sp-is } in
     let l = longer b s.within in
-    let stands = step.stands in
+    let represents = step.represents in
     let traffic-is : new.devices.operations ≡ traffic ++ operation_list (next_change b).operation
     = step.traffic_is ∙ rw s.traffic_is refl in
     let frames-are = m.frames b.trace x is s.frames in
@@ -186,10 +186,10 @@ stands_step old new b traffic answer left s did m =
 no_operations : (devices : DeviceState) (past done : List Operation) → done ≡ []
     → DevicesStandFor devices (past ++ done)
     → DevicesStandFor devices past
-no_operations devices past done none stands =
+no_operations devices past done none represents =
     let P : List Operation → Type 0 = λ all. DevicesStandFor devices all in
     let same : past ++ done ≡ past = rw none (append-nil past) in
-    subst P same stands
+    subst P same represents
 
 -- the opcode is undefined exactly if the step answers Undefined
 pub finds_undefined : (old : LabState) (b : Board) (traffic : List PortOperation) (machine : MachineState)
@@ -226,7 +226,8 @@ stands_undefined old b traffic machine devices opcode s did =
     let n = no_step b.past b.machine opcode step.answer_is in
     let none : operation_list (outcome_of b.machine b.past).operation ≡ [] = rw n.operation_is refl in
     let machine-is = step.after_is ∙ n.after_is in
-    let stands = no_operations devices b.past (operations b.machine b.past) n.operations_are step.stands in
+    let represents = no_operations devices b.past
+    (operations b.machine b.past) n.operations_are step.represents in
     let traffic-is : devices.operations ≡ traffic
     = step.traffic_is ∙ rw (none, append-nil old.devices.operations) s.traffic_is in
     search rules

@@ -24,8 +24,8 @@ use Rattle.lab_core.specs.declared.lab.Context.{Context}
 use Rattle.lab_core.specs.declared.run_state.RunState.{RunState}
 use Rattle.lab_core.specs.declared.run_state.RunState.TheVariants.{Stopped}
 use Rattle.lab_core.specs.declared.event.StepRequest.{StepRequest}
-use Rattle.lab_core.specs.declared.event.StepKind.{StepKind}
-use Rattle.lab_core.specs.declared.event.StepKind.TheVariants.{In, Over, Out}
+use Rattle.lab_shown.specs.declared.step.StepKind.{StepKind}
+use Rattle.lab_shown.specs.declared.step.StepKind.TheVariants.{In, Over, Out}
 use Rattle.lab_image.specs.declared.sources.Source.{Source}
 use Rattle.lab_core.specs.declared.event.Event.{Event}
 use Rattle.lab_core.specs.declared.answer.Answer.{Answer}
@@ -34,6 +34,7 @@ use Rattle.lab_core.specs.declared.fault.EventFault.TheVariants.{OutOfMemory}
 use Rattle.lab_core.specs.Board.{Board, next_change, after_next_step}
 use Rattle.lab_core.specs.Stops.{since, earlier, has_step, innermost, is_gone, is_gone_after}
 use Rattle.lab_core.specs.Slices.{ends_in_halt, reason, reason_before_fetch, after_steps, traffic_of}
+use Rattle.lab_core.specs.SliceEnds.{slice_end, after_slice}
 use Rattle.lab_core.specs.declared.answer.SliceOutcome.{SliceOutcome}
 use Rattle.lab_core.specs.declared.answer.SliceOutcome.TheVariants as outcomes
 use Rattle.lab_core.specs.declared.answer.End.TheVariants as ends
@@ -116,8 +117,8 @@ Watches true is_attached request = Unit {0}
 Watches false is_attached request = (is_attached ≡ false) × (request ≡ None)
 
 -- the lab with this machine and this context
-abbrev pub amid : LabState → MachineState → Context → LabState
-amid lab machine context = record lab {
+abbrev pub in_slice : LabState → MachineState → Context → LabState
+in_slice lab machine context = record lab {
   machine = machine;
   devices = context.devices;
   frames = context.frames;
@@ -136,14 +137,14 @@ amid lab machine context = record lab {
 -- the three above, for every lab with this machine and context
 abbrev pub OneStepOnIn : MachineState → Context → MachineState → Context → Type 0
 OneStepOnIn machine context machine' context' =
-    (lab : LabState) → OneStepOn (amid lab machine context) (amid lab machine' context')
+    (lab : LabState) → OneStepOn (in_slice lab machine context) (in_slice lab machine' context')
 
 abbrev pub SameBoardIn : MachineState → Context → MachineState → Context → Type 0
 SameBoardIn machine context machine' context' =
-    (lab : LabState) → SameBoard (amid lab machine context) (amid lab machine' context')
+    (lab : LabState) → SameBoard (in_slice lab machine context) (in_slice lab machine' context')
 
 abbrev pub ComputesIn : {A : Type 0} → (Board → A) → A → MachineState → Context → Type 0
-ComputesIn f found machine context = (lab : LabState) → Computes f found (amid lab machine context)
+ComputesIn f found machine context = (lab : LabState) → Computes f found (in_slice lab machine context)
 
 -- steps don't change what the debugger requested
 pub record KeepsAsked (old new : Context) : Type 0 where
@@ -230,16 +231,16 @@ pub record IsNotMade (answer : Stepped) (site : ℕ) (outcome : SliceOutcome) (o
   pub kept : new ≡ old
 
 -- the update of the context after a step of a burst with this answer
-abbrev pub Owed : Stepped → ℕ → ℕ → Context → Context → BurstStep → Type 0
-Owed answer site sp old new (Within frame_floor) = IsMade answer site sp old new
-Owed answer site sp old new Last = IsMade answer site sp old new
-Owed answer site sp old new (Ended outcome) = IsNotMade answer site outcome old new
+abbrev pub FollowsBurstStep : Stepped → ℕ → ℕ → Context → Context → BurstStep → Type 0
+FollowsBurstStep answer site sp old new (Within frame_floor) = IsMade answer site sp old new
+FollowsBurstStep answer site sp old new Last = IsMade answer site sp old new
+FollowsBurstStep answer site sp old new (Ended outcome) = IsNotMade answer site outcome old new
 
 -- The lab represents the board after `made` steps. There was no reason to stop before any of them, and
 -- `found`, if there is one, is the first reason after them.
 pub record Makes (made : ℕ) (found : Option SliceOutcome) (b : Board) (traffic : List PortOperation)
     (lab : LabState) : Type 0 where
-  pub stands : RepresentsDuringSlice lab (after_steps made b) (traffic ++ traffic_of made b)
+  pub represents : RepresentsDuringSlice lab (after_steps made b) (traffic ++ traffic_of made b)
   pub none_before : (j : ℕ) → j < made → reason (after_steps j b) ≡ None
   pub found_is : IfSome found (λ outcome. reason (after_steps made b) ≡ Some outcome)
 
@@ -247,8 +248,8 @@ pub record Makes (made : ℕ) (found : Option SliceOutcome) (b : Board) (traffic
 abbrev pub MakesIn : ℕ → Option SliceOutcome → MachineState → Context → MachineState → Context → Type 0
 MakesIn made found machine context machine' context' =
     (lab : LabState) (b : Board) (traffic : List PortOperation)
-    → RepresentsDuringSlice (amid lab machine context) b traffic
-    → Makes made found b traffic (amid lab machine' context')
+    → RepresentsDuringSlice (in_slice lab machine context) b traffic
+    → Makes made found b traffic (in_slice lab machine' context')
 
 -- A burst of at most `most` steps may begin: there is space for their port operations, and there is no
 -- reason to stop but an undefined opcode. `is_asked` says whether a Step is pending.
@@ -291,13 +292,20 @@ RunsOn old events replies new =
 
 -- The result is the function's, and the lab represents the board it returns, or the old one if it
 -- refuses.
-abbrev pub Did : {A : Type 0} → Board → Result (A × Board) EventFault → Result A EventFault → LabState
+abbrev pub MatchesResult : {A : Type 0} → Board → Result (A × Board) EventFault → Result A EventFault
+    → LabState
     → Type 0
-Did b (Ok (x, b')) result new = (result ≡ Ok x) × RepresentsBoard new b'
-Did b (Err fault) result new = (result ≡ Err fault) × RepresentsBoard new b
+MatchesResult b (Ok (x, b')) result new = (result ≡ Ok x) × RepresentsBoard new b'
+MatchesResult b (Err fault) result new = (result ≡ Err fault) × RepresentsBoard new b
 
 -- the same for every board the old lab represents, unless memory ran out
-abbrev pub Does : {A : Type 0} → (Board → Result (A × Board) EventFault) → LabState → Result A EventFault
+abbrev pub CarriesOut : {A : Type 0} → (Board → Result (A × Board) EventFault) → LabState
+    → Result A EventFault
     → LabState → Type 0
-Does f old result new = (b : Board) → RepresentsBoard old b → result ≢ Err OutOfMemory
-    → Did b (f b) result new
+CarriesOut f old result new = (b : Board) → RepresentsBoard old b → result ≢ Err OutOfMemory
+    → MatchesResult b (f b) result new
+
+-- the port operations and the outcome of a slice of 4,096 steps, after which the lab represents the board
+abbrev pub IsSliceFrom : Board → List PortOperation × SliceOutcome → LabState → Type 0
+IsSliceFrom b s new =
+    (s.0 ≡ traffic_of (slice_end b).0 b) × ((s.1 ≡ (slice_end b).1) × RepresentsBoard new (after_slice b))

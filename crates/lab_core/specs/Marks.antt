@@ -20,7 +20,7 @@ use Rattle.lab_core.specs.Board.{Board}
 use Rattle.lab_core.specs.Slices.{after_steps}
 use Rattle.lab_core.specs.Events.{Applies}
 use Rattle.lab_core.specs.SliceEnds.{traffic_in}
-use Rattle.lab_core.specs.Labs.{LabState, RepresentsDuringSlice, RepresentsBoard, amid}
+use Rattle.lab_core.specs.Labs.{LabState, RepresentsDuringSlice, RepresentsBoard, in_slice}
 
 -- what a contract sees of marks: whether each address is marked, the watched places, and whether the last
 -- slice ended at a mark
@@ -147,4 +147,4 @@ pub record Passes (marks : MarksState) (made : ℕ) (b : Board) : Type 0 where
 abbrev pub PassesIn : MarksState → ℕ → MachineState → Context → Type 0
 PassesIn marks made machine context =
     (lab : LabState) (b : Board) (traffic : List PortOperation)
-    → RepresentsDuringSlice (amid lab machine context) b traffic → Passes marks made b
+    → RepresentsDuringSlice (in_slice lab machine context) b traffic → Passes marks made b

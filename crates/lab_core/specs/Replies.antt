@@ -11,7 +11,7 @@ use Rattle.lab_core.specs.declared.fault.EventFault.TheVariants.{OutOfMemory}
 use Rattle.lab_core.specs.Board.{Board}
 use Rattle.lab_core.specs.Events.{result_of}
 use Rattle.lab_core.specs.SliceEnds.{traffic_in}
-use Rattle.lab_core.specs.Labs.{LabState, RepresentsBoard, AppliesTo, Does, RunsOn}
+use Rattle.lab_core.specs.Labs.{LabState, RepresentsBoard, AppliesTo, CarriesOut, RunsOn}
 use Rattle.lab_core.specs.Memory.{MayLackMemory}
 
 -- A lab replies to an event as the relation and the function say. The answer to a slice has at most one port
@@ -19,7 +19,7 @@ use Rattle.lab_core.specs.Memory.{MayLackMemory}
 pub record RepliesTo (old : LabState) (event : Event) (reply : Result Answer EventFault) (new : LabState)
     : Type 0 where
   pub applied : AppliesTo old event reply new
-  pub given : Does (result_of event) old reply new
+  pub given : CarriesOut (result_of event) old reply new
   pub few : (n : ℕ) (b : Board) → event ≡ Slice n → RepresentsBoard old b
       → IfOk reply (λ answer. length (traffic_in answer) ≤ n)
   pub err : OnErr reply (new ≡ old)

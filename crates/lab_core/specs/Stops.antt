@@ -10,10 +10,10 @@ use Rattle.lab_image.specs.Breakpoints.{is_met}
 use Rattle.lab_core.specs.declared.answer.SliceOutcome.{SliceOutcome}
 use Rattle.lab_core.specs.declared.answer.SliceOutcome.TheVariants as outcome
 use Rattle.lab_core.specs.declared.answer.Stop.TheVariants as stop
-use Rattle.lab_core.specs.declared.event.StepKind.{StepKind}
-use Rattle.lab_core.specs.declared.event.StepKind.TheVariants.{In, Over, Out}
-use Rattle.lab_core.specs.declared.event.Granularity.{Granularity}
-use Rattle.lab_core.specs.declared.event.Granularity.TheVariants as granularity
+use Rattle.lab_shown.specs.declared.step.StepKind.{StepKind}
+use Rattle.lab_shown.specs.declared.step.StepKind.TheVariants.{In, Over, Out}
+use Rattle.lab_shown.specs.declared.step.Granularity.{Granularity}
+use Rattle.lab_shown.specs.declared.step.Granularity.TheVariants as granularity
 use Rattle.lab_core.specs.declared.event.StepRequest.{StepRequest}
 use Rattle.lab_core.specs.Board.{Board}
 

@@ -3,27 +3,8 @@
 use base_text::sequence::{Bytes, Sequence};
 use base_text::text::Text;
 use i80_rows::board::Board;
+use lab_shown::step::{Granularity, StepKind};
 use lab_views::view::View;
-
-/// How far a Step runs. A place is as `Granularity` defines it.
-#[derive(Clone, Copy)]
-pub enum StepKind {
-    /// To the next place.
-    In,
-    /// To the next place where no call made during the Step is live.
-    Over,
-    /// To the next place where the call that is now innermost has returned.
-    Out,
-}
-
-/// Where a Step may end.
-#[derive(Clone, Copy)]
-pub enum Granularity {
-    /// At the first byte of a statement.
-    Line,
-    /// At any instruction.
-    Instruction,
-}
 
 /// A request to step.
 #[derive(Clone, Copy)]

@@ -2,9 +2,7 @@
 ghost use Rattle.std.specs.Prelude.{◌≡◌, ◌≤◌, length, IfOk, OnErr};
 ghost use Rattle.lab_core.specs.declared.run_state.RunState.TheVariants.{Running};
 ghost use Rattle.lab_core.specs.Board.{Board};
-ghost use Rattle.lab_core.specs.Slices.{traffic_of};
-ghost use Rattle.lab_core.specs.Labs.{RepresentsBoard};
-ghost use Rattle.lab_core.specs.SliceEnds.{slice_end, after_slice};
+ghost use Rattle.lab_core.specs.Labs.{RepresentsBoard, IsSliceFrom};
 
 use crate::answer::{Answer, SliceOutcome};
 use crate::event::Event;
@@ -18,8 +16,8 @@ pub const STEPS: u16 = 4096;
 /// Makes a slice of the run: the port operations of its steps, and how it ended. A board without a run that
 /// goes on gives the same error as one that runs out of memory.
 pub fn run_slice(lab: &mut Lab) -> Result<(Traffic, SliceOutcome), AllocError>
-    ensures made { (b : Board) → RepresentsBoard lab.old b → b.run ≡ Running → IfOk result (λ s.
-        (s.0 ≡ traffic_of (slice_end b).0 b) × ((s.1 ≡ (slice_end b).1) × RepresentsBoard lab.new (after_slice b))) }
+    ensures made { (b : Board) → RepresentsBoard lab.old b → b.run ≡ Running
+        → IfOk result (λ s. IsSliceFrom b s lab.new) }
     ensures few { (b : Board) → RepresentsBoard lab.old b → IfOk result (λ made. length made.0 ≤ 4096) }
     ensures err { (b : Board) → RepresentsBoard lab.old b → OnErr result (lab.new ≡ lab.old) }
 {

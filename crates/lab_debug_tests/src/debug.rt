@@ -1,6 +1,6 @@
 //! What a debugger is answered: stops, Steps, breakpoints and views.
 
-use lab_core::event::StepKind::{In, Out, Over};
+use lab_shown::step::StepKind::{In, Out, Over};
 use lab_test_kit::ask::Ask::{Code, Frames, Info, Scopes, Source, Variables};
 use lab_test_kit::script::Step::{
     Attach, Debug, Detach, Dump, Instruction, Interrupt, Line, Lines, Load, Pause, Press,

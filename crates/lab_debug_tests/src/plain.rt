@@ -5,11 +5,12 @@ ghost use Rattle.lab_core.specs.Events.{Fits};
 
 use i80_exec::registers::{Registers, Stepped};
 use lab_core::answer::{Answer, SliceOutcome, Stop};
-use lab_core::event::{Event, Granularity, StepKind, StepRequest};
+use lab_core::event::{Event, StepRequest};
 use lab_core::fault::EventFault;
 use lab_core::lab::Lab;
 use lab_frames::frame::Frame;
 use lab_frames::frames::Frames;
+use lab_shown::step::{Granularity, StepKind};
 use lab_test_kit::script::{is_done, poke};
 use std::alloc::{AllocError, Global};
 use std::rt::HostRuntime;

@@ -1,6 +1,6 @@
 //! Changes of a stopped run's machine by hand: which places and values there are, and what a change leaves.
 use crate::debug::{CALL, RECURSION};
-use lab_core::event::StepKind::{In, Out, Over};
+use lab_shown::step::StepKind::{In, Out, Over};
 use lab_test_kit::ask::Ask::{Frames, Variables};
 use lab_test_kit::script::Step::{
     Attach, Byte, Debug, Frame, Instruction, Interrupt, Line, Lines, Load, Pause, Poke, Pokes,

@@ -36,16 +36,16 @@ pub by_instruction : PanelLaw
     → IsOutcome (instruction (answer devices.panel) old) new did
     → Performs (instruction (answer devices.panel) old) (at_ports devices) (at_ports devices')
     → IsBoardStep past old devices new devices' did
-by_instruction law past old new devices devices' did none stands o p =
+by_instruction law past old new devices devices' did none represents o p =
     let P : Option Outcome → Type 0 =
     λ a. devices'.panel ≡ panel_after (past ++ taken_or_done a (or_instruction a past old)) in
     record {
-      after_is = rw (none, ← stands) o.after_is;
-      answer_is = rw (none, ← stands) o.answer_is;
-      stands =
-          subst P (sym none) (rw stands at p.state_is ∙ panel_ported law past
+      after_is = rw (none, ← represents) o.after_is;
+      answer_is = rw (none, ← represents) o.answer_is;
+      represents =
+          subst P (sym none) (rw represents at p.state_is ∙ panel_ported law past
           (instruction (answer (panel_after past)) old).operation);
-      traffic_is = rw (none, ← stands) p.appended;
+      traffic_is = rw (none, ← represents) p.appended;
     }
 
 -- no operation at a port latches a request
@@ -62,7 +62,7 @@ stays_unlatched p (Some (Out port byte)) =
 pub unlatched_accepts_none : (m : MachineState) (d : DeviceState) (past : List Operation)
     → RepresentsPast d past
     → d.panel.latched ≡ None → acceptance_due m past ≡ None
-unlatched_accepts_none m d past stands unlatched =
+unlatched_accepts_none m d past represents unlatched =
     let latched : (panel_after past).latched ≡ None =
-    ap (λ (p : PanelState). p.latched) (sym stands) ∙ unlatched in
+    ap (λ (p : PanelState). p.latched) (sym represents) ∙ unlatched in
     ap (λ l. acceptance_of l m) latched

@@ -35,5 +35,5 @@ pub record IsBoardStep (past : List Operation) (old : MachineState) (devices : D
     (new : MachineState) (devices' : DeviceState) (answer : Stepped) : Type 0 where
   pub after_is : new ≡ (outcome old past).after
   pub answer_is : answer ≡ (outcome old past).answer
-  pub stands : RepresentsPast devices' (past ++ operations old past)
+  pub represents : RepresentsPast devices' (past ++ operations old past)
   pub traffic_is : devices'.operations ≡ devices.operations ++ operation_list (outcome old past).operation

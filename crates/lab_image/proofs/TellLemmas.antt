@@ -85,8 +85,8 @@ told-append loads load a =
 -- what the rows of a load tell is that load, behind those before
 pub appends_load : (load : Load) (old new : List Span) → Tells load.source load.rows old new
     → Appends load old new
-appends_load load old new tells loads stands a h =
-    tells a h ∙ ap (λ o. last_or o (told_in a load)) (stands a h)
+appends_load load old new tells loads represents a h =
+    tells a h ∙ ap (λ o. last_or o (told_in a load)) (represents a h)
     ∙ sym (ap (last_or None) (told-append loads load a)
     ∙ last_or-append None (flat_map (told_in a) loads) (told_in a load))
 

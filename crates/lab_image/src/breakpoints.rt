@@ -37,7 +37,7 @@ impl Breakpoints {
     /// No breakpoints. Allocates the room that the addresses need.
     pub fn new(alloc: Global) -> Result<Breakpoints, AllocError>
         ensures lists { IfOk result (λ b. b.lists ≡ []) }
-        ensures stands { IfOk result (λ b. (loads : List Load) → MarksBreakpoints b loads) }
+        ensures represents { IfOk result (λ b. (loads : List Load) → MarksBreakpoints b loads) }
     {
         let addresses = AddressSet::new(alloc)?;
         Ok(Breakpoints {
@@ -76,7 +76,7 @@ impl Breakpoints {
     /// Replaces the lines of a source by these, which may be none.
     pub fn set(&mut self, source: u32, lines: &[u32], origins: &Origins) -> Result<(), AllocError>
         ensures lists { OnOk result (self.new.lists ≡ with_lines source lines.now self.old.lists) }
-        ensures stands { OnOk result ((loads : List Load) → image.GivesOrigins origins.now loads
+        ensures represents { OnOk result ((loads : List Load) → image.GivesOrigins origins.now loads
             → MarksBreakpoints self.new loads) }
         ensures err { OnErr result (self.new ≡ self.old) }
     {
@@ -88,7 +88,7 @@ impl Breakpoints {
     /// Finds out again where breakpoints are met, after a load.
     pub fn refresh(&mut self, origins: &Origins)
         ensures lists { self.new.lists ≡ self.old.lists }
-        ensures stands { (loads : List Load) → image.GivesOrigins origins.now loads
+        ensures represents { (loads : List Load) → image.GivesOrigins origins.now loads
             → MarksBreakpoints self.new loads }
     {
         mark(&mut self.addresses, &self.lists, origins);
@@ -97,7 +97,7 @@ impl Breakpoints {
     /// Removes all breakpoints.
     pub fn clear(&mut self)
         ensures lists { self.new.lists ≡ [] }
-        ensures stands { (loads : List Load) → MarksBreakpoints self.new loads }
+        ensures represents { (loads : List Load) → MarksBreakpoints self.new loads }
     {
         self.lists.clear();
         self.addresses.clear();

@@ -2,7 +2,7 @@
 use crate::call::Call::{Apply, Registers, SetRegisters, Start, Write};
 use crate::call::{Play, wrong_plays};
 use i80_exec::registers::Interrupts::{Off, On};
-use lab_core::event::StepKind::In;
+use lab_shown::step::StepKind::In;
 use lab_test_kit::ask::Ask::{Code, Info, Variables};
 use lab_test_kit::script::Step::{Attach, Instruction, Lines, Pause, Press, Resume, Show, Slice};
 use std::alloc::AllocError;

@@ -1,9 +1,9 @@
 //! Slices that end at a mark: how many steps they make, and what they leave of the marks.
 use crate::call::Call::{Address, Apply, Clear, Registers, SliceTo, Start, Watch, Write};
 use crate::call::{Play, wrong_plays};
-use lab_core::event::StepKind::Over;
 use lab_core::laws::first_mark_is_least;
 use lab_core::marks::Marks;
+use lab_shown::step::StepKind::Over;
 use lab_test_kit::script::Step;
 use lab_test_kit::script::Step::{Attach, Line, Lines, Pause, Press, Resume, Slice};
 use lab_views::place::Place::{A, B, C, D, E, H, L, Memory, Pc, Sp};

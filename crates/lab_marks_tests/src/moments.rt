@@ -1,7 +1,7 @@
 //! Runs that are put back to a moment, and runs that are held.
 use crate::call::Call::{Apply, Hold, Moment, PutBack, Registers, SliceTo, Start, Watch};
 use crate::call::{Play, wrong_plays};
-use lab_core::event::StepKind::{In, Out, Over};
+use lab_shown::step::StepKind::{In, Out, Over};
 use lab_test_kit::ask::Ask::{Frames, Info, Source, Variables};
 use lab_test_kit::script::Step::{
     Attach, Instruction, Line, Lines, Pause, Press, Resume, Show, Slice, Typed,

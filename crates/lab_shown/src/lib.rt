@@ -1,6 +1,9 @@
-// What a debugger is shown of a board: stack frames, variables, lines of disassembly, breakpoints.
-// Plain types, so that the crates that write them out as messages don't depend on the board.
-// lab_views and dap_inspect make them, and say which values they have.
+// What a debugger asks of a board and is shown of it: kinds of steps, scopes, stack frames, variables, lines
+// of disassembly, breakpoints. Plain types, so that the crates that read and write messages don't depend on
+// the board. lab_core says what a Step does; lab_views and dap_inspect make what is shown, and say which
+// values it has. `Scope` has the numbers by which scopes are asked for.
 #![tactic(auto)]
 
+pub mod scope;
 pub mod shown;
+pub mod step;

@@ -2,7 +2,7 @@
 use Rattle.std.proofs.Common.{◌≡◌, ℕ, Bool, true, false, ◌&&◌, ◌||◌, if◌then◌else◌, List, [], ◌∷◌, ◌++◌, refl}
 use Rattle.std.proofs.Common.{sym, ap, ◌∙◌, subst, append-nil, append_assoc, ◌+◌, ◌<◌}
 use Rattle.base_streams.specs.States.{InletState, OutletState, IsWritable}
-use Rattle.base_streams.specs.Told.{Gave, Took, TookFront, WasRead}
+use Rattle.base_streams.specs.Told.{Gave, Took, TookPrefix, WasRead}
 use Rattle.base_streams.proofs.TellLemmas.{told_on, counts_on}
 use Rattle.zmtp_wire.proofs.ReceivingLemmas.{told_none, most_below}
 use Rattle.zmtp_wire.proofs.SendingLemmas.{front_all, front_on}
@@ -98,11 +98,11 @@ stops_any key others to _ s = absurd s
 pub cut_printing : (parent : Parent) (frames : List (List ℕ)) (out out' : OutletState) (n : Notice)
     (fault : TermFault) → IsNotice parent.key frames n → is_of parent.header n ≡ true
     → is_idle n ≡ false
-    → TookFront out out' (text_of n) → StopsAt [] [] out' fault
+    → TookPrefix out out' (text_of n) → StopsAt [] [] out' fault
     → Cut parent (frames ∷ []) out out' fault
 cut_printing parent frames out out' n fault is e d f s =
-    let P : Bool → Type 0 = λ b. TookFront out out' (if b then text_of n else []) in
-    let Q : List ℕ → Type 0 = λ l. TookFront out out' l in
+    let P : Bool → Type 0 = λ b. TookPrefix out out' (if b then text_of n else []) in
+    let Q : List ℕ → Type 0 = λ l. TookPrefix out out' l in
     record {
       taken = frames ∷ [];
       others = [];
@@ -260,7 +260,7 @@ pub going_cut : (parent : Parent) (q q1 q2 front : List (List (List ℕ))) (out 
     → Cut parent front o1 o2 fault → Cut parent q out o2 fault
 going_cut parent q q1 q2 front out o1 o2 failed fault e b c =
     let p = b.going in
-    let P : List ℕ → Type 0 = λ l. TookFront out o2 l in
+    let P : List ℕ → Type 0 = λ l. TookPrefix out o2 l in
     record {
       taken = p.taken ++ c.taken;
       others = c.others ++ q2;
@@ -402,7 +402,7 @@ holds_first before given p out t r q b n h =
           subst R (sym n) (record {
             stream = h.stream;
             gave = h.gave;
-            stands = subst P (append-nil h.stream) (r.stands h.stream p.messages h.stands);
+            represents = subst P (append-nil h.stream) (r.represents h.stream p.messages h.represents);
             was_read = h.was_read;
             within = h.within;
           });
@@ -425,7 +425,7 @@ holds_on before g1 g2 s t passed out piece empty r o was left q b n h =
       received = subst R (sym n) (record {
         stream = h.received.stream ++ piece;
         gave = told_on before.given g1.given g2.given h.received.stream piece h.received.gave o;
-        stands = r.stands h.received.stream h.messages h.received.stands;
+        represents = r.represents h.received.stream h.messages h.received.represents;
         was_read = counts_on before.reads g1.reads g2.reads s.reads 1 h.received.was_read was;
         within = most_below s.reads left;
       });

@@ -2,7 +2,7 @@
 use Rattle.std.proofs.Common.{◌≡◌, ℕ, Bool, true, List, [], ◌∷◌, ◌++◌, Result, Ok, Err, IfErr, ◌⊎◌, inl, inr}
 use Rattle.std.proofs.Common.{⊎_elim, refl, sym, ap, ◌∙◌, subst, append-nil, append_assoc, arith, ◌≤◌}
 use Rattle.base_streams.specs.States.{InletState, OutletState, IsReadable}
-use Rattle.base_streams.specs.Told.{Took, TookFront, WasRead}
+use Rattle.base_streams.specs.Told.{Took, TookPrefix, WasRead}
 use Rattle.base_streams.proofs.TellLemmas.{told_on}
 use Rattle.zmtp_wire.specs.declared.role.Role.{Role}
 use Rattle.zmtp_wire.specs.declared.role.Role.TheVariants.{Dealer, Sub}
@@ -29,7 +29,7 @@ use Rattle.lab_term.specs.Events.{ends, text_printed}
 use Rattle.lab_term.specs.Faults.{term_fault_of}
 use Rattle.lab_term.specs.Reading.{Holds, Starves, Unreceived, Waited}
 use Rattle.lab_term.specs.Running.{Requested, parent_of, printing, subscription}
-use Rattle.lab_term.specs.Stopping.{EndsStream, RequestedFront, Awaited, FollowedFront, Stopped, AtRequest}
+use Rattle.lab_term.specs.Stopping.{EndsStream, RequestedPrefix, Awaited, FollowedPrefix, Stopped, AtRequest}
 use Rattle.lab_term.specs.Stopping.{AtCourse}
 use Rattle.lab_term.proofs.CourseLemmas.{Follows, began}
 use Rattle.lab_term.proofs.EventLemmas.{notices_more, none_more, printed_more}
@@ -160,7 +160,7 @@ pub front_here : (parent : Parent) (before g1 g2 : InletState) (s : Subscriber)
     (passed : List (List (List ℕ))) (out o1 : OutletState) (failed : Bool) (fault : TermFault)
     → Unreceived g1 g2 fault → (EndsStream fault → s.queue.items ≡ [])
     → Follows parent before g1 s passed out o1 failed
-    → FollowedFront parent passed (record { from = before; to = out }) (record { from = g2; to = o1 }) fault
+    → FollowedPrefix parent passed (record { from = before; to = out }) (record { from = g2; to = o1 }) fault
 front_here parent before g1 g2 s passed out o1 failed fault u none w = record {
   decoder = s.decoder;
   messages = w.holds.messages;
@@ -168,7 +168,7 @@ front_here parent before g1 g2 s passed out o1 failed fault u none w = record {
   unreceived = u.bytes;
   gave = told_on before.given g1.given g2.given w.holds.received.stream u.bytes w.holds.received.gave u.gave;
   all = u.all;
-  stands = w.holds.received.stands;
+  represents = w.holds.received.represents;
   taken = w.taken;
   others = s.queue.items;
   messages_are = w.holds.messages_are;
@@ -191,10 +191,10 @@ pub front_cut : (parent : Parent) (before given : InletState) (s : Subscriber)
     (passed : List (List (List ℕ))) (out o1 o2 : OutletState) (failed : Bool)
     (fault : TermFault) → Cut parent s.queue.items o1 o2 fault
     → Follows parent before given s passed out o1 failed
-    → FollowedFront parent passed (record { from = before; to = out })
+    → FollowedPrefix parent passed (record { from = before; to = out })
     (record { from = given; to = o2 }) fault
 front_cut parent before given s passed out o1 o2 failed fault c w =
-    let P : List ℕ → Type 0 = λ l. TookFront out o2 l in
+    let P : List ℕ → Type 0 = λ l. TookPrefix out o2 l in
     record {
       decoder = s.decoder;
       messages = w.holds.messages;
@@ -204,7 +204,7 @@ front_cut parent before given s passed out o1 o2 failed fault c w =
           told_on before.given given.given given.given w.holds.received.stream [] w.holds.received.gave
           (told_none given.given);
       all = inl refl;
-      stands = w.holds.received.stands;
+      represents = w.holds.received.represents;
       taken = w.taken ++ c.taken;
       others = c.others;
       messages_are =
@@ -237,7 +237,7 @@ awaited key before given s w = record {
 -- it stopped while it sent its request
 pub stopped_requesting : (cell : Cell) (old new : Client) (a b : OutletState) (s : Subscriber)
     (fault : TermFault)
-    → WroteWhole old.shell.to a Dealer → RequestedFront cell a new.shell.to fault
+    → WroteWhole old.shell.to a Dealer → RequestedPrefix cell a new.shell.to fault
     → WroteWhole old.iopub.to b Sub
     → Took b new.iopub.to (message_bytes subscription)
     → Waited cell.key.now old.iopub.from new.iopub.from s → new.output ≡ old.output
@@ -251,11 +251,11 @@ pub stopped_after : (cell : Cell) (old new : Client) (header shown : List ℕ) (
     (given : InletState) (s : Subscriber) (fault : TermFault) → shown ≡ header
     → WroteWhole old.shell.to a Dealer → Requested cell header a new.shell.to → WroteWhole old.iopub.to b Sub
     → Took b new.iopub.to (message_bytes subscription) → (w : Waited cell.key.now old.iopub.from given s)
-    → FollowedFront (parent_of cell shown) w.passed (printing old) (printing new) fault
+    → FollowedPrefix (parent_of cell shown) w.passed (printing old) (printing new) fault
     → Stopped cell old new fault
 stopped_after cell old new header shown a b given s fault is x requested y told w f =
     let P : List ℕ
-    → Type 0 = λ l. FollowedFront (parent_of cell l) w.passed (printing old) (printing new) fault in
+    → Type 0 = λ l. FollowedPrefix (parent_of cell l) w.passed (printing old) (printing new) fault in
     AtCourse (record {
       header = header;
       passed = w.passed;

@@ -3,7 +3,7 @@ use Rattle.std.specs.Prelude.{◌≡◌, ℕ, Bool, false, true, ◌&&◌, List,
 use Rattle.std.specs.List.{list_any}
 use Rattle.zmtp_wire.specs.Wire.{Bytes, Frames, Messages}
 use Rattle.base_streams.specs.States.{OutletState, IsWritable}
-use Rattle.base_streams.specs.Told.{Took, TookFront}
+use Rattle.base_streams.specs.Told.{Took, TookPrefix}
 use Rattle.lab_term.specs.declared.fault.TermFault.{TermFault}
 use Rattle.lab_term.specs.declared.fault.TermFault.TheVariants.{OutOfMemory, WriteFailed, Wire}
 use Rattle.lab_term.specs.declared.fault.WireCause.TheVariants.{Message}
@@ -77,7 +77,7 @@ pub record Takes (parent : Parent) (queue queue' : Messages) (to to' : OutletSta
   pub busy : course.is_idle ≡ false → HasNo (ends parent.header) notices
   pub all : course.is_idle ≡ false → queue' ≡ []
 
--- the first messages of a queue were taken, none of them the request's idle, a front of their text was
+-- the first messages of a queue were taken, none of them the request's idle, a prefix of their text was
 -- printed, and the fault says why no more were
 pub record Cut (parent : Parent) (queue : Messages) (to to' : OutletState) (fault : TermFault)
     : Type 0 where
@@ -87,7 +87,7 @@ pub record Cut (parent : Parent) (queue : Messages) (to to' : OutletState) (faul
   pub notices : List Notice
   pub are : AreNotices parent.key taken notices
   pub busy : HasNo (ends parent.header) notices
-  pub wrote : TookFront to to' (text_printed parent.header notices)
+  pub wrote : TookPrefix to to' (text_printed parent.header notices)
   pub stops : StopsAt parent.key others to' fault
 
 -- a message was taken, and its text printed if it is the request's

@@ -1,14 +1,14 @@
 //! Waiting for the kernel, and following a cell up to its end.
 ghost use Rattle.std.specs.Prelude.{◌≡◌, ◌||◌, [], ◌∷◌, true, false, IfOk, IfErr, OnOk};
 ghost use Rattle.base_streams.specs.States.{InletState, OutletState, IsReadable, IsWritable};
-ghost use Rattle.base_streams.specs.Told.{Took, TookFront};
+ghost use Rattle.base_streams.specs.Told.{Took, TookPrefix};
 ghost use Rattle.zmtp_wire.specs.Wire.{Messages};
 ghost use Rattle.lab_term.specs.Causes.{Stalls};
 ghost use Rattle.lab_term.specs.Courses.{EndsInStatus, HasNo, Passes, StopsAt, StopsIn, TakesOne, Takes, Cut};
 ghost use Rattle.lab_term.specs.Events.{notice_of, text_of, has_error, is_status};
 ghost use Rattle.lab_term.specs.Reading.{Holds, Waited};
 ghost use Rattle.lab_term.specs.Running.{Followed, end_by};
-ghost use Rattle.lab_term.specs.Stopping.{FollowedFront};
+ghost use Rattle.lab_term.specs.Stopping.{FollowedPrefix};
 
 use crate::cell::CellEnd;
 use crate::event::{Event, open_event};
@@ -108,7 +108,7 @@ fn print<O: Outlet>(alloc: Global, output: &mut O, event: &Event) -> Result<(), 
     ensures wrote { OnOk result
         (Took (O.state output.old) (O.state output.new) (text_of (notice_of event.now))) }
     ensures good { OnOk result (IsWritable (O.state output.new)) }
-    ensures front { TookFront (O.state output.old) (O.state output.new) (text_of (notice_of event.now)) }
+    ensures front { TookPrefix (O.state output.old) (O.state output.new) (text_of (notice_of event.now)) }
     ensures stops { IfErr result (StopsAt [] [] (O.state output.new)) }
 {
     let Ok(text) = event.text(alloc) else {
@@ -225,7 +225,7 @@ pub(crate) fn follow<I: Inlet, O: Outlet>(
         × (end ≡ end_by (has_error header.now f.notices))) }
     ensures front { IfErr result (λ fault. (before : InletState) (passed : Messages)
         → Holds before (I.state from.old) subscriber.old passed
-        → FollowedFront (record { key = key.now; header = header.now }) passed
+        → FollowedPrefix (record { key = key.now; header = header.now }) passed
         (record { from = before; to = O.state output.old })
         (record { from = I.state from.new; to = O.state output.new }) fault) }
     ensures stalls { IfErr result (λ fault. (before : InletState) (passed : Messages)

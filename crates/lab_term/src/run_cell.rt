@@ -1,15 +1,15 @@
 //! Running a cell in a kernel.
 ghost use Rattle.std.specs.Prelude.{◌≡◌, ◌≤◌, IfOk, IfErr, OnOk};
 ghost use Rattle.zmtp_wire.specs.Writing.{message_bytes};
-ghost use Rattle.base_streams.specs.Told.{Took, TookFront};
+ghost use Rattle.base_streams.specs.Told.{Took, TookPrefix};
 ghost use Rattle.jup_wire.specs.Dates.{last_moment};
 ghost use Rattle.zmtp_wire.specs.Receiving.{Received};
-ghost use Rattle.zmtp_wire.specs.Sending.{WroteFront, WroteWhole};
+ghost use Rattle.zmtp_wire.specs.Sending.{WrotePrefix, WroteWhole};
 ghost use Rattle.lab_term.specs.Causes.{Ungreeted, Unsent};
 ghost use Rattle.lab_term.specs.Cells.{RunsCell};
 ghost use Rattle.lab_term.specs.Connections.{IsGood, IsGoodClient, client_of, ports_of};
 ghost use Rattle.lab_term.specs.Running.{subscription, Requested};
-ghost use Rattle.lab_term.specs.Stopping.{RequestedFront};
+ghost use Rattle.lab_term.specs.Stopping.{RequestedPrefix};
 
 use crate::cell::{Cell, CellEnd, Request, request_of};
 use crate::fault::{TermFault, term_fault_of};
@@ -41,7 +41,7 @@ fn greet<I: Inlet + Drop, W: Outlet + Drop>(
         (Received (I.state connection.old.from) (I.state connection.new.from)) }
     ensures good { OnOk result (IsGood (ports_of I.state W.state connection.new)) }
     ensures whole { OnOk result (WroteWhole (W.state connection.old.to) (W.state connection.new.to) role) }
-    ensures front { WroteFront (W.state connection.old.to) (W.state connection.new.to) role }
+    ensures front { WrotePrefix (W.state connection.old.to) (W.state connection.new.to) role }
     ensures ungreeted { IfErr result (Ungreeted role
         (ports_of I.state W.state connection.old) (ports_of I.state W.state connection.new)) }
 {
@@ -64,7 +64,7 @@ fn subscription(alloc: Global) -> Result<Frames, AllocError>
 // Writes a message.
 fn send<W: Outlet>(alloc: Global, to: &mut W, frames: &Frames) -> Result<(), TermFault>
     ensures whole { OnOk result (Took (W.state to.old) (W.state to.new) (message_bytes frames.now)) }
-    ensures front { TookFront (W.state to.old) (W.state to.new) (message_bytes frames.now) }
+    ensures front { TookPrefix (W.state to.old) (W.state to.new) (message_bytes frames.now) }
     ensures unsent { IfErr result (Unsent (W.state to.new)) }
 {
     if frames.len() == 0 {
@@ -82,7 +82,7 @@ fn send<W: Outlet>(alloc: Global, to: &mut W, frames: &Frames) -> Result<(), Ter
 // Subscribes to everything.
 fn subscribe<W: Outlet>(alloc: Global, to: &mut W) -> Result<(), TermFault>
     ensures whole { OnOk result (Took (W.state to.old) (W.state to.new) (message_bytes subscription)) }
-    ensures front { TookFront (W.state to.old) (W.state to.new) (message_bytes subscription) }
+    ensures front { TookPrefix (W.state to.old) (W.state to.new) (message_bytes subscription) }
     ensures unsent { IfErr result (Unsent (W.state to.new)) }
 {
     let Ok(frames) = subscription(alloc) else {
@@ -95,7 +95,7 @@ fn subscribe<W: Outlet>(alloc: Global, to: &mut W) -> Result<(), TermFault>
 fn request<W: Outlet>(alloc: Global, to: &mut W, cell: &Cell<'_>) -> Result<Bytes, TermFault>
     requires { cell.now.unix_seconds ≤ last_moment }
     ensures whole { IfOk result (λ header. Requested cell.now header (W.state to.old) (W.state to.new)) }
-    ensures front { IfErr result (RequestedFront cell.now (W.state to.old) (W.state to.new)) }
+    ensures front { IfErr result (RequestedPrefix cell.now (W.state to.old) (W.state to.new)) }
     ensures unsent { IfErr result (Unsent (W.state to.new)) }
 {
     let Ok(Request { header, frames }) = request_of(alloc, cell) else {
@@ -109,7 +109,7 @@ fn request<W: Outlet>(alloc: Global, to: &mut W, cell: &Cell<'_>) -> Result<Byte
 
 /// Runs a cell in the kernel at the other end of two connections, prints its streams and its errors, and
 /// returns how it ended. Only the handshake is read from shell: the reply isn't. On an error at most one
-/// request, the cell's, has been sent, and a front of the texts that the kernel published for it has been
+/// request, the cell's, has been sent, and a prefix of the texts that the kernel published for it has been
 /// printed.
 pub fn run_cell<I: Inlet + Drop, W: Outlet + Drop, O: Outlet>(
     alloc: Global,

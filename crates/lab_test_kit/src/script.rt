@@ -7,8 +7,9 @@ use crate::told::{put_byte, put_newest, put_registers, put_told};
 use base_text::sequence::{Bytes, Sequence};
 use base_text::text::Text;
 use i80_rows::board::Board;
-use lab_core::event::{Event, Granularity, StepKind, StepRequest};
+use lab_core::event::{Event, StepRequest};
 use lab_core::lab::Lab;
+use lab_shown::step::{Granularity, StepKind};
 use std::alloc::{AllocError, Global};
 
 /// Changes by hand: a reference, names, and values for each of them.

@@ -1,6 +1,6 @@
 //! Boards on which the undefined opcodes act, and boards on which they don't.
 use i80_rows::board::Board::{Aliases, Strict};
-use lab_core::event::StepKind::{Out, Over};
+use lab_shown::step::StepKind::{Out, Over};
 use lab_test_kit::ask::Ask::{Code, Frames, Source};
 use lab_test_kit::script::Step::{
     Attach, Debug, Frame, Instruction, Interrupt, Line, Lines, Load, Pause, Registers, Reset,

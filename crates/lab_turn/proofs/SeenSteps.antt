@@ -20,19 +20,19 @@ module _ {C : Type 0} where
   knows_next : (seats limit t t' : ℕ) (log log' : List (ℕ × C)) (views views' : List (View C)) (j : ℕ)
       (d w : View C) → Knows seats limit t log views j d
       → w.seat ≡ d.seat → w.seats ≡ d.seats → w.limit ≡ d.limit → w.kept ≡ d.kept → IsPrefix log log'
-      → IsPrefix w.seen log' → calls_of j log' ≡ w.calls → (w.worn ≡ true → t' ≡ last_ticket)
+      → IsPrefix w.seen log' → calls_of j log' ≡ w.calls → (w.out_of_tickets ≡ true → t' ≡ last_ticket)
       → (w.makes ≡ true → (j ≡ 0) × (w.made ≡ length views'))
       → ((k : ℕ) → get_elem? views k ≡ some spent_view
       → (calls_of k log' ≡ calls_of k log) × (get_elem? views' k ≡ some spent_view))
       → Knows seats limit t' log' views' j w
-  knows_next seats limit t t' log log' views views' j d w h seat all lim kept go seen calls worn made spent =
+  knows_next seats limit t t' log log' views views' j d w h seat all lim kept go seen calls out made spent =
       record {
         seat = seat ∙ h.seat;
         same_seats = all ∙ h.same_seats;
         same_limit = lim ∙ h.same_limit;
         seen = seen;
         calls = calls;
-        worn = worn;
+        out_of_tickets = out;
         made = made;
         kept = λ i x e. let old = h.kept i x (subst (λ l. get_elem? l i ≡ some x) kept e) in
             let s = spent x.seat old.gone in
@@ -58,27 +58,27 @@ module _ {C : Type 0} where
 
   -- a view in another state of its turn
   abbrev pub turned : View C → Option ℕ → Option (List (ℕ × C)) → Bool → View C
-  turned v tk f o = record v { ticket = tk; found = f; worn = o }
+  turned v tk f o = record v { ticket = tk; found = f; out_of_tickets = o }
 
   module _ (seats limit : ℕ) where
-    -- the history stays, and of one view the ticket, what it found, and whether it is worn may change
+    -- the history stays; of one view the ticket, what it found, and whether it is out of tickets may change
     pub history_stays : (t t' : ℕ) (log : List (ℕ × C)) (views : List (View C))
         → HistoryRule seats limit t log views → (id : ℕ) (v : View C) → get_elem? views id ≡ some v
         → v.spent ≡ false
         → t ≤ t' → t' ≤ last_ticket → (tk : Option ℕ) (f : Option (List (ℕ × C))) (o : Bool)
         → (o ≡ true → t' ≡ last_ticket)
         → HistoryRule seats limit t' log (set views id (turned v tk f o))
-    history_stays t t' log views r id v at alive more fits tk f o worn =
+    history_stays t t' log views r id v at alive more fits tk f o out_of_tickets =
         let w = turned v tk f o in let vs = set views id w in record {
           knows = each_view (λ j d. d.spent ≡ false → Knows seats limit t' log vs j d) views id w
               (λ _. let k = r.knows id v at alive in
               knows_next seats limit t t' log log views vs id v w k refl refl refl refl
-              (prefix_self log) k.seen k.calls worn
+              (prefix_self log) k.seen k.calls out_of_tickets
               (λ m. let z = k.made m in (z.0, z.1 ∙ sym (length-set views id w)))
               (λ x is. (refl, (spent_else views id x v w at alive is).1)))
               (λ j d _ e live. let k = r.knows j d e live in
               knows_next seats limit t t' log log views vs j d d k refl refl refl refl
-              (prefix_self log) k.seen k.calls (λ o. let z = k.worn o in omega arith)
+              (prefix_self log) k.seen k.calls (λ o. let z = k.out_of_tickets o in omega arith)
               (λ m. let z = k.made m in (z.0, z.1 ∙ sym (length-set views id w)))
               (λ x is. (refl, (spent_else views id x v w at alive is).1)));
           legal = r.legal;
@@ -103,11 +103,11 @@ module _ {C : Type 0} where
         record {
           knows = each_view (λ j d. d.spent ≡ false → Knows seats limit t log' vs j d) views id w
               (λ _. knows_next seats limit t t log log' views vs id v w k refl refl refl refl go
-              (prefix_self log') (ap (λ n. calls_of n log') (sym k.seat)) k.worn
+              (prefix_self log') (ap (λ n. calls_of n log') (sym k.seat)) k.out_of_tickets
               (λ m. let z = k.made m in (z.0, z.1 ∙ sym len)) spent)
               (λ j d far e live. let h = r.knows j d e live in
               knows_next seats limit t t log log' views vs j d d h refl refl refl refl go
-              (prefix_trans d.seen log log' h.seen go) (others j far ∙ h.calls) h.worn
+              (prefix_trans d.seen log log' h.seen go) (others j far ∙ h.calls) h.out_of_tickets
               (λ m. let z = h.made m in (z.0, z.1 ∙ sym len)) spent);
           legal = legal;
           strangers = λ j le. let far : j ≢ id = λ e. let b = inside views id v at in omega arith in
@@ -125,7 +125,7 @@ module _ {C : Type 0} where
             same_limit = refl;
             seen = ([], refl);
             calls = refl;
-            worn = λ z. absurd cc;
+            out_of_tickets = λ z. absurd cc;
             made = λ _. (o.0, refl);
             kept = λ i x z. absurd (some-ne-none x (sym z));
             once = λ i i' x x' z z'. absurd (some-ne-none x (sym z));
@@ -161,11 +161,11 @@ module _ {C : Type 0} where
           knows = λ j d e live. ⊎_elim
               (λ z. each_view (λ j d. d.spent ≡ false → Knows seats limit t log vs' j d) views id w
               (λ _. knows_next seats limit t t log log views vs' id v w k refl refl refl refl
-              (prefix_self log) k.seen k.calls k.worn (λ _. (mk.0, ap (λ n. n + 1) mk.1 ∙ sym len'))
+              (prefix_self log) k.seen k.calls k.out_of_tickets (λ _. (mk.0, ap (λ n. n + 1) mk.1 ∙ sym len'))
               spent)
               (λ j d far e live. let h = r.knows j d e live in
               knows_next seats limit t t log log views vs' j d d h refl refl refl refl (prefix_self log)
-              h.seen h.calls h.worn (λ m. absurd (far ((h.made m).0 ∙ sym mk.0))) spent)
+              h.seen h.calls h.out_of_tickets (λ m. absurd (far ((h.made m).0 ∙ sym mk.0))) spent)
               j d z live)
               (λ (z : (j ≡ length vs) × (u ≡ d)). subst (λ (y : View C). Knows seats limit t log vs' j y) z.1
               (
@@ -175,7 +175,7 @@ module _ {C : Type 0} where
                 same_limit = k.same_limit;
                 seen = k.seen;
                 calls = r.strangers j (omega arith);
-                worn = λ z. absurd cc;
+                out_of_tickets = λ z. absurd cc;
                 made = λ z. absurd cc;
                 kept = λ i x z. absurd (some-ne-none x (sym z));
                 once = λ i i' x x' z z'. absurd (some-ne-none x (sym z));
@@ -220,7 +220,7 @@ module _ {C : Type 0} where
                 same_limit = k.same_limit;
                 seen = k.seen;
                 calls = k.calls;
-                worn = k.worn;
+                out_of_tickets = k.out_of_tickets;
                 made = λ m. let z = k.made m in (z.0, z.1 ∙ sym len);
                 kept =
                     takes_in vs' log id v u k_u.seat k_u.seen k_u.calls (λ e. apart (sym k_u.seat ∙ e))
@@ -239,7 +239,7 @@ module _ {C : Type 0} where
               (λ live. absurd cc)
               (λ j d far e live. let h = r.knows j d e live in
               knows_next seats limit t t log log views vs' j d d h refl refl refl refl (prefix_self log)
-              h.seen h.calls h.worn (λ m. let z = h.made m in (z.0, z.1 ∙ sym len)) spent);
+              h.seen h.calls h.out_of_tickets (λ m. let z = h.made m in (z.0, z.1 ∙ sym len)) spent);
           legal = r.legal;
           strangers = λ j le. r.strangers j (omega arith);
           few = let f = r.few in omega arith;

@@ -14,7 +14,8 @@ use Rattle.lab_turn.specs.declared.view.View.{View}
 use Rattle.lab_turn.specs.History.{calls_of}
 use Rattle.lab_turn.specs.Tickets.{last_ticket}
 use Rattle.lab_turn.specs.Seen.{spent_view}
-use Rattle.lab_turn.specs.Turns.{first_view, Ruled, worn_out, read_tickets, with_ticket, drew, looked, passed}
+use Rattle.lab_turn.specs.Turns.{first_view, Ruled, without_tickets, read_tickets, with_ticket, drew}
+use Rattle.lab_turn.specs.Turns.{looked, passed}
 use Rattle.lab_turn.specs.Turns.{passed_on, maker_after, new_pass, taker}
 use Rattle.lab_turn.proofs.HistoryLemmas.{inside}
 use Rattle.lab_turn.proofs.TicketSteps.{ticket_stays, ticket_drawn, served_home, value_taken, turn_passed}
@@ -32,12 +33,12 @@ module _ {J C : Type 0} (entries : J → List (ℕ × C)) (limit_of : J → ℕ)
   abbrev Sat : Type 0
   Sat = Me (Option J) (View C)
 
-  -- a step at which the view keeps its ticket and what it found, and may become worn
+  -- a step at which the view keeps its ticket and what it found, and may run out of tickets
   stays : (s : St) (r : Rule s) (id : ℕ) (v : View C) → get_elem? s.views id ≡ some v → v.spent ≡ false
       → (ws : List ℕ) → ws ≡ r.tickets ∷ r.serving ∷ []
       → (o : _) → (o ≡ true → r.tickets ≡ last_ticket)
       → Rule record { words = ws; homes = s.homes; views = set s.views id (turned v v.ticket v.found o) }
-  stays s r id v at alive ws words o worn = record {
+  stays s r id v at alive ws words o out_of_tickets = record {
     tickets = r.tickets;
     serving = r.serving;
     log = r.log;
@@ -46,7 +47,7 @@ module _ {J C : Type 0} (entries : J → List (ℕ × C)) (limit_of : J → ℕ)
         (turned v v.ticket v.found o) at refl refl ws words;
     history =
         history_stays seats limit r.tickets r.tickets r.log s.views r.history id v at alive (omega arith)
-        r.queue.fits v.ticket v.found o worn;
+        r.queue.fits v.ticket v.found o out_of_tickets;
   }
 
   pub reads : (slots id : ℕ) (me : Sat) → me.0.spent ≡ false
@@ -65,7 +66,7 @@ module _ {J C : Type 0} (entries : J → List (ℕ × C)) (limit_of : J → ℕ)
       let k = r.history.knows id v at alive in
       subst P (sym r.queue.words) (dite (ℕ_discrete r.tickets last_ticket)
       (λ is. (
-        worn_out entries limit_of v,
+        without_tickets entries limit_of v,
         keeps,
         tt,
         stays s r id v at alive _ refl true (λ _. is),
@@ -75,7 +76,7 @@ module _ {J C : Type 0} (entries : J → List (ℕ × C)) (limit_of : J → ℕ)
         v,
         keeps,
         tt,
-        stays s r id v at alive _ refl v.worn k.worn,
+        stays s r id v at alive _ refl v.out_of_tickets k.out_of_tickets,
         ((λ is. absurd (not is)), λ _. refl),
       )))
 
@@ -118,8 +119,8 @@ module _ {J C : Type 0} (entries : J → List (ℕ × C)) (limit_of : J → ℕ)
               (ap (λ n. n ∷ r.serving ∷ []) (omega arith));
           history =
               history_stays seats limit r.tickets (r.tickets + 1) r.log s.views r.history id v at alive
-              (omega arith) (omega arith) (Some r.tickets) v.found v.worn
-              (λ o. let z = k.worn o in absurd (omega arith));
+              (omega arith) (omega arith) (Some r.tickets) v.found v.out_of_tickets
+              (λ o. let z = k.out_of_tickets o in absurd (omega arith));
         },
         ((λ _. refl), λ not. absurd (not is)),
       ))
@@ -127,7 +128,7 @@ module _ {J C : Type 0} (entries : J → List (ℕ × C)) (limit_of : J → ℕ)
         v,
         keeps,
         tt,
-        stays s r id v at alive _ refl v.worn k.worn,
+        stays s r id v at alive _ refl v.out_of_tickets k.out_of_tickets,
         ((λ is. absurd (not is)), λ _. refl),
       )))
 
@@ -152,7 +153,7 @@ module _ {J C : Type 0} (entries : J → List (ℕ × C)) (limit_of : J → ℕ)
       let served : v.ticket ≡ Some r.serving = mine ∙ ap Some (sym is) in
       let h = served_home entries limit_of limit s r.tickets r.serving r.log r.queue id v at served nothing in
       let x : J = h.value in
-      let w : View C = turned v v.ticket (Some (entries x)) v.worn in
+      let w : View C = turned v v.ticket (Some (entries x)) v.out_of_tickets in
       let found : w.found ≡ Some r.log = ap Some h.entries_are in (
         w,
         takes 0 (Some x),
@@ -166,7 +167,7 @@ module _ {J C : Type 0} (entries : J → List (ℕ × C)) (limit_of : J → ℕ)
               found h _ refl;
           history =
               history_stays seats limit r.tickets r.tickets r.log s.views r.history id v at alive
-              (omega arith) r.queue.fits v.ticket (Some (entries x)) v.worn k.worn;
+              (omega arith) r.queue.fits v.ticket (Some (entries x)) v.out_of_tickets k.out_of_tickets;
         },
         (
           (λ _. record {
@@ -188,7 +189,7 @@ module _ {J C : Type 0} (entries : J → List (ℕ × C)) (limit_of : J → ℕ)
         v,
         keeps,
         tt,
-        stays s r id v at alive _ refl v.worn k.worn,
+        stays s r id v at alive _ refl v.out_of_tickets k.out_of_tickets,
         ((λ e. let same : r.serving ≡ t = cc in absurd (not same)), λ _. refl),
       )))
 

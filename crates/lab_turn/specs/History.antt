@@ -27,11 +27,18 @@ pub record PassState (C : Type 0) : Type 0 where
   pub seat : ℕ
   pub seen : List (ℕ × C)
   pub calls : List C
-  pub worn : Bool
+  pub out_of_tickets : Bool
 
 -- a pass with which no call was made
 abbrev pub fresh_pass : {C : Type 0} → TurnstileState → ℕ → PassState C
-fresh_pass turnstile seat = record { turnstile = turnstile; seat = seat; seen = []; calls = []; worn = false }
+fresh_pass turnstile seat = record {
+  turnstile = turnstile;
+  seat = seat;
+  seen = [];
+  calls =
+      [];
+  out_of_tickets = false;
+}
 
 -- the passes of the seats from this one on, with which no call was made
 abbrev pub FreshFrom : {C : Type 0} → ℕ → TurnstileState → List (PassState C) → Type 0
@@ -56,7 +63,8 @@ pub record Sees {C : Type 0} (old new : PassState C) : Type 0 where
 module _ {C Y : Type 0} (answer : List (ℕ × C) → C → Y) (is_entry is_full : Y → Bool) where
   -- a turn with this call and this reply takes the pass from old to new
   pub record Turned (old : PassState C) (call : C) (reply : Y) (new : PassState C) : Type 0 where
-    pub same : (new.turnstile ≡ old.turnstile) × (new.seat ≡ old.seat) × (new.worn ≡ old.worn)
+    pub same : (new.turnstile ≡ old.turnstile) × (new.seat ≡ old.seat) × (new.out_of_tickets
+        ≡ old.out_of_tickets)
     pub legal : IsLegal new.turnstile.seats new.turnstile.limit new.seen
     pub own : calls_of new.seat new.seen ≡ new.calls
     pub entered : is_entry reply ≡ true → Enters answer old call reply new

@@ -21,7 +21,7 @@ fresh_view seat seats limit seen = record {
   calls = [];
   ticket = None;
   found = None;
-  worn = false;
+  out_of_tickets = false;
   spent = false;
   kept = [];
 }
@@ -46,7 +46,7 @@ pub record Knows {C : Type 0} (seats limit tickets : ℕ) (log : List (ℕ × C)
   pub same_limit : v.limit ≡ limit
   pub seen : IsPrefix v.seen log
   pub calls : calls_of j log ≡ v.calls
-  pub worn : v.worn ≡ true → tickets ≡ last_ticket
+  pub out_of_tickets : v.out_of_tickets ≡ true → tickets ≡ last_ticket
   pub made : v.makes ≡ true → (j ≡ 0) × (v.made ≡ length views)
   pub kept : (i : ℕ) (w : Left C) → get_elem? v.kept i ≡ some w → Keeps log views j w
   pub once : (i i' : ℕ) (w w' : Left C) → get_elem? v.kept i ≡ some w → get_elem? v.kept i' ≡ some w'

@@ -31,11 +31,11 @@ module _ {J C : Type 0} (entries : J → List (ℕ × C)) (limit_of : J → ℕ)
   Mine = Me (Option J) (View C)
 
   -- a pass that finds no ticket left
-  abbrev pub worn_out : View C → View C
-  worn_out v = record v { worn = true }
+  abbrev pub without_tickets : View C → View C
+  without_tickets v = record v { out_of_tickets = true }
 
   abbrev pub read_tickets : Step (Option J) → Mine → ℕ → Mine → Type 0
-  read_tickets st m r m' = (r ≡ last_ticket → m' ≡ (worn_out m.0, m.1)) × (r ≢ last_ticket → m' ≡ m)
+  read_tickets st m r m' = (r ≡ last_ticket → m' ≡ (without_tickets m.0, m.1)) × (r ≢ last_ticket → m' ≡ m)
 
   abbrev pub with_ticket : View C → ℕ → View C
   with_ticket v t = record v { ticket = Some t }
@@ -85,7 +85,7 @@ pass_of table v = record {
   seat = v.seat;
   seen = v.seen;
   calls = v.calls;
-  worn = v.worn;
+  out_of_tickets = v.out_of_tickets;
 }
 
 module _ {J C : Type 0} where

@@ -29,7 +29,7 @@ module _ {C Y : Type 0} (answer : List (ℕ × C) → C → Y) (is_entry is_full
       (result : Result Y TurnFault) (new : PassState C) : Type 0 where
     pub same : (new.turnstile ≡ turnstile) × (new.seat ≡ old.seat)
     pub ok : IfOk result (λ reply. Turned answer is_entry is_full old call reply new)
-    pub worn : OnErr result (new ≡ record old { worn = true })
+    pub out_of_tickets : OnErr result (new ≡ record old { out_of_tickets = true })
 
   -- the same for the token of this seat's pass, which is idle after the turn
   pub record TokenTakesTurn {J : Type 0} (seat : ℕ) (old : Seat (Option J) (View C)) (call : C)
@@ -38,7 +38,7 @@ module _ {C Y : Type 0} (answer : List (ℕ × C) → C → Y) (is_entry is_full
     pub idle : IsIdle new.me
     pub ok : IfOk result (λ reply. Turned answer is_entry is_full (pass_of old.table_id old.me.0) call reply
         (pass_of old.table_id new.me.0))
-    pub worn : OnErr result (new.me.0 ≡ record old.me.0 { worn = true })
+    pub out_of_tickets : OnErr result (new.me.0 ≡ record old.me.0 { out_of_tickets = true })
 
 -- closing this turnstile with these passes has this result: the value with the whole history; or, if a pass
 -- is missing, the turnstile and the passes

@@ -5,5 +5,5 @@ use thiserror::Error;
 #[derive(Clone, Copy, PartialEq, Eq, Debug, Error)]
 pub enum TurnFault {
     #[error("all tickets of the turnstile are drawn")]
-    Worn,
+    OutOfTickets,
 }

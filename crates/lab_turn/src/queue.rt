@@ -1,6 +1,6 @@
 //! The queue of a turnstile: a turn draws a ticket, waits until it is served, and passes the turn on.
 ghost use Rattle.std.specs.Prelude.{◌≡◌, [], Some, None, IfSome, IfNone, false};
-ghost use Rattle.lab_turn.specs.Turns.{IsIdle, Served, with_ticket, worn_out};
+ghost use Rattle.lab_turn.specs.Turns.{IsIdle, Served, with_ticket, without_tickets};
 ghost use Rattle.lab_turn.specs.Uses.{TokenTakesTurn};
 
 use crate::fault::TurnFault;
@@ -16,7 +16,8 @@ fn draw<J: Journaled, R: Wait>(rt: &R, table: &TurnTable<J>, token: &mut Token<J
     ensures same { (token.new.table_id ≡ token.old.table_id) × (token.new.id ≡ token.old.id) }
     ensures drew { IfSome result (λ ticket.
         token.new.me ≡ (with_ticket J.entries J.limit token.old.me.0 ticket, [])) }
-    ensures worn { IfNone result (token.new.me ≡ (worn_out J.entries J.limit token.old.me.0, [])) }
+    ensures out_of_tickets { IfNone result (token.new.me
+        ≡ (without_tickets J.entries J.limit token.old.me.0, [])) }
 {
     let backoff = Backoff::new();
     for _ in rt.forever() {
@@ -68,7 +69,7 @@ pub fn take_turn<J: Journaled, R: Wait>(
     ensures { TokenTakesTurn J.answer J.is_entry J.is_full seat token.old call result token.new }
 {
     let Some(ticket) = draw(rt, table, token) else {
-        return Err(TurnFault::Worn);
+        return Err(TurnFault::OutOfTickets);
     };
     wait_for(rt, table, token, ticket);
     let found = table.exchange(token, VALUE, None);

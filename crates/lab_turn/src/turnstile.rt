@@ -208,7 +208,8 @@ impl<J: Journaled> Turnstile<J> {
     /// Waits for its turn, then makes one call on the value.
     ///
     /// The reply is the value's own: if the value refuses the call, as when memory runs out, that is an `Ok`
-    /// too, and adds no entry. `Worn` is returned only once 2^64 - 1 tickets are drawn; then no call is made.
+    /// too, and adds no entry. `OutOfTickets` is returned only once 2^64 - 1 tickets are drawn; then no call
+    /// is made.
     pub fn turn<R: Wait>(
         &self,
         rt: &R,

@@ -18,7 +18,7 @@ pub struct View<C> {
     /// While it has the value out of the slot: the entries that it found there.
     pub found: Option<LinkedList<(u32, C)>>,
     /// Whether it found no ticket left.
-    pub worn: bool,
+    pub out_of_tickets: bool,
     /// Whether it was joined to another pass.
     pub spent: bool,
     /// The passes that were joined to it.

@@ -173,8 +173,8 @@ const COUNT_FAULTS: [(CountFault, &str); 2] = [
 
 #[test]
 fn texts(rt: HostRuntime) {
-    let worn = "all tickets of the turnstile are drawn";
-    expect_text(&rt, rt.alloc(), &TurnFault::Worn, worn);
+    let out_of_tickets = "all tickets of the turnstile are drawn";
+    expect_text(&rt, rt.alloc(), &TurnFault::OutOfTickets, out_of_tickets);
     let refused = OpenFault::OutOfMemory(Counter::new(rt.alloc(), 1));
     expect_text(&rt, rt.alloc(), &refused, "out of memory");
     drop(refused);

@@ -1,6 +1,6 @@
 -- Names and the places that they find.
 use Rattle.std.proofs.Common.{◌≡◌, ◌<◌, ◌≤◌, ◌+◌, ◌*◌, ◌/◌, ◌%◌, ◌==◌, ◌⊎◌, ℕ, List, [], ◌∷◌, map, inl, inr}
-use Rattle.std.proofs.Common.{refl, ap, Bool, true, false, cond, Option, Some, None, Ok, Err, arith, eqb}
+use Rattle.std.proofs.Common.{refl, sym, ap, Bool, true, false, cond, Option, Some, None, Ok, Err, arith, eqb}
 use Rattle.std.proofs.lemmas.Bool.{and_parts, eqb-true, cases_lt, ltb-true}
 use Rattle.std.proofs.lemmas.Bool.Decides.{nat_tests}
 use Rattle.std.proofs.lemmas.Slice.Eq.{bytes_eq-Decides}
@@ -12,8 +12,11 @@ use Rattle.base_text.specs.Hexadecimal.{digit_value, number_from, word_spelled, 
 use Rattle.asm_lex.proofs.HexNumerals.{at_below}
 use Rattle.lab_views.specs.declared.place.Place.{Place}
 use Rattle.lab_views.specs.declared.place.Place.TheVariants as place
-use Rattle.lab_views.specs.declared.poke_fault.PokeFault.TheVariants.{BadReference}
-use Rattle.lab_views.specs.Places.{shown_name, registers, register_named, byte_named, or_unknown, place_named}
+use Rattle.lab_views.specs.Places.{shown_name, registers, register_named, byte_named, or_unknown}
+use Rattle.lab_views.specs.Places.{named_in, place_named}
+use Rattle.lab_shown.specs.declared.scope.Scope.{Scope}
+use Rattle.lab_shown.specs.declared.scope.Scope.TheVariants.{Registers, Flags, Devices, Symbols, Memory}
+use Rattle.lab_shown.specs.Scopes.{reference_of, every_scope, scope_with}
 
 -- ---- a word in upper case is read as that word
 
@@ -132,13 +135,13 @@ is_register (place.Memory address) = false
 is_register _ = true
 
 -- what is found is one of the list and passes
-found_or_next : (q p : Place → Bool) (y x : Place) (ys : List Place) (passes : Bool) → p y ≡ passes
+found_or_next : {X : Type 0} (q p : X → Bool) (y x : X) (ys : List X) (passes : Bool) → p y ≡ passes
     → q y ≡ true → (find p ys ≡ Some x → (q x ≡ true) × (p x ≡ true))
     → cond passes (Some y) (find p ys) ≡ Some x → (q x ≡ true) × (p x ≡ true)
 found_or_next q p y x ys true is here next e = let same : y ≡ x = cc in rw (← same) (here, is)
 found_or_next q p y x ys false is here next e = next e
 
-found_is : (q p : Place → Bool) (xs : List Place) (x : Place) → list_all q xs ≡ true → find p xs ≡ Some x
+found_is : {X : Type 0} (q p : X → Bool) (xs : List X) (x : X) → list_all q xs ≡ true → find p xs ≡ Some x
     → (q x ≡ true) × (p x ≡ true)
 found_is q p [] x all e = absurd cc
 found_is q p (y ∷ ys) x all e =
@@ -186,23 +189,32 @@ byte_is (Some address) name at is e = record {
   named = word_shown name address is;
 }
 
-in_scope : (one five : Bool) (reference : ℕ) (name : List ℕ) (at : Place) → (reference == 1) ≡ one
-    → (reference == 5) ≡ five
-    → cond one (or_unknown (register_named name))
-    (cond five (or_unknown (byte_named name)) (Err BadReference)) ≡ Ok at
-    → FindsRegister reference name at ⊎ FindsByte reference name at
-in_scope true five reference name at first fifth e =
-    let is : reference ≡ 1 = eqb-true reference 1 first in
-    inl (record { scope = is; register = register_is name at (known (register_named name) at e) })
-in_scope false true reference name at first fifth e =
-    let is : reference ≡ 5 = eqb-true reference 5 fifth in
-    rw is (inr (byte_is (word_spelled name) name at refl (known (byte_named name) at e)))
-in_scope false false reference name at first fifth e = absurd cc
+-- a scope has the number with which it is found
+pub scope_found : (reference : ℕ) (scope : Scope) → scope_with reference ≡ Some scope
+    → reference ≡ reference_of scope
+scope_found reference scope e =
+    sym (eqb-true (reference_of scope) reference
+    (found_is (λ _. true) (λ s. reference_of s == reference) every_scope scope refl e).1)
+
+in_scope : (found : Option Scope) (reference : ℕ) (name : List ℕ) (at : Place) → scope_with reference ≡ found
+    → named_in found name ≡ Ok at → FindsRegister reference name at ⊎ FindsByte reference name at
+in_scope (Some Registers) reference name at is e =
+    inl (record {
+      scope = scope_found reference Registers is;
+      register = register_is name at (known (register_named name) at e);
+    })
+in_scope (Some Memory) reference name at is e =
+    rw (scope_found reference Memory is)
+    (inr (byte_is (word_spelled name) name at refl (known (byte_named name) at e)))
+in_scope (Some Flags) reference name at is e = absurd cc
+in_scope (Some Devices) reference name at is e = absurd cc
+in_scope (Some Symbols) reference name at is e = absurd cc
+in_scope None reference name at is e = absurd cc
 
 pub place_found : (reference : ℕ) (name : List ℕ) (at : Place) → place_named reference name ≡ Ok at
     → FindsRegister reference name at ⊎ FindsByte reference name at
 place_found reference name at e =
-    in_scope (reference == 1) (reference == 5) reference name at refl refl e
+    in_scope (scope_with reference) reference name at refl e
 
 -- a register's name stands in upper case
 register_upper : (register : Place) → is_register register ≡ true

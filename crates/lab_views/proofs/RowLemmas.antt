@@ -1,7 +1,7 @@
 -- The rows of the scopes after a change by hand.
 use Rattle.std.proofs.Common.{◌≡◌, ◌≢◌, ◌∙◌, ◌<◌, ◌≤◌, ◌+◌, ◌-◌, ◌%◌, ◌==◌, ℕ, zero, suc, List, map, length}
-use Rattle.std.proofs.Common.{inl, inr, refl, sym, ap, Bool, true, false, cond, Ok, arith, min, get_or, subst}
-use Rattle.std.proofs.lemmas.Bool.{ne_eqb}
+use Rattle.std.proofs.Common.{inl, inr, refl, sym, ap, Bool, true, false, cond, Option, Some, None, Ok}
+use Rattle.std.proofs.Common.{arith, min, get_or, subst}
 use Rattle.std.proofs.lemmas.List.{get_or-set_same, get_or-set_other}
 use Rattle.std.proofs.lemmas.List.FromFn.{length-map-range_with_len, get_or-map-range_with_len}
 use Rattle.std.proofs.lemmas.Slice.Eq.{bytes_eq-Decides}
@@ -13,14 +13,18 @@ use Rattle.i80_exec.specs.State.{MachineState, byte_at, with_byte}
 use Rattle.asm_syntax.specs.Numerals.{byte_text}
 use Rattle.lab_views.specs.Paging.{asked_for}
 use Rattle.lab_views.specs.Parts.{Parts}
-use Rattle.lab_views.specs.Variables.{variable, register_variables, memory_variable}
+use Rattle.lab_shown.specs.declared.scope.Scope.{Scope}
+use Rattle.lab_shown.specs.declared.scope.Scope.TheVariants as scope
+use Rattle.lab_shown.specs.Scopes.{scope_with}
+use Rattle.lab_views.specs.Variables.{variable, register_variables, memory_variable, variables_in}
 use Rattle.lab_views.specs.declared.place.Place.{Place}
 use Rattle.lab_views.specs.declared.place.Place.TheVariants as place
 use Rattle.lab_views.specs.Places.{shown_name, place_named}
 use Rattle.lab_views.specs.Values.{text_at}
 use Rattle.lab_views.specs.Changes.{machine_with}
-use Rattle.lab_views.specs.Law.{IsWhole, row_with, ShowsValue, IsAsked, HasRow, ShowsTheSame}
-use Rattle.lab_views.proofs.NameLemmas.{is_register, same_address, place_found}
+use Rattle.lab_views.specs.Law.{parts_changed_at, IsWhole, row_with, ShowsValue, IsAsked, HasRow}
+use Rattle.lab_views.specs.Law.{ShowsTheSame}
+use Rattle.lab_views.proofs.NameLemmas.{is_register, same_address, place_found, scope_found}
 
 -- ---- registers
 
@@ -133,23 +137,38 @@ has_row p reference name at value whole e start count asked =
 
 -- ---- the other scopes
 
-registers_else : (p : Parts) (other : ℕ) (at : Place) (value : ℕ) → is_register at ≡ true
-    → (other == 1) ≡ false → ShowsTheSame p other at value
-registers_else p other (place.Memory address) value h is start count = absurd cc
-registers_else p other _ value h is start count = rw is refl
+-- a change of a register, and of a byte, leaves what the other scopes show
+registers_else : (s : Option Scope) (p : Parts) (at : Place) (value start count : ℕ)
+    → is_register at ≡ true
+    → s ≢ Some scope.Registers
+    → variables_in s (parts_changed_at at value p) start count ≡ variables_in s p start count
+registers_else s p (place.Memory address) value start count h apart = absurd cc
+registers_else (Some scope.Registers) p _ value start count h apart = absurd (apart refl)
+registers_else (Some scope.Flags) p _ value start count h apart = refl
+registers_else (Some scope.Devices) p _ value start count h apart = refl
+registers_else (Some scope.Symbols) p _ value start count h apart = refl
+registers_else (Some scope.Memory) p _ value start count h apart = refl
+registers_else None p _ value start count h apart = refl
 
-memory_else : (p : Parts) (other address value : ℕ) → (other == 5) ≡ false
-    → ShowsTheSame p other (place.Memory address) value
-memory_else p other address value is start count = rw is refl
+memory_else : (s : Option Scope) (p : Parts) (address value start count : ℕ) → s ≢ Some scope.Memory
+    → variables_in s (parts_changed_at (place.Memory address) value p) start count
+    ≡ variables_in s p start count
+memory_else (Some scope.Memory) p address value start count apart = absurd (apart refl)
+memory_else (Some scope.Registers) p address value start count apart = refl
+memory_else (Some scope.Flags) p address value start count apart = refl
+memory_else (Some scope.Devices) p address value start count apart = refl
+memory_else (Some scope.Symbols) p address value start count apart = refl
+memory_else None p address value start count apart = refl
 
 pub shows_the_same : (p : Parts) (reference other : ℕ) (name : List ℕ) (at : Place) (value : ℕ)
     → place_named reference name ≡ Ok at → other ≢ reference → ShowsTheSame p other at value
 shows_the_same p reference other name at value e apart =
     elim (place_found reference name at e) [
-      | inl found ↦ registers_else p other at value found.register.register_is
-          (ne_eqb other 1 (λ is. apart (is ∙ sym found.scope)))
+      | inl found ↦ λ start count.
+          registers_else (scope_with other) p at value start count found.register.register_is
+          (λ is. apart (scope_found other scope.Registers is ∙ sym found.scope))
       | inr found ↦
           subst (λ (x : Place). ShowsTheSame p other x value) (sym found.byte_is)
-          (memory_else p other found.address value
-          (ne_eqb other 5 (λ is. apart (is ∙ sym found.scope))))
+          (λ start count. memory_else (scope_with other) p found.address value start count
+          (λ is. apart (scope_found other scope.Memory is ∙ sym found.scope)))
     ]

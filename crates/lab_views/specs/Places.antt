@@ -1,8 +1,10 @@
 -- The places that can be changed by hand, and the names by which they are found.
 use Rattle.std.specs.Prelude.{ℕ, List, [], ◌∷◌, Option, Some, None, Result, Ok, Err, option_map, find, codes}
-use Rattle.std.specs.Prelude.{◌==◌, if◌then◌else◌}
 use Rattle.std.specs.Str.{bytes_eq}
 use Rattle.base_text.specs.Hexadecimal.{upper_word, word_spelled}
+use Rattle.lab_shown.specs.declared.scope.Scope.{Scope}
+use Rattle.lab_shown.specs.declared.scope.Scope.TheVariants.{Registers, Memory}
+use Rattle.lab_shown.specs.Scopes.{scope_with}
 use Rattle.lab_views.specs.declared.place.Place.{Place}
 use Rattle.lab_views.specs.declared.place.Place.TheVariants as place
 use Rattle.lab_views.specs.declared.poke_fault.PokeFault.{PokeFault}
@@ -37,9 +39,11 @@ abbrev pub or_unknown : Option Place → Result Place PokeFault
 or_unknown None = Err UnknownName
 or_unknown (Some found) = Ok found
 
--- the place of a name in a scope, where the reference 1 is the registers and 5 memory
+-- the place of a name in a scope
+abbrev pub named_in : Option Scope → List ℕ → Result Place PokeFault
+named_in (Some Registers) name = or_unknown (register_named name)
+named_in (Some Memory) name = or_unknown (byte_named name)
+named_in _ name = Err BadReference
+
 abbrev pub place_named : ℕ → List ℕ → Result Place PokeFault
-place_named reference name =
-    if reference == 1 then (or_unknown (register_named name)) else
-    (if reference == 5 then (or_unknown (byte_named name)) else
-    Err BadReference)
+place_named reference name = named_in (scope_with reference) name

@@ -13,6 +13,9 @@ use Rattle.asm_syntax.specs.Numerals.{byte_text, word_text}
 use Rattle.asm_build.specs.declared.symbols.Symbol.{Symbol}
 use Rattle.asm_build.specs.Reading.{Entries}
 use Rattle.lab_shown.specs.declared.shown.Variable.{Variable}
+use Rattle.lab_shown.specs.declared.scope.Scope.{Scope}
+use Rattle.lab_shown.specs.declared.scope.Scope.TheVariants as scope
+use Rattle.lab_shown.specs.Scopes.{scope_with}
 use Rattle.lab_views.specs.declared.fault.ViewFault.{ViewFault}
 use Rattle.lab_views.specs.declared.fault.ViewFault.TheVariants.{BadReference}
 use Rattle.lab_views.specs.Paging.{asked_for, page}
@@ -88,11 +91,15 @@ memory_variables m start count = map (memory_variable m) (range_with_len start (
 
 -- ---- the scopes by their references
 
+abbrev pub variables_in : Option Scope → Parts → ℕ → ℕ → Result (List Variable) ViewFault
+variables_in (Some scope.Registers) p start count = Ok (register_variables p.machine.regs)
+variables_in (Some scope.Flags) p start count = Ok (flag_variables p.machine.regs)
+variables_in (Some scope.Devices) p start count = Ok (device_variables (panel_after p.past))
+variables_in (Some scope.Symbols) p start count =
+    Ok (page start (asked_for 256 256 count) (symbol_variables p.symbols))
+variables_in (Some scope.Memory) p start count =
+    Ok (memory_variables p.machine start (asked_for 16 256 count))
+variables_in None p start count = Err BadReference
+
 abbrev pub variables_of : Parts → ℕ → ℕ → ℕ → Result (List Variable) ViewFault
-variables_of p reference start count =
-    if reference == 1 then (Ok (register_variables p.machine.regs)) else
-    (if reference == 2 then (Ok (flag_variables p.machine.regs)) else
-    (if reference == 3 then (Ok (device_variables (panel_after p.past))) else
-    (if reference == 4 then (Ok (page start (asked_for 256 256 count) (symbol_variables p.symbols))) else
-    (if reference == 5 then (Ok (memory_variables p.machine start (asked_for 16 256 count))) else
-    Err BadReference))))
+variables_of p reference start count = variables_in (scope_with reference) p start count

@@ -4,6 +4,7 @@ ghost use Rattle.lab_views.specs.Places.{place_named, register_named, byte_named
 
 use crate::poke_fault::PokeFault;
 use base_text::hexadecimal::read_word;
+use lab_shown::scope::Scope;
 
 /// A place that can be changed by hand.
 #[derive(Clone, Copy)]
@@ -47,17 +48,17 @@ fn byte_of(name: &str) -> Option<Place>
     }
 }
 
-/// The place of a name in a scope, which is given by its reference, as in the view of its variables. In scope
-/// 1 a register has the name under which it is shown; in scope 5 a byte of memory has its address as four
-/// hexadecimal digits, in either case.
+/// The place of a name in a scope, which is given by its reference, as in the view of its variables. A
+/// register has the name under which it is shown; a byte of memory has its address as four hexadecimal
+/// digits, in either case.
 ///
 /// Fails with `BadReference` for any other scope, and with `UnknownName` for any other name in these two.
 pub fn place_of(reference: u32, name: &str) -> Result<Place, PokeFault>
     ensures { result ≡ place_named reference name.now }
 {
-    let place = match reference {
-        1 => register_of(name),
-        5 => byte_of(name),
+    let place = match Scope::with_reference(reference) {
+        Some(Scope::Registers) => register_of(name),
+        Some(Scope::Memory) => byte_of(name),
         _ => return Err(PokeFault::BadReference),
     };
     place.ok_or(PokeFault::UnknownName)

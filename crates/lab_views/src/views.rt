@@ -18,6 +18,7 @@ use crate::{code, variables};
 use base_text::sequence::Sequence;
 use base_text::text::Text;
 use i80_exec::machine::Machine;
+use lab_shown::scope::Scope;
 use lab_shown::shown::{Shown, Variable};
 use std::alloc::{AllocError, Global};
 
@@ -104,13 +105,15 @@ fn show_variables(
     ensures { (past : List Operation) (loads : List Load) → devices.RepresentsPast parts.now.devices.now past
         → Answers result (variables_shown (parts_with parts.now past loads) reference start count) }
 {
-    match reference {
-        1 => as_shown(variables::registers(alloc, parts.machine.regs())),
-        2 => as_shown(variables::flags(alloc, parts.machine.regs())),
-        3 => as_shown(variables::devices(alloc, parts.devices)),
-        4 => as_shown(variables::symbols(alloc, parts.symbols, start, count)),
-        5 => as_shown(variables::memory(alloc, parts.machine, start, count)),
-        _ => Err(ViewFault::BadReference),
+    let Some(scope) = Scope::with_reference(reference) else {
+        return Err(ViewFault::BadReference);
+    };
+    match scope {
+        Scope::Registers => as_shown(variables::registers(alloc, parts.machine.regs())),
+        Scope::Flags => as_shown(variables::flags(alloc, parts.machine.regs())),
+        Scope::Devices => as_shown(variables::devices(alloc, parts.devices)),
+        Scope::Symbols => as_shown(variables::symbols(alloc, parts.symbols, start, count)),
+        Scope::Memory => as_shown(variables::memory(alloc, parts.machine, start, count)),
     }
 }
 

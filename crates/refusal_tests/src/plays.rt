@@ -1,7 +1,7 @@
 //! What is done to the boards: each list on a new one.
 
 use i80_rows::board::Board::{Aliases, Strict};
-use lab_core::event::StepKind::{In, Out, Over};
+use lab_shown::step::StepKind::{In, Out, Over};
 use lab_test_kit::ask::Ask::{Code, Frames, Info, Scopes, Source, Variables};
 use lab_test_kit::script::Step;
 use lab_test_kit::script::Step::{

@@ -9,7 +9,7 @@ use Rattle.zmtp_wire.specs.declared.role.Role.TheVariants.{Rep}
 use Rattle.zmtp_wire.specs.Stream.{DecoderState, HasReadMessages, Completes}
 use Rattle.zmtp_wire.specs.Writing.{message_bytes}
 use Rattle.base_streams.specs.States.{InletState, OutletState, IsReadable}
-use Rattle.base_streams.specs.Told.{Told, ToldFront, Gave, Took, TookFront, WasRead}
+use Rattle.base_streams.specs.Told.{Told, ToldPrefix, Gave, Took, TookPrefix, WasRead}
 use Rattle.base_streams.proofs.TellLemmas.{told_on, counts_on, counts_none}
 use Rattle.zmtp_wire.specs.declared.peer_fault.PeerFault.{PeerFault}
 use Rattle.zmtp_wire.specs.declared.peer_fault.PeerFault.TheVariants.{OutOfMemory, ReadFailed, WriteFailed}
@@ -17,7 +17,7 @@ use Rattle.zmtp_wire.specs.declared.peer_fault.PeerFault.TheVariants.{Wire}
 use Rattle.zmtp_wire.specs.Ends.{Ends, EndsReading, Explains, FailsBy, NoPeer, Stops, Refuses, Blames}
 use Rattle.zmtp_wire.specs.Receiving.{Received, most_reads}
 use Rattle.zmtp_wire.specs.declared.handshake.Peer.{Peer}
-use Rattle.zmtp_wire.specs.Sending.{IsHandshakeOf, WroteFront, WroteWhole, messages_bytes, Echoes}
+use Rattle.zmtp_wire.specs.Sending.{IsHandshakeOf, WrotePrefix, WroteWhole, messages_bytes, Echoes}
 use Rattle.zmtp_wire.specs.Beating.{Conversation, EchoedPiece, EchoedRound, LostPiece, LostRound}
 use Rattle.zmtp_wire.proofs.ReceivingLemmas.{explains_stop, failed_stop, gave_whole, most_at, most_below}
 use Rattle.zmtp_wire.proofs.ReceivingLemmas.{most_is, peer_of, told_none}
@@ -41,12 +41,12 @@ echo_on a b c items i m fits e o p =
     (ap (λ (y : List (List ℕ)). take i items ++ y ∷ []) e ∙ sym (take_more items i m fits)) in
     subst P bytes (told_on a b c (messages_bytes (take i items)) (message_bytes m) o p)
 
--- a front of one message more was written
+-- a prefix of one message more was written
 pub echo_cut : (a b c : Option (List ℕ)) (items : List (List (List ℕ))) (i : ℕ) (m : List (List ℕ))
     → i < length items → m ≡ get_or items i m → Told a b (messages_bytes (take i items))
-    → ToldFront b c (message_bytes m) → ToldFront a c (messages_bytes items)
+    → ToldPrefix b c (message_bytes m) → ToldPrefix a c (messages_bytes items)
 echo_cut a b c items i m fits e o f =
-    let P : List ℕ → Type 0 = λ l. ToldFront a c l in
+    let P : List ℕ → Type 0 = λ l. ToldPrefix a c l in
     let bytes =
     ap (λ (l : List ℕ). messages_bytes (take i items) ++ l) (sym (bytes_one m))
     ∙ sym (bytes_on (take i items) (m ∷ [])) ∙ ap messages_bytes
@@ -62,7 +62,7 @@ echo_cut a b c items i m fits e o f =
 pub completes_none : (s : DecoderState) → Completes s [] [] s
 completes_none s = record {
   role = refl;
-  stands = λ stream messages k.
+  represents = λ stream messages k.
       let P : List ℕ → Type 0 = λ l. HasReadMessages s l (messages ++ []) in
       let Q : List (List (List ℕ)) → Type 0 = λ l. HasReadMessages s stream l in
       subst P (sym (append-nil stream)) (subst Q (sym (append-nil messages)) k);
@@ -121,7 +121,7 @@ piece_memory piece from s t to e =
 -- the writer failed, or memory was wanting, while the messages were written
 pub piece_refused : (piece : List ℕ) (from : InletState) (s t : DecoderState) (to to' : OutletState)
     (messages : List (List (List ℕ))) (fault : PeerFault) → Completes s piece messages t → Refuses fault to'
-    → TookFront to to' (messages_bytes messages)
+    → TookPrefix to to' (messages_bytes messages)
     → LostPiece piece (conversation from s to) (conversation from t to') fault
 piece_refused piece from s t to to' messages fault r h f = record {
   received = piece;
@@ -213,7 +213,7 @@ Ended from from' to to' fault =
 
 -- the handshake gave no peer
 pub ended_early : (from from' : InletState) (to to' : OutletState) (fault : PeerFault)
-    → NoPeer Rep from from' fault → WroteFront to to' Rep → Ended from from' to to' fault
+    → NoPeer Rep from from' fault → WrotePrefix to to' Rep → Ended from from' to to' fault
 ended_early from from' to to' fault n w = (
   n.decoder,
   n.messages,
@@ -241,7 +241,7 @@ beats_first from from' to t1 t2 p e h w o = record {
 
 pub ended_first : (from from' : InletState) (to t1 t2 : OutletState) (p : Peer) (fault : PeerFault)
     → p.decoder.role ≡ Rep → Received from from' p → WroteWhole to t1 Rep → Refuses fault t2
-    → TookFront t1 t2 (messages_bytes p.messages) → Ended from from' to t2 fault
+    → TookPrefix t1 t2 (messages_bytes p.messages) → Ended from from' to t2 fault
 ended_first from from' to t1 t2 p fault e h w r f = (
   p.decoder,
   p.messages,
@@ -250,7 +250,7 @@ ended_first from from' to t1 t2 p fault e h w r f = (
     unreceived = [];
     gave = gave_whole from from' h.stream h.gave;
     role_is = e;
-    stands = h.stands;
+    represents = h.represents;
     explains = explains_refused fault t2 p.decoder r;
     reads = p.reads;
     was_read = h.was_read;
@@ -275,10 +275,10 @@ wrote_on to t1 t2 h m n o p =
     (told_on to.taken t1.taken t2.taken (h ++ messages_bytes m) (messages_bytes n) o p)
 
 wrote_front : (to t1 t2 : OutletState) (h : List ℕ) (m n : List (List (List ℕ)))
-    → Took to t1 (h ++ messages_bytes m) → TookFront t1 t2 (messages_bytes n)
-    → TookFront to t2 (h ++ messages_bytes (m ++ n))
+    → Took to t1 (h ++ messages_bytes m) → TookPrefix t1 t2 (messages_bytes n)
+    → TookPrefix to t2 (h ++ messages_bytes (m ++ n))
 wrote_front to t1 t2 h m n o p =
-    let P : List ℕ → Type 0 = λ l. TookFront to t2 l in
+    let P : List ℕ → Type 0 = λ l. TookPrefix to t2 l in
     subst P (append_assoc h (messages_bytes m) (messages_bytes n)
     ∙ ap (λ (l : List ℕ). h ++ l) (sym (bytes_on m n)))
     (front_on to.taken t1.taken t2.taken (h ++ messages_bytes m) (messages_bytes n) o p)
@@ -293,7 +293,7 @@ beats_piece from g1 g2 to t1 t2 piece s t n c fits o w p b =
       received = record {
         stream = b.received.stream ++ piece;
         gave = told_on from.given g1.given g2.given b.received.stream piece b.received.gave o;
-        stands = p.completes.stands b.received.stream b.messages b.received.stands;
+        represents = p.completes.represents b.received.stream b.messages b.received.represents;
         was_read = counts_on from.reads g1.reads g2.reads n c b.received.was_read w;
         within = fits;
       };
@@ -341,7 +341,7 @@ ended_piece from g1 g2 to t1 t2 s t piece n c fault fits o w l b =
             ∙ sym (append_assoc b.received.stream l.received l.unreceived))
             (told_on from.given g1.given g2.given b.received.stream piece b.received.gave o);
         role_is = l.completes.role ∙ b.role;
-        stands = l.completes.stands b.received.stream b.messages b.received.stands;
+        represents = l.completes.represents b.received.stream b.messages b.received.represents;
         explains = l.explains;
         reads = n + c;
         was_read = counts_on from.reads g1.reads g2.reads n c b.received.was_read w;
@@ -384,7 +384,7 @@ ended_most from g1 to t1 s n most b = let within = rw most_is at b.received.with
     unreceived = [];
     gave = gave_whole from g1 b.received.stream b.received.gave;
     role_is = b.role;
-    stands = b.received.stands;
+    represents = b.received.represents;
     explains = refl;
     reads = n;
     was_read = b.received.was_read;

@@ -110,7 +110,7 @@ completes : (old : DecoderState) (piece rest : List ℕ) (p : Progress) (fault :
     → EndsAt old.role rest fault p → Completes old piece p.messages.items (decoder_after old p rest fault)
 completes old piece rest p fault f reads ends = record {
   role = refl;
-  stands = λ stream messages st. (
+  represents = λ stream messages st. (
       let new = decoder_after old p rest fault in
       let e = rw f at st.ends in
       let h = got_by new (messages ++ p.messages.items) in
@@ -129,7 +129,7 @@ pub stays_broken : (s : DecoderState) (piece : List ℕ) (c : StreamFault) → s
     → Completes s piece [] s
 stays_broken s piece c f = record {
   role = refl;
-  stands = λ stream messages st. (
+  represents = λ stream messages st. (
       let e = rw f at st.ends in
       rw (append-nil messages) (record {
         rest = st.rest ++ piece;

@@ -34,7 +34,7 @@ received_first inlet p k e z =
     record {
       stream = [];
       gave = told_none inlet.given;
-      stands = subst P (sym e) k;
+      represents = subst P (sym e) k;
       was_read = subst R (sym z) (counts_none inlet.reads);
       within = omega (arith, z);
     }
@@ -52,8 +52,8 @@ received_on g h k s t x out unready left r o w p =
     record {
       stream = p.stream ++ x;
       gave = told_on g.given h.given k.given p.stream x p.gave o;
-      stands = subst P (decoder_quiet s.decoder p.stream s.messages unready p.stands)
-          (r.stands p.stream s.messages p.stands);
+      represents = subst P (decoder_quiet s.decoder p.stream s.messages unready p.represents)
+          (r.represents p.stream s.messages p.represents);
       was_read = counts_on g.reads h.reads k.reads s.reads 1 p.was_read w;
       within = most_below s.reads left;
     }
@@ -96,7 +96,7 @@ lost_stop g h k s fault unready left stops o w p = record {
     unreceived = [];
     gave = told_on g.given h.given k.given p.stream [] p.gave o;
     role_is = refl;
-    stands = p.stands;
+    represents = p.represents;
     explains = explains_stop fault k s.decoder stops;
     reads = s.reads + 1;
     was_read = counts_on g.reads h.reads k.reads s.reads 1 p.was_read w;
@@ -118,7 +118,7 @@ lost_memory g h k s x left o w p = record {
         unreceived = x;
         gave = told_on g.given h.given k.given p.stream x p.gave o;
         role_is = refl;
-        stands = p.stands;
+        represents = p.represents;
         explains = tt;
         reads = s.reads + 1;
         was_read = counts_on g.reads h.reads k.reads s.reads 1 p.was_read w;
@@ -137,7 +137,7 @@ ends_whole g k role t fault e p why fails = record {
   unreceived = [];
   gave = gave_whole g k p.stream p.gave;
   role_is = e;
-  stands = p.stands;
+  represents = p.represents;
   explains = why;
   reads = t.reads;
   was_read = p.was_read;

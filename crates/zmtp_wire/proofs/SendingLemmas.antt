@@ -3,14 +3,14 @@ use Rattle.std.proofs.Common.{◌≡◌, ℕ, List, [], ◌++◌, Option, sym, a
 use Rattle.zmtp_wire.specs.declared.role.Role.{Role}
 use Rattle.zmtp_wire.specs.Writing.{written_greeting, IsReadyOf}
 use Rattle.base_streams.specs.States.{OutletState}
-use Rattle.base_streams.specs.Told.{Told, ToldFront, Took, TookFront}
+use Rattle.base_streams.specs.Told.{Told, ToldPrefix, Took, TookPrefix}
 use Rattle.base_streams.proofs.TellLemmas.{told_on}
-use Rattle.zmtp_wire.specs.Sending.{IsHandshakeOf, WroteFront, WroteWhole}
+use Rattle.zmtp_wire.specs.Sending.{IsHandshakeOf, WrotePrefix, WroteWhole}
 
-pub front_all : (a b : Option (List ℕ)) (x : List ℕ) → Told a b x → ToldFront a b x
+pub front_all : (a b : Option (List ℕ)) (x : List ℕ) → Told a b x → ToldPrefix a b x
 front_all a b x o = record { front = x; others = []; told = o; whole = sym (append-nil x) }
 
-pub front_before : (a b : Option (List ℕ)) (x y : List ℕ) → ToldFront a b x → ToldFront a b (x ++ y)
+pub front_before : (a b : Option (List ℕ)) (x y : List ℕ) → ToldPrefix a b x → ToldPrefix a b (x ++ y)
 front_before a b x y f = record {
   front = f.front;
   others = f.others ++ y;
@@ -18,8 +18,8 @@ front_before a b x y f = record {
   whole = ap (λ (l : List ℕ). l ++ y) f.whole ∙ append_assoc f.front f.others y;
 }
 
-pub front_on : (a b c : Option (List ℕ)) (x y : List ℕ) → Told a b x → ToldFront b c y
-    → ToldFront a c (x ++ y)
+pub front_on : (a b c : Option (List ℕ)) (x y : List ℕ) → Told a b x → ToldPrefix b c y
+    → ToldPrefix a c (x ++ y)
 front_on a b c x y o f = record {
   front = x ++ f.front;
   others = f.others;
@@ -32,9 +32,9 @@ spelled : (greeting ready : List ℕ) (role : Role) → greeting ≡ written_gre
 spelled greeting ready role e r =
     record { ready = ready; is_ready = r; spelled = ap (λ (l : List ℕ). l ++ ready) e }
 
--- a front of the greeting was written
+-- a prefix of the greeting was written
 pub wrote_greeting : (a b : OutletState) (greeting ready : List ℕ) (role : Role)
-    → greeting ≡ written_greeting → IsReadyOf ready role → TookFront a b greeting → WroteFront a b role
+    → greeting ≡ written_greeting → IsReadyOf ready role → TookPrefix a b greeting → WrotePrefix a b role
 wrote_greeting a b greeting ready role e r f = record {
   handshake = greeting ++ ready;
   is = spelled greeting ready role e r;
@@ -43,14 +43,14 @@ wrote_greeting a b greeting ready role e r f = record {
 
 -- the greeting was written whole
 pub wrote_greeting_whole : (a b : OutletState) (greeting ready : List ℕ) (role : Role)
-    → greeting ≡ written_greeting → IsReadyOf ready role → Took a b greeting → WroteFront a b role
+    → greeting ≡ written_greeting → IsReadyOf ready role → Took a b greeting → WrotePrefix a b role
 wrote_greeting_whole a b greeting ready role e r o =
     wrote_greeting a b greeting ready role e r (front_all a.taken b.taken greeting o)
 
--- and then a front of READY
+-- and then a prefix of READY
 pub wrote_ready : (a b c : OutletState) (greeting ready : List ℕ) (role : Role)
-    → greeting ≡ written_greeting → IsReadyOf ready role → Took a b greeting → TookFront b c ready
-    → WroteFront a c role
+    → greeting ≡ written_greeting → IsReadyOf ready role → Took a b greeting → TookPrefix b c ready
+    → WrotePrefix a c role
 wrote_ready a b c greeting ready role e r o f = record {
   handshake = greeting ++ ready;
   is = spelled greeting ready role e r;
@@ -69,6 +69,6 @@ wrote_whole a b c greeting ready role e r o p = record {
 
 pub wrote_ready_whole : (a b c : OutletState) (greeting ready : List ℕ) (role : Role)
     → greeting ≡ written_greeting → IsReadyOf ready role → Took a b greeting → Took b c ready
-    → WroteFront a c role
+    → WrotePrefix a c role
 wrote_ready_whole a b c greeting ready role e r o p =
     wrote_ready a b c greeting ready role e r o (front_all b.taken c.taken ready p)

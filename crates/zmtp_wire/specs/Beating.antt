@@ -3,7 +3,7 @@ use Rattle.std.specs.Prelude.{◌≡◌, ◌<◌, true, ◌++◌, length}
 use Rattle.zmtp_wire.specs.Stream.{DecoderState, Completes}
 use Rattle.zmtp_wire.specs.Wire.{Bytes, Messages}
 use Rattle.base_streams.specs.States.{InletState, OutletState}
-use Rattle.base_streams.specs.Told.{Gave, Took, TookFront, WasRead}
+use Rattle.base_streams.specs.Told.{Gave, Took, TookPrefix, WasRead}
 use Rattle.zmtp_wire.specs.declared.peer_fault.PeerFault.{PeerFault}
 use Rattle.zmtp_wire.specs.declared.peer_fault.PeerFault.TheVariants.{ReadFailed}
 use Rattle.zmtp_wire.specs.Ends.{Explains, EndsReading}
@@ -29,7 +29,7 @@ pub record EchoedRound (old new : Conversation) : Type 0 where
   pub was_read : WasRead old.inlet new.inlet 1
   pub echoed : EchoedPiece piece old.decoder new.decoder old.outlet new.outlet
 
--- the fault ended a round: the side received a front of the piece, and a front of the messages that it
+-- the fault ended a round: the side received a prefix of the piece, and a prefix of the messages that it
 -- completes was written, all of them if the fault came from reading
 pub record LostPiece (piece : Bytes) (old new : Conversation) (fault : PeerFault) : Type 0 where
   pub received : Bytes
@@ -39,7 +39,7 @@ pub record LostPiece (piece : Bytes) (old new : Conversation) (fault : PeerFault
   pub completes : Completes old.decoder received messages new.decoder
   pub explains : Explains fault new.decoder unreceived
   pub failed : fault ≡ ReadFailed → new.inlet.failed ≡ true
-  pub front : TookFront old.outlet new.outlet (messages_bytes messages)
+  pub front : TookPrefix old.outlet new.outlet (messages_bytes messages)
   pub whole : EndsReading fault → Took old.outlet new.outlet (messages_bytes messages)
 
 -- the same of what the reader gave in a read

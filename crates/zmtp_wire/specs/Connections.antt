@@ -10,7 +10,7 @@ use Rattle.zmtp_wire.specs.Stream.{DecoderState}
 use Rattle.zmtp_wire.specs.Wire.{Messages}
 use Rattle.zmtp_wire.specs.Receiving.{Received}
 use Rattle.zmtp_wire.specs.Ends.{Blames, Ends, NoPeer}
-use Rattle.zmtp_wire.specs.Sending.{Echoes, WroteFront, WroteWhole}
+use Rattle.zmtp_wire.specs.Sending.{Echoes, WrotePrefix, WroteWhole}
 
 -- the two directions of a connection: what is read from the peer, and what is written to it
 pub record Connection : Type 0 where
@@ -27,7 +27,7 @@ pub record MakesHandshake (side : Role) (old new : Connection) (result : Result 
   pub received : IfOk result (Received old.inlet new.inlet)
   pub ready : IfOk result (λ peer. peer.decoder.stage ≡ Traffic)
   pub role : IfOk result (λ peer. peer.decoder.role ≡ side)
-  pub front : WroteFront old.outlet new.outlet side
+  pub front : WrotePrefix old.outlet new.outlet side
   pub whole : OnOk result (WroteWhole old.outlet new.outlet side)
   pub good : OnOk result (IsReadable new.inlet × IsWritable new.outlet)
   pub blames : IfErr result (λ fault. Blames fault new.inlet new.outlet)

@@ -32,7 +32,7 @@ abbrev pub FailsBy : PeerFault → InletState → ℕ → Type 0
 FailsBy ReadFailed inlet reads = (inlet.failed ≡ true) ⊎ (reads ≡ most_reads)
 FailsBy _ inlet reads = Unit {0}
 
--- the reader gave bytes in so many reads; a decoder of this role received a front of them, with these
+-- the reader gave bytes in so many reads; a decoder of this role received a prefix of them, with these
 -- messages in it; and the fault says why not more
 pub record Ends (role : Role) (old new : InletState) (fault : PeerFault) (decoder : DecoderState)
     (messages : Messages) : Type 0 where
@@ -40,7 +40,7 @@ pub record Ends (role : Role) (old new : InletState) (fault : PeerFault) (decode
   pub unreceived : Bytes
   pub gave : Gave old new (received ++ unreceived)
   pub role_is : decoder.role ≡ role
-  pub stands : HasReadMessages decoder received messages
+  pub represents : HasReadMessages decoder received messages
   pub explains : Explains fault decoder unreceived
   pub reads : ℕ
   pub was_read : WasRead old new reads

@@ -14,6 +14,6 @@ most_reads = 4294967295
 pub record Received (old new : InletState) (peer : Peer) : Type 0 where
   pub stream : Bytes
   pub gave : Gave old new stream
-  pub stands : HasReadMessages peer.decoder stream peer.messages
+  pub represents : HasReadMessages peer.decoder stream peer.messages
   pub was_read : WasRead old new peer.reads
   pub within : peer.reads ≤ most_reads

@@ -95,5 +95,5 @@ pub record HasReadMessages (s : DecoderState) (stream : Bytes) (messages : Messa
 pub record Completes (old : DecoderState) (piece : Bytes) (out : Messages) (new : DecoderState)
     : Type 0 where
   pub role : new.role ≡ old.role
-  pub stands : (stream : Bytes) (messages : Messages) → HasReadMessages old stream messages
+  pub represents : (stream : Bytes) (messages : Messages) → HasReadMessages old stream messages
       → HasReadMessages new (stream ++ piece) (messages ++ out)

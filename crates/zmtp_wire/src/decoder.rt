@@ -60,7 +60,7 @@ impl Decoder {
     /// A decoder for a side of this role, at the beginning of the stream.
     pub fn new(alloc: Global, role: Role) -> Decoder
         ensures role { result.role ≡ role }
-        ensures stands { HasReadMessages result [] [] }
+        ensures represents { HasReadMessages result [] [] }
         ensures fault { result.fault ≡ None }
     {
         Decoder {

@@ -5,7 +5,7 @@ ghost use Rattle.dap_session.specs.Breakpoints.{lines_set, setting_lines, settin
 ghost use Rattle.dap_session.specs.States.{SessionState, with_points};
 ghost use Rattle.dap_points.specs.Points.{number_of, has_place, with_lines};
 ghost use Rattle.dap_points.specs.Placed.{line_points};
-ghost use Rattle.dap_session.specs.Stands.{RepresentsSession, RepliesAs, LabelsPlaced};
+ghost use Rattle.dap_session.specs.Represents.{RepresentsSession, RepliesAs, LabelsPlaced};
 
 use crate::reply::{Reply, succeed};
 use crate::session::Session;
@@ -15,7 +15,7 @@ use dap_editor::message::{EditorBody, PlacedBreakpoint};
 use dap_launch::program::Program;
 use dap_points::placed::line_points;
 use dap_program::breakpoints::{arm, labels_behind};
-use dap_program::messages::Follow;
+use dap_program::messages::FollowUp;
 use std::alloc::{AllocError, Global};
 
 // The program, if it was launched with this path.
@@ -83,7 +83,7 @@ impl Session {
         let points = self.line_points(alloc, path, lines)?;
         self.arm_lines(alloc, path, lines)?;
         self.keep_lines(kept_path, kept_lines);
-        Ok(succeed(EditorBody::Breakpoints(points), Follow::Nothing))
+        Ok(succeed(EditorBody::Breakpoints(points), FollowUp::Nothing))
     }
 
     // The breakpoints on these lines of a source.
@@ -150,7 +150,7 @@ impl Session {
         let kept = names.clone()?;
         let points = self.place_labels(alloc, names.as_slice())?;
         self.settings.points.set_functions(kept);
-        Ok(succeed(EditorBody::Breakpoints(points), Follow::Nothing))
+        Ok(succeed(EditorBody::Breakpoints(points), FollowUp::Nothing))
     }
 
     // The breakpoints at labels. The program's board stops at them from now on.

@@ -4,7 +4,7 @@ ghost use Rattle.dap_session.specs.Evaluations.{looking, evaluating, command_rep
 ghost use Rattle.dap_session.specs.Evaluations.{prompting};
 ghost use Rattle.dap_board.specs.Commands.{command_result, IsPerformable};
 ghost use Rattle.dap_inspect.specs.Expressions.{message_of};
-ghost use Rattle.dap_session.specs.Stands.{RepliesAs};
+ghost use Rattle.dap_session.specs.Represents.{RepliesAs};
 
 use crate::prompt::{PromptCommand, prompt_command};
 use crate::reply::{Reply, succeed};
@@ -16,14 +16,14 @@ use dap_editor::message::{EditorBody, EditorOutcome};
 use dap_editor::request::EvaluateContext;
 use dap_inspect::expression::evaluate;
 use dap_inspect::fault::EvaluateFault;
-use dap_program::messages::Follow;
+use dap_program::messages::FollowUp;
 use dap_talk::command::DapCommand;
 use std::alloc::{AllocError, Global};
 
 // The reply to an expression that has no value. Running out of memory is an error of its own.
 fn refuse_expression(alloc: Global, fault: EvaluateFault) -> Result<Reply, AllocError>
     ensures refused { IfOk result (λ reply. reply
-        ≡ record { outcome = EditorOutcome.Refused (message_of fault); follow = Follow.Nothing }) }
+        ≡ record { outcome = EditorOutcome.Refused (message_of fault); follow = FollowUp.Nothing }) }
     ensures other { IfOk result (λ _. fault ≢ EvaluateFault.OutOfMemory) }
 {
     if matches!(fault, EvaluateFault::OutOfMemory) {
@@ -32,7 +32,7 @@ fn refuse_expression(alloc: Global, fault: EvaluateFault) -> Result<Reply, Alloc
     let message = fault.message(alloc)?;
     Ok(Reply {
         outcome: EditorOutcome::Refused(message),
-        follow: Follow::Nothing,
+        follow: FollowUp::Nothing,
     })
 }
 
@@ -55,7 +55,7 @@ impl Session {
         ensures { RepliesAs (looking expression.now) self.old result self.new }
     {
         match evaluate(alloc, &self.lab, expression) {
-            Ok(text) => Ok(succeed(EditorBody::Evaluation(text), Follow::Nothing)),
+            Ok(text) => Ok(succeed(EditorBody::Evaluation(text), FollowUp::Nothing)),
             Err(fault) => refuse_expression(alloc, fault),
         }
     }
@@ -88,7 +88,7 @@ impl Session {
         match perform(alloc, &mut self.lab, command) {
             Ok(body) => {
                 drop(body);
-                Ok(succeed(EditorBody::Evaluation(done), Follow::Nothing))
+                Ok(succeed(EditorBody::Evaluation(done), FollowUp::Nothing))
             }
             Err(fault) => refuse_for(alloc, fault),
         }

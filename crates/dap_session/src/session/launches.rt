@@ -9,7 +9,7 @@ ghost use Rattle.dap_session.specs.Launches.{beginning_where, started_follow, in
 ghost use Rattle.dap_session.specs.Launches.{restarting};
 ghost use Rattle.dap_session.specs.Slices.{told_by, told_in};
 ghost use Rattle.dap_session.specs.States.{SessionState, with_board, with_program};
-ghost use Rattle.dap_session.specs.Stands.{RepresentsSession, Replies, Tells, TellsAs};
+ghost use Rattle.dap_session.specs.Represents.{RepresentsSession, Replies, Tells, TellsAs};
 
 use crate::reply::{Reply, accept};
 use crate::session::Session;
@@ -19,12 +19,11 @@ use dap_editor::message::Message;
 use dap_editor::request::Launch;
 use dap_launch::file::{FileText, text_in};
 use dap_launch::opening::{Opening, begun_follow, loaded_messages};
-use dap_launch::program::{LoadedProgram, Phase, Program, arm_program, copy_launch, pauses};
-use dap_program::change::begin;
+use dap_launch::program::{LoadedProgram, Phase, Program, arm_program, begin_program, copy_launch};
 use dap_program::failure::failure;
 use dap_program::load::{LoadFault, Loaded, load};
-use dap_program::messages::{Caller, Follow};
-use dap_program::opening::Occasion;
+use dap_program::messages::{FollowUp, RequestId};
+use dap_program::opening::LoadReason;
 use lab_image::lines::line_count;
 use std::alloc::{AllocError, Global};
 
@@ -35,14 +34,14 @@ impl Session {
             → Replies (beginning_where s.settings.program s) result self.new }
     {
         match &mut self.settings.program {
-            None => accept(Follow::Nothing),
+            None => accept(FollowUp::Nothing),
             Some(program) => match program.phase {
                 Phase::Loaded => {
-                    begin(&mut self.lab, program.start, pauses(&program.launch));
+                    begin_program(&mut self.lab, program);
                     program.phase = Phase::Begun;
-                    accept(begun_follow(Occasion::Launch, &program.launch))
+                    accept(begun_follow(LoadReason::Launch, &program.launch))
                 }
-                Phase::Begun | Phase::Over => accept(Follow::Nothing),
+                Phase::Begun | Phase::Over => accept(FollowUp::Nothing),
             },
         }
     }
@@ -50,7 +49,7 @@ impl Session {
     pub(super) fn launch(
         &mut self,
         alloc: Global,
-        caller: Caller,
+        caller: RequestId,
         launch: &Launch,
         file: &Option<FileText>,
     ) -> Result<Sequence<Message>, AllocError>
@@ -63,8 +62,8 @@ impl Session {
             Err(message) => self.refuse(alloc, caller, message),
             Ok(text) => {
                 let launch = copy_launch(launch)?;
-                let occasion = Occasion::Launch;
-                self.load(alloc, Opening { caller, occasion }, launch, text)
+                let cause = LoadReason::Launch;
+                self.load(alloc, Opening { caller, cause }, launch, text)
             }
         }
     }
@@ -72,7 +71,7 @@ impl Session {
     pub(super) fn restart(
         &mut self,
         alloc: Global,
-        caller: Caller,
+        caller: RequestId,
         file: &Option<FileText>,
     ) -> Result<Sequence<Message>, AllocError>
         ensures { TellsAs (λ s. told_in caller (restarting file.now s)) self.old result self.new }
@@ -84,8 +83,8 @@ impl Session {
             Err(message) => self.refuse(alloc, caller, message),
             Ok(text) => {
                 let launch = copy_launch(&program.launch)?;
-                let occasion = Occasion::Restart;
-                self.load(alloc, Opening { caller, occasion }, launch, text)
+                let cause = LoadReason::Restart;
+                self.load(alloc, Opening { caller, cause }, launch, text)
             }
         }
     }
@@ -98,7 +97,7 @@ impl Session {
         launch: Launch,
         text: &Text,
     ) -> Result<Sequence<Message>, AllocError>
-        ensures { TellsAs (λ s. told_in opening.caller (loading opening.occasion launch text.now s))
+        ensures { TellsAs (λ s. told_in opening.caller (loading opening.cause launch text.now s))
             self.old result self.new }
     {
         match load(alloc, &launch, text) {
@@ -116,14 +115,14 @@ impl Session {
         }
     }
 
-    fn started_follow(&self, occasion: Occasion, program: &Program) -> Follow
+    fn started_follow(&self, cause: LoadReason, program: &Program) -> FollowUp
         ensures { (s : SessionState) → RepresentsSession self.now s
-            → result ≡ started_follow occasion program.now s }
+            → result ≡ started_follow cause program.now s }
     {
         if self.settings.is_configured {
-            begun_follow(occasion, &program.launch)
+            begun_follow(cause, &program.launch)
         } else {
-            Follow::Nothing
+            FollowUp::Nothing
         }
     }
 
@@ -137,9 +136,9 @@ impl Session {
         ensures { (s : SessionState) (b : Board) → RepresentsSession self.now s
             → RepresentsBoard loaded.now.lab b
             → IfOk result (λ messages. messages
-            ≡ told_by opening.caller (installing opening.occasion loaded.now.program b s)) }
+            ≡ told_by opening.caller (installing opening.cause loaded.now.program b s)) }
     {
-        let follow = self.started_follow(opening.occasion, &loaded.program);
+        let follow = self.started_follow(opening.cause, &loaded.program);
         loaded_messages(alloc, opening, loaded, &self.settings.points, follow)
     }
 
@@ -178,7 +177,7 @@ impl Session {
             → RepresentsBoard loaded.lab b
             → loaded.program.phase ≡ Phase.Loaded
             → IfOk result (λ messages. Tells
-            (told_in opening.caller (installing opening.occasion loaded.program b s)) messages self.new) }
+            (told_in opening.caller (installing opening.cause loaded.program b s)) messages self.new) }
         ensures err { OnErr result (self.new ≡ self.old) }
     {
         let messages = self.opening_messages(alloc, opening, &loaded)?;

@@ -8,19 +8,19 @@ ghost use Rattle.dap_session.specs.Requests.{reading, disassembling};
 ghost use Rattle.dap_session.specs.States.{SessionState, with_board};
 ghost use Rattle.dap_session.specs.Turns.{turn_of};
 ghost use Rattle.dap_session.specs.Slices.{told_in};
-ghost use Rattle.dap_session.specs.Stands.{RepresentsSession, RepliesAs, Tells, TellsFor, WritesFirst};
+ghost use Rattle.dap_session.specs.Represents.{RepresentsSession, RepliesAs, Tells, TellsFor, WritesFirst};
 
 use crate::reply::{Reply, succeed};
 use crate::session::Session;
 use base_text::sequence::{Bytes, Sequence};
 use dap_answers::answer::Body;
 use dap_editor::message::{EditorBody, EditorOutcome, Message};
-use dap_editor::request::{Asked, EditorCommand, Shift};
+use dap_editor::request::{EditorCommand, RequestContent, SignedOffset};
 use dap_inspect::before::before_instructions;
 use dap_inspect::listing::code_lines;
 use dap_inspect::memory::read_memory;
 use dap_program::memory::write_bytes;
-use dap_program::messages::{Caller, Follow, Messages};
+use dap_program::messages::{FollowUp, Messages, RequestId};
 use dap_program::refusals::board_refusal;
 use lab_core::fault::EventFault;
 use lab_core::run_state::RunState;
@@ -30,15 +30,15 @@ use std::alloc::{AllocError, Global};
 const ADDRESSES: usize = 65_536;
 
 // The address at this distance from another, if there is one.
-fn address_at(address: u16, offset: Shift) -> Option<u16>
+fn address_at(address: u16, offset: SignedOffset) -> Option<u16>
     ensures { result ≡ address_at address offset }
 {
     match offset {
-        Shift::Forward(n) => {
+        SignedOffset::Forward(n) => {
             let far = u64::from(address) + u64::from(n);
             if far <= 65535 { Some(far as u16) } else { None }
         }
-        Shift::Back(n) => {
+        SignedOffset::Back(n) => {
             if n <= u32::from(address) {
                 Some((u32::from(address) - n) as u16)
             } else {
@@ -49,12 +49,12 @@ fn address_at(address: u16, offset: Shift) -> Option<u16>
 }
 
 // The address at this distance from another. Addresses wrap.
-fn wrapped_at(address: u16, offset: Shift) -> u16
+fn wrapped_at(address: u16, offset: SignedOffset) -> u16
     ensures { result ≡ wrapped_at address offset }
 {
     let far = match offset {
-        Shift::Forward(n) => u64::from(address) + u64::from(n),
-        Shift::Back(n) => u64::from(address) + (65_536 - u64::from(n % 65_536)),
+        SignedOffset::Forward(n) => u64::from(address) + u64::from(n),
+        SignedOffset::Back(n) => u64::from(address) + (65_536 - u64::from(n % 65_536)),
     };
     (far % 65_536) as u16
 }
@@ -106,24 +106,24 @@ impl Session {
         &mut self,
         alloc: Global,
         address: u16,
-        offset: Shift,
+        offset: SignedOffset,
         count: u32,
     ) -> Result<Reply, AllocError>
         ensures { RepliesAs (reading address offset count) self.old result self.new }
     {
         let body = self.memory_at(alloc, address_at(address, offset), address, count)?;
-        Ok(succeed(body, Follow::Nothing))
+        Ok(succeed(body, FollowUp::Nothing))
     }
 
     // The address of the line of code that is so many instructions from an address.
-    fn first_line(&self, address: u16, offset: Shift) -> u16
+    fn first_line(&self, address: u16, offset: SignedOffset) -> u16
         requires { requests.is_near offset ≡ true }
         ensures { (s : SessionState) → RepresentsSession self.now s
             → result ≡ first_line address offset s.board }
     {
         match offset {
-            Shift::Forward(n) => self.lab.after_instructions(address, n as u16),
-            Shift::Back(n) => before_instructions(&self.lab, address, n),
+            SignedOffset::Forward(n) => self.lab.after_instructions(address, n as u16),
+            SignedOffset::Back(n) => before_instructions(&self.lab, address, n),
         }
     }
 
@@ -131,8 +131,8 @@ impl Session {
         &mut self,
         alloc: Global,
         address: u16,
-        offset: Shift,
-        instruction_offset: Shift,
+        offset: SignedOffset,
+        instruction_offset: SignedOffset,
         count: u16,
     ) -> Result<Reply, AllocError>
         requires { requests.is_near instruction_offset ≡ true }
@@ -141,7 +141,7 @@ impl Session {
         let start = self.first_line(wrapped_at(address, offset), instruction_offset);
         let lines = code_lines(alloc, &self.lab, start, count)?;
         let body = EditorBody::Board(Body::Instructions(lines));
-        Ok(succeed(body, Follow::Nothing))
+        Ok(succeed(body, FollowUp::Nothing))
     }
 
     fn is_stopped(&self) -> bool
@@ -169,7 +169,7 @@ impl Session {
     fn write_at(
         &mut self,
         alloc: Global,
-        caller: Caller,
+        caller: RequestId,
         start: u16,
         bytes: &Bytes,
     ) -> Result<Sequence<Message>, AllocError>
@@ -182,19 +182,19 @@ impl Session {
         let all = writable(start, bytes.as_slice());
         self.write_from(alloc, start, all)?;
         let written = EditorOutcome::Success(EditorBody::Written(all.len() as u32));
-        Ok(messages.turn(caller, written, Follow::Nothing))
+        Ok(messages.turn(caller, written, FollowUp::Nothing))
     }
 
     // Writes bytes of a stopped run's memory, as many as there are addresses for.
     pub(super) fn write_memory(
         &mut self,
         alloc: Global,
-        caller: Caller,
+        caller: RequestId,
         address: u16,
-        offset: Shift,
+        offset: SignedOffset,
         bytes: &Bytes,
     ) -> Result<Sequence<Message>, AllocError>
-        ensures { TellsFor (Asked.Editor (EditorCommand.WriteMemory address offset bytes.now))
+        ensures { TellsFor (RequestContent.Editor (EditorCommand.WriteMemory address offset bytes.now))
             (λ s. told_in caller (turn_of (writing address offset bytes.now s))) self.old result self.new }
     {
         if !self.is_stopped() {

@@ -8,7 +8,7 @@ ghost use Rattle.dap_session.specs.Requests as requests;
 ghost use Rattle.dap_session.specs.Requests.{objection, opens, is_bounded, follow_of, performing, resetting};
 ghost use Rattle.dap_session.specs.Requests.{terminating, initializing, configuring, disconnecting};
 ghost use Rattle.dap_session.specs.Requests.{commanding, editing, replying, end_follow};
-ghost use Rattle.dap_session.specs.Stands.{RepresentsSession, RepliesAs, Replies};
+ghost use Rattle.dap_session.specs.Represents.{RepresentsSession, RepliesAs, Replies};
 
 use crate::reply::{Reply, accept, refuse, succeed};
 use crate::session::Session;
@@ -16,10 +16,10 @@ use base_text::sequence::Sequence;
 use dap_answers::answer::StopReason;
 use dap_board::perform::perform;
 use dap_editor::message::{EditorBody, EditorOutcome, EditorStop};
-use dap_editor::request::{Asked, EditorCommand, Shift};
+use dap_editor::request::{EditorCommand, RequestContent, SignedOffset};
 use dap_launch::program::{Phase, Program};
 use dap_program::change::change_surely;
-use dap_program::messages::Follow;
+use dap_program::messages::FollowUp;
 use dap_program::refusals::{board_refusal, request_refusal};
 use dap_talk::command::DapCommand;
 use lab_core::event::Event;
@@ -41,12 +41,13 @@ const MOST_BACK: u32 = 65_536;
 // ---- objections
 
 // Whether a request may come before `initialize`.
-fn opens(asked: &Asked) -> bool
+fn opens(asked: &RequestContent) -> bool
     ensures { result ≡ opens asked.now }
 {
     matches!(
         asked,
-        Asked::Board(DapCommand::Initialize | DapCommand::Disconnect) | Asked::Faulty(_)
+        RequestContent::Board(DapCommand::Initialize | DapCommand::Disconnect)
+            | RequestContent::Faulty(_)
     )
 }
 
@@ -56,12 +57,12 @@ fn is_few(count: u16) -> bool
     1 <= count && count <= MOST_INSTRUCTIONS
 }
 
-fn is_near(shift: Shift) -> bool
+fn is_near(shift: SignedOffset) -> bool
     ensures { result ≡ requests.is_near shift }
 {
     match shift {
-        Shift::Back(n) => n <= MOST_BACK,
-        Shift::Forward(n) => n <= MOST_FORWARD,
+        SignedOffset::Back(n) => n <= MOST_BACK,
+        SignedOffset::Forward(n) => n <= MOST_FORWARD,
     }
 }
 
@@ -79,13 +80,14 @@ fn is_command_bounded(command: &DapCommand) -> bool
     }
 }
 
-fn is_bounded(asked: &Asked) -> bool
+fn is_bounded(asked: &RequestContent) -> bool
     ensures { result ≡ is_bounded asked.now }
 {
     match asked {
-        Asked::Board(command) => is_command_bounded(command),
-        Asked::Editor(EditorCommand::SetFunctionBreakpoints(names)) => names.len() <= MOST_POINTS,
-        Asked::Editor(
+        RequestContent::Board(command) => is_command_bounded(command),
+        RequestContent::Editor(EditorCommand::SetFunctionBreakpoints(names)) => names.len()
+            <= MOST_POINTS,
+        RequestContent::Editor(
             EditorCommand::Disassemble {
                 instruction_offset,
                 instruction_count,
@@ -97,20 +99,20 @@ fn is_bounded(asked: &Asked) -> bool
 }
 
 // The event behind the response to a command.
-fn follow_of(command: &DapCommand) -> Follow
+fn follow_of(command: &DapCommand) -> FollowUp
     ensures { result ≡ follow_of command.now }
 {
     match command {
-        DapCommand::Continue | DapCommand::Step { .. } => Follow::Continued,
-        DapCommand::Pause => Follow::Stopped(EditorStop::Board(StopReason::Pause)),
-        _ => Follow::Nothing,
+        DapCommand::Continue | DapCommand::Step { .. } => FollowUp::Continued,
+        DapCommand::Pause => FollowUp::Stopped(EditorStop::Board(StopReason::Pause)),
+        _ => FollowUp::Nothing,
     }
 }
 
 // The reply to what a board refuses. Running out of memory is an error of its own.
 pub(super) fn refuse_for(alloc: Global, fault: EventFault) -> Result<Reply, AllocError>
     ensures refused { IfOk result (λ reply. reply
-        ≡ record { outcome = EditorOutcome.Refused (board_refusal fault); follow = Follow.Nothing }) }
+        ≡ record { outcome = EditorOutcome.Refused (board_refusal fault); follow = FollowUp.Nothing }) }
     ensures other { IfOk result (λ _. fault ≢ EventFault.OutOfMemory) }
 {
     if matches!(fault, EventFault::OutOfMemory) {
@@ -139,7 +141,7 @@ pub(super) fn end_program(program: &mut Option<Program>)
 
 impl Session {
     // What there is to object to a request, whatever it asks for.
-    pub(super) fn objection(&self, asked: &Asked) -> Option<&'static str>
+    pub(super) fn objection(&self, asked: &RequestContent) -> Option<&'static str>
         ensures objection { (s : SessionState) → RepresentsSession self.now s
             → option_map (λ text. text.now) result ≡ objection asked.now s }
         ensures fits { result ≡ None → is_bounded asked.now ≡ true }
@@ -153,14 +155,18 @@ impl Session {
         None
     }
 
-    pub(super) fn reply(&mut self, alloc: Global, asked: &Asked) -> Result<Reply, AllocError>
+    pub(super) fn reply(
+        &mut self,
+        alloc: Global,
+        asked: &RequestContent,
+    ) -> Result<Reply, AllocError>
         requires { is_bounded asked.now ≡ true }
         ensures { RepliesAs (replying asked.now) self.old result self.new }
     {
         match asked {
-            Asked::Board(command) => self.command(alloc, command),
-            Asked::Editor(command) => self.edit(alloc, command),
-            Asked::Faulty(fault) => self.refuse_with(alloc, request_refusal(*fault)),
+            RequestContent::Board(command) => self.command(alloc, command),
+            RequestContent::Editor(command) => self.edit(alloc, command),
+            RequestContent::Faulty(fault) => self.refuse_with(alloc, request_refusal(*fault)),
         }
     }
 
@@ -169,7 +175,7 @@ impl Session {
         &mut self,
         alloc: Global,
         command: &DapCommand,
-        follow: Follow,
+        follow: FollowUp,
     ) -> Result<Reply, AllocError>
         requires { IsPerformable command.now }
         ensures { RepliesAs (performing command.now follow) self.old result self.new }
@@ -199,7 +205,7 @@ impl Session {
     }
 
     fn edit(&mut self, alloc: Global, command: &EditorCommand) -> Result<Reply, AllocError>
-        requires { is_bounded (Asked.Editor command.now) ≡ true }
+        requires { is_bounded (RequestContent.Editor command.now) ≡ true }
         ensures { RepliesAs (editing command.now) self.old result self.new }
     {
         match command {
@@ -207,7 +213,7 @@ impl Session {
             EditorCommand::SetFunctionBreakpoints(names) => self.set_functions(alloc, names),
             EditorCommand::SetExceptionBreakpoints => Ok(succeed(
                 EditorBody::Breakpoints(Sequence::new(alloc)),
-                Follow::Nothing,
+                FollowUp::Nothing,
             )),
             EditorCommand::Evaluate {
                 expression,
@@ -245,7 +251,7 @@ impl Session {
             return self.refuse_with(alloc, "initialized already");
         }
         self.settings.is_initialized = true;
-        Ok(succeed(EditorBody::Capabilities, Follow::Nothing))
+        Ok(succeed(EditorBody::Capabilities, FollowUp::Nothing))
     }
 
     fn disconnect(&mut self) -> Reply
@@ -253,7 +259,7 @@ impl Session {
             → Replies (disconnecting s) result self.new }
     {
         self.settings.has_ended = true;
-        accept(Follow::Nothing)
+        accept(FollowUp::Nothing)
     }
 
     fn configure(&mut self) -> Reply
@@ -265,13 +271,13 @@ impl Session {
     }
 
     // The event behind the response to a request that ends the program.
-    fn end_follow(&self) -> Follow
+    fn end_follow(&self) -> FollowUp
         ensures { (s : SessionState) → RepresentsSession self.now s → result ≡ end_follow s }
     {
         if is_live(&self.settings.program) {
-            Follow::Ended
+            FollowUp::Ended
         } else {
-            Follow::Nothing
+            FollowUp::Nothing
         }
     }
 
@@ -301,6 +307,6 @@ impl Session {
         if let Some(program) = &self.settings.program {
             paths.push(program.launch.program.clone()?)?;
         }
-        Ok(succeed(EditorBody::Sources(paths), Follow::Nothing))
+        Ok(succeed(EditorBody::Sources(paths), FollowUp::Nothing))
     }
 }

@@ -1,7 +1,7 @@
 //! Slices of the run.
 ghost use Rattle.std.specs.Prelude.{◌≡◌};
 ghost use Rattle.dap_session.specs.Slices.{slice_told, settings_after};
-ghost use Rattle.dap_session.specs.Stands.{TellsAs};
+ghost use Rattle.dap_session.specs.Represents.{TellsAs};
 
 use crate::session::Session;
 use crate::session::requests::end_program;

@@ -5,7 +5,7 @@ ghost use Rattle.kern_core.specs.Connections.{join_turn, leave_turn, subscribing
 ghost use Rattle.kern_core.specs.Connections.{fetching, fetch_turn};
 ghost use Rattle.kern_core.specs.Connections.{status_to, first_status, is_busy, state_of};
 ghost use Rattle.kern_peers.specs.Connections.{same_channel};
-ghost use Rattle.kern_core.specs.Stands.{RepresentsKernel, MakesTurn, TakesTurn, HasRoom};
+ghost use Rattle.kern_core.specs.Represents.{RepresentsKernel, MakesTurn, TakesTurn, HasRoom};
 ghost use Rattle.kern_core.specs.States.{KernelState as KernelStateOf};
 
 use crate::call::Reply;

@@ -7,7 +7,7 @@ ghost use Rattle.kern_core.specs.Requests.{is_reset, after_letter, is_bounded, r
 ghost use Rattle.kern_core.specs.Requests.{debugging, debug_reply, performed_letters};
 ghost use Rattle.kern_core.specs.Debugging.{IsPreparedDebugReply, AnswersWith};
 ghost use Rattle.kern_core.specs.States.{KernelState as KernelStateOf};
-ghost use Rattle.kern_core.specs.Stands.{RepresentsKernel, TakesTurn, HasRoom};
+ghost use Rattle.kern_core.specs.Represents.{RepresentsKernel, TakesTurn, HasRoom};
 
 use crate::call::Reply;
 use crate::fault::KernelFault;

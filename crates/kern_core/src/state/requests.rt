@@ -12,7 +12,7 @@ ghost use Rattle.kern_core.specs.Requests.{interrupting, shutting, typing, closi
 ghost use Rattle.kern_core.specs.Requests.{other, arriving, with_board, cut_work};
 ghost use Rattle.lab_core.specs.Events.{reset as reset_of};
 ghost use Rattle.kern_core.specs.States.{KernelState as KernelStateOf, after, posting};
-ghost use Rattle.kern_core.specs.Stands.{RepresentsKernel, TakesTurn, HasRoom, Grows};
+ghost use Rattle.kern_core.specs.Represents.{RepresentsKernel, TakesTurn, HasRoom, Grows};
 
 use crate::call::Reply;
 use crate::fault::KernelFault;

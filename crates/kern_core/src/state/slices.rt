@@ -13,7 +13,7 @@ ghost use Rattle.kern_core.specs.Slices.{letters_of as slice_letters_of, work_af
 ghost use Rattle.kern_core.specs.Slices.{beginning, by_start, loading, slicing};
 ghost use Rattle.kern_core.specs.Running.{IsPreparedFor};
 ghost use Rattle.kern_core.specs.States.{KernelState as KernelStateOf};
-ghost use Rattle.kern_core.specs.Stands.{RepresentsSomeState, TakesTurn, TakesTurnIn, HasRoom};
+ghost use Rattle.kern_core.specs.Represents.{RepresentsSomeState, TakesTurn, TakesTurnIn, HasRoom};
 
 use crate::call::Reply;
 use crate::fault::KernelFault;
@@ -32,7 +32,7 @@ use std::alloc::AllocError;
 impl KernelState {
     pub(super) fn slice(&mut self, unix_seconds: u64) -> Result<Reply, KernelFault>
         requires room { HasRoom self.old }
-        requires stands { RepresentsSomeState self.old }
+        requires represents { RepresentsSomeState self.old }
         ensures { TakesTurn (slicing unix_seconds) self.old result self.new }
     {
         if self.is_shut {
@@ -118,7 +118,7 @@ impl KernelState {
 
     fn run(&mut self, unix_seconds: u64) -> Result<Reply, KernelFault>
         requires room { HasRoom self.old }
-        requires stands { RepresentsSomeState self.old }
+        requires represents { RepresentsSomeState self.old }
         ensures { TakesTurnIn Running (running unix_seconds) self.old result self.new }
     {
         let prepared = self.prepare_current_slice()?;

@@ -10,7 +10,8 @@ ghost use Rattle.lab_frames.specs.Frames.{AtLeast, CallsAt};
 ghost use Rattle.lab_core.specs.Slices.{end_by_undefined};
 ghost use Rattle.lab_core.specs.Labs.{ComputesIn, OneStepOnIn, SameBoardIn, KeepsAsked, IsInBurst};
 ghost use Rattle.lab_core.specs.Labs.{BurstMayBegin};
-ghost use Rattle.lab_core.specs.Labs.{MakesAtMost, LooksUp, GoesOn, IsLast, Owed, ending_of, is_step_done};
+ghost use Rattle.lab_core.specs.Labs.{MakesAtMost, LooksUp, GoesOn, IsLast, FollowsBurstStep, ending_of};
+ghost use Rattle.lab_core.specs.Labs.{is_step_done};
 
 use crate::answer::{End, SliceOutcome};
 use crate::cold::cold_path;
@@ -153,7 +154,8 @@ impl Context {
     fn advance(&mut self, machine: &Machine, kind: Kind, site: u16, is_asked: bool) -> BurstStep
         requires calls { CallsAt (answer_of kind machine.now) machine.now.regs.sp }
         requires asked { is_some self.old.request ≡ is_asked }
-        ensures owed { Owed (answer_of kind machine.now) site machine.now.regs.sp self.old self.new result }
+        ensures follows { FollowsBurstStep
+            (answer_of kind machine.now) site machine.now.regs.sp self.old self.new result }
         ensures on { (frame_floor : ℕ) → result ≡ BurstStep.Within frame_floor
             → GoesOn kind machine.now.regs.sp frame_floor self.new }
         ensures last { result ≡ BurstStep.Last

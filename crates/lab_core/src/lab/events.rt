@@ -131,7 +131,8 @@ impl Lab {
 
     fn end_run(&mut self) -> Answer
         ensures answer { result ≡ Answer.Interrupted }
-        ensures stands { (b : Board) → RepresentsBoard self.old b → RepresentsBoard self.new (after_end b) }
+        ensures represents { (b : Board) → RepresentsBoard self.old b
+            → RepresentsBoard self.new (after_end b) }
     {
         self.run_state = RunState::NoRun;
         self.context.request = None;

@@ -5,7 +5,7 @@ ghost use Rattle.asm_build.specs.Meaning.{meaning_in};
 ghost use Rattle.lab_core.specs.Board.{Board};
 ghost use Rattle.lab_image.specs.Sources.{number_at};
 ghost use Rattle.lab_core.specs.Events.{cell_meaning, with_built, with_cell, result_of};
-ghost use Rattle.lab_core.specs.Labs.{RepresentsBoard, AppliesTo, Does};
+ghost use Rattle.lab_core.specs.Labs.{RepresentsBoard, AppliesTo, CarriesOut};
 ghost use Rattle.lab_core.specs.Memory.{MayLackMemory};
 
 use crate::answer::Answer;
@@ -22,7 +22,7 @@ use std::alloc::AllocError;
 
 impl Lab {
     pub(super) fn load(&mut self, path: &str, text: &str) -> Result<Answer, EventFault>
-        ensures given { Does (result_of (Event.Load path.now text.now)) self.old result self.new }
+        ensures given { CarriesOut (result_of (Event.Load path.now text.now)) self.old result self.new }
         ensures err { OnErr result (self.new ≡ self.old) }
         ensures memory { result ≡ Err EventFault.OutOfMemory
             → MayLackMemory (Event.Load path.now text.now) self.old }

@@ -2,7 +2,8 @@
 ghost use Rattle.std.specs.Prelude.{◌≡◌, ◌+◌, ◌-◌, ◌<◌, ◌≤◌, None, Err, IsSome, is_some, OnErr};
 ghost use Rattle.lab_core.specs.Board.{Board};
 ghost use Rattle.lab_core.specs.Slices.{IsSlice, after_steps, traffic_of, left_by};
-ghost use Rattle.lab_core.specs.Labs.{LabState, RepresentsBoard, RepresentsDuringSlice, amid, Watches};
+ghost use Rattle.lab_core.specs.Labs.{LabState, RepresentsBoard, RepresentsDuringSlice, in_slice};
+ghost use Rattle.lab_core.specs.Labs.{Watches};
 ghost use Rattle.lab_core.specs.Labs.{BurstMayBegin};
 ghost use Rattle.lab_core.specs.Labs.{MakesAtMost};
 ghost use Rattle.lab_core.specs.Marks.{SlicesTo, Leaves, first_mark, marks_after, IsKept, PassesIn};
@@ -48,7 +49,7 @@ impl Lab {
         requires { n ≤ self.old.devices.spare }
         ensures slice { (b : Board) → RepresentsBoard self.old b
             → IsSlice (first_mark marks.old n b) b result.0 result.1 }
-        ensures stands { (b : Board) → RepresentsBoard self.old b
+        ensures represents { (b : Board) → RepresentsBoard self.old b
             → RepresentsDuringSlice self.new (left_by result.1 (after_steps result.0 b)) (traffic_of
             result.0 b) }
         ensures marks { (b : Board) → RepresentsBoard self.old b
@@ -66,7 +67,7 @@ impl Lab {
         requires kept { IsKept self.old.machine marks.now }
         ensures slice { (b : Board) → RepresentsBoard self.old b
             → IsSlice (first_mark marks.now n b) b result.0 result.1 }
-        ensures stands { (b : Board) → RepresentsBoard self.old b
+        ensures represents { (b : Board) → RepresentsBoard self.old b
             → RepresentsDuringSlice self.new (after_steps result.0 b) (traffic_of result.0 b) }
         ensures kept { (b : Board) → RepresentsBoard self.old b
             → IsKept (after_steps (result.0 - 1) b).machine marks.now }
@@ -91,12 +92,13 @@ impl Context {
         requires room { n ≤ self.old.devices.spare }
         requires watched { Watches is_watched self.old.is_attached self.old.request }
         requires kept { IsKept machine.old marks.now }
-        ensures slice { (lab : LabState) (b : Board) → RepresentsBoard (amid lab machine.old self.old) b
+        ensures slice { (lab : LabState) (b : Board) → RepresentsBoard (in_slice lab machine.old self.old) b
             → IsSlice (first_mark marks.now n b) b result.0 result.1 }
-        ensures stands { (lab : LabState) (b : Board) → RepresentsBoard (amid lab machine.old self.old) b
-            → RepresentsDuringSlice (amid lab machine.new self.new) (after_steps result.0 b) (traffic_of
+        ensures represents { (lab : LabState) (b : Board)
+            → RepresentsBoard (in_slice lab machine.old self.old) b
+            → RepresentsDuringSlice (in_slice lab machine.new self.new) (after_steps result.0 b) (traffic_of
             result.0 b) }
-        ensures kept { (lab : LabState) (b : Board) → RepresentsBoard (amid lab machine.old self.old) b
+        ensures kept { (lab : LabState) (b : Board) → RepresentsBoard (in_slice lab machine.old self.old) b
             → IsKept (after_steps (result.0 - 1) b).machine marks.now }
         ensures scratch { IsSome scratch.new }
     {

@@ -38,7 +38,7 @@ impl Lab {
     fn run_on(&mut self, n: u16) -> (u16, SliceOutcome)
         requires { n ≤ self.old.devices.spare }
         ensures slice { (b : Board) → RepresentsBoard self.old b → IsSlice n b result.0 result.1 }
-        ensures stands { (b : Board) → RepresentsBoard self.old b
+        ensures represents { (b : Board) → RepresentsBoard self.old b
             → RepresentsDuringSlice self.new (left_by result.1 (after_steps result.0 b)) (traffic_of
             result.0 b) }
     {
@@ -58,7 +58,7 @@ impl Lab {
         requires room { n ≤ self.old.devices.spare }
         requires watched { Watches is_watched self.old.is_attached self.old.request }
         ensures slice { (b : Board) → RepresentsBoard self.old b → IsSlice n b result.0 result.1 }
-        ensures stands { (b : Board) → RepresentsBoard self.old b
+        ensures represents { (b : Board) → RepresentsBoard self.old b
             → RepresentsDuringSlice self.new (after_steps result.0 b) (traffic_of result.0 b) }
     {
         self.context

@@ -5,7 +5,8 @@ ghost use Rattle.lab_core.specs.Board.{Board};
 ghost use Rattle.lab_core.specs.Stops.{is_gone_after};
 ghost use Rattle.lab_core.specs.Slices.{end_by_undefined, reason_before_fetch, IsSlice, after_steps};
 ghost use Rattle.lab_core.specs.Slices.{traffic_of};
-ghost use Rattle.lab_core.specs.Labs.{LabState, RepresentsBoard, RepresentsDuringSlice, amid, ComputesIn};
+ghost use Rattle.lab_core.specs.Labs.{LabState, RepresentsBoard, RepresentsDuringSlice, in_slice};
+ghost use Rattle.lab_core.specs.Labs.{ComputesIn};
 ghost use Rattle.lab_core.specs.Labs.{OneStepOnIn, SameBoardIn};
 ghost use Rattle.lab_core.specs.Labs.{Watches, KeepsAsked, OnlyFetchCanStop, MakesAtMost};
 
@@ -49,10 +50,11 @@ impl Context {
         requires scratch { IsSome scratch.old }
         requires room { n ≤ self.old.devices.spare }
         requires watched { Watches is_watched self.old.is_attached self.old.request }
-        ensures slice { (lab : LabState) (b : Board) → RepresentsBoard (amid lab machine.old self.old) b
+        ensures slice { (lab : LabState) (b : Board) → RepresentsBoard (in_slice lab machine.old self.old) b
             → IsSlice n b result.0 result.1 }
-        ensures stands { (lab : LabState) (b : Board) → RepresentsBoard (amid lab machine.old self.old) b
-            → RepresentsDuringSlice (amid lab machine.new self.new) (after_steps result.0 b) (traffic_of
+        ensures represents { (lab : LabState) (b : Board)
+            → RepresentsBoard (in_slice lab machine.old self.old) b
+            → RepresentsDuringSlice (in_slice lab machine.new self.new) (after_steps result.0 b) (traffic_of
             result.0 b) }
         ensures scratch { IsSome scratch.new }
     {

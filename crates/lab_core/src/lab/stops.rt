@@ -9,11 +9,12 @@ ghost use Rattle.lab_core.specs.Labs.{ComputesIn, Watches, OnlyFetchCanStop, Loo
 ghost use Rattle.lab_core.specs.Labs.{is_step_done};
 
 use crate::answer::{End, SliceOutcome, Stop};
-use crate::event::{Granularity, StepKind, StepRequest};
+use crate::event::StepRequest;
 use crate::lab::Context;
 use i80_exec::machine::Machine;
 use i80_exec::registers::Interrupts;
 use lab_image::origin::Origin;
+use lab_shown::step::{Granularity, StepKind};
 
 #[inline]
 fn is_on(interrupts: Interrupts) -> bool

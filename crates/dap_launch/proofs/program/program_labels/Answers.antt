@@ -4,7 +4,7 @@ use Rattle.dap_program.specs.Breakpoints.{labels_behind}
 use Rattle.dap_launch.proofs.program.program_labels.Goals as goal
 
 pub returns : goal.returns
-returns c = λ b stands.
+returns c = λ b represents.
     let program = c.args.program.now in
     let points = c.args.points.now in
     let lines : c.lines_at.result.now ≡ lines_at program.launch.program points.lists =
@@ -13,4 +13,4 @@ returns c = λ b stands.
     λ ls names. IfOk c.labels_behind.result (λ found. found ≡ labels_behind ls names b) in
     subst (λ ls. P ls (take 256 points.functions)) lines
     (subst (λ names. P c.lines_at.result.now names) c.functions.ensures.labels
-    (c.labels_behind.ensures b stands))
+    (c.labels_behind.ensures b represents))

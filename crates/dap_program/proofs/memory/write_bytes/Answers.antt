@@ -13,11 +13,11 @@ loop-byte-preserved c =
     let bytes = c.args.bytes.now in
     let lab = c.write_byte.new.lab in
     record {
-      stands = λ b stands.
+      represents = λ b represents.
           let P : ℕ → Type 0 =
           λ address. RepresentsBoard lab (after (poke_of address (get_or bytes i 0))
           (with_bytes_at start (take i bytes) b)) in
           subst (λ w. RepresentsBoard lab w) (sym (written_more start bytes i 0 b c.loop-byte-test.true))
-          (subst P inv.place (c.in_ok-write_byte.ensures.ok _ (inv.stands b stands)));
+          (subst P inv.place (c.in_ok-write_byte.ensures.ok _ (inv.represents b represents)));
       place = let p = inv.place in omega (arith, p);
     }

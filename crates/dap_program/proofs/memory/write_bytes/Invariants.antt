@@ -7,7 +7,7 @@ use Rattle.dap_program.proofs.memory.write_bytes.Given as goal
 -- the bytes so far are written
 abbrev pub invariant-loop-byte : goal.invariant-loop-byte
 invariant-loop-byte l = record {
-  stands : (b : Board) → RepresentsBoard l.fn.lab b
+  represents : (b : Board) → RepresentsBoard l.fn.lab b
       → RepresentsBoard l.lab (with_bytes_at l.start (take l.byte-index l.bytes) b);
   place : l.address ≡ l.start + l.byte-index;
 }

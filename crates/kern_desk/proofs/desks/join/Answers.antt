@@ -1,7 +1,7 @@
 use Rattle.std.proofs.Common.{refl}
 use Rattle.kern_core.specs.declared.call.Call.TheVariants.{Join}
 use Rattle.kern_core.specs.declared.fault.KernelFault.TheVariants.{JournalFull}
-use Rattle.kern_desk.specs.Joins.{IsWorn}
+use Rattle.kern_desk.specs.Joins.{IsOutOfTickets}
 use Rattle.kern_desk.proofs.JoinLemmas.{join_answer, unjoined_by, came_by}
 use Rattle.kern_desk.proofs.desks.join.Goals as goal
 
@@ -21,4 +21,4 @@ returns-in-Ok-clause-err g c =
     c.joined_by-joined.result c.in-Ok.ensures.ok c.joined_by-joined.ensures.err
 
 pub returns-in-Err-clause-err : goal.returns-in-Err-clause-err
-returns-in-Err-clause-err g c = IsWorn JournalFull refl c.in-Err.ensures.worn
+returns-in-Err-clause-err g c = IsOutOfTickets JournalFull refl c.in-Err.ensures.out_of_tickets

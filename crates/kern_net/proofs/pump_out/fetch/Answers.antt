@@ -1,6 +1,6 @@
 use Rattle.std.proofs.Common.{refl}
-use Rattle.kern_net.specs.Rounds.{IsWorn}
-use Rattle.kern_net.specs.declared.end.PumpEnd.TheVariants.{Worn}
+use Rattle.kern_net.specs.Rounds.{IsOutOfTickets}
+use Rattle.kern_net.specs.declared.end.PumpEnd.TheVariants.{OutOfTickets}
 use Rattle.kern_net.proofs.FetchLemmas.{fetch_answer}
 use Rattle.kern_net.proofs.OutLemmas.{denied_by}
 use Rattle.kern_net.proofs.pump_out.fetch.Goals as goal
@@ -17,4 +17,4 @@ returns-in-Ok-clause-err g c =
     c.in-Ok.ensures.ok c.batch_of.ensures
 
 pub returns-in-Err-clause-err : goal.returns-in-Err-clause-err
-returns-in-Err-clause-err g c = IsWorn Worn refl c.in-Err.ensures.worn
+returns-in-Err-clause-err g c = IsOutOfTickets OutOfTickets refl c.in-Err.ensures.out_of_tickets

@@ -15,10 +15,11 @@ returns c =
     let room = performed.spare_is in
     let few = few_operations (instruction (answer devices.panel) machine).operation in
     record {
-      step = λ past stands.
+      step = λ past represents.
           by_instruction c.panel_after_one_more.ensures past machine c.step_settled.new.self devices
           c.step_settled.new.ports (answer_of c.step_settled.result c.step_settled.new.self)
-          (unlatched_accepts_none machine devices past stands c.requires.unlatched) stands outcome performed;
+          (unlatched_accepts_none machine devices past represents c.requires.unlatched) represents outcome
+          performed;
       sp = rw (outcome.answer_is, outcome.after_is) (instruction-tells (answer devices.panel) machine);
       settles = c.step_settled.ensures.settles;
       spare = omega arith;

@@ -1,7 +1,7 @@
 use Rattle.std.proofs.Common.{refl, rules}
 use Rattle.std.proofs.lemmas.Result.{IfOk-weaker, IfErr-weaker}
 use Rattle.lab_term.specs.Connections.{client_of}
-use Rattle.lab_term.specs.Stopping.{HandshakeFront, SubscriptionFront, Subscribed, AtShell, AtIopub}
+use Rattle.lab_term.specs.Stopping.{HandshakePrefix, SubscriptionPrefix, Subscribed, AtShell, AtIopub}
 use Rattle.lab_term.proofs.CourseLemmas.{ran_by}
 use Rattle.lab_term.proofs.StopLemmas.{cause_iopub, cause_stalls, causes_followed, stopped_requesting}
 use Rattle.lab_term.proofs.StopLemmas.{stopped_after}
@@ -19,7 +19,7 @@ pub returns-in-Err-greet : goal.returns-in-Err-greet
 returns-in-Err-greet g c = record {
   ran = tt;
   stopped =
-      AtIopub c.in-Ok.ensures.whole (HandshakeFront c.in-Err-greet.ensures.front) refl;
+      AtIopub c.in-Ok.ensures.whole (HandshakePrefix c.in-Err-greet.ensures.front) refl;
   cause =
       let client = client_of g.I.Inlet.state g.W.Outlet.state g.O.Outlet.state in
       cause_iopub _ (client c.args.shell.now c.args.iopub.now c.args.output.now)
@@ -31,7 +31,7 @@ pub returns-in-Err-subscribe : goal.returns-in-Err-subscribe
 returns-in-Err-subscribe g c = record {
   ran = tt;
   stopped =
-      AtIopub c.in-Ok.ensures.whole (SubscriptionFront (record {
+      AtIopub c.in-Ok.ensures.whole (SubscriptionPrefix (record {
         between = g.W.Outlet.state c.greet-2.new.connection.to;
         handshake = c.in-Ok-greet.ensures.whole;
         front = c.in-Err-subscribe.ensures.front;

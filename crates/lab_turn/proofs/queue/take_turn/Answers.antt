@@ -72,5 +72,5 @@ returns g c =
       ok =
           ended j.entries j.limit j.answer j.is_entry j.is_full c.args.token.now.table_id _ _ _ _
           c.fetch_add.new.seat.me _ _ _ turn c.fetch_add.ensures.2;
-      worn = tt;
+      out_of_tickets = tt;
     }

@@ -5,7 +5,7 @@ use Rattle.lab_views.proofs.StackLemmas.{name_in, slice_get-frames_from}
 use Rattle.lab_views.proofs.frames.frame.Goals as goal
 
 pub returns : goal.returns
-returns c = λ past loads stands.
+returns c = λ past loads represents.
     let p = parts_with c.args.parts.now past loads in
     let fs = reverse c.args.parts.now.frames.now in
     let address = c.address_of-address.result in
@@ -15,4 +15,4 @@ returns c = λ past loads stands.
     c.address_of-address.ensures
     ∙ ap (λ n. Some (frame_at p n name address)) id
     ∙ ap (λ t. Some (frame_at p (c.args.index + 1) t address)) (sym c.in_ok-name.ensures)
-    ∙ ap Some (sym (c.in_ok-frame.ensures past loads stands))
+    ∙ ap Some (sym (c.in_ok-frame.ensures past loads represents))

@@ -18,7 +18,7 @@ returns-in-Err g c = record {
   lost =
       lost_writer _ _ c.args.role _ c.in-Err.fault c.in-Err.ensures.err.0 c.new.ensures.role
       (received_first _ (record { decoder = c.new.result; messages = c.new-2.result; reads = 0 })
-      c.new.ensures.stands c.new-2.ensures refl);
+      c.new.ensures.represents c.new-2.ensures refl);
 }
 
 pub returns-in-Err-await_greeting : goal.returns-in-Err-await_greeting
@@ -34,7 +34,8 @@ returns-in-Err-await_greeting g c = record {
   blames = search rules;
   lost =
       lost_as _ _ c.args.role _ _ c.new.ensures.role
-      (c.in-Err-await_greeting.ensures.lost _ (received_first _ _ c.new.ensures.stands c.new-2.ensures refl));
+      (c.in-Err-await_greeting.ensures.lost _
+      (received_first _ _ c.new.ensures.represents c.new-2.ensures refl));
 }
 
 pub returns-in-Err-send : goal.returns-in-Err-send
@@ -52,7 +53,7 @@ returns-in-Err-send g c = record {
       lost_writer _ _ c.args.role _ c.in-Err-send.fault c.in-Err-send.ensures.err.0
       (c.in-Ok-await_greeting.ensures.role ∙ c.new.ensures.role)
       (c.in-Ok-await_greeting.ensures.received _
-      (received_first _ _ c.new.ensures.stands c.new-2.ensures refl));
+      (received_first _ _ c.new.ensures.represents c.new-2.ensures refl));
 }
 
 pub returns-in-Err-await_ready : goal.returns-in-Err-await_ready
@@ -69,7 +70,7 @@ returns-in-Err-await_ready g c = record {
   lost =
       lost_as _ _ c.args.role _ _ (c.in-Ok-await_greeting.ensures.role ∙ c.new.ensures.role)
       (c.in-Err-await_ready.ensures.lost _ (c.in-Ok-await_greeting.ensures.received _
-      (received_first _ _ c.new.ensures.stands c.new-2.ensures refl)));
+      (received_first _ _ c.new.ensures.represents c.new-2.ensures refl)));
 }
 
 pub returns : goal.returns
@@ -77,7 +78,7 @@ returns g c = record {
   received =
       c.in-Ok-await_ready.ensures.received _
       (c.in-Ok-await_greeting.ensures.received _
-      (received_first _ _ c.new.ensures.stands c.new-2.ensures refl));
+      (received_first _ _ c.new.ensures.represents c.new-2.ensures refl));
   ready = search rules;
   role = search rules;
   front =

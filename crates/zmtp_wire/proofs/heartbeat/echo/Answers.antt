@@ -1,5 +1,5 @@
 use Rattle.std.proofs.Common.{List, ℕ, subst}
-use Rattle.base_streams.specs.Told.{TookFront}
+use Rattle.base_streams.specs.Told.{TookPrefix}
 use Rattle.zmtp_wire.specs.Sending.{messages_bytes}
 use Rattle.zmtp_wire.proofs.EchoLemmas.{echo_cut}
 use Rattle.zmtp_wire.proofs.heartbeat.echo.Goals as goal
@@ -7,7 +7,7 @@ use Rattle.zmtp_wire.proofs.heartbeat.echo.Goals as goal
 pub returns-in-Err : goal.returns-in-Err
 returns-in-Err g c =
     let P : List (List (List ℕ)) → Type 0 =
-    λ l. TookFront (g.W.Outlet.state c.args.to.now) (g.W.Outlet.state c.echo_message.new.to)
+    λ l. TookPrefix (g.W.Outlet.state c.args.to.now) (g.W.Outlet.state c.echo_message.new.to)
     (messages_bytes l) in
     let front =
     echo_cut _ _ _ c.as_slice-message-items.result.now c.loop-message.message-index c.message-item.result

@@ -14,9 +14,9 @@ loop-i-init c =
     let none : lines_of [] ss old.rows.items ≡ [] =
     ap (lines_of [] ss) c.requires.rows ∙ lines_none [] ss in
     record {
-      small = omega (arith, c.requires.stands.place);
+      small = omega (arith, c.requires.represents.place);
       rows = ap length c.requires.rows;
-      stands = subst (λ (e : Lines). IsLayoutAfter e old) (sym none) c.requires.stands;
+      represents = subst (λ (e : Lines). IsLayoutAfter e old) (sym none) c.requires.represents;
       goes_on = ap (λ e. layout c.args.kept.now e ss) none;
     }
 
@@ -30,7 +30,7 @@ returns-in_err-lay-clause-exact c =
     in
     rw (p.1, p.2) (layout_fails c.in_err-lay.field-0.0 c.args.kept.now (lines_of [] ss rs) ss c.loop-i.self
     c.loop-i.i c.index-statements-i.result _
-    (omega arith) c.index-statements-i.is c.loop-i.invariant.stands long c.in_err-lay.ensures.exact
+    (omega arith) c.index-statements-i.is c.loop-i.invariant.represents long c.in_err-lay.ensures.exact
     c.loop-i.invariant.goes_on)
 
 pub loop-i-preserved : goal.loop-i-preserved
@@ -49,12 +49,12 @@ loop-i-preserved c =
     record {
       small = c.in_ok-lay.ensures.small;
       rows = ap length goes.rows ∙ length-append rs (r ∷ []) ∙ ap (λ n. n + 1) was.rows;
-      stands =
+      represents =
           subst (λ (e : Lines). IsLayoutAfter e c.lay.new.self) (sym more)
-          (stands_next (lines_of [] ss rs) c.loop-i.self c.lay.new.self s r was.stands goes);
+          (stands_next (lines_of [] ss rs) c.loop-i.self c.lay.new.self s r was.represents goes);
       goes_on = ap (λ e. layout c.args.kept.now e (drop (c.loop-i.i + 1) ss)) more
           ∙ layout_goes c.args.kept.now (lines_of [] ss rs) ss c.loop-i.self c.loop-i.i s r _
-          (omega arith) c.index-statements-i.is was.stands long c.in_ok-lay.ensures.exact was.goes_on;
+          (omega arith) c.index-statements-i.is was.represents long c.in_ok-lay.ensures.exact was.goes_on;
     }
 
 pub returns-clause-exact : goal.returns-clause-exact

@@ -7,7 +7,7 @@ abbrev pub invariant-loop-i : goal.invariant-loop-i
 invariant-loop-i l = record {
   small : l.self.place ≤ 65536;
   rows : length l.self.rows.items ≡ l.i;
-  stands : IsLayoutAfter (lines_of [] l.statements l.self.rows.items) l.self;
+  represents : IsLayoutAfter (lines_of [] l.statements l.self.rows.items) l.self;
   goes_on : layout l.kept (lines_of [] l.statements l.self.rows.items) (drop l.i l.statements)
       ≡ layout l.kept [] l.statements;
 }

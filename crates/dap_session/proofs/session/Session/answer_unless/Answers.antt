@@ -2,7 +2,7 @@ use Rattle.std.proofs.Common.{Option, IfOk, subst}
 use Rattle.base_text.specs.Bytes.{Text}
 use Rattle.dap_session.specs.Requests.{objection, asking_unless}
 use Rattle.dap_session.specs.Slices.{told_in}
-use Rattle.dap_session.specs.Stands.{Tells}
+use Rattle.dap_session.specs.Represents.{Tells}
 use Rattle.dap_session.proofs.SessionLemmas.{tells_for}
 use Rattle.dap_session.proofs.session.Session.answer_unless.Goals as goal
 
@@ -14,11 +14,11 @@ returns-in-Some c =
     tells_for asked (λ s. told_in c.args.caller
     (asking_unless (objection asked s) asked file s)) c.args.self.now new
     c.refuse.result (
-      λ s stands.
+      λ s represents.
           let P : Option Text → Type 0 =
           λ o. IfOk c.refuse.result (λ messages. Tells
           (told_in c.args.caller (asking_unless o asked file s)) messages
           new) in
-          subst P (c.in-Some.ensures.objection s stands) (c.refuse.ensures.0 s stands),
+          subst P (c.in-Some.ensures.objection s represents) (c.refuse.ensures.0 s represents),
       c.refuse.ensures.1,
     )

@@ -6,15 +6,15 @@ use Rattle.dap_points.specs.Points.{has_place, with_lines}
 use Rattle.dap_session.specs.declared.reply.Reply.{Reply}
 use Rattle.dap_session.specs.States.{with_points}
 use Rattle.dap_session.specs.Breakpoints.{lines_armed}
-use Rattle.dap_session.specs.Stands.{SessionFields, RepresentsSession}
+use Rattle.dap_session.specs.Represents.{SessionFields, RepresentsSession}
 use Rattle.dap_session.proofs.session.Session.place_lines.Goals as goal
 
 pub returns : goal.returns
 returns c = (
-  λ s stands.
+  λ s represents.
       let path : c.in_ok-kept_path.kept_path ≡ c.args.path.now = c.in_ok-kept_path.ensures in
       let lines : c.in_ok-kept_lines.kept_lines ≡ c.args.lines.now = c.in_ok-kept_lines.ensures in
-      let armed = c.in_ok-arm_lines.ensures.ok s stands in
+      let armed = c.in_ok-arm_lines.ensures.ok s represents in
       let P : List ℕ → List ℕ → Type 0 =
       λ p l. RepresentsSession c.keep_lines.new.self
       (with_points (with_lines p l s.settings.points) (lines_armed c.args.path.now c.args.lines.now s)) in
@@ -22,9 +22,9 @@ returns c = (
         outcome =
             ap (λ (r : Reply). r.outcome) c.succeed.ensures
             ∙ ap (λ (found : List PlacedBreakpoint). Success (Breakpoints found))
-            (c.in_ok-points.ensures s stands);
+            (c.in_ok-points.ensures s represents);
         follow = ap (λ (r : Reply). r.follow) c.succeed.ensures;
-        stands =
+        represents =
             subst (λ p. P p c.args.lines.now) path
             (subst (λ l. P c.in_ok-kept_path.kept_path l) lines (c.keep_lines.ensures _ armed));
       },

@@ -1,5 +1,5 @@
 use Rattle.std.proofs.Common.{◌≡◌, true, ap, rules}
-use Rattle.dap_session.specs.Stands.{SessionFields}
+use Rattle.dap_session.specs.Represents.{SessionFields}
 use Rattle.dap_session.proofs.StandsLemmas.{stands_sliced}
 use Rattle.dap_session.proofs.session.Session.run.Goals as goal
 

@@ -4,7 +4,8 @@ use Rattle.i80_devs.proofs.PastLemmas.{next_after}
 use Rattle.i80_devs.proofs.devices.Devices.set_switches.Goals as goal
 
 pub returns-clause-past : goal.returns-clause-past
-returns-clause-past c past stands =
+returns-clause-past c past represents =
     let operation = Switches c.args.byte in
     next_after operation c.args.self.now.panel c.set_switches.new.self past
-    (c.set_switches.ensures ∙ ap (λ (d : DeviceState). panel_next d.panel operation) c.self.view_is) stands
+    (c.set_switches.ensures ∙ ap (λ
+    (d : DeviceState). panel_next d.panel operation) c.self.view_is) represents

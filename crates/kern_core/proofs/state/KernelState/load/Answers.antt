@@ -1,7 +1,7 @@
 use Rattle.std.proofs.Common.{◌∙◌, ℕ, sym, ap, subst, drop}
 use Rattle.kern_exec.specs.declared.execution.Current.{Current}
 use Rattle.kern_exec.specs.Executions.{count_with}
-use Rattle.kern_core.specs.Stands.{KernelFields, RepresentsKernel, Grows}
+use Rattle.kern_core.specs.Represents.{KernelFields, RepresentsKernel, Grows}
 use Rattle.kern_core.proofs.LoadLemmas.{load_grows, load_stands}
 use Rattle.kern_core.proofs.state.KernelState.load.Goals as goal
 
@@ -17,9 +17,9 @@ returns-in-Ok c =
     let numbered : ℕ → Current = λ k. record { execution = x; count = k } in
     let is_current = ap numbered (c.count_with-count.ensures ∙ ap (count_with x) c.count.ensures) in
     let P : KernelFields → Type 0 = λ v. Grows v new in (
-      λ s stands ne.
+      λ s represents ne.
           let viewed : RepresentsKernel _ s =
-          subst (λ v. RepresentsKernel v s) (sym c.self.view_is) stands.0 in
+          subst (λ v. RepresentsKernel v s) (sym c.self.view_is) represents.0 in
           let cell = c.in-Ok.ensures.loaded s.board viewed.board in
           let prepared = c.in_ok-prepared.ensures.prepared in
           let posts = c.post_loading.ensures.posts current prepared s.posts viewed.posts in

@@ -5,20 +5,20 @@ use Rattle.kern_post.specs.declared.post.Letter.{Letter}
 use Rattle.kern_exec.specs.Letters.{between_busy_and_idle}
 use Rattle.kern_core.specs.Requests.{performed_letters}
 use Rattle.kern_core.specs.Debugging.{IsPreparedDebugReply}
-use Rattle.kern_core.specs.Stands.{RepresentsKernel}
+use Rattle.kern_core.specs.Represents.{RepresentsKernel}
 use Rattle.kern_core.proofs.DebugLemmas.{performed_stands}
 use Rattle.kern_core.proofs.state.KernelState.perform.Goals as goal
 
 pub returns : goal.returns
 returns c = (
-  λ s stands ne.
-      let viewed : RepresentsKernel _ s = subst (λ v. RepresentsKernel v s) (sym c.self.view_is) stands in
+  λ s represents ne.
+      let viewed : RepresentsKernel _ s = subst (λ v. RepresentsKernel v s) (sym c.self.view_is) represents in
       let n = c.args.connection in
       let r = c.args.request.now in
       let d = c.args.debug.now in
       let K : Connections → Type 0 = λ w. IsPreparedDebugReply w n r d c.in_ok-prepared.prepared in
-      let prepared = subst K stands.connections c.in_ok-prepared.ensures.prepared in
-      let letter = c.in_ok-prepared.ensures.after s stands in
+      let prepared = subst K represents.connections c.in_ok-prepared.ensures.prepared in
+      let letter = c.in_ok-prepared.ensures.after s represents in
       let L : Option Letter → List Letter =
       λ after. between_busy_and_idle s.connections r.header
       (performed_letters c.perform-result.result after n r d) in

@@ -5,19 +5,19 @@ use Rattle.kern_peers.specs.Connections.{Connections}
 use Rattle.kern_exec.specs.Letters.{between_busy_and_idle}
 use Rattle.kern_core.specs.Requests.{debug_reply}
 use Rattle.kern_core.specs.Debugging.{IsPreparedDebugReply}
-use Rattle.kern_core.specs.Stands.{RepresentsKernel}
+use Rattle.kern_core.specs.Represents.{RepresentsKernel}
 use Rattle.kern_core.proofs.DebugLemmas.{refused_stands}
 use Rattle.kern_core.proofs.state.KernelState.refuse.Goals as goal
 
 pub returns : goal.returns
 returns c = (
-  λ s stands ne.
-      let viewed : RepresentsKernel _ s = subst (λ v. RepresentsKernel v s) (sym c.self.view_is) stands in
+  λ s represents ne.
+      let viewed : RepresentsKernel _ s = subst (λ v. RepresentsKernel v s) (sym c.self.view_is) represents in
       let n = c.args.connection in
       let r = c.args.request.now in
       let d = c.args.debug.now in
       let K : Connections → Type 0 = λ w. IsPreparedDebugReply w n r d c.in_ok-prepared.prepared in
-      let prepared = subst K stands.connections c.in_ok-prepared.ensures in
+      let prepared = subst K represents.connections c.in_ok-prepared.ensures in
       let L : List ℕ → List Letter =
       λ text. between_busy_and_idle s.connections r.header (debug_reply n r d (Refused text) ∷ []) in
       let told =

@@ -10,13 +10,13 @@ use Rattle.kern_exec.specs.Letters.{between_busy_and_idle}
 use Rattle.kern_core.specs.declared.call.Reply.TheVariants.{Arrived}
 use Rattle.kern_core.specs.States.{Turn, after, posting}
 use Rattle.kern_core.specs.Requests.{reply_to, cut_letters, cut_work, with_board}
-use Rattle.kern_core.specs.Stands.{RepresentsKernel}
+use Rattle.kern_core.specs.Represents.{RepresentsKernel}
 use Rattle.kern_core.proofs.DebugLemmas.{by_reset}
 use Rattle.kern_core.proofs.state.KernelState.reset_by.Goals as goal
 
 pub returns : goal.returns
 returns c = (
-  λ s stands ne.
+  λ s represents ne.
       let n = c.args.connection in
       let r = c.args.request.now in
       let d = c.args.debug.now in
@@ -30,12 +30,12 @@ returns c = (
         command = text;
         outcome = Success Empty;
       })) ∷ []) in
-      let letters = c.in_ok-letters.ensures s stands ∙ ap told (named ∙ ap spelling_of c.name.ensures) in
+      let letters = c.in_ok-letters.ensures s represents ∙ ap told (named ∙ ap spelling_of c.name.ensures) in
       let Q : List Letter → Type 0 =
       λ ls. RepresentsKernel new (after (posting Arrived c.args.unix_seconds ls
       (with_board (reset s.board) (cut_work s) s))) in
       let P : Turn → Type 0 = λ t. (Ok Arrived ≡ t.answer) × RepresentsKernel new (after t) in
       subst P (sym (by_reset n r d c.args.unix_seconds s c.requires.reset))
-      (refl, subst Q letters (c.in_ok-reset_board.ensures.ok s stands)),
+      (refl, subst Q letters (c.in_ok-reset_board.ensures.ok s represents)),
   search rules,
 )

@@ -8,7 +8,7 @@ returns-then-is_last c =
     let left : c.follow.new.self.frames ≡ c.advance-left.new.self =
     ap (λ (context : Context). context.frames) c.follow.ensures.rest in
     record {
-      owed = rw (← c.report-answer.ensures, ← c.sp-sp.ensures) (record {
+      follows = rw (← c.report-answer.ensures, ← c.sp-sp.ensures) (record {
         defined = c.in_default.not-Undefined;
         frames = rw left c.advance-left.ensures.live;
         left = c.advance-left.result;
@@ -27,7 +27,7 @@ returns c =
     let left : c.follow.new.self.frames ≡ c.advance-left.new.self =
     ap (λ (context : Context). context.frames) c.follow.ensures.rest in
     record {
-      owed = rw (← c.report-answer.ensures, ← c.sp-sp.ensures) (record {
+      follows = rw (← c.report-answer.ensures, ← c.sp-sp.ensures) (record {
         defined = c.in_default.not-Undefined;
         frames = rw left c.advance-left.ensures.live;
         left = c.advance-left.result;

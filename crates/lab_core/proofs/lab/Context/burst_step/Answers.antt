@@ -52,96 +52,97 @@ pub returns-in-Moved-clause-undefined : goal.returns-in-Moved-clause-undefined
 returns-in-Moved-clause-undefined c = λ lab b traffic s.
     finds_owed lab b traffic _ _ _ _ _ s (c.in-Moved.ensures.step b.past s.devices) _ _ c.advance.result
     c.pc-pc.ensures
-    c.advance.ensures.owed
+    c.advance.ensures.follows
 
 pub returns-in-Moved-clause-ended : goal.returns-in-Moved-clause-ended
 returns-in-Moved-clause-ended c = λ some lab b traffic s.
     keeps_owed lab b traffic _ _ _ _ _ s (c.in-Moved.ensures.step b.past s.devices) _ _ c.advance.result
-    c.advance.ensures.owed some
+    c.advance.ensures.follows some
 
 pub returns-in-Moved-clause-made : goal.returns-in-Moved-clause-made
 returns-in-Moved-clause-made c = λ none lab b traffic s.
     let only_fetch = c.requires.ready.only_fetch in
     advances_owed lab b traffic _ _ _ _ _ s (c.in-Moved.ensures.step b.past s.devices) _ _ c.advance.result
     c.pc-pc.ensures
-    c.in-Moved.ensures.sp only_fetch.has_moved c.advance.ensures.owed none
+    c.in-Moved.ensures.sp only_fetch.has_moved c.advance.ensures.follows none
 
 pub returns-in-Moved-clause-on : goal.returns-in-Moved-clause-on
 returns-in-Moved-clause-on c = λ now is.
     owed_in_burst kind.Moved _ _ _ _ _ _ _ now c.advance.result c.requires.ready c.in-Moved.ensures.unlatched
-    c.in-Moved.ensures.settles c.advance.ensures.owed c.advance.ensures.on is
+    c.in-Moved.ensures.settles c.advance.ensures.follows c.advance.ensures.on is
 
 pub returns-in-Called-clause-undefined : goal.returns-in-Called-clause-undefined
 returns-in-Called-clause-undefined c = λ lab b traffic s.
     finds_owed lab b traffic _ _ _ _ _ s (c.in-Called.ensures.step b.past s.devices) _ _
     c.advance-in-Called.result c.pc-pc.ensures
-    c.advance-in-Called.ensures.owed
+    c.advance-in-Called.ensures.follows
 
 pub returns-in-Called-clause-ended : goal.returns-in-Called-clause-ended
 returns-in-Called-clause-ended c = λ some lab b traffic s.
     keeps_owed lab b traffic _ _ _ _ _ s (c.in-Called.ensures.step b.past s.devices) _ _
     c.advance-in-Called.result
-    c.advance-in-Called.ensures.owed some
+    c.advance-in-Called.ensures.follows some
 
 pub returns-in-Called-clause-made : goal.returns-in-Called-clause-made
 returns-in-Called-clause-made c = λ none lab b traffic s.
     let only_fetch = c.requires.ready.only_fetch in
     advances_owed lab b traffic _ _ _ _ _ s (c.in-Called.ensures.step b.past s.devices) _ _
     c.advance-in-Called.result c.pc-pc.ensures
-    c.in-Called.ensures.sp only_fetch.has_moved c.advance-in-Called.ensures.owed none
+    c.in-Called.ensures.sp only_fetch.has_moved c.advance-in-Called.ensures.follows none
 
 pub returns-in-Called-clause-on : goal.returns-in-Called-clause-on
 returns-in-Called-clause-on c = λ now is.
     owed_in_burst kind.Called _ _ _ _ _ _ _ now c.advance-in-Called.result c.requires.ready
     c.in-Called.ensures.unlatched
-    c.in-Called.ensures.settles c.advance-in-Called.ensures.owed c.advance-in-Called.ensures.on is
+    c.in-Called.ensures.settles c.advance-in-Called.ensures.follows c.advance-in-Called.ensures.on is
 
 pub returns-in-Returned-clause-undefined : goal.returns-in-Returned-clause-undefined
 returns-in-Returned-clause-undefined c = λ lab b traffic s.
     finds_owed lab b traffic _ _ _ _ _ s (c.in-Returned.ensures.step b.past s.devices) _ _
     c.advance-in-Returned.result c.pc-pc.ensures
-    c.advance-in-Returned.ensures.owed
+    c.advance-in-Returned.ensures.follows
 
 pub returns-in-Returned-clause-ended : goal.returns-in-Returned-clause-ended
 returns-in-Returned-clause-ended c = λ some lab b traffic s.
     keeps_owed lab b traffic _ _ _ _ _ s (c.in-Returned.ensures.step b.past s.devices) _ _
     c.advance-in-Returned.result
-    c.advance-in-Returned.ensures.owed some
+    c.advance-in-Returned.ensures.follows some
 
 pub returns-in-Returned-clause-made : goal.returns-in-Returned-clause-made
 returns-in-Returned-clause-made c = λ none lab b traffic s.
     let only_fetch = c.requires.ready.only_fetch in
     advances_owed lab b traffic _ _ _ _ _ s (c.in-Returned.ensures.step b.past s.devices) _ _
     c.advance-in-Returned.result c.pc-pc.ensures
-    c.in-Returned.ensures.sp only_fetch.has_moved c.advance-in-Returned.ensures.owed none
+    c.in-Returned.ensures.sp only_fetch.has_moved c.advance-in-Returned.ensures.follows none
 
 pub returns-in-Returned-clause-on : goal.returns-in-Returned-clause-on
 returns-in-Returned-clause-on c = λ now is.
     owed_in_burst kind.Returned _ _ _ _ _ _ _ now c.advance-in-Returned.result c.requires.ready
     c.in-Returned.ensures.unlatched
-    c.in-Returned.ensures.settles c.advance-in-Returned.ensures.owed c.advance-in-Returned.ensures.on is
+    c.in-Returned.ensures.settles c.advance-in-Returned.ensures.follows c.advance-in-Returned.ensures.on is
 
 pub returns-in_default-clause-undefined : goal.returns-in_default-clause-undefined
 returns-in_default-clause-undefined c = λ lab b traffic s.
     finds_owed lab b traffic _ _ _ _ _ s (c.settled_step-kind.ensures.step b.past s.devices) _ _
     c.advance-in_default.result c.pc-pc.ensures
-    c.advance-in_default.ensures.owed
+    c.advance-in_default.ensures.follows
 
 pub returns-in_default-clause-ended : goal.returns-in_default-clause-ended
 returns-in_default-clause-ended c = λ some lab b traffic s.
     keeps_owed lab b traffic _ _ _ _ _ s (c.settled_step-kind.ensures.step b.past s.devices) _ _
     c.advance-in_default.result
-    c.advance-in_default.ensures.owed some
+    c.advance-in_default.ensures.follows some
 
 pub returns-in_default-clause-made : goal.returns-in_default-clause-made
 returns-in_default-clause-made c = λ none lab b traffic s.
     let only_fetch = c.requires.ready.only_fetch in
     advances_owed lab b traffic _ _ _ _ _ s (c.settled_step-kind.ensures.step b.past s.devices) _ _
     c.advance-in_default.result c.pc-pc.ensures
-    c.settled_step-kind.ensures.sp only_fetch.has_moved c.advance-in_default.ensures.owed none
+    c.settled_step-kind.ensures.sp only_fetch.has_moved c.advance-in_default.ensures.follows none
 
 pub returns-in_default-clause-on : goal.returns-in_default-clause-on
 returns-in_default-clause-on c = λ now is.
     owed_in_burst c.settled_step-kind.result _ _ _ _ _ _ _ now c.advance-in_default.result c.requires.ready
     c.settled_step-kind.ensures.unlatched
-    c.settled_step-kind.ensures.settles c.advance-in_default.ensures.owed c.advance-in_default.ensures.on is
+    c.settled_step-kind.ensures.settles c.advance-in_default.ensures.follows
+    c.advance-in_default.ensures.on is

@@ -22,7 +22,7 @@ loop-left-preserved c =
       passes = λ lab b traffic s.
           (let m = makes_more made b traffic lab _ _ _ _ (inv.makes lab b traffic s) inv.free
           c.in-Within.ensures.undefined (c.in-Within.ensures.made refl) in
-          rw one (passes_more c.args.marks.now b (made + 1) _ m.stands.machine
+          rw one (passes_more c.args.marks.now b (made + 1) _ m.represents.machine
           (sym c.is_at.ensures ∙ c.if-is_at.false) (inv.passes lab b traffic s)));
       free = c.in_default.ensures;
       ready = c.in-Within.ensures.on c.in-Within.now refl;

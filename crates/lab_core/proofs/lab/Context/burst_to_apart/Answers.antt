@@ -1,6 +1,6 @@
 use Rattle.std.proofs.Common.{sym, subst}
 use Rattle.i80_exec.specs.State.{MachineState}
-use Rattle.lab_core.specs.Labs.{RepresentsDuringSlice, MakesAtMost, amid}
+use Rattle.lab_core.specs.Labs.{RepresentsDuringSlice, MakesAtMost, in_slice}
 use Rattle.lab_core.proofs.lab.Context.burst_to_apart.Goals as goal
 
 pub burst_to-made-requires-clause-may : goal.burst_to-made-requires-clause-may
@@ -18,11 +18,11 @@ returns-clause-made c =
 pub returns-clause-passes : goal.returns-clause-passes
 returns-clause-passes c = λ lab b traffic s.
     let M : MachineState → Type 0 =
-    λ machine. RepresentsDuringSlice (amid lab machine c.args.self.now) b traffic in
+    λ machine. RepresentsDuringSlice (in_slice lab machine c.args.self.now) b traffic in
     c.burst_to-made.ensures.passes lab b traffic (subst M (sym c.replace-local.ensures.value) s)
 
 pub returns-clause-unmarked : goal.returns-clause-unmarked
 returns-clause-unmarked c = λ some lab b traffic s.
     let M : MachineState → Type 0 =
-    λ machine. RepresentsDuringSlice (amid lab machine c.args.self.now) b traffic in
+    λ machine. RepresentsDuringSlice (in_slice lab machine c.args.self.now) b traffic in
     c.burst_to-made.ensures.unmarked some lab b traffic (subst M (sym c.replace-local.ensures.value) s)

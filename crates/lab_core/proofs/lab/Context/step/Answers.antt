@@ -2,7 +2,7 @@ use Rattle.std.proofs.Common.{◌++◌, refl, sym, subst}
 use Rattle.i80_exec.specs.Step.{operation_list}
 use Rattle.lab_core.specs.declared.lab.Context.{Context}
 use Rattle.lab_core.specs.Board.{next_change, after_next_step}
-use Rattle.lab_core.specs.Labs.{RepresentsDuringSlice, amid}
+use Rattle.lab_core.specs.Labs.{RepresentsDuringSlice, in_slice}
 use Rattle.lab_core.proofs.StandsLemmas.{stands_step, finds_undefined, finds_no_undefined, stands_undefined}
 use Rattle.lab_core.proofs.lab.Context.step.Goals as goal
 
@@ -25,7 +25,8 @@ returns-clause-undefined c = λ lab b traffic s.
 pub returns-clause-none : goal.returns-clause-none
 returns-clause-none c = λ lab b traffic s.
     let Q : Context → Type 0 =
-    λ context. RepresentsDuringSlice (amid lab c.board_step-answer.new.machine context) (after_next_step b)
+    λ context. RepresentsDuringSlice (in_slice lab c.board_step-answer.new.machine context)
+    (after_next_step b)
     (traffic ++ operation_list (next_change b).operation) in
     subst Q (sym c.follow.ensures.rest) (stands_step _ _ b traffic c.board_step-answer.result
     c.advance-left.result s (c.board_step-answer.ensures.step b.past s.devices) (record {

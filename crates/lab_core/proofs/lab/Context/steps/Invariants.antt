@@ -2,15 +2,15 @@ use Rattle.std.proofs.Common.{◌≡◌, ◌<◌, ◌≤◌, ◌+◌, ◌-◌, �
 use Rattle.std.specs.Option.{IsSome}
 use Rattle.lab_core.specs.Board.{Board}
 use Rattle.lab_core.specs.Slices.{after_steps, traffic_of, reason}
-use Rattle.lab_core.specs.Labs.{LabState, RepresentsBoard, RepresentsDuringSlice, Watches, amid}
+use Rattle.lab_core.specs.Labs.{LabState, RepresentsBoard, RepresentsDuringSlice, Watches, in_slice}
 use Rattle.lab_core.proofs.lab.Context.steps.Given as goal
 
 abbrev pub invariant-loop-k : goal.invariant-loop-k
 invariant-loop-k l = record {
   within : l.k ≤ l.n;
-  stands : (lab : LabState) (b : Board) → RepresentsBoard (amid lab l.fn.machine l.fn.self) b
-      → RepresentsDuringSlice (amid lab l.machine l.self) (after_steps l.k b) (traffic_of l.k b);
-  none_before : (lab : LabState) (b : Board) → RepresentsBoard (amid lab l.fn.machine l.fn.self) b
+  represents : (lab : LabState) (b : Board) → RepresentsBoard (in_slice lab l.fn.machine l.fn.self) b
+      → RepresentsDuringSlice (in_slice lab l.machine l.self) (after_steps l.k b) (traffic_of l.k b);
+  none_before : (lab : LabState) (b : Board) → RepresentsBoard (in_slice lab l.fn.machine l.fn.self) b
       → (j : ℕ) → j < l.k → reason (after_steps j b) ≡ None;
   room : l.n ≤ l.self.devices.spare + l.k;
   scratch : IsSome l.scratch;

@@ -26,23 +26,23 @@ loop-k-preserved c =
     let within : k + made.result.0 ≤ n = omega arith in
     record {
       within = within;
-      stands = λ lab b s.
+      represents = λ lab b s.
           (let m = makes_on k made.result.0 made.result.1 b _ (inv.none_before lab b s)
-          (did.makes lab (after_steps k b) (traffic_of k b) (inv.stands lab b s)) in m.stands);
+          (did.makes lab (after_steps k b) (traffic_of k b) (inv.represents lab b s)) in m.represents);
       none_before = λ lab b s.
           (let m = makes_on k made.result.0 made.result.1 b _ (inv.none_before lab b s)
-          (did.makes lab (after_steps k b) (traffic_of k b) (inv.stands lab b s)) in m.none_before);
+          (did.makes lab (after_steps k b) (traffic_of k b) (inv.represents lab b s)) in m.none_before);
       first = λ lab b s.
           (let m = makes_on k made.result.0 made.result.1 b _ (inv.none_before lab b s)
-          (did.makes lab (after_steps k b) (traffic_of k b) (inv.stands lab b s)) in
-          let passes = made.ensures.passes lab (after_steps k b) (traffic_of k b) (inv.stands lab b s) in
+          (did.makes lab (after_steps k b) (traffic_of k b) (inv.represents lab b s)) in
+          let passes = made.ensures.passes lab (after_steps k b) (traffic_of k b) (inv.represents lab b s) in
           let last : marked_at marks b (k + made.result.0) ≡ false =
-          sym (at-marked marks b k made.result.0 _ progress m.stands.machine passes) ∙ sym c.is_at.ensures
+          sym (at-marked marks b k made.result.0 _ progress m.represents.machine passes) ∙ sym c.is_at.ensures
           ∙ c.if-is_at.false in
           passed_on marks b k made.result.0 n within passes last ∙ inv.first lab b s);
       was_kept = λ lab b s.
           kept_on marks b k made.result.0 progress
-          (made.ensures.passes lab (after_steps k b) (traffic_of k b) (inv.stands lab b s));
+          (made.ensures.passes lab (after_steps k b) (traffic_of k b) (inv.represents lab b s));
       kept = not_at _ marks (sym c.is_at.ensures ∙ c.if-is_at.false);
       room = omega arith;
       scratch = made.ensures.scratch;
@@ -58,11 +58,11 @@ returns-in-Some-clause-slice c = λ lab b s.
     let made = c.round_to-made in
     let did = made.ensures.made in
     let m = makes_on k made.result.0 made.result.1 b _ (inv.none_before lab b s)
-    (did.makes lab (after_steps k b) (traffic_of k b) (inv.stands lab b s)) in
+    (did.makes lab (after_steps k b) (traffic_of k b) (inv.represents lab b s)) in
     let is : IsSome made.result.1 = rw c.in-Some.is refl in
     let less = did.some is in
     let found = rw c.in-Some.is at m.found_is in
-    let passes = made.ensures.unmarked is lab (after_steps k b) (traffic_of k b) (inv.stands lab b s) in
+    let passes = made.ensures.unmarked is lab (after_steps k b) (traffic_of k b) (inv.represents lab b s) in
     let first = passed_all marks b k made.result.0 n (omega arith) passes ∙ inv.first lab b s in
     let later =
     first-later (marked_at marks b) (n - (k + made.result.0)) (k + made.result.0) (omega arith) in
@@ -74,15 +74,15 @@ returns-in-Some-clause-slice c = λ lab b s.
       last = λ all. absurd (omega arith);
     }
 
-pub returns-in-Some-clause-stands : goal.returns-in-Some-clause-stands
-returns-in-Some-clause-stands c = λ lab b s.
+pub returns-in-Some-clause-represents : goal.returns-in-Some-clause-represents
+returns-in-Some-clause-represents c = λ lab b s.
     let inv = c.loop-k.invariant in
     let k = c.loop-k.k in
     let made = c.round_to-made in
     let did = made.ensures.made in
     let m = makes_on k made.result.0 made.result.1 b _ (inv.none_before lab b s)
-    (did.makes lab (after_steps k b) (traffic_of k b) (inv.stands lab b s)) in
-    m.stands
+    (did.makes lab (after_steps k b) (traffic_of k b) (inv.represents lab b s)) in
+    m.represents
 
 pub returns-in-Some-clause-kept : goal.returns-in-Some-clause-kept
 returns-in-Some-clause-kept c = λ lab b s.
@@ -91,7 +91,7 @@ returns-in-Some-clause-kept c = λ lab b s.
     let made = c.round_to-made in
     let did = made.ensures.made in
     kept_after c.args.marks.now b k made.result.0 (inv.was_kept lab b s)
-    (made.ensures.passes lab (after_steps k b) (traffic_of k b) (inv.stands lab b s))
+    (made.ensures.passes lab (after_steps k b) (traffic_of k b) (inv.represents lab b s))
 
 pub returns-then-is_at-clause-slice : goal.returns-then-is_at-clause-slice
 returns-then-is_at-clause-slice c = λ lab b s.
@@ -106,10 +106,10 @@ returns-then-is_at-clause-slice c = λ lab b s.
     let some : 1 ≤ n - k = omega arith in
     let progress = did.progress some c.in_default.is in
     let m = makes_on k made.result.0 made.result.1 b _ (inv.none_before lab b s)
-    (did.makes lab (after_steps k b) (traffic_of k b) (inv.stands lab b s)) in
-    let passes = made.ensures.passes lab (after_steps k b) (traffic_of k b) (inv.stands lab b s) in
+    (did.makes lab (after_steps k b) (traffic_of k b) (inv.represents lab b s)) in
+    let passes = made.ensures.passes lab (after_steps k b) (traffic_of k b) (inv.represents lab b s) in
     let marked : marked_at marks b (k + made.result.0) ≡ true =
-    sym (at-marked marks b k made.result.0 _ progress m.stands.machine passes) ∙ sym c.is_at.ensures
+    sym (at-marked marks b k made.result.0 _ progress m.represents.machine passes) ∙ sym c.is_at.ensures
     ∙ c.if-is_at.true in
     let limit : k + made.result.0 ≡ first_mark marks n b =
     sym (found_on marks b k made.result.0 n progress (omega arith) passes marked) ∙ inv.first lab b s in
@@ -122,18 +122,18 @@ returns-then-is_at-clause-slice c = λ lab b s.
           λ _. c.unwrap_or.ensures ∙ ap (λ o. unwrap_or o More)
           (c.reason_after-last.ensures lab (after_steps (k + made.result.0) b)
           (traffic_of (k + made.result.0) b)
-          m.stands);
+          m.represents);
     })
 
-pub returns-then-is_at-clause-stands : goal.returns-then-is_at-clause-stands
-returns-then-is_at-clause-stands c = λ lab b s.
+pub returns-then-is_at-clause-represents : goal.returns-then-is_at-clause-represents
+returns-then-is_at-clause-represents c = λ lab b s.
     let inv = c.loop-k.invariant in
     let k = c.loop-k.k in
     let made = c.round_to-made in
     let did = made.ensures.made in
     let m = makes_on k made.result.0 made.result.1 b _ (inv.none_before lab b s)
-    (did.makes lab (after_steps k b) (traffic_of k b) (inv.stands lab b s)) in
-    m.stands
+    (did.makes lab (after_steps k b) (traffic_of k b) (inv.represents lab b s)) in
+    m.represents
 
 pub returns-then-is_at-clause-kept : goal.returns-then-is_at-clause-kept
 returns-then-is_at-clause-kept c = λ lab b s.
@@ -144,7 +144,7 @@ returns-then-is_at-clause-kept c = λ lab b s.
     let test = c.loop-k-test.true in
     let some : 1 ≤ c.args.n - k = omega arith in
     kept_on c.args.marks.now b k made.result.0 (did.progress some c.in_default.is)
-    (made.ensures.passes lab (after_steps k b) (traffic_of k b) (inv.stands lab b s))
+    (made.ensures.passes lab (after_steps k b) (traffic_of k b) (inv.represents lab b s))
 
 pub returns-clause-slice : goal.returns-clause-slice
 returns-clause-slice c = λ lab b s.
@@ -153,7 +153,7 @@ returns-clause-slice c = λ lab b s.
     let marks = c.args.marks.now in
     let within = inv.within in
     let all : c.loop-k.k ≡ n = omega arith in
-    let stands = rw all at (inv.stands lab b s) in
+    let represents = rw all at (inv.represents lab b s) in
     let none : n - c.loop-k.k ≡ 0 = omega arith in
     let limit : n ≡ first_mark marks n b =
     sym (first-none (marked_at marks b) n) ∙ (rw (none, all) at (inv.first lab b s)) in
@@ -164,16 +164,16 @@ returns-clause-slice c = λ lab b s.
       early = λ below. absurd (omega arith);
       last =
           λ _. c.unwrap_or-2.ensures ∙ ap (λ o. unwrap_or o More)
-          (c.reason_after-reason.ensures lab (after_steps n b) (traffic_of n b) stands);
+          (c.reason_after-reason.ensures lab (after_steps n b) (traffic_of n b) represents);
     })
 
-pub returns-clause-stands : goal.returns-clause-stands
-returns-clause-stands c = λ lab b s.
+pub returns-clause-represents : goal.returns-clause-represents
+returns-clause-represents c = λ lab b s.
     let inv = c.loop-k.invariant in
     let n = c.args.n in
     let within = inv.within in
     let all : c.loop-k.k ≡ n = omega arith in
-    rw all at (inv.stands lab b s)
+    rw all at (inv.represents lab b s)
 
 pub returns-clause-kept : goal.returns-clause-kept
 returns-clause-kept c = λ lab b s.

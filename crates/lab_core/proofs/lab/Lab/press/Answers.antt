@@ -9,12 +9,12 @@ use Rattle.lab_core.proofs.lab.Lab.press.Goals as goal
 
 pub returns-clause-applied : goal.returns-clause-applied
 returns-clause-applied c = λ b s ne.
-    let stands : DevicesStandFor c.self.inside.context.devices b.past =
+    let represents : DevicesStandFor c.self.inside.context.devices b.past =
     ap (λ (l : LabState). l.devices.panel) c.self.view_is ∙ s.devices in
     let answer = c.in_ok-press.ensures in
     let few : c.args.n < 8 = let small : 8 ≤ c.args.n → ⊥ = λ big. (let e = answer.vector.1 big in cc) in
     omega arith in
     let free : IsSome (panel_after b.past).latched → ⊥ =
-    λ some. (let e = (answer.latched b.past stands).1 (few, some) in cc) in
+    λ some. (let e = (answer.latched b.past represents).1 (few, some) in cc) in
     let new = with_operation (Press c.args.n) b in
     (new, gives b new (press_result c.args.n b) Accepted (pressed_is c.args.n b few free), search rules)

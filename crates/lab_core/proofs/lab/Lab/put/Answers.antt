@@ -12,4 +12,4 @@ returns-clause-ok c = λ b s-now.
     let loads : List Load = b.loads ++ load_of c.args.number c.args.built ∷ [] in
     let put = c.in_ok-load.ensures.past b.loads s.origins in
     stands_built _ b c.args.number (meaning_in c.args.built) _ _ _ _ s c.in_ok-load.ensures.machine put
-    c.refresh.ensures.lists (c.refresh.ensures.stands loads put) refl
+    c.refresh.ensures.lists (c.refresh.ensures.represents loads put) refl

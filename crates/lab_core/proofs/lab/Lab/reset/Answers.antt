@@ -21,5 +21,5 @@ returns-clause-applied c = λ b s ne.
       subst P (sym after) (stands_reset c.args.self.now b c.in_ok-machine.machine c.clear.new.self
           c.clear-2.new.self c.refresh.new.self
           s c.in_ok-machine.ensures c.clear.ensures.past c.clear.ensures.operations c.clear-2.ensures lists
-          (c.refresh.ensures.stands [] c.clear-2.ensures)),
+          (c.refresh.ensures.represents [] c.clear-2.ensures)),
     )

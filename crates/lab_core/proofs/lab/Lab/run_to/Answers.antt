@@ -20,18 +20,18 @@ returns-clause-slice c = λ b s.
     subst S (ap (λ (marks : MarksState). first_mark marks n b) c.begin.ensures
     ∙ first-values c.self.inside.machine c.args.marks.now n b) (c.steps_to-executed.ensures.slice b s)
 
-pub returns-clause-stands : goal.returns-clause-stands
-returns-clause-stands c = λ b s.
+pub returns-clause-represents : goal.returns-clause-represents
+returns-clause-represents c = λ b s.
     c.leave.ensures (after_steps c.steps_to-executed.result.0 b) (traffic_of c.steps_to-executed.result.0 b)
-    (c.steps_to-executed.ensures.stands b s)
+    (c.steps_to-executed.ensures.represents b s)
 
 pub returns-clause-marks : goal.returns-clause-marks
 returns-clause-marks c = λ b s.
     let k = c.steps_to-executed.result.0 in
     let m = c.self-2.inside.machine in
-    let stands = c.steps_to-executed.ensures.stands b s in
+    let represents = c.steps_to-executed.ensures.represents b s in
     let is : m ≡ (after_steps k b).machine =
-    ap (λ (lab : LabState). lab.machine) c.self-2.view_is ∙ stands.machine in
+    ap (λ (lab : LabState). lab.machine) c.self-2.view_is ∙ represents.machine in
     let K : MarksState → Type 0 = λ marks. IsKept (after_steps (k - 1) b).machine marks in
     c.finish.ensures
     ∙ ap (λ (marks : MarksState). with_end k m marks) c.begin.ensures

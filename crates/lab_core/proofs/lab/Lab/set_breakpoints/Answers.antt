@@ -15,5 +15,5 @@ returns-in_ok-set-in-Some-clause-applied c = λ b s-now ne.
       record b { breakpoints = with_lines c.in-Some.number c.args.lines.now b.breakpoints },
       gives_breakpoints b c.args.path.now c.args.lines.now c.in-Some.number c.in-Some.text.now _ found
           c.in_ok-answer-in-Some.ensures,
-      stands_listed _ b _ c.in-Some.number c.args.lines.now s done.lists (done.stands b.loads s.origins),
+      stands_listed _ b _ c.in-Some.number c.args.lines.now s done.lists (done.represents b.loads s.origins),
     )

@@ -18,15 +18,17 @@ returns-in_ok-reserve_out-in-Running-clause-applied c = λ b s-now ne.
     let room = c.in_ok-reserve_out-in-Running.ensures in
     let reserved = stands_reserved _ b _ s room.panel room.operations in
     let A : LabState → Type 0 = λ lab. RepresentsDuringSlice lab new (traffic_of k b) in
-    let amid = subst A (sym c.self-in-Running.view_is) (c.run_on-executed.ensures.stands b reserved) in (
+    let in_slice = subst A (sym c.self-in-Running.view_is)
+    (c.run_on-executed.ensures.represents b reserved) in (
       new,
       slices_running b.run c.args.n b new _ running (record {
         k = k;
         ending = ending;
         slice = c.run_on-executed.ensures.slice b reserved;
         reply_is =
-            ap (λ traffic. Ok (Sliced k traffic ending)) (c.take_out-traffic.ensures.taken ∙ amid.traffic_is);
+            ap (λ traffic. Ok (Sliced k traffic ending)) (c.take_out-traffic.ensures.taken
+            ∙ in_slice.traffic_is);
         board_is = refl;
       }),
-      stands_taken _ new (traffic_of k b) _ amid c.take_out-traffic.ensures.rest,
+      stands_taken _ new (traffic_of k b) _ in_slice c.take_out-traffic.ensures.rest,
     )

@@ -21,17 +21,19 @@ returns-in_ok-reserve_out-in-Running-clause-applied c = λ b s-now ne.
     let room = c.in_ok-reserve_out-in-Running.ensures in
     let reserved = stands_reserved _ b _ s room.panel room.operations in
     let A : LabState → Type 0 = λ lab. RepresentsDuringSlice lab new (traffic_of k b) in
-    let amid = subst A (sym c.self-in-Running.view_is) (c.run_to-executed.ensures.stands b reserved) in (
+    let in_slice = subst A (sym c.self-in-Running.view_is)
+    (c.run_to-executed.ensures.represents b reserved) in (
       new,
       slices_running b.run (first_mark c.args.marks.now c.args.n b) b new _ running (record {
         k = k;
         ending = ending;
         slice = c.run_to-executed.ensures.slice b reserved;
         reply_is =
-            ap (λ traffic. Ok (Sliced k traffic ending)) (c.take_out-traffic.ensures.taken ∙ amid.traffic_is);
+            ap (λ traffic. Ok (Sliced k traffic ending)) (c.take_out-traffic.ensures.taken
+            ∙ in_slice.traffic_is);
         board_is = refl;
       }),
-      stands_taken _ new (traffic_of k b) _ amid c.take_out-traffic.ensures.rest,
+      stands_taken _ new (traffic_of k b) _ in_slice c.take_out-traffic.ensures.rest,
     )
 
 pub returns-in_ok-reserve_out-in-Running-clause-marks
@@ -45,10 +47,11 @@ returns-in_ok-reserve_out-in-Running-clause-marks c = λ b s-now.
     let A : LabState → Type 0 =
     λ lab. RepresentsDuringSlice lab (left_by c.run_to-executed.result.1 (after_steps k b)) (traffic_of k
     b) in
-    let amid = subst A (sym c.self-in-Running.view_is) (c.run_to-executed.ensures.stands b reserved) in
+    let in_slice = subst A (sym c.self-in-Running.view_is)
+    (c.run_to-executed.ensures.represents b reserved) in
     let within = (c.run_to-executed.ensures.slice b reserved).within in
     let few = first_mark_within c.args.marks.now c.args.n b in
     let so_many = traffic_within k b in (
       c.run_to-executed.ensures.marks b reserved,
-      rw (c.take_out-traffic.ensures.taken ∙ amid.traffic_is) (omega arith),
+      rw (c.take_out-traffic.ensures.taken ∙ in_slice.traffic_is) (omega arith),
     )

@@ -1,22 +1,22 @@
 use Rattle.std.proofs.Common.{◌≡◌, refl, sym, subst}
 use Rattle.lab_core.specs.Slices.{after_steps, traffic_of}
-use Rattle.lab_core.specs.Labs.{LabState, RepresentsBoard, RepresentsDuringSlice, amid}
+use Rattle.lab_core.specs.Labs.{LabState, RepresentsBoard, RepresentsDuringSlice, in_slice}
 use Rattle.lab_core.proofs.lab.Lab.steps.Goals as goal
 
 -- a lab is `amid` of its own machine and context
 pub returns-clause-slice : goal.returns-clause-slice
 returns-clause-slice c = λ b s.
-    let P : LabState → Type 0 = λ lab. amid lab c.self.inside.machine c.self.inside.context ≡ lab in
+    let P : LabState → Type 0 = λ lab. in_slice lab c.self.inside.machine c.self.inside.context ≡ lab in
     let S : LabState → Type 0 = λ lab. RepresentsBoard lab b in
     c.steps.ensures.slice c.args.self.now b (subst S (sym (subst P c.self.view_is refl)) s)
 
-pub returns-clause-stands : goal.returns-clause-stands
-returns-clause-stands c = λ b s.
+pub returns-clause-represents : goal.returns-clause-represents
+returns-clause-represents c = λ b s.
     let executed = c.steps.result.0 in
-    let P : LabState → Type 0 = λ lab. amid lab c.self.inside.machine c.self.inside.context ≡ lab in
+    let P : LabState → Type 0 = λ lab. in_slice lab c.self.inside.machine c.self.inside.context ≡ lab in
     let S : LabState → Type 0 = λ lab. RepresentsBoard lab b in
     let Q : LabState → Type 0 =
-    λ lab. RepresentsDuringSlice (amid lab c.steps.new.machine c.steps.new.self) (after_steps executed b)
+    λ lab. RepresentsDuringSlice (in_slice lab c.steps.new.machine c.steps.new.self) (after_steps executed b)
     (traffic_of executed b) in
     subst Q (sym c.self.view_is)
-    (c.steps.ensures.stands c.args.self.now b (subst S (sym (subst P c.self.view_is refl)) s))
+    (c.steps.ensures.represents c.args.self.now b (subst S (sym (subst P c.self.view_is refl)) s))

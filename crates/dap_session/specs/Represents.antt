@@ -5,8 +5,8 @@ use Rattle.lab_core.specs.Labs.{LabState, RepresentsBoard}
 use Rattle.base_text.specs.Bytes.{Bytes, Text}
 use Rattle.dap_editor.specs.declared.message.Message.{Message}
 use Rattle.dap_editor.specs.declared.message.PlacedBreakpoint.{PlacedBreakpoint}
-use Rattle.dap_editor.specs.declared.request.Asked.{Asked}
-use Rattle.dap_editor.specs.declared.request.Asked.TheVariants as asked
+use Rattle.dap_editor.specs.declared.request.RequestContent.{RequestContent}
+use Rattle.dap_editor.specs.declared.request.RequestContent.TheVariants as asked
 use Rattle.dap_editor.specs.declared.request.EditorCommand.TheVariants as editor
 use Rattle.dap_session.specs.declared.settings.SessionSettings.{SessionSettings}
 use Rattle.dap_session.specs.declared.reply.Reply.{Reply}
@@ -31,7 +31,7 @@ pub record RepresentsSession (v : SessionFields) (s : SessionState) : Type 0 whe
 pub record Replies (r : Replied) (reply : Reply) (new : SessionFields) : Type 0 where
   pub outcome : reply.outcome ≡ r.outcome
   pub follow : reply.follow ≡ r.follow
-  pub stands : RepresentsSession new r.state
+  pub represents : RepresentsSession new r.state
 
 -- The reply is that of `f` for each state that the session represents. If memory runs out the session stays
 -- as it was.
@@ -47,14 +47,14 @@ Tells t messages new = (messages ≡ t.messages) × RepresentsSession new t.stat
 
 -- The session after memory ran out: as it was; but of the bytes that a `writeMemory` was to write some may be
 -- written, from the first on, as if it had asked for no others.
-abbrev pub IsLeft : Asked → SessionFields → SessionFields → Type 0
+abbrev pub IsLeft : RequestContent → SessionFields → SessionFields → Type 0
 IsLeft (asked.Editor (editor.WriteMemory address offset bytes)) old new =
     (s : SessionState) → RepresentsSession old s → (k : ℕ)
     × RepresentsSession new (writing address offset (take k bytes) s).state
 IsLeft other old new = new ≡ old
 
 -- The messages are those of `f` for each state that the session represents.
-abbrev pub TellsFor : Asked → (SessionState → Told) → SessionFields → Result (List Message) AllocError
+abbrev pub TellsFor : RequestContent → (SessionState → Told) → SessionFields → Result (List Message) AllocError
     → SessionFields
     → Type 0
 TellsFor a f old result new =
@@ -73,7 +73,7 @@ pub record LabelsPlaced (names : List Text) (s : SessionState) (points : List Pl
     (new : SessionFields)
     : Type 0 where
   pub placed : points ≡ labels_behind (program_lines s.settings.program s.settings.points) names s.board
-  pub stands : RepresentsSession new (with_board (labels_armed s.settings.program names s.settings.points
+  pub represents : RepresentsSession new (with_board (labels_armed s.settings.program names s.settings.points
       s.board) s)
 
 -- the first of these bytes are written, from an address on
