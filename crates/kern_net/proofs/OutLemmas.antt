@@ -36,7 +36,8 @@ use Rattle.kern_net.specs.Streams.{posts_in, window, IsStreamOf}
 use Rattle.kern_net.specs.Routes.{Target}
 use Rattle.kern_net.specs.Out.{FetchedOn, OneFetch, StopsFetching, Writer, is_whole, WrotePrefix, WroteAll}
 use Rattle.kern_net.specs.Out.{WroteOut, OutEnds, writer_with}
-use Rattle.kern_net.specs.Rounds.{GivesBatch, FetchFails, IsOutOfTickets, IsRefused, WriteFails, IsUnfit, IsFailed}
+use Rattle.kern_net.specs.Rounds.{GivesBatch, FetchFails, IsOutOfTickets, IsRefused, WriteFails, IsUnfit}
+use Rattle.kern_net.specs.Rounds.{IsFailed}
 use Rattle.kern_net.specs.Rounds.{WritesBatch, RoundFails, IsDenied, IsCut, Sender}
 use Rattle.kern_net.proofs.StreamLemmas.{no_posts, stream-append}
 use Rattle.kern_net.proofs.GrowLemmas.{Grows, posts_grow}

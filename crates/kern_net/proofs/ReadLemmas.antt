@@ -415,7 +415,8 @@ held_refused source peer from old new e good stops submitted = record {
 -- stopped at a fault behind READY
 pub stopped_first : (source : Source) (peer : Peer) (from : InletState) (t : DecoderState)
     (old mid new : PassState Call) (e : PumpEnd) → IsReadable from → SubmittedAll source peer.messages old mid
-    → StopsPiece e mid.calls new t → ReceivedPrefix source [] [] (receiver peer.decoder mid) (receiver t new) e
+    → StopsPiece e mid.calls new t
+    → ReceivedPrefix source [] [] (receiver peer.decoder mid) (receiver t new) e
     → ReadOut source peer (reader from old) (reader from new) e
 stopped_first source peer from t old mid new e good p stops q = record {
   bytes = [];

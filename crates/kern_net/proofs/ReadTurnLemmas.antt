@@ -63,12 +63,14 @@ pub call_granted : (old new : PassState Call) (call : Call) (answer : Result Rep
 call_granted old new call answer turned (reply, is) =
     let T : Result Reply KernelFault → Type 0 = λ a. TurnedBy old call a new in (reply, subst T is turned)
 
-pub without_tickets_onward : (old new : PassState Call) → new ≡ record old { out_of_tickets = true } → IsPrefix old.seen new.seen
+pub without_tickets_onward : (old new : PassState Call) → new ≡ record old { out_of_tickets = true }
+    → IsPrefix old.seen new.seen
 without_tickets_onward old new is = ([], append-nil old.seen ∙ sym (ap (λ (x : PassState Call). x.seen) is))
 
 -- ---- whether the call stands in the journal
 
-pub refuses_without_tickets : (old new : PassState Call) (call : Call) → new ≡ record old { out_of_tickets = true }
+pub refuses_without_tickets : (old new : PassState Call) (call : Call)
+    → new ≡ record old { out_of_tickets = true }
     → Refuses old call new pump.OutOfTickets
 refuses_without_tickets old new call is = inl (ap (λ (x : PassState Call). x.calls) is)
 

@@ -21,7 +21,8 @@ wakes_by : (spares : Bool) (p : ReaderPolls)
 wakes_by true p = omega arith
 wakes_by false p = refl
 
-own_wakes_by : (spares : Bool) (p : ReaderPolls) → (after_wake (not spares) p).own_wakes ≡ p.own_wakes + cond spares 1 0
+own_wakes_by : (spares : Bool) (p : ReaderPolls)
+    → (after_wake (not spares) p).own_wakes ≡ p.own_wakes + cond spares 1 0
 own_wakes_by true p = refl
 own_wakes_by false p = omega arith
 
@@ -45,5 +46,6 @@ told_by old new call answer a b turned entry is =
 pub woke_not : (old new : PassState Call) (a : ReaderPolls) → new.calls ≡ old.calls → WokeForEach old new a a
 woke_not old new a is = let same = ap (count_by concerns_worker) is in omega (arith, same)
 
-pub told_not : (old new : PassState Call) (a : ReaderPolls) → new.calls ≡ old.calls → WokeOwnForEach old new a a
+pub told_not : (old new : PassState Call) (a : ReaderPolls) → new.calls ≡ old.calls
+    → WokeOwnForEach old new a a
 told_not old new a is = let same = ap (count_by spares_worker) is in omega (arith, same)

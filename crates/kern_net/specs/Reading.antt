@@ -73,8 +73,8 @@ pub record ReceivedAll (source : Source) (held : Messages) (bytes : Bytes) (old 
   pub reads : Completes old.decoder bytes messages new.decoder
   pub submitted : SubmittedAll source (held ++ messages) old.pass new.pass
 
--- the decoder read a prefix of the bytes, and the calls were made that a prefix of the messages asks for, until
--- this end
+-- the decoder read a prefix of the bytes, and the calls were made that a prefix of the messages asks for,
+-- until this end
 pub record ReceivedPrefix (source : Source) (held : Messages) (bytes : Bytes) (old new : Receiver)
     (e : PumpEnd) : Type 0 where
   pub taken : Bytes
@@ -97,7 +97,11 @@ pub record ReadOut (source : Source) (peer : Peer) (old new : Reader) (e : PumpE
   pub bytes : Bytes
   pub after : DecoderState
   pub gave : Gave old.inlet new.inlet bytes
-  pub received : ReceivedPrefix source peer.messages bytes (record { decoder = peer.decoder; pass = old.pass })
+  pub received : ReceivedPrefix source peer.messages bytes (record {
+    decoder = peer.decoder;
+    pass =
+        old.pass;
+  })
       (record { decoder = after; pass = new.pass }) e
   pub reads : ℕ
   pub was_read : WasRead old.inlet new.inlet reads

@@ -15,11 +15,13 @@ use Rattle.kern_net.specs.declared.worker.Progress.TheVariants as progress
 use Rattle.kern_net.specs.Gates.{WorkerPolls, times, noes, IsOpen}
 use Rattle.kern_net.specs.Calls.{LastCall, IsJournalFull}
 
+-- a Slice at a time before 2100-01-01T00:00:01Z, in seconds since 1970
 abbrev pub IsSlice : Call → Type 0
-IsSlice call = (unix_seconds : ℕ) × (call ≡ Slice unix_seconds)
+IsSlice call = (unix_seconds : ℕ) × (call ≡ Slice unix_seconds) × (unix_seconds ≤ 4102444800)
 
 abbrev pub OneSlice : List Call → List Call → Type 0
-OneSlice old new = (unix_seconds : ℕ) × (new ≡ old ++ Slice unix_seconds ∷ [])
+OneSlice old new =
+    (unix_seconds : ℕ) × (new ≡ old ++ Slice unix_seconds ∷ []) × (unix_seconds ≤ 4102444800)
 
 -- what the answers to a Slice say: how it went, or how the work ends; a Slice has no others
 abbrev pub progress_of : Result Reply KernelFault → Option (Result Progress PumpEnd)

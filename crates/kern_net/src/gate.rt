@@ -12,10 +12,11 @@ pub trait WorkerGate {
     /// How often `before` and `idle` have answered yes and no, and how often `wake` was called.
     ghost polls: { Self → WorkerPolls };
 
-    /// Whether another Slice may be made. `slices` is how many it has let through so far. It may wait before
-    /// it answers.
+    /// Whether another Slice may be made. `slices` is how many it has let through so far, and others were
+    /// woken for each of them. It may wait before it answers.
     fn before<R: Wait>(&mut self, rt: &R, slices: u64) -> bool
-        requires { slices ≡ (polls self.old).before.yes }
+        requires slices { slices ≡ (polls self.old).before.yes }
+        requires woke { slices ≡ (polls self.old).wakes }
         ensures { polls self.new ≡ before_polled result (polls self.old) };
 
     /// Waits until there may be something to do, and returns whether to go on.

@@ -88,10 +88,12 @@ fn round<R: Wait, G: WorkerGate>(
     requires pass { pass.old.turnstile ≡ desk.now }
     requires gate { IsOpen (G.polls gate.old) }
     requires slices { slices ≡ (G.polls gate.old).before.yes }
+    requires woke { slices ≡ (G.polls gate.old).wakes }
     ensures same { (pass.new.turnstile ≡ desk.now) × (pass.new.seat ≡ pass.old.seat) }
     ensures ok { OnOk result
         (Sliced pass.old.calls pass.new.calls (G.polls gate.old) (G.polls gate.new) 0) }
     ensures once { OnOk result ((G.polls gate.new).before.yes ≡ slices + 1) }
+    ensures woke { OnOk result ((G.polls gate.new).wakes ≡ slices + 1) }
     ensures gate { OnOk result (IsOpen (G.polls gate.new)) }
     ensures err { IfErr result (λ end. Sliced pass.old.calls pass.new.calls
         (G.polls gate.old) (G.polls gate.new) (untaken end)) }

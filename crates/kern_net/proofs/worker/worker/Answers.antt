@@ -15,5 +15,6 @@ loop-slices-preserved g c = record {
   seat = c.round.ensures.same.1 ∙ c.loop-slices.invariant.seat;
   gate = c.in-Ok.ensures.gate;
   count = sym c.in-Ok.ensures.once;
+  woke = sym c.in-Ok.ensures.woke;
   sliced = sliced_then _ _ _ _ _ _ 0 c.loop-slices.invariant.sliced c.in-Ok.ensures.ok;
 }

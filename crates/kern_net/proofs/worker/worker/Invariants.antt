@@ -9,6 +9,7 @@ invariant-loop-slices g l = record {
   seat : l.pass.seat ≡ l.fn.pass.seat;
   gate : IsOpen (g.G.WorkerGate.polls l.gate);
   count : l.slices ≡ (g.G.WorkerGate.polls l.gate).before.yes;
+  woke : l.slices ≡ (g.G.WorkerGate.polls l.gate).wakes;
   sliced : Sliced l.fn.pass.calls l.pass.calls (g.G.WorkerGate.polls l.fn.gate) (g.G.WorkerGate.polls l.gate)
       0;
 }
