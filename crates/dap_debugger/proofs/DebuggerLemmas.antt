@@ -10,7 +10,7 @@ use Rattle.dap_debugger.specs.Debuggers.{DebuggerState, Past}
 use Rattle.dap_debugger.proofs.SendingLemmas.{sent_bytes-append}
 
 -- one input more
-played_messages : (inputs : List Input) (input : Input) (s : SessionState)
+pub played_messages : (inputs : List Input) (input : Input) (s : SessionState)
     → (play_all (inputs ++ input ∷ []) s).messages
     ≡ (play_all inputs s).messages ++ (step input (play_all inputs s).state).messages
 played_messages [] input s = append-nil (step input s).messages
@@ -20,7 +20,7 @@ played_messages (i ∷ inputs) input s =
     ∙ sym (append_assoc first.messages (play_all inputs first.state).messages
     (step input (play_all inputs first.state).state).messages)
 
-played_state : (inputs : List Input) (input : Input) (s : SessionState)
+pub played_state : (inputs : List Input) (input : Input) (s : SessionState)
     → (play_all (inputs ++ input ∷ []) s).state ≡ (step input (play_all inputs s).state).state
 played_state [] input s = refl
 played_state (i ∷ inputs) input s = played_state inputs input (step i s).state

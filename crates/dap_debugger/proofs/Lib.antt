@@ -1,4 +1,5 @@
 pub mod DebuggerLemmas
+pub mod ConversationLemmas
 pub mod JsonLemmas
 pub mod LaunchLemmas
 pub mod SendingLemmas

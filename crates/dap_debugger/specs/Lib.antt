@@ -1,3 +1,4 @@
+pub mod Conversations
 pub mod Debuggers
 pub mod Given
 pub mod LaunchTexts

@@ -1,4 +1,15 @@
 //! A conversation with an editor.
+ghost use Rattle.std.specs.Prelude.{◌≡◌, ◌++◌, ◌∷◌, [], List, OnOk, IfOk, IfErr};
+ghost use Rattle.base_text.specs.Bytes.{Bytes};
+ghost use Rattle.base_streams.specs.States.{OutletState};
+ghost use Rattle.dap_session.specs.States.{SessionState};
+ghost use Rattle.dap_session.specs.Represents.{RepresentsSession};
+ghost use Rattle.dap_session.specs.Requests.{wanted_file};
+ghost use Rattle.dap_session.specs.Slices.{Input, slice};
+ghost use Rattle.dap_debugger.specs.Debuggers.{Past};
+ghost use Rattle.dap_debugger.specs.Conversations.{Ports, IsFound, Answers, Writes, FailsToWrite};
+ghost use Rattle.dap_debugger.specs.Conversations.{HasConversed, HasAnswered, Converses, ports};
+
 use crate::debugger::Debugger;
 use crate::incoming::{BodySource, Incoming, ProgramFiles, StreamEnd};
 use crate::requests::read_request;
@@ -26,7 +37,10 @@ fn find_file<F: ProgramFiles>(
     debugger: &Debugger,
     files: &F,
     request: &EditorRequest,
-) -> Result<Option<FileText>, AllocError> {
+) -> Result<Option<FileText>, AllocError>
+    ensures { (s : SessionState) → RepresentsSession debugger.now.session s → IfOk result
+        (IsFound (F.may_find files.now) (wanted_file request.now.asked s)) }
+{
     match debugger.session().wanted_file(request) {
         Some(path) => Ok(Some(files.read(alloc, path)?)),
         None => Ok(None),
@@ -39,7 +53,9 @@ fn answer_body<F: ProgramFiles>(
     debugger: &mut Debugger,
     files: &F,
     body: &[u8],
-) -> Result<(), AllocError> {
+) -> Result<(), AllocError>
+    ensures { OnOk result (Answers (F.may_find files.now) body.now debugger.old debugger.new) }
+{
     let request = read_request(alloc, body)?;
     match find_file(alloc, debugger, files, &request) {
         Ok(file) => debugger.answer(alloc, request, file),
@@ -51,11 +67,46 @@ fn answer_body<F: ProgramFiles>(
 }
 
 // Makes a slice of the run, if one goes on.
-fn run_on(alloc: Global, debugger: &mut Debugger) -> Result<(), AllocError> {
+fn run_on(alloc: Global, debugger: &mut Debugger) -> Result<(), AllocError>
+    ensures { (inputs : List Input) (bytes : Bytes) → Past debugger.old inputs bytes
+        → OnOk result (Past debugger.new (inputs ++ slice ∷ []) bytes) }
+{
     if debugger.session().wants_slice() {
         debugger.run(alloc)
     } else {
         Ok(())
+    }
+}
+
+// Answers what the source gives next, and makes a slice of the run, if one goes on.
+fn answer_next<S: BodySource, F: ProgramFiles>(
+    alloc: Global,
+    debugger: &mut Debugger,
+    source: &mut S,
+    files: &F,
+) -> Result<(), ConversationEnd>
+    ensures ok { (start : Ports) (outlet : OutletState)
+        → HasConversed (F.may_find files.now) start (ports (S.given source.old) outlet) debugger.old
+        → OnOk result (HasAnswered (F.may_find files.now) start (ports
+        (S.given source.new) outlet) debugger.new) }
+    ensures err { (start : Ports) (outlet : OutletState)
+        → HasConversed (F.may_find files.now) start (ports (S.given source.old) outlet) debugger.old
+        → IfErr result (Converses (F.may_find files.now) start (ports (S.given source.new) outlet)) }
+{
+    let is_running = debugger.session().wants_slice();
+    match source.next(is_running) {
+        Incoming::Body(body) => match answer_body(alloc, debugger, files, body.as_slice()) {
+            Ok(()) => match run_on(alloc, debugger) {
+                Ok(()) => Ok(()),
+                Err(_) => Err(ConversationEnd::OutOfMemory),
+            },
+            Err(_) => Err(ConversationEnd::OutOfMemory),
+        },
+        Incoming::Nothing => match run_on(alloc, debugger) {
+            Ok(()) => Ok(()),
+            Err(_) => Err(ConversationEnd::OutOfMemory),
+        },
+        Incoming::End(end) => Err(ConversationEnd::Stream(end)),
     }
 }
 
@@ -64,7 +115,11 @@ fn write_messages<W: Outlet>(
     alloc: Global,
     debugger: &mut Debugger,
     outlet: &mut W,
-) -> Result<(), ConversationEnd> {
+) -> Result<(), ConversationEnd>
+    ensures ok { OnOk result (Writes debugger.old debugger.new (W.state outlet.old) (W.state outlet.new)) }
+    ensures err { IfErr result
+        (FailsToWrite debugger.old debugger.new (W.state outlet.old) (W.state outlet.new)) }
+{
     let Ok(bytes) = debugger.send(alloc) else {
         return Err(ConversationEnd::OutOfMemory);
     };
@@ -74,28 +129,33 @@ fn write_messages<W: Outlet>(
     }
 }
 
-// Answers the next request, if one is there, makes a slice of the run, if one goes on, and writes the
-// messages.
+// Answers what the source gives next, makes a slice of the run, if one goes on, and writes the messages.
 fn round<S: BodySource, F: ProgramFiles, W: Outlet>(
     alloc: Global,
     debugger: &mut Debugger,
     source: &mut S,
     files: &F,
     outlet: &mut W,
-) -> Result<(), ConversationEnd> {
-    match source.next(debugger.session().wants_slice()) {
-        Incoming::Body(body) => {
-            if answer_body(alloc, debugger, files, body.as_slice()).is_err() {
-                return Err(ConversationEnd::OutOfMemory);
-            }
-        }
-        Incoming::Nothing => {}
-        Incoming::End(end) => return Err(ConversationEnd::Stream(end)),
+) -> Result<(), ConversationEnd>
+    ensures ok { (start : Ports)
+        → HasConversed (F.may_find files.now) start (ports (S.given source.old)
+        (W.state outlet.old)) debugger.old
+        → OnOk result (HasConversed (F.may_find files.now) start
+        (ports (S.given source.new) (W.state outlet.new)) debugger.new) }
+    ensures err { (start : Ports)
+        → HasConversed (F.may_find files.now) start (ports (S.given source.old)
+        (W.state outlet.old)) debugger.old
+        → IfErr result (Converses (F.may_find files.now) start
+        (ports (S.given source.new) (W.state outlet.new))) }
+{
+    match answer_next(alloc, debugger, source, files) {
+        Ok(()) => {}
+        Err(end) => return Err(end),
     }
-    if run_on(alloc, debugger).is_err() {
-        return Err(ConversationEnd::OutOfMemory);
+    match write_messages(alloc, debugger, outlet) {
+        Ok(()) => {}
+        Err(end) => return Err(end),
     }
-    write_messages(alloc, debugger, outlet)?;
     if debugger.session().has_ended() {
         return Err(ConversationEnd::Disconnected);
     }
@@ -110,13 +170,17 @@ pub fn converse<R: Wait, S: BodySource, F: ProgramFiles, W: Outlet>(
     source: &mut S,
     files: &F,
     outlet: &mut W,
-) -> ConversationEnd {
+) -> ConversationEnd
+    ensures { Converses (F.may_find files.now) (ports (S.given source.old) (W.state outlet.old))
+        (ports (S.given source.new) (W.state outlet.new)) result }
+{
     let Ok(mut debugger) = Debugger::new(alloc) else {
         return ConversationEnd::OutOfMemory;
     };
     for _ in rt.forever() {
-        if let Err(end) = round(alloc, &mut debugger, source, files, outlet) {
-            return end;
+        match round(alloc, &mut debugger, source, files, outlet) {
+            Ok(()) => {}
+            Err(end) => return end,
         }
     }
     unreachable!()

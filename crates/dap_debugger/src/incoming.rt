@@ -1,7 +1,9 @@
 //! Where the bodies of a conversation and the programs' files come from.
-ghost use Rattle.std.specs.Prelude.{Option, List};
-ghost use Rattle.base_text.specs.Bytes.{Bytes as AllBytes};
-ghost use Rattle.dap_debugger.specs.Given.{Gave, bodies_in};
+ghost use Rattle.std.specs.Prelude.{◌∷◌, [], Option, List, IfOk};
+ghost use Rattle.base_text.specs.Bytes.{Text as TextOf};
+ghost use Rattle.dap_launch.specs.declared.file.FileText.{FileText as FileTextOf};
+ghost use Rattle.dap_debugger.specs.declared.incoming.Incoming.{Incoming as IncomingOf};
+ghost use Rattle.dap_debugger.specs.Given.{Gave};
 
 use base_text::sequence::Bytes;
 use dap_launch::file::FileText;
@@ -30,16 +32,20 @@ pub enum Incoming {
 
 /// A source of the bodies of an editor's messages.
 pub trait BodySource {
-    /// The bodies that it has given, if they are known.
-    ghost given: { Self → Option (List AllBytes) };
+    /// What it has given, if that is known.
+    ghost given: { Self → Option (List IncomingOf) };
 
     /// The next body, or why none comes. While a program runs it doesn't wait for one.
     fn next(&mut self, is_running: bool) -> Incoming
-        ensures { Gave (given self.old) (given self.new) (bodies_in result) };
+        ensures { Gave (given self.old) (given self.new) (result ∷ []) };
 }
 
 /// The files of programs.
 pub trait ProgramFiles {
+    /// What may be found at a path. Of files that others can change this is anything.
+    ghost may_find: { Self → TextOf → FileTextOf → Type 0 };
+
     /// What is found at a path. Fails if memory runs out.
-    fn read(&self, alloc: Global, path: &str) -> Result<FileText, AllocError>;
+    fn read(&self, alloc: Global, path: &str) -> Result<FileText, AllocError>
+        ensures { IfOk result (λ found. may_find self.now path.now found) };
 }

@@ -38,6 +38,9 @@ fn found_by_error(error: io::Error) -> Result<FileText, AllocError> {
 }
 
 impl<'a, R: Files> ProgramFiles for HostFiles<'a, R> {
+    // Others may change a file at any time.
+    ghost may_find = { λ _ path file. Unit {0} };
+
     // Folders, pipes and the like aren't read: a pipe might keep the debugger waiting.
     fn read(&self, alloc: Global, path: &str) -> Result<FileText, AllocError> {
         match fs::metadata(self.rt, path) {

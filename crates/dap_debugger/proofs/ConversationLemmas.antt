@@ -1,0 +1,344 @@
+-- Exchanges of a conversation, one after another.
+use Rattle.std.proofs.Common.{◌≡◌, ◌≢◌, ◌⊎◌, ◌≤◌, List, [], ◌∷◌, ◌++◌, length, map, refl, sym, ◌∙◌, ap, subst}
+use Rattle.std.proofs.Common.{ℕ, append_assoc, Option, Some, None, Bool, true, false, inl, inr, arith}
+use Rattle.std.proofs.lemmas.List.{append-nil, map-append}
+use Rattle.std.proofs.lemmas.Grind.{flat_map-append}
+use Rattle.std.specs.List.{flat_map}
+use Rattle.base_text.specs.Bytes.{Bytes, Text}
+use Rattle.base_streams.specs.States.{OutletState}
+use Rattle.base_streams.specs.Told.{Told, ToldPrefix}
+use Rattle.base_streams.proofs.TellLemmas.{told_on}
+use Rattle.dap_launch.specs.declared.file.FileText.{FileText}
+use Rattle.dap_session.specs.States.{SessionState, session_before_requests, wants_slice}
+use Rattle.dap_session.specs.Represents.{RepresentsSession}
+use Rattle.dap_session.specs.Slices.{Input, request, slice, slice_told, step, play_all, Told as ToldBySession}
+use Rattle.dap_debugger.specs.declared.incoming.Incoming.{Incoming}
+use Rattle.dap_debugger.specs.declared.incoming.Incoming.TheVariants as incoming
+use Rattle.dap_debugger.specs.declared.incoming.StreamEnd.{StreamEnd}
+use Rattle.dap_debugger.specs.declared.conversation.ConversationEnd.{ConversationEnd}
+use Rattle.dap_debugger.specs.declared.conversation.ConversationEnd.TheVariants as end
+use Rattle.dap_debugger.specs.Requests.{request_of}
+use Rattle.dap_editor.specs.declared.message.Message.{Message}
+use Rattle.dap_debugger.specs.Sending.{sent_bytes}
+use Rattle.dap_debugger.specs.Given.{Gave}
+use Rattle.dap_debugger.specs.Debuggers.{DebuggerState, Past}
+use Rattle.dap_debugger.specs.Conversations.{Exchange, answered, idle, incoming_of, inputs_in, inputs_of}
+use Rattle.dap_debugger.specs.Conversations.{session_after}
+use Rattle.dap_debugger.specs.Conversations.{bytes_for, FindsIn, FindsFiles, Ports, ports, Converses}
+use Rattle.dap_debugger.specs.Conversations.{HasConversed, HasAnswered, Answers, Writes, WritesPrefix}
+use Rattle.dap_debugger.specs.Conversations.{FailsToWrite}
+use Rattle.dap_debugger.proofs.DebuggerLemmas.{played_messages, played_state}
+
+-- ---- lists
+
+-- a prefix of a list with one element more is the whole, or a prefix of the list
+split_last : {X : Type 0} (xs front rest : List X) (x : X) → xs ++ x ∷ [] ≡ front ++ rest
+    → (rest ≡ []) ⊎ ((less : List X) × (xs ≡ front ++ less) × (rest ≡ less ++ x ∷ []))
+split_last xs [] rest x e = inr (xs, refl, sym e)
+split_last [] (y ∷ []) rest x e = let none : rest ≡ [] = cc in inl none
+split_last [] (y ∷ z ∷ ys) rest x e = absurd cc
+split_last (z ∷ zs) (y ∷ ys) rest x e =
+    let tails : zs ++ x ∷ [] ≡ ys ++ rest = cc in
+    let heads : z ≡ y = cc in
+    elim (split_last zs ys rest x tails) [
+      | inl none ↦ inl none
+      | inr some ↦ inr (some.0, cc, some.2)
+    ]
+
+gave_on : (a b c : Option (List Incoming)) (x y : List Incoming) → Gave a b x → Gave b c y → Gave a c (x ++ y)
+gave_on None b c x y p q = tt
+gave_on (Some v) None c x y p q = absurd cc
+gave_on (Some v) (Some w) c x y p q =
+    q ∙ ap Some (let e : w ≡ v ++ x = cc in (ap (λ l. l ++ y) e ∙ append_assoc v x y))
+
+inputs_more : (exchanges : List Exchange) (x : Exchange)
+    → inputs_of (exchanges ++ x ∷ []) ≡ inputs_of exchanges ++ inputs_in x
+inputs_more exchanges x =
+    flat_map-append inputs_in exchanges (x ∷ [])
+    ∙ ap (λ l. inputs_of exchanges ++ l) (append-nil (inputs_in x))
+
+front_on : (a b c : Option (List ℕ)) (x y : List ℕ) → Told a b x → ToldPrefix b c y → ToldPrefix a c (x ++ y)
+front_on a b c x y p q = record {
+  front = x ++ q.front;
+  others = q.others;
+  told = told_on a b c x q.front p q.told;
+  whole = ap (λ l. x ++ l) q.whole ∙ sym (append_assoc x q.front q.others);
+}
+
+-- ---- a debugger
+
+-- a slice changes nothing if none is wanted
+quiet_step : (s : SessionState) → wants_slice s ≡ false → step slice s ≡ record { messages = []; state = s }
+unfolding slice_told
+quiet_step s e = rw e refl
+
+pub past_quiet : (d : DebuggerState) (inputs : List Input) (bytes : Bytes) → Past d inputs bytes
+    → wants_slice (play_all inputs session_before_requests).state ≡ false
+    → Past d (inputs ++ slice ∷ []) bytes
+past_quiet d inputs bytes p e =
+    let before = play_all inputs session_before_requests in
+    let quiet = quiet_step before.state e in
+    record {
+      session = subst (RepresentsSession d.session)
+          (sym (played_state inputs slice session_before_requests
+          ∙ ap (λ (t : ToldBySession). t.state) quiet))
+          p.session;
+      before = p.before;
+      messages = played_messages inputs slice session_before_requests
+          ∙ (ap (λ (t : ToldBySession). before.messages ++ t.messages) quiet
+          ∙ (append-nil before.messages ∙ p.messages));
+      count = p.count;
+      wrote = p.wrote;
+    }
+
+-- if nothing waits to be sent, all was
+past_whole : (d : DebuggerState) (inputs : List Input) (bytes : Bytes) → Past d inputs bytes → d.told ≡ []
+    → bytes ≡ sent_bytes 0 (play_all inputs session_before_requests).messages
+past_whole d inputs bytes p sent =
+    p.wrote ∙ ap (sent_bytes 0)
+    (sym (p.messages ∙ (ap (λ m. p.before ++ m) sent ∙ append-nil p.before)))
+
+-- ---- an exchange more
+
+finds_last : (may_find : Text → FileText → Type 0) (exchanges before less after : List Exchange)
+    (x y : Exchange) → FindsFiles may_find exchanges → FindsIn may_find x (session_after exchanges)
+    → exchanges ≡ before ++ less → y ∷ after ≡ less ++ x ∷ [] → FindsIn may_find y (session_after before)
+finds_last may_find exchanges before [] after x y all here front last =
+    let same : y ≡ x = cc in
+    let whole : exchanges ≡ before = front ∙ append-nil before in
+    subst (λ (z : Exchange). FindsIn may_find z (session_after before)) (sym same)
+    (subst (λ (l : List Exchange). FindsIn may_find x (session_after l)) whole here)
+finds_last may_find exchanges before (z ∷ less) after x y all here front last =
+    let same : y ≡ z = cc in
+    subst (λ (w : Exchange). FindsIn may_find w (session_after before)) (sym same) (all before less z front)
+
+finds_more : (may_find : Text → FileText → Type 0) (exchanges : List Exchange) (x : Exchange)
+    → FindsFiles may_find exchanges → FindsIn may_find x (session_after exchanges)
+    → FindsFiles may_find (exchanges ++ x ∷ [])
+finds_more may_find exchanges x all here before after y e =
+    elim (split_last exchanges before (y ∷ after) x e) [
+      | inl none ↦ absurd cc
+      | inr some ↦ finds_last may_find exchanges before some.0 after x y all here some.1 some.2
+    ]
+
+answered_more : (may_find : Text → FileText → Type 0) (start now : Ports) (d e : DebuggerState)
+    (given : Option (List Incoming)) (h : HasConversed may_find start now d) (x : Exchange)
+    → Gave now.given given (incoming_of x ∷ []) → FindsIn may_find x (session_after h.exchanges)
+    → Past e (inputs_of h.exchanges ++ inputs_in x) (bytes_for h.exchanges)
+    → HasAnswered may_find start (ports given now.outlet) e
+answered_more may_find start now d e given h x gave found past = record {
+  exchanges = h.exchanges;
+  x = x;
+  came = subst (λ l. Gave start.given given l) (sym (map-append incoming_of h.exchanges (x ∷ [])))
+      (gave_on start.given now.given given (map incoming_of h.exchanges) (incoming_of x ∷ []) h.came gave);
+  found = finds_more may_find h.exchanges x h.found found;
+  past = subst (λ l. Past e l (bytes_for h.exchanges)) (sym (inputs_more h.exchanges x)) past;
+  took = h.took;
+  goes_on = h.goes_on;
+}
+
+-- the request in a body is answered
+pub answered_body : (may_find : Text → FileText → Type 0) (start now : Ports) (d m e : DebuggerState)
+    (given : Option (List Incoming)) (came : Incoming) (body shown : Bytes)
+    (h : HasConversed may_find start now d) → Gave now.given given (came ∷ []) → came ≡ incoming.Body body
+    → shown ≡ body → Answers may_find shown d m
+    → ((inputs : List Input) (bytes : Bytes) → Past m inputs bytes → Past e (inputs ++ slice ∷ []) bytes)
+    → HasAnswered may_find start (ports given now.outlet) e
+answered_body may_find start now d m e given came body shown h gave came_is shown_is a runs =
+    let before = inputs_of h.exchanges in
+    let each = a.each before (bytes_for h.exchanges) h.past in
+    let asked = request (request_of shown) each.0 ∷ [] in
+    let gave' : Gave now.given given (incoming.Body shown ∷ []) =
+    subst (λ i. Gave now.given given (i ∷ [])) (came_is ∙ ap (λ b. incoming.Body b) (sym shown_is)) gave in
+    answered_more may_find start now d e given h (answered shown each.0) gave' each.1
+    (subst (λ l. Past e l (bytes_for h.exchanges)) (append_assoc before asked (slice ∷ []))
+    (runs (before ++ asked) (bytes_for h.exchanges) each.2))
+
+-- no body came
+pub answered_nothing : (may_find : Text → FileText → Type 0) (start now : Ports) (d e : DebuggerState)
+    (given : Option (List Incoming)) (came : Incoming) (h : HasConversed may_find start now d)
+    → Gave now.given given (came ∷ []) → came ≡ incoming.Nothing
+    → ((inputs : List Input) (bytes : Bytes) → Past d inputs bytes → Past e (inputs ++ slice ∷ []) bytes)
+    → HasAnswered may_find start (ports given now.outlet) e
+answered_nothing may_find start now d e given came h gave came_is runs =
+    answered_more may_find start now d e given h idle (subst (λ i. Gave now.given given
+    (i ∷ [])) came_is gave) tt
+    (runs (inputs_of h.exchanges) (bytes_for h.exchanges) h.past)
+
+-- ---- how it begins
+
+finds_none : (may_find : Text → FileText → Type 0) → FindsFiles may_find []
+finds_none may_find [] after x e = absurd cc
+finds_none may_find (y ∷ before) after x e = absurd cc
+
+gave_none : (given : Option (List Incoming)) → Gave given given []
+gave_none None = tt
+gave_none (Some given) = ap Some (sym (append-nil given))
+
+took_none : (taken : Option (List ℕ)) → Told taken taken []
+took_none None = tt
+took_none (Some taken) = ap Some (sym (append-nil taken))
+
+-- nothing waits to be sent before the first request
+none_told : (before told : List Message) → [] ≡ before ++ told → told ≡ []
+none_told [] told e = sym e
+none_told (m ∷ before) told e = absurd cc
+
+-- before the first exchange the session hasn't ended
+before_first : (before after : List Exchange) → [] ≡ before ++ after
+    → (session_after before).settings.has_ended ≡ false
+before_first [] after e = refl
+before_first (y ∷ before) after e = absurd cc
+
+pub starts : (may_find : Text → FileText → Type 0) (p : Ports) (d : DebuggerState) → Past d [] []
+    → HasConversed may_find p p d
+starts may_find p d past = record {
+  exchanges = [];
+  came = gave_none p.given;
+  found = finds_none may_find;
+  past = past;
+  sent = none_told past.before d.told past.messages;
+  took = took_none p.outlet.taken;
+  goes_on = λ before after e. before_first before after e;
+}
+
+pub ends_at_once : (may_find : Text → FileText → Type 0) (p : Ports) → Converses may_find p p end.OutOfMemory
+ends_at_once may_find p = record {
+  exchanges = [];
+  last = [];
+  came = gave_none p.given;
+  found = finds_none may_find;
+  ends = (omega arith, took_none p.outlet.taken);
+  goes_on = λ before after e some. before_first before after e;
+}
+
+-- ---- how it ends
+
+pub ends_with : (may_find : Text → FileText → Type 0) (start now : Ports) (d : DebuggerState)
+    (given : Option (List Incoming)) (how : StreamEnd) → HasConversed may_find start now d
+    → Gave now.given given (incoming.End how ∷ [])
+    → Converses may_find start (ports given now.outlet) (end.Stream how)
+ends_with may_find start now d given how h gave = record {
+  exchanges = h.exchanges;
+  last = incoming.End how ∷ [];
+  came = gave_on start.given now.given given (map incoming_of h.exchanges)
+      (incoming.End how ∷ []) h.came gave;
+  found = h.found;
+  ends = (refl, h.took);
+  goes_on = λ before after e some. h.goes_on before after e;
+}
+
+pub ends_without_memory : (may_find : Text → FileText → Type 0) (start now : Ports) (d : DebuggerState)
+    (given : Option (List Incoming)) (i : Incoming) → HasConversed may_find start now d
+    → Gave now.given given (i ∷ []) → Converses may_find start (ports given now.outlet) end.OutOfMemory
+ends_without_memory may_find start now d given i h gave = record {
+  exchanges = h.exchanges;
+  last = i ∷ [];
+  came = gave_on start.given now.given given (map incoming_of h.exchanges) (i ∷ []) h.came gave;
+  found = h.found;
+  ends = (omega arith, h.took);
+  goes_on = λ before after e some. h.goes_on before after e;
+}
+
+-- ---- the messages of an exchange
+
+abbrev all_of : {may_find : Text → FileText → Type 0} {start now : Ports} {d : DebuggerState}
+    → HasAnswered may_find start now d → List Exchange
+all_of h = h.exchanges ++ h.x ∷ []
+
+-- the exchanges before the last don't end the conversation
+before_last : (may_find : Text → FileText → Type 0) (start now : Ports) (d : DebuggerState)
+    (h : HasAnswered may_find start now d) (before after : List Exchange) → all_of h ≡ before ++ after
+    → (after ≢ [] → (session_after before).settings.has_ended ≡ false)
+before_last may_find start now d h before after e some =
+    elim (split_last h.exchanges before after h.x e) [
+      | inl none ↦ absurd (some none)
+      | inr less ↦ h.goes_on before less.0 less.1
+    ]
+
+pub goes_on_with : (may_find : Text → FileText → Type 0) (start now : Ports) (d e : DebuggerState)
+    (outlet : OutletState) (has_ended : Bool) (h : HasAnswered may_find start now d)
+    → Writes d e now.outlet outlet
+    → ((s : SessionState) → RepresentsSession e.session s → has_ended ≡ s.settings.has_ended)
+    → has_ended ≡ false → HasConversed may_find start (ports now.given outlet) e
+goes_on_with may_find start now d e outlet has_ended h w told live =
+    let all = all_of h in
+    let each = w.each (inputs_of all) (bytes_for h.exchanges) h.past in
+    let whole = past_whole e (inputs_of all) (bytes_for h.exchanges ++ each.0) each.1 w.sent in
+    let goes_on = sym (told (session_after all) each.1.session) ∙ live in
+    record {
+      exchanges = all;
+      came = h.came;
+      found = h.found;
+      past = subst (λ b. Past e (inputs_of all) b) whole each.1;
+      sent = w.sent;
+      took = subst (λ b. Told start.outlet.taken outlet.taken b) whole
+          (told_on start.outlet.taken now.outlet.taken outlet.taken (bytes_for h.exchanges) each.0 h.took
+          each.2);
+      goes_on = λ before after is. elim (split_last h.exchanges before after h.x is) [
+        | inl none ↦ subst (λ (l : List Exchange). (session_after l).settings.has_ended ≡ false)
+            (is ∙ (ap (λ l. before ++ l) none ∙ append-nil before)) goes_on
+        | inr less ↦ h.goes_on before less.0 less.1
+      ];
+    }
+
+pub disconnects : (may_find : Text → FileText → Type 0) (start now : Ports) (d e : DebuggerState)
+    (outlet : OutletState) (has_ended : Bool) (h : HasAnswered may_find start now d)
+    → Writes d e now.outlet outlet
+    → ((s : SessionState) → RepresentsSession e.session s → has_ended ≡ s.settings.has_ended)
+    → has_ended ≡ true → Converses may_find start (ports now.given outlet) end.Disconnected
+disconnects may_find start now d e outlet has_ended h w told over =
+    let all = all_of h in
+    let each = w.each (inputs_of all) (bytes_for h.exchanges) h.past in
+    let whole = past_whole e (inputs_of all) (bytes_for h.exchanges ++ each.0) each.1 w.sent in
+    let took = subst (λ b. Told start.outlet.taken outlet.taken b) whole
+    (told_on start.outlet.taken now.outlet.taken outlet.taken (bytes_for h.exchanges) each.0 h.took each.2) in
+    record {
+      exchanges = all;
+      last = [];
+      came = subst (λ l. Gave start.given now.given l) (sym (append-nil (map incoming_of all))) h.came;
+      found = h.found;
+      ends = (refl, sym (told (session_after all) each.1.session) ∙ over, took);
+      goes_on = before_last may_find start now d h;
+    }
+
+fails_to_write : (may_find : Text → FileText → Type 0) (start now : Ports) (d e : DebuggerState)
+    (outlet : OutletState) (h : HasAnswered may_find start now d) → outlet.failed ≡ true
+    → WritesPrefix d e now.outlet outlet → Converses may_find start (ports now.given outlet) end.WriteFailed
+fails_to_write may_find start now d e outlet h failed w =
+    let all = all_of h in
+    let each = w.each (inputs_of all) (bytes_for h.exchanges) h.past in
+    let whole = past_whole e (inputs_of all) (bytes_for h.exchanges ++ each.0) each.1 w.sent in
+    let took = subst (λ b. ToldPrefix start.outlet.taken outlet.taken b) whole
+    (front_on start.outlet.taken now.outlet.taken outlet.taken
+    (bytes_for h.exchanges) each.0 h.took each.2) in
+    record {
+      exchanges = all;
+      last = [];
+      came = subst (λ l. Gave start.given now.given l) (sym (append-nil (map incoming_of all))) h.came;
+      found = h.found;
+      ends = (refl, failed, took);
+      goes_on = before_last may_find start now d h;
+    }
+
+runs_out_of_memory : (may_find : Text → FileText → Type 0) (start now : Ports) (d : DebuggerState)
+    → HasAnswered may_find start now d → Converses may_find start now end.OutOfMemory
+runs_out_of_memory may_find start now d h = record {
+  exchanges = h.exchanges;
+  last = incoming_of h.x ∷ [];
+  came = subst (λ l. Gave start.given now.given l) (map-append incoming_of h.exchanges (h.x ∷ [])) h.came;
+  found = λ before after y e. h.found before (after ++ h.x ∷ []) y
+      (ap (λ l. l ++ h.x ∷ []) e ∙ append_assoc before (y ∷ after) (h.x ∷ []));
+  ends = (omega arith, h.took);
+  goes_on = λ before after e some. h.goes_on before after e;
+}
+
+pub fails_with : (may_find : Text → FileText → Type 0) (start now : Ports) (d e : DebuggerState)
+    (outlet : OutletState) (how : ConversationEnd) → HasAnswered may_find start now d
+    → FailsToWrite d e now.outlet outlet how → Converses may_find start (ports now.given outlet) how
+fails_with may_find start now d e outlet end.OutOfMemory h f =
+    subst (λ (o : OutletState). Converses may_find start (ports now.given o) end.OutOfMemory) (sym f)
+    (runs_out_of_memory may_find start now d h)
+fails_with may_find start now d e outlet end.WriteFailed h f =
+    fails_to_write may_find start now d e outlet h f.0 f.1
+fails_with may_find start now d e outlet _ h f = absurd f

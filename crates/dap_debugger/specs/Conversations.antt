@@ -1,0 +1,148 @@
+-- A conversation with an editor: what came from it, what was found for it, and what went out to it.
+use Rattle.std.specs.Prelude.{◌≡◌, ◌≢◌, ◌≤◌, List, [], ◌∷◌, ◌++◌, length, true, false, Option, Some}
+use Rattle.std.specs.Prelude.{None, map}
+use Rattle.std.specs.List.{flat_map}
+use Rattle.base_text.specs.Bytes.{Bytes, Text}
+use Rattle.base_streams.specs.States.{OutletState}
+use Rattle.base_streams.specs.Told.{Took, TookPrefix}
+use Rattle.dap_launch.specs.declared.file.FileText.{FileText}
+use Rattle.dap_session.specs.States.{SessionState, session_before_requests}
+use Rattle.dap_session.specs.Requests.{wanted_file}
+use Rattle.dap_session.specs.Slices.{Input, request, slice, play_all}
+use Rattle.dap_debugger.specs.declared.incoming.Incoming.{Incoming}
+use Rattle.dap_debugger.specs.declared.incoming.Incoming.TheVariants as incoming
+use Rattle.dap_debugger.specs.declared.conversation.ConversationEnd.{ConversationEnd}
+use Rattle.dap_debugger.specs.declared.conversation.ConversationEnd.TheVariants as end
+use Rattle.dap_debugger.specs.Requests.{request_of}
+use Rattle.dap_debugger.specs.Sending.{sent_bytes}
+use Rattle.dap_debugger.specs.Given.{Gave}
+use Rattle.dap_debugger.specs.Debuggers.{DebuggerState, Past}
+
+-- ---- exchanges
+
+-- a body that was answered, with what was found at the path that its request needs; or no body came, and the
+-- run went on
+pub data Exchange : Type 0 where
+  answered : Bytes → Option FileText → Exchange
+  idle : Exchange
+
+abbrev pub incoming_of : Exchange → Incoming
+incoming_of (answered body found) = incoming.Body body
+incoming_of idle = incoming.Nothing
+
+-- the request, and a slice of the run, which is nothing if no run goes on
+abbrev pub inputs_in : Exchange → List Input
+inputs_in (answered body found) = request (request_of body) found ∷ slice ∷ []
+inputs_in idle = slice ∷ []
+
+abbrev pub inputs_of : List Exchange → List Input
+inputs_of exchanges = flat_map inputs_in exchanges
+
+-- the session after exchanges
+abbrev pub session_after : List Exchange → SessionState
+session_after exchanges = (play_all (inputs_of exchanges) session_before_requests).state
+
+-- all that is sent in them
+abbrev pub bytes_for : List Exchange → Bytes
+bytes_for exchanges = sent_bytes 0 (play_all (inputs_of exchanges) session_before_requests).messages
+
+-- ---- files
+
+-- what was found is what may be found at the path that is needed, and nothing if none is
+abbrev pub IsFound : (Text → FileText → Type 0) → Option Text → Option FileText → Type 0
+IsFound may_find None found = found ≡ None
+IsFound may_find (Some path) found = (file : FileText) × (found ≡ Some file) × may_find path file
+
+abbrev pub FindsIn : (Text → FileText → Type 0) → Exchange → SessionState → Type 0
+FindsIn may_find (answered body found) s = IsFound may_find (wanted_file (request_of body).asked s) found
+FindsIn may_find idle s = Unit {0}
+
+-- in each exchange, by the session before it
+abbrev pub FindsFiles : (Text → FileText → Type 0) → List Exchange → Type 0
+FindsFiles may_find exchanges = (before after : List Exchange) (x : Exchange)
+    → exchanges ≡ before ++ x ∷ after → FindsIn may_find x (session_after before)
+
+-- ---- a conversation
+
+-- what the source has given, and what the outlet has taken
+pub record Ports : Type 0 where
+  pub given : Option (List Incoming)
+  pub outlet : OutletState
+
+abbrev pub ports : Option (List Incoming) → OutletState → Ports
+ports given outlet = record { given = given; outlet = outlet }
+
+-- What was written, and what came last without an answer, by why the conversation ended. If memory ran out,
+-- the messages of the exchanges were written; what the source gave last, if it gave anything more, is lost.
+abbrev pub EndsBy : ConversationEnd → List Exchange → List Incoming → OutletState → OutletState → Type 0
+EndsBy (end.Stream how) exchanges last old new =
+    (last ≡ incoming.End how ∷ []) × Took old new (bytes_for exchanges)
+EndsBy end.Disconnected exchanges last old new =
+    (last ≡ []) × ((session_after exchanges).settings.has_ended ≡ true) × Took old new (bytes_for exchanges)
+EndsBy end.WriteFailed exchanges last old new =
+    (last ≡ []) × (new.failed ≡ true) × TookPrefix old new (bytes_for exchanges)
+EndsBy end.OutOfMemory exchanges last old new = (length last ≤ 1) × Took old new (bytes_for exchanges)
+
+-- All that the source gave was answered in its order, each body by what the session says of it and of what
+-- may be found. What went out are the messages of these exchanges. None but the last answered a disconnect.
+pub record Converses (may_find : Text → FileText → Type 0) (old new : Ports) (how : ConversationEnd)
+    : Type 0 where
+  pub exchanges : List Exchange
+  pub last : List Incoming
+  pub came : Gave old.given new.given (map incoming_of exchanges ++ last)
+  pub found : FindsFiles may_find exchanges
+  pub ends : EndsBy how exchanges last old.outlet new.outlet
+  pub goes_on : (before after : List Exchange) → exchanges ≡ before ++ after → after ≢ []
+      → (session_after before).settings.has_ended ≡ false
+
+-- the same so far, of a conversation that goes on, whose debugger is this
+pub record HasConversed (may_find : Text → FileText → Type 0) (old new : Ports) (d : DebuggerState)
+    : Type 0 where
+  pub exchanges : List Exchange
+  pub came : Gave old.given new.given (map incoming_of exchanges)
+  pub found : FindsFiles may_find exchanges
+  pub past : Past d (inputs_of exchanges) (bytes_for exchanges)
+  pub sent : d.told ≡ []
+  pub took : Took old.outlet new.outlet (bytes_for exchanges)
+  pub goes_on : (before after : List Exchange) → exchanges ≡ before ++ after
+      → (session_after before).settings.has_ended ≡ false
+
+-- ---- parts of an exchange
+
+-- the request in a body is answered, by what was found at the path that it needs
+pub record Answers (may_find : Text → FileText → Type 0) (body : Bytes) (old new : DebuggerState)
+    : Type 0 where
+  pub each : (inputs : List Input) (bytes : Bytes) → Past old inputs bytes → (found : Option FileText)
+      × IsFound may_find
+      (wanted_file (request_of body).asked (play_all inputs session_before_requests).state) found
+      × Past new (inputs ++ request (request_of body) found ∷ []) bytes
+
+-- what waited is written
+pub record Writes (old new : DebuggerState) (from to : OutletState) : Type 0 where
+  pub sent : new.told ≡ []
+  pub each : (inputs : List Input) (bytes : Bytes) → Past old inputs bytes
+      → (more : Bytes) × Past new inputs (bytes ++ more) × Took from to more
+
+-- a prefix of what waited is written
+pub record WritesPrefix (old new : DebuggerState) (from to : OutletState) : Type 0 where
+  pub sent : new.told ≡ []
+  pub each : (inputs : List Input) (bytes : Bytes) → Past old inputs bytes
+      → (more : Bytes) × Past new inputs (bytes ++ more) × TookPrefix from to more
+
+-- or it isn't: nothing is written if memory runs out, and a prefix if a write fails
+abbrev pub FailsToWrite : DebuggerState → DebuggerState → OutletState → OutletState → ConversationEnd → Type 0
+FailsToWrite old new from to end.OutOfMemory = to ≡ from
+FailsToWrite old new from to end.WriteFailed = (to.failed ≡ true) × WritesPrefix old new from to
+FailsToWrite old new from to _ = ⊥
+
+-- all exchanges but the last were written
+pub record HasAnswered (may_find : Text → FileText → Type 0) (old new : Ports) (d : DebuggerState)
+    : Type 0 where
+  pub exchanges : List Exchange
+  pub x : Exchange
+  pub came : Gave old.given new.given (map incoming_of (exchanges ++ x ∷ []))
+  pub found : FindsFiles may_find (exchanges ++ x ∷ [])
+  pub past : Past d (inputs_of (exchanges ++ x ∷ [])) (bytes_for exchanges)
+  pub took : Took old.outlet new.outlet (bytes_for exchanges)
+  pub goes_on : (before after : List Exchange) → exchanges ≡ before ++ after
+      → (session_after before).settings.has_ended ≡ false
