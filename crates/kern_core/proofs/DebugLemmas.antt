@@ -106,7 +106,8 @@ by_performed (Err fault) n r d unix_seconds s old lab store res letters represen
 pub performed_stands : (n : ℕ) (r : Request) (d : DapRequest) (unix_seconds : ℕ) (s : KernelState)
     (old : KernelFields) (lab : LabState) (store : StoreState) (res : Result Body EventFault)
     (letters : List Letter)
-    → RepresentsKernel old s → is_reset d.command ≡ false → CarriesOut (command_result d.command) old.lab res lab
+    → RepresentsKernel old s → is_reset d.command ≡ false
+    → CarriesOut (command_result d.command) old.lab res lab
     → res ≢ Err OutOfMemory
     → letters ≡ between_busy_and_idle s.connections r.header
     (performed_letters res (after_letter (event_after d.command) r s) n r d)

@@ -53,7 +53,8 @@ pub load_stands : (unix_seconds : ℕ) (s : KernelState) (old new : KernelFields
 load_stands unix_seconds s old new lab x rest c l represents queue current is_loading board loaded work kept =
     let g = cell_given x.request.code s.board in
     let waits : s.work.queue ≡ x ∷ rest = ap (λ (w : Work). w.queue) (sym represents.work) ∙ queue in
-    let it : c ≡ current_of x s.work.count = current ∙ ap (λ (w : Work). current_of x w.count) represents.work in
+    let it : c ≡ current_of x s.work.count = current
+    ∙ ap (λ (w : Work). current_of x w.count) represents.work in
     let B : LabState → Type 0 = λ v. RepresentsBoard v (board_after s.board g) in
     let P : Connections → Type 0 =
     λ w. Keeps (with_posts unix_seconds (loading_letters w c l) s.posts) new.store in

@@ -7,3 +7,5 @@ pub mod Turns
 pub mod Represents
 pub mod Kernels
 pub mod Running
+pub mod Events
+pub mod Laws

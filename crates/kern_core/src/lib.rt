@@ -8,5 +8,6 @@
 pub mod call;
 pub mod fault;
 pub mod kernel;
+pub mod laws;
 mod replies;
 mod state;

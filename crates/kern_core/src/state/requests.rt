@@ -1,13 +1,11 @@
 //! Requests other than debug requests.
-ghost use Rattle.std.specs.Prelude.{◌≡◌, ◌<◌, ◌≤◌, ◌+◌, ◌∷◌, ◌++◌, [], length, IfOk, OnOk, OnErr};
-ghost use Rattle.std.specs.Prelude.{if◌then◌else◌, option_map};
-ghost use Rattle.kern_post.specs.declared.content.Ending.TheVariants.{Failed};
-ghost use Rattle.kern_exec.specs.Letters.{between_busy_and_idle};
+ghost use Rattle.std.specs.Prelude.{◌≡◌, ◌∷◌, ◌++◌, [], IfOk, OnOk, OnErr, if◌then◌else◌, option_map};
+ghost use Rattle.kern_exec.specs.Letters.{between_busy_and_idle, publication};
 ghost use Rattle.kern_exec.specs.Executions.{clear_current};
-ghost use Rattle.kern_exec.specs.Ends.{error_letters};
+ghost use Rattle.kern_exec.specs.Ends.{end_letters};
 ghost use Rattle.kern_exec.specs.Prepared.{IsBusyIdle, prepared_end};
 ghost use Rattle.kern_exec.specs.Boards.{is_run};
-ghost use Rattle.kern_core.specs.Requests.{reply_to, replying, full_letters, executing, cut_of, cut_letters};
+ghost use Rattle.kern_core.specs.Requests.{reply_to, replying, executing, cut_of, cut_letters};
 ghost use Rattle.kern_core.specs.Requests.{interrupting, shutting, typing, closing, passing, ignore_request};
 ghost use Rattle.kern_core.specs.Requests.{other, arriving, with_board, cut_work};
 ghost use Rattle.lab_core.specs.Events.{reset as reset_of};
@@ -21,11 +19,11 @@ use crate::state::KernelState;
 use crate::state::connections::is_iopub;
 use base_text::sequence::Bytes;
 use base_text::text::Text;
-use kern_exec::ends::{PreparedEnd, cut_letters, prepare_end};
+use kern_exec::ends::{PreparedEnd, cut_letters, prepare_end, push_end};
 use kern_exec::execution::Execution;
 use kern_exec::letters::{BusyIdle, busy_idle, publish, reply};
 use kern_exec::runs::{interrupt, reset, type_bytes};
-use kern_post::content::{Cause, Content, Ending};
+use kern_post::content::{Cause, Content, Ending, ExecutionState};
 use kern_post::letters::Letters;
 use kern_post::post::{Letter, copy_bytes};
 use kern_request::request::{ExecuteRequest, NeedyRequest, Request, RequestBody};
@@ -190,82 +188,29 @@ impl KernelState {
         ensures { TakesTurn (executing connection identity request.now execute.now unix_seconds)
             self.old result self.new }
     {
+        let execution = Execution::copy_of(self.alloc, connection, identity, request, execute)?;
         if self.executions.has_place() {
-            let execution = Execution::copy_of(self.alloc, connection, identity, request, execute)?;
             self.executions.push(execution);
             return Ok(Reply::Arrived);
         }
-        let letters = self.queue_full(connection, request, execute.is_silent)?;
+        let letters = self.queue_full(execution)?;
         self.store.push_all(unix_seconds, letters);
         Ok(Reply::Arrived)
     }
 
-    fn queue_full(
-        &self,
-        connection: u32,
-        request: &Request,
-        is_silent: bool,
-    ) -> Result<Letters, AllocError>
-        ensures { IfOk result (λ letters. letters
-            ≡ between_busy_and_idle self.now.connections request.now.header
-            (full_letters connection request.now is_silent self.now.connections self.now.work.count)) }
+    // Busy, and the end of an execution that finds the queue full.
+    fn queue_full(&self, execution: Execution) -> Result<Letters, AllocError>
+        ensures { let connections = self.now.connections in IfOk result (λ letters. letters
+            ≡ publication connections execution.header (Content.Status ExecutionState.Busy)
+            ∷ end_letters connections (record { execution = execution; count = self.now.work.count })
+            (Ending.Failed Cause.QueueFull)) }
     {
-        let BusyIdle { mut letters, idle } = busy_idle(self.alloc, &self.peers, &request.header)?;
-        match self.push_full(&mut letters, connection, request, is_silent) {
-            Ok(()) => {
-                letters.push(idle);
-                Ok(letters)
-            }
-            Err(_) => {
-                drop(idle);
-                Err(AllocError)
-            }
-        }
-    }
-
-    // Adds the error and the reply of an execute_request that finds the queue full.
-    #[tactic(auto, using(std::proofs::Common::append_assoc))]
-    fn push_full(
-        &self,
-        letters: &mut Letters,
-        connection: u32,
-        request: &Request,
-        is_silent: bool,
-    ) -> Result<(), AllocError>
-        requires { length letters.old ≤ 1 }
-        ensures letters { IfOk result (λ _. letters.new ≡ letters.old ++
-            full_letters connection request.now is_silent self.now.connections self.now.work.count) }
-        ensures bound { length letters.new ≤ length letters.old + 2 }
-    {
-        self.push_error(letters, request, is_silent)?;
-        let content = Content::ExecuteReply {
-            count: self.executions.count(),
-            ending: Ending::Failed(Cause::QueueFull),
-        };
-        let reply = self.reply_to(connection, request, content)?;
-        letters.push(reply);
-        Ok(())
-    }
-
-    // Adds the error, unless the request is silent.
-    fn push_error(
-        &self,
-        letters: &mut Letters,
-        request: &Request,
-        is_silent: bool,
-    ) -> Result<(), AllocError>
-        requires { length letters.old < 8 }
-        ensures letters { IfOk result (λ _. letters.new ≡ letters.old ++
-            error_letters is_silent self.now.connections request.now.header (Failed Cause.QueueFull)) }
-        ensures bound { length letters.new ≤ length letters.old + 1 }
-    {
-        if is_silent {
-            return Ok(());
-        }
-        let content = Content::Error(Cause::QueueFull);
-        let error = publish(self.alloc, &self.peers, &request.header, content)?;
-        letters.push(error);
-        Ok(())
+        let mut letters = Letters::new(self.alloc)?;
+        let content = Content::Status(ExecutionState::Busy);
+        letters.push(publish(self.alloc, &self.peers, &execution.header, content)?);
+        let end = prepare_end(self.alloc, &self.peers, &execution, self.executions.count())?;
+        push_end(&mut letters, end, Ending::Failed(Cause::QueueFull));
+        Ok(letters)
     }
 
     fn close_comm(
