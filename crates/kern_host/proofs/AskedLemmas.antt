@@ -126,7 +126,8 @@ module _ (source : Source) (peer : Peer) (old new : Reader) (e : PumpEnd)
         cause = inlet_ends e old new r.after r.reads r.cause;
       }
 
-  pub ends_asking : (place : SeatInHistory) → IsAt new.pass place → AskingEnds place r.received.submitted.added e
+  pub ends_asking : (place : SeatInHistory) → IsAt new.pass place
+      → AskingEnds place r.received.submitted.added e
   ends_asking place a =
       asking_ends e old new r.after r.reads r.received.submitted.added place r.cause
       r.received.submitted.calls a

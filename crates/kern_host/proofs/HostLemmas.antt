@@ -96,7 +96,8 @@ saw_shutdown pass place a (unix_seconds, l) =
       },
     )
 
-working_ends : (e : PumpEnd) (pass : PassState Call) (polls : WorkerPolls) (place : SeatInHistory) → IsAt pass place
+working_ends : (e : PumpEnd) (pass : PassState Call) (polls : WorkerPolls) (place : SeatInHistory)
+    → IsAt pass place
     → WorkEnds pass polls e → WorkingEnds place polls e
 working_ends end.Ended pass polls place a (inl closed) = inl closed
 working_ends end.Ended pass polls place a (inr h) = inr (h.0, saw_shutdown pass place a h.1)

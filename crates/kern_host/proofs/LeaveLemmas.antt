@@ -53,7 +53,8 @@ tried c v w answer left is t =
     subst T (sym is) (left_if c v w answer t)
 
 -- no turn was had
-pub left_without_tickets : (c : ℕ) (v w : PassState Call) → w ≡ record v { out_of_tickets = true } → HasLeft c v w (Err OutOfTickets)
+pub left_without_tickets : (c : ℕ) (v w : PassState Call) → w ≡ record v { out_of_tickets = true }
+    → HasLeft c v w (Err OutOfTickets)
 left_without_tickets c v w same = record {
   onward = ([], append-nil v.seen ∙ ap (λ (x : PassState Call). x.seen) (sym same));
   calls = ap (λ (x : PassState Call). x.calls) same ∙ sym (append-nil v.calls);

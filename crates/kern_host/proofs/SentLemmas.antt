@@ -118,7 +118,8 @@ fetch_stands c next mid pass fault place h t a =
       answered = e.answered;
     }
 
-fetches_all : (c next : ℕ) (pass : PassState Call) (polls : WriterPolls) (place : SeatInHistory) → IsAt pass place
+fetches_all : (c next : ℕ) (pass : PassState Call) (polls : WriterPolls) (place : SeatInHistory)
+    → IsAt pass place
     → EndsAll c next pass polls → FetchesAll place c next polls
 fetches_all c next pass polls place a (ended, all, cause) =
     let l = all.last in

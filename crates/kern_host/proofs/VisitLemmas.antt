@@ -27,7 +27,7 @@ use Rattle.kern_net.specs.Routes.{Source}
 use Rattle.kern_net.specs.Calls.{TurnedBy}
 use Rattle.kern_net.specs.ReadEnds.{Reader}
 use Rattle.kern_net.specs.Reading.{TakesTurns, NoCall, OneMore, ReadOut}
-use Rattle.kern_net.specs.Out.{WroteOut}
+use Rattle.kern_net.specs.Out.{writer_with}
 use Rattle.kern_net.proofs.CallLemmas.{turned_prefix, entry_calls, no_entry_calls}
 use Rattle.kern_host.specs.declared.end.Ends.{Ends}
 use Rattle.kern_host.specs.declared.end.LeaveFault.{LeaveFault}
@@ -37,7 +37,9 @@ use Rattle.kern_host.specs.Guests.{GuestState, Line, line_of}
 use Rattle.kern_host.specs.Leaves.{leaving, HasLeft, KeepsFrom}
 use Rattle.kern_host.specs.OneHistory.{History, IsPartOf, SeatInHistory, IsAnswered}
 use Rattle.kern_host.specs.Visits.{House, seats_of, reading_at, writing_at, role_on, identity_of, Meets}
-use Rattle.kern_host.specs.Visits.{TurnsAway, IsTurnedAway, IsVisit, Visited, VisitedWith}
+use Rattle.kern_host.specs.Visits.{TurnsAway, IsTurnedAway, IsVisit, Visited, VisitedWith, Outgoing}
+use Rattle.kern_host.specs.Visits.{SendsIfAny}
+use Rattle.kern_host.specs.Writes.{WroteIfAny}
 use Rattle.kern_host.specs.declared.end.VisitEnd.{VisitEnd}
 use Rattle.kern_host.specs.Visits.{IsUnjoinedPeer, NoMemory, NotTaken, LeaveEnds, IsServed, Adds, seat_of}
 use Rattle.kern_host.proofs.AskedLemmas.{IsAt, full_there, asks, ends_asking}
@@ -131,9 +133,36 @@ read_onward source peer old new e r =
     prefix_trans old.pass.seen m.mid.seen new.pass.seen
     (granted_onward old.pass m.mid m.granted m.turns) m.onward
 
+-- ---- writing
+
+-- what a writer did, in a history of which its pass is a part
+sends_if_any : (house : House) (before : Passes) (w : PassState Call) (out : Outgoing) (new : Line)
+    (history : History) (e : Option PumpEnd)
+    → WroteIfAny out.target out.from (writer_with out.outlet before.writing out.polls)
+    (writer_with new.outlet w new.polls) e
+    → w.seat ≡ before.writing.seat → IsPartOf w history
+    → IsAt w (writing_at (seats_of house before) history)
+    → SendsIfAny (seats_of house before) out new history e
+sends_if_any house before w out new history (Some e) d s q a =
+    let f = only_fetches out.target out.from _ _ e d in
+    record {
+      next = d.next;
+      onward = d.onward;
+      sends = sends out.target out.from _ _ e d history q.seen;
+      fetched = f.added;
+      fetches = (ap (λ (i : ℕ). calls_of i history) (sym s) ∙ q.own ∙ f.calls, f.fetches);
+      cause = ends_sending out.target out.from _ _ e d (writing_at (seats_of house before) history) a;
+    }
+sends_if_any house before w out new history None d s q a = record {
+  outlet = d.outlet;
+  silent = silent before.writing w history d.pass q;
+  gate = d.gate;
+}
+
 -- ---- the Leave
 
-leave_ends : (left : Result (Unit {0}) LeaveFault) (pass : PassState Call) (place : SeatInHistory) → IsAt pass place
+leave_ends : (left : Result (Unit {0}) LeaveFault) (pass : PassState Call) (place : SeatInHistory)
+    → IsAt pass place
     → KeepsFrom left pass → LeaveEnds place left
 leave_ends (Ok _) pass place a k = tt
 leave_ends (Err leave.JournalFull) pass place a k = full_there pass place a k
@@ -156,9 +185,9 @@ pub record Talked (house : House) (old new : Line) (before after : Passes) (ends
       joined
   pub reads : ReadOut (record { connection = connection; channel = old.channel; key = house.key }) peer
       (record { inlet = inlet; pass = joined }) (record { inlet = new.inlet; pass = read }) ends.reading
-  pub writes : WroteOut (record { connection = connection; key = house.key; session = house.session }) from
-      (record { outlet = outlet; pass = before.writing; polls = old.polls })
-      (record { outlet = new.outlet; pass = after.writing; polls = new.polls }) ends.writing
+  pub writes : WroteIfAny (record { connection = connection; key = house.key; session = house.session }) from
+      (writer_with outlet before.writing old.polls) (writer_with new.outlet after.writing new.polls)
+      ends.writing
   pub leaves : HasLeft connection read after.reading ends.leave
   pub seats : (read.seat ≡ before.reading.seat) × (after.reading.seat ≡ before.reading.seat)
       × (after.writing.seat ≡ before.writing.seat)
@@ -206,7 +235,12 @@ module _ (house : House) (old new : Line) (before after : Passes) (ends : Ends)
       let onward = prefix_trans k.joined.seen k.read.seen history
       (read_onward _ k.peer _ _ ends.reading k.reads)
       read_at.seen in
-      let f = only_fetches _ k.from _ _ ends.writing k.writes in
+      let out : Outgoing = record {
+        target = record { connection = k.connection; key = house.key; session = house.session };
+        from = k.from;
+        outlet = k.outlet;
+        polls = old.polls;
+      } in
       record {
         peer = k.peer;
         inlet = k.inlet;
@@ -225,15 +259,11 @@ module _ (house : House) (old new : Line) (before after : Passes) (ends : Ends)
             (leaving k.connection ends.leave) (entry_calls before.reading k.joined join answer k.joins refl)
             k.reads.received.submitted.calls k.leaves.calls;
         asks = asks _ k.peer _ _ ends.reading k.reads;
-        next = k.writes.next;
-        onward = k.writes.onward;
-        sends = sends _ k.from _ _ ends.writing k.writes history q.seen;
-        fetched = f.added;
-        fetches = (ap (λ (i : ℕ). calls_of i history) (sym k.seats.2) ∙ q.own ∙ f.calls, f.fetches);
         asking_ends = ends_asking _ k.peer _ _ ends.reading k.reads (reading_at
             (seats_of house before) history) read_at;
-        sending_ends = ends_sending _ k.from _ _ ends.writing k.writes (writing_at
-            (seats_of house before) history) written_at;
+        sent =
+            sends_if_any house before after.writing out new history ends.writing k.writes k.seats.2 q
+            written_at;
         leave_ends = leave_ends ends.leave after.reading (reading_at
             (seats_of house before) history) left_at k.leaves.cause;
       }

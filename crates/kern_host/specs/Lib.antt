@@ -3,3 +3,4 @@ pub mod Hosting
 pub mod Leaves
 pub mod OneHistory
 pub mod Visits
+pub mod Writes

@@ -1,5 +1,6 @@
 -- How a connection was served, in the one history of all calls.
-use Rattle.std.specs.Prelude.{◌≡◌, ◌≤◌, ℕ, List, [], ◌∷◌, ◌++◌, All, Option, Some, None, Result, Ok, Err}
+use Rattle.std.specs.Prelude.{◌≡◌, ◌≤◌, ℕ, false, List, [], ◌∷◌, ◌++◌, All, Option, Some, None}
+use Rattle.std.specs.Prelude.{Result, Ok, Err}
 use Rattle.base_streams.specs.States.{InletState, OutletState}
 use Rattle.zmtp_wire.specs.Wire.{Bytes}
 use Rattle.zmtp_wire.specs.declared.role.Role.{Role}
@@ -19,6 +20,9 @@ use Rattle.kern_core.specs.declared.call.Reply.TheVariants.{Joined}
 use Rattle.kern_core.specs.declared.fault.KernelFault.{KernelFault}
 use Rattle.kern_core.specs.declared.fault.KernelFault.TheVariants as fault
 use Rattle.kern_desk.specs.Joins.{IsUnjoined}
+use Rattle.kern_net.specs.declared.end.PumpEnd.{PumpEnd}
+use Rattle.kern_net.specs.Gates.{WriterPolls}
+use Rattle.kern_net.specs.Routes.{Target}
 use Rattle.kern_net.specs.Streams.{posts_in, window}
 use Rattle.kern_host.specs.declared.end.Ends.{Ends}
 use Rattle.kern_host.specs.declared.end.LeaveFault.{LeaveFault}
@@ -27,10 +31,12 @@ use Rattle.kern_host.specs.declared.end.VisitEnd.{VisitEnd}
 use Rattle.kern_host.specs.declared.end.VisitEnd.TheVariants.{NoHandshake, NoJoin, Served}
 use Rattle.kern_host.specs.declared.guest.Passes.{Passes}
 use Rattle.kern_host.specs.declared.server.Seal.{Seal}
-use Rattle.kern_host.specs.Guests.{GuestState, Line, line_of}
+use Rattle.kern_host.specs.Guests.{GuestState, IsComing, Line, line_of}
 use Rattle.kern_host.specs.Leaves.{leaving}
-use Rattle.kern_host.specs.OneHistory.{History, SeatInHistory, IsAnswered, IsFull, IsPartOf, Asks, AskingEnds, Sends}
+use Rattle.kern_host.specs.OneHistory.{History, SeatInHistory, IsAnswered, IsFull, IsPartOf, Asks}
+use Rattle.kern_host.specs.OneHistory.{AskingEnds, Sends}
 use Rattle.kern_host.specs.OneHistory.{SendingEnds, IsFetchOf}
+use Rattle.kern_host.specs.Writes.{when_decided}
 
 -- what is the same for all connections: the key and the session of the messages, and the most calls that the
 -- journal takes
@@ -132,9 +138,39 @@ abbrev pub LeaveEnds : SeatInHistory → Result (Unit {0}) LeaveFault → Type 0
 LeaveEnds place (Err leave.JournalFull) = IsFull place
 LeaveEnds place _ = Unit {0}
 
+-- what is to be sent to a connection that has joined: to whom, from which post on, and the writer and what
+-- its gate was polled before that
+pub record Outgoing : Type 0 where
+  pub target : Target
+  pub from : ℕ
+  pub outlet : OutletState
+  pub polls : WriterPolls
+
+-- What was sent to this end are the posts to the connection, from its Join on and below the number `next`,
+-- and the second seat only fetched them.
+pub record IsSent (s : Seats) (out : Outgoing) (new : Line) (history : History) (e : PumpEnd) : Type 0 where
+  pub next : ℕ
+  pub onward : out.from ≤ next
+  pub sends : Sends out.target out.outlet new.outlet
+      (window out.target.connection out.from next (posts_in history)) e
+  pub fetched : List Call
+  pub fetches : Adds s.writing history fetched × All (IsFetchOf out.target.connection) fetched
+  pub cause : SendingEnds (writing_at s history) out.target.connection next new.polls e
+
+-- nothing was fetched and nothing was sent
+pub record IsUnsent (s : Seats) (out : Outgoing) (new : Line) (history : History) : Type 0 where
+  pub outlet : new.outlet ≡ out.outlet
+  pub silent : Adds s.writing history []
+  pub gate : new.polls ≡ when_decided false out.polls
+
+-- the posts were sent to this end; or none was, as was decided before the first Fetch
+abbrev pub SendsIfAny : Seats → Outgoing → Line → History → Option PumpEnd → Type 0
+SendsIfAny s out new history (Some e) = IsSent s out new history e
+SendsIfAny s out new history None = IsUnsent s out new history
+
 -- A peer came and joined. The calls of its first seat are its Join, one for each message of its bytes that
--- asks for something, and its Leave. What it was sent after the handshake are the posts to it, from its Join
--- on and below the number `next`, and its second seat only fetched them.
+-- asks for something, and its Leave. What it was sent after the handshake are the posts to it from its Join
+-- on.
 pub record IsServed (s : Seats) (old new : Line) (history : History) (ends : Ends) : Type 0 where
   pub peer : Peer
   pub inlet : InletState
@@ -149,14 +185,13 @@ pub record IsServed (s : Seats) (old new : Line) (history : History) (ends : End
       (asked ++ leaving connection ends.leave))
   pub asks : Asks (record { connection = connection; channel = old.channel; key = s.house.key })
       peer inlet new.inlet asked ends.reading
-  pub next : ℕ
-  pub onward : from ≤ next
-  pub sends : Sends (record { connection = connection; key = s.house.key; session = s.house.session })
-      outlet new.outlet (window connection from next (posts_in history)) ends.writing
-  pub fetched : List Call
-  pub fetches : Adds s.writing history fetched × All (IsFetchOf connection) fetched
   pub asking_ends : AskingEnds (reading_at s history) asked ends.reading
-  pub sending_ends : SendingEnds (writing_at s history) connection next new.polls ends.writing
+  pub sent : SendsIfAny s (record {
+    target = record { connection = connection; key = s.house.key; session = s.house.session };
+    from = from;
+    outlet = outlet;
+    polls = old.polls;
+  }) new history ends.writing
   pub leave_ends : LeaveEnds (reading_at s history) ends.leave
 
 abbrev pub IsVisit : Seats → Line → Line → History → VisitEnd → Type 0
@@ -186,3 +221,20 @@ VisitedWith house old new _ _ = ⊥
 -- the guest was visited
 abbrev pub Visited : House → GuestState → GuestState → Type 0
 Visited house old new = VisitedWith house old new old.passes new.passes
+
+-- ---- one visit after the other
+
+-- A thread visited a connection of this channel with its two passes, which are these before and after.
+pub record VisitsOne (house : House) (channel : Channel) (before after : Passes) : Type 0 where
+  pub old : GuestState
+  pub new : GuestState
+  pub coming : IsComing old
+  pub on : old.channel ≡ channel
+  pub passes : (old.passes ≡ Some before) × (new.passes ≡ Some after)
+  pub visited : Visited house old new
+
+-- A thread visited connections of this channel, one after the other, and made no other calls.
+pub data VisitsEach (house : House) (channel : Channel) (before : Passes) : Passes → Type 0 where
+  NoVisit : VisitsEach house channel before before
+  OneVisit : (mid after : Passes) → VisitsEach house channel before mid → VisitsOne house channel mid after
+      → VisitsEach house channel before after

@@ -17,7 +17,8 @@ pub enum LeaveFault {
 #[derive(Clone, Copy, PartialEq, Eq)]
 pub struct Ends {
     pub reading: PumpEnd,
-    pub writing: PumpEnd,
+    /// None if nothing was to be written.
+    pub writing: Option<PumpEnd>,
     pub leave: Result<(), LeaveFault>,
 }
 

@@ -10,6 +10,7 @@ ghost use Rattle.kern_host.specs.Visits.{house_of, Visited};
 ghost use Rattle.kern_host.specs.Hosting.{AtEach, IsChangedBy, CanHost, HostsAll, host_with};
 
 use crate::guest::Guest;
+use crate::hooks::NoHooks;
 use crate::seating::{seat_all, take_all, take_last};
 use crate::server::{Seal, Server};
 use crate::visiting::visit;
@@ -102,7 +103,7 @@ fn run_all<
             requires { IsSeated server.now.desk.now guest.now }
             ensures { Visited (house_of server.entry.now.seal server.entry.now.desk.now.limit) guest.entry.now
                 guest.exit.now }
-        { visit(rt, alloc, server, guest) },
+        { visit(rt, alloc, server, &NoHooks, guest) },
         guests,
     )
 }

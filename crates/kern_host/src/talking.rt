@@ -3,10 +3,12 @@ ghost use Rattle.std.specs.Prelude.{◌≡◌, IsSome, IfSome};
 ghost use Rattle.base_streams.specs.States.{IsReadable};
 ghost use Rattle.kern_net.specs.Reading.{ReadOut};
 ghost use Rattle.kern_host.specs.Guests.{IsComing};
-ghost use Rattle.kern_net.specs.Out.{WroteOut, CanWrite, PumpsOut, writer_with};
+ghost use Rattle.kern_host.specs.Writes.{WroteIfAny};
+ghost use Rattle.kern_net.specs.Out.{CanWrite, writer_with};
 ghost use Rattle.kern_net.specs.Routes.{source_of, target_of};
 
 use crate::guest::{Guest, Passes};
+use crate::hooks::Hooks;
 use base_streams::ports::{Inlet, Outlet};
 use kern_desk::seated::Pass;
 use kern_net::end::PumpEnd;
@@ -21,35 +23,63 @@ use std::thread;
 use std::thread::Threads;
 use zmtp_wire::handshake::Peer;
 
-/// The two routes of a connection, and the number of the first post that may be for it.
-#[derive(Clone, Copy)]
-pub(crate) struct Routes<'a> {
+/// The two routes of a connection, the number of the first post that may be for it, and its hooks.
+#[derive(Drop)]
+pub(crate) struct Routes<'a, K> {
     pub(crate) incoming: IncomingRoute<'a>,
     pub(crate) outgoing: OutgoingRoute<'a>,
     pub(crate) from: u64,
+    pub(crate) hooks: &'a K,
 }
 
 // Reads from the peer to its end.
-fn read_on<R: Wait, I: Inlet, G: ReaderGate>(
+fn read_on<R: Wait, I: Inlet, G: ReaderGate, H: WriterGate, K: Hooks<G, H>>(
     runtime: &Runtime<'_, R>,
     pass: &mut Pass,
     gate: &mut G,
     from: &mut I,
     peer: &mut Option<Peer>,
-    route: &IncomingRoute<'_>,
+    routes: &Routes<'_, K>,
 ) -> PumpEnd
-    requires own { pass.old.turnstile ≡ route.now.desk.now }
+    requires own { pass.old.turnstile ≡ routes.now.incoming.desk.now }
     requires readable { IsReadable (I.state from.old) }
     requires some { IsSome peer.old }
-    ensures same { (pass.new.turnstile ≡ route.now.desk.now) × (pass.new.seat ≡ pass.old.seat) }
-    ensures read { IfSome peer.old (λ p. ReadOut (source_of route.now) p
+    ensures same { (pass.new.turnstile ≡ routes.now.incoming.desk.now) × (pass.new.seat ≡ pass.old.seat) }
+    ensures read { IfSome peer.old (λ p. ReadOut (source_of routes.now.incoming) p
         (record { inlet = I.state from.old; pass = pass.old })
         (record { inlet = I.state from.new; pass = pass.new }) result) }
 {
     let Some(peer) = peer.take() else {
         unreachable!()
     };
-    pump_in(runtime, pass, gate, from, peer, route)
+    routes.hooks.before_reading(runtime.rt, gate);
+    let end = pump_in(runtime, pass, gate, from, peer, &routes.incoming);
+    routes.hooks.after_reading(runtime.rt, gate, end);
+    end
+}
+
+// Writes to the peer to its end, unless the hooks keep the posts back.
+fn write_on<R: Wait, W: Outlet, G: ReaderGate, H: WriterGate, K: Hooks<G, H>>(
+    runtime: &Runtime<'_, R>,
+    pass: &mut Pass,
+    gate: &mut H,
+    to: &mut W,
+    routes: &Routes<'_, K>,
+) -> Option<PumpEnd>
+    requires { CanWrite routes.now.outgoing.desk.now
+        (writer_with (W.state to.old) pass.old (H.polls gate.old)) }
+    ensures same { (pass.new.turnstile ≡ routes.now.outgoing.desk.now) × (pass.new.seat ≡ pass.old.seat) }
+    ensures wrote { WroteIfAny (target_of routes.now.outgoing) routes.now.from
+        (writer_with (W.state to.old) pass.old (H.polls gate.old))
+        (writer_with (W.state to.new) pass.new (H.polls gate.new)) result }
+{
+    if !routes.hooks.before_writing(runtime.rt, gate, routes.from) {
+        routes.hooks.after_writing(runtime.rt, gate);
+        return None;
+    }
+    let end = pump_out(runtime, pass, gate, to, &routes.outgoing, routes.from);
+    routes.hooks.after_writing(runtime.rt, gate);
+    Some(end)
 }
 
 /// Reads and writes, each in a thread of its own, until both have ended.
@@ -59,14 +89,15 @@ pub(crate) fn talk<
     W: Outlet + Drop + Send,
     G: ReaderGate + Drop + Send,
     H: WriterGate + Drop + Send,
+    K: Hooks<G, H> + Sync,
 >(
     rt: &R,
     alloc: Global,
-    routes: &Routes<'_>,
+    routes: &Routes<'_, K>,
     peer: Peer,
     guest: &mut Guest<I, W, G, H>,
     passes: &mut Passes,
-) -> (PumpEnd, PumpEnd)
+) -> (PumpEnd, Option<PumpEnd>)
     requires reading { passes.old.reading.turnstile ≡ routes.now.incoming.desk.now }
     requires writing { passes.old.writing.turnstile ≡ routes.now.outgoing.desk.now }
     requires coming { IsComing guest.old }
@@ -78,15 +109,13 @@ pub(crate) fn talk<
     ensures read { ReadOut (source_of routes.now.incoming) peer
         (record { inlet = guest.old.inlet; pass = passes.old.reading })
         (record { inlet = guest.new.inlet; pass = passes.new.reading }) result.0 }
-    ensures wrote { WroteOut (target_of routes.now.outgoing) routes.now.from
+    ensures wrote { WroteIfAny (target_of routes.now.outgoing) routes.now.from
         (writer_with guest.old.outlet passes.old.writing guest.old.writer)
         (writer_with guest.new.outlet passes.new.writing guest.new.writer) result.1 }
 {
     // The reader's thread takes the peer out of here.
     let mut held = Some(peer);
     let peer = &mut held;
-    let (incoming, outgoing) = (&routes.incoming, &routes.outgoing);
-    let first = routes.from;
     let reading = &mut passes.reading;
     let writing = &mut passes.writing;
     let reader = &mut guest.reader;
@@ -96,29 +125,25 @@ pub(crate) fn talk<
     thread::join_mut(
         rt,
         &mut || -> PumpEnd
-            requires { (reading.now.turnstile ≡ incoming.now.desk.now) × IsReadable (I.state from.now)
+            requires { (reading.now.turnstile ≡ routes.now.incoming.desk.now) × IsReadable (I.state from.now)
                 × IsSome peer.now }
-            ensures same { (reading.exit.now.turnstile ≡ incoming.entry.now.desk.now)
+            ensures same { (reading.exit.now.turnstile ≡ routes.entry.now.incoming.desk.now)
                 × (reading.exit.now.seat ≡ reading.entry.now.seat) }
-            ensures read { IfSome peer.entry.now (λ p. ReadOut (source_of incoming.entry.now) p
+            ensures read { IfSome peer.entry.now (λ p. ReadOut (source_of routes.entry.now.incoming) p
                 (record { inlet = I.state from.entry.now; pass = reading.entry.now })
                 (record { inlet = I.state from.exit.now; pass = reading.exit.now }) result) }
         {
-            read_on(
-                &Runtime { rt, alloc },
-                reading,
-                reader,
-                from,
-                peer,
-                incoming,
-            )
+            let runtime = Runtime { rt, alloc };
+            read_on::<R, I, G, H, K>(&runtime, reading, reader, from, peer, routes)
         },
-        &mut || -> PumpEnd
-            requires { CanWrite outgoing.now.desk.now
+        &mut || -> Option<PumpEnd>
+            requires { CanWrite routes.now.outgoing.desk.now
                 (writer_with (W.state to.now) writing.now (H.polls writer.now)) }
-            ensures { PumpsOut outgoing.entry.now first
+            ensures same { (writing.exit.now.turnstile ≡ routes.entry.now.outgoing.desk.now)
+                × (writing.exit.now.seat ≡ writing.entry.now.seat) }
+            ensures wrote { WroteIfAny (target_of routes.entry.now.outgoing) routes.entry.now.from
                 (writer_with (W.state to.entry.now) writing.entry.now (H.polls writer.entry.now))
                 (writer_with (W.state to.exit.now) writing.exit.now (H.polls writer.exit.now)) result }
-        { pump_out(&Runtime { rt, alloc }, writing, writer, to, outgoing, first) },
+        { write_on::<R, W, G, H, K>(&Runtime { rt, alloc }, writing, writer, to, routes) },
     )
 }

@@ -12,6 +12,7 @@ ghost use Rattle.kern_host.specs.Visits.{IsVisit, Visited};
 
 use crate::end::{Ends, VisitEnd};
 use crate::guest::{Guest, Passes};
+use crate::hooks::Hooks;
 use crate::leaving::leave;
 use crate::server::Server;
 use crate::talking::{Routes, talk};
@@ -73,7 +74,12 @@ fn join_peer<R: Wait>(
 }
 
 // The routes of a connection that has joined on a channel.
-fn routes_of<'a>(server: &Server<'a>, channel: Channel, joined: Joined) -> Routes<'a>
+fn routes_of<'a, K>(
+    server: &Server<'a>,
+    hooks: &'a K,
+    channel: Channel,
+    joined: Joined,
+) -> Routes<'a, K>
     ensures desks { (result.incoming.desk.now ≡ server.now.desk.now)
         × (result.outgoing.desk.now ≡ server.now.desk.now) }
     ensures incoming { source_of result.incoming ≡ record {
@@ -102,6 +108,7 @@ fn routes_of<'a>(server: &Server<'a>, channel: Channel, joined: Joined) -> Route
             session: server.seal.session,
         },
         from: joined.from,
+        hooks,
     }
 }
 
@@ -112,10 +119,12 @@ fn visit_with<
     W: Outlet + Drop + Send,
     G: ReaderGate + Drop + Send,
     H: WriterGate + Drop + Send,
+    K: Hooks<G, H> + Sync,
 >(
     rt: &R,
     alloc: Global,
     server: &Server<'_>,
+    hooks: &K,
     guest: &mut Guest<I, W, G, H>,
     passes: &mut Passes,
 ) -> VisitEnd
@@ -136,6 +145,7 @@ fn visit_with<
         Ok(peer) => peer,
         Err(fault) => return VisitEnd::NoHandshake(fault),
     };
+    hooks.before_join(rt);
     let joined = match join_peer(rt, alloc, server.desk, &mut passes.reading, channel, &peer) {
         Ok(joined) => joined,
         Err(fault) => {
@@ -143,8 +153,9 @@ fn visit_with<
             return VisitEnd::NoJoin(fault);
         }
     };
-    let routes = routes_of(server, channel, joined);
+    let routes = routes_of(server, hooks, channel, joined);
     let (reading, writing) = talk(rt, alloc, &routes, peer, guest, passes);
+    hooks.before_leave(rt);
     let leave = leave(rt, server.desk, &mut passes.reading, joined.connection);
     VisitEnd::Served(Ends {
         reading,
@@ -156,20 +167,21 @@ fn visit_with<
 /// Serves a connection with its passes: makes the handshake, joins, reads and writes at the same time until
 /// both have ended, and leaves. In each history of which its passes are a part, the connection was served.
 ///
-/// It may wait, or never return, as the reader and the gates do.
+/// It may wait, or never return, as the reader, the gates and the hooks do.
 pub fn visit<
     R: Threads + Wait + Clock + Sync,
     I: Inlet + Drop + Send,
     W: Outlet + Drop + Send,
     G: ReaderGate + Drop + Send,
     H: WriterGate + Drop + Send,
->(rt: &R, alloc: Global, server: &Server<'_>, guest: &mut Guest<I, W, G, H>)
+    K: Hooks<G, H> + Sync,
+>(rt: &R, alloc: Global, server: &Server<'_>, hooks: &K, guest: &mut Guest<I, W, G, H>)
     requires { IsSeated server.now.desk.now guest.old }
     ensures { Visited (house_of server.now.seal server.now.desk.now.limit) guest.old guest.new }
 {
     let Some(mut passes) = guest.rise() else {
         unreachable!()
     };
-    let end = visit_with(rt, alloc, server, guest, &mut passes);
+    let end = visit_with(rt, alloc, server, hooks, guest, &mut passes);
     guest.finish(passes, end);
 }

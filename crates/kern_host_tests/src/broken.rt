@@ -29,7 +29,7 @@ fn end_behind(count: usize) -> VisitEnd {
     }
     VisitEnd::Served(Ends {
         reading: PumpEnd::PeerEnded,
-        writing: PumpEnd::Ended,
+        writing: Some(PumpEnd::Ended),
         leave: Ok(()),
     })
 }

@@ -1,6 +1,6 @@
 //! The gates of the threads. They wait a millisecond at each poll, and say no only if the test has failed.
-ghost use Rattle.std.specs.Prelude.{◌≡◌};
-ghost use Rattle.kern_net.specs.Gates.{no_polls};
+ghost use Rattle.std.specs.Prelude.{◌≡◌, false};
+ghost use Rattle.kern_net.specs.Gates.{no_polls, with_answer};
 
 use crate::signals::{Signals, rest};
 use kern_desk::seated::Pass;
@@ -115,6 +115,13 @@ impl<'a, C: Clock> OutGate<'a, C> {
             most,
             clock,
         }
+    }
+
+    /// Counts an answer no.
+    pub fn count_no<R: Wait>(&mut self, rt: &R)
+        ensures { self.new.idle ≡ with_answer false self.old.idle }
+    {
+        self.idle.add_no(rt);
     }
 }
 

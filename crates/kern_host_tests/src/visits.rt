@@ -129,7 +129,7 @@ fn expect<R: Abort>(rt: &R, holds: bool, wrong: &str) {
 fn is_served(end: Option<VisitEnd>) -> bool {
     end == Some(VisitEnd::Served(Ends {
         reading: PumpEnd::PeerEnded,
-        writing: PumpEnd::Ended,
+        writing: Some(PumpEnd::Ended),
         leave: Ok(()),
     }))
 }
@@ -142,8 +142,8 @@ fn behind<'a>(bytes: &'a [u8], front: &[u8]) -> Option<&'a [u8]> {
     None
 }
 
-// Whether the bytes are the kernel's handshake on a channel, and then these.
-fn is_handshake_and(bytes: &[u8], channel: Channel, others: &[u8]) -> bool {
+/// Whether the bytes are the kernel's handshake on a channel, and then these.
+pub fn is_handshake_and(bytes: &[u8], channel: Channel, others: &[u8]) -> bool {
     let ready = if channel == Channel::Iopub {
         PUB
     } else {

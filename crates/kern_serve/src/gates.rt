@@ -1,5 +1,6 @@
 //! The gates of a server: where its threads wait, and how they wake one another.
-ghost use Rattle.std.specs.Prelude.{◌≡◌, ◌≤◌, ◌+◌, ◌<◌, ◌↔◌, IsTrue};
+ghost use Rattle.std.specs.Prelude.{◌≡◌, ◌≤◌, ◌+◌, ◌<◌, ◌↔◌, IsTrue, false};
+ghost use Rattle.kern_net.specs.Gates.{with_answer};
 
 use crate::slots::Slots;
 use jup_wire::channel::Channel;
@@ -29,7 +30,7 @@ pub struct InGate<'a, C: Clock> {
     own: &'a EventCount,
     clock: &'a C,
     slot: Slot,
-    // How many entries the journal had at its last subscription.
+    // How many entries the journal had at its last subscription, or when its reader began.
     entries: u64,
     wakes: u64,
     own_wakes: u64,
@@ -55,6 +56,13 @@ impl<'a, C: Clock> InGate<'a, C> {
         ensures { IsTrue result ↔ (0 < self.now.wakes + self.now.own_wakes) }
     {
         self.wakes > 0 || self.own_wakes > 0
+    }
+
+    /// Notes that its connection's reader begins.
+    pub fn begin(&mut self)
+        ensures { (self.new.wakes ≡ self.old.wakes) × (self.new.own_wakes ≡ self.old.own_wakes) }
+    {
+        self.entries = self.wakeups.entries();
     }
 
     // Waits after a subscription, if there were many.
@@ -116,6 +124,8 @@ pub struct OutGate<'a> {
     own: &'a EventCount,
     seen: u64,
     is_closed: &'a AtomicBool,
+    // Whether it was counted as a writer.
+    is_counted: bool,
     // Whether the worker had ended before the last Fetch.
     is_closing: bool,
     // The number to go on at when it was last polled.
@@ -124,26 +134,48 @@ pub struct OutGate<'a> {
 }
 
 impl<'a> OutGate<'a> {
-    /// The gate of a writer before its first Fetch, which begins at number `from`. `seen` is the event count
-    /// where it waits, as it was before that number was known.
-    pub fn new(
-        wakeups: &'a Wakeups,
-        slot: Slot,
-        is_closed: &'a AtomicBool,
-        from: u64,
-        seen: u64,
-    ) -> OutGate<'a>
+    /// The gate of a connection's writer, before its connection has joined.
+    pub fn new(wakeups: &'a Wakeups, slot: Slot, is_closed: &'a AtomicBool) -> OutGate<'a>
         ensures { result.idle ≡ record { yes = 0; no = 0 } }
     {
         OutGate {
             wakeups,
             slot,
             own: wakeups.event_count(slot),
-            seen,
+            seen: 0,
             is_closed,
-            is_closing: wakeups.is_closing(),
-            next: from,
+            is_counted: false,
+            is_closing: false,
+            next: 0,
             idle: Tally::new(),
+        }
+    }
+
+    /// Counts its writer, whose first Fetch begins at number `from`. Waits until something may have been
+    /// posted, and returns whether the connection is still open. `seen` is the event count where it waits, as
+    /// it was before that number was known.
+    pub fn begin<R: Wait>(&mut self, rt: &R, from: u64, seen: u64) -> bool
+        ensures { self.new.idle ≡ self.old.idle }
+    {
+        self.next = from;
+        self.seen = seen;
+        self.is_closing = self.wakeups.is_closing();
+        self.wakeups.add_writer(rt, self.slot.channel);
+        self.is_counted = true;
+        self.wait_for_posts(rt)
+    }
+
+    /// Counts an answer no.
+    pub fn count_no<R: Wait>(&mut self, rt: &R)
+        ensures { self.new.idle ≡ with_answer false self.old.idle }
+    {
+        self.idle.add_no(rt);
+    }
+
+    /// Notes that its writer has ended.
+    pub fn end<R: Wait>(&self, rt: &R) {
+        if self.is_counted {
+            self.wakeups.remove_writer(rt, self.slot.channel);
         }
     }
 
@@ -157,8 +189,8 @@ impl<'a> OutGate<'a> {
         self.next = next;
     }
 
-    /// Waits until something may have been posted, and returns whether the connection is still open.
-    pub fn wait_for_posts<R: Wait>(&mut self, rt: &R) -> bool
+    // Waits until something may have been posted, and returns whether the connection is still open.
+    fn wait_for_posts<R: Wait>(&mut self, rt: &R) -> bool
         ensures { self.new.idle ≡ self.old.idle }
     {
         if !self.is_closing {

@@ -1,8 +1,9 @@
-// The kernel as a server on five TCP ports (Jupyter messaging 5.4). `Listeners::bind` binds the ports of a
-// connection file. `serve` serves them until a shutdown or a full journal, up to sixteen connections a
-// channel, each with a reader and a writer that have their own passes; the thread that calls it becomes the
-// worker. Contracts say that each thread has passes of this kernel's desk, and that gates count their
-// answers. That threads wake one another is only tested.
+// The kernel as a server on five TCP ports (Jupyter messaging 5.4). `serve` serves the listeners that `bind`
+// bound, until a shutdown or a full journal, up to sixteen connections a channel; the thread that calls it
+// becomes the worker. A connection thread runs kern_host's `visit` for one connection after another and makes
+// no other calls (`VisitsEach`), so what is proved of a connection of `host` holds of each. Only tested: the
+// bytes of sockets, the clock, how long gates and hooks wait, and that threads wake one another. The desk is
+// never closed: the server ends with its process.
 #![tactic(auto)]
 
 mod connection;

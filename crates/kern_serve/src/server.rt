@@ -1,10 +1,13 @@
 //! The server: its threads, and the worker.
-ghost use Rattle.std.specs.Prelude.{◌≡◌, All, IfOk};
+ghost use Rattle.std.specs.Prelude.{◌≡◌, Some, All, IfOk};
 ghost use Rattle.std.specs.Arc.{arc_value};
+ghost use Rattle.kern_host.specs.Guests.{AreOf};
+ghost use Rattle.kern_host.specs.Visits.{VisitsEach};
 ghost use Rattle.kern_serve.specs.Ends.{server_end};
-ghost use Rattle.kern_serve.specs.Passes.{AreOf, IsOf};
+ghost use Rattle.kern_serve.specs.Houses.{house_of};
+ghost use Rattle.kern_serve.specs.Passes.{IsOf};
 
-use crate::connection::{PassPair, Shared, serve_connection};
+use crate::connection::{Shared, serve_connection};
 use crate::fault::ServerFault;
 use crate::gates::WorkGate;
 use crate::host::Host;
@@ -17,8 +20,8 @@ use jup_wire::channel::Channel;
 use jup_wire::connection_file::ConnectionFile;
 use kern_desk::desks::{MOST_ENTRIES, open_desk};
 use kern_desk::seated::{Desk, Pass};
+use kern_host::guest::Passes;
 use kern_net::end::PumpEnd;
-use kern_net::runtime::Runtime;
 use kern_net::worker::worker;
 use kern_pace::pace::JOURNAL_LIMIT;
 use kern_waits::throttles::Throttles;
@@ -52,19 +55,29 @@ const FAREWELL_MILLIS: u64 = 400;
 // How long to wait after accepting a connection failed, for example because too many files are open.
 const RETRY_MILLIS: u64 = 50;
 
-// Serves one connection after another in a slot.
-fn serve_slot<R: Host>(rt: &R, alloc: Global, shared: &Shared, slot: Slot, mut passes: PassPair)
-    requires { AreOf shared.now.desk passes }
+// Serves one connection after another in a slot, and returns its passes. It would do so after 2^64 - 1 of
+// them: if it had no end, its contract would say nothing.
+#[tactic(auto, using(crate::proofs::VisitLemmas::visits))]
+fn serve_slot<R: Host>(
+    rt: &R,
+    alloc: Global,
+    shared: &Shared,
+    slot: Slot,
+    mut passes: Passes,
+) -> Passes
+    requires { AreOf shared.now.desk (Some passes) }
+    ensures { VisitsEach (house_of shared.now) slot.channel passes result }
 {
     let listener = shared.listeners.of(slot.channel);
-    for _ in rt.forever() {
+    for _ in 0..u64::MAX {
         match listener.accept() {
             Ok((stream, _)) => {
-                passes = serve_connection(&Runtime { rt, alloc }, shared, slot, stream, passes);
+                passes = serve_connection(rt, alloc, shared, slot, stream, passes);
             }
             Err(_) => thread::sleep(rt, Duration::from_millis(RETRY_MILLIS)),
         }
     }
+    passes
 }
 
 // Serves one connection of the heartbeat after another.
@@ -84,7 +97,7 @@ fn serve_heartbeats<R: Wait + Clock>(rt: &R, alloc: Global, listener: &TcpListen
 #[derive(Drop)]
 enum Task {
     // Serves one connection after another in a slot.
-    Connections(Slot, PassPair),
+    Connections(Slot, Passes),
     // Serves one connection of the heartbeat after another.
     Heartbeat,
     // Closes silent connections of a channel while others wait.
@@ -95,7 +108,7 @@ fn perform<R: Host>(rt: &R, alloc: Global, shared: &Shared, task: Task)
     requires { IsOf shared.now.desk task }
 {
     match task {
-        Task::Connections(slot, passes) => serve_slot(rt, alloc, shared, slot, passes),
+        Task::Connections(slot, passes) => drop(serve_slot(rt, alloc, shared, slot, passes)),
         Task::Heartbeat => serve_heartbeats(rt, alloc, shared.listeners.heartbeat()),
         Task::EvictSilent(channel) => shared.slots.evict_silent(rt, &shared.listeners, channel),
     }
@@ -142,7 +155,7 @@ fn start_connections<R: Host>(
     ensures { All (λ p. p.turnstile ≡ (arc_value shared.now).desk) passes.new.items }
 {
     for number in 0..SLOTS {
-        let (Some(first), Some(second)) = (passes.pop(), passes.pop()) else {
+        let (Some(reading), Some(writing)) = (passes.pop(), passes.pop()) else {
             return Err(ServerFault::System);
         };
         let slot = Slot { channel, number };
@@ -150,7 +163,7 @@ fn start_connections<R: Host>(
             rt,
             alloc,
             shared,
-            Task::Connections(slot, PassPair { first, second }),
+            Task::Connections(slot, Passes { reading, writing }),
         )?;
     }
     start_task(rt, alloc, shared, Task::EvictSilent(channel))

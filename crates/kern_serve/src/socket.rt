@@ -1,19 +1,18 @@
-//! Sockets: their options, their handshakes, and the heartbeat.
+//! Sockets: their options, how they are read, and the heartbeat.
 use base_streams::std_io::{StdInlet, StdOutlet};
 use jup_wire::channel::Channel;
-use kern_waits::sockets::keep_alive;
+use kern_waits::sockets::{close, keep_alive};
 use kern_waits::throttles::Throttles;
-use kern_waits::unsigned::UnsignedStream;
+use kern_waits::unsigned::{FREE_BYTES, UnsignedStream};
 use std::alloc::Global;
 use std::io;
 use std::io::Read;
 use std::net::TcpStream;
 use std::rt::Clock;
 use std::sync::Wait;
+use std::sync::atomic::{AtomicBool, Ordering};
 use std::time::{Duration, Instant};
-use zmtp_wire::handshake::{Peer, handshake};
 use zmtp_wire::heartbeat::heartbeat;
-use zmtp_wire::role::Role;
 
 // How long a handshake may take, and how long a write may wait.
 const PATIENCE_SECONDS: u64 = 10;
@@ -21,19 +20,13 @@ const PATIENCE_SECONDS: u64 = 10;
 // The size of a greeting, in bytes.
 const GREETING_SIZE: usize = 64;
 
-fn role_of(channel: Channel) -> Role {
-    match channel {
-        Channel::Iopub => Role::Pub,
-        Channel::Shell | Channel::Stdin | Channel::Control => Role::Router,
-    }
-}
-
 fn patience() -> Duration {
     Duration::from_secs(PATIENCE_SECONDS)
 }
 
-// Messages are sent without delay; a peer that doesn't read, or that has vanished, is given up.
-fn prepare(stream: &TcpStream) -> io::Result<()> {
+/// Sets a socket's options. Messages are sent without delay; a peer that doesn't read for ten seconds, or
+/// that has vanished, is given up.
+pub fn prepare(stream: &TcpStream) -> io::Result<()> {
     keep_alive(stream);
     stream.set_nodelay(true)?;
     stream.set_write_timeout(Some(patience()))
@@ -89,47 +82,62 @@ impl<'a, C: Clock> Read for PatientStream<'a, C> {
     }
 }
 
-fn greet<R: Wait + Clock>(
-    rt: &R,
-    alloc: Global,
-    throttles: &Throttles,
-    stream: &TcpStream,
-    channel: Channel,
-) -> Option<Peer> {
-    let mut from = StdInlet::new(UnsignedStream {
-        stream: PatientStream::new(stream, rt, usize::MAX),
-        rt,
-        throttles,
-        channel,
-        is_signed: false,
-        patience: PATIENCE_SECONDS * 1_000,
-        read: 0,
-    });
-    let mut to = StdOutlet::new(stream);
-    match handshake(alloc, &mut from, &mut to, role_of(channel)) {
-        Ok(peer) => Some(peer),
-        Err(_) => None,
+/// A connection's socket, from which it is read. The handshake must come within ten seconds; after it a read
+/// may wait for ever. Unsigned bytes are delayed.
+#[derive(Drop)]
+pub struct PeerStream<'a, R: Wait + Clock> {
+    greeting: UnsignedStream<'a, PatientStream<'a, R>, R>,
+    traffic: UnsignedStream<'a, &'a TcpStream, R>,
+    has_met: &'a AtomicBool,
+}
+
+impl<'a, R: Wait + Clock> PeerStream<'a, R> {
+    /// The socket of a new connection on a channel. The flag is to be set once the handshake is made.
+    pub fn new(
+        rt: &'a R,
+        throttles: &'a Throttles,
+        channel: Channel,
+        stream: &'a TcpStream,
+        has_met: &'a AtomicBool,
+    ) -> PeerStream<'a, R> {
+        PeerStream {
+            greeting: UnsignedStream {
+                stream: PatientStream::new(stream, rt, usize::MAX),
+                rt,
+                throttles,
+                channel,
+                is_signed: false,
+                patience: PATIENCE_SECONDS * 1_000,
+                read: 0,
+            },
+            traffic: UnsignedStream {
+                stream,
+                rt,
+                throttles,
+                channel,
+                is_signed: channel != Channel::Iopub,
+                patience: u64::MAX,
+                read: FREE_BYTES / 2,
+            },
+            has_met,
+        }
     }
 }
 
-/// Makes the handshake on a socket of a channel, within ten seconds. Afterwards a read may wait for ever, and
-/// a write for ten seconds. None if the handshake fails.
-pub fn meet<R: Wait + Clock>(
-    rt: &R,
-    alloc: Global,
-    throttles: &Throttles,
-    stream: &TcpStream,
-    channel: Channel,
-) -> Option<Peer> {
-    if prepare(stream).is_err() {
-        return None;
+impl<'a, R: Wait + Clock> Read for PeerStream<'a, R> {
+    fn read(&mut self, buffer: &mut [u8]) -> io::Result<usize> {
+        if self.has_met.load(Ordering::SeqCst) {
+            return self.traffic.read(buffer);
+        }
+        self.greeting.read(buffer)
     }
-    let peer = greet(rt, alloc, throttles, stream, channel)?;
+}
+
+/// Lets reads wait for ever. Closes the socket if the system refuses that.
+pub fn lift_timeout(stream: &TcpStream) {
     if stream.set_read_timeout(None).is_err() {
-        drop(peer);
-        return None;
+        close(stream);
     }
-    Some(peer)
 }
 
 /// Serves a heartbeat socket until it ends. More than a greeting must come within ten seconds.

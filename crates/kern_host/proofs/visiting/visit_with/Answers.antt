@@ -2,9 +2,10 @@ use Rattle.std.proofs.Common.{ℕ, refl, ap, subst, ◌∙◌}
 use Rattle.kern_net.specs.Routes.{Source, Target}
 use Rattle.kern_net.specs.ReadEnds.{Reader}
 use Rattle.kern_net.specs.Reading.{ReadOut}
-use Rattle.kern_net.specs.Out.{Writer, WroteOut}
+use Rattle.kern_net.specs.Out.{Writer}
 use Rattle.lab_turn.specs.History.{TurnstileState}
 use Rattle.kern_host.specs.Guests.{GuestState, Line, line_of}
+use Rattle.kern_host.specs.Writes.{WroteIfAny}
 use Rattle.kern_host.specs.Visits.{house_of, seats_of, IsTurnedAway, IsServed}
 use Rattle.kern_host.specs.declared.end.Ends.{Ends}
 use Rattle.kern_host.specs.declared.guest.Passes.{Passes}
@@ -72,8 +73,8 @@ returns-clause-visit g c = λ history p q.
     } in
     let R : Source → Type 0 = λ s. ReadOut s c.in-Ok.peer a b c.talk-reading.result.0 in
     let W : Target → Type 0 =
-    λ t. WroteOut t c.routes_of-routes.result.from x y c.talk-reading.result.1 in
-    let F : ℕ → Type 0 = λ n. WroteOut target n x y c.talk-reading.result.1 in
+    λ t. WroteIfAny t c.routes_of-routes.result.from x y c.talk-reading.result.1 in
+    let F : ℕ → Type 0 = λ n. WroteIfAny target n x y c.talk-reading.result.1 in
     let ends : Ends = record {
       reading = c.talk-reading.result.0;
       writing = c.talk-reading.result.1;

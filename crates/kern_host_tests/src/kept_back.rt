@@ -1,0 +1,111 @@
+//! A connection whose hooks keep its posts back.
+ghost use Rattle.std.specs.Prelude.{Some};
+ghost use Rattle.kern_host.specs.Guests.{AreOf};
+
+use crate::bytes::RUNS;
+use crate::gates::{InGate, OutGate};
+use crate::replay::Script;
+use crate::signals::Signals;
+use crate::visits::{guest_of, is_handshake_and};
+use jup_wire::channel::Channel;
+use kern_desk::desks::{MOST_ENTRIES, open_desk};
+use kern_desk::seated::Desk;
+use kern_host::end::{Ends, VisitEnd};
+use kern_host::guest::Passes;
+use kern_host::hooks::Hooks;
+use kern_host::server::{Seal, Server};
+use kern_host::visiting::visit;
+use kern_net::end::PumpEnd;
+use std::alloc::Global;
+use std::process::Abort;
+use std::rt::Clock;
+use std::sync::Wait;
+use std::sync::atomic::{AtomicU32, Ordering};
+
+// Hooks that let nothing be written. A digit of the sum for each says how often it was called.
+#[derive(Drop)]
+struct KeepBack {
+    calls: AtomicU32,
+}
+
+impl KeepBack {
+    fn count(&self, digit: u32) {
+        self.calls.fetch_add(digit, Ordering::SeqCst);
+    }
+}
+
+impl<'a, C: Clock> Hooks<InGate<'a>, OutGate<'a, C>> for KeepBack {
+    fn before_join<R: Wait>(&self, _rt: &R) {
+        self.count(1);
+    }
+
+    fn before_reading<R: Wait>(&self, _rt: &R, _gate: &mut InGate<'a>) {
+        self.count(10);
+    }
+
+    fn before_writing<R: Wait>(&self, rt: &R, gate: &mut OutGate<'a, C>, _from: u64) -> bool {
+        self.count(100);
+        gate.count_no(rt);
+        false
+    }
+
+    fn after_reading<R: Wait>(&self, _rt: &R, _gate: &InGate<'a>, _end: PumpEnd) {
+        self.count(1_000);
+    }
+
+    fn after_writing<R: Wait>(&self, _rt: &R, _gate: &OutGate<'a, C>) {
+        self.count(10_000);
+    }
+
+    fn before_leave<R: Wait>(&self, _rt: &R) {
+        self.count(100_000);
+    }
+}
+
+// A new desk, and the passes of a connection.
+fn open<R: Abort>(rt: &R, alloc: Global) -> (Desk, Passes)
+    ensures { AreOf result.0 (Some result.1) }
+{
+    let (desk, mut passes) = open_desk(alloc, MOST_ENTRIES, 2).expect(rt, "memory for a desk");
+    let reading = passes.pop().expect(rt, "a pass");
+    let writing = passes.pop().expect(rt, "another pass");
+    (desk, Passes { reading, writing })
+}
+
+#[test]
+fn hooks_keep_posts_back(rt: HostRuntime) {
+    let alloc = rt.alloc();
+    let signals = Signals::new();
+    let script = Script {
+        channel: Channel::Shell,
+        bytes: RUNS,
+        heard: 0,
+        done: 0,
+        asks: &[],
+    };
+    let (desk, passes) = open(&rt, alloc);
+    let server = Server {
+        desk: &desk,
+        seal: Seal {
+            key: b"",
+            session: "S",
+        },
+    };
+    let hooks = KeepBack {
+        calls: AtomicU32::new(0),
+    };
+    let mut guest = guest_of(&rt, alloc, &signals, script, 2);
+    guest.sit(passes);
+    visit(&rt, alloc, &server, &hooks, &mut guest);
+    let has_ended = guest.end()
+        == Some(VisitEnd::Served(Ends {
+            reading: PumpEnd::PeerEnded,
+            writing: None,
+            leave: Ok(()),
+        }));
+    assert!(rt; has_ended, "it ended otherwise");
+    let is_silent = is_handshake_and(guest.outlet().to.as_slice(), Channel::Shell, b"");
+    assert!(rt; is_silent, "something was written");
+    let calls = hooks.calls.load(Ordering::SeqCst);
+    assert_eq!(rt; calls, 111_111);
+}
