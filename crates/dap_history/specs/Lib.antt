@@ -1,0 +1,4 @@
+pub mod Logs
+pub mod Runs
+pub mod Spacing
+pub mod Histories

@@ -1,0 +1,18 @@
+// The tests of a run's history, apart from its crate. A run goes back to each of its counts of steps, in
+// scattered order, and must be as a plain run from power-on was there that was made step by step: registers,
+// memory, devices and live frames. A run with a saved moment does so at some counts. Logs, and which moments
+// stay, are compared with what the tests count themselves.
+#![tactic(auto)]
+
+#[cfg(test)]
+mod ends;
+#[cfg(test)]
+mod logs;
+#[cfg(test)]
+mod long;
+#[cfg(test)]
+mod play;
+#[cfg(test)]
+mod runs;
+#[cfg(test)]
+mod seen;
